@@ -1,0 +1,4 @@
+pub mod Faults
+pub mod Events
+pub mod Sources
+pub mod Windows

@@ -1,0 +1,28 @@
+-- What a call of a source leaves and gives, and what a reader makes of its failures.
+use Rattle.std.specs.Prelude.{◌≡◌, ℕ, ◌-◌, ◌^◌, ◌<◌, ◌≤◌, ◌⊎◌, List, length, take, drop, Option, MatchResult, MatchOption, Result}
+use Rattle.plist_base.specs.declared.error.Error.{Error}
+use Rattle.plist_base.specs.Faults.{MatchFault, kind_of, error_kind_of}
+
+-- the count of failures rose, or stands at its top
+abbrev pub Rises : ℕ → ℕ → Type 0
+Rises old new = (old < new) ⊎ ((old ≡ 2 ^ 64 - 1) × (new ≡ 2 ^ 64 - 1))
+
+-- `Ok` leaves the count of failures, and `Err` raises it
+abbrev pub CountsFailure : {A E : Type 0} → Result A E → ℕ → ℕ → Type 0
+CountsFailure answer old new = MatchResult answer (λ _. new ≡ old) (λ _. Rises old new)
+
+-- `read_at` gave the first `count` of the bytes from this place on, none only where there is no room or no byte
+abbrev pub GivesAt : List ℕ → ℕ → ℕ → List ℕ → Type 0
+GivesAt bytes place count buffer = (take count buffer ≡ take count (drop place bytes)) × (count ≡ 0 → (length buffer ≡ 0) ⊎ (length bytes ≤ place))
+
+-- `Io` only where the count of failures rose; whatever else came, it is as it was
+abbrev pub CountsIo : Error → ℕ → ℕ → Type 0
+CountsIo error old new = MatchFault (kind_of (error_kind_of error)) (Rises old new) (new ≡ old) (new ≡ old)
+
+-- the same of a call's answer
+abbrev pub AnswersIo : {A : Type 0} → Result A Error → ℕ → ℕ → Type 0
+AnswersIo answer old new = MatchResult answer (λ _. new ≡ old) (λ error. CountsIo error old new)
+
+-- the same of an iterator's item
+abbrev pub ItemCountsIo : {A : Type 0} → Option (Result A Error) → ℕ → ℕ → Type 0
+ItemCountsIo item old new = MatchOption item (new ≡ old) (λ answer. AnswersIo answer old new)

@@ -1,0 +1,11 @@
+-- What contracts see of a source over a reader that can seek.
+use Rattle.std.specs.Prelude.{ℕ}
+use Rattle.plist_base.specs.declared.seeking.Seeking.{Seeking}
+
+-- how many of its calls failed
+abbrev pub failures_of : {R : Type 0} → Seeking R → ℕ
+failures_of source = source.failed
+
+-- the reader inside
+abbrev pub inner_of : {R : Type 0} → Seeking R → R
+inner_of source = source.inner

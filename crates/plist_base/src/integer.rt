@@ -1,0 +1,219 @@
+//! Whole numbers.
+
+ghost use Rattle.std.specs.Prelude.{◌≡◌, pos, negsuc, ◌-◌, ◌^◌, ◌≤ℤ◌, ◌<ℤ◌, ◌↔◌, IsTrue, IsSome, IfSome, Some};
+ghost use Rattle.std.specs.Fmt.{signed_decimal, styled_signed_decimal};
+
+use std::fmt;
+use std::marker::Model;
+
+/// A whole number from `i64::MIN` to `u64::MAX`.
+///
+/// Two are equal, and one stands before another, as the whole numbers are: it doesn't matter from
+/// which type a number was made.
+#[derive(Clone, Copy, PartialEq, Eq, PartialOrd, Ord, Hash)]
+pub struct Integer {
+    value: i128,
+}
+
+impl Model for Integer {
+    ghost use Rattle.std.specs.Prelude.{ℤ, pos, negsuc, ◌-◌, ◌^◌, ◌≤ℤ◌, ◌<ℤ◌};
+
+    ghost Value = { ℤ };
+
+    ghost view = { λ a. a.value };
+
+    ghost invariant = { λ a. (negsuc (2 ^ 63 - 1) ≤ℤ a.value) × (a.value <ℤ pos (2 ^ 64)) };
+
+    ghost inverse = { λ z. record { value = z } };
+}
+
+impl Integer {
+    /// The same number as an `i64`, or `None` if it is above `i64::MAX`.
+    ///
+    /// No `Integer` lies below `i64::MIN`.
+    pub fn as_signed(self) -> Option<i64>
+        ensures fits { IsSome result ↔ (self <ℤ pos (2 ^ 63)) }
+        ensures value { IfSome result (λ n. n ≡ self) }
+        ensures never_lower { negsuc (2 ^ 63 - 1) ≤ℤ self }
+    {
+        i64::try_from(self.value).ok()
+    }
+
+    /// The same number as a `u64`, or `None` if it is negative.
+    ///
+    /// No `Integer` lies above `u64::MAX`.
+    pub fn as_unsigned(self) -> Option<u64>
+        ensures fits { IsSome result ↔ (pos 0 ≤ℤ self) }
+        ensures value { IfSome result (λ n. pos n ≡ self) }
+        ensures never_higher { self <ℤ pos (2 ^ 64) }
+    {
+        u64::try_from(self.value).ok()
+    }
+}
+
+impl From<i64> for Integer {
+    ghost from_gives = { λ number integer. integer ≡ number };
+
+    fn from(value: i64) -> Integer {
+        Integer {
+            value: i128::from(value),
+        }
+    }
+}
+
+impl From<i32> for Integer {
+    ghost from_gives = { λ number integer. integer ≡ number };
+
+    fn from(value: i32) -> Integer {
+        Integer::from(i64::from(value))
+    }
+}
+
+impl From<i16> for Integer {
+    ghost from_gives = { λ number integer. integer ≡ number };
+
+    fn from(value: i16) -> Integer {
+        Integer::from(i64::from(value))
+    }
+}
+
+impl From<i8> for Integer {
+    ghost from_gives = { λ number integer. integer ≡ number };
+
+    fn from(value: i8) -> Integer {
+        Integer::from(i64::from(value))
+    }
+}
+
+impl From<u64> for Integer {
+    ghost from_gives = { λ number integer. integer ≡ pos number };
+
+    fn from(value: u64) -> Integer {
+        Integer {
+            value: i128::from(value),
+        }
+    }
+}
+
+impl From<u32> for Integer {
+    ghost from_gives = { λ number integer. integer ≡ pos number };
+
+    fn from(value: u32) -> Integer {
+        Integer::from(u64::from(value))
+    }
+}
+
+impl From<u16> for Integer {
+    ghost from_gives = { λ number integer. integer ≡ pos number };
+
+    fn from(value: u16) -> Integer {
+        Integer::from(u64::from(value))
+    }
+}
+
+impl From<u8> for Integer {
+    ghost from_gives = { λ number integer. integer ≡ pos number };
+
+    fn from(value: u8) -> Integer {
+        Integer::from(u64::from(value))
+    }
+}
+
+/// The decimal text, with a `-` before a negative number.
+impl fmt::Display for Integer {
+    ghost output = { λ integer. Some (signed_decimal integer) };
+
+    ghost styled_output = { λ integer spec. Some (styled_signed_decimal spec integer) };
+
+    fn fmt<W: fmt::Write>(&self, f: &mut fmt::Formatter<W>) -> fmt::Result {
+        fmt::Display::fmt(&self.value, f)
+    }
+}
+
+/// The same decimal text.
+impl fmt::Debug for Integer {
+    ghost debug_output = { λ integer. Some (signed_decimal integer) };
+
+    fn fmt<W: fmt::Write>(&self, f: &mut fmt::Formatter<W>) -> fmt::Result {
+        fmt::Debug::fmt(&self.value, f)
+    }
+}
+
+#[cfg(test)]
+mod tests {
+    use super::*;
+    use std::test::Fail;
+
+    // The derived order is that of the whole numbers.
+    fn is_below(a: &Integer, b: &Integer) -> bool
+        ensures { IsTrue result ↔ (a.now <ℤ b.now) }
+    {
+        *a < *b
+    }
+
+    // The derived equality is that of the whole numbers.
+    fn is_same(a: &Integer, b: &Integer) -> bool
+        ensures { IsTrue result ↔ (a.now ≡ b.now) }
+    {
+        *a == *b
+    }
+
+    #[test]
+    fn ends_of_the_range(rt: HostRuntime) -> Result<(), Fail> {
+        let least = Integer::from(i64::MIN);
+        assert_eq!(rt; least.as_signed(), Some(i64::MIN));
+        assert_eq!(rt; least.as_unsigned(), None);
+        assert_eq!(rt;
+            least.to_string(rt.alloc())?.as_str(),
+            "-9223372036854775808"
+        );
+
+        let below_zero = Integer::from(-1i8);
+        assert_eq!(rt; below_zero.as_signed(), Some(-1));
+        assert_eq!(rt; below_zero.as_unsigned(), None);
+        assert_eq!(rt; below_zero.to_string(rt.alloc())?.as_str(), "-1");
+
+        let zero = Integer::from(0u8);
+        assert_eq!(rt; zero.as_signed(), Some(0));
+        assert_eq!(rt; zero.as_unsigned(), Some(0));
+        assert_eq!(rt; zero.to_string(rt.alloc())?.as_str(), "0");
+
+        let greatest = Integer::from(u64::MAX);
+        assert_eq!(rt; greatest.as_signed(), None);
+        assert_eq!(rt; greatest.as_unsigned(), Some(u64::MAX));
+        assert_eq!(rt;
+            greatest.to_string(rt.alloc())?.as_str(),
+            "18446744073709551615"
+        );
+        assert_eq!(rt;
+            format!(in rt.alloc(); "{greatest:?}")?.as_str(),
+            "18446744073709551615"
+        );
+        Ok(())
+    }
+
+    #[test]
+    fn equal_from_each_type(rt: HostRuntime) {
+        let seven = Integer::from(7i64);
+        assert!(rt; is_same(&seven, &Integer::from(7i32)));
+        assert!(rt; is_same(&seven, &Integer::from(7i16)));
+        assert!(rt; is_same(&seven, &Integer::from(7i8)));
+        assert!(rt; is_same(&seven, &Integer::from(7u64)));
+        assert!(rt; is_same(&seven, &Integer::from(7u32)));
+        assert!(rt; is_same(&seven, &Integer::from(7u16)));
+        assert!(rt; is_same(&seven, &Integer::from(7u8)));
+        assert!(rt; !is_same(&seven, &Integer::from(-7i64)));
+    }
+
+    #[test]
+    fn ordered_as_whole_numbers(rt: HostRuntime) {
+        let above_signed = Integer::from(9_223_372_036_854_775_808u64);
+        assert!(rt; is_below(&Integer::from(-1i64), &Integer::from(0u8)));
+        assert!(rt; is_below(&Integer::from(0u8), &above_signed));
+        assert!(rt; !is_below(&above_signed, &Integer::from(i64::MAX)));
+        assert_eq!(rt;
+            above_signed.cmp(&Integer::from(i64::MIN)),
+            std::cmp::Ordering::Greater
+        );
+    }
+}

@@ -1,0 +1,105 @@
+//! Where a reader takes its bytes from.
+
+ghost use Rattle.std.specs.Prelude.{◌≡◌, ℕ, ◌+◌, ◌-◌, ◌^◌, ◌<◌, ◌≤◌, List, length, take, drop, None, Some, Option, IfOk, IfErr, IfSome, OnOk};
+ghost use Rattle.plist_base.specs.Faults.{IsIo, kind_of, error_kind_of};
+ghost use Rattle.plist_base.specs.Sources.{CountsFailure, GivesAt, AnswersIo};
+
+use crate::{Error, ErrorKind};
+use std::io;
+
+/// Bytes that can be read at any place.
+///
+/// A source tells whether its bytes are known, and counts its failures.
+pub trait Source: Drop {
+    /// The bytes, where they are known.
+    ghost known: { Self → Option (List ℕ) };
+    /// How many calls failed; it stays at `u64::MAX`.
+    ghost failures: { Self → ℕ };
+
+    /// The number of bytes.
+    fn size(&mut self) -> Result<u64, io::Error>
+        ensures length { IfOk result (λ size. IfSome (known self.old) (λ bytes. size ≡ length bytes)) }
+        ensures unchanged { known self.new ≡ known self.old }
+        ensures failures { CountsFailure result (failures self.old) (failures self.new) };
+
+    /// Fills a beginning of the buffer with the bytes from `place` on, and answers how many. It may
+    /// give fewer than there are, but none only where the buffer is empty or no byte is left.
+    fn read_at(&mut self, place: u64, buf: &mut [u8]) -> Result<usize, io::Error>
+        ensures bound { IfOk result (λ count. count ≤ length buf.new) }
+        ensures bytes { IfOk result (λ count. IfSome (known self.old) (λ bytes. GivesAt bytes place count buf.new)) }
+        ensures unchanged { known self.new ≡ known self.old }
+        ensures failures { CountsFailure result (failures self.old) (failures self.new) };
+}
+
+// Copies what lies from a place on, as much as there is room for.
+pub(crate) fn copy_at(bytes: &[u8], place: u64, buf: &mut [u8]) -> usize
+    ensures bound { result ≤ length buf.new }
+    ensures bytes { GivesAt bytes.now place result buf.new }
+{
+    let size = bytes.len();
+    if place >= size as u64 {
+        return 0;
+    }
+    let start = place as usize;
+    let rest = &bytes[start..];
+    let count = rest.len().min(buf.len());
+    let room = &mut buf[..count];
+    room.copy_from_slice(&rest[..count]);
+    count
+}
+
+/// The bytes are known, and no read fails.
+impl<'a> Source for &'a [u8] {
+    ghost known = { λ s. Some s.now };
+
+    ghost failures = { λ _. 0 };
+
+    fn size(&mut self) -> Result<u64, io::Error> {
+        Ok(self.len() as u64)
+    }
+
+    fn read_at(&mut self, place: u64, buf: &mut [u8]) -> Result<usize, io::Error> {
+        Ok(copy_at(self, place, buf))
+    }
+}
+
+/// The bytes are known, and no read fails.
+impl Source for Vec<u8> {
+    ghost known = { λ v. Some v.items };
+
+    ghost failures = { λ _. 0 };
+
+    fn size(&mut self) -> Result<u64, io::Error> {
+        Ok(self.as_slice().len() as u64)
+    }
+
+    fn read_at(&mut self, place: u64, buf: &mut [u8]) -> Result<usize, io::Error> {
+        Ok(copy_at(self.as_slice(), place, buf))
+    }
+}
+
+/// Fills the buffer with the bytes from `place` on, asking again while some come.
+///
+/// # Errors
+/// `Io` where a read fails, `UnexpectedEof` where the bytes end too early, each with the place of
+/// that read. The buffer may then hold a beginning of the bytes.
+pub fn read_exact_at<S: Source>(source: &mut S, place: u64, buf: &mut [u8]) -> Result<(), Error>
+    requires { place + length buf.old < 2 ^ 64 }
+    ensures bytes { OnOk result (IfSome (S.known source.old) (λ bytes.
+        buf.new ≡ take (length buf.new) (drop place bytes))) }
+    ensures refused { IfErr result (λ e. IfSome (S.known source.old) (λ bytes.
+        place + length buf.old ≤ length bytes → IsIo (kind_of (error_kind_of e)))) }
+    ensures unchanged { S.known source.new ≡ S.known source.old }
+    ensures failures { AnswersIo result (S.failures source.old) (S.failures source.new) }
+{
+    let mut done = 0;
+    while done < buf.len() {
+        let here = place + done as u64;
+        match source.read_at(here, &mut buf[done..]) {
+            Ok(0) => return Err(ErrorKind::UnexpectedEof.with_byte_offset(here)),
+            Ok(count) => done += count,
+            Err(error) => return Err(ErrorKind::Io(error).with_byte_offset(here)),
+        }
+    }
+    Ok(())
+}

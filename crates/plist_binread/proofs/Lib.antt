@@ -1,0 +1,11 @@
+pub mod Digits
+pub mod Begun
+pub mod Columns
+pub mod Contents
+pub mod Extents
+pub mod Heads
+pub mod Markers
+pub mod Opened
+pub mod Steps
+pub mod Taken
+pub mod Turned

@@ -1,0 +1,18 @@
+//! Reads binary property lists.
+//!
+//! The main contract is that of [`BinaryReader`]: over known bytes its items are exactly the
+//! depth-first unfolding of the file's object table up to the first fault.
+#![tactic(auto)]
+
+mod extent;
+mod frames;
+mod numbers;
+mod object;
+mod reader;
+mod table;
+mod trailer;
+
+pub use reader::BinaryReader;
+
+#[cfg(test)]
+mod tests;

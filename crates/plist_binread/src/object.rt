@@ -1,0 +1,216 @@
+//! One object, read from its bytes.
+
+ghost use Rattle.std.specs.Prelude.{◌≡◌, ℕ, ◌+◌, ◌*◌, ◌^◌, ◌<◌, ◌≤◌, List, length, take, drop, IfOk, IfErr, IfSome, MatchResult, vec_len, ⊤};
+ghost use Rattle.std.specs.List.{zip};
+ghost use Rattle.plist_base.specs.Faults.{InvalidUtf8String, OutOfMemory, fault_of, fault_at, fault_nowhere};
+ghost use Rattle.plist_base.specs.Sources.{AnswersIo};
+ghost use Rattle.plist_binread.specs.Container.{numbers_of};
+ghost use Rattle.plist_binread.specs.Object.{Array, unsigned_integer, signed_integer, wide_integer, text, dictionary, layout_of, length_in, meaning_of_front, meaning_counted, object_behind, object_in, children_of};
+ghost use Rattle.plist_binread.specs.Places.{bytes_behind};
+ghost use Rattle.plist_binread.specs.Debt.{Decodes};
+
+use crate::extent::{check_extent, find_content};
+use crate::numbers::{read_bytes, read_number, read_numbers};
+use crate::table::Table;
+use plist_base::{Error, ErrorKind, Event, Integer, OwnedEvent, Source};
+use std::alloc::Global;
+use std::borrow::CowStr;
+
+/// What an object's bytes mean.
+#[derive(Drop)]
+pub enum Decoded {
+    /// A scalar is one event.
+    Scalar(OwnedEvent),
+    /// A collection is its start, and the numbers of its children in the order of the walk.
+    Collection(OwnedEvent, Vec<u64>),
+}
+
+// Reads a whole number without sign, of at most eight bytes.
+fn read_unsigned<S: Source>(
+    source: &mut S,
+    trailer: u64,
+    place: u64,
+    width: usize,
+) -> Result<Decoded, Error>
+    requires place { place < trailer }
+    requires width { width ≤ 8 }
+    ensures decoded { IfSome (S.known source.old) (λ bytes. trailer ≤ length bytes →
+        Decodes (meaning_of_front width unsigned_integer (bytes_behind bytes trailer place)) place result) }
+    ensures unchanged { S.known source.new ≡ S.known source.old }
+    ensures failures { AnswersIo result (S.failures source.old) (S.failures source.new) }
+{
+    check_extent(trailer, place + 1, width as u64, place)?;
+    let number = read_number(source, place + 1, width)?;
+    Ok(Decoded::Scalar(Event::Integer(Integer::from(number))))
+}
+
+// Reads a whole number with sign, of eight bytes.
+fn read_signed<S: Source>(source: &mut S, trailer: u64, place: u64) -> Result<Decoded, Error>
+    requires place { place < trailer }
+    ensures decoded { IfSome (S.known source.old) (λ bytes. trailer ≤ length bytes →
+        Decodes (meaning_of_front 8 signed_integer (bytes_behind bytes trailer place)) place result) }
+    ensures unchanged { S.known source.new ≡ S.known source.old }
+    ensures failures { AnswersIo result (S.failures source.old) (S.failures source.new) }
+{
+    check_extent(trailer, place + 1, 8, place)?;
+    let number = read_number(source, place + 1, 8)?;
+    Ok(Decoded::Scalar(Event::Integer(Integer::from(number.cast_signed()))))
+}
+
+// Reads a whole number with sign, of sixteen bytes.
+fn read_wide<S: Source>(source: &mut S, trailer: u64, place: u64) -> Result<Decoded, Error>
+    requires place { place < trailer }
+    ensures decoded { IfSome (S.known source.old) (λ bytes. trailer ≤ length bytes →
+        Decodes (meaning_of_front 16 wide_integer (bytes_behind bytes trailer place)) place result) }
+    ensures unchanged { S.known source.new ≡ S.known source.old }
+    ensures failures { AnswersIo result (S.failures source.old) (S.failures source.new) }
+{
+    check_extent(trailer, place + 1, 16, place)?;
+    let high = read_number(source, place + 1, 8)?;
+    let low = read_number(source, place + 9, 8)?;
+    // With a sign bit or anything else in the high half it is no number of 64 bits without sign.
+    if high != 0 {
+        return Err(ErrorKind::IntegerOutOfRange.with_byte_offset(place));
+    }
+    Ok(Decoded::Scalar(Event::Integer(Integer::from(low))))
+}
+
+// The text in these bytes, or the fault of the object at this place.
+fn text_event(bytes: Vec<u8>, place: u64) -> Result<Decoded, Error>
+    ensures decoded { Decodes (text bytes.items) place result }
+    ensures fault { IfErr result (λ e. fault_of e ≡ fault_at InvalidUtf8String place) }
+{
+    match String::from_utf8(bytes) {
+        Ok(string) => Ok(Decoded::Scalar(Event::String(CowStr::Owned(string)))),
+        Err(_) => Err(ErrorKind::InvalidUtf8String.with_byte_offset(place)),
+    }
+}
+
+// Reads a text.
+fn read_text<S: Source>(
+    alloc: Global,
+    source: &mut S,
+    trailer: u64,
+    place: u64,
+    marker: u8,
+) -> Result<Decoded, Error>
+    requires place { place < trailer }
+    ensures decoded { IfSome (S.known source.old) (λ bytes. trailer ≤ length bytes →
+        Decodes (meaning_counted 1 (λ _. text) (length_in marker (bytes_behind bytes trailer place))) place result) }
+    ensures unchanged { S.known source.new ≡ S.known source.old }
+    ensures failures { AnswersIo result (S.failures source.old) (S.failures source.new) }
+{
+    let content = find_content(source, trailer, place, marker, 1)?;
+    let bytes = read_bytes(alloc, source, content.start, content.count as usize)?;
+    text_event(bytes, place)
+}
+
+// Reads an array.
+fn read_array<S: Source>(
+    alloc: Global,
+    source: &mut S,
+    table: &Table,
+    place: u64,
+    marker: u8,
+) -> Result<Decoded, Error>
+    requires place { place < table.now.trailer }
+    ensures decoded { IfSome (S.known source.old) (λ bytes. table.now.trailer ≤ length bytes →
+        Decodes (meaning_counted table.now.reference_width (λ _ content. Array (numbers_of table.now.reference_width content))
+        (length_in marker (bytes_behind bytes table.now.trailer place))) place result) }
+    ensures unchanged { S.known source.new ≡ S.known source.old }
+    ensures failures { AnswersIo result (S.failures source.old) (S.failures source.new) }
+{
+    let width = table.reference_width;
+    let content = find_content(source, table.trailer, place, marker, width as u64)?;
+    let items = read_numbers(alloc, source, content.start, width, content.count as usize)?;
+    Ok(Decoded::Collection(Event::StartArray(Some(content.count)), items))
+}
+
+// Key, value, key, value.
+fn interleave(alloc: Global, keys: &[u64], values: &[u64]) -> Result<Vec<u64>, Error>
+    ensures items { IfOk result (λ children. children.items ≡ children_of (zip keys.now values.now)) }
+    ensures memory { IfErr result (λ e. fault_of e ≡ fault_nowhere OutOfMemory) }
+{
+    let mut children = Vec::new(alloc);
+    for (key, value) in keys.iter().zip(values) {
+        children.push(*key)?;
+        children.push(*value)?;
+    }
+    Ok(children)
+}
+
+// Reads a dictionary.
+fn read_dictionary<S: Source>(
+    alloc: Global,
+    source: &mut S,
+    table: &Table,
+    place: u64,
+    marker: u8,
+) -> Result<Decoded, Error>
+    requires place { place < table.now.trailer }
+    ensures decoded { IfSome (S.known source.old) (λ bytes. table.now.trailer ≤ length bytes →
+        Decodes (meaning_counted (2 * table.now.reference_width)
+        (λ count content. dictionary count (numbers_of table.now.reference_width content))
+        (length_in marker (bytes_behind bytes table.now.trailer place))) place result) }
+    ensures unchanged { S.known source.new ≡ S.known source.old }
+    ensures failures { AnswersIo result (S.failures source.old) (S.failures source.new) }
+{
+    let width = table.reference_width;
+    let content = find_content(source, table.trailer, place, marker, 2 * width as u64)?;
+    let count = content.count as usize;
+    let references = read_numbers(alloc, source, content.start, width, 2 * count)?;
+    let children = interleave(alloc, &references[..count], &references[count..])?;
+    Ok(Decoded::Collection(Event::StartDictionary(Some(content.count)), children))
+}
+
+// Reads the object at a place, whose marker is this.
+fn decode_marked<S: Source>(
+    alloc: Global,
+    source: &mut S,
+    table: &Table,
+    place: u64,
+    marker: u8,
+) -> Result<Decoded, Error>
+    requires place { place < table.now.trailer }
+    ensures decoded { IfSome (S.known source.old) (λ bytes. table.now.trailer ≤ length bytes →
+        Decodes (object_behind marker (layout_of table.now.reference_width marker) (bytes_behind bytes table.now.trailer place))
+        place result) }
+    ensures unchanged { S.known source.new ≡ S.known source.old }
+    ensures failures { AnswersIo result (S.failures source.old) (S.failures source.new) }
+{
+    let trailer = table.trailer;
+    match marker {
+        0x00 => Err(ErrorKind::NullObjectUnimplemented.with_byte_offset(place)),
+        0x08 => Ok(Decoded::Scalar(Event::Boolean(false))),
+        0x09 => Ok(Decoded::Scalar(Event::Boolean(true))),
+        0x0f => Err(ErrorKind::FillObjectUnimplemented.with_byte_offset(place)),
+        0x10 => read_unsigned(source, trailer, place, 1),
+        0x11 => read_unsigned(source, trailer, place, 2),
+        0x12 => read_unsigned(source, trailer, place, 4),
+        0x13 => read_signed(source, trailer, place),
+        0x14 => read_wide(source, trailer, place),
+        0x50..=0x5f => read_text(alloc, source, trailer, place, marker),
+        0xa0..=0xaf => read_array(alloc, source, table, place, marker),
+        0xd0..=0xdf => read_dictionary(alloc, source, table, place, marker),
+        other => Err(ErrorKind::UnknownObjectType(other).with_byte_offset(place)),
+    }
+}
+
+/// Reads the object at a place.
+pub fn decode<S: Source>(
+    alloc: Global,
+    source: &mut S,
+    table: &Table,
+    place: u64,
+) -> Result<Decoded, Error>
+    ensures decoded { IfSome (S.known source.old) (λ bytes. table.now.trailer ≤ length bytes →
+        Decodes (object_in table.now.reference_width (drop place (take table.now.trailer bytes))) place result) }
+    ensures unchanged { S.known source.new ≡ S.known source.old }
+    ensures failures { AnswersIo result (S.failures source.old) (S.failures source.new) }
+{
+    if place >= table.trailer {
+        return Err(ErrorKind::ObjectOffsetTooLarge.with_byte_offset(place));
+    }
+    let marker = read_number(source, place, 1)? as u8;
+    decode_marked(alloc, source, table, place, marker)
+}

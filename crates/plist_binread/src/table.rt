@@ -1,0 +1,98 @@
+//! The object table.
+
+ghost use Rattle.std.specs.Prelude.{ℕ, ◌<◌, ◌≤◌};
+
+use crate::numbers::read_numbers;
+use crate::trailer::{check_trailer, has_magic, read_trailer};
+use plist_base::{Error, ErrorKind, Source};
+use std::alloc::Global;
+
+const MAGIC_SIZE: u64 = 8;
+
+const TRAILER_SIZE: u64 = 32;
+
+/// The object table: the place of each object by its number, and how to read the objects.
+#[derive(Drop)]
+pub struct Table {
+    /// Where the trailer begins, and what lies before it ends.
+    pub trailer: u64,
+    /// How many bytes a reference has.
+    pub reference_width: usize,
+    /// The number of the root.
+    pub root: u64,
+    /// The places of the objects.
+    pub places: Vec<u64>,
+    ghost width: { (0 < reference_width) × (reference_width ≤ 8) },
+}
+
+impl Table {
+    ghost use Rattle.std.specs.Prelude.{◌≡◌, ◌+◌, ◌-◌, ◌*◌, ◌^◌, ◌<◌, ◌≤◌, ℕ, [], length, drop, Ok, Err, IfOk, IfErr, IfSome, MatchResult, ⊤};
+    ghost use Rattle.plist_base.specs.Faults.{MatchFault, kind_of, error_kind_of, fault_of};
+    ghost use Rattle.plist_base.specs.Sources.{AnswersIo};
+    ghost use Rattle.plist_binread.specs.Container.{trailer_in, head_with, head_of};
+    ghost use Rattle.plist_binread.specs.Tables.{head_seen};
+
+    /// No object at all.
+    pub fn new(alloc: Global) -> Self
+        ensures trailer { result.trailer ≡ 0 }
+        ensures places { result.places.items ≡ [] }
+    {
+        Table {
+            trailer: 0,
+            reference_width: 1,
+            root: 0,
+            places: Vec::new(alloc),
+        }
+    }
+
+    /// Reads the table of a file.
+    pub fn read<S: Source>(alloc: Global, source: &mut S) -> Result<Self, Error>
+        ensures value { IfOk result (λ table. IfSome (S.known source.old) (λ bytes.
+            head_of bytes ≡ Ok (head_seen table))) }
+        ensures within { IfOk result (λ table. IfSome (S.known source.old) (λ bytes.
+            table.trailer ≤ length bytes)) }
+        ensures refused { IfErr result (λ e. IfSome (S.known source.old) (λ bytes.
+            MatchFault (kind_of (error_kind_of e)) ⊤ ⊤ (head_of bytes ≡ Err (fault_of e)))) }
+        ensures unchanged { S.known source.new ≡ S.known source.old }
+        ensures failures { AnswersIo result (S.failures source.old) (S.failures source.new) }
+    {
+        let size = match source.size() {
+            Ok(size) => size,
+            Err(error) => return Err(ErrorKind::Io(error).with_byte_offset(0)),
+        };
+        if size < MAGIC_SIZE {
+            return Err(ErrorKind::UnexpectedEof.with_byte_offset(size));
+        }
+        if !has_magic(source)? {
+            return Err(ErrorKind::InvalidMagic.with_byte_offset(0));
+        }
+        if size < TRAILER_SIZE {
+            return Err(ErrorKind::UnexpectedEof.with_byte_offset(size));
+        }
+        Table::read_before(alloc, source, size - TRAILER_SIZE)
+    }
+
+    // Reads the table of a file whose trailer begins here.
+    fn read_before<S: Source>(alloc: Global, source: &mut S, trailer: u64) -> Result<Self, Error>
+        requires { trailer + 32 < 2 ^ 64 }
+        ensures trailer { IfOk result (λ table. table.trailer ≡ trailer) }
+        ensures value { IfOk result (λ table. IfSome (S.known source.old) (λ bytes. length bytes ≡ trailer + 32 →
+            head_with bytes trailer (trailer_in (drop trailer bytes)) ≡ Ok (head_seen table))) }
+        ensures refused { IfErr result (λ e. IfSome (S.known source.old) (λ bytes. length bytes ≡ trailer + 32 →
+            MatchFault (kind_of (error_kind_of e)) ⊤ ⊤
+            (head_with bytes trailer (trailer_in (drop trailer bytes)) ≡ Err (fault_of e)))) }
+        ensures unchanged { S.known source.new ≡ S.known source.old }
+        ensures failures { AnswersIo result (S.failures source.old) (S.failures source.new) }
+    {
+        let t = read_trailer(source, trailer)?;
+        check_trailer(trailer, &t)?;
+        let width = t.offset_width as usize;
+        let places = read_numbers(alloc, source, t.table, width, t.count as usize)?;
+        Ok(Table {
+            trailer,
+            reference_width: t.reference_width as usize,
+            root: t.root,
+            places,
+        })
+    }
+}

@@ -1,0 +1,193 @@
+use super::*;
+use plist_base::{Event, OwnedEvent, Source};
+use std::alloc::{AllocError, Global};
+use std::process::Abort;
+use std::test::Fail;
+
+// A file: the magic, objects and table, and the trailer.
+fn file(
+    alloc: Global,
+    body: &[u8],
+    widths: [u8; 2],
+    count: u64,
+    root: u64,
+    table: u64,
+) -> Result<Vec<u8>, AllocError> {
+    let mut bytes = Vec::from_slice(alloc, b"bplist00")?;
+    bytes.extend_from_slice(body)?;
+    bytes.extend_from_slice(&[0; 6])?;
+    bytes.extend_from_slice(&widths)?;
+    bytes.extend_from_slice(&count.to_be_bytes())?;
+    bytes.extend_from_slice(&root.to_be_bytes())?;
+    bytes.extend_from_slice(&table.to_be_bytes())?;
+    Ok(bytes)
+}
+
+// At most this many bytes of the front.
+fn front(bytes: &[u8], count: usize) -> &[u8] {
+    &bytes[..bytes.len().min(count)]
+}
+
+// An event as a short text.
+fn text_of(alloc: Global, event: &OwnedEvent) -> Result<String, AllocError> {
+    match event {
+        Event::StartArray(Some(length)) => format!(in alloc; "[{length}"),
+        Event::StartDictionary(Some(length)) => format!(in alloc; "{{{length}"),
+        Event::EndCollection => format!(in alloc; "end"),
+        Event::Boolean(value) => format!(in alloc; "{value}"),
+        Event::Integer(value) => format!(in alloc; "{value}"),
+        Event::String(text) => format!(in alloc; "'{}'", text.as_str()),
+        _ => format!(in alloc; "a start without a length"),
+    }
+}
+
+// All items of a source, with a blank between two.
+fn items_of<S: Source>(alloc: Global, source: S, most: usize) -> Result<String, AllocError> {
+    let mut all = String::new(alloc);
+    for item in BinaryReader::new(alloc, source).take(most) {
+        if !all.is_empty() {
+            all.push(' ')?;
+        }
+        let text = match &item {
+            Ok(event) => text_of(alloc, event)?,
+            Err(error) => format!(in alloc; "{error}")?,
+        };
+        all.push_str(text.as_str())?;
+    }
+    Ok(all)
+}
+
+fn expect(
+    rt: &(impl Abort + AllocGlobal),
+    name: &str,
+    bytes: &[u8],
+    items: &str,
+) -> Result<(), Fail> {
+    let found = items_of(rt.alloc(), bytes, 100)?;
+    assert_eq!(rt; found.as_str(), items, "{name}");
+    Ok(())
+}
+
+#[test]
+fn collections(rt: HostRuntime) -> Result<(), Fail> {
+    let a = rt.alloc();
+    let bytes = file(a, &[0xa1, 0x00, 0x08], [1, 1], 1, 0, 10)?;
+    expect(
+        &rt,
+        "an array in itself",
+        bytes.as_slice(),
+        "[1 RecursiveObject (offset 8)",
+    )?;
+    let bytes = file(a, &[0xa1, 0x01, 0x08, 0x08], [1, 1], 2, 0, 10)?;
+    expect(
+        &rt,
+        "two numbers of one place",
+        bytes.as_slice(),
+        "[1 [1 RecursiveObject (offset 8)",
+    )?;
+    let shared = [0xa2, 0x01, 0x01, 0xa2, 0x02, 0x02, 0xa0, 0x08, 0x0b, 0x0e];
+    let bytes = file(a, &shared, [1, 1], 3, 0, 15)?;
+    let items = "[2 [2 [0 end [0 end end [2 [0 end [0 end end end";
+    expect(&rt, "a shared object", bytes.as_slice(), items)?;
+    let bytes = file(
+        a,
+        &[0xd1, 0x01, 0x01, 0x10, 0x05, 0x08, 0x0b],
+        [1, 1],
+        2,
+        0,
+        13,
+    )?;
+    expect(&rt, "an integer as key", bytes.as_slice(), "{1 5 5 end")?;
+    let body = b"\xd2\x01\x02\x03\x01\x51a\x51b\xa1\x04\x51x\x08\x0d\x0f\x11\x13";
+    let bytes = file(a, body, [1, 1], 5, 0, 21)?;
+    expect(
+        &rt,
+        "an array in a dictionary",
+        bytes.as_slice(),
+        "{2 'a' [1 'x' end 'b' 'a' end",
+    )
+}
+
+#[test]
+fn scalars(rt: HostRuntime) -> Result<(), Fail> {
+    let a = rt.alloc();
+    let bytes = file(a, b"\x09\x00\x00\x08", [3, 1], 1, 0, 9)?;
+    expect(&rt, "three-byte offsets", bytes.as_slice(), "true")?;
+    let bytes = file(a, b"\x5f\x40\x01a\x08", [1, 1], 1, 0, 12)?;
+    expect(
+        &rt,
+        "a length byte of another kind",
+        bytes.as_slice(),
+        "'a'",
+    )?;
+    let bytes = file(a, b"\x88\x08", [1, 1], 1, 0, 9)?;
+    expect(
+        &rt,
+        "an unknown marker",
+        bytes.as_slice(),
+        "UnknownObjectType(136) (offset 8)",
+    )?;
+    let mut body = [0xff; 18];
+    body[0] = 0x14;
+    body[17] = 0x08;
+    let bytes = file(a, &body, [1, 1], 1, 0, 25)?;
+    expect(
+        &rt,
+        "sixteen bytes of -1",
+        bytes.as_slice(),
+        "IntegerOutOfRange (offset 8)",
+    )?;
+    let mut body = [0xff; 10];
+    body[0] = 0x13;
+    body[9] = 0x08;
+    let bytes = file(a, &body, [1, 1], 1, 0, 17)?;
+    expect(&rt, "eight bytes of -1", bytes.as_slice(), "-1")?;
+    let bytes = file(a, b"\x51\xff\x08", [1, 1], 1, 0, 10)?;
+    expect(
+        &rt,
+        "no UTF-8",
+        bytes.as_slice(),
+        "InvalidUtf8String (offset 8)",
+    )
+}
+
+#[test]
+fn containers(rt: HostRuntime) -> Result<(), Fail> {
+    let a = rt.alloc();
+    let bytes = file(a, b"", [1, 1], 0, 0, 8)?;
+    expect(
+        &rt,
+        "no object",
+        bytes.as_slice(),
+        "ObjectReferenceTooLarge (offset 8)",
+    )?;
+    let bytes = file(a, b"\x09\x08", [1, 1], 1, 0, 9)?;
+    let whole = bytes.as_slice();
+    assert_eq!(rt; whole.len(), 42);
+    expect(&rt, "one object", whole, "true")?;
+    let cut = "InvalidTrailerObjectOffsetSize (offset 9)";
+    expect(&rt, "a cut trailer", front(whole, 41), cut)?;
+    expect(
+        &rt,
+        "no trailer",
+        front(whole, 31),
+        "UnexpectedEof (offset 31)",
+    )?;
+    expect(&rt, "no magic", front(whole, 7), "UnexpectedEof (offset 7)")?;
+    expect(&rt, "nothing", &[], "UnexpectedEof (offset 0)")
+}
+
+// After a fault, and after the last item, nothing comes for good.
+#[test]
+fn ends_for_good(rt: HostRuntime) -> Result<(), Fail> {
+    let bytes: &[u8] = b"bplist01";
+    let mut reader = BinaryReader::new(rt.alloc(), bytes);
+    match reader.next() {
+        Some(Err(error)) => assert_eq!(rt; error.offset(), Some(0)),
+        _ => panic!(rt; "no fault"),
+    }
+    for _ in 0..3 {
+        assert!(rt; reader.next().is_none());
+    }
+    Ok(())
+}
