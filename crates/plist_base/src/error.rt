@@ -165,7 +165,8 @@ impl Error {
     /// The device's error, or `None` if this fault isn't one of a device.
     pub fn as_io(&self) -> Option<&io::Error>
         ensures io { IsSome result ↔ (kind_of (error_kind_of self.now) ≡ Io) }
-        ensures value { IfSome result (λ failure. error_kind_of self.now ≡ ErrorKind.Io failure.now) }
+        ensures value { IfSome result (λ failure.
+            error_kind_of self.now ≡ ErrorKind.Io failure.now) }
     {
         match &self.kind {
             ErrorKind::Io(failure) => Some(failure),

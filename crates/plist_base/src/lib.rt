@@ -1,8 +1,8 @@
 //! What all property-list crates share: scalars, faults, events, and the sources that readers take
 //! their bytes from.
 //!
-//! The main contract is that of [`Source`]: it tells whether its bytes are known, each read of known
-//! bytes gives them, and each failure is counted.
+//! The main contract is that of [`Source`]: it tells whether its bytes are known, each read of
+//! known bytes gives them, and each failure is counted.
 #![tactic(auto)]
 
 pub mod error;

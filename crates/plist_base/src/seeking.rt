@@ -159,7 +159,7 @@ mod tests {
         Ok(bytes)
     }
 
-    // Small reads, reads over the window's ends, and reads longer than the window give the file's bytes.
+    // Small reads, reads over the window's ends, and reads longer than it give the file's bytes.
     #[test]
     fn gives_the_bytes(rt: HostRuntime) -> Result<(), Fail> {
         let size = 20_000;
@@ -221,7 +221,7 @@ mod tests {
         }
     }
 
-    // Where a seek or a read fails, the answer is its error, and a later read gives the bytes again.
+    // Where a seek or a read fails, the answer is its error. A later read gives the bytes again.
     #[test]
     fn goes_on_after_a_failure(rt: HostRuntime) -> Result<(), Fail> {
         for fails_at in 0..4 {

@@ -18,7 +18,8 @@ pub trait Source: Drop {
 
     /// The number of bytes.
     fn size(&mut self) -> Result<u64, io::Error>
-        ensures length { IfOk result (λ size. IfSome (known self.old) (λ bytes. size ≡ length bytes)) }
+        ensures length { IfOk result (λ size. IfSome (known self.old) (λ bytes.
+            size ≡ length bytes)) }
         ensures unchanged { known self.new ≡ known self.old }
         ensures failures { CountsFailure result (failures self.old) (failures self.new) };
 
@@ -26,7 +27,8 @@ pub trait Source: Drop {
     /// give fewer than there are, but none only where the buffer is empty or no byte is left.
     fn read_at(&mut self, place: u64, buf: &mut [u8]) -> Result<usize, io::Error>
         ensures bound { IfOk result (λ count. count ≤ length buf.new) }
-        ensures bytes { IfOk result (λ count. IfSome (known self.old) (λ bytes. GivesAt bytes place count buf.new)) }
+        ensures bytes { IfOk result (λ count. IfSome (known self.old) (λ bytes.
+            GivesAt bytes place count buf.new)) }
         ensures unchanged { known self.new ≡ known self.old }
         ensures failures { CountsFailure result (failures self.old) (failures self.new) };
 }

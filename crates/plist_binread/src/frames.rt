@@ -52,9 +52,11 @@ fn has_frame(frames: &[Frame], number: u64) -> bool
 fn place_of(places: &[u64], frames: &[Frame], at: u64, number: u64) -> Result<u64, Error>
     ensures below { IfOk result (λ _. number < length places.now) }
     ensures place { IfOk result (λ place. place ≡ slice_index places.now number) }
-    ensures new { IfOk result (λ _. list_any (nat_eq number) (path_of (reverse frames.now)) ≡ false) }
+    ensures new { IfOk result (λ _.
+        list_any (nat_eq number) (path_of (reverse frames.now)) ≡ false) }
     ensures refused { IfErr result (λ e. (before : List ℕ) (width room : ℕ) →
-        unfolding_of (table_of before width places.now) room (path_of (reverse frames.now)) at number
+        unfolding_of (table_of before width places.now) room (path_of (reverse frames.now))
+        at number
         ≡ Err (fault_of e) ∷ []) }
     ensures inside { IfErr result (λ e. MatchFault (kind_of (error_kind_of e)) ⊥ ⊥ (Unit {0})) }
 {
@@ -92,8 +94,10 @@ fn open(
     ensures falls { OnOk result (weight count (reverse frames.new.items)
         < weight count (reverse frames.old.items) + steps (count - length frames.old.items)) }
     ensures pays { (table : List Entry) (entry : Entry) (at : ℕ) → length table ≡ count →
-        slice_get table number ≡ Some entry → entry.place ≡ place → IsDecodedAs entry.object decoded →
-        Pays (unfolding_of table (count - length frames.old.items) (path_of (reverse frames.old.items)) at number
+        slice_get table number ≡ Some entry → entry.place ≡ place →
+        IsDecodedAs entry.object decoded →
+        Pays (unfolding_of table (count - length frames.old.items)
+        (path_of (reverse frames.old.items)) at number
         ++ owed_by table (reverse frames.old.items))
         result (owed_by table (reverse frames.new.items)) }
     ensures memory { IfErr result (λ e. fault_of e ≡ fault_nowhere OutOfMemory) }
@@ -115,9 +119,12 @@ fn open(
 
 // Takes the next child of the innermost collection, or closes it where it has no more.
 fn turn_of(frames: &mut Vec<Frame>) -> Turn
-    ensures path { (count : ℕ) → IsPath count (reverse frames.old.items) → IsPath count (reverse frames.new.items) }
-    ensures owed { (table : List Entry) → Turns table (reverse frames.old.items) result (reverse frames.new.items) }
-    ensures weight { (count : ℕ) → Lightens count (reverse frames.old.items) result (reverse frames.new.items) }
+    ensures path { (count : ℕ) → IsPath count (reverse frames.old.items) →
+        IsPath count (reverse frames.new.items) }
+    ensures owed { (table : List Entry) →
+        Turns table (reverse frames.old.items) result (reverse frames.new.items) }
+    ensures weight { (count : ℕ) →
+        Lightens count (reverse frames.old.items) result (reverse frames.new.items) }
 {
     let depth = frames.len();
     if depth == 0 {
@@ -146,7 +153,8 @@ pub fn enter<S: Source>(
     requires { IsPath (length table.now.places.items) (reverse frames.old.items) }
     ensures path { IsPath (length table.now.places.items) (reverse frames.new.items) }
     ensures pays { IfSome (S.known source.old) (λ bytes. table.now.trailer ≤ length bytes →
-        Pays (unfolding_of (entries_of bytes table.now) (length table.now.places.items - length frames.old.items)
+        Pays (unfolding_of (entries_of bytes table.now)
+        (length table.now.places.items - length frames.old.items)
         (path_of (reverse frames.old.items)) at number
         ++ owed_by (entries_of bytes table.now) (reverse frames.old.items))
         result (owed_by (entries_of bytes table.now) (reverse frames.new.items))) }

@@ -35,7 +35,8 @@ fn read_unsigned<S: Source>(
     requires place { place < trailer }
     requires width { width ≤ 8 }
     ensures decoded { IfSome (S.known source.old) (λ bytes. trailer ≤ length bytes →
-        Decodes (meaning_of_front width unsigned_integer (bytes_behind bytes trailer place)) place result) }
+        Decodes (meaning_of_front width unsigned_integer
+        (bytes_behind bytes trailer place)) place result) }
     ensures unchanged { S.known source.new ≡ S.known source.old }
     ensures failures { AnswersIo result (S.failures source.old) (S.failures source.new) }
 {
@@ -48,7 +49,8 @@ fn read_unsigned<S: Source>(
 fn read_signed<S: Source>(source: &mut S, trailer: u64, place: u64) -> Result<Decoded, Error>
     requires place { place < trailer }
     ensures decoded { IfSome (S.known source.old) (λ bytes. trailer ≤ length bytes →
-        Decodes (meaning_of_front 8 signed_integer (bytes_behind bytes trailer place)) place result) }
+        Decodes (meaning_of_front 8 signed_integer
+        (bytes_behind bytes trailer place)) place result) }
     ensures unchanged { S.known source.new ≡ S.known source.old }
     ensures failures { AnswersIo result (S.failures source.old) (S.failures source.new) }
 {
@@ -61,7 +63,8 @@ fn read_signed<S: Source>(source: &mut S, trailer: u64, place: u64) -> Result<De
 fn read_wide<S: Source>(source: &mut S, trailer: u64, place: u64) -> Result<Decoded, Error>
     requires place { place < trailer }
     ensures decoded { IfSome (S.known source.old) (λ bytes. trailer ≤ length bytes →
-        Decodes (meaning_of_front 16 wide_integer (bytes_behind bytes trailer place)) place result) }
+        Decodes (meaning_of_front 16 wide_integer
+        (bytes_behind bytes trailer place)) place result) }
     ensures unchanged { S.known source.new ≡ S.known source.old }
     ensures failures { AnswersIo result (S.failures source.old) (S.failures source.new) }
 {
@@ -96,7 +99,8 @@ fn read_text<S: Source>(
 ) -> Result<Decoded, Error>
     requires place { place < trailer }
     ensures decoded { IfSome (S.known source.old) (λ bytes. trailer ≤ length bytes →
-        Decodes (meaning_counted 1 (λ _. text) (length_in marker (bytes_behind bytes trailer place))) place result) }
+        Decodes (meaning_counted 1 (λ _. text)
+        (length_in marker (bytes_behind bytes trailer place))) place result) }
     ensures unchanged { S.known source.new ≡ S.known source.old }
     ensures failures { AnswersIo result (S.failures source.old) (S.failures source.new) }
 {
@@ -115,7 +119,8 @@ fn read_array<S: Source>(
 ) -> Result<Decoded, Error>
     requires place { place < table.now.trailer }
     ensures decoded { IfSome (S.known source.old) (λ bytes. table.now.trailer ≤ length bytes →
-        Decodes (meaning_counted table.now.reference_width (λ _ content. Array (numbers_of table.now.reference_width content))
+        Decodes (meaning_counted table.now.reference_width
+        (λ _ content. Array (numbers_of table.now.reference_width content))
         (length_in marker (bytes_behind bytes table.now.trailer place))) place result) }
     ensures unchanged { S.known source.new ≡ S.known source.old }
     ensures failures { AnswersIo result (S.failures source.old) (S.failures source.new) }
@@ -128,7 +133,8 @@ fn read_array<S: Source>(
 
 // Key, value, key, value.
 fn interleave(alloc: Global, keys: &[u64], values: &[u64]) -> Result<Vec<u64>, Error>
-    ensures items { IfOk result (λ children. children.items ≡ children_of (zip keys.now values.now)) }
+    ensures items { IfOk result (λ children.
+        children.items ≡ children_of (zip keys.now values.now)) }
     ensures memory { IfErr result (λ e. fault_of e ≡ fault_nowhere OutOfMemory) }
 {
     let mut children = Vec::new(alloc);
@@ -173,7 +179,8 @@ fn decode_marked<S: Source>(
 ) -> Result<Decoded, Error>
     requires place { place < table.now.trailer }
     ensures decoded { IfSome (S.known source.old) (λ bytes. table.now.trailer ≤ length bytes →
-        Decodes (object_behind marker (layout_of table.now.reference_width marker) (bytes_behind bytes table.now.trailer place))
+        Decodes (object_behind marker (layout_of table.now.reference_width marker)
+        (bytes_behind bytes table.now.trailer place))
         place result) }
     ensures unchanged { S.known source.new ≡ S.known source.old }
     ensures failures { AnswersIo result (S.failures source.old) (S.failures source.new) }
@@ -204,7 +211,8 @@ pub fn decode<S: Source>(
     place: u64,
 ) -> Result<Decoded, Error>
     ensures decoded { IfSome (S.known source.old) (λ bytes. table.now.trailer ≤ length bytes →
-        Decodes (object_in table.now.reference_width (drop place (take table.now.trailer bytes))) place result) }
+        Decodes (object_in table.now.reference_width
+        (drop place (take table.now.trailer bytes))) place result) }
     ensures unchanged { S.known source.new ≡ S.known source.old }
     ensures failures { AnswersIo result (S.failures source.old) (S.failures source.new) }
 {

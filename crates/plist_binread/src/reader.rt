@@ -36,9 +36,10 @@ fn begin<S: Source>(
     ensures path { IsPath (length table.new.places.items) (reverse frames.new.items) }
     ensures within { IfSome (S.known source.old) (λ bytes. table.new.trailer ≤ length bytes) }
     ensures pays { IfSome (S.known source.old) (λ bytes. MatchResult result
-        (λ event. items_of_file bytes
-        ≡ Ok (event_of event) ∷ until_fault (owed_by (entries_of bytes table.new) (reverse frames.new.items)))
-        (λ e. MatchFault (kind_of (error_kind_of e)) (IsOwed (items_of_file bytes)) (IsOwed (items_of_file bytes))
+        (λ event. items_of_file bytes ≡ Ok (event_of event)
+        ∷ until_fault (owed_by (entries_of bytes table.new) (reverse frames.new.items)))
+        (λ e. MatchFault (kind_of (error_kind_of e))
+        (IsOwed (items_of_file bytes)) (IsOwed (items_of_file bytes))
         (items_of_file bytes ≡ Err (fault_of e) ∷ []))) }
     ensures falls { OnOk result (weight (length table.new.places.items) (reverse frames.new.items)
         < steps (length table.new.places.items)) }
@@ -51,16 +52,16 @@ fn begin<S: Source>(
 
 /// Reads a binary property list as events, depth first from its root.
 ///
-/// Over known bytes the items are exactly those of the file up to its first fault. Each item but the
-/// last is an event; after a fault, and where no more comes, the reader has ended and answers `None`
-/// for good. A shared object is read at each reference to it. Any object may be a key here.
+/// Over known bytes the items are exactly those of the file up to its first fault. Each item but
+/// the last is an event; after a fault, and where no more comes, the reader has ended and answers
+/// `None` for good. A shared object is read at each reference to it. Any object may be a key here.
 ///
 /// # Errors
 /// `UnexpectedEof`, `InvalidMagic`, `InvalidTrailerObjectOffsetSize`,
 /// `InvalidTrailerObjectReferenceSize` and `ObjectOffsetTooLarge` of the container;
 /// `ObjectReferenceTooLarge` and `RecursiveObject` of a reference; `ObjectOffsetTooLarge`,
-/// `NullObjectUnimplemented`, `FillObjectUnimplemented`, `UnknownObjectType`, `IntegerOutOfRange` and
-/// `InvalidUtf8String` of an object; `Io` where a read failed; `OutOfMemory`.
+/// `NullObjectUnimplemented`, `FillObjectUnimplemented`, `UnknownObjectType`, `IntegerOutOfRange`
+/// and `InvalidUtf8String` of an object; `Io` where a read failed; `OutOfMemory`.
 #[derive(Drop)]
 pub struct BinaryReader<R: Source> {
     source: R,
@@ -81,7 +82,8 @@ impl<R: Source> BinaryReader<R> {
     /// A reader over a source. It reads nothing before its first item is asked for.
     pub fn new(alloc: Global, source: R) -> Self
         ensures source { source_of result ≡ source }
-        ensures items { IfSome (R.known source) (λ bytes. to_come bytes result ≡ items_of_file bytes) }
+        ensures items { IfSome (R.known source) (λ bytes.
+            to_come bytes result ≡ items_of_file bytes) }
     {
         BinaryReader {
             source,

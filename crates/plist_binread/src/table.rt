@@ -76,10 +76,11 @@ impl Table {
     fn read_before<S: Source>(alloc: Global, source: &mut S, trailer: u64) -> Result<Self, Error>
         requires { trailer + 32 < 2 ^ 64 }
         ensures trailer { IfOk result (λ table. table.trailer ≡ trailer) }
-        ensures value { IfOk result (λ table. IfSome (S.known source.old) (λ bytes. length bytes ≡ trailer + 32 →
+        ensures value { IfOk result (λ table. IfSome (S.known source.old) (λ bytes.
+            length bytes ≡ trailer + 32 →
             head_with bytes trailer (trailer_in (drop trailer bytes)) ≡ Ok (head_seen table))) }
-        ensures refused { IfErr result (λ e. IfSome (S.known source.old) (λ bytes. length bytes ≡ trailer + 32 →
-            MatchFault (kind_of (error_kind_of e)) ⊤ ⊤
+        ensures refused { IfErr result (λ e. IfSome (S.known source.old) (λ bytes.
+            length bytes ≡ trailer + 32 → MatchFault (kind_of (error_kind_of e)) ⊤ ⊤
             (head_with bytes trailer (trailer_in (drop trailer bytes)) ≡ Err (fault_of e)))) }
         ensures unchanged { S.known source.new ≡ S.known source.old }
         ensures failures { AnswersIo result (S.failures source.old) (S.failures source.new) }

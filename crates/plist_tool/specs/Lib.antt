@@ -1,0 +1,4 @@
+pub mod Lines
+pub mod Fronts
+pub mod Printing
+pub mod Commands

@@ -1,0 +1,53 @@
+-- The lines that are printed of a property list.
+use Rattle.std.specs.Prelude.{ℕ, ◌+◌, ◌/◌, ◌%◌, Bool, true, false, not, ◌&&◌, List, [], ◌∷◌, ◌++◌, Option, None, Some, Ok, Err, ◌==◌, nat_le, nat_lt, if◌then◌else◌, codes}
+use Rattle.std.specs.List.{flat_map}
+use Rattle.std.specs.Fmt.{decimal, signed_decimal}
+use Rattle.plist_base.specs.Faults.{Fault}
+use Rattle.plist_base.specs.Events.{PlainEvent, StartArray, StartDictionary, EndCollection, Boolean, Integer, String, Item}
+
+-- the digit of a value below 16: 0 to 9, or a to f
+abbrev pub hexadecimal_digit : ℕ → ℕ
+hexadecimal_digit value = if nat_lt value 10 then 48 + value else 87 + value
+
+-- does a byte of a text stand for itself? printable ASCII does, but not the backslash and the quote
+abbrev pub stands_for_itself : ℕ → Bool
+stands_for_itself byte = nat_le 0x20 byte && nat_le byte 0x7e && not (byte == 0x5c) && not (byte == 0x22)
+
+-- how a byte of a text is printed: as itself, or as a backslash, an x and two hexadecimal digits
+abbrev pub text_of_byte : ℕ → List ℕ
+text_of_byte byte = if stands_for_itself byte then byte ∷ [] else codes "\\x" ++ hexadecimal_digit (byte / 16) ∷ hexadecimal_digit (byte % 16) ∷ []
+
+-- how a text is printed, between its quotes
+abbrev pub text_of_bytes : List ℕ → List ℕ
+text_of_bytes bytes = flat_map text_of_byte bytes
+
+-- a start: its word, and behind a space its length where that is known
+abbrev pub text_of_start : (word : List ℕ) → (length : Option ℕ) → List ℕ
+text_of_start word None = word
+text_of_start word (Some length) = word ++ codes " " ++ decimal length
+
+-- the words of an event
+abbrev pub words_of : PlainEvent → List ℕ
+words_of (StartArray length) = text_of_start (codes "StartArray") length
+words_of (StartDictionary length) = text_of_start (codes "StartDictionary") length
+words_of EndCollection = codes "EndCollection"
+words_of (Boolean true) = codes "Boolean true"
+words_of (Boolean false) = codes "Boolean false"
+words_of (Integer number) = codes "Integer " ++ signed_decimal number
+words_of (String bytes) = codes "String \"" ++ text_of_bytes bytes ++ codes "\""
+
+-- the line of an event, with its LF
+abbrev pub line_of : PlainEvent → List ℕ
+line_of event = words_of event ++ codes "\n"
+
+-- the lines of the events before the first fault
+abbrev pub lines_of : List Item → List ℕ
+lines_of [] = []
+lines_of (Ok event ∷ items) = line_of event ++ lines_of items
+lines_of (Err fault ∷ items) = []
+
+-- the first fault, if there is one
+abbrev pub first_fault : List Item → Option Fault
+first_fault [] = None
+first_fault (Ok event ∷ items) = first_fault items
+first_fault (Err fault ∷ items) = Some fault

@@ -1,0 +1,161 @@
+//! The line of each event.
+
+ghost use Rattle.std.specs.Prelude.{◌≡◌, ◌∷◌, ◌++◌, ◌<◌, OnOk, codes};
+ghost use Rattle.std.specs.Fmt.{signed_decimal};
+ghost use Rattle.plist_base.specs.Events.{event_of};
+ghost use Rattle.plist_tool.specs.Lines.{hexadecimal_digit, text_of_byte, text_of_bytes, text_of_start, words_of, line_of};
+
+use itoa::Buffer;
+use plist_base::{Event, Integer};
+use std::alloc::AllocError;
+
+fn hexadecimal_digit_of(value: u8) -> u8
+    requires { value < 16 }
+    ensures { result ≡ hexadecimal_digit value }
+{
+    if value < 10 {
+        b'0' + value
+    } else {
+        b'a' + (value - 10)
+    }
+}
+
+// A byte of a text, escaped unless it stands for itself.
+fn push_byte(line: &mut Vec<u8>, byte: u8) -> Result<(), AllocError>
+    ensures { OnOk result (line.new.items ≡ line.old.items ++ text_of_byte byte) }
+{
+    match byte {
+        b'"' | b'\\' | 0..=0x1f | 0x7f..=0xff => {
+            let high = hexadecimal_digit_of(byte / 16);
+            let low = hexadecimal_digit_of(byte % 16);
+            line.extend_from_slice(&[b'\\', b'x', high, low])
+        }
+        _ => {
+            line.push(byte)?;
+            Ok(())
+        }
+    }
+}
+
+fn push_text(line: &mut Vec<u8>, text: &[u8]) -> Result<(), AllocError>
+    ensures { OnOk result (line.new.items ≡ line.old.items ++ text_of_bytes text.now) }
+{
+    for &byte in text {
+        push_byte(line, byte)?;
+    }
+    Ok(())
+}
+
+fn push_integer(line: &mut Vec<u8>, integer: Integer) -> Result<(), AllocError>
+    ensures { OnOk result (line.new.items ≡ line.old.items ++ signed_decimal integer) }
+{
+    let mut buffer = Buffer::new();
+    match integer.as_signed() {
+        Some(number) => line.extend_from_slice(buffer.format(number).as_bytes()),
+        None => {
+            let number = integer.as_unsigned().unwrap();
+            line.extend_from_slice(buffer.format(number).as_bytes())
+        }
+    }
+}
+
+// The word of a start, and its length where that is known.
+fn push_start(line: &mut Vec<u8>, word: &[u8], length: Option<u64>) -> Result<(), AllocError>
+    ensures { OnOk result (line.new.items ≡ line.old.items ++ text_of_start word.now length) }
+{
+    line.extend_from_slice(word)?;
+    let Some(length) = length else {
+        return Ok(());
+    };
+    line.push(b' ')?;
+    line.extend_from_slice(Buffer::new().format(length).as_bytes())
+}
+
+fn push_words(line: &mut Vec<u8>, event: &Event<'_>) -> Result<(), AllocError>
+    ensures { OnOk result (line.new.items ≡ line.old.items ++ words_of (event_of event.now)) }
+{
+    match event {
+        Event::StartArray(length) => push_start(line, b"StartArray", *length),
+        Event::StartDictionary(length) => push_start(line, b"StartDictionary", *length),
+        Event::EndCollection => line.extend_from_slice(b"EndCollection"),
+        Event::Boolean(true) => line.extend_from_slice(b"Boolean true"),
+        Event::Boolean(false) => line.extend_from_slice(b"Boolean false"),
+        Event::Integer(integer) => {
+            line.extend_from_slice(b"Integer ")?;
+            push_integer(line, *integer)
+        }
+        Event::String(text) => {
+            line.extend_from_slice(b"String \"")?;
+            push_text(line, text.as_str().as_bytes())?;
+            line.push(b'"')?;
+            Ok(())
+        }
+    }
+}
+
+/// Appends the line of an event, with its LF.
+///
+/// # Errors
+/// Where a growth is refused. The buffer may then hold a part of the line.
+pub fn push_line(line: &mut Vec<u8>, event: &Event<'_>) -> Result<(), AllocError>
+    ensures { OnOk result (line.new.items ≡ line.old.items ++ line_of (event_of event.now)) }
+{
+    push_words(line, event)?;
+    line.push(b'\n')?;
+    Ok(())
+}
+
+#[cfg(test)]
+mod tests {
+    use super::*;
+    use std::borrow::CowStr;
+    use std::process::Abort;
+
+    fn assert_line(
+        rt: &(impl Abort + AllocGlobal),
+        event: Event<'_>,
+        expected: &[u8],
+    ) -> Result<(), AllocError> {
+        let mut line = Vec::from_slice(rt.alloc(), b"before\n")?;
+        push_line(&mut line, &event)?;
+        assert!(rt; line.starts_with(b"before\n"));
+        assert_eq!(rt; &line.as_slice()[7..], expected, "at {event:?}");
+        Ok(())
+    }
+
+    #[test]
+    fn lines_of_collections(rt: HostRuntime) -> Result<(), AllocError> {
+        assert_line(&rt, Event::StartArray(Some(2)), b"StartArray 2\n")?;
+        assert_line(&rt, Event::StartArray(None), b"StartArray\n")?;
+        assert_line(&rt, Event::StartDictionary(Some(2)), b"StartDictionary 2\n")?;
+        assert_line(&rt, Event::StartDictionary(Some(0)), b"StartDictionary 0\n")?;
+        assert_line(&rt, Event::StartDictionary(None), b"StartDictionary\n")?;
+        assert_line(&rt, Event::EndCollection, b"EndCollection\n")
+    }
+
+    #[test]
+    fn lines_of_scalars(rt: HostRuntime) -> Result<(), AllocError> {
+        let integer = |value: i64| Event::Integer(Integer::from(value));
+        assert_line(&rt, Event::Boolean(true), b"Boolean true\n")?;
+        assert_line(&rt, Event::Boolean(false), b"Boolean false\n")?;
+        assert_line(&rt, integer(5), b"Integer 5\n")?;
+        assert_line(&rt, integer(0), b"Integer 0\n")?;
+        assert_line(&rt, integer(i64::MIN), b"Integer -9223372036854775808\n")?;
+
+        let greatest = Event::Integer(Integer::from(u64::MAX));
+        assert_line(&rt, greatest, b"Integer 18446744073709551615\n")
+    }
+
+    #[test]
+    fn lines_of_texts(rt: HostRuntime) -> Result<(), AllocError> {
+        for (text, expected) in [
+            ("", "String \"\"\n"),
+            ("a\"\\\n\u{e9}", "String \"a\\x22\\x5c\\x0a\\xc3\\xa9\"\n"),
+            ("\0\u{1f} !#[]~\u{7f}", "String \"\\x00\\x1f !#[]~\\x7f\"\n"),
+        ] {
+            let event = Event::String(CowStr::Borrowed(text));
+            assert_line(&rt, event, expected.as_bytes())?;
+        }
+        Ok(())
+    }
+}

@@ -1,0 +1,127 @@
+//! Prints the events of a source.
+
+ghost use Rattle.std.specs.Prelude.{IfErr, IfSome, OnOk};
+ghost use Rattle.std.specs.Io.KnownBytes.{Appends};
+ghost use Rattle.plist_base.specs.Faults.{IsFromOutside, kind_of, error_kind_of};
+ghost use Rattle.plist_base.specs.Events.{event_of};
+ghost use Rattle.plist_binread.specs.Unfolding.{items_of_file};
+ghost use Rattle.plist_tool.specs.Lines.{line_of, lines_of};
+ghost use Rattle.plist_tool.specs.Fronts.{AppendsFront};
+ghost use Rattle.plist_tool.specs.Printing.{PrintsAll, PrintsUntil};
+
+use crate::lines::push_line;
+use crate::send::{flush, send};
+use plist_base::{Error, OwnedEvent, Source};
+use plist_binread::BinaryReader;
+use std::alloc::Global;
+use std::io::Write;
+
+// Sends the line of an event. The buffer is made anew for it, and keeps its room.
+fn send_line<W: Write>(writer: &mut W, line: &mut Vec<u8>, event: OwnedEvent) -> Result<(), Error>
+    ensures sent { OnOk result (Appends
+        (W.contents writer.old) (W.contents writer.new) (line_of (event_of event.entry))) }
+    ensures failed { IfErr result (λ error. IsFromOutside (kind_of (error_kind_of error))) }
+    ensures front { AppendsFront
+        (W.contents writer.old) (W.contents writer.new) (line_of (event_of event.entry)) }
+{
+    line.clear();
+    push_line(line, &event)?;
+    send(writer, line.as_slice())
+}
+
+// The same as `print_events` without the flush. One buffer serves all lines.
+fn send_lines<S: Source, W: Write>(alloc: Global, source: S, writer: &mut W) -> Result<(), Error>
+    ensures printed { OnOk result (IfSome (S.known source) (λ bytes.
+        PrintsAll (items_of_file bytes) (W.contents writer.old) (W.contents writer.new))) }
+    ensures refused { IfErr result (λ error. IfSome (S.known source) (λ bytes.
+        PrintsUntil error (items_of_file bytes) (W.contents writer.old) (W.contents writer.new))) }
+    ensures sent { IfSome (S.known source) (λ bytes. AppendsFront
+        (W.contents writer.old) (W.contents writer.new) (lines_of (items_of_file bytes))) }
+{
+    let mut line = Vec::new(alloc);
+    for item in BinaryReader::new(alloc, source) {
+        let event = item?;
+        send_line(writer, &mut line, event)?;
+    }
+    Ok(())
+}
+
+/// Prints the events of a source, each on a line of its own, up to the first fault, and flushes the
+/// writer at the end.
+///
+/// # Errors
+/// The first fault of the source, after the lines of the events before it. `Io` also where the
+/// writer fails, and `OutOfMemory` also for want of memory; a beginning of the lines went out. A
+/// failed flush is an error only where nothing failed before it.
+pub fn print_events<S: Source, W: Write>(
+    alloc: Global,
+    source: S,
+    writer: &mut W,
+) -> Result<(), Error>
+    ensures printed { OnOk result (IfSome (S.known source) (λ bytes.
+        PrintsAll (items_of_file bytes) (W.contents writer.old) (W.contents writer.new))) }
+    ensures refused { IfErr result (λ error. IfSome (S.known source) (λ bytes.
+        PrintsUntil error (items_of_file bytes) (W.contents writer.old) (W.contents writer.new))) }
+    ensures sent { IfSome (S.known source) (λ bytes. AppendsFront
+        (W.contents writer.old) (W.contents writer.new) (lines_of (items_of_file bytes))) }
+{
+    let sent = send_lines(alloc, source, writer);
+    let flushed = flush(writer);
+    sent?;
+    flushed
+}
+
+#[cfg(test)]
+mod tests {
+    use super::*;
+    use crate::trickle::Trickle;
+    use std::test::Fail;
+
+    // An array of two references to one text, `a`.
+    const TWO_TEXTS: &[u8] = b"bplist00\
+        \xa2\x01\x01\x51\x61\x08\x0b\
+        \0\0\0\0\0\0\x01\x01\0\0\0\0\0\0\0\x02\0\0\0\0\0\0\0\0\0\0\0\0\0\0\0\x0d";
+
+    const LINES: &[u8] = b"StartArray 2\nString \"a\"\nString \"a\"\nEndCollection\n";
+
+    #[test]
+    fn prints_each_event(rt: HostRuntime) -> Result<(), Fail> {
+        let mut writer = Trickle::new(rt.alloc(), 1000);
+        print_events(rt.alloc(), TWO_TEXTS, &mut writer)?;
+        assert_eq!(rt; writer.taken.as_slice(), LINES);
+        assert_eq!(rt; writer.flushes, 1);
+        Ok(())
+    }
+
+    #[test]
+    fn stops_where_the_writer_fails(rt: HostRuntime) {
+        let mut writer = Trickle::new(rt.alloc(), 20);
+        let answer = print_events(rt.alloc(), TWO_TEXTS, &mut writer);
+        assert!(rt; answer.is_err_and(|error| error.is_io()));
+        assert_eq!(rt; writer.taken.as_slice(), &LINES[..20]);
+        assert_eq!(rt; writer.flushes, 1);
+    }
+
+    #[test]
+    fn a_failed_flush_is_an_error(rt: HostRuntime) {
+        let mut writer = Trickle::new(rt.alloc(), 1000);
+        writer.fails_to_flush = true;
+        let answer = print_events(rt.alloc(), TWO_TEXTS, &mut writer);
+        assert!(rt; answer.is_err_and(|error| error.is_io()));
+        assert_eq!(rt; writer.flushes, 1);
+    }
+
+    #[test]
+    fn a_fault_comes_before_a_failed_flush(rt: HostRuntime) {
+        let mut writer = Trickle::new(rt.alloc(), 1000);
+        writer.fails_to_flush = true;
+        let answer = print_events(
+            rt.alloc(),
+            b"not a property list at all, but some text".as_slice(),
+            &mut writer,
+        );
+        assert!(rt; answer.is_err_and(|error| !error.is_io()));
+        assert!(rt; writer.taken.is_empty());
+        assert_eq!(rt; writer.flushes, 1);
+    }
+}
