@@ -1,6 +1,10 @@
+ghost use Rattle.std.specs.Prelude.{◌≡◌, IsTrue, None};
+ghost use Rattle.plist_base.specs.Sources.{Rises};
+
 use super::*;
 use plist_base::{Event, OwnedEvent, Source};
 use std::alloc::{AllocError, Global};
+use std::io;
 use std::process::Abort;
 use std::test::Fail;
 
@@ -190,4 +194,79 @@ fn ends_for_good(rt: HostRuntime) -> Result<(), Fail> {
         assert!(rt; reader.next().is_none());
     }
     Ok(())
+}
+
+// A device that gives one byte a call and fails at one call, counting from 0.
+#[derive(Drop)]
+struct Device {
+    bytes: Vec<u8>,
+    calls: u64,
+    fails_at: u64,
+    failed: u64,
+}
+
+impl Device {
+    // Does this call fail?
+    fn fails(&mut self) -> bool
+        ensures failed { IsTrue result → Rises self.old.failed self.new.failed }
+        ensures unchanged { (IsTrue result → ⊥) → self.new.failed ≡ self.old.failed }
+    {
+        let call = self.calls;
+        self.calls = call.saturating_add(1);
+        if call != self.fails_at {
+            return false;
+        }
+        self.failed = self.failed.saturating_add(1);
+        true
+    }
+}
+
+impl Source for Device {
+    ghost known = { λ _. None };
+
+    ghost failures = { λ device. device.failed };
+
+    fn size(&mut self) -> Result<u64, io::Error> {
+        if self.fails() {
+            return Err(io::Error::other("no device"));
+        }
+        Ok(self.bytes.len() as u64)
+    }
+
+    fn read_at(&mut self, place: u64, buf: &mut [u8]) -> Result<usize, io::Error> {
+        if self.fails() {
+            return Err(io::Error::other("no device"));
+        }
+        if buf.is_empty() || place >= self.bytes.len() as u64 {
+            return Ok(0);
+        }
+        buf[0] = self.bytes[place as usize];
+        Ok(1)
+    }
+}
+
+// Wherever the device fails, the items are a beginning of the file's, then `Io`, then nothing.
+#[test]
+fn failing_device(rt: HostRuntime) -> Result<(), Fail> {
+    let a = rt.alloc();
+    let body = b"\xd2\x01\x02\x03\x01\x51a\x51b\xa1\x04\x51x\x08\x0d\x0f\x11\x13";
+    let whole = "{2 'a' [1 'x' end 'b' 'a' end";
+    for fails_at in 0..1000 {
+        let device = Device {
+            bytes: file(a, body, [1, 1], 5, 0, 21)?,
+            calls: 0,
+            fails_at,
+            failed: 0,
+        };
+        let found = items_of(a, device, 100)?;
+        match found.as_str().split_once("Io (offset ") {
+            None => {
+                assert_eq!(rt; found.as_str(), whole);
+                assert!(rt; fails_at > 50, "a failure at call {fails_at} was lost");
+                return Ok(());
+            }
+            Some((before, _)) => assert!(rt; whole.starts_with(before), "at call {fails_at}"),
+        }
+    }
+    panic!(rt; "the device never stopped failing")
 }

@@ -85,6 +85,7 @@ mod tests {
     use super::*;
     use crate::trickle::Trickle;
     use std::alloc::AllocError;
+    use std::env;
     use std::test::Fail;
 
     const USAGE: &str = "Usage: plist_tool print FILE\n";
@@ -133,6 +134,47 @@ mod tests {
             assert_eq!(rt; status, expected, "at {line}");
             assert_eq!(rt; err.taken.len(), 4, "at {line}");
         }
+        Ok(())
+    }
+
+    // An array that holds itself.
+    const RECURSIVE: &[u8] = b"bplist00\
+        \xa1\x00\x08\
+        \0\0\0\0\0\0\x01\x01\0\0\0\0\0\0\0\x01\0\0\0\0\0\0\0\0\0\0\0\0\0\0\0\x0a";
+
+    // The words that ask to print a file with these bytes, which is made first.
+    fn saved(rt: &HostRuntime, name: &str, bytes: &[u8]) -> Result<Vec<String>, Fail> {
+        let path = env::temp_dir(rt)?.join(rt.alloc(), name)?;
+        fs::write(rt, path.as_str(), bytes)?;
+        let mut words = words_of(rt.alloc(), "print")?;
+        words.push(path.into_string())?;
+        Ok(words)
+    }
+
+    #[test]
+    fn a_fault_after_its_lines(rt: HostRuntime) -> Result<(), Fail> {
+        let words = saved(&rt, "plist_tool_recursive.plist", RECURSIVE)?;
+        let mut out = Vec::new(rt.alloc());
+        let mut err = Vec::new(rt.alloc());
+        let status = run_words(&rt, rt.alloc(), words.as_slice(), &mut out, &mut err);
+        assert_eq!(rt; status, 1);
+        assert_eq!(rt; out.as_slice(), b"StartArray 1\n".as_slice());
+        assert_eq!(rt;
+            err.as_slice(),
+            b"Error: RecursiveObject (offset 8)\n".as_slice()
+        );
+        Ok(())
+    }
+
+    #[test]
+    fn a_failing_output(rt: HostRuntime) -> Result<(), Fail> {
+        let words = saved(&rt, "plist_tool_failing_output.plist", RECURSIVE)?;
+        let mut out = Trickle::new(rt.alloc(), 5);
+        let mut err = Vec::new(rt.alloc());
+        let status = run_words(&rt, rt.alloc(), words.as_slice(), &mut out, &mut err);
+        assert_eq!(rt; status, 1);
+        assert_eq!(rt; out.taken.as_slice(), b"Start".as_slice());
+        assert_eq!(rt; err.as_slice(), b"Error: Io\n".as_slice());
         Ok(())
     }
 }

@@ -124,4 +124,30 @@ mod tests {
         assert!(rt; writer.taken.is_empty());
         assert_eq!(rt; writer.flushes, 1);
     }
+
+    // Keys, values and an array in turn.
+    #[test]
+    fn prints_a_dictionary(rt: HostRuntime) -> Result<(), Fail> {
+        let bytes = b"bplist00\
+            \xd2\x01\x02\x03\x01\x51\x61\x51\x62\xa1\x04\x51\x78\x08\x0d\x0f\x11\x13\
+            \0\0\0\0\0\0\x01\x01\0\0\0\0\0\0\0\x05\0\0\0\0\0\0\0\0\0\0\0\0\0\0\0\x15";
+        let lines = b"StartDictionary 2\nString \"a\"\nStartArray 1\nString \"x\"\nEndCollection\n\
+            String \"b\"\nString \"a\"\nEndCollection\n";
+        let mut out = Vec::new(rt.alloc());
+        print_events(rt.alloc(), bytes.as_slice(), &mut out)?;
+        assert_eq!(rt; out.as_slice(), lines.as_slice());
+        Ok(())
+    }
+
+    #[test]
+    fn prints_an_escaped_text(rt: HostRuntime) -> Result<(), Fail> {
+        let bytes = b"bplist00\
+            \x56\x61\x22\x5c\x0a\xc3\xa9\x08\
+            \0\0\0\0\0\0\x01\x01\0\0\0\0\0\0\0\x01\0\0\0\0\0\0\0\0\0\0\0\0\0\0\0\x0f";
+        let mut out = Vec::new(rt.alloc());
+        print_events(rt.alloc(), bytes.as_slice(), &mut out)?;
+        let line = b"String \"a\\x22\\x5c\\x0a\\xc3\\xa9\"\n";
+        assert_eq!(rt; out.as_slice(), line.as_slice());
+        Ok(())
+    }
 }
