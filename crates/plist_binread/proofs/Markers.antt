@@ -26,9 +26,6 @@ layout_by_type width marker =
 above : (m k : ℕ) → k < m → (m == k) ≡ false
 above m k h = grind (arith, nat_tests)
 
-other : (m k : ℕ) → (m ≡ k → ⊥) → (m == k) ≡ false
-other m k h = grind (arith, nat_tests)
-
 layout-above : (w m : ℕ) → 20 < m → layout_of w m ≡ layout_by_type w m
 layout-above w m h =
     rw (above m 0 (omega arith), above m 8 (omega arith), above m 9 (omega arith), above m 15 (omega arith), above m 16 (omega arith), above m 17 (omega arith), above m 18 (omega arith), above m 19 (omega arith), above m 20 h) refl
@@ -40,16 +37,6 @@ pub layout-text : (w m : ℕ) → 80 ≤ m → m ≤ 95 → layout_of w m ≡ Co
 layout-text w m low high =
     let five : m / 16 ≡ 5 = omega arith in
     layout-above w m (omega arith) ∙ rw (eq-eqb (m / 16) 5 five) refl
-
-pub layout-array : (w m : ℕ) → 160 ≤ m → m ≤ 175 → layout_of w m ≡ Counted w (λ _ content. Array (numbers_of w content))
-layout-array w m low high =
-    let ten : m / 16 ≡ 10 = omega arith in
-    layout-above w m (omega arith) ∙ rw ten refl
-
-pub layout-dictionary : (w m : ℕ) → 208 ≤ m → m ≤ 223 → layout_of w m ≡ Counted (2 * w) (λ count content. dictionary count (numbers_of w content))
-layout-dictionary w m low high =
-    let thirteen : m / 16 ≡ 13 = omega arith in
-    layout-above w m (omega arith) ∙ rw thirteen refl
 
 -- ---- dictionaries
 
