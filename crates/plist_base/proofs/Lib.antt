@@ -1,2 +1,5 @@
 pub mod Fill
 pub mod Refusals
+pub mod DateShifts
+pub mod DateEncoding
+pub mod DateRounding

@@ -1,7 +1,7 @@
 //! The events of a property list.
 
-use crate::Integer;
-use std::borrow::CowStr;
+use crate::{Date, Integer, RealBits, Uid};
+use std::borrow::{CowSlice, CowStr};
 
 /// An event of a property list. A text may be borrowed.
 #[derive(Debug, Drop)]
@@ -14,10 +14,18 @@ pub enum Event<'a> {
     EndCollection,
     /// A truth value.
     Boolean(bool),
+    /// Bytes.
+    Data(CowSlice<'a, u8>),
+    /// A moment.
+    Date(Date),
     /// A whole number.
     Integer(Integer),
+    /// The bytes of a real.
+    Real(RealBits),
     /// A text, which is also what a key is.
     String(CowStr<'a>),
+    /// The number of an object in a keyed archive.
+    Uid(Uid),
 }
 
 /// An event that owns its content.

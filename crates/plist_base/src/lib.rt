@@ -5,14 +5,20 @@
 //! known bytes gives them, and each failure is counted.
 #![tactic(auto)]
 
+pub mod date;
 pub mod error;
 pub mod event;
 pub mod integer;
+pub mod real;
 pub mod seeking;
 pub mod source;
+pub mod uid;
 
+pub use date::Date;
 pub use error::{Error, ErrorKind, EventKind};
 pub use event::{Event, OwnedEvent};
 pub use integer::Integer;
+pub use real::RealBits;
 pub use seeking::Seeking;
 pub use source::{Source, read_exact_at};
+pub use uid::Uid;

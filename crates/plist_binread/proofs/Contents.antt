@@ -37,6 +37,13 @@ known_number None now t p w n meaning object same whole is means = tt
 known_number (Some bytes) now t p w n meaning object same whole is means = λ fits.
     front_whole bytes t p w (λ content. meaning (number_of content)) fits whole ∙ ap meaning (sym (rw same at is)) ∙ means
 
+-- so many bytes as they are
+pub known_bytes : (known now : Option (List ℕ)) (t p w : ℕ) (found : List ℕ) (meaning : List ℕ → Object) → now ≡ known → p + 1 + w ≤ t → length found ≡ w → IfSome now (λ bytes. found ≡ take (length found) (drop (p + 1) bytes)) → IfSome known (λ bytes. t ≤ length bytes → meaning_of_front w meaning (bytes_behind bytes t p) ≡ meaning found)
+known_bytes None now t p w found meaning same whole len is = tt
+known_bytes (Some bytes) now t p w found meaning same whole len is = λ fits.
+    let is' = rw same at is in
+    front_whole bytes t p w meaning fits whole ∙ ap (λ n. meaning (take n (drop (p + 1) bytes))) (sym len) ∙ ap meaning (sym is')
+
 -- two's complement of 64 bits
 pub signed-cast : (n : ℕ) → n < 2 ^ 64 → signed 64 n ≡ cast_signed w64 n
 signed-cast n h = elim (cases_lt n (2 ^ 63)) [

@@ -4,8 +4,8 @@ use Rattle.std.specs.List.{list_any, flat_map, slice_get}
 use Rattle.std.proofs.lemmas.List.{reverse-append}
 use Rattle.std.proofs.Math.Nat.{mul-le-mul_right}
 use Rattle.plist_base.specs.declared.error.Error.{Error}
-use Rattle.plist_base.specs.Faults.{Fault, InvalidUtf8String, OutOfMemory, ObjectReferenceTooLarge, RecursiveObject, kind_of, error_kind_of, fault_of, fault_at, fault_nowhere}
-use Rattle.plist_base.specs.Events.{PlainEvent, StartArray, StartDictionary, EndCollection, Boolean, Integer, String, Item}
+use Rattle.plist_base.specs.Faults.{Fault, InvalidUtf8String, InvalidUtf16String, OutOfMemory, ObjectReferenceTooLarge, RecursiveObject, kind_of, error_kind_of, fault_of, fault_at, fault_nowhere}
+use Rattle.plist_base.specs.Events.{PlainEvent, StartArray, StartDictionary, EndCollection, Boolean, Data, Date, Integer, Real, String, Uid, Item}
 use Rattle.plist_base.proofs.Refusals.{MatchFault-at, MatchFault-weaker}
 use Rattle.plist_binread.specs.declared.frames.Frame.{Frame}
 use Rattle.plist_binread.specs.declared.reader.State.{State}
@@ -47,14 +47,19 @@ owed_at (Faulty kind) place child more = omega arith
 
 wanted_at : (object : Object) (place : ℕ) (child : ℕ → List Item) (more : List Item) → GrowsAt object → WantsMemory (until_fault (items_of place object child ++ more))
 wanted_at (Scalar (String text)) place child more h = tt
+wanted_at (Scalar (Data bytes)) place child more h = tt
+wanted_at (Scalar (Real bits)) place child more h = absurd h
+wanted_at (Scalar (Uid uid)) place child more h = absurd h
 wanted_at (Scalar (StartArray length)) place child more h = absurd h
 wanted_at (Scalar (StartDictionary length)) place child more h = absurd h
 wanted_at (Scalar EndCollection) place child more h = absurd h
 wanted_at (Scalar (Boolean value)) place child more h = absurd h
+wanted_at (Scalar (Date bytes)) place child more h = absurd h
 wanted_at (Scalar (Integer value)) place child more h = absurd h
 wanted_at (Array items) place child more h = tt
 wanted_at (Dictionary pairs) place child more h = tt
 wanted_at (Faulty InvalidUtf8String) place child more h = tt
+wanted_at (Faulty InvalidUtf16String) place child more h = tt
 wanted_at (Faulty kind) place child more h = absurd h
 
 -- a collection's start is a place where memory is wanted

@@ -3,8 +3,8 @@ use Rattle.std.specs.Prelude.{◌≡◌, ℕ, zero, suc, ◌+◌, ◌-◌, ◌*�
 use Rattle.std.specs.List.{list_any, flat_map, IsDistinct}
 use Rattle.plist_base.specs.declared.error.Error.{Error}
 use Rattle.plist_base.specs.declared.event.Event.{Event}
-use Rattle.plist_base.specs.Faults.{FaultKind, InvalidUtf8String, MatchFault, kind_of, error_kind_of, offset_of, fault_of}
-use Rattle.plist_base.specs.Events.{PlainEvent, StartArray, StartDictionary, EndCollection, String, Item, event_of}
+use Rattle.plist_base.specs.Faults.{FaultKind, InvalidUtf8String, InvalidUtf16String, MatchFault, kind_of, error_kind_of, offset_of, fault_of}
+use Rattle.plist_base.specs.Events.{PlainEvent, StartArray, StartDictionary, EndCollection, Data, String, Item, event_of}
 use Rattle.plist_binread.specs.declared.frames.Frame.{Frame}
 use Rattle.plist_binread.specs.declared.frames.Turn.{Turn}
 use Rattle.plist_binread.specs.declared.frames.Turn.TheVariants as turn
@@ -30,13 +30,15 @@ abbrev pub IsDecodedAs : Object → Decoded → Type 0
 IsDecodedAs object (decoded.Scalar event) = object ≡ Scalar (event_of event)
 IsDecodedAs object (decoded.Collection start children) = IsCollection object (event_of start) children.items
 
--- an object for which memory is wanted: a text, or a collection
+-- an object for which memory is wanted: a text, data, or a collection
 abbrev pub GrowsAt : Object → Type 0
 GrowsAt (Scalar (String text)) = ⊤
+GrowsAt (Scalar (Data bytes)) = ⊤
 GrowsAt (Scalar event) = ⊥
 GrowsAt (Array items) = ⊤
 GrowsAt (Dictionary pairs) = ⊤
 GrowsAt (Faulty InvalidUtf8String) = ⊤
+GrowsAt (Faulty InvalidUtf16String) = ⊤
 GrowsAt (Faulty kind) = ⊥
 
 -- the object at a place was refused: it is this fault, or a device failed, or memory was wanted for it
@@ -89,12 +91,14 @@ abbrev pub WantsMemory : List Item → Type 0
 WantsMemory [] = ⊥
 WantsMemory (Ok (StartArray length) ∷ items) = ⊤
 WantsMemory (Ok (StartDictionary length) ∷ items) = ⊤
+WantsMemory (Ok (Data bytes) ∷ items) = ⊤
 WantsMemory (Ok (String text) ∷ items) = ⊤
 WantsMemory (Ok event ∷ items) = ⊥
 WantsMemory (Err fault ∷ items) = IsTextFault fault.kind
   where
     IsTextFault : FaultKind → Type 0
     IsTextFault InvalidUtf8String = ⊤
+    IsTextFault InvalidUtf16String = ⊤
     IsTextFault kind = ⊥
 
 -- an error comes where something is owed: a device's fault anywhere, want of memory where it is wanted, every other fault where that is the one item owed

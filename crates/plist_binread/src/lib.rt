@@ -9,7 +9,9 @@ mod frames;
 mod numbers;
 mod object;
 mod reader;
+mod scalar;
 mod table;
+mod text;
 mod trailer;
 
 pub use reader::BinaryReader;

@@ -9,12 +9,15 @@ ghost use Rattle.plist_binread.specs.Object.{Array, unsigned_integer, signed_int
 ghost use Rattle.plist_binread.specs.Places.{bytes_behind};
 ghost use Rattle.plist_binread.specs.Debt.{Decodes};
 
-use crate::extent::{check_extent, find_content};
-use crate::numbers::{read_bytes, read_number, read_numbers};
+use crate::extent::find_content;
+use crate::numbers::{read_number, read_numbers};
+use crate::scalar::{
+    read_date, read_real, read_short_real, read_signed, read_uid, read_unsigned, read_wide,
+};
 use crate::table::Table;
-use plist_base::{Error, ErrorKind, Event, Integer, OwnedEvent, Source};
+use crate::text::{read_data, read_text, read_wide_text};
+use plist_base::{Error, ErrorKind, Event, OwnedEvent, Source};
 use std::alloc::Global;
-use std::borrow::CowStr;
 
 /// What an object's bytes mean.
 #[derive(Drop)]
@@ -23,90 +26,6 @@ pub enum Decoded {
     Scalar(OwnedEvent),
     /// A collection is its start, and the numbers of its children in the order of the walk.
     Collection(OwnedEvent, Vec<u64>),
-}
-
-// Reads a whole number without sign, of at most eight bytes.
-fn read_unsigned<S: Source>(
-    source: &mut S,
-    trailer: u64,
-    place: u64,
-    width: usize,
-) -> Result<Decoded, Error>
-    requires place { place < trailer }
-    requires width { width ≤ 8 }
-    ensures decoded { IfSome (S.known source.old) (λ bytes. trailer ≤ length bytes →
-        Decodes (meaning_of_front width unsigned_integer
-        (bytes_behind bytes trailer place)) place result) }
-    ensures unchanged { S.known source.new ≡ S.known source.old }
-    ensures failures { AnswersIo result (S.failures source.old) (S.failures source.new) }
-{
-    check_extent(trailer, place + 1, width as u64, place)?;
-    let number = read_number(source, place + 1, width)?;
-    Ok(Decoded::Scalar(Event::Integer(Integer::from(number))))
-}
-
-// Reads a whole number with sign, of eight bytes.
-fn read_signed<S: Source>(source: &mut S, trailer: u64, place: u64) -> Result<Decoded, Error>
-    requires place { place < trailer }
-    ensures decoded { IfSome (S.known source.old) (λ bytes. trailer ≤ length bytes →
-        Decodes (meaning_of_front 8 signed_integer
-        (bytes_behind bytes trailer place)) place result) }
-    ensures unchanged { S.known source.new ≡ S.known source.old }
-    ensures failures { AnswersIo result (S.failures source.old) (S.failures source.new) }
-{
-    check_extent(trailer, place + 1, 8, place)?;
-    let number = read_number(source, place + 1, 8)?;
-    Ok(Decoded::Scalar(Event::Integer(Integer::from(number.cast_signed()))))
-}
-
-// Reads a whole number with sign, of sixteen bytes.
-fn read_wide<S: Source>(source: &mut S, trailer: u64, place: u64) -> Result<Decoded, Error>
-    requires place { place < trailer }
-    ensures decoded { IfSome (S.known source.old) (λ bytes. trailer ≤ length bytes →
-        Decodes (meaning_of_front 16 wide_integer
-        (bytes_behind bytes trailer place)) place result) }
-    ensures unchanged { S.known source.new ≡ S.known source.old }
-    ensures failures { AnswersIo result (S.failures source.old) (S.failures source.new) }
-{
-    check_extent(trailer, place + 1, 16, place)?;
-    let high = read_number(source, place + 1, 8)?;
-    let low = read_number(source, place + 9, 8)?;
-    // With a sign bit or anything else in the high half it is no number of 64 bits without sign.
-    if high != 0 {
-        return Err(ErrorKind::IntegerOutOfRange.with_byte_offset(place));
-    }
-    Ok(Decoded::Scalar(Event::Integer(Integer::from(low))))
-}
-
-// The text in these bytes, or the fault of the object at this place.
-fn text_event(bytes: Vec<u8>, place: u64) -> Result<Decoded, Error>
-    ensures decoded { Decodes (text bytes.items) place result }
-    ensures fault { IfErr result (λ e. fault_of e ≡ fault_at InvalidUtf8String place) }
-{
-    match String::from_utf8(bytes) {
-        Ok(string) => Ok(Decoded::Scalar(Event::String(CowStr::Owned(string)))),
-        Err(_) => Err(ErrorKind::InvalidUtf8String.with_byte_offset(place)),
-    }
-}
-
-// Reads a text.
-fn read_text<S: Source>(
-    alloc: Global,
-    source: &mut S,
-    trailer: u64,
-    place: u64,
-    marker: u8,
-) -> Result<Decoded, Error>
-    requires place { place < trailer }
-    ensures decoded { IfSome (S.known source.old) (λ bytes. trailer ≤ length bytes →
-        Decodes (meaning_counted 1 (λ _. text)
-        (length_in marker (bytes_behind bytes trailer place))) place result) }
-    ensures unchanged { S.known source.new ≡ S.known source.old }
-    ensures failures { AnswersIo result (S.failures source.old) (S.failures source.new) }
-{
-    let content = find_content(source, trailer, place, marker, 1)?;
-    let bytes = read_bytes(alloc, source, content.start, content.count as usize)?;
-    text_event(bytes, place)
 }
 
 // Reads an array.
@@ -196,7 +115,13 @@ fn decode_marked<S: Source>(
         0x12 => read_unsigned(source, trailer, place, 4),
         0x13 => read_signed(source, trailer, place),
         0x14 => read_wide(source, trailer, place),
+        0x22 => read_short_real(source, trailer, place),
+        0x23 => read_real(source, trailer, place),
+        0x33 => read_date(source, trailer, place),
+        0x40..=0x4f => read_data(alloc, source, trailer, place, marker),
         0x50..=0x5f => read_text(alloc, source, trailer, place, marker),
+        0x60..=0x6f => read_wide_text(alloc, source, trailer, place, marker),
+        0x80..=0x87 => read_uid(source, trailer, place, usize::from(marker - 0x7f)),
         0xa0..=0xaf => read_array(alloc, source, table, place, marker),
         0xd0..=0xdf => read_dictionary(alloc, source, table, place, marker),
         other => Err(ErrorKind::UnknownObjectType(other).with_byte_offset(place)),

@@ -2,7 +2,7 @@ ghost use Rattle.std.specs.Prelude.{◌≡◌, IsTrue, None};
 ghost use Rattle.plist_base.specs.Sources.{Rises};
 
 use super::*;
-use plist_base::{Event, OwnedEvent, Source};
+use plist_base::{Event, OwnedEvent, RealBits, Source};
 use std::alloc::{AllocError, Global};
 use std::io;
 use std::process::Abort;
@@ -41,7 +41,14 @@ fn text_of(alloc: Global, event: &OwnedEvent) -> Result<String, AllocError> {
         Event::Boolean(value) => format!(in alloc; "{value}"),
         Event::Integer(value) => format!(in alloc; "{value}"),
         Event::String(text) => format!(in alloc; "'{}'", text.as_str()),
-        _ => format!(in alloc; "a start without a length"),
+        Event::Data(bytes) => format!(in alloc; "data {:?}", bytes.as_slice()),
+        Event::Date(date) => format!(in alloc; "date {}", date.plist_secs()),
+        Event::Real(RealBits::Four(bytes)) => format!(in alloc; "four {bytes:?}"),
+        Event::Real(RealBits::Eight(bytes)) => format!(in alloc; "eight {bytes:?}"),
+        Event::Uid(uid) => format!(in alloc; "uid {}", uid.get()),
+        Event::StartArray(None) | Event::StartDictionary(None) => {
+            format!(in alloc; "a start without a length")
+        }
     }
 }
 
@@ -153,6 +160,95 @@ fn scalars(rt: HostRuntime) -> Result<(), Fail> {
         bytes.as_slice(),
         "InvalidUtf8String (offset 8)",
     )
+}
+
+// A file of one object.
+fn expect_object(
+    rt: &(impl Abort + AllocGlobal),
+    name: &str,
+    object: &[u8],
+    items: &str,
+) -> Result<(), Fail> {
+    let mut body = Vec::from_slice(rt.alloc(), object)?;
+    body.push(8)?;
+    let table = 8 + object.len() as u64;
+    let bytes = file(rt.alloc(), body.as_slice(), [1, 1], 1, 0, table)?;
+    expect(rt, name, bytes.as_slice(), items)
+}
+
+#[test]
+fn dates(rt: HostRuntime) -> Result<(), Fail> {
+    let out_of_range = "OverflowOrNanDate (offset 8)";
+    for (name, real, items) in [
+        ("a date", 0xc1c2_7600_6500_0000_u64, "date -619446474"),
+        ("half a second", 0x3fe0_0000_0000_0000, "date 0"),
+        ("half a second before", 0xbfe0_0000_0000_0000, "date -1"),
+        ("a negative zero", 0x8000_0000_0000_0000, "date 0"),
+        (
+            "the last second",
+            0x424d_62d2_3c7f_8000,
+            "date 252423993599",
+        ),
+        ("one more", 0x424d_62d2_3c80_0000, out_of_range),
+        ("infinity", 0x7ff0_0000_0000_0000, out_of_range),
+        ("negative infinity", 0xfff0_0000_0000_0000, out_of_range),
+        ("no number", 0x7ff8_0000_0000_0000, out_of_range),
+        ("the greatest real", 0x7fef_ffff_ffff_ffff, out_of_range),
+        ("the least real", 0xffef_ffff_ffff_ffff, out_of_range),
+    ] {
+        let mut object = Vec::from_slice(rt.alloc(), &[0x33])?;
+        object.extend_from_slice(&real.to_be_bytes())?;
+        expect_object(&rt, name, object.as_slice(), items)?;
+    }
+    // A date's eight bytes would end inside the trailer.
+    let bytes = b"bplist00\x10\x01\0\0\0\0\0\0\x33\x7e\0\0\0\0\0\0\0\x01\x02\
+        \0\0\0\0\0\0\0\x0a\0\0\0\0\0\0\0\x08\0\0\0\0\0\0\0\0";
+    assert_eq!(rt; bytes.len(), 51);
+    let cut = "ObjectOffsetTooLarge (offset 16)";
+    expect(&rt, "a date in the trailer", bytes, cut)
+}
+
+#[test]
+fn data_reals_and_uids(rt: HostRuntime) -> Result<(), Fail> {
+    expect_object(&rt, "data", b"\x42\x00\xff", "data [0, 255]")?;
+    expect_object(&rt, "no data", b"\x40", "data []")?;
+    expect_object(
+        &rt,
+        "data that is cut",
+        b"\x44\x00\xff",
+        "ObjectOffsetTooLarge (offset 8)",
+    )?;
+    expect_object(
+        &rt,
+        "a short real",
+        b"\x22\x3f\xc0\0\0",
+        "four [63, 192, 0, 0]",
+    )?;
+    let real = "eight [191, 240, 0, 0, 0, 0, 0, 1]";
+    expect_object(&rt, "a real", b"\x23\xbf\xf0\0\0\0\0\0\x01", real)?;
+    expect_object(&rt, "a Uid", b"\x82\x01\0\0", "uid 65536")?;
+    let greatest = "uid 18446744073709551615";
+    expect_object(
+        &rt,
+        "the greatest Uid",
+        b"\x87\xff\xff\xff\xff\xff\xff\xff\xff",
+        greatest,
+    )
+}
+
+#[test]
+fn wide_texts(rt: HostRuntime) -> Result<(), Fail> {
+    let lone = "InvalidUtf16String (offset 8)";
+    expect_object(&rt, "units", b"\x62\x00\xe9\x00\x78", "'\u{e9}x'")?;
+    expect_object(
+        &rt,
+        "a surrogate pair",
+        b"\x62\xd8\x3d\xdc\xa9",
+        "'\u{1f4a9}'",
+    )?;
+    expect_object(&rt, "a lone surrogate", b"\x61\xd8\x3d", lone)?;
+    expect_object(&rt, "a reversed pair", b"\x62\xdc\xa9\xd8\x3d", lone)?;
+    expect_object(&rt, "no unit", b"\x60", "''")
 }
 
 #[test]

@@ -1,9 +1,12 @@
 -- The lines that are printed of a property list.
-use Rattle.std.specs.Prelude.{ℕ, ◌+◌, ◌/◌, ◌%◌, Bool, true, false, not, ◌&&◌, List, [], ◌∷◌, ◌++◌, Option, None, Some, Ok, Err, ◌==◌, nat_le, nat_lt, if◌then◌else◌, codes}
+use Rattle.std.specs.Prelude.{ℕ, ℤ, ◌+◌, ◌/◌, ◌%◌, Bool, true, false, not, ◌&&◌, List, [], ◌∷◌, ◌++◌, Option, None, Some, Ok, Err, ◌==◌, nat_le, nat_lt, if◌then◌else◌, codes}
 use Rattle.std.specs.List.{flat_map}
 use Rattle.std.specs.Fmt.{decimal, signed_decimal}
+use Rattle.plist_base.specs.declared.real.RealBits.{RealBits}
+use Rattle.plist_base.specs.declared.real.RealBits.TheVariants.{Four, Eight}
 use Rattle.plist_base.specs.Faults.{Fault}
-use Rattle.plist_base.specs.Events.{PlainEvent, StartArray, StartDictionary, EndCollection, Boolean, Integer, String, Item}
+use Rattle.plist_base.specs.Date.{real_bits, second_of_bytes, has_fraction}
+use Rattle.plist_base.specs.Events.{PlainEvent, StartArray, StartDictionary, EndCollection, Boolean, Data, Date, Integer, Real, String, Uid, Item}
 
 -- the digit of a value below 16: 0 to 9, or a to f
 abbrev pub hexadecimal_digit : ℕ → ℕ
@@ -26,6 +29,28 @@ abbrev pub text_of_start : (word : List ℕ) → (length : Option ℕ) → List 
 text_of_start word None = word
 text_of_start word (Some length) = word ++ codes " " ++ decimal length
 
+-- bytes, each as two hexadecimal digits
+abbrev pub hexadecimal : List ℕ → List ℕ
+hexadecimal bytes = flat_map (λ byte. hexadecimal_digit (byte / 16) ∷ hexadecimal_digit (byte % 16) ∷ []) bytes
+
+-- bytes behind a space, unless there are none
+abbrev pub text_of_data : List ℕ → List ℕ
+text_of_data [] = []
+text_of_data (byte ∷ bytes) = codes " " ++ hexadecimal (byte ∷ bytes)
+
+-- the bytes of a real
+abbrev pub text_of_real : RealBits → List ℕ
+text_of_real (Four bytes) = hexadecimal bytes
+text_of_real (Eight bytes) = hexadecimal bytes
+
+-- a date's second, and behind a space its bytes where it has a fraction
+abbrev pub text_of_date : (bytes : List ℕ) → List ℕ
+text_of_date bytes = text_of_second (second_of_bytes bytes) ++ (if has_fraction (real_bits bytes) then codes " " ++ hexadecimal bytes else [])
+  where
+    text_of_second : Option ℤ → List ℕ
+    text_of_second None = []
+    text_of_second (Some second) = signed_decimal second
+
 -- the words of an event
 abbrev pub words_of : PlainEvent → List ℕ
 words_of (StartArray length) = text_of_start (codes "StartArray") length
@@ -33,8 +58,12 @@ words_of (StartDictionary length) = text_of_start (codes "StartDictionary") leng
 words_of EndCollection = codes "EndCollection"
 words_of (Boolean true) = codes "Boolean true"
 words_of (Boolean false) = codes "Boolean false"
+words_of (Data bytes) = codes "Data" ++ text_of_data bytes
+words_of (Date bytes) = codes "Date " ++ text_of_date bytes
 words_of (Integer number) = codes "Integer " ++ signed_decimal number
+words_of (Real bits) = codes "Real " ++ text_of_real bits
 words_of (String bytes) = codes "String \"" ++ text_of_bytes bytes ++ codes "\""
+words_of (Uid number) = codes "Uid " ++ decimal number
 
 -- the line of an event, with its LF
 abbrev pub line_of : PlainEvent → List ℕ

@@ -3,10 +3,10 @@
 ghost use Rattle.std.specs.Prelude.{◌≡◌, ◌∷◌, ◌++◌, ◌<◌, OnOk, codes};
 ghost use Rattle.std.specs.Fmt.{signed_decimal};
 ghost use Rattle.plist_base.specs.Events.{event_of};
-ghost use Rattle.plist_tool.specs.Lines.{hexadecimal_digit, text_of_byte, text_of_bytes, text_of_start, words_of, line_of};
+ghost use Rattle.plist_tool.specs.Lines.{hexadecimal, hexadecimal_digit, text_of_byte, text_of_bytes, text_of_data, text_of_date, text_of_real, text_of_start, words_of, line_of};
 
 use itoa::Buffer;
-use plist_base::{Event, Integer};
+use plist_base::{Date, Event, Integer, RealBits};
 use std::alloc::AllocError;
 
 fn hexadecimal_digit_of(value: u8) -> u8
@@ -46,6 +46,48 @@ fn push_text(line: &mut Vec<u8>, text: &[u8]) -> Result<(), AllocError>
     Ok(())
 }
 
+// Two hexadecimal digits a byte.
+fn push_hexadecimal(line: &mut Vec<u8>, bytes: &[u8]) -> Result<(), AllocError>
+    ensures { OnOk result (line.new.items ≡ line.old.items ++ hexadecimal bytes.now) }
+{
+    for &byte in bytes {
+        let high = hexadecimal_digit_of(byte / 16);
+        let low = hexadecimal_digit_of(byte % 16);
+        line.extend_from_slice(&[high, low])?;
+    }
+    Ok(())
+}
+
+fn push_data(line: &mut Vec<u8>, bytes: &[u8]) -> Result<(), AllocError>
+    ensures { OnOk result (line.new.items ≡ line.old.items ++ text_of_data bytes.now) }
+{
+    if bytes.is_empty() {
+        return Ok(());
+    }
+    line.push(b' ')?;
+    push_hexadecimal(line, bytes)
+}
+
+fn push_date(line: &mut Vec<u8>, date: Date) -> Result<(), AllocError>
+    ensures { OnOk result (line.new.items ≡ line.old.items ++ text_of_date date) }
+{
+    line.extend_from_slice(Buffer::new().format(date.plist_secs()).as_bytes())?;
+    if !date.has_fraction() {
+        return Ok(());
+    }
+    line.push(b' ')?;
+    push_hexadecimal(line, &date.to_plist_real())
+}
+
+fn push_real(line: &mut Vec<u8>, real: RealBits) -> Result<(), AllocError>
+    ensures { OnOk result (line.new.items ≡ line.old.items ++ text_of_real real) }
+{
+    match real {
+        RealBits::Four(bytes) => push_hexadecimal(line, &bytes),
+        RealBits::Eight(bytes) => push_hexadecimal(line, &bytes),
+    }
+}
+
 fn push_integer(line: &mut Vec<u8>, integer: Integer) -> Result<(), AllocError>
     ensures { OnOk result (line.new.items ≡ line.old.items ++ signed_decimal integer) }
 {
@@ -80,15 +122,31 @@ fn push_words(line: &mut Vec<u8>, event: &Event<'_>) -> Result<(), AllocError>
         Event::EndCollection => line.extend_from_slice(b"EndCollection"),
         Event::Boolean(true) => line.extend_from_slice(b"Boolean true"),
         Event::Boolean(false) => line.extend_from_slice(b"Boolean false"),
+        Event::Data(bytes) => {
+            line.extend_from_slice(b"Data")?;
+            push_data(line, bytes.as_slice())
+        }
+        Event::Date(date) => {
+            line.extend_from_slice(b"Date ")?;
+            push_date(line, *date)
+        }
         Event::Integer(integer) => {
             line.extend_from_slice(b"Integer ")?;
             push_integer(line, *integer)
+        }
+        Event::Real(real) => {
+            line.extend_from_slice(b"Real ")?;
+            push_real(line, *real)
         }
         Event::String(text) => {
             line.extend_from_slice(b"String \"")?;
             push_text(line, text.as_str().as_bytes())?;
             line.push(b'"')?;
             Ok(())
+        }
+        Event::Uid(uid) => {
+            line.extend_from_slice(b"Uid ")?;
+            line.extend_from_slice(Buffer::new().format(uid.get()).as_bytes())
         }
     }
 }
@@ -108,7 +166,8 @@ pub fn push_line(line: &mut Vec<u8>, event: &Event<'_>) -> Result<(), AllocError
 #[cfg(test)]
 mod tests {
     use super::*;
-    use std::borrow::CowStr;
+    use plist_base::Uid;
+    use std::borrow::{CowSlice, CowStr};
     use std::process::Abort;
 
     fn assert_line(
@@ -144,6 +203,38 @@ mod tests {
 
         let greatest = Event::Integer(Integer::from(u64::MAX));
         assert_line(&rt, greatest, b"Integer 18446744073709551615\n")
+    }
+
+    #[test]
+    fn lines_of_data(rt: HostRuntime) -> Result<(), AllocError> {
+        let data = Event::Data(CowSlice::Borrowed(b"\x00\xff"));
+        assert_line(&rt, data, b"Data 00ff\n")?;
+        let nothing = Event::Data(CowSlice::Borrowed(b""));
+        assert_line(&rt, nothing, b"Data\n")?;
+        assert_line(&rt, Event::Uid(Uid::new(4)), b"Uid 4\n")?;
+        let greatest = Event::Uid(Uid::new(u64::MAX));
+        assert_line(&rt, greatest, b"Uid 18446744073709551615\n")?;
+        let real = Event::Real(RealBits::Four([0x3f, 0xc0, 0, 0]));
+        assert_line(&rt, real, b"Real 3fc00000\n")?;
+        let real = Event::Real(RealBits::Eight([0xbf, 0xf0, 0, 0, 0, 0, 0, 0x0a]));
+        assert_line(&rt, real, b"Real bff000000000000a\n")
+    }
+
+    #[test]
+    fn lines_of_dates(rt: HostRuntime) -> Result<(), AllocError> {
+        for (real, expected) in [
+            (0xc1c2_7600_6500_0000_u64, "Date -619446474\n"),
+            (0x3fe0_0000_0000_0000, "Date 0 3fe0000000000000\n"),
+            (0xbfe0_0000_0000_0000, "Date -1 bfe0000000000000\n"),
+            (0x8000_0000_0000_0000, "Date 0\n"),
+            (0x424d_62d2_3c7f_8000, "Date 252423993599\n"),
+        ] {
+            match Date::from_plist_real(real.to_be_bytes()) {
+                Ok(date) => assert_line(&rt, Event::Date(date), expected.as_bytes())?,
+                Err(kind) => panic!(rt; "{real:x}: {kind:?}"),
+            }
+        }
+        Ok(())
     }
 
     #[test]

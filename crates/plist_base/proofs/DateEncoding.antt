@@ -1,0 +1,237 @@
+-- The bits of a whole second stand for it.
+use Rattle.std.proofs.Common.{◌≡◌, ℕ, zero, suc, ◌+◌, ◌-◌, ◌*◌, ◌/◌, ◌%◌, ◌^◌, ◌<◌, ◌≤◌, Bool, true, false, eqb, ℤ, pos, negsuc, neg_ℤ, add-one, Option, None, Some, List, refl, ap, sym, ◌∙◌, arith, pow-add, inl, inr}
+use Rattle.std.proofs.Math.Nat.{mod-eq_of_lt, pow-le-pow_right, one-le-pow, mul-div_cancel, mul-mod_left, mul-le-mul_right}
+use Rattle.std.proofs.lemmas.Nat.{leading_top, from_be_bytes-to_be_bytes_8}
+use Rattle.std.specs.Int.{to_be_bytes, w64}
+use Rattle.std.specs.Int.Count.{count_leading_zeros}
+use Rattle.std.proofs.lemmas.Bool.Decides.{nat_tests, leb_tells}
+use Rattle.std.specs.Prelude.{unsigned_abs, is_none, ◌*ℤ◌}
+use Rattle.std.specs.Int.Signed.{lt_z}
+use Rattle.std.proofs.lemmas.Int.{ints}
+use Rattle.plist_base.specs.Date.{real_exponent, real_mantissa, real_scale, parts_in_second, parts_of, whole_seconds, parts_left, real_second, rounded_down, is_second_of_date, if_second_of_date, is_negative, second_of_bits, has_fraction, real_bits, real_parts, date_if}
+use Rattle.plist_base.specs.DateBits.{whole_bits, second_bits}
+
+pub record Encoded (n : ℕ) : Type 0 where
+  pub j : ℕ
+  pub small : j ≤ 52
+  pub zeros : count_leading_zeros 64 n + j ≡ 63
+  pub low : 2 ^ 52 ≤ n * 2 ^ (52 - j)
+  pub high : n * 2 ^ (52 - j) < 2 ^ 53
+  pub is : whole_bits n ≡ (1022 + j) * 2 ^ 52 + n * 2 ^ (52 - j)
+
+powers : (a b : ℕ) → a + b ≡ 52 → 2 ^ a * 2 ^ b ≡ 2 ^ 52
+powers a b e = sym (pow-add 2 a b) ∙ ap (λ k. 2 ^ k) e
+
+not_far : (n j : ℕ) → n < 2 ^ 53 → 2 ^ j ≤ n → j ≤ 52
+not_far n j big lo =
+    elim (leb_tells 53 j) [
+      | inl e ↦ (let far = e.1 in let p : 2 ^ 53 ≤ 2 ^ j = pow-le-pow_right {n = 2} (omega arith) far in absurd (omega arith))
+      | inr e ↦ (let near = e.1 in omega arith)
+    ]
+
+scaled_low : (n j q : ℕ) → 2 ^ j ≤ n → 2 ^ j * q ≡ 2 ^ 52 → 2 ^ 52 ≤ n * q
+scaled_low n j q lo e = let p : 2 ^ j * q ≤ n * q = mul-le-mul_right q lo in omega arith
+
+scaled_high : (n j q : ℕ) → n < 2 ^ suc j → 1 ≤ q → 2 ^ j * q ≡ 2 ^ 52 → n * q < 2 ^ 53
+scaled_high n j q hi one e =
+    let up : suc n ≤ 2 * 2 ^ j = omega arith in
+    let p : suc n * q ≤ 2 * 2 ^ j * q = mul-le-mul_right q up in
+    let l : suc n * q ≡ n * q + q = omega arith in
+    let r : 2 * 2 ^ j * q ≡ 2 * (2 ^ j * q) = omega arith in
+    omega arith
+
+pub encoded : (n : ℕ) → 0 < n → n < 2 ^ 53 → Encoded n
+unfolding whole_bits
+encoded n h big =
+    let t = leading_top 64 n h (omega arith) in
+    let z : count_leading_zeros 64 n + suc t.0 ≡ 64 = t.1 in
+    let lo : 2 ^ t.0 ≤ n = t.2 in
+    let hi : n < 2 ^ suc t.0 = t.3 in
+    let near : t.0 ≤ 52 = not_far n t.0 big lo in
+    let q : 2 ^ t.0 * 2 ^ (52 - t.0) ≡ 2 ^ 52 = powers t.0 (52 - t.0) (omega arith) in
+    let none : eqb n 0 ≡ false = grind (arith, nat_tests) in
+    let a : 1085 - count_leading_zeros 64 n ≡ 1022 + t.0 = omega arith in
+    let b : count_leading_zeros 64 n - 11 ≡ 52 - t.0 = omega arith in
+    record {
+      j = t.0;
+      small = near;
+      zeros = omega arith;
+      low = scaled_low n t.0 (2 ^ (52 - t.0)) lo q;
+      high = scaled_high n t.0 (2 ^ (52 - t.0)) hi (one-le-pow (52 - t.0) 2 (omega arith)) q;
+      is = rw (none, a, b) refl;
+    }
+
+-- the parts of a whole second
+whole_parts : (n j : ℕ) → j ≤ 52 → parts_of (n * 2 ^ (52 - j)) (1023 + j) ≡ n * parts_in_second
+unfolding parts_of parts_in_second
+whole_parts n j near =
+    let s : (52 - j) + (1023 + j) ≡ 1075 = omega arith in
+    let p : 2 ^ (52 - j) * 2 ^ (1023 + j) ≡ 2 ^ 1075 = sym (pow-add 2 (52 - j) (1023 + j)) ∙ ap (λ k. 2 ^ k) s in
+    let a : n * 2 ^ (52 - j) * 2 ^ (1023 + j) ≡ n * (2 ^ (52 - j) * 2 ^ (1023 + j)) = omega arith in
+    a ∙ ap (λ k. n * k) p
+
+second_pos : 0 < parts_in_second
+unfolding parts_in_second
+second_pos = let p : 1 ≤ 2 ^ 1075 = one-le-pow 1075 2 (omega arith) in omega arith
+
+module _ (n s : ℕ) (k : Encoded n) (bits : ℕ) (sign : s ≤ 1) (are : bits ≡ s * 2 ^ 63 + whole_bits n) where
+  sum : bits ≡ s * 2 ^ 63 + ((1022 + k.j) * 2 ^ 52 + n * 2 ^ (52 - k.j))
+  sum = are ∙ ap (λ b. s * 2 ^ 63 + b) k.is
+
+  exponent_is : real_exponent bits ≡ 1023 + k.j
+  unfolding real_exponent
+  exponent_is = let e = sum in let lo = k.low in let hi = k.high in let near = k.small in omega arith
+
+  mantissa_is : real_mantissa bits ≡ n * 2 ^ (52 - k.j)
+  unfolding real_mantissa
+  mantissa_is =
+      let e = sum in let lo = k.low in let hi = k.high in let near = k.small in
+      let x = exponent_is in
+      let none : eqb (real_exponent bits) 0 ≡ false = grind (arith, nat_tests) in
+      rw none (omega arith)
+
+  scale_is : real_scale bits ≡ 1023 + k.j
+  unfolding real_scale
+  scale_is = let x = exponent_is in omega arith
+
+  parts_are : parts_of (real_mantissa bits) (real_scale bits) ≡ n * parts_in_second
+  parts_are = rw (mantissa_is, scale_is) (whole_parts n k.j k.small)
+
+  whole_is : whole_seconds (real_mantissa bits) (real_scale bits) ≡ n
+  unfolding whole_seconds
+  whole_is = ap (λ p. p / parts_in_second) parts_are ∙ mul-div_cancel n second_pos
+
+  left_is : parts_left (real_mantissa bits) (real_scale bits) ≡ 0
+  unfolding parts_left
+  left_is = ap (λ p. p % parts_in_second) parts_are ∙ mul-mod_left n parts_in_second
+
+  pub second_is : second_of_bits bits ≡ if_second_of_date (rounded_down (is_negative bits) n 0)
+  unfolding second_of_bits real_second
+  second_is =
+      let x = exponent_is in let near = k.small in
+      let none : eqb (real_exponent bits) 2047 ≡ false = grind (arith, nat_tests) in
+      rw (none, whole_is, left_is) refl
+
+  pub no_fraction : has_fraction bits ≡ false
+  unfolding has_fraction
+  no_fraction = rw left_is refl
+
+pub shifted : (n z : ℕ) → Encoded n → z ≡ count_leading_zeros 64 n → n * 2 ^ (z - 11) % 18446744073709551616 ≡ n * 2 ^ (z - 11)
+shifted n z k e =
+    let near = k.small in let zs = k.zeros in let hi = k.high in
+    let b : z - 11 ≡ 52 - k.j = omega arith in
+    rw b (mod-eq_of_lt {n = n * 2 ^ (52 - k.j)} {m = 18446744073709551616} (omega arith))
+
+pub sum_is : (n z : ℕ) → Encoded n → z ≡ count_leading_zeros 64 n → ((1085 - z) * 4503599627370496 + n * 2 ^ (z - 11) % 18446744073709551616 ≡ whole_bits n) × (whole_bits n < 2 ^ 63)
+sum_is n z k e =
+    let near = k.small in let zs = k.zeros in let hi = k.high in let is = k.is in
+    let b : z - 11 ≡ 52 - k.j = omega arith in
+    let a : 1085 - z ≡ 1022 + k.j = omega arith in
+    let m = shifted n z k e in
+    (rw (m, a, b) (sym is), omega arith)
+
+zero_back : (second_of_bits (whole_bits 0) ≡ Some (pos 0)) × (has_fraction (whole_bits 0) ≡ false)
+unfolding second_of_bits real_second real_exponent real_mantissa real_scale whole_seconds parts_left parts_of parts_in_second has_fraction whole_bits
+zero_back = (refl, refl)
+
+whole_small : (n : ℕ) → Encoded n → whole_bits n < 2 ^ 63
+whole_small n k = let near = k.small in let hi = k.high in let is = k.is in omega arith
+
+-- the value of a second's bits is that second
+value_zero : real_parts (whole_bits 0) ≡ (pos 0 *ℤ pos parts_in_second)
+unfolding real_parts real_exponent real_mantissa real_scale parts_of parts_in_second whole_bits
+value_zero = refl
+
+value_pos : (n : ℕ) → is_second_of_date (pos n) ≡ true → real_parts (whole_bits n) ≡ (pos n *ℤ pos parts_in_second)
+unfolding real_parts
+value_pos zero h = value_zero
+value_pos (suc n) h =
+    let small : suc n < 2 ^ 53 = grind (arith, nat_tests) in
+    let k = encoded (suc n) (omega arith) small in
+    let low = whole_small (suc n) k in
+    let plus : is_negative (whole_bits (suc n)) ≡ false = grind (arith, nat_tests) in
+    rw plus (ap pos (parts_are (suc n) 0 k (whole_bits (suc n)) (omega arith) (omega arith)))
+
+value_neg : (n : ℕ) → is_second_of_date (negsuc n) ≡ true → real_parts (2 ^ 63 + whole_bits (suc n)) ≡ (negsuc n *ℤ pos parts_in_second)
+unfolding real_parts
+value_neg n h =
+    let small : suc n < 2 ^ 53 = grind (arith, nat_tests) in
+    let k = encoded (suc n) (omega arith) small in
+    let minus : is_negative (2 ^ 63 + whole_bits (suc n)) ≡ true = grind (arith, nat_tests) in
+    rw minus (ap (λ p. neg_ℤ (pos p)) (parts_are (suc n) 1 k (2 ^ 63 + whole_bits (suc n)) (omega arith) (omega arith)))
+
+pub exact_neg : (z : ℤ) (b : ℕ) → is_second_of_date z ≡ true → lt_z z (pos 0) ≡ true → b ≡ whole_bits (unsigned_abs z) → real_parts (2 ^ 63 + b) ≡ (z *ℤ pos parts_in_second)
+exact_neg (pos n) b h lt e = absurd (grind (arith, ints))
+exact_neg (negsuc n) b h lt e = rw e (value_neg n h)
+
+pub exact_pos : (z : ℤ) (b : ℕ) → is_second_of_date z ≡ true → lt_z z (pos 0) ≡ false → b ≡ whole_bits (unsigned_abs z) → real_parts b ≡ (z *ℤ pos parts_in_second)
+exact_pos (pos n) b h le e = rw e (value_pos n h)
+exact_pos (negsuc n) b h le e = absurd (cc)
+
+-- the law: the bits of a second give it back
+back_pos : (n : ℕ) → is_second_of_date (pos n) ≡ true → (second_of_bits (whole_bits n) ≡ Some (pos n)) × (has_fraction (whole_bits n) ≡ false)
+back_pos zero h = zero_back
+back_pos (suc n) h =
+    let small : suc n < 2 ^ 53 = grind (arith, nat_tests) in
+    let k = encoded (suc n) (omega arith) small in
+    let low = whole_small (suc n) k in
+    let plus : is_negative (whole_bits (suc n)) ≡ false = grind (arith, nat_tests) in
+    (second_is (suc n) 0 k (whole_bits (suc n)) (omega arith) (omega arith) ∙ rw (plus, h) refl, no_fraction (suc n) 0 k (whole_bits (suc n)) (omega arith) (omega arith))
+
+back_neg : (n : ℕ) → is_second_of_date (negsuc n) ≡ true → (second_of_bits (2 ^ 63 + whole_bits (suc n)) ≡ Some (negsuc n)) × (has_fraction (2 ^ 63 + whole_bits (suc n)) ≡ false)
+back_neg n h =
+    let small : suc n < 2 ^ 53 = grind (arith, nat_tests) in
+    let k = encoded (suc n) (omega arith) small in
+    let minus : is_negative (2 ^ 63 + whole_bits (suc n)) ≡ true = grind (arith, nat_tests) in
+    (second_is (suc n) 1 k (2 ^ 63 + whole_bits (suc n)) (omega arith) (omega arith) ∙ rw (minus, h) refl, no_fraction (suc n) 1 k (2 ^ 63 + whole_bits (suc n)) (omega arith) (omega arith))
+
+some_same : (a b : ℤ) → ◌≡◌ {A = Option ℤ} (Some a) (Some b) → a ≡ b
+some_same a b e = cc
+
+none_not : (a : ℤ) → ◌≡◌ {A = Option ℤ} (Some a) None → ⊥
+none_not a e = absurd (cc)
+
+ranged_go : (b : Bool) (z y : ℤ) → is_second_of_date z ≡ b → Some y ≡ if_second_of_date z → (is_second_of_date z ≡ true) × (y ≡ z)
+ranged_go true z y is e = (is, some_same y z (e ∙ rw is refl))
+ranged_go false z y is e = absurd (none_not y (e ∙ rw is refl))
+
+pub ranged : (z y : ℤ) → Some y ≡ if_second_of_date z → (is_second_of_date z ≡ true) × (y ≡ z)
+ranged z y e = ranged_go (is_second_of_date z) z y refl e
+
+pub written_neg : (z : ℤ) (b : ℕ) → is_second_of_date z ≡ true → lt_z z (pos 0) ≡ true → b ≡ whole_bits (unsigned_abs z) → (2 ^ 63 + b ≡ second_bits z) × (second_of_bits (2 ^ 63 + b) ≡ Some z) × (has_fraction (2 ^ 63 + b) ≡ false)
+unfolding second_bits
+written_neg (pos n) b h lt e = absurd (grind (arith, ints))
+written_neg (negsuc n) b h lt e = rw (e, add-one) (refl, (back_neg n h).0, (back_neg n h).1)
+
+pub written_pos : (z : ℤ) (b : ℕ) → is_second_of_date z ≡ true → lt_z z (pos 0) ≡ false → b ≡ whole_bits (unsigned_abs z) → (b ≡ second_bits z) × (second_of_bits b ≡ Some z) × (has_fraction b ≡ false)
+unfolding second_bits
+written_pos (pos n) b h le e = rw e (refl, (back_pos n h).0, (back_pos n h).1)
+written_pos (negsuc n) b h le e = absurd (cc)
+
+plain_low : (b : ℕ) → b < 2 ^ 63 → eqb b (2 ^ 63) ≡ false
+plain_low b h = grind (arith, nat_tests)
+
+-- a second is not written as a zero with a sign
+pub plain_bits : (z : ℤ) → is_second_of_date z ≡ true → eqb (second_bits z) (2 ^ 63) ≡ false
+unfolding second_bits whole_bits
+plain_bits (pos zero) h = refl
+plain_bits (pos (suc n)) h =
+    let small : suc n < 2 ^ 53 = grind (arith, nat_tests) in
+    let low = whole_small (suc n) (encoded (suc n) (omega arith) small) in
+    plain_low (whole_bits (suc n)) low
+plain_bits (negsuc n) h =
+    let small : suc n < 2 ^ 53 = grind (arith, nat_tests) in
+    let k = encoded (suc n) (omega arith) small in
+    let is = k.is in let lo = k.low in
+    rw add-one (plain_high (whole_bits (suc n)) (omega arith))
+  where
+    plain_high : (b : ℕ) → 0 < b → eqb (2 ^ 63 + b) (2 ^ 63) ≡ false
+    plain_high b h = grind (arith, nat_tests)
+
+pub bytes_are : (bs : List ℕ) (b : ℕ) → bs ≡ to_be_bytes w64 b → b < 2 ^ 64 → real_bits bs ≡ b
+bytes_are bs b e h = ap real_bits e ∙ from_be_bytes-to_be_bytes_8 b h
+
+-- bytes that stand for a second, and not for a zero with a sign, are a date's
+pub date_of_second : (second : Option ℤ) (bs : List ℕ) → is_none second ≡ false → eqb (real_bits bs) (2 ^ 63) ≡ false → date_if second bs ≡ Some bs
+date_of_second None bs some plain = absurd (cc)
+date_of_second (Some second) bs some plain = rw plain refl

@@ -1,0 +1,337 @@
+//! Dates.
+
+ghost use Rattle.std.specs.Prelude.{◌≡◌, ℕ, ◌^◌, ◌<◌, ◌≤◌, ◌↔◌, IsTrue, not, ◌==◌, true, false, pos, ℤ, ◌*ℤ◌, ◌-ℤ◌, Some, None, IsSome, IfSome, IsErr, IfOk, IfErr, MatchOption};
+ghost use Rattle.plist_base.specs.Date.{IsSecondOf, IsSecondOfDate, date_bytes, date_of_bytes, has_fraction, if_second_of_date, is_no_number, is_second_of_date, parts_in_second, parts_left, plist_epoch, real_bits, real_exponent, real_mantissa, real_parts, rounded_down, second_of_bits, second_of_bytes, whole_seconds};
+ghost use Rattle.plist_base.specs.DateBits.{second_bits, whole_bits};
+
+use crate::ErrorKind;
+use std::marker::Model;
+
+// 2001-01-01T00:00:00Z in Unix seconds.
+const PLIST_EPOCH: i64 = 978_307_200;
+
+/// A moment from -9999-01-01T00:00:00Z to 9999-12-31T23:59:59Z, as the eight bytes of a real: the
+/// seconds from 2001-01-01T00:00:00Z on, with a fraction.
+///
+/// Two are equal if their bytes are, so two of the same second may differ in their fractions.
+#[derive(Clone, Copy, Debug, PartialEq, Eq, Hash)]
+pub struct Date {
+    bytes: [u8; 8],
+}
+
+impl Model for Date {
+    ghost use Rattle.std.specs.Prelude.{ℕ, List};
+    ghost use Rattle.plist_base.specs.Date.{IsDate};
+
+    ghost Value = { List ℕ };
+
+    ghost view = { λ a. a.bytes };
+
+    ghost invariant = { λ a. IsDate a.bytes };
+
+    ghost inverse = { λ bytes. record { bytes = bytes } };
+}
+
+impl Date {
+    /// The date of the eight bytes of a `binary64`, the highest first: seconds from
+    /// 2001-01-01T00:00:00Z on.
+    ///
+    /// The fraction is kept, and a zero's sign is dropped.
+    ///
+    /// # Errors
+    ///
+    /// [`ErrorKind::OverflowOrNanDate`] if the real is infinite or no number, or its second lies
+    /// outside the range of dates.
+    pub fn from_plist_real(bytes: [u8; 8]) -> Result<Date, ErrorKind>
+        ensures date { IfOk result (λ date. date_of_bytes bytes ≡ Some date) }
+        ensures bytes { IfOk result (λ date. date ≡ date_bytes bytes) }
+        ensures refused { IsErr result ↔ (date_of_bytes bytes ≡ None) }
+        ensures error { IfErr result (λ kind. kind ≡ ErrorKind.OverflowOrNanDate) }
+        ensures no_second { IfErr result (λ _. is_no_number (real_bits bytes) ≡ false →
+            (second : ℤ) → IsSecondOf second (real_bits bytes) → IsSecondOfDate second → ⊥) }
+    {
+        let bits = u64::from_be_bytes(bytes);
+        if second_of_bits(bits).is_none() {
+            return Err(ErrorKind::OverflowOrNanDate);
+        }
+        if bits == 1 << 63 {
+            return Ok(Date { bytes: [0; 8] });
+        }
+        Ok(Date { bytes })
+    }
+
+    /// The eight bytes of the date's `binary64`, the highest first.
+    pub fn to_plist_real(&self) -> [u8; 8]
+        ensures bytes { result ≡ self.now }
+        ensures back { date_of_bytes result ≡ Some self.now }
+    {
+        self.bytes
+    }
+
+    /// The date of a second from 2001-01-01T00:00:00Z on, without a fraction, or `None` if it
+    /// lies outside the range of dates.
+    pub fn from_plist_secs(second: i64) -> Option<Date>
+        ensures in_range { IsSome result ↔ IsSecondOfDate second }
+        ensures second { IfSome result (λ date. second_of_bytes date ≡ Some second) }
+        ensures whole { IfSome result (λ date. has_fraction (real_bits date) ≡ false) }
+        ensures exact { IfSome result (λ date.
+            real_parts (real_bits date) ≡ (second *ℤ pos parts_in_second)) }
+    {
+        match bits_of_second(second) {
+            None => None,
+            Some(bits) => Some(Date {
+                bytes: bits.to_be_bytes(),
+            }),
+        }
+    }
+
+    /// The date of a Unix second, without a fraction, or `None` if it lies outside the range of
+    /// dates.
+    pub fn from_unix_secs(second: i64) -> Option<Date>
+        ensures in_range { IsSome result ↔ IsSecondOfDate (second -ℤ plist_epoch) }
+        ensures second { IfSome result (λ date.
+            second_of_bytes date ≡ Some (second -ℤ plist_epoch)) }
+        ensures whole { IfSome result (λ date. has_fraction (real_bits date) ≡ false) }
+        ensures exact { IfSome result (λ date.
+            real_parts (real_bits date) ≡ ((second -ℤ plist_epoch) *ℤ pos parts_in_second)) }
+    {
+        match second.checked_sub(PLIST_EPOCH) {
+            None => None,
+            Some(plist_second) => Date::from_plist_secs(plist_second),
+        }
+    }
+
+    /// The greatest second, from 2001-01-01T00:00:00Z on, that isn't after this date.
+    pub fn plist_secs(&self) -> i64
+        ensures second { second_of_bytes self.now ≡ Some result }
+        ensures greatest { IsSecondOf result (real_bits self.now) }
+        ensures in_range { IsSecondOfDate result }
+    {
+        match second_of_bits(u64::from_be_bytes(self.bytes)) {
+            Some(second) => second,
+            None => unreachable!(),
+        }
+    }
+
+    /// The greatest Unix second that isn't after this date.
+    pub fn unix_secs(&self) -> i64
+        ensures second { second_of_bytes self.now ≡ Some (result -ℤ plist_epoch) }
+        ensures greatest { IsSecondOf (result -ℤ plist_epoch) (real_bits self.now) }
+    {
+        self.plist_secs() + PLIST_EPOCH
+    }
+
+    /// Whether this date lies between two seconds.
+    pub fn has_fraction(&self) -> bool
+        ensures { result ≡ has_fraction (real_bits self.now) }
+    {
+        is_fractional(u64::from_be_bytes(self.bytes))
+    }
+}
+
+// Whether the value lies between two seconds.
+fn is_fractional(bits: u64) -> bool
+    ensures { result ≡ has_fraction bits }
+{
+    let exponent = exponent_of(bits);
+    // Every such value is 2^52 seconds or more, and a whole number of them.
+    if exponent >= 1075 {
+        return false;
+    }
+    let mantissa = mantissa_of(bits, exponent);
+    is_left(mantissa, exponent.max(1))
+}
+
+#[tactic(auto, unfolding(crate::specs::Date::real_exponent))]
+fn exponent_of(bits: u64) -> u64
+    ensures is { result ≡ real_exponent bits }
+    ensures small { result < 2048 }
+{
+    (bits >> 52) & 0x7ff
+}
+
+#[tactic(auto, unfolding(crate::specs::Date::real_mantissa))]
+fn mantissa_of(bits: u64, exponent: u64) -> u64
+    requires { exponent ≡ real_exponent bits }
+    ensures is { result ≡ real_mantissa bits }
+    ensures small { result < 2 ^ 53 }
+{
+    let fraction = bits & 0x000f_ffff_ffff_ffff;
+    if exponent == 0 {
+        fraction
+    } else {
+        (1 << 52) + fraction
+    }
+}
+
+fn whole_of(mantissa: u64, scale: u64) -> u64
+    requires small { mantissa < 2 ^ 53 }
+    requires low { 1 ≤ scale }
+    requires high { scale < 1075 }
+    ensures is { result ≡ whole_seconds mantissa scale }
+    ensures small { result < 2 ^ 52 }
+{
+    let shift = 1075 - scale;
+    if shift >= 64 { 0 } else { mantissa >> shift }
+}
+
+fn is_left(mantissa: u64, scale: u64) -> bool
+    requires small { mantissa < 2 ^ 53 }
+    requires low { 1 ≤ scale }
+    requires high { scale < 1075 }
+    ensures { result ≡ not (parts_left mantissa scale == 0) }
+{
+    let shift = 1075 - scale;
+    if shift >= 64 {
+        mantissa != 0
+    } else {
+        mantissa % (1 << shift) != 0
+    }
+}
+
+fn round_down(negative: bool, whole: u64, is_left: bool) -> i64
+    requires { whole < 2 ^ 52 }
+    ensures { (left : ℕ) → is_left ≡ not (left == 0) → result ≡ rounded_down negative whole left }
+{
+    if !negative {
+        return whole as i64;
+    }
+    let up = if is_left { whole + 1 } else { whole };
+    -(up as i64)
+}
+
+fn in_range(second: i64) -> Option<i64>
+    ensures { result ≡ if_second_of_date second }
+{
+    if (-378_683_424_000..=252_423_993_599).contains(&second) {
+        Some(second)
+    } else {
+        None
+    }
+}
+
+// The greatest second that isn't above the value.
+fn second_of_bits(bits: u64) -> Option<i64>
+    ensures { result ≡ second_of_bits bits }
+{
+    let exponent = exponent_of(bits);
+    // Every such value is 2^52 seconds or more, infinite or no number.
+    if exponent >= 1075 {
+        return None;
+    }
+    let mantissa = mantissa_of(bits, exponent);
+    let scale = exponent.max(1);
+    let whole = whole_of(mantissa, scale);
+    let is_left = is_left(mantissa, scale);
+    in_range(round_down(bits >= 1 << 63, whole, is_left))
+}
+
+fn bits_of_whole(number: u64) -> u64
+    requires { number < 2 ^ 53 }
+    ensures is { result ≡ whole_bits number }
+    ensures small { result < 2 ^ 63 }
+{
+    if number == 0 {
+        return 0;
+    }
+    let zeros = u64::from(number.leading_zeros());
+    // The mantissa's highest bit adds one to the exponent.
+    (1085 - zeros) * 4_503_599_627_370_496 + (number << (zeros - 11))
+}
+
+fn bits_of_second(second: i64) -> Option<u64>
+    ensures is { MatchOption result (is_second_of_date second ≡ false) (λ bits.
+        (is_second_of_date second ≡ true) × (bits ≡ second_bits second)) }
+    ensures back { IfSome result (λ bits.
+        (second_of_bits bits ≡ Some second) × (has_fraction bits ≡ false)) }
+    ensures exact { IfSome result (λ bits. real_parts bits ≡ (second *ℤ pos parts_in_second)) }
+{
+    match in_range(second) {
+        None => None,
+        Some(_) => {
+            let bits = bits_of_whole(second.unsigned_abs());
+            Some(if second < 0 { (1 << 63) + bits } else { bits })
+        }
+    }
+}
+
+#[cfg(test)]
+mod tests {
+    use super::*;
+
+    // The derived equality is that of the bytes.
+    fn is_same(a: &Date, b: &Date) -> bool
+        ensures { IsTrue result ↔ (a.now ≡ b.now) }
+    {
+        *a == *b
+    }
+
+    // The second of a real, and the real that comes back; or none where it is no date.
+    #[test]
+    fn reals(rt: HostRuntime) {
+        for (real, want) in [
+            (
+                0x3ff0_0000_0000_0000_u64,
+                Some((1, 0x3ff0_0000_0000_0000_u64)),
+            ),
+            (0xbff0_0000_0000_0000, Some((-1, 0xbff0_0000_0000_0000))),
+            (
+                0x424d_62d2_3c7f_8000,
+                Some((252_423_993_599, 0x424d_62d2_3c7f_8000)),
+            ),
+            (0x424d_62d2_3c80_0000, None),
+            (0x0000_0000_0000_0001, Some((0, 0x0000_0000_0000_0001))),
+            (0xbfe0_0000_0000_0000, Some((-1, 0xbfe0_0000_0000_0000))),
+            (0x3fe0_0000_0000_0000, Some((0, 0x3fe0_0000_0000_0000))),
+            (0x8000_0000_0000_0000, Some((0, 0))),
+            (
+                0xc1c2_7600_6500_0000,
+                Some((-619_446_474, 0xc1c2_7600_6500_0000)),
+            ),
+            (0x7ff0_0000_0000_0000, None),
+            (0xfff0_0000_0000_0000, None),
+            (0x7ff8_0000_0000_0000, None),
+            (0x7fef_ffff_ffff_ffff, None),
+            (0xffef_ffff_ffff_ffff, None),
+        ] {
+            match Date::from_plist_real(real.to_be_bytes()) {
+                Ok(date) => {
+                    let back = u64::from_be_bytes(date.to_plist_real());
+                    assert_eq!(rt; Some((date.plist_secs(), back)), want, "at {real:x}");
+                    let fractions = [1, 0xbfe0_0000_0000_0000, 0x3fe0_0000_0000_0000];
+                    assert_eq!(rt; date.has_fraction(), fractions.contains(&back));
+                }
+                Err(kind) => {
+                    assert!(rt; matches!(kind, ErrorKind::OverflowOrNanDate));
+                    assert_eq!(rt; None, want, "at {real:x}");
+                }
+            }
+        }
+    }
+
+    #[test]
+    fn seconds(rt: HostRuntime) {
+        assert!(rt; Date::from_plist_secs(1_000_000_000_000).is_none());
+        assert!(rt; Date::from_plist_secs(-1_000_000_000_000).is_none());
+        for (unix, want) in [
+            (i64::MIN, None),
+            (-377_705_116_801, None),
+            (-377_705_116_800, Some(-378_683_424_000)),
+            (0, Some(-978_307_200)),
+            (978_307_200, Some(0)),
+            (253_402_300_799, Some(252_423_993_599)),
+            (253_402_300_800, None),
+            (i64::MAX, None),
+        ] {
+            match Date::from_unix_secs(unix) {
+                None => assert_eq!(rt; None, want, "at {unix}"),
+                Some(date) => {
+                    let second = date.plist_secs();
+                    assert_eq!(rt; Some(second), want, "at {unix}");
+                    assert_eq!(rt; date.unix_secs(), unix);
+                    assert!(rt; Date::from_plist_secs(second).is_some_and(|d| is_same(&d, &date)));
+                }
+            }
+        }
+    }
+}

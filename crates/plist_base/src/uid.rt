@@ -1,0 +1,68 @@
+//! Identifiers of objects in a keyed archive.
+
+ghost use Rattle.std.specs.Prelude.{◌≡◌, Some, decimal};
+
+use std::fmt;
+use std::marker::Model;
+
+/// The number by which one value of an archive names another.
+///
+/// It is a type of its own, so that it isn't taken for an [`Integer`](crate::Integer).
+#[derive(Clone, Copy, PartialEq, Eq, Hash)]
+pub struct Uid {
+    number: u64,
+}
+
+impl Model for Uid {
+    ghost use Rattle.std.specs.Prelude.{ℕ, ◌^◌, ◌<◌};
+
+    ghost Value = { ℕ };
+
+    ghost view = { λ a. a.number };
+
+    ghost invariant = { λ a. a.number < 2 ^ 64 };
+
+    ghost inverse = { λ n. record { number = n } };
+}
+
+impl Uid {
+    /// The identifier of this number.
+    pub fn new(number: u64) -> Uid
+        ensures { result ≡ number }
+    {
+        Uid { number }
+    }
+
+    /// The identifier's number.
+    pub fn get(self) -> u64
+        ensures { result ≡ self }
+    {
+        self.number
+    }
+}
+
+/// The number's decimal text.
+impl fmt::Debug for Uid {
+    ghost debug_output = { λ uid. Some (decimal uid) };
+
+    fn fmt<W: fmt::Write>(&self, f: &mut fmt::Formatter<W>) -> fmt::Result {
+        fmt::Debug::fmt(&self.number, f)
+    }
+}
+
+#[cfg(test)]
+mod tests {
+    use super::*;
+    use std::test::Fail;
+
+    #[test]
+    fn ends_of_the_range(rt: HostRuntime) -> Result<(), Fail> {
+        for (number, text) in [(0, "0"), (u64::MAX, "18446744073709551615")] {
+            let uid = Uid::new(number);
+            assert_eq!(rt; uid.get(), number);
+            assert_eq!(rt; format!(in rt.alloc(); "{uid:?}")?.as_str(), text);
+        }
+        assert!(rt; Uid::new(1) != Uid::new(2));
+        Ok(())
+    }
+}

@@ -1,0 +1,10 @@
+use Rattle.std.proofs.Common.{refl, rules}
+use Rattle.plist_base.specs.declared.real.RealBits.TheVariants.{Four}
+use Rattle.plist_base.specs.Events.{Real}
+use Rattle.plist_binread.specs.Object.{Scalar}
+use Rattle.plist_binread.proofs.Contents.{known_bytes}
+use Rattle.plist_binread.proofs.scalar.read_short_real.Goals as goal
+
+pub returns-clause-decoded : goal.returns-clause-decoded
+returns-clause-decoded g c =
+    known_bytes _ _ c.args.trailer c.args.place 4 c.read_exact_at.new.buf (λ content. Scalar (Real (Four content))) refl c.in_ok-check_extent.ensures (search rules) c.in_ok-read_exact_at.ensures.bytes
