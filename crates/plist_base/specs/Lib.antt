@@ -1,6 +1,11 @@
 pub mod Faults
 pub mod Events
+pub mod Trees
+pub mod Bracketing
+pub mod Wants
+pub mod Writing
 pub mod Sources
 pub mod Windows
 pub mod Date
 pub mod DateBits
+pub mod IntegerText

@@ -1,7 +1,7 @@
 //! Dates.
 
 ghost use Rattle.std.specs.Prelude.{◌≡◌, ℕ, ◌^◌, ◌<◌, ◌≤◌, ◌↔◌, IsTrue, not, ◌==◌, true, false, pos, ℤ, ◌*ℤ◌, ◌-ℤ◌, Some, None, IsSome, IfSome, IsErr, IfOk, IfErr, MatchOption};
-ghost use Rattle.plist_base.specs.Date.{IsSecondOf, IsSecondOfDate, date_bytes, date_of_bytes, has_fraction, if_second_of_date, is_no_number, is_second_of_date, parts_in_second, parts_left, plist_epoch, real_bits, real_exponent, real_mantissa, real_parts, rounded_down, second_of_bits, second_of_bytes, whole_seconds};
+ghost use Rattle.plist_base.specs.Date.{IsSecondOf, IsSecondOfDate, date_bytes, date_of_bytes, has_fraction, if_second_of_date, is_no_number, is_second_of_date, parts_in_second, parts_left, plist_epoch, real_bits, real_exponent, real_mantissa, real_parts, real_scale, rounded_down, second_of_bits, second_of_bytes, whole_seconds};
 ghost use Rattle.plist_base.specs.DateBits.{second_bits, whole_bits};
 
 use crate::ErrorKind;
@@ -129,19 +129,6 @@ impl Date {
     }
 }
 
-// Whether the value lies between two seconds.
-fn is_fractional(bits: u64) -> bool
-    ensures { result ≡ has_fraction bits }
-{
-    let exponent = exponent_of(bits);
-    // Every such value is 2^52 seconds or more, and a whole number of them.
-    if exponent >= 1075 {
-        return false;
-    }
-    let mantissa = mantissa_of(bits, exponent);
-    is_left(mantissa, exponent.max(1))
-}
-
 #[tactic(auto, unfolding(crate::specs::Date::real_exponent))]
 fn exponent_of(bits: u64) -> u64
     ensures is { result ≡ real_exponent bits }
@@ -164,28 +151,67 @@ fn mantissa_of(bits: u64, exponent: u64) -> u64
     }
 }
 
-fn whole_of(mantissa: u64, scale: u64) -> u64
-    requires small { mantissa < 2 ^ 53 }
-    requires low { 1 ≤ scale }
-    requires high { scale < 1075 }
-    ensures is { result ≡ whole_seconds mantissa scale }
-    ensures small { result < 2 ^ 52 }
-{
-    let shift = 1075 - scale;
-    if shift >= 64 { 0 } else { mantissa >> shift }
+// A real that is below 2^52 without its sign.
+#[derive(Clone, Copy)]
+struct Small {
+    mantissa: u64,
+    scale: u64,
+    ghost mantissa_high: { mantissa < 2 ^ 53 },
+    ghost scale_low: { 1 ≤ scale },
+    ghost scale_high: { scale < 1075 },
 }
 
-fn is_left(mantissa: u64, scale: u64) -> bool
-    requires small { mantissa < 2 ^ 53 }
-    requires low { 1 ≤ scale }
-    requires high { scale < 1075 }
-    ensures { result ≡ not (parts_left mantissa scale == 0) }
+impl Small {
+    // `None` where it is 2^52 or more, infinite or no number.
+    fn from_bits(bits: u64) -> Option<Small>
+        ensures range { MatchOption result (1075 ≤ real_exponent bits)
+            (λ _. real_exponent bits < 1075) }
+        ensures mantissa { IfSome result (λ small. small.mantissa ≡ real_mantissa bits) }
+        ensures scale { IfSome result (λ small. small.scale ≡ real_scale bits) }
+    {
+        let exponent = exponent_of(bits);
+        if exponent >= 1075 {
+            return None;
+        }
+        Some(Small {
+            mantissa: mantissa_of(bits, exponent),
+            scale: exponent.max(1),
+        })
+    }
+
+    // Its whole seconds.
+    fn whole(self) -> u64
+        ensures is { result ≡ whole_seconds self.mantissa self.scale }
+        ensures small { result < 2 ^ 52 }
+    {
+        let shift = 1075 - self.scale;
+        if shift >= 64 {
+            0
+        } else {
+            self.mantissa >> shift
+        }
+    }
+
+    // Whether something is left behind them.
+    fn is_left(self) -> bool
+        ensures { result ≡ not (parts_left self.mantissa self.scale == 0) }
+    {
+        let shift = 1075 - self.scale;
+        if shift >= 64 {
+            self.mantissa != 0
+        } else {
+            self.mantissa % (1 << shift) != 0
+        }
+    }
+}
+
+// Whether the value lies between two seconds. One of 2^52 or more doesn't.
+fn is_fractional(bits: u64) -> bool
+    ensures { result ≡ has_fraction bits }
 {
-    let shift = 1075 - scale;
-    if shift >= 64 {
-        mantissa != 0
-    } else {
-        mantissa % (1 << shift) != 0
+    match Small::from_bits(bits) {
+        None => false,
+        Some(small) => small.is_left(),
     }
 }
 
@@ -214,16 +240,10 @@ fn in_range(second: i64) -> Option<i64>
 fn second_of_bits(bits: u64) -> Option<i64>
     ensures { result ≡ second_of_bits bits }
 {
-    let exponent = exponent_of(bits);
-    // Every such value is 2^52 seconds or more, infinite or no number.
-    if exponent >= 1075 {
-        return None;
+    match Small::from_bits(bits) {
+        None => None,
+        Some(small) => in_range(round_down(bits >= 1 << 63, small.whole(), small.is_left())),
     }
-    let mantissa = mantissa_of(bits, exponent);
-    let scale = exponent.max(1);
-    let whole = whole_of(mantissa, scale);
-    let is_left = is_left(mantissa, scale);
-    in_range(round_down(bits >= 1 << 63, whole, is_left))
 }
 
 fn bits_of_whole(number: u64) -> u64

@@ -1,8 +1,10 @@
 //! Why a call was refused.
 
 ghost use Rattle.std.specs.Prelude.{◌≡◌, ◌↔◌, IsTrue, IsSome, IfSome, IsOk, IfOk, IfErr, Some, None};
+ghost use Rattle.plist_base.specs.Events.{event_of, kind_of_event};
 ghost use Rattle.plist_base.specs.Faults.{Io, OutOfMemory, UnexpectedEof, error_kind_of, event_kind_name, event_kind_text, fault_at, fault_nowhere, fault_of, fault_text, kind_of, kind_text, offset_of};
 
+use crate::Event;
 use std::alloc::{AllocError, AllocFailed};
 use std::{fmt, io};
 
@@ -52,8 +54,16 @@ pub enum ErrorKind {
     OverflowOrNanDate,
     /// A text isn't UTF-8.
     InvalidUtf8String,
-    /// A text isn't UTF-16.
+    /// A text or an escape isn't UTF-16.
     InvalidUtf16String,
+    /// A quoted text has no closing quote.
+    UnclosedString,
+    /// A comment has no end, or the input ends behind a slash.
+    IncompleteComment,
+    /// A text isn't UTF-8, or an escape stands for nothing.
+    InvalidUtf8AsciiStream,
+    /// An octal escape has another byte than 0 to 7.
+    InvalidOctalString,
     /// The event can't stand here.
     UnexpectedEventType {
         /// What could stand here.
@@ -86,6 +96,24 @@ pub struct Error {
 }
 
 impl EventKind {
+    /// What an event is.
+    pub fn of_event(event: &Event<'_>) -> EventKind
+        ensures { result ≡ kind_of_event (event_of event.now) }
+    {
+        match event {
+            Event::StartArray(_) => EventKind::StartArray,
+            Event::StartDictionary(_) => EventKind::StartDictionary,
+            Event::EndCollection => EventKind::EndCollection,
+            Event::Boolean(_) => EventKind::Boolean,
+            Event::Data(_) => EventKind::Data,
+            Event::Date(_) => EventKind::Date,
+            Event::Integer(_) => EventKind::Integer,
+            Event::Real(_) => EventKind::Real,
+            Event::String(_) => EventKind::String,
+            Event::Uid(_) => EventKind::Uid,
+        }
+    }
+
     // The variant's name.
     fn name(self) -> &'static str
         ensures { result.now ≡ event_kind_name self }
@@ -236,6 +264,10 @@ impl fmt::Display for ErrorKind {
             ErrorKind::OverflowOrNanDate => f.write_str("OverflowOrNanDate"),
             ErrorKind::InvalidUtf8String => f.write_str("InvalidUtf8String"),
             ErrorKind::InvalidUtf16String => f.write_str("InvalidUtf16String"),
+            ErrorKind::UnclosedString => f.write_str("UnclosedString"),
+            ErrorKind::IncompleteComment => f.write_str("IncompleteComment"),
+            ErrorKind::InvalidUtf8AsciiStream => f.write_str("InvalidUtf8AsciiStream"),
+            ErrorKind::InvalidOctalString => f.write_str("InvalidOctalString"),
             ErrorKind::UnexpectedEndOfEventStream => f.write_str("UnexpectedEndOfEventStream"),
             ErrorKind::Io(_) => f.write_str("Io"),
             ErrorKind::OutOfMemory => f.write_str("OutOfMemory"),

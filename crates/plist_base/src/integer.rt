@@ -1,10 +1,12 @@
 //! Whole numbers.
 
-ghost use Rattle.std.specs.Prelude.{◌≡◌, pos, negsuc, ◌-◌, ◌^◌, ◌≤ℤ◌, ◌<ℤ◌, ◌↔◌, IsTrue, IsSome, IfSome, Some};
+ghost use Rattle.std.specs.Prelude.{◌≡◌, pos, negsuc, codes, ◌-◌, ◌^◌, ◌≤◌, ◌≤ℤ◌, ◌<ℤ◌, ◌↔◌, IsTrue, IsSome, IfSome, Some};
 ghost use Rattle.std.specs.Fmt.{signed_decimal, styled_signed_decimal};
+ghost use Rattle.plist_base.specs.IntegerText.{SpellsInteger, integer_of_text, signed_of_text, unsigned_of_text, without_prefixes};
 
 use std::fmt;
 use std::marker::Model;
+use std::str::FromStr;
 
 /// A whole number from `i64::MIN` to `u64::MAX`.
 ///
@@ -139,6 +141,87 @@ impl fmt::Debug for Integer {
     }
 }
 
+/// A text that spells no [`Integer`].
+#[derive(Clone, Copy, Debug, PartialEq, Eq)]
+pub struct InvalidInteger;
+
+impl fmt::Display for InvalidInteger {
+    ghost output = { λ _. Some (codes "String was not a valid plist integer") };
+
+    fn fmt<W: fmt::Write>(&self, f: &mut fmt::Formatter<W>) -> fmt::Result {
+        f.write_str("String was not a valid plist integer")
+    }
+}
+
+impl std::error::Error for InvalidInteger {}
+
+// A signed decimal number, with an optional sign.
+fn signed(text: &str) -> Option<Integer>
+    ensures { result ≡ signed_of_text text.now }
+{
+    match text.parse::<i64>() {
+        Ok(number) => Some(Integer::from(number)),
+        Err(_) => None,
+    }
+}
+
+// An unsigned number, with an optional plus.
+fn unsigned(text: &str, radix: u32) -> Option<Integer>
+    requires radix { (2 ≤ radix) × (radix ≤ 36) }
+    ensures { result ≡ unsigned_of_text radix text.now }
+{
+    match u64::from_str_radix(text, radix) {
+        Ok(number) => Some(Integer::from(number)),
+        Err(_) => None,
+    }
+}
+
+// The text behind every leading `0x`.
+fn strip_prefixes(text: &str) -> &str
+    ensures { result.now ≡ without_prefixes text.now }
+{
+    let mut rest = text;
+    'prefixes: while let Some(more) = rest.strip_prefix("0x") {
+        rest = more;
+    }
+    rest
+}
+
+// The number that a text spells.
+fn number_in(text: &str) -> Option<Integer>
+    ensures { result ≡ integer_of_text text.now }
+{
+    match text.strip_prefix("0x") {
+        Some(rest) => unsigned(strip_prefixes(rest), 16),
+        None => match signed(text) {
+            Some(number) => Some(number),
+            None => unsigned(text, 10),
+        },
+    }
+}
+
+/// Reads the number that a text spells.
+///
+/// A text that begins with `0x` loses every leading `0x`; the rest is hexadecimal with an optional
+/// `+`, and at most `u64::MAX`. Any other text is decimal with an optional sign, from `i64::MIN` to
+/// `u64::MAX`. Digits are required, and leading zeros are allowed. Nothing else may stand in the
+/// text, nor a blank at its ends.
+///
+/// # Errors
+/// [`InvalidInteger`] exactly where the text spells no such number.
+impl FromStr for Integer {
+    type Err = InvalidInteger;
+
+    ghost from_str_gives = { λ text result. SpellsInteger text result };
+
+    fn from_str(text: &str) -> Result<Integer, InvalidInteger> {
+        match number_in(text) {
+            Some(number) => Ok(number),
+            None => Err(InvalidInteger),
+        }
+    }
+}
+
 #[cfg(test)]
 mod tests {
     use super::*;
@@ -215,5 +298,46 @@ mod tests {
             above_signed.cmp(&Integer::from(i64::MIN)),
             std::cmp::Ordering::Greater
         );
+    }
+
+    #[test]
+    fn texts(rt: HostRuntime) {
+        for (text, signed, unsigned) in [
+            ("-1", Some(-1), None),
+            ("0", Some(0), Some(0)),
+            ("1", Some(1), Some(1)),
+            ("-9223372036854775808", Some(i64::MIN), None),
+            ("-9223372036854775809", None, None),
+            ("18446744073709551615", None, Some(u64::MAX)),
+            ("18446744073709551616", None, None),
+            ("0x0x10", Some(16), Some(16)),
+            ("0x0xff", Some(255), Some(255)),
+            ("+5", Some(5), Some(5)),
+            ("-0", Some(0), Some(0)),
+            ("-0x1", None, None),
+            ("0x", None, None),
+            ("", None, None),
+            ("5 ", None, None),
+        ] {
+            let number = Integer::from_str(text);
+            assert_eq!(rt;
+                number.is_err(),
+                signed.is_none() && unsigned.is_none(),
+                "{text}"
+            );
+            if let Ok(number) = number {
+                assert_eq!(rt; number.as_signed(), signed, "{text}");
+                assert_eq!(rt; number.as_unsigned(), unsigned, "{text}");
+            }
+        }
+    }
+
+    #[test]
+    fn text_of_the_refusal(rt: HostRuntime) -> Result<(), Fail> {
+        assert_eq!(rt;
+            InvalidInteger.to_string(rt.alloc())?.as_str(),
+            "String was not a valid plist integer"
+        );
+        Ok(())
     }
 }

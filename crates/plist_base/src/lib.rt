@@ -13,12 +13,14 @@ pub mod real;
 pub mod seeking;
 pub mod source;
 pub mod uid;
+pub mod writer;
 
 pub use date::Date;
 pub use error::{Error, ErrorKind, EventKind};
 pub use event::{Event, OwnedEvent};
-pub use integer::Integer;
+pub use integer::{Integer, InvalidInteger};
 pub use real::RealBits;
 pub use seeking::Seeking;
 pub use source::{Source, read_exact_at};
 pub use uid::Uid;
+pub use writer::{Sealed, Writer};

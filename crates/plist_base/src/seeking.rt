@@ -1,7 +1,7 @@
 //! A source over a reader that can seek.
 
-ghost use Rattle.std.specs.Prelude.{◌≡◌, ℕ, ◌≤◌, ◌<◌, length, None, IfOk, Result};
-ghost use Rattle.plist_base.specs.Sources.{Rises, CountsFailure};
+ghost use Rattle.std.specs.Prelude.{◌≡◌, ℕ, ◌-◌, ◌%◌, ◌≤◌, ◌<◌, length, take, None, IfOk, OnErr, Result};
+ghost use Rattle.plist_base.specs.Sources.{Rises, CountsFailure, GivesAt};
 
 use crate::source::{Source, copy_at};
 use std::io;
@@ -10,19 +10,100 @@ use std::io::{Read, Seek, SeekFrom};
 // As much as one read of a file usually gives.
 const WINDOW: usize = 8192;
 
+// The walk through a file is in few places at once: an object, a key that it shares with others, a
+// value that it shares.
+const WINDOWS: usize = 8;
+
+// What a reader gave of the 8 KiB from a multiple of that on.
+#[derive(Clone, Copy)]
+struct Window {
+    bytes: [u8; WINDOW],
+    start: u64,
+    filled: usize,
+    // When it served last, by the source's clock.
+    served: u64,
+    ghost within: { filled ≤ 8192 },
+}
+
+impl Window {
+    const EMPTY: Window = Window {
+        bytes: [0; WINDOW],
+        start: 0,
+        filled: 0,
+        served: 0,
+    };
+
+    // Fills it from this start on. It is empty after a failure.
+    fn fill<R: Read + Seek>(&mut self, inner: &mut R, start: u64) -> Result<(), io::Error>
+        ensures start { self.new.start ≡ start }
+        ensures failed { OnErr result (self.new.filled ≡ 0) }
+    {
+        self.filled = 0;
+        self.start = start;
+        inner.seek(SeekFrom::Start(start))?;
+        let filled = inner.read(&mut self.bytes)?;
+        self.filled = filled;
+        Ok(())
+    }
+
+    // Copies what it has from a place on, and is filled before that where it hasn't that place.
+    fn copy_from<R: Read + Seek>(
+        &mut self,
+        inner: &mut R,
+        place: u64,
+        buf: &mut [u8],
+    ) -> Result<usize, io::Error>
+        ensures bound { IfOk result (λ count. count ≤ length buf.new) }
+        ensures start { self.new.start ≡ place - place % 8192 }
+        ensures bytes { IfOk result (λ count.
+            GivesAt (take self.new.filled self.new.bytes) (place % 8192) count buf.new) }
+        ensures failed { OnErr result (self.new.filled ≡ 0) }
+    {
+        let within = place % WINDOW as u64;
+        let start = place - within;
+        if self.start != start || within >= self.filled as u64 {
+            self.fill(inner, start)?;
+        }
+        Ok(copy_at(&self.bytes[..self.filled], within, buf))
+    }
+}
+
+// The window that served longest ago.
+fn oldest(windows: &[Window; WINDOWS]) -> usize
+    ensures { result < 8 }
+{
+    let mut oldest = 0;
+    for i in 1..WINDOWS {
+        if windows[i].served < windows[oldest].served {
+            oldest = i;
+        }
+    }
+    oldest
+}
+
+// The window that has this start, or else the one that served longest ago.
+fn window_for(windows: &[Window; WINDOWS], start: u64) -> usize
+    ensures { result < 8 }
+{
+    match windows.iter().position(|window| window.start == start) {
+        Some(i) => i,
+        None => oldest(windows),
+    }
+}
+
 /// A source over a reader that can seek, such as a file. Its bytes aren't known, since others may
 /// change them.
 ///
-/// It keeps a window of 8 KiB, so that small reads near one another cost one read of `R`. A read or
-/// seek that answers `Interrupted` is a failure, too.
+/// It keeps eight windows of 8 KiB and reads a place anew into the one that served longest ago, so
+/// that small reads near one another, in a few parts of a file in turn, cost one read of `R`. A read
+/// or seek that answers `Interrupted` is a failure, too.
 #[derive(Drop)]
 pub struct Seeking<R> {
     inner: R,
     failed: u64,
-    window: [u8; WINDOW],
-    start: u64,
-    filled: usize,
-    ghost within: { filled ≤ 8192 },
+    windows: [Window; WINDOWS],
+    // How often a window served.
+    clock: u64,
 }
 
 impl<R: Read + Seek> Seeking<R> {
@@ -36,9 +117,8 @@ impl<R: Read + Seek> Seeking<R> {
         Seeking {
             inner,
             failed: 0,
-            window: [0; WINDOW],
-            start: 0,
-            filled: 0,
+            windows: [Window::EMPTY; WINDOWS],
+            clock: 0,
         }
     }
 
@@ -49,9 +129,8 @@ impl<R: Read + Seek> Seeking<R> {
         let Seeking {
             inner,
             failed: _,
-            window: _,
-            start: _,
-            filled: _,
+            windows: _,
+            clock: _,
         } = self;
         inner
     }
@@ -67,29 +146,19 @@ impl<R: Read + Seek> Seeking<R> {
         answer
     }
 
-    // Copies what the window has from a place on.
-    fn copy_held(&self, place: u64, buf: &mut [u8]) -> usize
-        ensures bound { result ≤ length buf.new }
-    {
-        if place < self.start {
-            return 0;
-        }
-        copy_at(&self.window[..self.filled], place - self.start, buf)
-    }
-
-    // Fills the window round a place. It is empty after a failure.
-    fn fill(&mut self, place: u64) -> Result<(), io::Error>
+    // Copies what a window has from this place on.
+    fn copy_from_window(&mut self, place: u64, buf: &mut [u8]) -> Result<usize, io::Error>
+        ensures bound { IfOk result (λ count. count ≤ length buf.new) }
         ensures failures { failures_of self.new ≡ failures_of self.old }
     {
-        self.filled = 0;
-        self.start = place - place % WINDOW as u64;
-        self.inner.seek(SeekFrom::Start(self.start))?;
-        let filled = self.inner.read(&mut self.window)?;
-        self.filled = filled;
-        Ok(())
+        self.clock = self.clock.saturating_add(1);
+        let i = window_for(&self.windows, place - place % WINDOW as u64);
+        let window = &mut self.windows[i];
+        window.served = self.clock;
+        window.copy_from(&mut self.inner, place, buf)
     }
 
-    fn read_past_window(&mut self, place: u64, buf: &mut [u8]) -> Result<usize, io::Error>
+    fn read_past_windows(&mut self, place: u64, buf: &mut [u8]) -> Result<usize, io::Error>
         ensures bound { IfOk result (λ count. count ≤ length buf.new) }
         ensures failures { failures_of self.new ≡ failures_of self.old }
     {
@@ -105,18 +174,13 @@ impl<R: Read + Seek> Seeking<R> {
             return Ok(0);
         }
         if buf.len() < WINDOW {
-            let held = self.copy_held(place, buf);
-            if held > 0 {
-                return Ok(held);
-            }
-            self.fill(place)?;
-            let held = self.copy_held(place, buf);
+            let held = self.copy_from_window(place, buf)?;
             if held > 0 {
                 return Ok(held);
             }
         }
-        // What is longer than the window, or what a short read of the window didn't reach.
-        self.read_past_window(place, buf)
+        // What is longer than a window, or what a short read of one didn't reach.
+        self.read_past_windows(place, buf)
     }
 }
 
@@ -159,13 +223,17 @@ mod tests {
         Ok(bytes)
     }
 
-    // Small reads, reads over the window's ends, and reads longer than it give the file's bytes.
+    // Small reads, reads over a window's ends, and reads longer than it give the file's bytes.
     #[test]
     fn gives_the_bytes(rt: HostRuntime) -> Result<(), Fail> {
-        let size = 20_000;
+        let size = 90_000;
         let mut source = Seeking::new(Cursor::new(sample(&rt, size)?));
         assert_eq!(rt; source.size()?, size);
-        let places = [0, 8_190, 1, 8_192, 19_990, 0, 16_383, 12_000];
+        // The last of these lie in more parts of the file than there are windows.
+        let places = [
+            0, 8_190, 1, 8_192, 89_990, 0, 16_383, 12_000, 20_000, 30_000, 40_000, 50_000, 60_000,
+            70_000, 80_000, 0, 20_000,
+        ];
         for place in places {
             for length in [1, 2, 9_000] {
                 let mut buf = vec![in rt.alloc(); 0u8; length]?;
@@ -219,6 +287,40 @@ mod tests {
             self.count()?;
             self.inner.seek(to)
         }
+    }
+
+    // Eight parts of a file in turn are read once each. A ninth takes the place of the one that
+    // served longest ago.
+    #[test]
+    fn keeps_its_windows(rt: HostRuntime) -> Result<(), Fail> {
+        let mut source = Seeking::new(Failing {
+            inner: Cursor::new(sample(&rt, 90_000)?),
+            calls: 0,
+            fails_at: u64::MAX,
+        });
+        for (place, calls) in [
+            (0_u32, 2),
+            (80_000, 4),
+            (10_000, 6),
+            (70_000, 8),
+            (20_000, 10),
+            (60_000, 12),
+            (30_000, 14),
+            (50_000, 16),
+            (5, 16),
+            (80_005, 16),
+            (40_000, 18),
+            (0, 18),
+            (80_000, 18),
+            (10_000, 20),
+        ] {
+            let place = u64::from(place);
+            let mut buf = [0; 3];
+            read_exact_at(&mut source, place, &mut buf)?;
+            assert_eq!(rt; buf[2], byte_at(place + 2), "at {place}");
+            assert_eq!(rt; source.inner.calls, calls, "at {place}");
+        }
+        Ok(())
     }
 
     // Where a seek or a read fails, the answer is its error. A later read gives the bytes again.

@@ -2,6 +2,7 @@ pub mod Container
 pub mod Object
 pub mod Places
 pub mod Unfolding
+pub mod Visits
 pub mod Tables
 pub mod Debt
 pub mod Coming

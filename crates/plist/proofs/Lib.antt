@@ -1,0 +1,10 @@
+pub mod Columns
+pub mod TreeOf
+pub mod Keeping
+pub mod Carrying
+pub mod Tops
+pub mod Itself
+pub mod Starts
+pub mod Collected
+pub mod OneTree
+pub mod Handed

@@ -1,0 +1,12 @@
+use Rattle.std.proofs.Common.{sym, reverse}
+use Rattle.plist_base.specs.Events.{event_of}
+use Rattle.plist.proofs.Itself.{carry}
+use Rattle.plist.proofs.stream.builder.Builder.take.Goals as goal
+
+pub returns-in-Ok-clause-step : goal.returns-in-Ok-clause-step
+returns-in-Ok-clause-step c =
+    let held = c.args.self.now in
+    let taken = sym c.in-None.ensures in (
+      held.nested,
+      (c.if-self.false, taken, c.if-self.false, carry held.partial.root (reverse held.partial.collections.items) (event_of c.args.event) _ held.nested taken c.in-Ok.ensures),
+    )

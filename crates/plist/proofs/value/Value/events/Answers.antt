@@ -1,0 +1,5 @@
+use Rattle.plist.proofs.Itself.{itself}
+use Rattle.plist.proofs.value.Value.events.Goals as goal
+
+pub returns-clause-itself : goal.returns-clause-itself
+returns-clause-itself c = itself c.args.self.now

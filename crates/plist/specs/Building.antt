@@ -1,0 +1,144 @@
+-- What a builder holds: a tree that isn't complete yet, and how an event carries it on.
+use Rattle.std.specs.Prelude.{◌≡◌, ℕ, Bool, true, false, List, [], ◌∷◌, ◌++◌, Option, Some, None, Result, Ok, Err, map, ⊤}
+use mathlib.Core.HLevel.{×_prop, Unit-prop, ⊥_prop}
+use Rattle.plist_base.specs.declared.error.EventKind.TheVariants as event_kind
+use Rattle.plist_base.specs.Events.{PlainEvent, StartArray, StartDictionary, EndCollection, Boolean, Data, Date, Integer, Real, String, Uid, kind_of_event}
+use Rattle.plist_base.specs.Faults.{FaultKind, Fault, fault_nowhere, UnexpectedEventType, ExpectedEndOfEventStream, UnexpectedEndOfEventStream, OutOfMemory, WriterFailed}
+use Rattle.plist_base.specs.Trees as trees
+use Rattle.plist_base.specs.Trees.{Tree, Leaf, Array, Dictionary, trees_of, members_of}
+use Rattle.plist_base.specs.Bracketing.{bracketing, bracketing_of_items, bracketing_of_pairs, AreAlike}
+use Rattle.plist_base.specs.Writing.{Answer}
+use Rattle.plist.specs.LastWins.{Rows, with_pair, last_values, last_wins}
+
+-- an open collection: an array with its items so far; a dictionary with its pairs so far; a dictionary with these and a key whose value is to come
+pub data OpenCollection : Type 0 where
+  InArray : (items : List Tree) → OpenCollection
+  InDictionary : (pairs : Rows) → OpenCollection
+  AfterKey : (pairs : Rows) → (key : List ℕ) → OpenCollection
+
+-- no event yet; within an open collection, and those round it, innermost first; or the complete tree
+pub data Unfinished : Type 0 where
+  NotBegun : Unfinished
+  Within : OpenCollection → (outer : List OpenCollection) → Unfinished
+  Complete : Tree → Unfinished
+
+-- a value can come directly inside the collection: it is an array, or its last key waits for one
+abbrev pub TakesValue : OpenCollection → Type 0
+TakesValue (InArray items) = ⊤
+TakesValue (InDictionary pairs) = ⊥
+TakesValue (AfterKey pairs key) = ⊤
+
+abbrev pub AllTakeValue : List OpenCollection → Type 0
+AllTakeValue [] = ⊤
+AllTakeValue (collection ∷ outer) = TakesValue collection × AllTakeValue outer
+
+-- each collection but the innermost can hold the next one
+abbrev pub IsNested : Unfinished → Type 0
+IsNested NotBegun = ⊤
+IsNested (Within collection outer) = AllTakeValue outer
+IsNested (Complete tree) = ⊤
+
+pub TakesValue-prop : (collection : OpenCollection) → IsProp (TakesValue collection)
+TakesValue-prop (InArray items) = Unit-prop
+TakesValue-prop (InDictionary pairs) = ⊥_prop
+TakesValue-prop (AfterKey pairs key) = Unit-prop
+
+pub AllTakeValue-prop : (outer : List OpenCollection) → IsProp (AllTakeValue outer)
+AllTakeValue-prop [] = Unit-prop
+AllTakeValue-prop (collection ∷ outer) = ×_prop (TakesValue-prop collection) (AllTakeValue-prop outer)
+
+pub IsNested-prop : (unfinished : Unfinished) → IsProp (IsNested unfinished)
+IsNested-prop NotBegun = Unit-prop
+IsNested-prop (Within collection outer) = AllTakeValue-prop outer
+IsNested-prop (Complete tree) = Unit-prop
+
+-- the events of an open collection so far
+abbrev pub events_within : OpenCollection → List PlainEvent
+events_within (InArray items) = StartArray None ∷ bracketing_of_items (trees_of items)
+events_within (InDictionary pairs) = StartDictionary None ∷ bracketing_of_pairs (members_of pairs)
+events_within (AfterKey pairs key) = StartDictionary None ∷ (bracketing_of_pairs (members_of pairs) ++ String key ∷ [])
+
+abbrev pub events_round : (outer : List OpenCollection) → List PlainEvent
+events_round [] = []
+events_round (collection ∷ outer) = events_round outer ++ events_within collection
+
+-- the events so far
+abbrev pub events_so_far : Unfinished → List PlainEvent
+events_so_far NotBegun = []
+events_so_far (Within collection outer) = events_round outer ++ events_within collection
+events_so_far (Complete tree) = bracketing tree
+
+-- the same with each key in its first place with its last value, wherever a pair is complete
+abbrev pub last_wins_in_rows : Rows → Rows
+last_wins_in_rows rows = last_values (map (λ pair. (pair.0, last_wins pair.1)) rows)
+
+abbrev pub last_wins_within : OpenCollection → OpenCollection
+last_wins_within (InArray items) = InArray (map last_wins items)
+last_wins_within (InDictionary pairs) = InDictionary (last_wins_in_rows pairs)
+last_wins_within (AfterKey pairs key) = AfterKey (last_wins_in_rows pairs) key
+
+abbrev pub last_wins_so_far : Unfinished → Unfinished
+last_wins_so_far NotBegun = NotBegun
+last_wins_so_far (Within collection outer) = Within (last_wins_within collection) (map last_wins_within outer)
+last_wins_so_far (Complete tree) = Complete (last_wins tree)
+
+-- After the event, what is held are the events held before it, followed by it, up to lengths, with
+-- each key in its first place with its last value.
+abbrev pub IsCarriedOn : (before : Unfinished) → PlainEvent → (after : Unfinished) → Type 0
+IsCarriedOn before event after = (taken : Unfinished) × IsNested taken × AreAlike (events_so_far taken) (events_so_far before ++ event ∷ []) × (after ≡ last_wins_so_far taken)
+
+-- the tree, if it is complete
+abbrev pub complete_tree : Unfinished → Option Tree
+complete_tree NotBegun = None
+complete_tree (Within collection outer) = None
+complete_tree (Complete tree) = Some tree
+
+-- why the event can't come next, if it can't
+abbrev pub refusal_of_value : PlainEvent → Option FaultKind
+refusal_of_value EndCollection = Some (UnexpectedEventType event_kind.ValueOrStartCollection event_kind.EndCollection)
+refusal_of_value event = None
+
+abbrev pub refusal_of_key : PlainEvent → Option FaultKind
+refusal_of_key EndCollection = None
+refusal_of_key (String key) = None
+refusal_of_key event = Some (UnexpectedEventType event_kind.DictionaryKeyOrEndCollection (kind_of_event event))
+
+abbrev pub refusal_within : OpenCollection → PlainEvent → Option FaultKind
+refusal_within (InArray items) event = None
+refusal_within (InDictionary pairs) event = refusal_of_key event
+refusal_within (AfterKey pairs key) event = refusal_of_value event
+
+abbrev pub refusal_of : Unfinished → PlainEvent → Option FaultKind
+refusal_of NotBegun event = refusal_of_value event
+refusal_of (Within collection outer) event = refusal_within collection event
+refusal_of (Complete tree) event = Some (ExpectedEndOfEventStream (kind_of_event event))
+
+-- what a builder holds, and whether it has failed
+pub record Built : Type 0 where
+  pub unfinished : Unfinished
+  pub failed : Bool
+
+-- no events, and no failure
+abbrev pub nothing_built : Built
+nothing_built = record { unfinished = NotBegun; failed = false }
+
+-- what a builder's step is where it answers a fault of this kind
+abbrev pub IsRefused : (before : Built) → PlainEvent → FaultKind → (after : Built) → (unchanged : Type 0) → Type 0
+IsRefused before event OutOfMemory after unchanged = (before.failed ≡ false) × (refusal_of before.unfinished event ≡ None) × (after.failed ≡ true)
+IsRefused before event WriterFailed after unchanged = (before.failed ≡ true) × unchanged
+IsRefused before event kind after unchanged = (before.failed ≡ false) × (refusal_of before.unfinished event ≡ Some kind) × unchanged
+
+-- what a builder's step is where it gives this answer
+abbrev pub IsAnswered : (before : Built) → PlainEvent → Answer → (after : Built) → (unchanged : Type 0) → Type 0
+IsAnswered before event (Ok done) after unchanged =
+    (before.failed ≡ false) × (refusal_of before.unfinished event ≡ None) × (after.failed ≡ false) × IsCarriedOn before.unfinished event after.unfinished
+IsAnswered before event (Err fault) after unchanged = (fault.offset ≡ None) × IsRefused before event fault.kind after unchanged
+
+-- why a value can't be had: the builder has failed, or the events are no tree's yet
+abbrev pub IsUnfinishedFor : FaultKind → Built → Type 0
+IsUnfinishedFor WriterFailed built = built.failed ≡ true
+IsUnfinishedFor UnexpectedEndOfEventStream built = (built.failed ≡ false) × ((tree : Tree) → AreAlike (events_so_far built.unfinished) (bracketing tree) → ⊥)
+IsUnfinishedFor kind built = ⊥
+
+abbrev pub IsUnfinished : Built → Fault → Type 0
+IsUnfinished built fault = (fault.offset ≡ None) × IsUnfinishedFor fault.kind built

@@ -1,0 +1,53 @@
+-- The value of a list of items.
+use Rattle.std.specs.Prelude.{◌≡◌, ◌⊎◌, ℕ, false, List, [], ◌∷◌, ◌++◌, Option, Some, None, Result, Ok, Err, map}
+use Rattle.plist_base.specs.declared.error.Error.{Error}
+use Rattle.plist_base.specs.Events.{PlainEvent, Item}
+use Rattle.plist_base.specs.Faults.{FaultKind, Fault, fault_of, fault_nowhere, OutOfMemory, UnexpectedEndOfEventStream}
+use Rattle.plist_base.specs.Trees.{Tree}
+use Rattle.plist_base.specs.Bracketing.{bracketing, AreAlike}
+use Rattle.plist.specs.declared.value.Value.{Value}
+use Rattle.plist.specs.Building.{Unfinished, IsNested, Built, events_so_far, refusal_of}
+use Rattle.plist.specs.LastWins.{with_pair, last_wins}
+use Rattle.plist.specs.Steps.{carried_on}
+use Rattle.plist.specs.Views.{tree_of}
+
+-- what contracts see of a value that was asked for
+abbrev pub built_tree : Result Value Error → Result Tree Fault
+built_tree (Ok value) = Ok (tree_of value)
+built_tree (Err error) = Err (fault_of error)
+
+-- the fault of an event that can't come next, and want of memory where it can
+abbrev pub IsRefusal : (refusal : Option FaultKind) → Fault → Type 0
+IsRefusal None fault = fault ≡ fault_nowhere OutOfMemory
+IsRefusal (Some kind) fault = fault ≡ fault_nowhere kind
+
+-- an item is an error, which is the answer
+abbrev pub EndsInError : (events : List PlainEvent) → List Item → Fault → Type 0
+EndsInError events items fault = items ≡ map Ok events ++ Err fault ∷ []
+
+-- an event can't come behind what is held, or memory runs out at it
+abbrev pub EndsInRefusal : Unfinished → (events : List PlainEvent) → List Item → Fault → Type 0
+EndsInRefusal held events items fault = (event : PlainEvent) × (items ≡ map Ok events ++ Ok event ∷ []) × IsRefusal (refusal_of held event) fault
+
+-- the events end, and are no tree's
+abbrev pub EndsTooEarly : (events : List PlainEvent) → List Item → Fault → Type 0
+EndsTooEarly events items fault =
+    (items ≡ map Ok events) × (fault ≡ fault_nowhere UnexpectedEndOfEventStream) × ((tree : Tree) → AreAlike events (bracketing tree) → ⊥)
+
+-- What comes of the items that were taken: the tree whose events they are up to lengths, with the
+-- last value of each key; or the fault that ends them, behind events that could follow one another.
+abbrev pub IsBuiltFrom : List Item → Result Tree Fault → Type 0
+IsBuiltFrom items (Ok tree) = (events : List PlainEvent) × (whole : Tree) × (items ≡ map Ok events) × AreAlike events (bracketing whole) × (tree ≡ last_wins whole)
+IsBuiltFrom items (Err fault) =
+    (events : List PlainEvent) × (held : Unfinished) × IsNested held × AreAlike (events_so_far held) events
+    × (EndsInError events items fault ⊎ (EndsInRefusal held events items fault ⊎ EndsTooEarly events items fault))
+
+-- an item's event is taken
+abbrev pub Takes : Built → Item → Built → Type 0
+Takes before (Ok event) after = (carried_on with_pair before.unfinished event ≡ Some after.unfinished) × (after.failed ≡ false)
+Takes before (Err fault) after = ⊥
+
+-- an item is an error, or its event is refused
+abbrev pub Refuses : Unfinished → Item → Fault → Type 0
+Refuses held (Ok event) fault = IsRefusal (refusal_of held event) fault
+Refuses held (Err error) fault = fault ≡ error

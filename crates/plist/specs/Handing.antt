@@ -1,0 +1,33 @@
+-- What a writer is handed.
+use Rattle.std.specs.Prelude.{◌≡◌, ◌⊎◌, List, [], ◌∷◌, ◌++◌, Result, Ok, Err}
+use Rattle.plist_base.specs.Events.{PlainEvent, Item}
+use Rattle.plist_base.specs.Faults.{Fault, fault_nowhere, OutOfMemory}
+use Rattle.plist_base.specs.Writing.{Answer}
+use Rattle.plist.specs.Remaining.{BeginsWithStart}
+
+module _ {S : Type 0} (Step : S → PlainEvent → Answer → S → Type 0) where
+  -- the writer took these events, one step for each
+  abbrev pub Took : (before : S) → List PlainEvent → (after : S) → Type 0
+  Took before [] after = before ≡ after
+  Took before (event ∷ events) after = (between : S) × Step before event (Ok tt) between × Took between events after
+
+  -- the writer refused an event
+  abbrev pub RefusesNext : (before : S) → List PlainEvent → Fault → (after : S) → Type 0
+  RefusesNext before [] fault after = ⊥
+  RefusesNext before (event ∷ events) fault after = Step before event (Err fault) after
+
+  -- memory ran out at a start, which the writer wasn't handed
+  abbrev pub WantsMemory : (before : S) → List PlainEvent → Fault → (after : S) → Type 0
+  WantsMemory before events fault after = (fault ≡ fault_nowhere OutOfMemory) × BeginsWithStart events × (after ≡ before)
+
+  -- The writer took all events; or the first of them, and then refused the next, or memory ran out at it.
+  abbrev pub Hands : (before : S) → List PlainEvent → Answer → (after : S) → Type 0
+  Hands before events (Ok done) after = Took before events after
+  Hands before events (Err fault) after =
+      (taken : List PlainEvent) × (left : List PlainEvent) × (events ≡ taken ++ left)
+      × ((between : S) × Took before taken between × (RefusesNext between left fault after ⊎ WantsMemory between left fault after))
+
+  -- one item
+  abbrev pub HandsItem : (before : S) → Item → Answer → (after : S) → Type 0
+  HandsItem before (Ok event) answer after = Step before event answer after
+  HandsItem before (Err fault) answer after = (answer ≡ Err fault) × (after ≡ before)

@@ -1,0 +1,138 @@
+-- The law of writers, at a builder.
+use Rattle.std.specs.Prelude.{◌≡◌, Bool, true, false, List, Option, Some, None, Result, Ok, Err}
+use Rattle.std.proofs.Common.{refl, sym, ap, ◌∙◌, subst, true≢false}
+use Rattle.plist_base.specs.declared.error.EventKind.TheVariants as event_kind
+use Rattle.plist_base.specs.Events.{PlainEvent, StartArray, StartDictionary, EndCollection, Boolean, Data, Date, Integer, Real, String, Uid, kind_of_event}
+use Rattle.plist_base.specs.Faults as faults
+use Rattle.plist_base.specs.Faults.{FaultKind, Fault, fault_nowhere, WriterFailed}
+use Rattle.plist_base.specs.Bracketing.{CanContinue}
+use Rattle.plist_base.specs.Writing.{Answer, MatchKind, MatchAnswer}
+use Rattle.plist.specs.declared.stream.builder.Builder.{Builder}
+use Rattle.plist.specs.Building.{Unfinished, NotBegun, Within, InArray, InDictionary, AfterKey, Complete, Built, IsNested, events_so_far, refusal_of_value, refusal_of_key, refusal_of, IsRefused, IsAnswered}
+use Rattle.plist.specs.Builders.{built_of, IsBuildingStep}
+use Rattle.plist.specs.Wanting.{refused-ends, taken-continues}
+
+-- a refusal for the event's place
+abbrev IsOfPlace : FaultKind → Type 0
+IsOfPlace kind = MatchKind kind (Unit {0}) ⊥ ⊥
+
+some_kind : {A B : Type 0} (x : A) → None ≡ Some x → B
+some_kind x e = cc
+
+of_place : (kind other : FaultKind) → Some other ≡ Some kind → IsOfPlace other → IsOfPlace kind
+of_place kind other p x = subst IsOfPlace (same_kind other kind p) x
+  where
+    same_kind : (a b : FaultKind) → Some a ≡ Some b → a ≡ b
+    same_kind a b e = cc
+
+value-place : (e : PlainEvent) (kind : FaultKind) → refusal_of_value e ≡ Some kind → IsOfPlace kind
+value-place (StartArray n) kind p = some_kind kind p
+value-place (StartDictionary n) kind p = some_kind kind p
+value-place EndCollection kind p = of_place kind (faults.UnexpectedEventType event_kind.ValueOrStartCollection event_kind.EndCollection) p tt
+value-place (Boolean b) kind p = some_kind kind p
+value-place (Data d) kind p = some_kind kind p
+value-place (Date d) kind p = some_kind kind p
+value-place (Integer z) kind p = some_kind kind p
+value-place (Real r) kind p = some_kind kind p
+value-place (String s) kind p = some_kind kind p
+value-place (Uid v) kind p = some_kind kind p
+
+key-place : (e : PlainEvent) (kind : FaultKind) → refusal_of_key e ≡ Some kind → IsOfPlace kind
+key-place (StartArray n) kind p = of_place kind (faults.UnexpectedEventType event_kind.DictionaryKeyOrEndCollection event_kind.StartArray) p tt
+key-place (StartDictionary n) kind p = of_place kind (faults.UnexpectedEventType event_kind.DictionaryKeyOrEndCollection event_kind.StartDictionary) p tt
+key-place EndCollection kind p = some_kind kind p
+key-place (Boolean b) kind p = of_place kind (faults.UnexpectedEventType event_kind.DictionaryKeyOrEndCollection event_kind.Boolean) p tt
+key-place (Data d) kind p = of_place kind (faults.UnexpectedEventType event_kind.DictionaryKeyOrEndCollection event_kind.Data) p tt
+key-place (Date d) kind p = of_place kind (faults.UnexpectedEventType event_kind.DictionaryKeyOrEndCollection event_kind.Date) p tt
+key-place (Integer z) kind p = of_place kind (faults.UnexpectedEventType event_kind.DictionaryKeyOrEndCollection event_kind.Integer) p tt
+key-place (Real r) kind p = of_place kind (faults.UnexpectedEventType event_kind.DictionaryKeyOrEndCollection event_kind.Real) p tt
+key-place (String s) kind p = some_kind kind p
+key-place (Uid v) kind p = of_place kind (faults.UnexpectedEventType event_kind.DictionaryKeyOrEndCollection event_kind.Uid) p tt
+
+-- what is refused is refused for its place
+pub refusal-place : (u : Unfinished) (e : PlainEvent) (kind : FaultKind) → refusal_of u e ≡ Some kind → IsOfPlace kind
+refusal-place NotBegun e kind p = value-place e kind p
+refusal-place (Within (InArray items) outer) e kind p = some_kind kind p
+refusal-place (Within (InDictionary pairs) outer) e kind p = key-place e kind p
+refusal-place (Within (AfterKey pairs key) outer) e kind p = value-place e kind p
+refusal-place (Complete tree) e kind p = of_place kind (faults.ExpectedEndOfEventStream (kind_of_event e)) p tt
+
+not_none : {A : Type 0} (o : Option A) (x : A) → o ≡ Some x → o ≡ None → ⊥
+not_none o x p q = cc
+
+-- what a refusal says of the event, and of what is held after it
+module _ (before after : Built) (event : PlainEvent) (unchanged : Type 0) (ok : IsNested before.unfinished) (f : before.failed ≡ false) where
+  abbrev Refused : Type 0
+  Refused = (CanContinue (events_so_far before.unfinished) event → ⊥) × unchanged
+
+  in_place : (kind : FaultKind) → refusal_of before.unfinished event ≡ Some kind → unchanged → Refused
+  in_place kind r s = (refused-ends before.unfinished event ok (not_none (refusal_of before.unfinished event) kind r), s)
+
+  never : (kind : FaultKind) → refusal_of before.unfinished event ≡ Some kind → IsOfPlace kind
+  never kind r = refusal-place before.unfinished event kind r
+
+  refusal_law : (kind : FaultKind) → IsRefused before event kind after unchanged → MatchKind kind Refused (after.failed ≡ true) ⊥
+  refusal_law (faults.UnexpectedEventType expected found) r = in_place _ r.1 r.2
+  refusal_law (faults.ExpectedEndOfEventStream found) r = in_place _ r.1 r.2
+  refusal_law faults.OutOfMemory r = r.2
+  refusal_law faults.WriterFailed r = absurd (true≢false (sym r.0 ∙ f))
+  refusal_law (faults.UnknownObjectType marker) r = absurd (never (faults.UnknownObjectType marker) r.1)
+  refusal_law faults.UnexpectedEof r = absurd (never faults.UnexpectedEof r.1)
+  refusal_law faults.InvalidMagic r = absurd (never faults.InvalidMagic r.1)
+  refusal_law faults.InvalidTrailerObjectOffsetSize r = absurd (never faults.InvalidTrailerObjectOffsetSize r.1)
+  refusal_law faults.InvalidTrailerObjectReferenceSize r = absurd (never faults.InvalidTrailerObjectReferenceSize r.1)
+  refusal_law faults.ObjectOffsetTooLarge r = absurd (never faults.ObjectOffsetTooLarge r.1)
+  refusal_law faults.ObjectReferenceTooLarge r = absurd (never faults.ObjectReferenceTooLarge r.1)
+  refusal_law faults.RecursiveObject r = absurd (never faults.RecursiveObject r.1)
+  refusal_law faults.NullObjectUnimplemented r = absurd (never faults.NullObjectUnimplemented r.1)
+  refusal_law faults.FillObjectUnimplemented r = absurd (never faults.FillObjectUnimplemented r.1)
+  refusal_law faults.IntegerOutOfRange r = absurd (never faults.IntegerOutOfRange r.1)
+  refusal_law faults.OverflowOrNanDate r = absurd (never faults.OverflowOrNanDate r.1)
+  refusal_law faults.InvalidUtf8String r = absurd (never faults.InvalidUtf8String r.1)
+  refusal_law faults.InvalidUtf16String r = absurd (never faults.InvalidUtf16String r.1)
+  refusal_law faults.UnclosedString r = absurd (never faults.UnclosedString r.1)
+  refusal_law faults.IncompleteComment r = absurd (never faults.IncompleteComment r.1)
+  refusal_law faults.InvalidUtf8AsciiStream r = absurd (never faults.InvalidUtf8AsciiStream r.1)
+  refusal_law faults.InvalidOctalString r = absurd (never faults.InvalidOctalString r.1)
+  refusal_law faults.Io r = absurd (never faults.Io r.1)
+  refusal_law faults.PlistTooLarge r = absurd (never faults.PlistTooLarge r.1)
+  refusal_law faults.UnexpectedEndOfEventStream r = absurd (never faults.UnexpectedEndOfEventStream r.1)
+
+pub building_law : (before : Builder) (event : PlainEvent) (answer : Answer) (after : Builder) → IsBuildingStep before event answer after → before.failed ≡ false
+    → MatchAnswer answer (CanContinue (events_so_far (built_of before).unfinished) event × (after.failed ≡ false)) ((CanContinue (events_so_far (built_of before).unfinished) event → ⊥) × (after ≡ before)) (after.failed ≡ true) ⊥
+building_law before event (Ok done) after s f = let c = s.1.3 in (taken-continues (built_of before).unfinished c.0 event c.1 c.2, s.1.2)
+building_law before event (Err fault) after s f = (s.1.0, refusal_law (built_of before) (built_of after) event (after ≡ before) s.0 f fault.kind s.1.1)
+
+-- a failed builder's refusal
+failed_kind : (before after : Built) (event : PlainEvent) (unchanged : Type 0) (kind : FaultKind) → IsRefused before event kind after unchanged → before.failed ≡ true → (kind ≡ WriterFailed) × unchanged
+failed_kind before after event unchanged faults.WriterFailed r f = (refl, r.1)
+failed_kind before after event unchanged (faults.UnexpectedEventType expected found) r f = absurd (true≢false (sym f ∙ r.0))
+failed_kind before after event unchanged (faults.ExpectedEndOfEventStream found) r f = absurd (true≢false (sym f ∙ r.0))
+failed_kind before after event unchanged (faults.UnknownObjectType marker) r f = absurd (true≢false (sym f ∙ r.0))
+failed_kind before after event unchanged faults.UnexpectedEof r f = absurd (true≢false (sym f ∙ r.0))
+failed_kind before after event unchanged faults.InvalidMagic r f = absurd (true≢false (sym f ∙ r.0))
+failed_kind before after event unchanged faults.InvalidTrailerObjectOffsetSize r f = absurd (true≢false (sym f ∙ r.0))
+failed_kind before after event unchanged faults.InvalidTrailerObjectReferenceSize r f = absurd (true≢false (sym f ∙ r.0))
+failed_kind before after event unchanged faults.ObjectOffsetTooLarge r f = absurd (true≢false (sym f ∙ r.0))
+failed_kind before after event unchanged faults.ObjectReferenceTooLarge r f = absurd (true≢false (sym f ∙ r.0))
+failed_kind before after event unchanged faults.RecursiveObject r f = absurd (true≢false (sym f ∙ r.0))
+failed_kind before after event unchanged faults.NullObjectUnimplemented r f = absurd (true≢false (sym f ∙ r.0))
+failed_kind before after event unchanged faults.FillObjectUnimplemented r f = absurd (true≢false (sym f ∙ r.0))
+failed_kind before after event unchanged faults.IntegerOutOfRange r f = absurd (true≢false (sym f ∙ r.0))
+failed_kind before after event unchanged faults.OverflowOrNanDate r f = absurd (true≢false (sym f ∙ r.0))
+failed_kind before after event unchanged faults.InvalidUtf8String r f = absurd (true≢false (sym f ∙ r.0))
+failed_kind before after event unchanged faults.InvalidUtf16String r f = absurd (true≢false (sym f ∙ r.0))
+failed_kind before after event unchanged faults.UnclosedString r f = absurd (true≢false (sym f ∙ r.0))
+failed_kind before after event unchanged faults.IncompleteComment r f = absurd (true≢false (sym f ∙ r.0))
+failed_kind before after event unchanged faults.InvalidUtf8AsciiStream r f = absurd (true≢false (sym f ∙ r.0))
+failed_kind before after event unchanged faults.InvalidOctalString r f = absurd (true≢false (sym f ∙ r.0))
+failed_kind before after event unchanged faults.Io r f = absurd (true≢false (sym f ∙ r.0))
+failed_kind before after event unchanged faults.PlistTooLarge r f = absurd (true≢false (sym f ∙ r.0))
+failed_kind before after event unchanged faults.UnexpectedEndOfEventStream r f = absurd (true≢false (sym f ∙ r.0))
+failed_kind before after event unchanged faults.OutOfMemory r f = absurd (true≢false (sym f ∙ r.0))
+
+pub failed_law : (before : Builder) (event : PlainEvent) (answer : Answer) (after : Builder) → IsBuildingStep before event answer after → before.failed ≡ true → (answer ≡ Err (fault_nowhere WriterFailed)) × (after ≡ before)
+failed_law before event (Ok done) after s f = absurd (true≢false (sym f ∙ s.1.0))
+failed_law before event (Err fault) after s f =
+    let k = failed_kind (built_of before) (built_of after) event (after ≡ before) fault.kind s.1.1 f in
+    ((λ i. Err (record { kind = k.0 i; offset = s.1.0 i })), k.1)

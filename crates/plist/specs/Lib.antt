@@ -1,0 +1,14 @@
+pub mod formers
+pub mod Lends
+pub mod Shown
+pub mod LastWins
+pub mod Views
+pub mod Building
+pub mod Steps
+pub mod Wanting
+pub mod Partials
+pub mod Builders
+pub mod Laws
+pub mod Remaining
+pub mod Collecting
+pub mod Handing

@@ -1,0 +1,29 @@
+-- What the run-time state of a builder holds.
+use Rattle.std.specs.Prelude.{List, [], ◌∷◌, Option, Some, None, map, reverse, string_bytes}
+use Rattle.plist.specs.declared.partial.Open.{Open}
+use Rattle.plist.specs.declared.partial.Open.TheVariants as run
+use Rattle.plist.specs.declared.partial.Partial.{Partial}
+use Rattle.plist.specs.declared.value.Value.{Value}
+use Rattle.plist.specs.Building.{OpenCollection, InArray, InDictionary, AfterKey, Unfinished, NotBegun, Within, Complete}
+use Rattle.plist.specs.LastWins.{last_values}
+use Rattle.plist.specs.Views.{tree_of, tree_pairs}
+
+-- an open collection with its trees; a dictionary's keys stand once each, so its last values are its pairs
+abbrev pub open_of : Open → OpenCollection
+open_of (run.Array items) = InArray (map tree_of items.items)
+open_of (run.Dictionary pairs) = InDictionary (last_values (tree_pairs pairs))
+open_of (run.AfterKey pairs key) = AfterKey (last_values (tree_pairs pairs)) (string_bytes key)
+
+-- what a root, if there is one, and the open collections, innermost first, hold
+abbrev pub held_by : Option Value → List Open → Unfinished
+held_by (Some root) collections = Complete (tree_of root)
+held_by None [] = NotBegun
+held_by None (inner ∷ outer) = Within (open_of inner) (map open_of outer)
+
+-- the open collections, innermost first
+abbrev pub collections_of : Partial → List OpenCollection
+collections_of partial = map open_of (reverse partial.collections.items)
+
+-- what is held
+abbrev pub unfinished_of : Partial → Unfinished
+unfinished_of partial = held_by partial.root (reverse partial.collections.items)

@@ -1,0 +1,70 @@
+-- The events that an iterator over a value's events has left.
+use Rattle.std.specs.Prelude.{◌≡◌, ℕ, List, [], ◌∷◌, ◌++◌, Option, Some, None, Result, Ok, Err, map, reverse, string_bytes, ⊤}
+use Rattle.std.specs.Borrow.{Bor}
+use Rattle.plist_base.specs.declared.error.Error.{Error}
+use Rattle.plist_base.specs.declared.event.Event.{Event}
+use Rattle.plist_base.specs.declared.event.Event.TheVariants as event
+use Rattle.std.specs.declared.borrow.CowStr.TheVariants as text
+use Rattle.std.specs.declared.borrow.CowSlice.TheVariants as slice
+use Rattle.plist_base.specs.Events.{PlainEvent, StartArray, StartDictionary, EndCollection, String, event_of}
+use Rattle.plist_base.specs.Faults.{fault_of, fault_nowhere, OutOfMemory}
+use Rattle.plist_base.specs.Trees.{Tree, trees_of, members_of}
+use Rattle.plist_base.specs.Bracketing.{bracketing, bracketing_of_items, bracketing_of_pairs}
+use Rattle.plist.specs.declared.value.Value.{Value}
+use Rattle.plist.specs.declared.stream.events.Events.{Events}
+use Rattle.plist.specs.declared.stream.events.Level.{Level}
+use Rattle.plist.specs.declared.stream.events.Level.TheVariants as level
+use Rattle.plist.specs.declared.stream.events.Next.{Next}
+use Rattle.plist.specs.declared.stream.events.Next.TheVariants as next
+use Rattle.plist.specs.Views.{tree_of, tree_pairs}
+
+-- the events left of the value that comes next, if there is one
+abbrev pub left_of_value : Option (Bor Value) → List PlainEvent
+left_of_value None = []
+left_of_value (Some value) = bracketing (tree_of value.now)
+
+-- the events left of an open collection, before its end
+abbrev pub left_of_level : Level → List PlainEvent
+left_of_level (level.Array items) = bracketing_of_items (trees_of (map tree_of items.now))
+left_of_level (level.Dictionary pairs) = bracketing_of_pairs (members_of (tree_pairs pairs))
+
+-- the events left of the open collections, innermost first
+abbrev pub left_of_levels : List Level → List PlainEvent
+left_of_levels [] = []
+left_of_levels (level ∷ levels) = left_of_level level ++ EndCollection ∷ left_of_levels levels
+
+-- the events left
+abbrev pub remaining_events : Events → List PlainEvent
+remaining_events events = left_of_value events.value ++ left_of_levels (reverse events.levels.items)
+
+-- a text or data is borrowed
+abbrev pub IsBorrowed : Event → Type 0
+IsBorrowed (event.String (text.Owned owned)) = ⊥
+IsBorrowed (event.Data (slice.Owned owned)) = ⊥
+IsBorrowed other = ⊤
+
+-- a start comes first
+abbrev pub BeginsWithStart : List PlainEvent → Type 0
+BeginsWithStart (StartArray length ∷ events) = ⊤
+BeginsWithStart (StartDictionary length ∷ events) = ⊤
+BeginsWithStart events = ⊥
+
+-- The first event left is given, its text or data borrowed, and the others are left; nothing is given
+-- where nothing is left; for want of memory a start isn't given, and then nothing is left.
+abbrev pub GivesEvent : Events → Option (Result Event Error) → Events → Type 0
+GivesEvent before None after = (remaining_events before ≡ []) × (remaining_events after ≡ [])
+GivesEvent before (Some (Ok given)) after = (remaining_events before ≡ event_of given ∷ remaining_events after) × IsBorrowed given
+GivesEvent before (Some (Err error)) after =
+    (fault_of error ≡ fault_nowhere OutOfMemory) × BeginsWithStart (remaining_events before) × (remaining_events after ≡ [])
+
+-- what comes next, and what is left behind it
+abbrev pub ComesNext : Events → Next → Events → Type 0
+ComesNext before next.Nothing after = (remaining_events before ≡ []) × (remaining_events after ≡ [])
+ComesNext before next.End after = remaining_events before ≡ EndCollection ∷ remaining_events after
+ComesNext before (next.Key key) after = remaining_events before ≡ String (string_bytes key.now) ∷ remaining_events after
+ComesNext before (next.Value value) after = (remaining_events before ≡ bracketing (tree_of value.now) ++ left_of_levels (reverse after.levels.items)) × (after.value ≡ None)
+
+-- the first event of a tree is given, and its others are left before those left
+abbrev pub BeginsValue : Tree → Events → Result Event Error → Events → Type 0
+BeginsValue tree before (Ok given) after = (bracketing tree ++ remaining_events before ≡ event_of given ∷ remaining_events after) × IsBorrowed given
+BeginsValue tree before (Err error) after = (fault_of error ≡ fault_nowhere OutOfMemory) × BeginsWithStart (bracketing tree ++ remaining_events before) × (remaining_events after ≡ [])

@@ -1,0 +1,45 @@
+-- The tree that a value stands for.
+use Rattle.std.specs.Prelude.{ℕ, List, map, string_bytes}
+use Rattle.plist_base.specs.declared.error.EventKind.{EventKind}
+use Rattle.plist_base.specs.declared.error.EventKind.TheVariants as kind
+use Rattle.plist_base.specs.Events.{kind_of_event}
+use Rattle.plist_base.specs.Bracketing.{event_of_scalar}
+use Rattle.plist_base.specs.Trees.{Tree, Leaf, Array, Dictionary, Trees, Members, trees_of, members_of}
+use Rattle.plist_base.specs.Trees as tree
+use Rattle.plist.specs.LastWins.{last_values}
+use Rattle.plist.specs.declared.value.Value.{Value, fold-Value}
+use Rattle.plist.specs.declared.value.Value.TheOpen.{Value-F}
+
+-- the tree of a value whose items and values are trees already; a dictionary's keys stand once each, so its last values are its pairs
+abbrev pub tree_step : Value-F Tree → Tree
+tree_step (Value-F.Array items) = Array (trees_of items.items)
+tree_step (Value-F.Dictionary pairs) = Dictionary (members_of (last_values pairs))
+tree_step (Value-F.Boolean b) = Leaf (tree.Boolean b)
+tree_step (Value-F.Data bytes) = Leaf (tree.Data bytes.items)
+tree_step (Value-F.Date bytes) = Leaf (tree.Date bytes)
+tree_step (Value-F.Real bits) = Leaf (tree.Real bits)
+tree_step (Value-F.Integer n) = Leaf (tree.Integer n)
+tree_step (Value-F.String text) = Leaf (tree.String (string_bytes text))
+tree_step (Value-F.Uid n) = Leaf (tree.Uid n)
+
+-- the tree of a value
+abbrev pub tree_of : Value → Tree
+tree_of = fold-Value Tree tree_step
+
+-- the trees of an array's items
+abbrev pub item_trees : List Value → Trees
+item_trees items = trees_of (map tree_of items)
+
+-- a dictionary's pairs, each value as its tree
+abbrev pub tree_pairs : List (List ℕ × Value) → List (List ℕ × Tree)
+tree_pairs pairs = map (λ p. (p.0, tree_of p.1)) pairs
+
+-- the members of a dictionary
+abbrev pub pair_trees : List (List ℕ × Value) → Members
+pair_trees pairs = members_of (last_values (tree_pairs pairs))
+
+-- the kind of a tree's first event
+abbrev pub kind_of_tree : Tree → EventKind
+kind_of_tree (Leaf scalar) = kind_of_event (event_of_scalar scalar)
+kind_of_tree (Array items) = kind.StartArray
+kind_of_tree (Dictionary pairs) = kind.StartDictionary

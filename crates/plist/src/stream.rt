@@ -1,0 +1,10 @@
+//! Events of values, and values of events.
+
+pub mod builder;
+pub mod events;
+
+pub use builder::Builder;
+pub use events::Events;
+
+#[cfg(test)]
+mod tests;

@@ -1,0 +1,164 @@
+//! A value from its events.
+
+ghost use Rattle.std.specs.Prelude.{◌≡◌, IfErr, IfOk, None, OnErr, OnOk, Some, false, true};
+ghost use Rattle.plist_base.specs.Bracketing.{AreAlike, bracketing};
+ghost use Rattle.plist_base.specs.Events.{event_of, item_of};
+ghost use Rattle.plist_base.specs.Faults.{fault_of};
+ghost use Rattle.plist_base.specs.Writing.{answer_of};
+ghost use Rattle.plist.specs.Building.{IsNested, IsNested-prop, IsUnfinished, complete_tree, events_so_far, nothing_built, refusal_of};
+ghost use Rattle.plist.specs.Partials.{unfinished_of};
+ghost use Rattle.plist.specs.LastWins.{with_pair};
+ghost use Rattle.plist.specs.Steps.{carried_on};
+ghost use Rattle.plist.specs.Views.{tree_of};
+
+use crate::Value;
+use crate::partial::Partial;
+use plist_base::{Date, Error, ErrorKind, Event, Integer, RealBits, Sealed, Uid, Writer};
+use std::alloc::Global;
+use std::borrow::{CowSlice, CowStr};
+
+/// Builds a value from its events.
+///
+/// It holds the events that it has taken, up to lengths, with each key in its first place with its
+/// last value. An event that can't come next is refused and changes nothing: with
+/// `UnexpectedEventType` before the root is complete, and with `ExpectedEndOfEventStream` after
+/// it. If memory runs out, the builder has failed: what it held is dropped, and each later call
+/// answers `WriterFailed`.
+#[derive(Drop)]
+pub struct Builder {
+    alloc: Global,
+    partial: Partial,
+    failed: bool,
+    ghost nested: { IsNested (unfinished_of partial) } by { IsNested-prop (unfinished_of partial) },
+}
+
+impl Builder {
+    ghost use Rattle.plist.specs.Builders.{IsBuildingStep, built_of};
+    ghost use Rattle.plist.specs.Collecting.{IsRefusal, Refuses, Takes};
+
+    /// A builder that holds no events.
+    pub fn new(alloc: Global) -> Builder
+        ensures { built_of result ≡ nothing_built }
+    {
+        Builder {
+            alloc,
+            partial: Partial::new(alloc),
+            failed: false,
+        }
+    }
+
+    // Takes one event.
+    pub(crate) fn take(&mut self, event: Event<'_>) -> Result<(), Error>
+        ensures step { IsBuildingStep self.old (event_of event.entry) (answer_of result) self.new }
+        ensures carried { OnOk result (carried_on with_pair (built_of self.old).unfinished (event_of event.entry) ≡ Some (built_of self.new).unfinished) }
+        ensures refused { (built_of self.old).failed ≡ false → IfErr result (λ error. IsRefusal (refusal_of (built_of self.old).unfinished (event_of event.entry)) (fault_of error)) }
+    {
+        if self.failed {
+            return Err(ErrorKind::WriterFailed.without_position());
+        }
+        match self.partial.refusal(&event) {
+            Some(kind) => return Err(kind.without_position()),
+            None => {}
+        }
+        match self.partial.take(self.alloc, event) {
+            Ok(()) => Ok(()),
+            Err(_) => {
+                self.partial.clear();
+                self.failed = true;
+                Err(ErrorKind::OutOfMemory.without_position())
+            }
+        }
+    }
+
+    // Takes the event of an item, or passes its fault on.
+    pub(crate) fn take_item(&mut self, item: Result<Event<'_>, Error>) -> Result<(), Error>
+        requires { (built_of self.old).failed ≡ false }
+        ensures taken { OnOk result (Takes (built_of self.old) (item_of item.entry) (built_of self.new)) }
+        ensures refused { IfErr result (λ error. Refuses (built_of self.old).unfinished (item_of item.entry) (fault_of error)) }
+    {
+        let event = item?;
+        self.take(event)
+    }
+
+    /// The value of the events, which leaves the builder empty. It takes no memory.
+    ///
+    /// # Errors
+    ///
+    /// The builder stays as it was.
+    ///
+    /// - `WriterFailed` if it has failed.
+    /// - `UnexpectedEndOfEventStream` if the events aren't those of a value yet.
+    pub fn finish(&mut self) -> Result<Value, Error>
+        ensures value { IfOk result (λ value. AreAlike (events_so_far (built_of self.old).unfinished) (bracketing (tree_of value))) }
+        ensures complete { IfOk result (λ value. complete_tree (built_of self.old).unfinished ≡ Some (tree_of value)) }
+        ensures emptied { OnOk result (built_of self.new ≡ nothing_built) }
+        ensures refused { IfErr result (λ error. IsUnfinished (built_of self.old) (fault_of error)) }
+        ensures unchanged { OnErr result (self.new ≡ self.old) }
+    {
+        if self.failed {
+            return Err(ErrorKind::WriterFailed.without_position());
+        }
+        match self.partial.take_root() {
+            Some(root) => Ok(root),
+            None => Err(ErrorKind::UnexpectedEndOfEventStream.without_position()),
+        }
+    }
+}
+
+impl Sealed for Builder {}
+
+impl Writer for Builder {
+    ghost use Rattle.plist.specs.Builders.{IsBuildingStep, built_of};
+    ghost use Rattle.plist.specs.Building.{events_so_far};
+    ghost use Rattle.plist.specs.Laws.{building_law, failed_law};
+
+    ghost held = { λ b. events_so_far (built_of b).unfinished };
+
+    ghost failed = { λ b. b.failed };
+
+    ghost Step = { IsBuildingStep };
+
+    fn write_start_array(&mut self, length: Option<u64>) -> Result<(), Error> {
+        self.take(Event::StartArray(length))
+    }
+
+    fn write_start_dictionary(&mut self, length: Option<u64>) -> Result<(), Error> {
+        self.take(Event::StartDictionary(length))
+    }
+
+    fn write_end_collection(&mut self) -> Result<(), Error> {
+        self.take(Event::EndCollection)
+    }
+
+    fn write_boolean(&mut self, value: bool) -> Result<(), Error> {
+        self.take(Event::Boolean(value))
+    }
+
+    fn write_data(&mut self, bytes: CowSlice<'_, u8>) -> Result<(), Error> {
+        self.take(Event::Data(bytes))
+    }
+
+    fn write_date(&mut self, date: Date) -> Result<(), Error> {
+        self.take(Event::Date(date))
+    }
+
+    fn write_integer(&mut self, value: Integer) -> Result<(), Error> {
+        self.take(Event::Integer(value))
+    }
+
+    fn write_real(&mut self, bits: RealBits) -> Result<(), Error> {
+        self.take(Event::Real(bits))
+    }
+
+    fn write_string(&mut self, text: CowStr<'_>) -> Result<(), Error> {
+        self.take(Event::String(text))
+    }
+
+    fn write_uid(&mut self, uid: Uid) -> Result<(), Error> {
+        self.take(Event::Uid(uid))
+    }
+
+    ghost law = { building_law };
+
+    ghost law_of_failed = { failed_law };
+}

@@ -1,0 +1,143 @@
+//! The events of a value.
+
+ghost use Rattle.std.specs.Prelude.{◌≡◌, ◌++◌, ◌∷◌, IfErr, None, OnErr, OnOk, []};
+ghost use Rattle.plist_base.specs.Bracketing.{bracketing};
+ghost use Rattle.plist_base.specs.Events.{EndCollection};
+ghost use Rattle.plist_base.specs.Faults.{OutOfMemory, fault_nowhere, fault_of};
+ghost use Rattle.plist.specs.Remaining.{left_of_level, remaining_events};
+ghost use Rattle.plist.specs.Views.{tree_of};
+
+use crate::Value;
+use crate::dictionary::Iter;
+use plist_base::{Error, ErrorKind, Event};
+use std::alloc::Global;
+use std::borrow::{CowSlice, CowStr};
+
+// An open collection: what is left of it.
+#[derive(Drop)]
+enum Level<'a> {
+    Array(&'a [Value]),
+    Dictionary(Iter<'a>),
+}
+
+// What comes next.
+#[derive(Drop)]
+enum Next<'a> {
+    Nothing,
+    End,
+    Key(&'a String),
+    Value(&'a Value),
+}
+
+/// The events of a value, depth first: each start has its length, and texts and data are borrowed
+/// from the value.
+///
+/// # Errors
+/// `OutOfMemory`, without an offset, in the place of a start; then the events have ended. No other
+/// event takes memory.
+#[derive(Drop)]
+pub struct Events<'a> {
+    value: Option<&'a Value>,
+    levels: Vec<Level<'a>>,
+}
+
+impl<'a> Events<'a> {
+    ghost use Rattle.plist.specs.Remaining.{BeginsValue, ComesNext};
+
+    pub(crate) fn new(alloc: Global, value: &'a Value) -> Events<'a>
+        ensures { remaining_events result ≡ bracketing (tree_of value.now) }
+    {
+        Events {
+            value: Some(value),
+            levels: Vec::new(alloc),
+        }
+    }
+
+    // What comes next, which is no longer left then.
+    fn advance(&mut self) -> Next<'a>
+        ensures { ComesNext self.old result self.new }
+    {
+        if let Some(value) = self.value.take() {
+            return Next::Value(value);
+        }
+        match self.levels.pop() {
+            None => Next::Nothing,
+            Some(Level::Array(items)) => match items.split_first() {
+                None => Next::End,
+                Some((value, others)) => {
+                    self.levels.push_reserved(Level::Array(others));
+                    Next::Value(value)
+                }
+            },
+            Some(Level::Dictionary(mut pairs)) => match pairs.next() {
+                None => Next::End,
+                Some((key, value)) => {
+                    self.levels.push_reserved(Level::Dictionary(pairs));
+                    self.value = Some(value);
+                    Next::Key(key)
+                }
+            },
+        }
+    }
+
+    // Opens a collection; for want of memory nothing is left.
+    fn open(&mut self, level: Level<'a>) -> Result<(), Error>
+        requires { self.old.value ≡ None }
+        ensures opened { OnOk result (remaining_events self.new ≡ left_of_level level.entry ++ EndCollection ∷ remaining_events self.old) }
+        ensures memory { IfErr result (λ error. fault_of error ≡ fault_nowhere OutOfMemory) }
+        ensures nothing { OnErr result (remaining_events self.new ≡ []) }
+    {
+        match self.levels.push(level) {
+            Ok(()) => Ok(()),
+            Err(_) => {
+                self.levels.clear();
+                Err(ErrorKind::OutOfMemory.without_position())
+            }
+        }
+    }
+
+    // The first event of a value, whose others are left then.
+    fn begin(&mut self, value: &'a Value) -> Result<Event<'a>, Error>
+        requires { self.old.value ≡ None }
+        ensures { BeginsValue (tree_of value.now) self.old result self.new }
+    {
+        match value {
+            Value::Array(items) => {
+                self.open(Level::Array(items.as_slice()))?;
+                Ok(Event::StartArray(Some(items.len() as u64)))
+            }
+            Value::Dictionary(pairs) => {
+                self.open(Level::Dictionary(pairs.iter()))?;
+                Ok(Event::StartDictionary(Some(pairs.len() as u64)))
+            }
+            Value::Boolean(value) => Ok(Event::Boolean(*value)),
+            Value::Data(bytes) => Ok(Event::Data(CowSlice::Borrowed(bytes.as_slice()))),
+            Value::Date(date) => Ok(Event::Date(*date)),
+            Value::Real(bits) => Ok(Event::Real(*bits)),
+            Value::Integer(value) => Ok(Event::Integer(*value)),
+            Value::String(text) => Ok(Event::String(CowStr::Borrowed(text.as_str()))),
+            Value::Uid(uid) => Ok(Event::Uid(*uid)),
+        }
+    }
+}
+
+impl<'a> Iterator for Events<'a> {
+    type Item = Result<Event<'a>, Error>;
+
+    ghost use Rattle.std.specs.Iterator.{at_most};
+    ghost use Rattle.std.specs.Prelude.{length};
+    ghost use Rattle.plist.specs.Remaining.{GivesEvent, remaining_events};
+
+    ghost next_gives = { GivesEvent };
+
+    ghost remaining = { λ events. at_most (length (remaining_events events)) };
+
+    fn next(&mut self) -> Option<Result<Event<'a>, Error>> {
+        match self.advance() {
+            Next::Nothing => None,
+            Next::End => Some(Ok(Event::EndCollection)),
+            Next::Key(key) => Some(Ok(Event::String(CowStr::Borrowed(key.as_str())))),
+            Next::Value(value) => Some(self.begin(value)),
+        }
+    }
+}

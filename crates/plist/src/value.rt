@@ -1,0 +1,97 @@
+//! Values of property lists.
+
+ghost use Rattle.std.specs.Prelude.{◌≡◌, List, Result, map, MatchResult};
+ghost use Rattle.std.specs.Iterator.{Drains, IsFinite, Yields};
+ghost use Rattle.plist_base.specs.Bracketing.{AreAlike, bracketing};
+ghost use Rattle.plist_base.specs.Events.{item_of};
+ghost use Rattle.plist.specs.Collecting.{IsBuiltFrom, built_tree};
+ghost use Rattle.plist_base.specs.Trees.{Tree};
+ghost use Rattle.plist.specs.LastWins.{last_wins};
+ghost use Rattle.plist.specs.Remaining.{remaining_events};
+ghost use Rattle.plist.specs.Views.{kind_of_tree, tree_of};
+
+use crate::Dictionary;
+use crate::stream::{Builder, Events};
+use plist_base::{Date, Error, Event, EventKind, Integer, RealBits, Uid};
+use std::alloc::Global;
+
+/// A property list: a scalar, an array, or a dictionary.
+#[derive(Debug, Drop)]
+pub enum Value {
+    /// Values in order.
+    Array(Vec<Value>),
+    /// Values under keys.
+    Dictionary(Dictionary),
+    /// A truth value.
+    Boolean(bool),
+    /// Bytes.
+    Data(Vec<u8>),
+    /// A moment.
+    Date(Date),
+    /// The bytes of a real.
+    Real(RealBits),
+    /// A whole number.
+    Integer(Integer),
+    /// A text.
+    String(String),
+    /// The number of an object in a keyed archive.
+    Uid(Uid),
+}
+
+impl Value {
+    /// The events of the value, depth first.
+    pub fn events(&self, alloc: Global) -> Events<'_>
+        ensures items { remaining_events result ≡ bracketing (tree_of self.now) }
+        ensures itself { last_wins (tree_of self.now) ≡ tree_of self.now }
+    {
+        Events::new(alloc, self)
+    }
+
+    /// The value of these events. A key that comes again keeps its first place and takes its last
+    /// value; lengths decide nothing.
+    ///
+    /// It takes items up to the first one that is an error, or that can't come next.
+    ///
+    /// # Errors
+    ///
+    /// - That item's error.
+    /// - `UnexpectedEventType` for an event that can't come next, and `ExpectedEndOfEventStream`
+    ///   for one behind a whole value.
+    /// - `UnexpectedEndOfEventStream` if the events end before the value does.
+    /// - `OutOfMemory`.
+    pub fn from_events<'a, I: IntoIterator<Item = Result<Event<'a>, Error>>>(
+        alloc: Global,
+        events: I,
+    ) -> Result<Value, Error>
+        requires asked { (iter : I.IntoIter) → I.into_iter_gives events iter → I.IntoIter.can_next iter × IsFinite (I.IntoIter.remaining iter) }
+        ensures one_tree { (left right : Tree) → AreAlike (bracketing left) (bracketing right) → left ≡ right }
+        ensures value { (iter : I.IntoIter) × (items : List (Result Event Error)) × I.into_iter_gives events iter × IsBuiltFrom (map item_of items) (built_tree result) × MatchResult result (λ _. Drains I.IntoIter.next_gives iter items) (λ _. (rest : I.IntoIter) × Yields I.IntoIter.next_gives iter items rest) }
+    {
+        let mut builder = Builder::new(alloc);
+        let mut rest = events.into_iter();
+        while let Some(item) = rest.next() {
+            match builder.take_item(item) {
+                Ok(()) => {}
+                Err(error) => return Err(error),
+            }
+        }
+        builder.finish()
+    }
+}
+
+/// The kind of the value's first event: the scalar's own, or the start of the collection.
+pub fn kind_of_value(value: &Value) -> EventKind
+    ensures { result ≡ kind_of_tree (tree_of value.now) }
+{
+    match value {
+        Value::Array(_) => EventKind::StartArray,
+        Value::Dictionary(_) => EventKind::StartDictionary,
+        Value::Boolean(_) => EventKind::Boolean,
+        Value::Data(_) => EventKind::Data,
+        Value::Date(_) => EventKind::Date,
+        Value::Real(_) => EventKind::Real,
+        Value::Integer(_) => EventKind::Integer,
+        Value::String(_) => EventKind::String,
+        Value::Uid(_) => EventKind::Uid,
+    }
+}

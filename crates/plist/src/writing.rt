@@ -1,0 +1,39 @@
+//! Values as the events that a writer takes.
+
+ghost use Rattle.std.specs.Prelude.{◌≡◌};
+ghost use Rattle.plist_base.specs.Bracketing.{bracketing};
+ghost use Rattle.plist_base.specs.Events.{item_of};
+ghost use Rattle.plist_base.specs.Writing.{answer_of};
+ghost use Rattle.plist.specs.Handing.{Hands, HandsItem};
+ghost use Rattle.plist.specs.Views.{tree_of};
+
+use crate::Value;
+use plist_base::{Error, Event, Writer};
+use std::alloc::Global;
+
+// Hands an item's event to the writer, or passes its fault on.
+fn hand<W: Writer>(writer: &mut W, item: Result<Event<'_>, Error>) -> Result<(), Error>
+    ensures { HandsItem W.Step writer.old (item_of item.entry) (answer_of result) writer.new }
+{
+    let event = item?;
+    writer.write(event)
+}
+
+/// Hands the events of the value to the writer, in order.
+///
+/// # Errors
+///
+/// The writer's first refusal, after which it is handed nothing more; and `OutOfMemory` where the
+/// events of the value want memory, in the place of a start.
+pub fn write_value<W: Writer>(alloc: Global, value: &Value, writer: &mut W) -> Result<(), Error>
+    ensures handed { Hands W.Step writer.old (bracketing (tree_of value.now)) (answer_of result) writer.new }
+{
+    let mut events = value.events(alloc);
+    while let Some(item) = events.next() {
+        match hand(writer, item) {
+            Ok(()) => {}
+            Err(error) => return Err(error),
+        }
+    }
+    Ok(())
+}

@@ -1,0 +1,13 @@
+pub mod Inside
+pub mod Runs
+pub mod Unread
+pub mod Answering
+pub mod Octal
+pub mod Escapes
+pub mod Units
+pub mod Texts
+pub mod Quotes
+pub mod Comments
+pub mod Slashes
+pub mod Items
+pub mod Wants

@@ -1,0 +1,130 @@
+-- What looking at a byte and taking it do to the bytes that are left.
+use Rattle.std.proofs.Common.{◌≡◌, ℕ, zero, suc, ◌+◌, ◌-◌, ◌^◌, ◌<◌, ◌≤◌, Bool, true, false, List, [], ◌∷◌, length, take, drop, get_or, Option, None, Some, refl, sym, ap, ◌∙◌, arith}
+use Rattle.std.specs.Io.KnownBytes.{Consumes, IsAtEnd}
+use Rattle.std.specs.Prelude.{is_some, IfSome}
+use Rattle.std.specs.Option.{option_map}
+use Rattle.plist_ascii.specs.Taken.{run}
+use Rattle.plist_ascii.specs.Unread.{unread_of, first, within}
+
+pub ended_unread : (k : Option (List ℕ)) (e : Bool) (p : Option ℕ) (t : ℕ) (xs : List ℕ) → e ≡ true → unread_of k e p t ≡ Some xs → xs ≡ []
+unfolding unread_of
+ended_unread k true p t xs e h = cc
+ended_unread k false p t xs e h = cc
+
+pub full_unread : (k : Option (List ℕ)) (e : Bool) (p : Option ℕ) (t : ℕ) (xs : List ℕ) → t ≡ 2 ^ 64 - 1 → unread_of k e p t ≡ Some xs → xs ≡ []
+unfolding unread_of
+full_unread k true p t xs e h = cc
+full_unread None false p t xs e h = cc
+full_unread (Some a) false p t xs e h = let r : within p t a ≡ [] = rw e refl in cc
+
+take_nil : (n : ℕ) → take n (let xs : List ℕ = [] in xs) ≡ []
+take_nil zero = refl
+take_nil (suc n) = refl
+
+left_suc : (t : ℕ) → t < 2 ^ 64 - 1 → 2 ^ 64 - 1 - t ≡ suc (2 ^ 64 - 1 - (t + 1))
+left_suc t h = omega arith
+
+pub held_unread : (k : Option (List ℕ)) (c t : ℕ) (xs : List ℕ) → t < 2 ^ 64 - 1 → unread_of k false (Some c) t ≡ Some xs
+    → (ys : List ℕ) × (xs ≡ c ∷ ys) × (unread_of k false None (t + 1) ≡ Some ys)
+unfolding unread_of
+held_unread None c t xs l h = cc
+held_unread (Some a) c t xs l h =
+    let e : within (Some c) t a ≡ c ∷ within None (t + 1) a = rw (left_suc t l) refl in
+    let same : within (Some c) t a ≡ xs = cc in
+    (within None (t + 1) a, sym same ∙ e, refl)
+
+pub end_unread : (k now : Option (List ℕ)) (n t : ℕ) (buf xs : List ℕ) → n ≡ 0 → Consumes k now (take n buf) → IsAtEnd now → unread_of k false None t ≡ Some xs → xs ≡ []
+unfolding unread_of
+end_unread None now n t buf xs z h g e = cc
+end_unread (Some a) None n t buf xs z h g e = absurd h
+end_unread (Some a) (Some b) n t buf xs z h g e =
+    let none : a ≡ [] = h ∙ rw (z, g) refl in
+    let cut : within None t a ≡ [] = rw none (take_nil (2 ^ 64 - 1 - t)) in
+    cc
+
+pub one_unread : (k now : Option (List ℕ)) (n t : ℕ) (buf xs : List ℕ) → n ≤ 1 → 0 < n → length buf ≡ 1 → Consumes k now (take n buf) → unread_of k false None t ≡ Some xs → unread_of now false (Some (get_or buf 0 0)) t ≡ Some xs
+unfolding unread_of
+one_unread k now n t [] xs l p e h g = absurd (omega arith)
+one_unread k now n t (c ∷ d ∷ buf) xs l p e h g = absurd (omega arith)
+one_unread k now zero t (c ∷ []) xs l p e h g = absurd (omega arith)
+one_unread k now (suc (suc n)) t (c ∷ []) xs l p e h g = absurd (omega arith)
+one_unread None now (suc zero) t (c ∷ []) xs l p e h g = cc
+one_unread (Some a) None (suc zero) t (c ∷ []) xs l p e h g = absurd h
+one_unread (Some a) (Some b) (suc zero) t (c ∷ []) xs l p e h g = rw (← h) g
+
+-- what `look` and `take` say
+
+abbrev pub Looks : Option (List ℕ) → Option ℕ → List ℕ → Type 0
+Looks now o xs = (now ≡ Some xs) × (o ≡ first xs)
+
+none_looks : (now : Option (List ℕ)) (xs : List ℕ) → xs ≡ [] → now ≡ Some xs → Looks now None xs
+none_looks now [] e h = (h, refl)
+none_looks now (c ∷ xs) e h = cc
+
+pub ended_looks : (k : Option (List ℕ)) (e : Bool) (p : Option ℕ) (t : ℕ) (xs : List ℕ) → e ≡ true → unread_of k e p t ≡ Some xs → Looks (unread_of k e p t) None xs
+ended_looks k e p t xs h g = none_looks _ xs (ended_unread k e p t xs h g) g
+
+pub full_looks : (k : Option (List ℕ)) (e : Bool) (p : Option ℕ) (t : ℕ) (xs : List ℕ) → t ≡ 2 ^ 64 - 1 → unread_of k e p t ≡ Some xs → Looks (unread_of k e p t) None xs
+full_looks k e p t xs h g = none_looks _ xs (full_unread k e p t xs h g) g
+
+pub held_looks : (k : Option (List ℕ)) (e : Bool) (p : Option ℕ) (c t : ℕ) (xs : List ℕ) → e ≡ false → p ≡ Some c → t < 2 ^ 64 - 1 → unread_of k e p t ≡ Some xs → Looks (unread_of k e p t) (Some c) xs
+held_looks k e p c t xs h q l g =
+    let known : unread_of k false (Some c) t ≡ Some xs = rw (← h, ← q) g in
+    let split = held_unread k c t xs l known in
+    (g, sym (ap first split.1))
+
+pub nothing_unread : (k : Option (List ℕ)) (p : Option ℕ) (t : ℕ) → unread_of k true p t ≡ Some []
+unfolding unread_of
+nothing_unread k p t = refl
+
+pub end_looks : (k now : Option (List ℕ)) (e : Bool) (p : Option ℕ) (n t : ℕ) (buf xs : List ℕ) → e ≡ false → p ≡ None → n ≡ 0 → length buf ≡ 1 → Consumes k now (take n buf) × (n ≡ 0 → 0 < length buf → IsAtEnd now)
+    → unread_of k e p t ≡ Some xs → Looks (unread_of now true p t) None xs
+end_looks k now e p n t buf xs h q z l r g =
+    let known : unread_of k false None t ≡ Some xs = rw (← h, ← q) g in
+    let none : xs ≡ [] = end_unread k now n t buf xs z r.0 (r.1 z (omega arith)) known in
+    none_looks _ xs none (nothing_unread now p t ∙ ap Some (sym none))
+
+pub one_looks : (k now : Option (List ℕ)) (e : Bool) (p : Option ℕ) (n t : ℕ) (buf xs : List ℕ) → e ≡ false → p ≡ None → t < 2 ^ 64 - 1 → n ≤ length buf → 0 < n → length buf ≡ 1 → Consumes k now (take n buf)
+    → unread_of k e p t ≡ Some xs → Looks (unread_of now e (Some (get_or buf 0 0)) t) (Some (get_or buf 0 0)) xs
+one_looks k now e p n t buf xs h q room l z b r g =
+    let known : unread_of k false None t ≡ Some xs = rw (← h, ← q) g in
+    let read : unread_of now false (Some (get_or buf 0 0)) t ≡ Some xs = one_unread k now n t buf xs (omega arith) z b r known in
+    held_looks now e (Some (get_or buf 0 0)) (get_or buf 0 0) t xs h refl room (rw h read)
+
+pub taken_next : (k : Option (List ℕ)) (e : Bool) (p : Option ℕ) (t : ℕ) (xs : List ℕ) → e ≡ false → is_some p ≡ true → t < 2 ^ 64 - 1 → unread_of k e p t ≡ Some xs → unread_of k e None (t + 1) ≡ Some (drop 1 xs)
+taken_next k e None t xs h q l g = cc
+taken_next k e (Some c) t xs h q l g =
+    let known : unread_of k false (Some c) t ≡ Some xs = rw (← h) g in
+    let split = held_unread k c t xs l known in
+    rw (h, split.1) split.2
+
+-- runs
+
+pub first_splits : (o : Option ℕ) (b : ℕ) (xs : List ℕ) → o ≡ Some b → o ≡ first xs → xs ≡ b ∷ drop 1 xs
+first_splits o b [] e h = cc
+first_splits o b (c ∷ xs) e h = cc
+
+pub run_none : (stop : ℕ → Bool) (o : Option ℕ) (xs : List ℕ) → o ≡ None → o ≡ first xs → run stop xs ≡ 0
+run_none stop o [] e h = refl
+run_none stop o (c ∷ xs) e h = cc
+
+pub run_stop : (stop : ℕ → Bool) (o : Option ℕ) (b : ℕ) (xs : List ℕ) → o ≡ Some b → o ≡ first xs → stop b ≡ true → run stop xs ≡ 0
+run_stop stop o b [] e h t = refl
+run_stop stop o b (c ∷ xs) e h t = let same : b ≡ c = cc in let stops : stop c ≡ true = rw (← same) t in rw stops refl
+
+pub first_none : (o : Option ℕ) (xs : List ℕ) → o ≡ None → o ≡ first xs → xs ≡ []
+first_none o [] e h = refl
+first_none o (c ∷ xs) e h = cc
+
+-- what a reader has before its first byte
+pub new_unread : {R : Type 0} (known : R → Option (List ℕ)) (r inner : R) (e : Bool) (p : Option ℕ) (t : ℕ) → r ≡ inner → p ≡ None → t ≡ 0 → e ≡ false
+    → unread_of (known r) e p t ≡ option_map (λ xs. take (2 ^ 64 - 1) xs) (known inner)
+unfolding unread_of
+new_unread known r inner e p t i n z g = rw (i, n, z, g) refl
+
+-- and where it goes on
+pub going_unread : (k : Option (List ℕ)) (e : Bool) (p : Option ℕ) (t : ℕ) → (e ≡ true → ⊥) → IfSome k (λ xs. unread_of k e p t ≡ Some (within p t xs))
+unfolding unread_of
+going_unread k true p t h = absurd (h refl)
+going_unread None false p t h = tt
+going_unread (Some xs) false p t h = refl

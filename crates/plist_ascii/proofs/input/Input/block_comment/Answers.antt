@@ -1,0 +1,46 @@
+use Rattle.std.proofs.Common.{◌+◌, arith, sym, ap, ◌∙◌, Some, Err, refl}
+use Rattle.plist_base.specs.Faults.{IncompleteComment}
+use Rattle.plist_ascii.specs.Taken.{taken}
+use Rattle.plist_ascii.specs.Comments.{block_comment}
+use Rattle.plist_ascii.proofs.Inside.{is_at_inside, kind_said}
+use Rattle.plist_ascii.proofs.Answering.{front_from}
+use Rattle.plist_ascii.proofs.Comments.{closing_more, closing_closed, closing_open, Closing, both_true, rest_past, nothing_taken}
+use Rattle.plist_ascii.proofs.input.Input.block_comment.Goals as goal
+
+pub returns-then-closes-clause-answers : goal.returns-then-closes-clause-answers
+returns-then-closes-clause-answers g c =
+    let some = rw c.in-Some.is at c.in_ok-byte.ensures.some in
+    let place = rw c.in-Some.is at c.in_ok-byte.ensures.place in
+    let both = both_true _ _ (sym c.closes.ensures ∙ c.if-closes.true) in (
+      omega (arith, c.bytes.invariant.rises, place.0),
+      λ xs e.
+          let i = c.bytes.invariant.comment xs e in
+          let t = some i.1 i.2 in
+          front_from (block_comment xs) _ _ _ _ (i.0 + 1) xs (closing_closed xs i.0 _ i.1 t.0 _ i.3 both.0 t.1 both.1)
+          (t.2 ∙ ap Some (rest_past xs i.0 _ i.1 t.0 _ i.3 t.1)) (omega (arith, place.0, i.4)),
+    )
+
+pub bytes-preserved : goal.bytes-preserved
+bytes-preserved g c =
+    let some = rw c.in-Some.is at c.in_ok-byte.ensures.some in
+    let place = rw c.in-Some.is at c.in_ok-byte.ensures.place in
+    record {
+      rises = omega (arith, c.bytes.invariant.rises, place.0);
+      comment = λ xs e.
+          let i = c.bytes.invariant.comment xs e in
+          let t = some i.1 i.2 in
+          (i.0 + 1, t.0, t.2, closing_more xs i.0 _ i.1 t.0 _ _ i.3 t.1 (sym c.closes.ensures ∙ c.if-closes.false) c.is_star-star.ensures, omega (arith, place.0, i.4));
+    }
+
+pub returns-in_default-clause-answers : goal.returns-in_default-clause-answers
+returns-in_default-clause-answers g c =
+    let none = nothing_taken _ c.in_default.not-Some in
+    let place = rw none at c.in_ok-byte.ensures.place in (
+      is_at_inside _ IncompleteComment _ c.fault.ensures refl,
+      omega (arith, c.bytes.invariant.rises, place),
+      λ d xs e.
+          let i = c.bytes.invariant.comment xs e in
+          let t = c.in_ok-byte.ensures.none none i.1 i.2 in
+          front_from (block_comment xs) _ _ _ _ i.0 xs (closing_open xs i.0 _ i.1 i.3 t.1 ∙ ap (λ k. taken i.0 (Err k)) (kind_said _ IncompleteComment _ c.fault.ensures))
+          (t.0 ∙ ap Some (let r : Closing xs i.0 c.bytes.star i.1 = i.3 in r.rest)) (omega (arith, place, i.4)),
+    )

@@ -1,0 +1,16 @@
+use Rattle.std.proofs.Common.{refl}
+use Rattle.std.proofs.lemmas.Result.{err_from_is_err_and}
+use Rattle.plist_ascii.specs.Escapes.{escape, escape_by}
+use Rattle.plist_ascii.specs.Parts.{piece_bytes}
+use Rattle.plist_ascii.proofs.Answering.{answers_past, answers_unclosed}
+use Rattle.plist_ascii.proofs.input.Input.escape.Goals as goal
+
+pub returns : goal.returns
+unfolding escape
+returns g c = answers_past piece_bytes escape (escape_by c.in_ok-byte.byte) _ _ c.in_ok-byte.byte _ _ _ _ _ c.in_ok-byte.ensures.ok c.in_ok-byte.ensures.place.0 (λ ys. refl) c.escape_by.ensures
+
+pub returns-in_err-byte : goal.returns-in_err-byte
+unfolding escape
+returns-in_err-byte g c =
+    let p = err_from_is_err_and c.from_residual.result c.from_residual.ensures.1 in
+    rw (p.1, p.2) (answers_unclosed piece_bytes escape _ _ _ _ _ c.in_err-byte.ensures.err c.in_err-byte.ensures.stays refl)

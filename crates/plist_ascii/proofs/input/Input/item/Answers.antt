@@ -1,0 +1,77 @@
+use Rattle.std.proofs.Common.{◌≡◌, ◌+◌, suc, arith, [], sym, ◌∙◌, refl}
+use Rattle.plist_ascii.specs.Unread.{stops}
+use Rattle.plist_ascii.specs.Ascii.{token_by, lead_of}
+use Rattle.plist_ascii.proofs.Unread.{ended_unread}
+use Rattle.plist_ascii.proofs.Items.{going_start, going_skip, going_event, going_fault, going_none, going_text}
+use Rattle.plist_base.specs.Faults.{kind_of, error_kind_of}
+use Rattle.plist_ascii.proofs.Inside.{inside_gets, outside_gets, inside_is}
+use Rattle.plist_ascii.proofs.input.Input.item.Goals as goal
+use Rattle.plist_ascii.proofs.input.Input.item.Goals.{then-is_from_outside, else-is_from_outside}
+
+pub returns-then-has_ended-clause-items : goal.returns-then-has_ended-clause-items
+returns-then-has_ended-clause-items g c = λ xs e.
+    let none = ended_unread _ _ _ _ xs (sym c.has_ended.ensures ∙ c.if-has_ended.true) e in
+    (xs, e, (going_none _ xs _ xs _ (going_start _ xs _) none, none))
+
+pub returns-in-Ok-Some-token_by-clause-items : goal.returns-in-Ok-Some-token_by-clause-items
+returns-in-Ok-Some-token_by-clause-items g c =
+    let some = rw c.in-Ok-Some.field-0-is at c.in-Ok-Some.ensures.some in
+    let place = rw c.in-Ok-Some.field-0-is at c.in-Ok-Some.ensures.place in
+    let a = rw c.in-Ok-Some-token_by.field-0-is at c.in-Ok-Some-token_by.ensures.answers in
+    λ xs e.
+    let i = c.tokens.invariant.going xs e in
+    let t = some i.0 i.1 in
+    let k = a.1 t.0 t.2 in
+    let s : c.token_by.new.self.taken ≡ c.tokens.self.taken + suc (token_by (stops c.args.stop) (lead_of c.in-Ok-Some.byte) c.in-Ok-Some.byte t.0).bytes = omega (arith, k.2, place.0) in
+    (_, k.1, going_event _ xs _ i.0 _ _ t.0 i.2 t.1 _ s _ k.0)
+
+pub tokens-preserved : goal.tokens-preserved
+tokens-preserved g c =
+    let some = rw c.in-Ok-Some.field-0-is at c.in-Ok-Some.ensures.some in
+    let place = rw c.in-Ok-Some.field-0-is at c.in-Ok-Some.ensures.place in
+    let a = rw c.in-Ok-None-token_by.field-0-is at c.in-Ok-None-token_by.ensures.answers in
+    record {
+      rises = omega (arith, c.tokens.invariant.rises, a.0, place.0);
+      going = λ xs e.
+          let i = c.tokens.invariant.going xs e in
+          let t = some i.0 i.1 in
+          let k = a.1 t.0 t.2 in
+          let s : c.token_by.new.self.taken ≡ c.tokens.self.taken + suc (token_by (stops c.args.stop) (lead_of c.in-Ok-Some.byte) c.in-Ok-Some.byte t.0).bytes = omega (arith, k.2, place.0) in
+          (_, k.1, going_skip _ xs _ i.0 _ _ t.0 i.2 t.1 _ s k.0);
+    }
+
+pub returns-in-Ok-None-clause-items : goal.returns-in-Ok-None-clause-items
+returns-in-Ok-None-clause-items g c =
+    let none = c.in-Ok-None.ensures.none c.in-Ok-None.field-0-is in
+    λ xs e.
+    let i = c.tokens.invariant.going xs e in
+    let t = none i.0 i.1 in
+    ([], c.end-in-Ok-None.ensures.unread, (going_none _ xs _ i.0 _ i.2 t.1, refl))
+
+pub returns-in-Err-token_by-clause-items : goal.returns-in-Err-token_by-clause-items
+returns-in-Err-token_by-clause-items g c =
+    let some = rw c.in-Ok-Some.field-0-is at c.in-Ok-Some.ensures.some in
+    let place = rw c.in-Ok-Some.field-0-is at c.in-Ok-Some.ensures.place in
+    let a = c.in-Err-token_by.ensures.answers in
+    let error = c.in-Err-token_by.error in
+    λ xs e.
+    let i = c.tokens.invariant.going xs e in
+    let t = some i.0 i.1 in
+    elim c.if-is_from_outside.branch [
+      | then-is_from_outside w ↦ rw (w.self-is) (
+        [],
+        w.end.ensures.unread,
+        outside_gets (kind_of (error_kind_of error)) _ _ _ (sym c.is_from_outside.ensures ∙ w.if-is_from_outside.true) refl
+            (λ m. (refl, going_text _ xs _ i.0 _ _ t.0 i.2 t.1 (c.in-Err-token_by.ensures.memory m t.0 t.2))),
+      )
+      | else-is_from_outside w ↦ (
+          let d = sym c.is_from_outside.ensures ∙ w.if-is_from_outside.false in
+          let k = a.2 d t.0 t.2 in
+          let s : c.token_by.new.self.taken ≡ c.tokens.self.taken + suc (token_by (stops c.args.stop) (lead_of c.in-Ok-Some.byte) c.in-Ok-Some.byte t.0).bytes = omega (arith, k.2, place.0) in
+          rw (w.self-is) (
+            _,
+            k.1,
+            inside_gets (kind_of (error_kind_of error)) _ _ _ d
+                (going_fault _ xs _ i.0 _ _ t.0 i.2 t.1 _ s _ _ (inside_is error _ d a.0) k.0),
+          ))
+    ]

@@ -1,0 +1,19 @@
+use Rattle.std.proofs.Common.{◌≡◌, Bool, true, false, refl, ap, string_bytes, vec_items}
+use Rattle.std.proofs.lemmas.Str.{IsUtf8-string_bytes, is_utf8-from_IsUtf8, IsUtf8-from_is_utf8}
+use Rattle.plist_ascii.proofs.text.text_of.Goals as goal
+
+not_true : (b : Bool) → (b ≡ true → ⊥) → b ≡ false
+not_true true h = absurd (h refl)
+not_true false h = refl
+
+false_true : false ≡ true → ⊥
+false_true e = cc
+
+pub returns-in-Ok-clause-ok : goal.returns-in-Ok-clause-ok
+returns-in-Ok-clause-ok c =
+    let same : string_bytes c.in-Ok.text ≡ c.args.bytes.items = ap vec_items c.in-Ok.ensures.ok in
+    let text = is_utf8-from_IsUtf8 _ (IsUtf8-string_bytes c.in-Ok.text) in
+    (rw same at text, same)
+
+pub returns-clause-err : goal.returns-clause-err
+returns-clause-err c = (not_true _ (λ t. false_true (c.in-Err.ensures.succeeds (IsUtf8-from_is_utf8 _ t))), refl)

@@ -1,0 +1,90 @@
+-- The tokens of an old-style ASCII property list, and the items that they give.
+use Rattle.std.specs.Prelude.{ℕ, zero, suc, ◌+◌, Bool, cond, ◌||◌, ◌==◌, List, [], ◌∷◌, length, drop, map, Option, None, Some, Result, Ok, Err, ⊤}
+use Rattle.std.specs.List.{list_any}
+use Rattle.plist_base.specs.Faults.{FaultKind, UnclosedString, InvalidUtf8AsciiStream, InvalidOctalString, InvalidUtf16String, fault_at}
+use Rattle.plist_base.specs.Events.{PlainEvent, StartArray, StartDictionary, EndCollection, Integer, String, Item}
+use Rattle.plist_ascii.specs.declared.token.Lead.{Lead}
+use Rattle.plist_ascii.specs.declared.token.Lead.TheVariants as lead
+use Rattle.plist_ascii.specs.Taken.{taken, past_one}
+use Rattle.plist_ascii.specs.Texts.{Token, bare}
+use Rattle.plist_ascii.specs.Quoted.{quoted_token}
+use Rattle.plist_ascii.specs.Comments.{slash}
+
+-- what a byte begins: ( and { a start, ) and } an end, the separators and white space nothing, quotes and / a text or a comment, and all else a bare text
+abbrev pub lead_of : ℕ → Lead
+lead_of c =
+    cond (c == 40) lead.ArrayStart (cond (c == 123) lead.DictionaryStart (cond ((c == 41) || (c == 125)) lead.End
+    (cond (list_any (λ d. c == d) (44 ∷ 59 ∷ 61 ∷ 32 ∷ 13 ∷ 9 ∷ 10 ∷ [])) lead.Blank
+    (cond ((c == 39) || (c == 34)) lead.Quote (cond (c == 47) lead.Slash lead.Bare)))))
+
+-- a token of one byte
+abbrev pub single : Option PlainEvent → Token
+single event = taken 0 (Ok event)
+
+-- the token that c begins, without c itself
+abbrev pub token_by : (stops : ℕ → Bool) → Lead → ℕ → List ℕ → Token
+token_by stops lead.ArrayStart c rest = single (Some (StartArray None))
+token_by stops lead.DictionaryStart c rest = single (Some (StartDictionary None))
+token_by stops lead.End c rest = single (Some EndCollection)
+token_by stops lead.Blank c rest = single None
+token_by stops lead.Quote c rest = quoted_token c rest
+token_by stops lead.Slash c rest = slash stops rest
+token_by stops lead.Bare c rest = bare stops c rest
+
+-- the first token of the bytes `c` and `rest`
+unfoldable pub token : (stops : ℕ → Bool) → ℕ → List ℕ → Token
+token stops c rest = past_one (token_by stops (lead_of c) c rest)
+
+-- an item, and how many bytes are taken up to its end
+pub record PlacedItem : Type 0 where
+  pub end : ℕ
+  pub item : Item
+
+abbrev pub placed : ℕ → Item → PlacedItem
+placed end item = record { end = end; item = item }
+
+-- a token's item, if it gives one, and then the others; a fault stands at the token's end
+abbrev pub item_then : ℕ → Result (Option PlainEvent) FaultKind → List PlacedItem → List PlacedItem
+item_then end (Ok None) more = more
+item_then end (Ok (Some event)) more = placed end (Ok event) ∷ more
+item_then end (Err kind) more = placed end (Err (fault_at kind end)) ∷ more
+
+-- token by token; `room` is at least the number of bytes
+unfoldable pub items_in : (stops : ℕ → Bool) → (room : ℕ) → List ℕ → ℕ → List PlacedItem
+items_in stops zero bytes place = []
+items_in stops (suc room) [] place = []
+items_in stops (suc room) (c ∷ rest) place =
+    let t = token stops c rest in
+    item_then (place + t.bytes) t.gives (items_in stops room (drop t.bytes (c ∷ rest)) (place + t.bytes))
+
+-- the items of some bytes, with their ends, where the first byte stands at this place
+abbrev pub placed_items : (stops : ℕ → Bool) → List ℕ → (place : ℕ) → List PlacedItem
+placed_items stops bytes place = items_in stops (length bytes) bytes place
+
+-- the items of some bytes, where the first byte stands at this place
+abbrev pub items_of_ascii : (stops : ℕ → Bool) → List ℕ → (place : ℕ) → List Item
+items_of_ascii stops bytes place = map (λ p. p.item) (placed_items stops bytes place)
+
+-- ---- where memory may be wanted
+
+-- a fault of a text
+abbrev pub IsTextFault : FaultKind → Type 0
+IsTextFault UnclosedString = ⊤
+IsTextFault InvalidUtf8AsciiStream = ⊤
+IsTextFault InvalidOctalString = ⊤
+IsTextFault InvalidUtf16String = ⊤
+IsTextFault kind = ⊥
+
+-- a token is a bare or a quoted text
+abbrev pub WantsMemory : Result (Option PlainEvent) FaultKind → Type 0
+WantsMemory (Ok (Some (String text))) = ⊤
+WantsMemory (Ok (Some (Integer number))) = ⊤
+WantsMemory (Err kind) = IsTextFault kind
+WantsMemory outcome = ⊥
+
+-- the first item is a text, a number or a text's fault
+abbrev pub BeginsWithText : List Item → Type 0
+BeginsWithText (Ok (String text) ∷ items) = ⊤
+BeginsWithText (Ok (Integer number) ∷ items) = ⊤
+BeginsWithText (Err fault ∷ items) = IsTextFault fault.kind
+BeginsWithText items = ⊥

@@ -1,0 +1,104 @@
+-- What an escape in a quoted text stands for, from the byte behind its backslash on.
+use Rattle.std.specs.Prelude.{ℕ, ◌-◌, Bool, cond, ◌&&◌, ◌||◌, ◌==◌, nat_lt, nat_le, List, [], ◌∷◌, slice_index, Option, None, Some, Result, Ok, Err, encode_utf8}
+use Rattle.std.specs.List.{list_all}
+use Rattle.std.specs.Char.{is_digit}
+use Rattle.std.specs.Char.Utf16.{is_high_surrogate, is_low_surrogate, surrogate_pair_char}
+use Rattle.std.specs.Str.Parse.{digits_value}
+use Rattle.plist_base.specs.Faults.{FaultKind, InvalidUtf16String, UnclosedString, InvalidUtf8AsciiStream, InvalidOctalString}
+use Rattle.plist_ascii.specs.Taken.{Taken, taken, past_one, followed, needs}
+
+-- ---- one letter
+
+-- the byte that a letter stands for: \ " ' a b f n r t v
+abbrev pub simple_escape : ℕ → Option ℕ
+simple_escape c =
+    cond ((c == 92) || ((c == 34) || (c == 39))) (Some c)
+    (cond (c == 97) (Some 7) (cond (c == 98) (Some 8) (cond (c == 102) (Some 12) (cond (c == 110) (Some 10)
+    (cond (c == 114) (Some 13) (cond (c == 116) (Some 9) (cond (c == 118) (Some 11) None)))))))
+
+-- a letter stands for its byte, or for nothing
+abbrev pub simple : Option ℕ → Taken (List ℕ)
+simple (Some byte) = taken 0 (Ok (byte ∷ []))
+simple None = taken 0 (Err InvalidUtf8AsciiStream)
+
+-- ---- three octal digits
+
+-- NeXTSTEP's characters 128 to 255 in Unicode
+abbrev pub nextstep : List ℕ
+nextstep =
+    0xA0 ∷ 0xC0 ∷ 0xC1 ∷ 0xC2 ∷ 0xC3 ∷ 0xC4 ∷ 0xC5 ∷ 0xC7 ∷ 0xC8 ∷ 0xC9 ∷ 0xCA ∷ 0xCB ∷ 0xCC ∷ 0xCD ∷ 0xCE ∷ 0xCF ∷
+    0xD0 ∷ 0xD1 ∷ 0xD2 ∷ 0xD3 ∷ 0xD4 ∷ 0xD5 ∷ 0xD6 ∷ 0xD9 ∷ 0xDA ∷ 0xDB ∷ 0xDC ∷ 0xDD ∷ 0xDE ∷ 0xB5 ∷ 0xD7 ∷ 0xF7 ∷
+    0xA9 ∷ 0xA1 ∷ 0xA2 ∷ 0xA3 ∷ 0x2044 ∷ 0xA5 ∷ 0x192 ∷ 0xA7 ∷ 0xA4 ∷ 0x2019 ∷ 0x201C ∷ 0xAB ∷ 0x2039 ∷ 0x203A ∷ 0xFB01 ∷ 0xFB02 ∷
+    0xAE ∷ 0x2013 ∷ 0x2020 ∷ 0x2021 ∷ 0xB7 ∷ 0xA6 ∷ 0xB6 ∷ 0x2022 ∷ 0x201A ∷ 0x201E ∷ 0x201D ∷ 0xBB ∷ 0x2026 ∷ 0x2030 ∷ 0xAC ∷ 0xBF ∷
+    0xB9 ∷ 0x2CB ∷ 0xB4 ∷ 0x2C6 ∷ 0x2DC ∷ 0xAF ∷ 0x2D8 ∷ 0x2D9 ∷ 0xA8 ∷ 0xB2 ∷ 0x2DA ∷ 0xB8 ∷ 0xB3 ∷ 0x2DD ∷ 0x2DB ∷ 0x2C7 ∷
+    0x2014 ∷ 0xB1 ∷ 0xBC ∷ 0xBD ∷ 0xBE ∷ 0xE0 ∷ 0xE1 ∷ 0xE2 ∷ 0xE3 ∷ 0xE4 ∷ 0xE5 ∷ 0xE7 ∷ 0xE8 ∷ 0xE9 ∷ 0xEA ∷ 0xEB ∷
+    0xEC ∷ 0xC6 ∷ 0xED ∷ 0xAA ∷ 0xEE ∷ 0xEF ∷ 0xF0 ∷ 0xF1 ∷ 0x141 ∷ 0xD8 ∷ 0x152 ∷ 0xBA ∷ 0xF2 ∷ 0xF3 ∷ 0xF4 ∷ 0xF5 ∷
+    0xF6 ∷ 0xE6 ∷ 0xF9 ∷ 0xFA ∷ 0xFB ∷ 0x131 ∷ 0xFC ∷ 0xFD ∷ 0x142 ∷ 0xF8 ∷ 0x153 ∷ 0xDF ∷ 0xFE ∷ 0xFF ∷ 0xFFFD ∷ 0xFFFD ∷ []
+
+-- the character of an octal number: NeXTSTEP's from 128 to 255, else the one of that number
+unfoldable pub octal_char : ℕ → ℕ
+octal_char n = cond (nat_le 128 n && nat_lt n 256) (slice_index nextstep (n - 128)) n
+
+-- three octal digits
+abbrev pub octal_text : List ℕ → Result (List ℕ) FaultKind
+octal_text digits = cond (list_all (λ c. is_digit c 8) digits) (Ok (encode_utf8 (octal_char (digits_value 8 digits)))) (Err InvalidOctalString)
+
+-- the digit c, and two more bytes
+abbrev pub octal : ℕ → List ℕ → Taken (List ℕ)
+octal c rest = needs 2 rest (λ digits. octal_text (c ∷ digits))
+
+-- ---- units of UTF-16
+
+-- the number that hexadecimal digits spell
+abbrev pub unit_of : List ℕ → Option ℕ
+unit_of digits = cond (list_all (λ c. is_digit c 16) digits) (Some (digits_value 16 digits)) None
+
+-- four bytes, which are a unit's digits or not
+abbrev pub unit : List ℕ → Taken (Option ℕ)
+unit rest = needs 4 rest (λ digits. Ok (unit_of digits))
+
+abbrev pub is_surrogate : ℕ → Bool
+is_surrogate u = is_high_surrogate u || is_low_surrogate u
+
+-- no unit, after n bytes
+abbrev pub bad_unit : ℕ → Taken (List ℕ)
+bad_unit n = taken n (Err InvalidUtf16String)
+
+-- the character of a high and then a low surrogate
+abbrev pub pair_text : ℕ → Option ℕ → Result (List ℕ) FaultKind
+pair_text high (Some low) = cond (is_high_surrogate high && is_low_surrogate low) (Ok (encode_utf8 (surrogate_pair_char high low))) (Err InvalidUtf16String)
+pair_text high None = Err InvalidUtf16String
+
+-- the second unit, behind its letter
+abbrev pub second_digits : ℕ → List ℕ → Taken (List ℕ)
+second_digits high rest = followed rest (unit rest) (λ low _. taken 0 (pair_text high low))
+
+-- the letter of the second unit, which is only looked at unless it is `u` or `U`
+abbrev pub second_letter : ℕ → List ℕ → Taken (List ℕ)
+second_letter high [] = bad_unit 0
+second_letter high (c ∷ rest) = cond ((c == 117) || (c == 85)) (past_one (second_digits high rest)) (bad_unit 0)
+
+-- the second unit, behind the digits of the first: a backslash, a letter and digits
+abbrev pub second_unit : ℕ → List ℕ → Taken (List ℕ)
+second_unit high [] = taken 0 (Err UnclosedString)
+second_unit high (c ∷ rest) = past_one (cond (c == 92) (second_letter high rest) (bad_unit 0))
+
+-- what follows the digits of the first unit: nothing, or the second unit of a pair
+abbrev pub first_unit : Option ℕ → List ℕ → Taken (List ℕ)
+first_unit (Some u) rest = cond (is_surrogate u) (second_unit u rest) (taken 0 (Ok (encode_utf8 u)))
+first_unit None rest = bad_unit 0
+
+-- what follows `\U`
+abbrev pub unicode : List ℕ → Taken (List ℕ)
+unicode rest = followed rest (unit rest) first_unit
+
+-- ---- all escapes
+
+-- what an escape stands for whose first byte is c
+abbrev pub escape_by : ℕ → List ℕ → Taken (List ℕ)
+escape_by c rest = cond (c == 85) (unicode rest) (cond (is_digit c 8) (octal c rest) (simple (simple_escape c)))
+
+-- the bytes of the text that an escape stands for
+unfoldable pub escape : List ℕ → Taken (List ℕ)
+escape [] = taken 0 (Err UnclosedString)
+escape (c ∷ rest) = past_one (escape_by c rest)

@@ -1,0 +1,3 @@
+-- Worked examples: short texts and the items that they give.
+pub mod Bare
+pub mod Quoted

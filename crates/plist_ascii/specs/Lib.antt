@@ -1,0 +1,10 @@
+pub mod Taken
+pub mod Texts
+pub mod Escapes
+pub mod Quoted
+pub mod Comments
+pub mod Ascii
+pub mod Parts
+pub mod Unread
+pub mod Coming
+pub mod Examples

@@ -1,0 +1,37 @@
+-- What bare and quoted texts mean.
+use Rattle.std.specs.Prelude.{ℕ, ℤ, Bool, cond, ◌==◌, List, [], ◌∷◌, take, Option, None, Some, Result, Ok, Err}
+use Rattle.std.specs.List.{list_any}
+use Rattle.std.specs.Str.{is_utf8}
+use Rattle.plist_base.specs.Faults.{FaultKind, InvalidUtf8AsciiStream}
+use Rattle.plist_base.specs.Events.{PlainEvent, Integer, String}
+use Rattle.plist_base.specs.IntegerText.{integer_of_text}
+use Rattle.plist_ascii.specs.Taken.{Taken, taken, run}
+
+-- a token gives an event, or nothing
+abbrev pub Token : Type 0
+Token = Taken (Option PlainEvent)
+
+-- ends a bare text: space, `)`, CR, tab, `;`, `,`
+abbrev pub lax : ℕ → Bool
+lax c = list_any (λ d. c == d) (32 ∷ 41 ∷ 13 ∷ 9 ∷ 59 ∷ 44 ∷ [])
+
+-- a number where the text spells one, else the text
+abbrev pub number_or_text : List ℕ → Option ℤ → PlainEvent
+number_or_text text (Some number) = Integer number
+number_or_text text None = String text
+
+-- the event of a text, which must be UTF-8
+abbrev pub utf8_or_fault : List ℕ → PlainEvent → Result (Option PlainEvent) FaultKind
+utf8_or_fault text event = cond (is_utf8 text) (Ok (Some event)) (Err InvalidUtf8AsciiStream)
+
+-- what a bare text means
+unfoldable pub bare_event : List ℕ → Result (Option PlainEvent) FaultKind
+bare_event text = utf8_or_fault text (number_or_text text (integer_of_text text))
+
+-- what a quoted text means
+unfoldable pub quoted_event : List ℕ → Result (Option PlainEvent) FaultKind
+quoted_event text = utf8_or_fault text (String text)
+
+-- a bare text: its first byte, and the longest run behind it without a stop
+abbrev pub bare : (stops : ℕ → Bool) → ℕ → List ℕ → Token
+bare stops c rest = taken (run stops rest) (bare_event (c ∷ take (run stops rest) rest))

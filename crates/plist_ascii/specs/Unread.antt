@@ -1,0 +1,71 @@
+-- The bytes that are still to be taken, and what taking a part of a token makes of them.
+use Rattle.std.specs.Prelude.{◌≡◌, ℕ, ◌+◌, ◌-◌, ◌^◌, ◌≤◌, Bool, true, false, ◌==◌, List, [], ◌∷◌, take, drop, Option, None, Some, Result, Ok, Err, MatchResult, slice_get}
+use Rattle.std.specs.List.{cons_option}
+use Rattle.std.specs.Option.{option_map}
+use Rattle.plist_base.specs.declared.error.Error.{Error}
+use Rattle.plist_base.specs.declared.error.ErrorKind.{ErrorKind}
+use Rattle.plist_base.specs.declared.event.Event.{Event}
+use Rattle.plist_base.specs.Events.{PlainEvent, event_of}
+use Rattle.plist_base.specs.Faults.{Fault, FaultKind, Io, OutOfMemory, MatchFault, fault_of, kind_of, error_kind_of}
+use Rattle.plist_ascii.specs.declared.input.Input.{Input}
+use Rattle.plist_ascii.specs.declared.input.Stop.{Stop}
+use Rattle.plist_ascii.specs.declared.input.Stop.TheVariants as stop
+use Rattle.plist_ascii.specs.Taken.{Taken}
+use Rattle.plist_ascii.specs.Texts.{lax}
+use Rattle.plist_ascii.specs.Quoted.{ends_run}
+
+-- a byte that was looked at, and the bytes behind it: no input is longer than 2^64 - 1 bytes
+abbrev pub within : Option ℕ → (taken : ℕ) → List ℕ → List ℕ
+within peeked taken bytes = take (2 ^ 64 - 1 - taken) (cons_option peeked bytes)
+
+-- the bytes not taken, where they are known; none once the input has ended
+unfoldable pub unread_of : Option (List ℕ) → (ended : Bool) → Option ℕ → (taken : ℕ) → Option (List ℕ)
+unread_of known true peeked taken = Some []
+unread_of known false peeked taken = option_map (λ bytes. within peeked taken bytes) known
+
+-- the same of an input
+abbrev pub unread : {R : Type 0} → (R → Option (List ℕ)) → Input R → Option (List ℕ)
+unread known input = unread_of (known input.inner) input.ended input.peeked input.taken
+
+-- a fact of the bytes, where they are known
+abbrev pub Known : Option (List ℕ) → (List ℕ → Type 0) → Type 0
+Known known P = (bytes : List ℕ) → known ≡ Some bytes → P bytes
+
+-- the first byte, if there is one
+abbrev pub first : List ℕ → Option ℕ
+first bytes = slice_get bytes 0
+
+-- what ends a run
+abbrev pub stops : Stop → ℕ → Bool
+stops stop.Bare c = lax c
+stops stop.LineEnd c = c == 10
+stops (stop.Quoted quote) c = ends_run quote c
+
+-- a device's fault, or want of memory, which says nothing of the bytes
+abbrev pub is_from_outside : FaultKind → Bool
+is_from_outside Io = true
+is_from_outside OutOfMemory = true
+is_from_outside kind = false
+
+-- a fault stands where the bytes taken end; want of memory has no place
+abbrev pub IsAt : Fault → ℕ → Type 0
+IsAt fault place = MatchFault fault.kind (fault.offset ≡ Some place) (fault.offset ≡ None) (fault.offset ≡ Some place)
+
+-- the first of the old bytes was taken
+abbrev pub Takes : Option (List ℕ) → ℕ → Option (List ℕ) → Type 0
+Takes old c new = Known old (λ bytes. (rest : List ℕ) × (bytes ≡ c ∷ rest) × (new ≡ Some rest))
+
+-- from place p to place q these bytes were taken, and gave this
+abbrev pub TakesFront : {A : Type 0} → Taken A → Result A FaultKind → (new : Option (List ℕ)) → (p q : ℕ) → List ℕ → Type 0
+TakesFront t outcome new p q bytes = (t.gives ≡ outcome) × (new ≡ Some (drop t.bytes bytes)) × (q ≡ p + t.bytes)
+
+-- From place p to place q, what stands at the front of the old bytes was taken, and gave what the answer says, seen by view. A fault
+-- from outside says nothing of the bytes.
+abbrev pub Answers : {X A : Type 0} → (view : X → A) → (front : List ℕ → Taken A) → (old : Option (List ℕ)) → (p : ℕ) → (new : Option (List ℕ)) → (q : ℕ) → Result X Error → Type 0
+Answers view front old p new q answer = MatchResult answer
+    (λ x. (p ≤ q) × Known old (λ bytes. TakesFront (front bytes) (Ok (view x)) new p q bytes))
+    (λ e. IsAt (fault_of e) q × (p ≤ q) × (is_from_outside (kind_of (error_kind_of e)) ≡ false → Known old (λ bytes. TakesFront (front bytes) (Err (kind_of (error_kind_of e))) new p q bytes)))
+
+-- what a text means, as an event or a fault's kind
+abbrev pub Means : Result Event ErrorKind → Result (Option PlainEvent) FaultKind → Type 0
+Means answer outcome = MatchResult answer (λ event. outcome ≡ Ok (Some (event_of event))) (λ kind. (outcome ≡ Err (kind_of kind)) × (is_from_outside (kind_of kind) ≡ false))

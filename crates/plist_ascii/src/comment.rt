@@ -1,0 +1,71 @@
+//! Comments.
+
+ghost use Rattle.std.specs.Prelude.{◌≡◌, ◌≢◌, ◌+◌, ◌≤◌, ◌==◌, ◌&&◌, drop, Some, None, Ok, Err, IfErr, OnOk};
+ghost use Rattle.std.specs.Option.{option_map};
+ghost use Rattle.plist_base.specs.Faults.{Io, OutOfMemory, fault_of, fault_at, kind_of, error_kind_of};
+ghost use Rattle.plist_base.specs.Events.{event_of};
+ghost use Rattle.plist_ascii.specs.Taken.{run};
+ghost use Rattle.plist_ascii.specs.Comments.{line_comment, block_comment};
+ghost use Rattle.plist_ascii.specs.Unread.{unread, Known, stops, Answers};
+
+use crate::input::{Input, Stop};
+use plist_base::{Error, ErrorKind, OwnedEvent};
+use std::io::Read;
+
+// Does this byte close a comment?
+fn closes(star: bool, byte: u8) -> bool
+    ensures { result ≡ star && (byte == 47) }
+{
+    star && byte == b'/'
+}
+
+// Is this byte a star?
+fn is_star(byte: u8) -> bool
+    ensures { result ≡ (byte == 42) }
+{
+    byte == b'*'
+}
+
+impl<R: Read> Input<R> {
+    // Takes the bytes up to a stop.
+    fn skip_run(&mut self, stop: Stop) -> Result<(), Error>
+        ensures ok { OnOk result (Known (unread R.remaining self.old) (λ xs.
+            (unread R.remaining self.new ≡ Some (drop (run (stops stop) xs) xs))
+            × (self.new.taken ≡ self.old.taken + run (stops stop) xs))) }
+        ensures err { IfErr result (λ e. fault_of e ≡ fault_at Io self.new.taken) }
+        ensures place { self.old.taken ≤ self.new.taken }
+    {
+        while let Some(_byte) = self.take_unless(stop)? {}
+        Ok(())
+    }
+
+    /// Takes a comment up to its line's end, whose slashes have been taken.
+    pub fn line_comment(&mut self) -> Result<Option<OwnedEvent>, Error>
+        ensures answers { Answers (option_map event_of) line_comment
+            (unread R.remaining self.old) self.old.taken
+            (unread R.remaining self.new) self.new.taken result }
+        ensures memory { IfErr result (λ e. kind_of (error_kind_of e) ≢ OutOfMemory) }
+    {
+        self.skip_run(Stop::LineEnd)?;
+        Ok(None)
+    }
+
+    /// Takes a comment up to and with its `*/`, whose opening has been taken.
+    pub fn block_comment(&mut self) -> Result<Option<OwnedEvent>, Error>
+        ensures answers { Answers (option_map event_of) block_comment
+            (unread R.remaining self.old) self.old.taken
+            (unread R.remaining self.new) self.new.taken result }
+        ensures memory { IfErr result (λ e. kind_of (error_kind_of e) ≢ OutOfMemory) }
+    {
+        let mut star = false;
+        'bytes: loop {
+            let Some(byte) = self.take()? else {
+                return Err(self.fault(ErrorKind::IncompleteComment));
+            };
+            if closes(star, byte) {
+                return Ok(None);
+            }
+            star = is_star(byte);
+        }
+    }
+}

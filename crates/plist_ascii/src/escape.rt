@@ -1,0 +1,262 @@
+//! Escapes in quoted texts.
+
+ghost use Rattle.std.specs.Prelude.{◌≡◌, ◌+◌, ◌*◌, ◌^◌, ◌<◌, ◌≤◌, ◌&&◌, ◌||◌, ◌==◌, [], ◌∷◌, nat_le, nat_lt, None, Some, Ok, Err, true, false, MatchOption, encode_utf8};
+ghost use Rattle.std.specs.Char.{is_digit, digit_value};
+ghost use Rattle.std.specs.Char.Utf16.{is_high_surrogate, is_low_surrogate};
+ghost use Rattle.plist_base.specs.Faults.{InvalidOctalString, InvalidUtf16String};
+ghost use Rattle.plist_ascii.specs.Taken.{taken};
+ghost use Rattle.plist_ascii.specs.Escapes.{simple_escape, octal, octal_char, octal_text, unit, unit_of, is_surrogate, pair_text, first_unit, second_unit, second_letter, second_digits, unicode, escape, escape_by};
+ghost use Rattle.plist_ascii.specs.Unread.{unread, Answers};
+ghost use Rattle.plist_ascii.specs.Parts.{piece_bytes};
+
+use crate::input::Input;
+use plist_base::{Error, ErrorKind};
+use std::io::Read;
+
+/// What an escape stands for.
+#[derive(Clone, Copy)]
+pub enum Piece {
+    /// A byte.
+    Byte(u8),
+    /// A character's bytes in UTF-8.
+    Char(char),
+}
+
+// NeXTSTEP's characters 128 to 255.
+const NEXTSTEP: [char; 128] = [
+    '\u{A0}', '\u{C0}', '\u{C1}', '\u{C2}', '\u{C3}', '\u{C4}', '\u{C5}', '\u{C7}', '\u{C8}',
+    '\u{C9}', '\u{CA}', '\u{CB}', '\u{CC}', '\u{CD}', '\u{CE}', '\u{CF}', '\u{D0}', '\u{D1}',
+    '\u{D2}', '\u{D3}', '\u{D4}', '\u{D5}', '\u{D6}', '\u{D9}', '\u{DA}', '\u{DB}', '\u{DC}',
+    '\u{DD}', '\u{DE}', '\u{B5}', '\u{D7}', '\u{F7}', '\u{A9}', '\u{A1}', '\u{A2}', '\u{A3}',
+    '\u{2044}', '\u{A5}', '\u{192}', '\u{A7}', '\u{A4}', '\u{2019}', '\u{201C}', '\u{AB}',
+    '\u{2039}', '\u{203A}', '\u{FB01}', '\u{FB02}', '\u{AE}', '\u{2013}', '\u{2020}', '\u{2021}',
+    '\u{B7}', '\u{A6}', '\u{B6}', '\u{2022}', '\u{201A}', '\u{201E}', '\u{201D}', '\u{BB}',
+    '\u{2026}', '\u{2030}', '\u{AC}', '\u{BF}', '\u{B9}', '\u{2CB}', '\u{B4}', '\u{2C6}',
+    '\u{2DC}', '\u{AF}', '\u{2D8}', '\u{2D9}', '\u{A8}', '\u{B2}', '\u{2DA}', '\u{B8}', '\u{B3}',
+    '\u{2DD}', '\u{2DB}', '\u{2C7}', '\u{2014}', '\u{B1}', '\u{BC}', '\u{BD}', '\u{BE}', '\u{E0}',
+    '\u{E1}', '\u{E2}', '\u{E3}', '\u{E4}', '\u{E5}', '\u{E7}', '\u{E8}', '\u{E9}', '\u{EA}',
+    '\u{EB}', '\u{EC}', '\u{C6}', '\u{ED}', '\u{AA}', '\u{EE}', '\u{EF}', '\u{F0}', '\u{F1}',
+    '\u{141}', '\u{D8}', '\u{152}', '\u{BA}', '\u{F2}', '\u{F3}', '\u{F4}', '\u{F5}', '\u{F6}',
+    '\u{E6}', '\u{F9}', '\u{FA}', '\u{FB}', '\u{131}', '\u{FC}', '\u{FD}', '\u{142}', '\u{F8}',
+    '\u{153}', '\u{DF}', '\u{FE}', '\u{FF}', '\u{FFFD}', '\u{FFFD}',
+];
+
+// The byte that a letter stands for.
+fn simple_of(byte: u8) -> Option<u8>
+    ensures { result ≡ simple_escape byte }
+{
+    match byte {
+        b'\\' | b'"' | b'\'' => Some(byte),
+        b'a' => Some(7),
+        b'b' => Some(8),
+        b'f' => Some(12),
+        b'n' => Some(10),
+        b'r' => Some(13),
+        b't' => Some(9),
+        b'v' => Some(11),
+        _ => None,
+    }
+}
+
+// The value of a digit.
+fn digit(byte: u8, radix: u32) -> Option<u32>
+    requires radix { (2 ≤ radix) × (radix ≤ 36) }
+    ensures { MatchOption result (is_digit byte radix ≡ false)
+        (λ d. (is_digit byte radix ≡ true) × (d ≡ digit_value byte) × (d < radix)) }
+{
+    char::from(byte).to_digit(radix)
+}
+
+// Is this byte an octal digit?
+fn is_octal(byte: u8) -> bool
+    ensures { result ≡ is_digit byte 8 }
+{
+    matches!(byte, b'0'..=b'7')
+}
+
+// Is this one of NeXTSTEP's own characters?
+fn is_nextstep(number: u32) -> bool
+    ensures { result ≡ nat_le 128 number && nat_lt number 256 }
+{
+    number >= 128 && number < 256
+}
+
+// The character of a number of three octal digits.
+fn octal_char(number: u32) -> Option<char>
+    requires { number < 512 }
+    ensures { result ≡ Some (octal_char number) }
+{
+    if is_nextstep(number) {
+        return Some(NEXTSTEP[(number - 128) as usize]);
+    }
+    char::from_u32(number)
+}
+
+// The character of three octal digits.
+fn octal_of(first: u8, second: u8, third: u8) -> Option<char>
+    ensures { MatchOption result
+        (octal_text (first ∷ second ∷ third ∷ []) ≡ Err InvalidOctalString)
+        (λ c. octal_text (first ∷ second ∷ third ∷ []) ≡ Ok (encode_utf8 c)) }
+{
+    let a = digit(first, 8)?;
+    let b = digit(second, 8)?;
+    let c = digit(third, 8)?;
+    octal_char(a * 64 + b * 8 + c)
+}
+
+// The unit of four hexadecimal digits.
+fn unit_of(first: u8, second: u8, third: u8, fourth: u8) -> Option<u16>
+    ensures { result ≡ unit_of (first ∷ second ∷ third ∷ fourth ∷ []) }
+{
+    let a = digit(first, 16)?;
+    let b = digit(second, 16)?;
+    let c = digit(third, 16)?;
+    let d = digit(fourth, 16)?;
+    Some((a * 4096 + b * 256 + c * 16 + d) as u16)
+}
+
+// The character of a unit, which no surrogate has.
+fn lone_char(unit: u16) -> Option<char>
+    ensures { MatchOption result (is_surrogate unit ≡ true)
+        (λ c. (is_surrogate unit ≡ false) × (c ≡ unit)) }
+{
+    char::from_u32(u32::from(unit))
+}
+
+// Does this byte begin a unit behind its backslash?
+fn is_unit_letter(byte: u8) -> bool
+    ensures { result ≡ (byte == 117) || (byte == 85) }
+{
+    byte == b'u' || byte == b'U'
+}
+
+// Is this a surrogate pair?
+fn is_pair(high: u16, low: u16) -> bool
+    ensures { result ≡ is_high_surrogate high && is_low_surrogate low }
+{
+    (0xD800..0xDC00).contains(&high) && (0xDC00..0xE000).contains(&low)
+}
+
+// The character of a surrogate pair.
+fn pair_char(high: u16, low: u16) -> Option<char>
+    ensures { MatchOption result (pair_text high (Some low) ≡ Err InvalidUtf16String)
+        (λ c. pair_text high (Some low) ≡ Ok (encode_utf8 c)) }
+{
+    if !is_pair(high, low) {
+        return None;
+    }
+    char::from_u32(0x1_0000 + (u32::from(high) - 0xD800) * 0x400 + (u32::from(low) - 0xDC00))
+}
+
+impl<R: Read> Input<R> {
+    /// Takes an escape, whose backslash has been taken.
+    pub fn escape(&mut self) -> Result<Piece, Error>
+        ensures { Answers piece_bytes escape (unread R.remaining self.old) self.old.taken
+            (unread R.remaining self.new) self.new.taken result }
+    {
+        let byte = self.must_take()?;
+        self.escape_by(byte)
+    }
+
+    // Takes the rest of an escape, whose first byte has been taken.
+    fn escape_by(&mut self, byte: u8) -> Result<Piece, Error>
+        ensures { Answers piece_bytes (escape_by byte) (unread R.remaining self.old) self.old.taken
+            (unread R.remaining self.new) self.new.taken result }
+    {
+        if byte == b'U' {
+            return self.unicode();
+        }
+        if is_octal(byte) {
+            return self.octal(byte);
+        }
+        match simple_of(byte) {
+            Some(other) => Ok(Piece::Byte(other)),
+            None => Err(self.fault(ErrorKind::InvalidUtf8AsciiStream)),
+        }
+    }
+
+    // Takes the second and third byte of an octal escape.
+    fn octal(&mut self, first: u8) -> Result<Piece, Error>
+        ensures { Answers piece_bytes (octal first) (unread R.remaining self.old) self.old.taken
+            (unread R.remaining self.new) self.new.taken result }
+    {
+        let second = self.must_take()?;
+        let third = self.must_take()?;
+        match octal_of(first, second, third) {
+            Some(c) => Ok(Piece::Char(c)),
+            None => Err(self.fault(ErrorKind::InvalidOctalString)),
+        }
+    }
+
+    // Takes the four digits of a unit.
+    fn unit(&mut self) -> Result<Option<u16>, Error>
+        ensures { Answers (λ u. u) unit (unread R.remaining self.old) self.old.taken
+            (unread R.remaining self.new) self.new.taken result }
+    {
+        let a = self.must_take()?;
+        let b = self.must_take()?;
+        let c = self.must_take()?;
+        let d = self.must_take()?;
+        Ok(unit_of(a, b, c, d))
+    }
+
+    // Takes what follows `\U`.
+    fn unicode(&mut self) -> Result<Piece, Error>
+        ensures { Answers piece_bytes unicode (unread R.remaining self.old) self.old.taken
+            (unread R.remaining self.new) self.new.taken result }
+    {
+        let unit = self.unit()?;
+        self.first_unit(unit)
+    }
+
+    // Takes what follows the digits of the first unit.
+    fn first_unit(&mut self, unit: Option<u16>) -> Result<Piece, Error>
+        ensures { Answers piece_bytes (first_unit unit) (unread R.remaining self.old) self.old.taken
+            (unread R.remaining self.new) self.new.taken result }
+    {
+        let Some(unit) = unit else {
+            return Err(self.fault(ErrorKind::InvalidUtf16String));
+        };
+        match lone_char(unit) {
+            Some(c) => Ok(Piece::Char(c)),
+            None => self.second_unit(unit),
+        }
+    }
+
+    // Takes the backslash of the second unit, and what follows it.
+    fn second_unit(&mut self, high: u16) -> Result<Piece, Error>
+        ensures { Answers piece_bytes (second_unit high) (unread R.remaining self.old) self.old.taken
+            (unread R.remaining self.new) self.new.taken result }
+    {
+        if self.must_take()? == b'\\' {
+            return self.second_letter(high);
+        }
+        Err(self.fault(ErrorKind::InvalidUtf16String))
+    }
+
+    // Takes the letter of the second unit if it stands there, and what follows it.
+    fn second_letter(&mut self, high: u16) -> Result<Piece, Error>
+        ensures { Answers piece_bytes (second_letter high) (unread R.remaining self.old) self.old.taken
+            (unread R.remaining self.new) self.new.taken result }
+    {
+        match self.look()? {
+            Some(byte) if is_unit_letter(byte) => {
+                self.advance();
+                self.second_digits(high)
+            }
+            _ => Err(self.fault(ErrorKind::InvalidUtf16String)),
+        }
+    }
+
+    // Takes the digits of the second unit.
+    fn second_digits(&mut self, high: u16) -> Result<Piece, Error>
+        ensures { Answers piece_bytes (second_digits high) (unread R.remaining self.old) self.old.taken
+            (unread R.remaining self.new) self.new.taken result }
+    {
+        let low = self.unit()?;
+        match low.and_then(|low| pair_char(high, low)) {
+            Some(c) => Ok(Piece::Char(c)),
+            None => Err(self.fault(ErrorKind::InvalidUtf16String)),
+        }
+    }
+}

@@ -1,0 +1,214 @@
+//! Bytes that are taken one by one, with one byte looked at ahead.
+
+ghost use Rattle.std.specs.Prelude.{◌≡◌, ℕ, ◌+◌, ◌-◌, ◌^◌, ◌<◌, ◌≤◌, List, [], ◌∷◌, drop, None, Some, true, false, IfOk, IfSome, IfErr, OnOk, IsSome, MatchOption};
+ghost use Rattle.plist_base.specs.Faults.{Io, UnclosedString, fault_of, fault_at, kind_of, error_kind_of};
+ghost use Rattle.plist_ascii.specs.Taken.{run};
+ghost use Rattle.plist_ascii.specs.Unread.{unread, Known, first, stops, Takes, IsAt, is_from_outside};
+
+use plist_base::{Error, ErrorKind};
+use std::io::Read;
+
+/// What ends a run of bytes.
+#[derive(Clone, Copy)]
+pub enum Stop {
+    /// What ends a bare text.
+    Bare,
+    /// LF.
+    LineEnd,
+    /// This quote, or a backslash.
+    Quoted(u8),
+}
+
+/// Does this byte end the run?
+pub fn is_stop(stop: Stop, byte: u8) -> bool
+    ensures { result ≡ stops stop byte }
+{
+    match stop {
+        Stop::Bare => matches!(byte, b' ' | b')' | b'\r' | b'\t' | b';' | b','),
+        Stop::LineEnd => byte == b'\n',
+        Stop::Quoted(quote) => byte == quote || byte == b'\\',
+    }
+}
+
+/// Bytes that are taken one by one. At most one more has been read.
+#[derive(Drop)]
+pub struct Input<R> {
+    inner: R,
+    // The byte that was read and not yet taken.
+    peeked: Option<u8>,
+    // The number of bytes taken.
+    taken: u64,
+    // Nothing more is read.
+    ended: bool,
+}
+
+impl<R> Input<R> {
+    /// All bytes of a reader.
+    pub fn new(inner: R) -> Self
+        ensures inner { result.inner ≡ inner }
+        ensures fresh { (result.peeked ≡ None) × (result.taken ≡ 0) × (result.ended ≡ false) }
+    {
+        Input {
+            inner,
+            peeked: None,
+            taken: 0,
+            ended: false,
+        }
+    }
+
+    /// The reader, without the byte that was looked at.
+    pub fn into_inner(self) -> R
+        ensures { result ≡ self.inner }
+    {
+        self.inner
+    }
+
+    /// Has it ended?
+    pub fn has_ended(&self) -> bool
+        ensures { result ≡ self.now.ended }
+    {
+        self.ended
+    }
+
+    /// A fault behind the bytes taken.
+    pub fn fault(&self, kind: ErrorKind) -> Error
+        ensures { fault_of result ≡ fault_at (kind_of kind) self.now.taken }
+    {
+        kind.with_byte_offset(self.taken)
+    }
+}
+
+impl<R: Read> Input<R> {
+    // Reads one byte ahead.
+    fn fetch(&mut self) -> Result<Option<u8>, Error>
+        requires going { self.old.ended ≡ false }
+        requires room { self.old.taken < 2 ^ 64 - 1 }
+        requires none { self.old.peeked ≡ None }
+        ensures next { IfOk result (λ byte. Known (unread R.remaining self.old) (λ xs.
+            (unread R.remaining self.new ≡ Some xs) × (byte ≡ first xs))) }
+        ensures held { IfOk result (λ byte. IfSome byte (λ _.
+            (self.new.peeked ≡ byte) × (self.new.ended ≡ false) × (self.new.taken < 2 ^ 64 - 1))) }
+        ensures err { IfErr result (λ e. fault_of e ≡ fault_at Io self.new.taken) }
+        ensures place { self.new.taken ≡ self.old.taken }
+    {
+        let mut buffer = [0u8; 1];
+        match self.inner.read(&mut buffer) {
+            Ok(count) => {
+                if count == 0 {
+                    self.ended = true;
+                    return Ok(None);
+                }
+                let byte = buffer[0];
+                self.peeked = Some(byte);
+                Ok(Some(byte))
+            }
+            Err(failure) => Err(self.fault(ErrorKind::Io(failure))),
+        }
+    }
+
+    /// The next byte, which isn't taken.
+    pub fn look(&mut self) -> Result<Option<u8>, Error>
+        ensures next { IfOk result (λ byte. Known (unread R.remaining self.old) (λ xs.
+            (unread R.remaining self.new ≡ Some xs) × (byte ≡ first xs))) }
+        ensures held { IfOk result (λ byte. IfSome byte (λ _.
+            (self.new.peeked ≡ byte) × (self.new.ended ≡ false) × (self.new.taken < 2 ^ 64 - 1))) }
+        ensures err { IfErr result (λ e. fault_of e ≡ fault_at Io self.new.taken) }
+        ensures place { self.new.taken ≡ self.old.taken }
+    {
+        if self.ended {
+            return Ok(None);
+        }
+        if self.taken == u64::MAX {
+            return Ok(None);
+        }
+        match self.peeked {
+            Some(byte) => Ok(Some(byte)),
+            None => self.fetch(),
+        }
+    }
+
+    /// Takes the byte that was looked at.
+    pub fn advance(&mut self)
+        requires some { IsSome self.old.peeked }
+        requires going { self.old.ended ≡ false }
+        requires room { self.old.taken < 2 ^ 64 - 1 }
+        ensures next { Known (unread R.remaining self.old) (λ xs.
+            unread R.remaining self.new ≡ Some (drop 1 xs)) }
+        ensures place { self.new.taken ≡ self.old.taken + 1 }
+    {
+        self.peeked = None;
+        self.taken += 1;
+    }
+
+    /// Takes the next byte, unless it ends the run.
+    pub fn take_unless(&mut self, stop: Stop) -> Result<Option<u8>, Error>
+        ensures some { IfOk result (λ o. IfSome o (λ c. Known (unread R.remaining self.old) (λ xs.
+            (ys : List ℕ) × (xs ≡ c ∷ ys) × (unread R.remaining self.new ≡ Some ys)
+            × (stops stop c ≡ false)))) }
+        ensures none { IfOk result (λ o. o ≡ None → Known (unread R.remaining self.old) (λ xs.
+            (unread R.remaining self.new ≡ Some xs) × (run (stops stop) xs ≡ 0))) }
+        ensures err { IfErr result (λ e. fault_of e ≡ fault_at Io self.new.taken) }
+        ensures place { IfOk result (λ o. MatchOption o (self.new.taken ≡ self.old.taken)
+            (λ _. (self.new.taken ≡ self.old.taken + 1) × (self.new.taken < 2 ^ 64))) }
+        ensures stays { IfErr result (λ _. self.new.taken ≡ self.old.taken) }
+    {
+        match self.look()? {
+            Some(byte) => {
+                if is_stop(stop, byte) {
+                    return Ok(None);
+                }
+                self.advance();
+                Ok(Some(byte))
+            }
+            None => Ok(None),
+        }
+    }
+
+    /// Takes the next byte.
+    pub fn take(&mut self) -> Result<Option<u8>, Error>
+        ensures some { IfOk result (λ o. IfSome o (λ c.
+            Takes (unread R.remaining self.old) c (unread R.remaining self.new))) }
+        ensures none { IfOk result (λ o. o ≡ None → Known (unread R.remaining self.old) (λ xs.
+            (unread R.remaining self.new ≡ Some xs) × (xs ≡ []))) }
+        ensures err { IfErr result (λ e. fault_of e ≡ fault_at Io self.new.taken) }
+        ensures place { IfOk result (λ o. MatchOption o (self.new.taken ≡ self.old.taken)
+            (λ _. (self.new.taken ≡ self.old.taken + 1) × (self.new.taken < 2 ^ 64))) }
+        ensures stays { IfErr result (λ _. self.new.taken ≡ self.old.taken) }
+    {
+        match self.look()? {
+            Some(byte) => {
+                self.advance();
+                Ok(Some(byte))
+            }
+            None => Ok(None),
+        }
+    }
+
+    /// Takes the next byte of a quoted text, which must be there.
+    pub fn must_take(&mut self) -> Result<u8, Error>
+        ensures ok { IfOk result (λ c.
+            Takes (unread R.remaining self.old) c (unread R.remaining self.new)) }
+        ensures place { OnOk result ((self.new.taken ≡ self.old.taken + 1) × (self.new.taken < 2 ^ 64)) }
+        ensures stays { IfErr result (λ _. self.new.taken ≡ self.old.taken) }
+        ensures err { IfErr result (λ e. IsAt (fault_of e) self.new.taken
+            × (is_from_outside (kind_of (error_kind_of e)) ≡ false →
+            (fault_of e ≡ fault_at UnclosedString self.new.taken)
+            × Known (unread R.remaining self.old) (λ xs.
+            (unread R.remaining self.new ≡ Some xs) × (xs ≡ [])))) }
+    {
+        match self.take()? {
+            Some(byte) => Ok(byte),
+            None => Err(self.fault(ErrorKind::UnclosedString)),
+        }
+    }
+
+    /// Nothing more is read.
+    pub fn end(&mut self)
+        ensures unread { unread R.remaining self.new ≡ Some [] }
+        ensures ended { self.new.ended ≡ true }
+        ensures place { self.new.taken ≡ self.old.taken }
+    {
+        self.peeked = None;
+        self.ended = true;
+    }
+}

@@ -1,0 +1,18 @@
+//! Reads old-style ASCII property lists.
+//!
+//! The main contract is that of [`AsciiReader`]: over known bytes each call gives the first of the
+//! items that the bytes not yet taken spell, and takes the bytes up to its end.
+#![tactic(auto)]
+
+mod comment;
+mod escape;
+mod input;
+mod quoted;
+mod reader;
+mod text;
+mod token;
+
+pub use reader::AsciiReader;
+
+#[cfg(test)]
+mod tests;

@@ -1,0 +1,129 @@
+//! The reader of ASCII property lists.
+
+ghost use Rattle.std.specs.Prelude.{◌≡◌, ℕ, ◌-◌, ◌^◌, ◌<◌, List, take, None, Some, true, IfSome};
+ghost use Rattle.plist_base.specs.Faults.{kind_of, error_kind_of};
+ghost use Rattle.plist_ascii.specs.Unread.{unread, Known, stops, is_from_outside};
+ghost use Rattle.plist_ascii.specs.Coming.{GivesItem, Rises, FaultIsAt, EndsAfter, bytes_to_come};
+
+use crate::input::{Input, Stop};
+use plist_base::{Error, ErrorKind, OwnedEvent};
+use std::alloc::Global;
+use std::io::Read;
+
+// A device's fault, or want of memory?
+fn is_from_outside(error: &Error) -> bool
+    ensures { result ≡ is_from_outside (kind_of (error_kind_of error.now)) }
+{
+    matches!(error.kind(), ErrorKind::Io(_) | ErrorKind::OutOfMemory)
+}
+
+impl<R: Read> Input<R> {
+    // Takes tokens up to the first that gives an item.
+    fn item(&mut self, alloc: Global, stop: Stop) -> Option<Result<OwnedEvent, Error>>
+        ensures items { Known (unread R.remaining self.old) (λ xs. (ys : List ℕ)
+            × (unread R.remaining self.new ≡ Some ys)
+            × GivesItem (stops stop) xs self.old.taken result ys self.new.taken) }
+        ensures rises { Rises result self.old.taken self.new.taken }
+        ensures offset { FaultIsAt result self.new.taken }
+        ensures ended { self.old.ended ≡ true → result ≡ None }
+        ensures ends { EndsAfter result (self.new.ended ≡ true) }
+        ensures falls { IfSome result (λ _. bytes_to_come self.new.ended self.new.taken
+            < bytes_to_come self.old.ended self.old.taken) }
+    {
+        if self.has_ended() {
+            return None;
+        }
+        'tokens: loop {
+            match self.take() {
+                Ok(Some(byte)) => match self.token_by(alloc, stop, byte) {
+                    Ok(Some(event)) => return Some(Ok(event)),
+                    Ok(None) => {}
+                    Err(error) => {
+                        if is_from_outside(&error) {
+                            self.end();
+                        }
+                        return Some(Err(error));
+                    }
+                },
+                Ok(None) => {
+                    self.end();
+                    return None;
+                }
+                Err(error) => {
+                    self.end();
+                    return Some(Err(error));
+                }
+            }
+        }
+    }
+}
+
+/// Reads an ASCII property list as events, from its first byte on.
+///
+/// Brackets open and close collections, quotes and other bytes open texts, and what stands between
+/// them is passed over; nesting isn't checked. A bare text that spells an integer is one. It looks
+/// at one byte behind an item only where that byte decides the item's end. At most 2^64 - 1 bytes
+/// are taken.
+///
+/// The offset of a fault is the number of bytes taken, and want of memory has none.
+///
+/// `{ a = (1, 'b'); }` gives a dictionary's start, `a`, an array's start, the number 1, `b` and two
+/// ends. Starts have no length.
+///
+/// # Errors
+/// `UnclosedString`, `IncompleteComment`, `InvalidUtf8AsciiStream`, `InvalidOctalString` and
+/// `InvalidUtf16String` of the bytes: the reader goes on at the next byte not taken. `Io` where a
+/// read failed, and `OutOfMemory` in a text: the reader has ended. After that, and after its last
+/// item, it answers `None` for good.
+#[derive(Drop)]
+pub struct AsciiReader<R> {
+    input: Input<R>,
+    alloc: Global,
+}
+
+impl<R: Read> AsciiReader<R> {
+    ghost use Rattle.std.specs.Prelude.{◌≡◌, ◌-◌, ◌^◌, take, None, IfSome, Some};
+    ghost use Rattle.std.specs.Option.{option_map};
+    ghost use Rattle.plist_ascii.specs.Unread.{within};
+    ghost use Rattle.plist_ascii.specs.Coming.{bytes_left, inner_of, looked_at, place_of, HasEnded};
+
+    /// A reader over a device's bytes. It reads nothing before its first item is asked for.
+    pub fn new(alloc: Global, inner: R) -> Self
+        ensures bytes { bytes_left R.remaining result
+            ≡ option_map (λ bytes. take (2 ^ 64 - 1) bytes) (R.remaining inner) }
+        ensures place { place_of result ≡ 0 }
+        ensures inner { inner_of result ≡ inner }
+        ensures looked_at { looked_at result ≡ None }
+    {
+        AsciiReader {
+            input: Input::new(inner),
+            alloc,
+        }
+    }
+
+    /// The device, from which at most one byte past the last item has been read.
+    ///
+    /// That byte is lost. Behind a bracket or a quoted text none is.
+    pub fn into_inner(self) -> R
+        ensures inner { result ≡ inner_of self }
+        ensures bytes { (HasEnded self → ⊥) → IfSome (R.remaining result) (λ bytes.
+            bytes_left R.remaining self ≡ Some (within (looked_at self) (place_of self) bytes)) }
+    {
+        self.input.into_inner()
+    }
+}
+
+impl<R: Read + Drop> Iterator for AsciiReader<R> {
+    type Item = Result<OwnedEvent, Error>;
+
+    ghost use Rattle.std.specs.Iterator.{at_most};
+    ghost use Rattle.plist_ascii.specs.Coming.{Gives, steps_to_come};
+
+    ghost next_gives = { Gives R.remaining };
+
+    ghost remaining = { λ s. at_most (steps_to_come s) };
+
+    fn next(&mut self) -> Option<Result<OwnedEvent, Error>> {
+        self.input.item(self.alloc, Stop::Bare)
+    }
+}

@@ -1,0 +1,99 @@
+//! Bare texts, and what texts mean.
+
+ghost use Rattle.std.specs.Prelude.{◌≡◌, ◌+◌, ◌≤◌, [], ◌∷◌, ◌++◌, take, drop, None, Some, Ok, Err, true, false, IfOk, IfErr, OnOk, string_bytes};
+ghost use Rattle.std.specs.Str.{is_utf8};
+ghost use Rattle.plist_base.specs.Faults.{OutOfMemory, InvalidUtf8AsciiStream, fault_of, fault_nowhere, kind_of, error_kind_of};
+ghost use Rattle.plist_base.specs.Events.{event_of};
+ghost use Rattle.plist_base.specs.IntegerText.{integer_of_text};
+ghost use Rattle.plist_ascii.specs.Taken.{run};
+ghost use Rattle.plist_ascii.specs.Texts.{bare, bare_event, quoted_event, number_or_text};
+ghost use Rattle.plist_ascii.specs.Unread.{unread, Known, stops, IsAt, is_from_outside, Answers, Means};
+
+use crate::input::{Input, Stop};
+use plist_base::{Error, ErrorKind, Event, Integer, OwnedEvent};
+use std::alloc::Global;
+use std::borrow::CowStr;
+use std::io::Read;
+use std::str::FromStr;
+
+/// Appends a byte.
+pub fn push_byte(text: &mut Vec<u8>, byte: u8) -> Result<(), Error>
+    ensures ok { OnOk result (text.new.items ≡ text.old.items ++ byte ∷ []) }
+    ensures err { IfErr result (λ e. fault_of e ≡ fault_nowhere OutOfMemory) }
+{
+    text.push(byte)?;
+    Ok(())
+}
+
+// The text of these bytes.
+fn text_of(bytes: Vec<u8>) -> Result<String, ErrorKind>
+    ensures ok { IfOk result (λ text.
+        (is_utf8 bytes.items ≡ true) × (string_bytes text ≡ bytes.items)) }
+    ensures err { IfErr result (λ kind.
+        (is_utf8 bytes.items ≡ false) × (kind_of kind ≡ InvalidUtf8AsciiStream)) }
+{
+    match String::from_utf8(bytes) {
+        Ok(text) => Ok(text),
+        Err(_) => Err(ErrorKind::InvalidUtf8AsciiStream),
+    }
+}
+
+// The number that a text spells, or the text.
+fn number_or_text(text: String) -> OwnedEvent
+    ensures { event_of result ≡ number_or_text (string_bytes text)
+        (integer_of_text (string_bytes text)) }
+{
+    match Integer::from_str(text.as_str()) {
+        Ok(number) => Event::Integer(number),
+        Err(_) => Event::String(CowStr::Owned(text)),
+    }
+}
+
+/// What the bytes of a bare text mean.
+pub fn bare_event(bytes: Vec<u8>) -> Result<OwnedEvent, ErrorKind>
+    ensures { Means result (bare_event bytes.items) }
+{
+    let text = text_of(bytes)?;
+    Ok(number_or_text(text))
+}
+
+/// What the bytes of a quoted text mean.
+pub fn quoted_event(bytes: Vec<u8>) -> Result<OwnedEvent, ErrorKind>
+    ensures { Means result (quoted_event bytes.items) }
+{
+    let text = text_of(bytes)?;
+    Ok(Event::String(CowStr::Owned(text)))
+}
+
+impl<R: Read> Input<R> {
+    /// Takes the bytes up to a stop, and appends them.
+    pub fn take_run(&mut self, stop: Stop, text: &mut Vec<u8>) -> Result<(), Error>
+        ensures ok { OnOk result (Known (unread R.remaining self.old) (λ xs.
+            (text.new.items ≡ text.old.items ++ take (run (stops stop) xs) xs)
+            × (unread R.remaining self.new ≡ Some (drop (run (stops stop) xs) xs))
+            × (self.new.taken ≡ self.old.taken + run (stops stop) xs))) }
+        ensures err { IfErr result (λ e. IsAt (fault_of e) self.new.taken
+            × (is_from_outside (kind_of (error_kind_of e)) ≡ true)) }
+        ensures place { self.old.taken ≤ self.new.taken }
+    {
+        while let Some(byte) = self.take_unless(stop)? {
+            push_byte(text, byte)?;
+        }
+        Ok(())
+    }
+
+    /// Takes a bare text, whose first byte has been taken.
+    pub fn bare(&mut self, alloc: Global, stop: Stop, first: u8) -> Result<OwnedEvent, Error>
+        ensures { Answers (λ e. Some (event_of e)) (bare (stops stop) first)
+            (unread R.remaining self.old) self.old.taken
+            (unread R.remaining self.new) self.new.taken result }
+    {
+        let mut text = Vec::new(alloc);
+        push_byte(&mut text, first)?;
+        self.take_run(stop, &mut text)?;
+        match bare_event(text) {
+            Ok(event) => Ok(event),
+            Err(kind) => Err(self.fault(kind)),
+        }
+    }
+}

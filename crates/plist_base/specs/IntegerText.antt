@@ -1,0 +1,108 @@
+-- The whole number that a text spells: hexadecimal behind `0x`, or decimal.
+use Rattle.std.specs.Prelude.{◌≡◌, ℕ, ◌-◌, ◌^◌, Bool, false, cond, ◌&&◌, ◌==◌, nat_lt, List, [], ◌∷◌, length, ℤ, pos, negsuc, Option, None, Some, Result, refl, codes, MatchResult}
+use Rattle.std.specs.List.{list_all}
+use Rattle.std.specs.Char.{is_digit}
+use Rattle.std.specs.Str.Parse.{digits_value, signed_digits_value, without_leading_plus, without_leading_sign}
+
+-- does the text begin with `0x`?
+abbrev pub has_prefix : List ℕ → Bool
+has_prefix (a ∷ b ∷ rest) = (a == 48) && (b == 120)
+has_prefix _ = false
+
+-- the text behind every leading `0x`
+abbrev pub without_prefixes : List ℕ → List ℕ
+without_prefixes [] = []
+without_prefixes (a ∷ []) = a ∷ []
+without_prefixes (a ∷ b ∷ rest) = cond ((a == 48) && (b == 120)) (without_prefixes rest) (a ∷ b ∷ rest)
+
+-- one digit or more, and nothing else
+abbrev pub is_numeral : (radix : ℕ) → List ℕ → Bool
+is_numeral radix digits = nat_lt 0 (length digits) && list_all (λ c. is_digit c radix) digits
+
+-- an unsigned number of 64 bits, with an optional plus
+abbrev pub unsigned_of_text : (radix : ℕ) → List ℕ → Option ℤ
+unsigned_of_text radix text =
+    let digits = without_leading_plus text in
+    cond (is_numeral radix digits && nat_lt (digits_value radix digits) (2 ^ 64)) (Some (pos (digits_value radix digits))) None
+
+-- does the number fit 64 signed bits?
+abbrev pub fits_signed : ℤ → Bool
+fits_signed (pos n) = nat_lt n (2 ^ 63)
+fits_signed (negsuc n) = nat_lt n (2 ^ 63)
+
+-- a signed decimal number of 64 bits, with an optional sign
+abbrev pub signed_of_text : List ℕ → Option ℤ
+signed_of_text text =
+    cond (is_numeral 10 (without_leading_sign text) && fits_signed (signed_digits_value 10 text)) (Some (signed_digits_value 10 text)) None
+
+-- the first, or where there is none the second
+abbrev pub or_else : {A : Type 0} → Option A → Option A → Option A
+or_else (Some x) other = Some x
+or_else None other = other
+
+-- hexadecimal behind every leading `0x`; else signed decimal, else unsigned decimal
+unfoldable pub integer_of_text : List ℕ → Option ℤ
+integer_of_text text =
+    cond (has_prefix text) (unsigned_of_text 16 (without_prefixes text)) (or_else (signed_of_text text) (unsigned_of_text 10 text))
+
+-- the answer is the number that the text spells, and `Err` where it spells none
+abbrev pub SpellsInteger : {E : Type 0} → List ℕ → Result ℤ E → Type 0
+SpellsInteger text answer = MatchResult answer (λ number. integer_of_text text ≡ Some number) (λ _. integer_of_text text ≡ None)
+
+-- ---- worked examples
+
+greatest : integer_of_text (codes "18446744073709551615") ≡ Some (pos (2 ^ 64 - 1))
+unfolding integer_of_text
+greatest = refl
+
+past_the_greatest : integer_of_text (codes "18446744073709551616") ≡ None
+unfolding integer_of_text
+past_the_greatest = refl
+
+least : integer_of_text (codes "-9223372036854775808") ≡ Some (negsuc (2 ^ 63 - 1))
+unfolding integer_of_text
+least = refl
+
+below_the_least : integer_of_text (codes "-9223372036854775809") ≡ None
+unfolding integer_of_text
+below_the_least = refl
+
+negative : integer_of_text (codes "-1") ≡ Some (negsuc 0)
+unfolding integer_of_text
+negative = refl
+
+negative_zero : integer_of_text (codes "-0") ≡ Some (pos 0)
+unfolding integer_of_text
+negative_zero = refl
+
+plus : integer_of_text (codes "+5") ≡ Some (pos 5)
+unfolding integer_of_text
+plus = refl
+
+leading_zeros : integer_of_text (codes "007") ≡ Some (pos 7)
+unfolding integer_of_text
+leading_zeros = refl
+
+every_prefix : integer_of_text (codes "0x0x10") ≡ Some (pos 16)
+unfolding integer_of_text
+every_prefix = refl
+
+hexadecimal : integer_of_text (codes "0x0xff") ≡ Some (pos 255)
+unfolding integer_of_text
+hexadecimal = refl
+
+hexadecimal_plus : integer_of_text (codes "0x+fF") ≡ Some (pos 255)
+unfolding integer_of_text
+hexadecimal_plus = refl
+
+sign_before_prefix : integer_of_text (codes "-0x1") ≡ None
+unfolding integer_of_text
+sign_before_prefix = refl
+
+no_digits : integer_of_text (codes "0x") ≡ None
+unfolding integer_of_text
+no_digits = refl
+
+empty : integer_of_text [] ≡ None
+unfolding integer_of_text
+empty = refl

@@ -1,0 +1,26 @@
+-- What a writer answers, and when it may.
+use Rattle.std.specs.Prelude.{◌≡◌, None, Result, Ok, Err}
+use Rattle.plist_base.specs.declared.error.Error.{Error}
+use Rattle.plist_base.specs.Faults.{FaultKind, Fault, fault_of, UnexpectedEventType, ExpectedEndOfEventStream, Io, OutOfMemory, PlistTooLarge}
+
+-- an answer: done, or refused for a fault
+abbrev pub Answer : Type 0
+Answer = Result (Unit {0}) Fault
+
+-- what contracts see of an answer
+abbrev pub answer_of : Result (Unit {0}) Error → Answer
+answer_of (Ok done) = Ok done
+answer_of (Err error) = Err (fault_of error)
+
+-- a fact for an event that is accepted, one for an event refused for its place, one for a failure in the call, and one for every other answer
+abbrev pub MatchKind : FaultKind → (refused failed other : Type 0) → Type 0
+MatchKind (UnexpectedEventType expected found) refused failed other = refused
+MatchKind (ExpectedEndOfEventStream found) refused failed other = refused
+MatchKind Io refused failed other = failed
+MatchKind OutOfMemory refused failed other = failed
+MatchKind PlistTooLarge refused failed other = failed
+MatchKind kind refused failed other = other
+
+abbrev pub MatchAnswer : Answer → (accepted refused failed other : Type 0) → Type 0
+MatchAnswer (Ok done) accepted refused failed other = accepted
+MatchAnswer (Err fault) accepted refused failed other = (fault.offset ≡ None) × MatchKind fault.kind refused failed other

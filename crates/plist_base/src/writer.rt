@@ -1,0 +1,97 @@
+//! What takes the events of a property list.
+
+ghost use Rattle.std.specs.Prelude.{◌≡◌, Bool, List, Err, false, true};
+ghost use Rattle.std.specs.Cow.{cow_slice_items, cow_str_bytes};
+ghost use Rattle.plist_base.specs.Bracketing.{CanContinue};
+ghost use Rattle.plist_base.specs.Faults.{WriterFailed, fault_nowhere};
+
+use crate::{Date, Error, Event, Integer, RealBits, Uid};
+use std::borrow::{CowSlice, CowStr};
+
+/// Keeps [`Writer`] to the crates of this repository.
+pub trait Sealed {}
+
+/// Takes the events of a property list, one by one.
+///
+/// While a writer hasn't failed, it accepts an event exactly where the events that it holds can
+/// go on with it to those of a property list. An event that is refused for its place
+/// (`UnexpectedEventType`, `ExpectedEndOfEventStream`) changes nothing. After any other refusal
+/// (`OutOfMemory`, `Io`, `PlistTooLarge`) the writer has failed: each later call answers
+/// `WriterFailed` and changes nothing. No fault of a writer has an offset. Lengths of starts are
+/// hints, which decide nothing.
+pub trait Writer: Sealed {
+    ghost use Rattle.plist_base.specs.Events as events;
+    ghost use Rattle.plist_base.specs.Events.{PlainEvent, event_of};
+    ghost use Rattle.plist_base.specs.Writing.{Answer, MatchAnswer, answer_of};
+
+    ghost held: { Self → List PlainEvent };
+
+    ghost failed: { Self → Bool };
+
+    ghost Step: { Self → PlainEvent → Answer → Self → Type 0 };
+
+    /// Begins an array.
+    fn write_start_array(&mut self, length: Option<u64>) -> Result<(), Error>
+        ensures { Step self.old (events.StartArray length) (answer_of result) self.new };
+
+    /// Begins a dictionary.
+    fn write_start_dictionary(&mut self, length: Option<u64>) -> Result<(), Error>
+        ensures { Step self.old (events.StartDictionary length) (answer_of result) self.new };
+
+    /// Ends the innermost array or dictionary.
+    fn write_end_collection(&mut self) -> Result<(), Error>
+        ensures { Step self.old events.EndCollection (answer_of result) self.new };
+
+    /// Writes a truth value.
+    fn write_boolean(&mut self, value: bool) -> Result<(), Error>
+        ensures { Step self.old (events.Boolean value) (answer_of result) self.new };
+
+    /// Writes bytes.
+    fn write_data(&mut self, bytes: CowSlice<'_, u8>) -> Result<(), Error>
+        ensures { Step self.old (events.Data (cow_slice_items bytes.entry)) (answer_of result) self.new };
+
+    /// Writes a moment.
+    fn write_date(&mut self, date: Date) -> Result<(), Error>
+        ensures { Step self.old (events.Date date) (answer_of result) self.new };
+
+    /// Writes a whole number.
+    fn write_integer(&mut self, value: Integer) -> Result<(), Error>
+        ensures { Step self.old (events.Integer value) (answer_of result) self.new };
+
+    /// Writes the bytes of a real.
+    fn write_real(&mut self, bits: RealBits) -> Result<(), Error>
+        ensures { Step self.old (events.Real bits) (answer_of result) self.new };
+
+    /// Writes a text, or a key.
+    fn write_string(&mut self, text: CowStr<'_>) -> Result<(), Error>
+        ensures { Step self.old (events.String (cow_str_bytes text.entry)) (answer_of result) self.new };
+
+    /// Writes the number of an object in a keyed archive.
+    fn write_uid(&mut self, uid: Uid) -> Result<(), Error>
+        ensures { Step self.old (events.Uid uid) (answer_of result) self.new };
+
+    /// Writes an event.
+    fn write(&mut self, event: Event<'_>) -> Result<(), Error>
+        ensures { Step self.old (event_of event.entry) (answer_of result) self.new }
+    {
+        match event {
+            Event::StartArray(length) => self.write_start_array(length),
+            Event::StartDictionary(length) => self.write_start_dictionary(length),
+            Event::EndCollection => self.write_end_collection(),
+            Event::Boolean(value) => self.write_boolean(value),
+            Event::Data(bytes) => self.write_data(bytes),
+            Event::Date(date) => self.write_date(date),
+            Event::Integer(value) => self.write_integer(value),
+            Event::Real(bits) => self.write_real(bits),
+            Event::String(text) => self.write_string(text),
+            Event::Uid(uid) => self.write_uid(uid),
+        }
+    }
+
+    // While it hasn't failed, an event is accepted where what is held can go on with it, and one
+    // that is refused for its place can't, and changes nothing; any other refusal is a failure.
+    ghost law: { (before : Self) (event : PlainEvent) (answer : Answer) (after : Self) → Step before event answer after → failed before ≡ false → MatchAnswer answer (CanContinue (held before) event × (failed after ≡ false)) ((CanContinue (held before) event → ⊥) × (after ≡ before)) (failed after ≡ true) ⊥ };
+
+    // Once failed, each call says so, and changes nothing.
+    ghost law_of_failed: { (before : Self) (event : PlainEvent) (answer : Answer) (after : Self) → Step before event answer after → failed before ≡ true → (answer ≡ Err (fault_nowhere WriterFailed)) × (after ≡ before) };
+}

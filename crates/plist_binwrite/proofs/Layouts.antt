@@ -1,0 +1,158 @@
+-- Objects that lie back to back are found at their places.
+use Rattle.std.proofs.Common.{◌≡◌, inl, inr, ℕ, ◌+◌, ◌<◌, ◌≤◌, Bool, true, false, ◌||◌, eqb, List, [], ◌∷◌, ◌++◌, length, get_or, set, refl, ap, sym, ◌∙◌, arith, append_assoc, append-nil, length-append}
+use Rattle.std.specs.List.{list_any, IsDistinct, AllByRecursion}
+use Rattle.std.proofs.lemmas.Bool.{eq-eqb}
+use Rattle.std.proofs.lemmas.Bool.Decides.{eqb_tells}
+use Rattle.std.proofs.lemmas.List.{get_or-set_same, get_or-set_other, length-set}
+use Rattle.std.proofs.lemmas.Grind.{flat_map-append}
+use Rattle.plist_binread.specs.Container.{magic}
+use Rattle.plist_binread.specs.Object.{Object}
+use Rattle.plist_binwrite.specs.Forms.{form, IsWritable}
+use Rattle.plist_binwrite.specs.Written.{bodies, Laid}
+use Rattle.plist_binwrite.specs.Laying.{IsLaid}
+
+pub length-magic : (xs : List ℕ) → length (magic ++ xs) ≡ 8 + length xs
+length-magic xs = length-append magic xs
+
+-- object k among those that lie back to back
+record Found (w : ℕ) (objects : ℕ → Object) (places order : List ℕ) (at k : ℕ) : Type 0 where
+  before : List ℕ
+  after : List ℕ
+  is : bodies w objects order ≡ before ++ (form w (objects k) ++ after)
+  at_place : at + length before ≡ get_or places k 0
+  good : IsWritable w (objects k)
+
+-- the same in the file, before something else
+pub record There (w : ℕ) (objects : ℕ → Object) (file places more : List ℕ) (k : ℕ) : Type 0 where
+  pub before : List ℕ
+  pub after : List ℕ
+  pub is : file ++ more ≡ before ++ (form w (objects k) ++ after)
+  pub at_place : length before ≡ get_or places k 0
+  pub good : IsWritable w (objects k)
+
+module _ (w : ℕ) (objects : ℕ → Object) where
+  found : (places order : List ℕ) (at k : ℕ) → Laid w objects places order at → list_any (eqb k) order ≡ true → Found w objects places order at k
+  found places [] at k l any = absurd (cc)
+  found places (j ∷ order) at k l any =
+      elim (eqb_tells k j) [
+        | inl e ↦ rw e.1 (record { before = []; after = bodies w objects order; is = refl; at_place = omega (arith, l.0); good = l.1 })
+        | inr d ↦ let f = found places order (at + length (form w (objects j))) k l.2 (sym (ap (λ b. b || list_any (eqb k) order) d.0) ∙ any) in
+            record {
+              before = form w (objects j) ++ f.before;
+              after = f.after;
+              is = ap (λ l. form w (objects j) ++ l) f.is ∙ sym (append_assoc (form w (objects j)) f.before (form w (objects k) ++ f.after));
+              at_place = omega (arith, f.at_place, length-append (form w (objects j)) f.before);
+              good = f.good;
+            }
+      ]
+
+  -- where something is appended, object k is still there
+  pub object_there : (file places more : List ℕ) (k : ℕ) (l : IsLaid w objects file places) → list_any (eqb k) l.order ≡ true → There w objects file places more k
+  object_there file places more k l any =
+      let f = found places l.order 8 k l.laid any in
+      record {
+        before = magic ++ f.before;
+        after = f.after ++ more;
+        is = ap (λ x. x ++ more) (l.is ∙ ap (λ x. magic ++ x) f.is) ∙ append_assoc (magic ++ f.before) (form w (objects k) ++ f.after) more ∙ ap (λ x. (magic ++ f.before) ++ x) (append_assoc (form w (objects k)) f.after more);
+        at_place = omega (arith, f.at_place, length-magic f.before);
+        good = f.good;
+      }
+
+  -- its place lies in the file
+  pub found_place : (file places : List ℕ) (k : ℕ) (l : IsLaid w objects file places) → list_any (eqb k) l.order ≡ true → get_or places k 0 ≤ length file
+  found_place file places k l any =
+      let f = found places l.order 8 k l.laid any in
+      omega (arith, f.at_place, ap length l.is, length-magic (bodies w objects l.order), ap length f.is, length-append f.before (form w (objects k) ++ f.after))
+
+  -- an object that is written has a place that isn't 0
+  pub written_place : (places order : List ℕ) (at k : ℕ) → 0 < at → Laid w objects places order at → list_any (eqb k) order ≡ true → 0 < get_or places k 0
+  written_place places order at k h l any = let f = found places order at k l any in omega (arith, f.at_place)
+
+  laid_snoc : (places order : List ℕ) (at k v : ℕ) → k < length places → list_any (eqb k) order ≡ false → IsWritable w (objects k) → v ≡ at + length (bodies w objects order) → Laid w objects places order at → Laid w objects (set places k v) (order ++ k ∷ []) at
+  laid_snoc places [] at k v h new good e l = (get_or-set_same places k v 0 h ∙ omega (arith, e), good, tt)
+  laid_snoc places (j ∷ order) at k v h new good e l =
+      elim (eqb_tells k j) [
+        | inl same ↦ absurd (not_both (eqb k j) (list_any (eqb k) order) same.0 new)
+        | inr d ↦ (
+          get_or-set_other places k j v 0 (λ x. d.1 (sym x)) ∙ l.0,
+          l.1,
+          laid_snoc places order (at + length (form w (objects j))) k v h (sym (ap (λ b. b || list_any (eqb k) order) d.0) ∙ new) good
+              (omega (arith, e, length-append (form w (objects j)) (bodies w objects order))) l.2,
+        )
+      ]
+    where
+      not_both : (a b : Bool) → a ≡ true → a || b ≡ false → ⊥
+      not_both true b p q = cc
+      not_both false b p q = cc
+
+any_snoc : (p : ℕ → Bool) (xs : List ℕ) (y : ℕ) → list_any p (xs ++ y ∷ []) ≡ list_any p xs || p y
+any_snoc p [] y = or_nothing (p y)
+  where
+    or_nothing : (b : Bool) → b || false ≡ b
+    or_nothing true = refl
+    or_nothing false = refl
+any_snoc p (x ∷ xs) y = ap (λ b. p x || b) (any_snoc p xs y) ∙ or_assoc (p x) (list_any p xs) (p y)
+  where
+    or_assoc : (a b c : Bool) → a || (b || c) ≡ (a || b) || c
+    or_assoc true b c = refl
+    or_assoc false b c = refl
+
+all_snoc : (P : ℕ → Type 0) (xs : List ℕ) (y : ℕ) → AllByRecursion P xs → P y → AllByRecursion P (xs ++ y ∷ [])
+all_snoc P [] y a h = (h, tt)
+all_snoc P (x ∷ xs) y a h = (a.0, all_snoc P xs y a.1 h)
+
+eqb_sym : (a b : ℕ) → eqb a b ≡ false → eqb b a ≡ false
+eqb_sym a b h = elim (eqb_tells b a) [ inl e ↦ absurd (bad (eqb a b) (eq-eqb a b (sym e.1)) h) | inr d ↦ d.0 ]
+  where
+    bad : (x : Bool) → x ≡ true → x ≡ false → ⊥
+    bad x p q = cc
+
+distinct_snoc : (xs : List ℕ) (y : ℕ) → IsDistinct eqb xs → list_any (eqb y) xs ≡ false → IsDistinct eqb (xs ++ y ∷ [])
+unfolding IsDistinct
+distinct_snoc [] y d h = (tt, tt)
+distinct_snoc (x ∷ xs) y d h =
+    let k = or_false (eqb y x) (list_any (eqb y) xs) h in
+    (all_snoc (λ z. eqb x z ≡ false) xs y d.0 (eqb_sym y x k.0), distinct_snoc xs y d.1 k.1)
+  where
+    or_false : (a b : Bool) → a || b ≡ false → (a ≡ false) × (b ≡ false)
+    or_false true b h = absurd (cc)
+    or_false false b h = (refl, h)
+
+pub laid_none : (w : ℕ) (objects : ℕ → Object) (places : List ℕ) → ((k : ℕ) → get_or places k 0 ≡ 0) → IsLaid w objects magic places
+unfolding IsDistinct
+laid_none w objects places zeros = record { order = []; is = refl; laid = tt; distinct = tt; below = λ k any. absurd (cc); unset = λ k any. zeros k }
+
+not_written : (w : ℕ) (objects : ℕ → Object) (places order : List ℕ) (k : ℕ) → Laid w objects places order 8 → get_or places k 0 ≡ 0 → (b : Bool) → list_any (eqb k) order ≡ b → b ≡ false
+not_written w objects places order k l z true e = absurd (omega (arith, written_place w objects places order 8 k (omega arith) l e))
+not_written w objects places order k l z false e = refl
+
+-- one more object
+pub laid_more : (w : ℕ) (objects : ℕ → Object) (file places more : List ℕ) (k : ℕ) → IsLaid w objects file places → k < length places → get_or places k 0 ≡ 0 → IsWritable w (objects k) → more ≡ form w (objects k) → IsLaid w objects (file ++ more) (set places k (length file))
+laid_more w objects file places more k l h z good e =
+    let new : list_any (eqb k) l.order ≡ false = not_written w objects places l.order k l.laid z (list_any (eqb k) l.order) refl in
+    record {
+      order = l.order ++ k ∷ [];
+      is = (λ i. l.is i ++ e i) ∙ ap (λ x. magic ++ x) (ap (λ x. bodies w objects l.order ++ x) (sym (append-nil (form w (objects k)))) ∙ sym (flat_map-append (λ j. form w (objects j)) l.order (k ∷ [])));
+      laid = laid_snoc w objects places l.order 8 k (length file) h new good (omega (arith, ap length l.is, length-magic (bodies w objects l.order))) l.laid;
+      distinct = distinct_snoc l.order k l.distinct new;
+      below = λ q any. rw length-set (below_snoc q (sym (any_snoc (eqb q) l.order k) ∙ any));
+      unset = λ q any. unset_snoc q (sym (any_snoc (eqb q) l.order k) ∙ any);
+    }
+  where
+    below_snoc : (q : ℕ) → list_any (eqb q) l.order || eqb q k ≡ true → q < length places
+    below_snoc q any = elim (eqb_tells q k) [ inl s ↦ rw s.1 h | inr d ↦ l.below q (drop_or (list_any (eqb q) l.order) (eqb q k) d.0 any) ]
+      where
+        drop_or : (a b : Bool) → b ≡ false → a || b ≡ true → a ≡ true
+        drop_or true b x y = refl
+        drop_or false b x y = absurd (cc)
+
+    unset_snoc : (q : ℕ) → list_any (eqb q) l.order || eqb q k ≡ false → get_or (set places k (length file)) q 0 ≡ 0
+    unset_snoc q any = let p = or_false (list_any (eqb q) l.order) (eqb q k) any in
+        get_or-set_other places k q (length file) 0 (λ s. bad (eqb q k) (eq-eqb q k s) p.1) ∙ l.unset q p.0
+      where
+        or_false : (a b : Bool) → a || b ≡ false → (a ≡ false) × (b ≡ false)
+        or_false true b h = absurd (cc)
+        or_false false b h = (refl, h)
+
+        bad : (x : Bool) → x ≡ true → x ≡ false → ⊥
+        bad x p q = cc

@@ -1,0 +1,158 @@
+-- Steps of a layout.
+use Rattle.std.proofs.Common.{◌≡◌, ◌≢◌, inl, inr, ℕ, suc, ◌+◌, ◌^◌, ◌<◌, ◌≤◌, false, List, [], ◌∷◌, ◌++◌, length, get_or, set, map, refl, ap, sym, ◌∙◌, subst, arith, length-append, append-nil}
+use Rattle.std.proofs.lemmas.Bool.Decides.{eqb_tells}
+use Rattle.std.proofs.lemmas.List.{get_or-set_same, get_or-set_other, length-set}
+use Rattle.std.specs.List.{AllByRecursion}
+use Rattle.plist_base.specs.Events as events
+use Rattle.plist_base.specs.Events.{PlainEvent}
+use Rattle.plist_base.specs.Bracketing.{event_of_scalar}
+use Rattle.plist_base.specs.Trees as trees
+use Rattle.plist_binwrite.specs.declared.kinds.Kind.{Kind}
+use Rattle.plist_binwrite.specs.declared.kinds.Kind.TheVariants as kind
+use Rattle.plist_binwrite.specs.Marks.{Scalar, Ev, start_array, start_dictionary, stop, leaf, mark_of, Tree, Leaf, Array, Dictionary, Trees, NoTrees, TreeAnd, Members, NoMembers, MemberAnd, br, br_items, br_pairs, size, Sits, SitsItems, SitsPairs}
+use Rattle.plist_binwrite.specs.Numberings.{refs, pairs, obj_of}
+use Rattle.plist_binwrite.specs.Forms.{form, scalar_form, length_form, table_form, keys_of, values_of, IsWritable, IsWritableScalar, AllFit}
+use Rattle.plist_binwrite.specs.Held.{is_stop, kind_of, event_at, item_places, key_places, value_places, keys_in, values_in, num_of, AllNumbered, IsBracketed, IsScalarEvent}
+use Rattle.plist_binwrite.specs.Laying.{IsLaid, Lays}
+use Rattle.plist_binwrite.proofs.Layouts.{laid_more}
+use Rattle.plist_binwrite.proofs.Sitting.{sits_items, sits_pairs, sits_item, sits_next, sits_key, sits_value, sits_next_pair}
+use Rattle.plist_binwrite.proofs.Skipping.{first_event, begins, sits_within, size_positive}
+use Rattle.plist_binwrite.proofs.Inside.{inside}
+
+-- ---- references fit
+
+module _ (es : List Ev) (numbers : List ℕ) (count w : ℕ) (all : AllNumbered es numbers count) (wide : count ≤ 256 ^ w) where
+  number_fits : (t : Tree) (p : ℕ) → Sits es t p → num_of numbers p < 256 ^ w
+  number_fits t p s = omega (arith, wide, all p (omega (arith, sits_within s, size_positive t)) (begins t p s))
+
+  refs_fit : (ts : Trees) (q : ℕ) → SitsItems es ts q → AllFit w (refs (num_of numbers) ts q)
+  refs_fit NoTrees q s = tt
+  refs_fit (TreeAnd t ts) q s = (number_fits t q (sits_item s), refs_fit ts (q + size t) (sits_next s))
+
+  keys_fit : (ms : Members) (q : ℕ) → SitsPairs es ms q → AllFit w (keys_of (pairs (num_of numbers) ms q))
+  keys_fit NoMembers q s = tt
+  keys_fit (MemberAnd k t ms) q s = (number_fits (Leaf (trees.String k)) q (sits_key s), keys_fit ms (q + 1 + size t) (sits_next_pair s))
+
+  values_fit : (ms : Members) (q : ℕ) → SitsPairs es ms q → AllFit w (values_of (pairs (num_of numbers) ms q))
+  values_fit NoMembers q s = tt
+  values_fit (MemberAnd k t ms) q s = (number_fits t (q + 1) (sits_value s), values_fit ms (q + 1 + size t) (sits_next_pair s))
+
+-- ---- forms by places
+
+pub no_kind : (v a b : Kind) → v ≡ a → v ≡ b → (a ≡ b → ⊥) → ⊥
+no_kind v a b p q h = h (sym p ∙ q)
+
+-- what a scalar is by its mark
+pub mark_scalar : (e : PlainEvent) (x : Scalar) → mark_of e ≡ leaf x → e ≡ event_of_scalar x
+mark_scalar (events.StartArray n) x h = absurd (cc)
+mark_scalar (events.StartDictionary n) x h = absurd (cc)
+mark_scalar events.EndCollection x h = absurd (cc)
+mark_scalar (events.Boolean v) x h = let k : trees.Boolean v ≡ x = cc in ap event_of_scalar k
+mark_scalar (events.Data v) x h = let k : trees.Data v ≡ x = cc in ap event_of_scalar k
+mark_scalar (events.Date v) x h = let k : trees.Date v ≡ x = cc in ap event_of_scalar k
+mark_scalar (events.Integer v) x h = let k : trees.Integer v ≡ x = cc in ap event_of_scalar k
+mark_scalar (events.Real v) x h = let k : trees.Real v ≡ x = cc in ap event_of_scalar k
+mark_scalar (events.String v) x h = let k : trees.String v ≡ x = cc in ap event_of_scalar k
+mark_scalar (events.Uid v) x h = let k : trees.Uid v ≡ x = cc in ap event_of_scalar k
+
+is_scalar : (x : Scalar) → IsScalarEvent (event_of_scalar x)
+is_scalar (trees.Boolean v) = tt
+is_scalar (trees.Data v) = tt
+is_scalar (trees.Date v) = tt
+is_scalar (trees.Integer v) = tt
+is_scalar (trees.Real v) = tt
+is_scalar (trees.String v) = tt
+is_scalar (trees.Uid v) = tt
+
+module _ (num : ℕ → ℕ) where
+  refs_are : (ts : Trees) (q : ℕ) → refs num ts q ≡ map num (item_places ts q)
+  refs_are NoTrees q = refl
+  refs_are (TreeAnd t ts) q = ap (λ l. num q ∷ l) (refs_are ts (q + size t))
+
+  keys_are : (ms : Members) (q : ℕ) → keys_of (pairs num ms q) ≡ map num (key_places ms q)
+  keys_are NoMembers q = refl
+  keys_are (MemberAnd k t ms) q = ap (λ l. num q ∷ l) (keys_are ms (q + 1 + size t))
+
+  values_are : (ms : Members) (q : ℕ) → values_of (pairs num ms q) ≡ map num (value_places ms q)
+  values_are NoMembers q = refl
+  values_are (MemberAnd k t ms) q = ap (λ l. num (q + 1) ∷ l) (values_are ms (q + 1 + size t))
+
+  length-refs : (ts : Trees) (q : ℕ) → length (refs num ts q) ≡ length (item_places ts q)
+  length-refs NoTrees q = refl
+  length-refs (TreeAnd t ts) q = ap suc (length-refs ts (q + size t))
+
+  length-pairs : (ms : Members) (q : ℕ) → length (pairs num ms q) ≡ length (value_places ms q)
+  length-pairs NoMembers q = refl
+  length-pairs (MemberAnd k t ms) q = ap suc (length-pairs ms (q + 1 + size t))
+
+  -- the form of a collection, by the places of its children
+  abbrev pub form_by : (w high : ℕ) → Tree → ℕ → List ℕ
+  form_by w high t p = length_form high (length (values_in t p)) ++ (table_form w (map num (keys_in t p)) ++ table_form w (map num (values_in t p)))
+
+  pub array_by : {es : List Ev} (w : ℕ) (t : Tree) (p : ℕ) → Sits es t p → kind_of (event_at es p) ≡ kind.Array → form_by w 0xa t p ≡ form w (obj_of num t p)
+  array_by {es} w (Leaf x) p s k = absurd (no_kind (kind_of (event_at es p)) kind.Array kind.Scalar k (ap kind_of (first_event es p (leaf x) s.rest s.is)) (λ e. cc))
+  array_by {es} w (Array ts) p s k = sym (λ i. length_form 0xa (length-refs ts (p + 1) i) ++ table_form w (refs_are ts (p + 1) i))
+  array_by {es} w (Dictionary ms) p s k = absurd (no_kind (kind_of (event_at es p)) kind.Array kind.Dictionary k (ap kind_of (first_event es p start_dictionary ((br_pairs ms ++ stop ∷ []) ++ s.rest) s.is)) (λ e. cc))
+
+  pub dictionary_by : {es : List Ev} (w : ℕ) (t : Tree) (p : ℕ) → Sits es t p → kind_of (event_at es p) ≡ kind.Dictionary → form_by w 0xd t p ≡ form w (obj_of num t p)
+  dictionary_by {es} w (Leaf x) p s k = absurd (no_kind (kind_of (event_at es p)) kind.Dictionary kind.Scalar k (ap kind_of (first_event es p (leaf x) s.rest s.is)) (λ e. cc))
+  dictionary_by {es} w (Array ts) p s k = absurd (no_kind (kind_of (event_at es p)) kind.Dictionary kind.Array k (ap kind_of (first_event es p start_array ((br_items ts ++ stop ∷ []) ++ s.rest) s.is)) (λ e. cc))
+  dictionary_by {es} w (Dictionary ms) p s k =
+      sym (λ i. length_form 0xd (length-pairs ms (p + 1) i) ++ (table_form w (keys_are ms (p + 1) i) ++ table_form w (values_are ms (p + 1) i)))
+
+  -- where no collection begins, a scalar stands
+  pub scalar_by : {es : List Ev} (w : ℕ) (t : Tree) (p : ℕ) (e : PlainEvent) → Sits es t p → event_at es p ≡ mark_of e → (kind_of (event_at es p) ≡ kind.Array → ⊥) → (kind_of (event_at es p) ≡ kind.Dictionary → ⊥)
+      → (IsScalarEvent e → IsWritableScalar e) → (scalar_form e ≡ form w (obj_of num t p)) × IsWritable w (obj_of num t p)
+  scalar_by {es} w (Leaf x) p e s is a b h =
+      let same : e ≡ event_of_scalar x = mark_scalar e x (sym is ∙ first_event es p (leaf x) s.rest s.is) in
+      (ap scalar_form same, subst IsWritableScalar same (h (subst IsScalarEvent (sym same) (is_scalar x))))
+  scalar_by {es} w (Array ts) p e s is a b h = absurd (a (ap kind_of (first_event es p start_array ((br_items ts ++ stop ∷ []) ++ s.rest) s.is)))
+  scalar_by {es} w (Dictionary ms) p e s is a b h = absurd (b (ap kind_of (first_event es p start_dictionary ((br_pairs ms ++ stop ∷ []) ++ s.rest) s.is)))
+
+-- a collection whose children are numbered can be written
+pub collection_fits : (es : List Ev) (numbers : List ℕ) (count w : ℕ) → AllNumbered es numbers count → count ≤ 256 ^ w → (t : Tree) (p : ℕ) → Sits es t p → (kind_of (event_at es p) ≡ kind.Scalar → ⊥) → length (values_in t p) < 2 ^ 64 → IsWritable w (obj_of (num_of numbers) t p)
+collection_fits es numbers count w all wide (Leaf x) p s k few = absurd (k (ap kind_of (first_event es p (leaf x) s.rest s.is)))
+collection_fits es numbers count w all wide (Array ts) p s k few = (omega (arith, length-refs (num_of numbers) ts (p + 1)), refs_fit es numbers count w all wide ts (p + 1) (sits_items s))
+collection_fits es numbers count w all wide (Dictionary ms) p s k few =
+    (omega (arith, length-pairs (num_of numbers) ms (p + 1)), keys_fit es numbers count w all wide ms (p + 1) (sits_pairs s), values_fit es numbers count w all wide ms (p + 1) (sits_pairs s))
+
+-- ---- one step
+
+-- in the events of a tree, each that isn't an end begins one
+pub sits_at : (es : List Ev) → IsBracketed es → (p : ℕ) → p < length es → is_stop (event_at es p) ≡ false → (u : Tree) × Sits es u p
+sits_at es (t, e) p lt b =
+    let len : length es ≡ size t = ap length e in
+    (inside es (λ q. Unit {0}) (λ u r s q. (all_units (keys_in u r), all_units (values_in u r))) t 0 (record { rest = []; is = e ∙ sym (append-nil (br t)) }) tt p (omega arith) (omega arith) b).1
+  where
+    all_units : (ps : List ℕ) → AllByRecursion (λ q. Unit {0}) ps
+    all_units [] = tt
+    all_units (p ∷ ps) = (tt, all_units ps)
+
+pub lays_same : (w : ℕ) (es : List Ev) (numbers file table : List ℕ) → 0 < length file → Lays w es numbers file table file table
+lays_same w es numbers file table h = record { laid = λ objects d l. l; keeps = λ k n. n; long = refl; some = h }
+
+pub lays_then : {w : ℕ} {es : List Ev} {numbers a b c d e f : List ℕ} → Lays w es numbers a b c d → Lays w es numbers c d e f → Lays w es numbers a b e f
+lays_then {w} {es} {numbers} {a} {b} {c} {d} {e} {f} k l = record { laid = λ objects h i. l.laid objects h (k.laid objects h i); keeps = λ j n. l.keeps j (k.keeps j n); long = l.long ∙ k.long; some = l.some }
+
+-- one more object
+pub lays_one : (w : ℕ) (es : List Ev) (numbers file table new : List ℕ) (p : ℕ) → IsBracketed es → p < length es → is_stop (event_at es p) ≡ false → AllNumbered es numbers (length table) → 0 < length file
+    → get_or table (get_or numbers p 0) 0 ≡ 0 → ((t : Tree) → Sits es t p → new ≡ file ++ form w (obj_of (num_of numbers) t p)) → ((t : Tree) → Sits es t p → IsWritable w (obj_of (num_of numbers) t p))
+    → Lays w es numbers file table new (set table (get_or numbers p 0) (length file))
+lays_one w es numbers file table new p whole lt b all some z h good =
+    let u = sits_at es whole p lt b in
+    let e = h u.0 u.1 in
+    record {
+      laid = λ objects d l.
+          let o : objects (get_or numbers p 0) ≡ obj_of (num_of numbers) u.0 p = d u.0 p u.1 in
+          subst (λ x. IsLaid w objects x (set table (get_or numbers p 0) (length file))) (sym e)
+          (laid_more w objects file table (form w (obj_of (num_of numbers) u.0 p)) (get_or numbers p 0) l (all p lt b) z (subst (IsWritable w) (sym o) (good u.0 u.1)) (ap (form w) (sym o)));
+      keeps = λ k n. elim (eqb_tells k (get_or numbers p 0)) [
+        | inl s ↦ subst (λ v. v ≢ 0) (sym (ap (λ j. get_or (set table (get_or numbers p 0) (length file)) j 0) s.1 ∙ get_or-set_same table (get_or numbers p 0) (length file) 0 (all p lt b))) (λ q. absurd (omega arith))
+        | inr x ↦ subst (λ v. v ≢ 0) (sym (get_or-set_other table (get_or numbers p 0) k (length file) 0 x.1)) n
+      ];
+      long = length-set table (get_or numbers p 0) (length file);
+      some = omega (arith, ap length e, length-append file (form w (obj_of (num_of numbers) u.0 p)));
+    }
+
+pub placed_one : (numbers table : List ℕ) (p v : ℕ) → get_or numbers p 0 < length table → 0 < v → get_or (set table (get_or numbers p 0) v) (get_or numbers p 0) 0 ≢ 0
+placed_one numbers table p v h k e = absurd (omega (arith, get_or-set_same table (get_or numbers p 0) v 0 h))

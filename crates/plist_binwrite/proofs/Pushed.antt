@@ -1,0 +1,56 @@
+-- What is appended form by form.
+use Rattle.std.proofs.Common.{◌≡◌, ℕ, zero, suc, ◌+◌, ◌*◌, ◌/◌, ◌^◌, ◌<◌, ◌≤◌, ℤ, pos, negsuc, ◌≤ℤ◌, ◌<ℤ◌, List, [], ◌∷◌, ◌++◌, refl, ap, ◌∙◌, arith, append_assoc}
+use Rattle.std.specs.Int.{cast_unsigned, w64, byte_at}
+use Rattle.std.proofs.lemmas.Bool.{lt-ltb, le-ltb}
+use Rattle.std.proofs.lemmas.Int.{ints}
+use native.Mathlib.Nat.{div-eq_of_lt}
+use Rattle.plist_binwrite.specs.Forms.{big_endian, natural_form, integer_form, length_form}
+
+pub length_short : (high count : ℕ) → count < 15 → length_form high count ≡ (high * 16 + count) ∷ []
+unfolding length_form
+length_short high count h = rw (lt-ltb count 15 h) refl
+
+pub length_long : (high count : ℕ) → 15 ≤ count → length_form high count ≡ (high * 16 + 15) ∷ natural_form count
+unfolding length_form
+length_long high count h = rw (le-ltb count 15 h) refl
+
+pub integer_small : (z : ℤ) (n : ℕ) → pos n ≡ z → z <ℤ pos (2 ^ 63) → natural_form n ≡ integer_form z
+integer_small (pos m) n e h =
+    let same : n ≡ m = omega (arith, ints, e) in
+    let small : m < 2 ^ 63 = omega (arith, ints) in
+    rw (same, lt-ltb m (2 ^ 63) small) refl
+integer_small (negsuc m) n e h = absurd (omega (arith, ints, e))
+
+high_zero : (k n : ℕ) → n < 256 ^ k → byte_at k n ≡ 0
+high_zero zero n h = omega arith
+high_zero (suc k) n h = let e : n / 256 ^ suc k ≡ 0 = div-eq_of_lt h in rw e refl
+
+pub wide_is : (n : ℕ) → n < 2 ^ 64 → big_endian 16 n ≡ big_endian 8 0 ++ big_endian 8 n
+wide_is n h =
+    rw (
+      high_zero 15 n (omega arith),
+      high_zero 14 n (omega arith),
+      high_zero 13 n (omega arith),
+      high_zero 12 n (omega arith),
+      high_zero 11 n (omega arith),
+      high_zero 10 n (omega arith),
+      high_zero 9 n (omega arith),
+      high_zero 8 n (omega arith),
+    ) refl
+
+pub integer_wide : (z : ℤ) (n : ℕ) → pos n ≡ z → pos (2 ^ 63) ≤ℤ z → 0x14 ∷ big_endian 16 n ≡ integer_form z
+integer_wide (pos m) n e h =
+    let same : n ≡ m = omega (arith, ints, e) in
+    let large : 2 ^ 63 ≤ m = omega (arith, ints) in
+    rw (same, le-ltb m (2 ^ 63) large) refl
+integer_wide (negsuc m) n e h = absurd (omega (arith, ints, e))
+
+pub integer_negative : (z : ℤ) → z <ℤ pos 0 → 0x13 ∷ big_endian 8 (cast_unsigned w64 z) ≡ integer_form z
+integer_negative (pos m) h = absurd (omega (arith, ints))
+integer_negative (negsuc m) h = refl
+
+pub pushed_twice : (old first last x y all : List ℕ) → first ≡ old ++ x → last ≡ first ++ y → x ++ y ≡ all → last ≡ old ++ all
+pushed_twice old first last x y all a b e = b ∙ ap (λ l. l ++ y) a ∙ append_assoc old x y ∙ ap (λ l. old ++ l) e
+
+pub pushed_thrice : (old first second last x y z : List ℕ) → first ≡ old ++ x → second ≡ first ++ y → last ≡ second ++ z → last ≡ old ++ (x ++ (y ++ z))
+pushed_thrice old first second last x y z a b c = pushed_twice old first last x (y ++ z) (x ++ (y ++ z)) a (c ∙ ap (λ l. l ++ z) b ∙ append_assoc first y z) refl

@@ -1,0 +1,103 @@
+-- Big-endian numbers, and the least width of a number.
+use Rattle.std.proofs.Common.{◌≡◌, inl, inr, ℕ, zero, suc, ◌+◌, ◌-◌, ◌*◌, ◌/◌, ◌%◌, ◌^◌, ◌<◌, ◌≤◌, List, length, drop, take, refl, ap, ◌∙◌, arith}
+use Rattle.std.specs.Int.{byte_at}
+use Rattle.std.specs.Int.Digits.{number_from_digits_after}
+use Rattle.std.proofs.Math.Nat.{pow-succ'}
+use Rattle.std.proofs.lemmas.Bool.{lt-ltb, le-ltb, cases_lt}
+use Rattle.std.proofs.Math.Seq.{take-length}
+use lib.Arith.{mod-mul}
+use native.Mathlib.Nat.{mod-eq_of_lt}
+use Rattle.plist_binread.specs.Container.{number_of}
+use Rattle.plist_binwrite.specs.Forms.{big_endian, least_width}
+
+-- ---- the least width
+
+pub width_1 : (n : ℕ) → n < 256 → least_width n ≡ 1
+unfolding least_width
+width_1 n h = rw (lt-ltb n (2 ^ 8) h) refl
+
+pub width_2 : (n : ℕ) → 256 ≤ n → n < 65536 → least_width n ≡ 2
+unfolding least_width
+width_2 n l h = rw (le-ltb n (2 ^ 8) l, lt-ltb n (2 ^ 16) h) refl
+
+pub width_4 : (n : ℕ) → 65536 ≤ n → n < 4294967296 → least_width n ≡ 4
+unfolding least_width
+width_4 n l h = rw (le-ltb n (2 ^ 8) (omega arith), le-ltb n (2 ^ 16) l, lt-ltb n (2 ^ 32) h) refl
+
+pub width_8 : (n : ℕ) → 4294967296 ≤ n → least_width n ≡ 8
+unfolding least_width
+width_8 n l = rw (le-ltb n (2 ^ 8) (omega arith), le-ltb n (2 ^ 16) (omega arith), le-ltb n (2 ^ 32) l) refl
+
+-- a width of 1, 2, 4 or 8
+pub data IsWidth : ℕ → Type 0 where
+  one : IsWidth 1
+  two : IsWidth 2
+  four : IsWidth 4
+  eight : IsWidth 8
+
+pub cases_width : (n : ℕ) → (w : ℕ) × (least_width n ≡ w) × IsWidth w × (n < 2 ^ 64 → n < 256 ^ w)
+cases_width n =
+    elim (cases_lt n 256) [
+      | inl a ↦ (1, width_1 n a, one, λ h. omega arith)
+      | inr a ↦ elim (cases_lt n 65536) [
+        | inl b ↦ (2, width_2 n a b, two, λ h. omega arith)
+        | inr b ↦ elim (cases_lt n 4294967296) [
+          | inl d ↦ (4, width_4 n b d, four, λ h. omega arith)
+          | inr d ↦ (8, width_8 n d, eight, λ h. omega arith)
+        ]
+      ]
+    ]
+
+pub width_holds : (n : ℕ) → n < 2 ^ 64 → n < 256 ^ least_width n
+width_holds n h = let c = cases_width n in rw c.1 (c.3 h)
+
+-- ---- big-endian numbers
+
+pub length-big_endian : (w n : ℕ) → length (big_endian w n) ≡ w
+length-big_endian zero n = refl
+length-big_endian (suc w) n = ap suc (length-big_endian w n)
+
+pub drop-big_endian : (j w n : ℕ) → drop j (big_endian (j + w) n) ≡ big_endian w n
+drop-big_endian zero w n = let e : zero + w ≡ w = omega arith in ap (λ k. big_endian k n) e
+drop-big_endian (suc j) w n =
+    let e : suc j + w ≡ suc (j + w) = omega arith in
+    ap (λ k. drop (suc j) (big_endian k n)) e ∙ drop-big_endian j w n
+
+pub tail-big_endian : (w n : ℕ) → w ≤ 8 → drop (8 - w) (big_endian 8 n) ≡ big_endian w n
+tail-big_endian w n h =
+    let e : 8 ≡ 8 - w + w = omega arith in
+    ap (λ k. drop (8 - w) (big_endian k n)) e ∙ drop-big_endian (8 - w) w n
+
+pow_positive : (w : ℕ) → 0 < 256 ^ w
+pow_positive zero = omega arith
+pow_positive (suc w) = omega (arith, pow-succ' 256 w, pow_positive w)
+
+mod_one : (n : ℕ) → n % 256 ^ 0 ≡ 0
+mod_one n = omega arith
+
+byte_is : (w n : ℕ) → byte_at w n ≡ n / 256 ^ w % 256
+byte_is zero n = let e : n / 256 ^ 0 ≡ n = omega arith in rw e refl
+byte_is (suc w) n = refl
+
+high_digit : (w n : ℕ) → n % 256 ^ suc w ≡ byte_at w n * 256 ^ w + n % 256 ^ w
+high_digit w n = rw (byte_is w n, pow-succ' 256 w) (mod-mul n {m = 256} {c = 256 ^ w} (omega arith) (pow_positive w))
+
+number_after : (w m n : ℕ) → number_from_digits_after 256 m (big_endian w n) ≡ m * 256 ^ w + n % 256 ^ w
+number_after zero m n = let z = mod_one n in omega (arith, z)
+number_after (suc w) m n =
+    let next = number_after w (m * 256 + byte_at w n) n in
+    let split = high_digit w n in
+    let power : 256 ^ suc w ≡ 256 * 256 ^ w = pow-succ' 256 w in
+    let spread : (m * 256 + byte_at w n) * 256 ^ w ≡ m * (256 * 256 ^ w) + byte_at w n * 256 ^ w = grind arith in
+    next ∙ ap (λ k. k + n % 256 ^ w) spread ∙ (let e : m * (256 * 256 ^ w) + byte_at w n * 256 ^ w + n % 256 ^ w ≡ m * 256 ^ suc w + n % 256 ^ suc w = rw (power) (let s = rw power at split in omega (arith, s)) in e)
+
+-- what is written is read
+pub number_back : (w n : ℕ) → n < 256 ^ w → number_of (big_endian w n) ≡ n
+number_back w n h =
+    let small : n % 256 ^ w ≡ n = mod-eq_of_lt h in
+    number_after w 0 n ∙ (let e : 0 * 256 ^ w + n % 256 ^ w ≡ n = omega arith in e)
+
+pub tail_of_digits : (digits : List ℕ) (w n : ℕ) → digits ≡ big_endian 8 n → w ≤ 8 → take (8 - (8 - w)) (drop (8 - w) digits) ≡ big_endian w n
+tail_of_digits digits w n is h =
+    let back : 8 - (8 - w) ≡ length (big_endian w n) = omega (arith, length-big_endian w n) in
+    ap (λ l. take (8 - (8 - w)) l) (ap (drop (8 - w)) is ∙ tail-big_endian w n h) ∙ ap (λ count. take count (big_endian w n)) back ∙ take-length (big_endian w n)

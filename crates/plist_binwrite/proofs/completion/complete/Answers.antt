@@ -1,0 +1,33 @@
+use Rattle.std.proofs.Common.{◌^◌, ◌<◌, sym, subst}
+use Rattle.plist_binwrite.specs.Files.{IsFileOf}
+use Rattle.plist_binwrite.proofs.Marked.{whole_bracketed, evs_alike}
+use Rattle.plist_binwrite.proofs.Sends.{sends_io}
+use Rattle.plist_binwrite.proofs.completion.complete.Goals as goal
+
+pub plan_file-requires : goal.plan_file-requires
+plan_file-requires g c = record { whole = whole_bracketed c.args.events.now c.requires.whole }
+
+pub returns : goal.returns
+returns g c =
+    sends_io _ _ _ _ c.as_slice.result.now c.in-Err.ensures.failed c.requires.whole
+    (λ t alike. subst (IsFileOf t) (sym c.as_slice.ensures.value) (record {
+      written = c.in_ok-file.ensures.written t (evs_alike c.args.events.now t alike);
+      once = c.in_ok-file.ensures.once t (evs_alike c.args.events.now t alike);
+      count = c.in_ok-file.ensures.count t (evs_alike c.args.events.now t alike);
+      size = c.in_ok-file.ensures.size t (evs_alike c.args.events.now t alike);
+      fits = subst (λ n. n < 2 ^ 64) (c.in_ok-file.ensures.size t (evs_alike c.args.events.now t alike)) c.in_ok-file.ensures.fits;
+    }))
+    c.in-Err.ensures.front
+
+pub returns-in-Ok : goal.returns-in-Ok
+returns-in-Ok g c = (
+  c.as_slice.result.now,
+  λ t alike. subst (IsFileOf t) (sym c.as_slice.ensures.value) (record {
+    written = c.in_ok-file.ensures.written t (evs_alike c.args.events.now t alike);
+    once = c.in_ok-file.ensures.once t (evs_alike c.args.events.now t alike);
+    count = c.in_ok-file.ensures.count t (evs_alike c.args.events.now t alike);
+    size = c.in_ok-file.ensures.size t (evs_alike c.args.events.now t alike);
+    fits = subst (λ n. n < 2 ^ 64) (c.in_ok-file.ensures.size t (evs_alike c.args.events.now t alike)) c.in_ok-file.ensures.fits;
+  }),
+  c.in-Ok.ensures.sent,
+)

@@ -1,0 +1,65 @@
+-- Worked examples: the bytes of some objects, and the objects and bytes of small files.
+use Rattle.std.specs.Prelude.{◌≡◌, pos, negsuc, true, [], ◌∷◌, refl}
+use Rattle.std.specs.Str.{chars, is_utf8}
+use lib.Utf8.{encode}
+use Rattle.plist_base.specs.Trees as trees
+use Rattle.plist_base.specs.Trees.{Tree, Leaf, Array, Dictionary, trees_of, members_of}
+use Rattle.plist_binread.specs.Container.{head_of}
+use Rattle.plist_binread.specs.Object.{object_in}
+use Rattle.plist_binread.specs.Visits.{visits_of, visits}
+use Rattle.plist_binwrite.specs.Forms.{least_width, length_form, units_of, integer_form, uid_form, text_form}
+use Rattle.plist_binwrite.specs.Counts.{object_count}
+use Rattle.plist_binwrite.specs.Sizes.{file_size}
+
+-- ---- objects
+
+one_byte : integer_form (pos 255) ≡ 0x10 ∷ 0xff ∷ []
+unfolding least_width
+one_byte = refl
+
+two_bytes : integer_form (pos 256) ≡ 0x11 ∷ 1 ∷ 0 ∷ []
+unfolding least_width
+two_bytes = refl
+
+minus_one : integer_form (negsuc 0) ≡ 0x13 ∷ 0xff ∷ 0xff ∷ 0xff ∷ 0xff ∷ 0xff ∷ 0xff ∷ 0xff ∷ 0xff ∷ []
+minus_one = refl
+
+sixteen_bytes : integer_form (pos 18446744073709551615) ≡ 0x14 ∷ 0 ∷ 0 ∷ 0 ∷ 0 ∷ 0 ∷ 0 ∷ 0 ∷ 0 ∷ 0xff ∷ 0xff ∷ 0xff ∷ 0xff ∷ 0xff ∷ 0xff ∷ 0xff ∷ 0xff ∷ []
+unfolding least_width
+sixteen_bytes = refl
+
+wide_uid : uid_form 65536 ≡ 0x83 ∷ 0 ∷ 1 ∷ 0 ∷ 0 ∷ []
+unfolding least_width
+wide_uid = refl
+
+accent : text_form (0xc3 ∷ 0xa9 ∷ []) ≡ 0x61 ∷ 0 ∷ 0xe9 ∷ []
+unfolding least_width length_form units_of chars
+accent = refl
+
+-- ---- files
+
+-- a truth value: the least file
+truth_size : file_size (Leaf (trees.Boolean true)) ≡ 42
+unfolding least_width length_form units_of chars
+truth_size = refl
+
+-- a text that stands twice is one object
+twice_count : object_count (Array (trees_of (Leaf (trees.String (97 ∷ [])) ∷ Leaf (trees.String (97 ∷ [])) ∷ []))) ≡ 2
+twice_count = refl
+
+twice_size : file_size (Array (trees_of (Leaf (trees.String (97 ∷ [])) ∷ Leaf (trees.String (97 ∷ [])) ∷ []))) ≡ 47
+unfolding least_width length_form units_of chars
+twice_size = refl
+
+-- a key is counted as a text
+key_count : object_count (Dictionary (members_of ((107 ∷ [], Leaf (trees.String (107 ∷ []))) ∷ []))) ≡ 2
+key_count = refl
+
+-- each array is one object, also where it equals another
+arrays_count : object_count (Array (trees_of (Array (trees_of []) ∷ Array (trees_of []) ∷ []))) ≡ 3
+arrays_count = refl
+
+-- the collections of [["x"], "y"]
+nested_visits : visits (98 ∷ 112 ∷ 108 ∷ 105 ∷ 115 ∷ 116 ∷ 48 ∷ 48 ∷ 0xa2 ∷ 1 ∷ 2 ∷ 0xa1 ∷ 3 ∷ 0x51 ∷ 0x78 ∷ 0x51 ∷ 0x79 ∷ 8 ∷ 11 ∷ 15 ∷ 13 ∷ 0 ∷ 0 ∷ 0 ∷ 0 ∷ 0 ∷ 0 ∷ 1 ∷ 1 ∷ 0 ∷ 0 ∷ 0 ∷ 0 ∷ 0 ∷ 0 ∷ 0 ∷ 4 ∷ 0 ∷ 0 ∷ 0 ∷ 0 ∷ 0 ∷ 0 ∷ 0 ∷ 0 ∷ 0 ∷ 0 ∷ 0 ∷ 0 ∷ 0 ∷ 0 ∷ 0 ∷ 17 ∷ []) ≡ 0 ∷ 1 ∷ []
+unfolding head_of object_in visits_of visits is_utf8 chars encode
+nested_visits = refl

@@ -1,0 +1,17 @@
+pub mod Forms
+pub mod Marks
+pub mod Walks
+pub mod Numberings
+pub mod Written
+pub mod Held
+pub mod Laying
+pub mod Fronts
+pub mod Stacks
+pub mod Pendings
+pub mod Counts
+pub mod Sizes
+pub mod Files
+pub mod Sending
+pub mod Taking
+pub mod Laws
+pub mod Examples

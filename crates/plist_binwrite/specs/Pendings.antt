@@ -1,0 +1,40 @@
+-- What contracts see of the events of the open property list.
+use Rattle.std.specs.Prelude.{◌≡◌, Bool, true, false, List, [], ◌∷◌, ◌++◌, None, Some, map}
+use Rattle.plist_base.specs.declared.error.EventKind.{EventKind}
+use Rattle.plist_base.specs.declared.error.EventKind.TheVariants as event_kind
+use Rattle.plist_base.specs.Events.{PlainEvent, event_of, kind_of_event}
+use Rattle.plist_base.specs.Faults.{Fault, UnexpectedEventType, fault_nowhere}
+use Rattle.plist_base.specs.Wants.{Want, wanted_after}
+use Rattle.plist_binwrite.specs.declared.pending.Pending.{Pending}
+
+-- the events
+abbrev pub events_held : Pending → List PlainEvent
+events_held pending = map event_of pending.events.items
+
+-- are they those of a whole property list?
+abbrev pub is_whole : Pending → Bool
+is_whole pending = pending.whole
+
+-- what has to stand in the place of a refused event: a value where nothing is held
+abbrev pub expected_instead : List PlainEvent → EventKind
+expected_instead [] = event_kind.ValueOrStartCollection
+expected_instead (event ∷ events) = event_kind.DictionaryKeyOrEndCollection
+
+-- the fault of an event that can't follow those held
+abbrev pub refusal_of : List PlainEvent → PlainEvent → Fault
+refusal_of held event = fault_nowhere (UnexpectedEventType (expected_instead held) (kind_of_event event))
+
+-- nothing more is wanted
+abbrev pub is_nothing : List Want → Bool
+is_nothing [] = true
+is_nothing (want ∷ wants) = false
+
+-- the event is taken
+abbrev pub Takes : (before : Pending) → PlainEvent → (after : Pending) → Type 0
+Takes before event after =
+    (events_held after ≡ events_held before ++ event ∷ [])
+    × ((wanted : List Want) × (wanted_after (events_held before ++ event ∷ []) ≡ Some wanted) × (is_whole after ≡ is_nothing wanted))
+
+-- the event can't follow those held, and this is its fault
+abbrev pub IsRefused : (held : List PlainEvent) → PlainEvent → Fault → Type 0
+IsRefused held event fault = (wanted_after (held ++ event ∷ []) ≡ None) × (fault ≡ refusal_of held event)

@@ -1,0 +1,26 @@
+-- What goes out at the end of a property list.
+use Rattle.std.specs.Prelude.{◌≡◌, ℕ, List, [], Option, None, Some, Ok, Err}
+use Rattle.std.specs.Io.KnownBytes.{Appends, Keeps}
+use Rattle.plist_base.specs.Bracketing.{AreAlike, bracketing}
+use Rattle.plist_base.specs.Events.{PlainEvent}
+use Rattle.plist_base.specs.Faults.{FaultKind, Io, PlistTooLarge}
+use Rattle.plist_base.specs.Trees.{Tree}
+use Rattle.plist_base.specs.Wants.{wanted_after}
+use Rattle.plist_base.specs.Writing.{Answer, MatchKind}
+use Rattle.plist_binwrite.specs.Files.{IsFileOf}
+use Rattle.plist_binwrite.specs.Fronts.{AppendsFront}
+
+-- the file of the tree whose events these are
+abbrev pub IsFileOfEvents : List PlainEvent → List ℕ → Type 0
+IsFileOfEvents events file = (tree : Tree) → AreAlike events (bracketing tree) → IsFileOf tree file
+
+-- what went out where the call failed: of a device's fault a beginning of the file, else nothing; a file that is too large is refused for memory
+abbrev pub FailsWith : FaultKind → (events : List PlainEvent) (old new : Option (List ℕ)) → Type 0
+FailsWith Io events old new = (wanted_after events ≡ Some []) × ((file : List ℕ) × IsFileOfEvents events file × AppendsFront old new file)
+FailsWith PlistTooLarge events old new = ⊥
+FailsWith kind events old new = Keeps old new
+
+-- what sending the file of whole events does
+abbrev pub Sends : (events : List PlainEvent) → Answer → (old new : Option (List ℕ)) → Type 0
+Sends events (Ok done) old new = (file : List ℕ) × IsFileOfEvents events file × Appends old new file
+Sends events (Err fault) old new = (fault.offset ≡ None) × MatchKind fault.kind ⊥ (FailsWith fault.kind events old new) ⊥

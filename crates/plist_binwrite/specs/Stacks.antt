@@ -1,0 +1,70 @@
+-- The stack of what has to come, xs the code holds it: without the value that is wanted where nothing
+-- is held. In these lists the topmost want comes first.
+use Rattle.std.specs.Prelude.{◌≡◌, Bool, true, false, ◌&&◌, List, [], ◌∷◌, Option, None, Some, map, reverse, ⊤}
+use Rattle.plist_base.specs.Events.{PlainEvent}
+use Rattle.plist_base.specs.Wants.{Want, OneValue, Items, Pairs, Change, Refused, Gone, Kept, Pushed, Became, change_of}
+use Rattle.plist_binwrite.specs.declared.wants.Want as code_want
+use Rattle.plist_binwrite.specs.declared.wants.Want.TheVariants as want
+use Rattle.plist_binwrite.specs.declared.wants.Change as code_change
+use Rattle.plist_binwrite.specs.declared.wants.Change.TheVariants as change
+
+-- what contracts see of a want, of a change and of the stack
+abbrev pub want_seen : code_want.Want → Want
+want_seen want.OneValue = OneValue
+want_seen want.Items = Items
+want_seen want.Pairs = Pairs
+
+abbrev pub change_seen : code_change.Change → Change
+change_seen change.Refused = Refused
+change_seen change.Gone = Gone
+change_seen change.Kept = Kept
+change_seen (change.Pushed w) = Pushed (want_seen w)
+change_seen (change.Became w) = Became (want_seen w)
+
+abbrev pub stack_of : List code_want.Want → List Want
+stack_of wants = map want_seen (reverse wants)
+
+-- with the value that is wanted where nothing is held
+abbrev pub with_root : List Want → List Want
+with_root [] = OneValue ∷ []
+with_root (top ∷ rest) = top ∷ rest
+
+-- what the event does to the topmost want
+abbrev pub change_on_top : List Want → PlainEvent → Change
+change_on_top [] event = change_of OneValue event
+change_on_top (top ∷ rest) event = change_of top event
+
+-- the stack after a change that isn't refused
+abbrev pub Puts : (old : List Want) → Change → (new : List Want) → Type 0
+Puts old Refused new = ⊤
+Puts [] Gone new = new ≡ []
+Puts (top ∷ rest) Gone new = new ≡ rest
+Puts [] Kept new = ⊤
+Puts (top ∷ rest) Kept new = new ≡ top ∷ rest
+Puts [] (Pushed want) new = ⊤
+Puts (top ∷ rest) (Pushed want) new = new ≡ want ∷ top ∷ rest
+Puts [] (Became want) new = new ≡ want ∷ []
+Puts (top ∷ rest) (Became want) new = new ≡ want ∷ rest
+
+-- ---- whether a stack is another
+
+abbrev pub want_eq : Want → Want → Bool
+want_eq OneValue OneValue = true
+want_eq Items Items = true
+want_eq Pairs Pairs = true
+want_eq a b = false
+
+abbrev pub stack_eq : List Want → List Want → Bool
+stack_eq [] [] = true
+stack_eq [] (b ∷ ys) = false
+stack_eq (a ∷ xs) [] = false
+stack_eq (a ∷ xs) (b ∷ ys) = want_eq a b && stack_eq xs ys
+
+abbrev pub is_stack : Option (List Want) → List Want → Bool
+is_stack None stack = false
+is_stack (Some wants) stack = stack_eq wants stack
+
+-- what is wanted, where the code holds these wants, and whether a root is complete
+abbrev pub wanted_now : (complete : Bool) → List code_want.Want → List Want
+wanted_now true wants = []
+wanted_now false wants = with_root (stack_of wants)

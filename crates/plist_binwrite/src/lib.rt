@@ -1,0 +1,27 @@
+//! Writes binary property lists.
+//!
+//! The main contract is that of [`BinaryWriter`]: the event that completes a tree sends a file of it,
+//! in the least forms, that unfolds to the events; no other event sends a byte.
+#![tactic(auto)]
+
+mod children;
+mod completion;
+mod forms;
+mod kinds;
+mod layout;
+mod numbering;
+mod pending;
+mod plan;
+mod scalar;
+mod send;
+mod skips;
+mod text;
+mod wants;
+mod writer;
+
+pub use writer::BinaryWriter;
+
+#[cfg(test)]
+mod refusal_tests;
+#[cfg(test)]
+mod tests;
