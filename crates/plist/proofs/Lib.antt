@@ -8,3 +8,4 @@ pub mod Starts
 pub mod Collected
 pub mod OneTree
 pub mod Handed
+pub mod Filed

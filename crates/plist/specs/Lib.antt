@@ -12,3 +12,4 @@ pub mod Laws
 pub mod Remaining
 pub mod Collecting
 pub mod Handing
+pub mod Sent

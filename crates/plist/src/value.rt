@@ -4,6 +4,8 @@ ghost use Rattle.std.specs.Prelude.{◌≡◌, List, Result, map, MatchResult};
 ghost use Rattle.std.specs.Iterator.{Drains, IsFinite, Yields};
 ghost use Rattle.plist_base.specs.Bracketing.{AreAlike, bracketing};
 ghost use Rattle.plist_base.specs.Events.{item_of};
+ghost use Rattle.plist_base.specs.Writing.{answer_of};
+ghost use Rattle.plist.specs.Sent.{SendsTree};
 ghost use Rattle.plist.specs.Collecting.{IsBuiltFrom, built_tree};
 ghost use Rattle.plist_base.specs.Trees.{Tree};
 ghost use Rattle.plist.specs.LastWins.{last_wins};
@@ -12,8 +14,11 @@ ghost use Rattle.plist.specs.Views.{kind_of_tree, tree_of};
 
 use crate::Dictionary;
 use crate::stream::{Builder, Events};
+use crate::writing::file_of;
 use plist_base::{Date, Error, Event, EventKind, Integer, RealBits, Uid};
+use plist_binwrite::send_whole;
 use std::alloc::Global;
+use std::io::Write;
 
 /// A property list: a scalar, an array, or a dictionary.
 #[derive(Debug, Drop)]
@@ -76,6 +81,23 @@ impl Value {
             }
         }
         builder.finish()
+    }
+
+    /// Writes the value as a binary property list, behind what was written before, and flushes.
+    ///
+    /// # Errors
+    ///
+    /// - `PlistTooLarge` where the file would have 2^64 bytes or more, and `OutOfMemory`: nothing
+    ///   of it went out.
+    /// - `Io` where a write failed or took no byte, and where the flush failed: a beginning of the
+    ///   file went out, all of it where the flush failed.
+    pub fn to_writer_binary<W: Write>(&self, alloc: Global, writer: &mut W) -> Result<(), Error>
+        ensures sent { SendsTree (tree_of self.now) (answer_of result) (W.contents writer.old) (W.contents writer.new) }
+    {
+        match file_of(alloc, self) {
+            Ok(file) => send_whole(writer, file.as_slice()),
+            Err(error) => Err(error),
+        }
     }
 }
 

@@ -1,14 +1,18 @@
 //! Values as the events that a writer takes.
 
-ghost use Rattle.std.specs.Prelude.{◌≡◌};
+ghost use Rattle.std.specs.Prelude.{◌≡◌, ℕ, List, Option, Err, IfOk, IfErr};
 ghost use Rattle.plist_base.specs.Bracketing.{bracketing};
 ghost use Rattle.plist_base.specs.Events.{item_of};
+ghost use Rattle.plist_base.specs.Faults.{fault_of};
 ghost use Rattle.plist_base.specs.Writing.{answer_of};
+ghost use Rattle.plist_binwrite.specs.Files.{IsFileOf};
 ghost use Rattle.plist.specs.Handing.{Hands, HandsItem};
+ghost use Rattle.plist.specs.Sent.{SendsTree};
 ghost use Rattle.plist.specs.Views.{tree_of};
 
 use crate::Value;
 use plist_base::{Error, Event, Writer};
+use plist_binwrite::BinaryWriter;
 use std::alloc::Global;
 
 // Hands an item's event to the writer, or passes its fault on.
@@ -36,4 +40,20 @@ pub fn write_value<W: Writer>(alloc: Global, value: &Value, writer: &mut W) -> R
         }
     }
     Ok(())
+}
+
+/// The file of the value, in memory.
+///
+/// # Errors
+///
+/// `PlistTooLarge` where it would have 2^64 bytes or more; `OutOfMemory`.
+pub fn file_of(alloc: Global, value: &Value) -> Result<Vec<u8>, Error>
+    ensures file { IfOk result (λ file. IsFileOf (tree_of value.now) file.items) }
+    ensures refused { IfErr result (λ error. (sent : Option (List ℕ)) → SendsTree (tree_of value.now) (Err (fault_of error)) sent sent) }
+{
+    let mut writer = BinaryWriter::new(alloc, Vec::new(alloc));
+    match write_value(alloc, value, &mut writer) {
+        Ok(()) => Ok(writer.into_inner()),
+        Err(error) => Err(error),
+    }
 }

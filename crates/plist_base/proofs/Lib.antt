@@ -5,3 +5,4 @@ pub mod DateShifts
 pub mod DateEncoding
 pub mod DateRounding
 pub mod Numerals
+pub mod FailedKinds

@@ -19,6 +19,7 @@ mod text;
 mod wants;
 mod writer;
 
+pub use send::send_whole;
 pub use writer::BinaryWriter;
 
 #[cfg(test)]
