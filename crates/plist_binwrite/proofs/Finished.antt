@@ -142,7 +142,7 @@ module _ (t : Tree) (numbers firsts file table : List ℕ) (plan : IsPlan (br t)
   size_is =
       let l = laid n.objects n.describes in
       let count : length table ≡ object_count t = long ∙ planned_count (br t) t numbers firsts refl plan all in
-      let bytes = bodies_size t numbers firsts plan all (reference_width (length table)) n.objects n.describes (λ p h b. sits_at (br t) (t, refl) p h b) l.order l.distinct
+      let bytes = bodies_size t numbers firsts plan all (reference_width (length table)) (λ p h b. sits_at (br t) (t, refl) p h b) n.objects n.describes l.order l.distinct
       (λ k h. omega (arith, long, l.below k h))
       (λ k h. there t (num_of numbers) n.rank n.objects file table l all_placed root n.numbering few short k (omega (arith, long, h))) in
       let place : length file ≡ table_place t = ap length l.is ∙ length-magic (bodies (reference_width (length table)) n.objects l.order) ∙ ap (λ k. 8 + k) bytes ∙ ap (λ c. 8 + (collections_size (reference_width c) t + scalars_size t)) count in

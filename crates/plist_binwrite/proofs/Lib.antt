@@ -20,3 +20,4 @@ pub mod Counted
 pub mod Takings
 pub mod Pended
 pub mod Sized
+pub mod Counting

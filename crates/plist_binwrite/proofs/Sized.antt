@@ -3,13 +3,12 @@ use Rattle.std.proofs.Common.{◌≡◌, ◌⊎◌, inl, inr, ℕ, zero, suc, �
 use Rattle.std.specs.List.{AllByRecursion, IsDistinct, list_any, range_with_len}
 use Rattle.std.specs.Set.{is_member, unique_keys}
 use Rattle.std.proofs.lemmas.Bool.Decides.{eqb_tells}
-use Rattle.plist_base.specs.Trees.{number_of_trees, number_of_members}
 use Rattle.plist_binread.specs.Object.{Object}
 use Rattle.plist_binwrite.specs.Marks.{Scalar, Ev, start_array, start_dictionary, stop, leaf, Tree, Leaf, Array, Dictionary, Trees, NoTrees, TreeAnd, Members, NoMembers, MemberAnd, br, br_items, br_pairs, size, Sits, SitsItems, SitsPairs}
 use Rattle.plist_binwrite.specs.Numberings.{refs, pairs, obj_of}
 use Rattle.plist_binwrite.specs.Forms.{form, length_form, table_form, keys_of, values_of}
 use Rattle.plist_binwrite.specs.Counts.{scalar_eq, leaves}
-use Rattle.plist_binwrite.specs.Sizes.{total, scalar_size, array_size, dictionary_size, collections_size, collections_size_of_items, collections_size_of_pairs, scalars_size}
+use Rattle.plist_binwrite.specs.Sizes.{total, scalar_size, array_size, dictionary_size, object_size, collections_size, collections_size_of_items, collections_size_of_pairs, scalars_size}
 use Rattle.plist_binwrite.specs.Written.{bodies}
 use Rattle.plist_binwrite.specs.Held.{is_stop, event_at, Owner, shared, alone, own, owner, num_of, IsPlan, AllNumbered, Describes}
 use Rattle.plist_binwrite.proofs.Sitting.{sits_items, sits_pairs, sits_item, sits_next, sits_value, sits_next_pair}
@@ -167,13 +166,36 @@ total_order f order count distinct below all =
     same_total eqb (λ a b. eqb_tells a b) f order (range_with_len 0 count) distinct (range_distinct 0 count)
     (λ q. both_ways (is_member eqb order q) (is_member eqb (range_with_len 0 count) q) (λ h. member_range 0 count q (omega arith) (omega (arith, below q h))) (λ h. all q (omega (arith, (range_member 0 count q h).1))))
 
-total_firsts : {K : Type 0} (f : ℕ → ℕ) (wt : K → ℕ) (g : ℕ → K) (fs : List ℕ) (i : ℕ) → ((k : ℕ) → k < length fs → f (i + k) ≡ wt (g (get_or fs k 0))) → total f (range_with_len i (length fs)) ≡ total wt (map g fs)
-total_firsts f wt g [] i h = refl
-total_firsts f wt g (p ∷ fs) i h =
+total_firsts : (f sizes : ℕ → ℕ) (fs : List ℕ) (i : ℕ) → ((k : ℕ) → k < length fs → f (i + k) ≡ sizes (get_or fs k 0)) → total f (range_with_len i (length fs)) ≡ total sizes fs
+total_firsts f sizes [] i h = refl
+total_firsts f sizes (p ∷ fs) i h =
     let zero_first : i + 0 ≡ i = omega arith in
-    let first : f i ≡ wt (g p) = ap f (sym zero_first) ∙ h 0 (omega arith) in
-    let rest = total_firsts f wt g fs (i + 1) (λ k l. (let e : i + 1 + k ≡ i + suc k = omega arith in ap f e) ∙ h (suc k) (omega arith)) in
+    let first : f i ≡ sizes p = ap f (sym zero_first) ∙ h 0 (omega arith) in
+    let rest = total_firsts f sizes fs (i + 1) (λ k l. (let e : i + 1 + k ≡ i + suc k = omega arith in ap f e) ∙ h (suc k) (omega arith)) in
     omega (arith, first, rest)
+
+total_map : {K : Type 0} (sizes : ℕ → ℕ) (wt : K → ℕ) (g : ℕ → K) (fs : List ℕ) → ((k : ℕ) → k < length fs → sizes (get_or fs k 0) ≡ wt (g (get_or fs k 0))) → total sizes fs ≡ total wt (map g fs)
+total_map sizes wt g [] h = refl
+total_map sizes wt g (p ∷ fs) h =
+    let first : sizes p ≡ wt (g p) = h 0 (omega arith) in
+    let rest = total_map sizes wt g fs (λ k l. h (suc k) (omega arith)) in
+    omega (arith, first, rest)
+
+-- an object's form has its size
+pub form_size : (w : ℕ) (num : ℕ → ℕ) (t : Tree) (p : ℕ) → length (form w (obj_of num t p)) ≡ object_size w t
+form_size w num (Leaf x) p = refl
+form_size w num (Array ts) p =
+    let n = length-refs num ts (p + 1) in
+    length-append (length_form 0xa (length (refs num ts (p + 1)))) (table_form w (refs num ts (p + 1)))
+    ∙ ap (λ k. length (length_form 0xa (length (refs num ts (p + 1)))) + k) (length-table w (refs num ts (p + 1))) ∙ ap (λ k. array_size w k) n
+form_size w num (Dictionary ms) p =
+    let n = length-pairs num ms (p + 1) in
+    let keys : length (table_form w (keys_of (pairs num ms (p + 1)))) ≡ length (pairs num ms (p + 1)) * w = length-table w (keys_of (pairs num ms (p + 1))) ∙ ap (λ k. k * w) (length-keys_of (pairs num ms (p + 1))) in
+    let values : length (table_form w (values_of (pairs num ms (p + 1)))) ≡ length (pairs num ms (p + 1)) * w = length-table w (values_of (pairs num ms (p + 1))) ∙ ap (λ k. k * w) (length-values_of (pairs num ms (p + 1))) in
+    let both = length-append (table_form w (keys_of (pairs num ms (p + 1)))) (table_form w (values_of (pairs num ms (p + 1)))) in
+    let all = length-append (length_form 0xd (length (pairs num ms (p + 1)))) (table_form w (keys_of (pairs num ms (p + 1))) ++ table_form w (values_of (pairs num ms (p + 1)))) in
+    let e : length (form w (obj_of num (Dictionary ms) p)) ≡ dictionary_size w (length (pairs num ms (p + 1))) = omega (arith, all, both, keys, values) in
+    e ∙ ap (λ k. dictionary_size w k) n
 
 -- ---- by owners
 
@@ -205,37 +227,19 @@ module _ (wt : Owner → ℕ) where
   owners_total (leaf x ∷ es) q = choose (is_member owner_eq (owners_from es (q + 1)) (shared x)) (is_member scalar_eq (leaves es) x) (unique_keys owner_eq (owners_from es (q + 1))) (unique_keys scalar_eq (leaves es)) x (alone_total es (q + 1)) (mem_shared es (q + 1) x) (owners_total es (q + 1))
 
   -- the collections of a tree that stands in the events
-  module _ (es : List Ev) (w : ℕ) (num : ℕ → ℕ) (is : (t : Tree) (p : ℕ) → Sits es t p → wt (alone p) ≡ length (form w (obj_of num t p))) where
-    array_is : (ts : Trees) (p : ℕ) → Sits es (Array ts) p → wt (alone p) ≡ array_size w (number_of_trees ts)
-    array_is ts p s =
-        let n = length-refs num ts (p + 1) in
-        is (Array ts) p s ∙ length-append (length_form 0xa (length (refs num ts (p + 1)))) (table_form w (refs num ts (p + 1)))
-        ∙ ap (λ k. length (length_form 0xa (length (refs num ts (p + 1)))) + k) (length-table w (refs num ts (p + 1))) ∙ ap (λ k. array_size w k) n
-
-    dictionary_is : (ms : Members) (p : ℕ) → Sits es (Dictionary ms) p → wt (alone p) ≡ dictionary_size w (number_of_members ms)
-    dictionary_is ms p s =
-        let ps = pairs num ms (p + 1) in
-        let n = length-pairs num ms (p + 1) in
-        let keys : length (table_form w (keys_of (pairs num ms (p + 1)))) ≡ length (pairs num ms (p + 1)) * w = length-table w (keys_of (pairs num ms (p + 1))) ∙ ap (λ k. k * w) (length-keys_of (pairs num ms (p + 1))) in
-        let values : length (table_form w (values_of (pairs num ms (p + 1)))) ≡ length (pairs num ms (p + 1)) * w = length-table w (values_of (pairs num ms (p + 1))) ∙ ap (λ k. k * w) (length-values_of (pairs num ms (p + 1))) in
-        let both = length-append (table_form w (keys_of (pairs num ms (p + 1)))) (table_form w (values_of (pairs num ms (p + 1)))) in
-        let all = length-append (length_form 0xd (length (pairs num ms (p + 1)))) (table_form w (keys_of (pairs num ms (p + 1))) ++ table_form w (values_of (pairs num ms (p + 1)))) in
-        let here = is (Dictionary ms) p s in
-        let e : wt (alone p) ≡ dictionary_size w (length (pairs num ms (p + 1))) = omega (arith, here, all, both, keys, values) in
-        e ∙ ap (λ k. dictionary_size w k) n
-
+  module _ (es : List Ev) (w : ℕ) (is : (t : Tree) (p : ℕ) → Sits es t p → wt (alone p) ≡ object_size w t) where
     mutual
       tree_total : (t : Tree) (p : ℕ) (rest : List Ev) → Sits es t p → alone_total (br t ++ rest) p ≡ collections_size w t + alone_total rest (p + size t)
       tree_total (Leaf x) p rest s = (let e : alone_total rest (p + 1) ≡ 0 + alone_total rest (p + 1) = omega arith in e)
       tree_total (Array ts) p rest s =
           let inner = items_total ts (p + 1) (stop ∷ rest) (sits_items s) in
-          let head = array_is ts p s in
+          let head = is (Array ts) p s in
           ap (λ l. wt (alone p) + alone_total l (p + 1)) (append_assoc (br_items ts) (stop ∷ []) rest)
           ∙ (let e : p + 1 + length (br_items ts) + 1 ≡ p + size (Array ts) = omega (arith, length-append (br_items ts) (stop ∷ [])) in
           let last = ap (alone_total rest) e in omega (arith, inner, head, last))
       tree_total (Dictionary ms) p rest s =
           let inner = pairs_total ms (p + 1) (stop ∷ rest) (sits_pairs s) in
-          let head = dictionary_is ms p s in
+          let head = is (Dictionary ms) p s in
           ap (λ l. wt (alone p) + alone_total l (p + 1)) (append_assoc (br_pairs ms) (stop ∷ []) rest)
           ∙ (let e : p + 1 + length (br_pairs ms) + 1 ≡ p + size (Dictionary ms) = omega (arith, length-append (br_pairs ms) (stop ∷ [])) in
           let last = ap (alone_total rest) e in omega (arith, inner, head, last))
@@ -260,46 +264,58 @@ module _ (wt : Owner → ℕ) where
 
 -- ---- all the objects
 
-module _ (t : Tree) (numbers firsts : List ℕ) (plan : IsPlan (br t) numbers firsts) (all : AllNumbered (br t) numbers (length firsts)) (w : ℕ) (objects : ℕ → Object) (describes : Describes (br t) numbers objects)
+module _ (t : Tree) (numbers firsts : List ℕ) (plan : IsPlan (br t) numbers firsts) (all : AllNumbered (br t) numbers (length firsts)) (w : ℕ)
     (found : (p : ℕ) → p < length (br t) → is_stop (event_at (br t) p) ≡ false → (u : Tree) × Sits (br t) u p) where
-  weight : Owner → ℕ
-  weight (shared x) = scalar_size x
-  weight (alone p) = length (form w (objects (num_of numbers p)))
+  module _ (sizes : ℕ → ℕ) (are : (u : Tree) (p : ℕ) → Sits (br t) u p → sizes p ≡ object_size w u) where
+    weight : Owner → ℕ
+    weight (shared x) = scalar_size x
+    weight (alone p) = sizes p
 
-  alone_is : (u : Tree) (p : ℕ) → Sits (br t) u p → weight (alone p) ≡ length (form w (obj_of (num_of numbers) u p))
-  unfolding weight
-  alone_is u p s = ap (λ o. length (form w o)) (describes u p s)
+    alone_is : (u : Tree) (p : ℕ) → Sits (br t) u p → weight (alone p) ≡ object_size w u
+    unfolding weight
+    alone_is u p s = are u p s
 
-  weight_is : (u : Tree) (p : ℕ) → Sits (br t) u p → length (form w (obj_of (num_of numbers) u p)) ≡ weight (owner (br t) p)
-  unfolding weight
-  weight_is (Leaf x) p s = sym (ap (λ e. weight (own e p)) (first_event (br t) p (leaf x) s.rest s.is))
-  weight_is (Array ts) p s = sym (ap (λ e. weight (own e p)) (first_event (br t) p start_array ((br_items ts ++ stop ∷ []) ++ s.rest) s.is) ∙ alone_is (Array ts) p s)
-  weight_is (Dictionary ms) p s = sym (ap (λ e. weight (own e p)) (first_event (br t) p start_dictionary ((br_pairs ms ++ stop ∷ []) ++ s.rest) s.is) ∙ alone_is (Dictionary ms) p s)
+    weight_is : (u : Tree) (p : ℕ) → Sits (br t) u p → sizes p ≡ weight (owner (br t) p)
+    unfolding weight
+    weight_is (Leaf x) p s = are (Leaf x) p s ∙ sym (ap (λ e. weight (own e p)) (first_event (br t) p (leaf x) s.rest s.is))
+    weight_is (Array ts) p s = sym (ap (λ e. weight (own e p)) (first_event (br t) p start_array ((br_items ts ++ stop ∷ []) ++ s.rest) s.is))
+    weight_is (Dictionary ms) p s = sym (ap (λ e. weight (own e p)) (first_event (br t) p start_dictionary ((br_pairs ms ++ stop ∷ []) ++ s.rest) s.is))
 
-  object_weight : (k : ℕ) → k < length firsts → length (form w (objects k)) ≡ weight (owner (br t) (get_or firsts k 0))
-  object_weight k h =
-      let f = plan.known k h in
-      let u = found (get_or firsts k 0) f.0 f.2 in
-      ap (λ n. length (form w (objects n))) (sym f.1) ∙ ap (λ o. length (form w o)) (describes u.0 (get_or firsts k 0) u.1) ∙ weight_is u.0 (get_or firsts k 0) u.1
+    first_weight : (k : ℕ) → k < length firsts → sizes (get_or firsts k 0) ≡ weight (owner (br t) (get_or firsts k 0))
+    first_weight k h = let f = plan.known k h in let u = found (get_or firsts k 0) f.0 f.2 in weight_is u.0 (get_or firsts k 0) u.1
 
-  sits_whole : Sits (br t) t 0
-  sits_whole = record { rest = []; is = sym (append-nil (br t)) }
+    sits_whole : Sits (br t) t 0
+    sits_whole = record { rest = []; is = sym (append-nil (br t)) }
 
-  shared_total : (xs : List Scalar) → total (λ x. weight (shared x)) xs ≡ total scalar_size xs
-  unfolding weight
-  shared_total [] = refl
-  shared_total (x ∷ xs) = ap (λ n. scalar_size x + n) (shared_total xs)
+    shared_total : (xs : List Scalar) → total (λ x. weight (shared x)) xs ≡ total scalar_size xs
+    unfolding weight
+    shared_total [] = refl
+    shared_total (x ∷ xs) = ap (λ n. scalar_size x + n) (shared_total xs)
 
-  pub bodies_size : (order : List ℕ) → IsDistinct eqb order → ((k : ℕ) → list_any (eqb k) order ≡ true → k < length firsts) → ((k : ℕ) → k < length firsts → list_any (eqb k) order ≡ true)
-      → length (bodies w objects order) ≡ collections_size w t + scalars_size t
-  bodies_size order distinct below whole =
-      let whole_tree = tree_total weight (br t) w (num_of numbers) alone_is t 0 [] sits_whole in
-      let nil : alone_total weight (br t ++ []) 0 ≡ alone_total weight (br t) 0 = ap (λ l. alone_total weight l 0) (append-nil (br t)) in
-      length-bodies w objects order
-      ∙ total_order (λ k. length (form w (objects k))) order (length firsts) distinct below whole
-      ∙ total_firsts (λ k. length (form w (objects k))) weight (owner (br t)) firsts 0 (λ k h. (let z : 0 + k ≡ k = omega arith in ap (λ n. length (form w (objects n))) z) ∙ object_weight k h)
-      ∙ same_total owner_eq owners_tell weight (map (owner (br t)) firsts) (unique_keys owner_eq (owners_from (br t) 0)) (firsts_distinct (br t) numbers firsts plan) (unique_distinct owner_eq owners_tell (owners_from (br t) 0))
-      (λ q. owners_of_firsts (br t) numbers firsts plan all q ∙ sym (unique_member owner_eq owners_tell (owners_from (br t) 0) q))
-      ∙ owners_total weight (br t) 0
-      ∙ (let e : alone_total weight (br t) 0 + total (λ x. weight (shared x)) (unique_keys scalar_eq (leaves (br t))) ≡ collections_size w t + scalars_size t
-      = omega (arith, whole_tree, nil, shared_total (unique_keys scalar_eq (leaves (br t)))) in e)
+    -- the first events of the objects have the sizes of all collections and different scalars
+    pub firsts_size : total sizes firsts ≡ collections_size w t + scalars_size t
+    firsts_size =
+        let whole_tree = tree_total weight (br t) w alone_is t 0 [] sits_whole in
+        let nil : alone_total weight (br t ++ []) 0 ≡ alone_total weight (br t) 0 = ap (λ l. alone_total weight l 0) (append-nil (br t)) in
+        total_map sizes weight (owner (br t)) firsts first_weight
+        ∙ same_total owner_eq owners_tell weight (map (owner (br t)) firsts) (unique_keys owner_eq (owners_from (br t) 0)) (firsts_distinct (br t) numbers firsts plan) (unique_distinct owner_eq owners_tell (owners_from (br t) 0))
+        (λ q. owners_of_firsts (br t) numbers firsts plan all q ∙ sym (unique_member owner_eq owners_tell (owners_from (br t) 0) q))
+        ∙ owners_total weight (br t) 0
+        ∙ (let e : alone_total weight (br t) 0 + total (λ x. weight (shared x)) (unique_keys scalar_eq (leaves (br t))) ≡ collections_size w t + scalars_size t
+        = omega (arith, whole_tree, nil, shared_total (unique_keys scalar_eq (leaves (br t)))) in e)
+
+  module _ (objects : ℕ → Object) (describes : Describes (br t) numbers objects) where
+    -- the size of the object of an event
+    abbrev pub size_at : ℕ → ℕ
+    size_at p = length (form w (objects (num_of numbers p)))
+
+    pub sizes_at : (u : Tree) (p : ℕ) → Sits (br t) u p → size_at p ≡ object_size w u
+    sizes_at u p s = ap (λ o. length (form w o)) (describes u p s) ∙ form_size w (num_of numbers) u p
+
+    pub bodies_size : (order : List ℕ) → IsDistinct eqb order → ((k : ℕ) → list_any (eqb k) order ≡ true → k < length firsts) → ((k : ℕ) → k < length firsts → list_any (eqb k) order ≡ true)
+        → length (bodies w objects order) ≡ collections_size w t + scalars_size t
+    bodies_size order distinct below whole =
+        length-bodies w objects order
+        ∙ total_order (λ k. length (form w (objects k))) order (length firsts) distinct below whole
+        ∙ total_firsts (λ k. length (form w (objects k))) size_at firsts 0 (λ k h. (let z : 0 + k ≡ k = omega arith in ap (λ n. length (form w (objects n))) (z ∙ sym (plan.known k h).1)))
+        ∙ firsts_size size_at sizes_at

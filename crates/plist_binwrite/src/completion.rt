@@ -15,7 +15,8 @@ use std::io::Write;
 /// Plans the file of the events of a whole property list, sends it and flushes.
 ///
 /// # Errors
-/// `OutOfMemory` before a byte was sent; `Io` after a beginning of the file was.
+/// `PlistTooLarge` where the file would have 2^64 bytes or more, and `OutOfMemory`, before a byte was
+/// sent; `Io` after a beginning of the file was.
 pub fn complete<W: Write>(alloc: Global, events: &[OwnedEvent], writer: &mut W) -> Result<(), Error>
     requires whole { wanted_after (map event_of events.now) ≡ Some [] }
     ensures { Sends (map event_of events.now) (answer_of result) (W.contents writer.old) (W.contents writer.new) }

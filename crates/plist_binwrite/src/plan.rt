@@ -6,7 +6,7 @@ ghost use Rattle.plist_base.specs.Trees.{Tree};
 ghost use Rattle.plist_binread.specs.Visits.{VisitsOnce};
 ghost use Rattle.plist_binwrite.specs.Marks.{br};
 ghost use Rattle.plist_binwrite.specs.Counts.{HasObjects, object_count};
-ghost use Rattle.plist_binwrite.specs.Sizes.{file_size};
+ghost use Rattle.plist_binwrite.specs.Sizes.{file_size, IsUnplanned};
 ghost use Rattle.plist_binwrite.specs.Written.{IsWrittenAs};
 ghost use Rattle.plist_binwrite.specs.Held.{evs, IsBracketed};
 ghost use Rattle.plist_binwrite.specs.Laying.{closed};
@@ -14,8 +14,9 @@ ghost use Rattle.plist_binwrite.specs.Laying.{closed};
 use crate::forms::{least_width, push_numbers, push_trailer};
 use crate::layout::{Layout, lay_out};
 use crate::numbering::number_events;
+use crate::size::size_of_file;
 use crate::skips::skips_of;
-use plist_base::{Error, OwnedEvent};
+use plist_base::{Error, ErrorKind, OwnedEvent};
 use std::alloc::Global;
 
 // The table and the trailer behind the objects.
@@ -42,7 +43,8 @@ fn close(layout: Layout) -> Result<Vec<u8>, Error>
 /// The file of the tree whose events these are.
 ///
 /// # Errors
-/// `OutOfMemory`, without an offset.
+/// `PlistTooLarge` where the file would have 2^64 bytes or more, before any of it is laid out;
+/// `OutOfMemory`. Neither has an offset.
 pub fn plan_file(alloc: Global, events: &[OwnedEvent]) -> Result<Vec<u8>, Error>
     requires whole { IsBracketed (evs events.now) }
     ensures written { IfOk result (λ file. (t : Tree) → evs events.now ≡ br t → IsWrittenAs t file.items) }
@@ -50,10 +52,14 @@ pub fn plan_file(alloc: Global, events: &[OwnedEvent]) -> Result<Vec<u8>, Error>
     ensures count { IfOk result (λ file. (t : Tree) → evs events.now ≡ br t → HasObjects file.items (object_count t)) }
     ensures size { IfOk result (λ file. (t : Tree) → evs events.now ≡ br t → length file.items ≡ file_size t) }
     ensures fits { IfOk result (λ file. length file.items < 2 ^ 64) }
-    ensures memory { IfErr result (λ error. fault_of error ≡ fault_nowhere OutOfMemory) }
+    ensures refused { IfErr result (λ error. IsUnplanned (evs events.now) (fault_of error)) }
 {
     let skips = skips_of(alloc, events)?;
     let numbering = number_events(alloc, events, skips.as_slice())?;
+    match size_of_file(events, skips.as_slice(), &numbering) {
+        Some(_) => {}
+        None => return Err(ErrorKind::PlistTooLarge.without_position()),
+    }
     let count = numbering.firsts.len();
     let width = least_width((count as u64).saturating_sub(1));
     let layout = lay_out(

@@ -39,8 +39,8 @@ fn units_in(c: char) -> usize
     if (c as u32) < 0x1_0000 { 1 } else { 2 }
 }
 
-// How many units a text has.
-fn count_units(text: &str) -> usize
+/// How many units a text has.
+pub fn count_units(text: &str) -> usize
     ensures value { result ≡ length (units_of text.now) }
 {
     let mut count = 0;
@@ -50,7 +50,8 @@ fn count_units(text: &str) -> usize
     count
 }
 
-fn is_ascii_text(text: &str) -> bool
+/// Whether each byte is ASCII.
+pub fn is_ascii_text(text: &str) -> bool
     ensures value { result ≡ is_ascii_text text.now }
 {
     text.as_bytes().iter().all(|byte| *byte < 128)

@@ -18,10 +18,11 @@ use std::io::Write;
 /// places from its own start.
 ///
 /// # Errors
-/// `UnexpectedEventType` for an event that can't follow those held, and nothing changes. After
+/// `UnexpectedEventType` for an event that can't follow those held, and nothing changes;
+/// `PlistTooLarge` where the file would have 2^64 bytes or more. After `PlistTooLarge`,
 /// `OutOfMemory` and `Io` the writer has failed: each later event answers `WriterFailed`. After
-/// `OutOfMemory` no byte of the property list went out; after `Io` a beginning of its file did,
-/// all of it where the flush failed.
+/// `PlistTooLarge` and `OutOfMemory` no byte of the property list went out; after `Io` a beginning
+/// of its file did, all of it where the flush failed.
 #[derive(Drop)]
 pub struct BinaryWriter<W: Write> {
     writer: W,

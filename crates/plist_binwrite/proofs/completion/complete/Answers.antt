@@ -1,7 +1,8 @@
-use Rattle.std.proofs.Common.{◌^◌, ◌<◌, sym, subst}
+use Rattle.std.proofs.Common.{◌^◌, ◌<◌, rules, sym, subst}
+use Rattle.std.proofs.lemmas.Result.{err_from_is_err_and}
 use Rattle.plist_binwrite.specs.Files.{IsFileOf}
 use Rattle.plist_binwrite.proofs.Marked.{whole_bracketed, evs_alike}
-use Rattle.plist_binwrite.proofs.Sends.{sends_io}
+use Rattle.plist_binwrite.proofs.Sends.{sends_io, sends_unplanned}
 use Rattle.plist_binwrite.proofs.completion.complete.Goals as goal
 
 pub plan_file-requires : goal.plan_file-requires
@@ -31,3 +32,8 @@ returns-in-Ok g c = (
   }),
   c.in-Ok.ensures.sent,
 )
+
+pub returns-in_err-file : goal.returns-in_err-file
+returns-in_err-file g c =
+    let p = err_from_is_err_and c.from_residual.result c.from_residual.ensures.1 in
+    rw (p.1, p.2) (sends_unplanned c.args.events.now _ _ _ c.in_err-file.ensures.refused c.requires.whole (search rules))

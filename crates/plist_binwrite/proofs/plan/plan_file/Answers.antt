@@ -21,7 +21,7 @@ if_ok (Err e) file Q h f = tt
 done : (c : After-drop-skips-2) (t : Tree) → evs c.args.events.now ≡ br t → Finished t (closed c.in_ok-layout.layout.file.items c.in_ok-layout.layout.table.items)
 done c t e =
     let n : length (evs c.args.events.now) ≡ length c.args.events.now = length-map c.args.events.now ev in
-    let same : c.as_slice-3.result.now ≡ c.in_ok-numbering.numbering.numbers.items = c.as_slice-3.ensures.value in
+    let same : c.as_slice-4.result.now ≡ c.in_ok-numbering.numbering.numbers.items = c.as_slice-4.ensures.value in
     let long : length c.in_ok-layout.layout.table.items ≡ length c.in_ok-numbering.numbering.firsts.items = omega (arith, c.in_ok-layout.ensures.long, c.len-count.ensures, c.in_ok-numbering.numbering.firsts.ok.0) in
     let low : c.saturating_sub.result ≡ length c.in_ok-layout.layout.table.items - 1 = omega (arith, long, c.saturating_sub.ensures, c.len-count.ensures, c.in_ok-numbering.numbering.firsts.ok.0) in
     finish (evs c.args.events.now) t c.in_ok-numbering.numbering.numbers.items c.in_ok-numbering.numbering.firsts.items c.in_ok-layout.layout.file.items c.in_ok-layout.layout.table.items c.least_width-width.result e

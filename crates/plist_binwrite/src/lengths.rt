@@ -1,0 +1,111 @@
+//! How many bytes each form has. A length of 2^64 or more is `None`.
+
+ghost use Rattle.std.specs.Prelude.{◌≡◌, ◌+◌, ◌*◌, ◌≤◌, ◌<◌, ℕ, length};
+ghost use Rattle.plist_base.specs.Events.{event_of};
+ghost use Rattle.plist_binwrite.specs.Forms.{natural_form, integer_form, uid_form, length_form, date_form, real_form, text_form, scalar_form};
+ghost use Rattle.plist_binwrite.specs.Sizes.{TellsSize};
+
+use crate::forms::least_width;
+use crate::text::{count_units, is_ascii_text};
+use plist_base::{Date, Event, Integer, RealBits, Uid};
+
+/// So many bytes, and so many more.
+pub fn add(length: Option<u64>, more: Option<u64>) -> Option<u64>
+    ensures sum { (a b : ℕ) → TellsSize length a → TellsSize more b → TellsSize result (a + b) }
+{
+    match (length, more) {
+        (Some(length), Some(more)) => length.checked_add(more),
+        _ => None,
+    }
+}
+
+/// The length of a number without sign.
+pub fn length_of_natural(number: u64) -> u64
+    ensures value { result ≡ length (natural_form number) }
+    ensures small { result ≤ 9 }
+{
+    1 + least_width(number) as u64
+}
+
+/// The length of a marker with a count.
+pub fn length_of_count(count: u64) -> u64
+    ensures value { (high : ℕ) → result ≡ length (length_form high count) }
+    ensures small { result ≤ 10 }
+{
+    if count < 15 {
+        1
+    } else {
+        1 + length_of_natural(count)
+    }
+}
+
+// The length of so many bytes behind their marker.
+fn length_of_bytes(count: u64) -> Option<u64>
+    ensures value { (high : ℕ) → TellsSize result (length (length_form high count) + count) }
+{
+    count.checked_add(length_of_count(count))
+}
+
+fn length_of_text(text: &str) -> Option<u64>
+    ensures value { TellsSize result (length (text_form text.now)) }
+{
+    if is_ascii_text(text) {
+        return length_of_bytes(text.len() as u64);
+    }
+    let count = count_units(text) as u64;
+    add(Some(length_of_count(count)), count.checked_mul(2))
+}
+
+fn length_of_date(date: Date) -> u64
+    ensures value { result ≡ length (date_form date) }
+{
+    1 + date.to_plist_real().len() as u64
+}
+
+fn length_of_integer(value: Integer) -> u64
+    ensures value { result ≡ length (integer_form value) }
+{
+    match (value.as_unsigned(), value.as_signed()) {
+        (Some(number), Some(_)) => length_of_natural(number),
+        (Some(_), None) => 17,
+        (None, _) => 9,
+    }
+}
+
+fn length_of_real(bits: RealBits) -> u64
+    ensures value { result ≡ length (real_form bits) }
+{
+    match bits {
+        RealBits::Four(_) => 5,
+        RealBits::Eight(_) => 9,
+    }
+}
+
+fn length_of_uid(uid: Uid) -> u64
+    ensures value { result ≡ length (uid_form uid) }
+{
+    1 + least_width(uid.get()) as u64
+}
+
+/// The length of a scalar, and 0 for the start or the end of a collection.
+pub fn length_of_scalar(event: &Event<'_>) -> Option<u64>
+    ensures value { TellsSize result (length (scalar_form (event_of event.now))) }
+{
+    match event {
+        Event::Boolean(_) => Some(1),
+        Event::Data(data) => length_of_bytes(data.as_slice().len() as u64),
+        Event::Date(date) => Some(length_of_date(*date)),
+        Event::Integer(value) => Some(length_of_integer(*value)),
+        Event::Real(bits) => Some(length_of_real(*bits)),
+        Event::String(text) => length_of_text(text.as_str()),
+        Event::Uid(uid) => Some(length_of_uid(*uid)),
+        Event::StartArray(_) | Event::StartDictionary(_) | Event::EndCollection => Some(0),
+    }
+}
+
+/// The length of a collection with this count, and so many references of this width.
+pub fn length_of_collection(count: u64, references: u64, width: u64) -> Option<u64>
+    ensures value { (high : ℕ) → TellsSize result (length (length_form high count) + references * width) }
+{
+    add(Some(length_of_count(count)), references.checked_mul(width))
+}

@@ -1,0 +1,98 @@
+//! How many bytes a file will have, before a byte of it is laid out. A size of 2^64 or more is `None`.
+
+ghost use Rattle.std.specs.Prelude.{◌≡◌, ◌+◌, ◌*◌, ◌^◌, ◌≤◌, ◌<◌, ℕ, length};
+ghost use Rattle.plist_base.specs.Trees.{number_of_trees};
+ghost use Rattle.plist_binwrite.specs.Marks.{Tree, Trees, br, Sits, SitsItems};
+ghost use Rattle.plist_binwrite.specs.Held.{evs, IsBracketed, IsSkips, IsPlan, AllNumbered};
+ghost use Rattle.plist_binwrite.specs.Sizes.{TellsSize, object_size, collections_size, scalars_size, table_place, file_size};
+
+use crate::forms::least_width;
+use crate::kinds::{Kind, has_item, kind_at};
+use crate::lengths::{add, length_of_collection, length_of_scalar};
+use crate::numbering::Numbering;
+use plist_base::OwnedEvent;
+
+// The number of items of an array from here on; a key is an item, and so is its value.
+fn count_items(events: &[OwnedEvent], skips: &[usize], from: usize) -> usize
+    requires { IsSkips (evs events.now) skips.now 0 }
+    ensures { (ts : Trees) → SitsItems (evs events.now) ts from → result ≡ number_of_trees ts }
+{
+    let mut count = 0;
+    let mut place = from;
+    'walk: while has_item(events, place) {
+        count += 1;
+        place = skips[place];
+    }
+    count
+}
+
+// The size of the object of the tree that begins here.
+fn size_of_object(events: &[OwnedEvent], skips: &[usize], width: u64, place: usize) -> Option<u64>
+    requires skips { IsSkips (evs events.now) skips.now 0 }
+    requires place { place < length events.now }
+    ensures { (t : Tree) → Sits (evs events.now) t place → TellsSize result (object_size width t) }
+{
+    match kind_at(events, place) {
+        Kind::Array => {
+            let count = count_items(events, skips, place + 1) as u64;
+            length_of_collection(count, count, width)
+        }
+        Kind::Dictionary => {
+            let count = count_items(events, skips, place + 1) as u64;
+            length_of_collection(count / 2, count, width)
+        }
+        _ => length_of_scalar(&events[place]),
+    }
+}
+
+// The size of the objects that are numbered.
+fn size_of_objects(
+    events: &[OwnedEvent],
+    skips: &[usize],
+    numbering: &Numbering,
+    width: u64,
+) -> Option<u64>
+    requires skips { IsSkips (evs events.now) skips.now 0 }
+    requires whole { IsBracketed (evs events.now) }
+    requires plan { IsPlan (evs events.now) numbering.now.numbers.items numbering.now.firsts.items }
+    requires all { AllNumbered (evs events.now) numbering.now.numbers.items (length numbering.now.firsts.items) }
+    ensures { (t : Tree) → evs events.now ≡ br t → TellsSize result (collections_size width t + scalars_size t) }
+{
+    let mut size = Some(0);
+    let firsts = numbering.firsts.as_slice();
+    for place in firsts {
+        size = add(size, size_of_object(events, skips, width, *place));
+    }
+    size
+}
+
+// Where the offset table will lie, behind the magic and the objects.
+fn place_of_table(events: &[OwnedEvent], skips: &[usize], numbering: &Numbering) -> Option<u64>
+    requires skips { IsSkips (evs events.now) skips.now 0 }
+    requires whole { IsBracketed (evs events.now) }
+    requires plan { IsPlan (evs events.now) numbering.now.numbers.items numbering.now.firsts.items }
+    requires all { AllNumbered (evs events.now) numbering.now.numbers.items (length numbering.now.firsts.items) }
+    ensures { (t : Tree) → evs events.now ≡ br t → TellsSize result (table_place t) }
+{
+    let count = numbering.firsts.len() as u64;
+    let width = least_width(count.saturating_sub(1)) as u64;
+    add(Some(8), size_of_objects(events, skips, numbering, width))
+}
+
+/// The size of the file of the tree whose events these are.
+pub fn size_of_file(events: &[OwnedEvent], skips: &[usize], numbering: &Numbering) -> Option<u64>
+    requires skips { IsSkips (evs events.now) skips.now 0 }
+    requires whole { IsBracketed (evs events.now) }
+    requires plan { IsPlan (evs events.now) numbering.now.numbers.items numbering.now.firsts.items }
+    requires all { AllNumbered (evs events.now) numbering.now.numbers.items (length numbering.now.firsts.items) }
+    ensures size { (t : Tree) → evs events.now ≡ br t → TellsSize result (file_size t) }
+{
+    let count = numbering.firsts.len() as u64;
+    match place_of_table(events, skips, numbering) {
+        Some(table) => {
+            let offsets = count.checked_mul(least_width(table) as u64);
+            add(add(Some(table), offsets), Some(32))
+        }
+        None => None,
+    }
+}
