@@ -4,9 +4,10 @@ ghost use Rattle.std.specs.Prelude.{◌≡◌, ◌≢◌, ◌+◌, ◌^◌, ◌<
 ghost use Rattle.plist_base.specs.Faults.{OutOfMemory, fault_of, fault_nowhere};
 ghost use Rattle.plist_binread.specs.Object.{Object};
 ghost use Rattle.plist_binwrite.specs.Forms.{form, IsWritable, length_form, table_form};
-ghost use Rattle.plist_binwrite.specs.Marks.{Tree, Sits};
+ghost use Rattle.plist_binwrite.specs.Marks.{Tree, br, Sits};
 ghost use Rattle.plist_binwrite.specs.Numberings.{obj_of};
 ghost use Rattle.plist_binwrite.specs.Held.{evs, is_stop, event_at, IsBracketed, IsSkips, AllBelow, keys_in, values_in, num_of, AllNumbered, Describes};
+ghost use Rattle.plist_binwrite.specs.Sizes.{file_size};
 ghost use Rattle.plist_binwrite.specs.Laying.{IsLaid, Lays};
 
 use crate::children::children;
@@ -172,7 +173,7 @@ pub struct Layout {
 }
 
 /// Lays the objects out behind the magic, in the order of the events, a dictionary's keys before its
-/// values.
+/// values. The file's size is below 2^64.
 pub fn lay_out(
     alloc: Global,
     events: &[OwnedEvent],
@@ -187,6 +188,7 @@ pub fn lay_out(
     requires all { AllNumbered (evs events.now) numbers.now count }
     requires fits { count ≤ 256 ^ width }
     requires whole { IsBracketed (evs events.now) }
+    requires small { (t : Tree) → evs events.now ≡ br t → file_size t < 2 ^ 64 }
     ensures laid { IfOk result (λ r. (objects : ℕ → Object) → Describes (evs events.now) numbers.now objects → IsLaid width objects r.file.items r.table.items) }
     ensures long { IfOk result (λ r. length r.table.items ≡ count) }
     ensures placed { IfOk result (λ r. (p : ℕ) → p < length events.now → is_stop (event_at (evs events.now) p) ≡ false → get_or r.table.items (get_or numbers.now p 0) 0 ≢ 0) }
