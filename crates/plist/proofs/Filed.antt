@@ -113,7 +113,7 @@ module _ {W : Type 0} {g : Ghosts W} (contents : W → Option (List ℕ)) (tree 
       memory f = Keeps-refl sent
 
       size : Failed e w v PlistTooLarge → StopsSending PlistTooLarge tree sent sent
-      size f = absurd f.1
+      size f = (f.1.1 tree (whole_events tree (held_by w) e left is f.1.0), Keeps-refl sent)
 
   wants_memory : (left : List PlainEvent) (w v : BinaryWriter W g) (fault : Fault) → WantsMemory (Takes contents) w left fault v → Unwritten tree fault
   wants_memory left w v fault (memory, start, same) sent = subst (λ f. SendsTree tree (Err f) sent sent) (sym memory) (refl, Keeps-refl sent)
@@ -140,10 +140,3 @@ module _ {W : Type 0} {g : Ghosts W} (contents : W → Option (List ℕ)) (tree 
 -- into memory
 pub filed_bytes : (tree : Tree) (old bytes : List ℕ) → old ≡ [] → (file : List ℕ) × IsFileOf tree file × Appends (Some old) (Some bytes) file → IsFileOf tree bytes
 filed_bytes tree old bytes none (file, of, is) = subst (λ b. IsFileOf tree b) (sym (is ∙ ap (λ l. l ++ file) none)) of
-
--- ---- the whole call
-
-pub sends_file : (tree : Tree) (result : Result (Unit {0}) Error) (bytes : List ℕ) (old new : Option (List ℕ)) → IsFileOf tree bytes → OnOk result (Appends old new bytes) → IfErr result (λ error. fault_of error ≡ fault_nowhere Io)
-    → AppendsFront old new bytes → SendsTree tree (answer_of result) old new
-sends_file tree (Ok done) bytes old new of sent failed front = (bytes, of, sent)
-sends_file tree (Err error) bytes old new of sent failed front = subst (λ f. SendsTree tree (Err f) old new) (sym failed) (refl, (bytes, of, front))
