@@ -1,6 +1,6 @@
 //! Dictionaries: pairs of a key and a value, in the order in which the keys came.
 
-ghost use Rattle.std.specs.Prelude.{◌≡◌, ◌↔◌, IsTrue, Some, slice_get, [], ◌<◌, length, is_some, false, string_bytes, IfOk, OnOk, IfErr, OnErr};
+ghost use Rattle.std.specs.Prelude.{◌≡◌, ◌↔◌, IsTrue, [], length, is_some, false, string_bytes, IfOk, OnOk, IfErr, OnErr};
 ghost use Rattle.std.specs.Str.{bytes_eq};
 ghost use Rattle.std.specs.Option.{option_copied, option_copied_mut};
 ghost use Rattle.std.specs.Map.{lookup, keys_of, values_of};
@@ -179,21 +179,6 @@ impl<V> Pairs<V> {
         ensures runs { ShowsInOrder (deref {X = V}) }
     {
         Values::new(self.items.as_slice())
-    }
-
-    /// The values, in the order of the pairs.
-    pub(crate) fn items(&self) -> &[V]
-        ensures { result.now ≡ values_of self.now }
-    {
-        self.items.as_slice()
-    }
-
-    /// The key of the pair at the index.
-    pub(crate) fn key_at(&self, index: usize) -> &String
-        requires { index < length self.now }
-        ensures { Some (string_bytes result.now) ≡ slice_get (keys_of self.now) index }
-    {
-        &self.keys.as_slice()[index]
     }
 }
 
