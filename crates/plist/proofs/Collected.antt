@@ -108,29 +108,7 @@ ended items built fault UnexpectedEndOfEventStream q (events, held, is, ok, alik
   )),
 )
 ended items built fault faults.WriterFailed q (events, held, is, ok, alike, last, fine) o k = absurd (true≢false (sym k ∙ fine))
-ended items built fault faults.UnexpectedEof q t o k = absurd k
-ended items built fault faults.InvalidMagic q t o k = absurd k
-ended items built fault faults.InvalidTrailerObjectOffsetSize q t o k = absurd k
-ended items built fault faults.InvalidTrailerObjectReferenceSize q t o k = absurd k
-ended items built fault faults.ObjectOffsetTooLarge q t o k = absurd k
-ended items built fault faults.ObjectReferenceTooLarge q t o k = absurd k
-ended items built fault faults.RecursiveObject q t o k = absurd k
-ended items built fault faults.NullObjectUnimplemented q t o k = absurd k
-ended items built fault faults.FillObjectUnimplemented q t o k = absurd k
-ended items built fault faults.IntegerOutOfRange q t o k = absurd k
-ended items built fault faults.OverflowOrNanDate q t o k = absurd k
-ended items built fault faults.InvalidUtf8String q t o k = absurd k
-ended items built fault faults.InvalidUtf16String q t o k = absurd k
-ended items built fault faults.UnclosedString q t o k = absurd k
-ended items built fault faults.IncompleteComment q t o k = absurd k
-ended items built fault faults.InvalidUtf8AsciiStream q t o k = absurd k
-ended items built fault faults.InvalidOctalString q t o k = absurd k
-ended items built fault faults.Io q t o k = absurd k
-ended items built fault faults.PlistTooLarge q t o k = absurd k
-ended items built fault faults.OutOfMemory q t o k = absurd k
-ended items built fault (faults.UnknownObjectType marker) q t o k = absurd k
-ended items built fault (faults.UnexpectedEventType expected found) q t o k = absurd k
-ended items built fault (faults.ExpectedEndOfEventStream found) q t o k = absurd k
+ended items built fault kind q t o k = absurd k
 
 pub ended-early : (items : List (Result Event Error)) (built : Built) (fault : Fault) → TookAll items built → IsUnfinished built fault → IsBuiltFrom (map item_of items) (Err fault)
 ended-early items built fault t k = ended items built fault fault.kind refl t k.0 k.1

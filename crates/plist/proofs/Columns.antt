@@ -3,8 +3,7 @@ use Rattle.std.proofs.Common.{subst, is_some, IsTrue, ◌↔◌, true≢false, �
 use Rattle.std.specs.Prelude.{Option, Some, None, slice_get, slice_set, position, swap_remove, string_bytes, String}
 use Rattle.std.specs.List.{zip, position_or_len, IsDistinct, AllZip, AllByRecursion, list_any}
 use Rattle.std.specs.Prelude.{◌||◌, ◌==◌}
-use Rattle.std.specs.Option.{option_map, option_map_or}
-use Rattle.std.proofs.lemmas.Option.{slice_get-map}
+use Rattle.std.specs.Option.{option_map_or}
 use Rattle.std.specs.String.{string_eq}
 use Rattle.std.specs.Option.{option_copied_mut, IfSome}
 use Rattle.std.proofs.lemmas.Option.{slice_get_read}
@@ -140,11 +139,6 @@ any-rows {X} (k ∷ ks) (v ∷ vs) t e = by (t (string_bytes k)) (any-rows ks vs
 pub empty_or_not : {X : Type 0} (xs : List X) (n : ℕ) (b : Bool) → n ≡ length xs → b ≡ (n == 0) → IsTrue b ↔ (xs ≡ [])
 empty_or_not [] n b e h = (λ p. refl, λ p. h ∙ ap (λ m. m == 0) e)
 empty_or_not (x ∷ xs) n b e h = (λ p. absurd (omega (arith, eqb-true (length (x ∷ xs)) 0 (sym (h ∙ ap (λ m. m == 0) e) ∙ p))), λ p. absurd (omega (arith, ap length p)))
-
-module _ {X : Type 0} (ks : List Text) (vs : List X) (e : length vs ≡ length ks) where
-  pub key_of_row : (i : ℕ) (k : Text) → i < length ks → k ≡ get_or ks i k → Some (string_bytes k) ≡ slice_get (keys_of (rows ks vs)) i
-  key_of_row i k within read =
-      sym (ap (option_map string_bytes) (slice_get_read ks (length ks) i k refl within read)) ∙ sym (slice_get-map string_bytes ks i) ∙ ap (λ l. slice_get l i) (sym (keys-rows ks vs e))
 
 swap_remove_by-found : {X : Type 0} (t : X → Bool) (xs : List X) (i : ℕ) (d : X) → position t xs ≡ Some i → swap_remove_by t xs ≡ swap_remove xs i d
 swap_remove_by-found t [] i d p = absurd (true≢false (sym (ap is_some p)))

@@ -35,6 +35,7 @@ pub struct Builder {
 impl Builder {
     ghost use Rattle.plist.specs.Builders.{IsBuildingStep, built_of};
     ghost use Rattle.plist.specs.Collecting.{IsRefusal, Refuses, Takes};
+    ghost use Rattle.plist.specs.Handing.{HandsItem};
 
     /// A builder that holds no events.
     pub fn new(alloc: Global) -> Builder
@@ -73,6 +74,7 @@ impl Builder {
     // Takes the event of an item, or passes its fault on.
     pub(crate) fn take_item(&mut self, item: Result<Event<'_>, Error>) -> Result<(), Error>
         requires { (built_of self.old).failed ≡ false }
+        ensures step { HandsItem IsBuildingStep self.old (item_of item.entry) (answer_of result) self.new }
         ensures taken { OnOk result (Takes (built_of self.old) (item_of item.entry) (built_of self.new)) }
         ensures refused { IfErr result (λ error. Refuses (built_of self.old).unfinished (item_of item.entry) (fault_of error)) }
     {
