@@ -1,20 +1,17 @@
 -- Laws of what a builder holds.
-use Rattle.std.proofs.Common.{◌≡◌, ℕ, List, [], ◌∷◌, ◌++◌, Option, Some, None, option_map, option_and_then, map, refl, sym, ap, ◌∙◌, append_assoc, append-nil, subst}
-use Rattle.std.specs.Prelude.{⊤}
+use Rattle.std.proofs.Common.{◌≡◌, ℕ, List, [], ◌∷◌, ◌++◌, Some, None, option_map, map, refl, sym, ap, ◌∙◌, append_assoc, append-nil, subst}
 use Rattle.std.specs.Str.{bytes_eq}
-use Rattle.indexmap.specs.IndexMap.{insert_all}
 use Rattle.indexmap.proofs.MapLemmas.{insert_all_push}
 use Rattle.plist_base.specs.Events.{PlainEvent, StartArray, StartDictionary, EndCollection, Boolean, Data, Date, Integer, Real, String, Uid}
 use Rattle.plist_base.specs.Trees as trees
 use Rattle.plist_base.specs.Trees.{Scalar, Tree, Leaf, Array, Dictionary, Trees, NoTrees, TreeAnd, Members, NoMembers, MemberAnd, trees_of, members_of}
-use Rattle.plist_base.specs.Bracketing.{event_of_scalar, bracketing, bracketing_of_items, bracketing_of_pairs, unhinted, AreAlike, CanContinue}
-use Rattle.plist_base.specs.Wants.{Want, OneValue, Items, Pairs, step, steps, wanted_after}
-use Rattle.plist_base.proofs.Grammar.{map-append, can_continue, continues, all_taken, none_is, steps_snoc}
+use Rattle.plist_base.specs.Bracketing.{event_of_scalar, bracketing, bracketing_of_items, bracketing_of_pairs, unhinted, AreAlike}
+use Rattle.plist_base.proofs.Grammar.{map-append}
 use Rattle.plist.specs.LastWins.{Rows, with_pair, last_values, last_wins, last_wins_in_items, last_wins_in_pairs}
-use Rattle.plist.specs.Building.{OpenCollection, InArray, InDictionary, AfterKey, Unfinished, NotBegun, Within, Complete, events_within, events_round, events_so_far, last_wins_in_rows, last_wins_within, last_wins_so_far, refusal_of_value, refusal_of_key, refusal_within, refusal_of}
-use Rattle.plist.specs.Building.{TakesValue, AllTakeValue, IsNested}
-use Rattle.plist.specs.Steps.{and_pair, and_tree, begun, in_array, in_dictionary, carried_on, carried_through, and_value}
-use Rattle.plist.proofs.Keeping.{Settled, settled-inserts, settled-pairs, SettledItems, last-values-once, once-inserts, last-wins-twice}
+use Rattle.plist.specs.Building.{OpenCollection, InArray, InDictionary, AfterKey, Unfinished, NotBegun, Within, Complete, events_within, events_round, events_so_far, last_wins_in_rows, last_wins_within, last_wins_so_far, refusal_of_value, refusal_of_key, refusal_of}
+use Rattle.plist.specs.Building.{AllTakeValue, IsNested}
+use Rattle.plist.specs.Steps.{and_pair, and_tree, begun, in_array, in_dictionary, carried_on}
+use Rattle.plist.proofs.Keeping.{Settled, settled-inserts, last-values-once, once-inserts, last-wins-twice}
 
 pub map-snoc : {A B : Type 0} (f : A → B) (xs : List A) (x : A) → map f (xs ++ x ∷ []) ≡ map f xs ++ f x ∷ []
 map-snoc f xs x = map-append f xs (x ∷ [])

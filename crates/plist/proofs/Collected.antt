@@ -1,15 +1,15 @@
 -- The items that a builder has taken, and what comes of them.
-use Rattle.std.proofs.Common.{◌≡◌, ◌⊎◌, inl, inr, true, false, true≢false, List, [], ◌∷◌, ◌++◌, Option, Some, None, Result, Ok, Err, option_map, map, refl, sym, ap, ◌∙◌, subst}
+use Rattle.std.proofs.Common.{◌≡◌, inl, inr, false, true≢false, List, [], ◌∷◌, ◌++◌, Option, Some, None, Result, Ok, Err, option_map, map, refl, sym, ap, ◌∙◌, subst}
 use Rattle.plist_base.specs.declared.error.Error.{Error}
 use Rattle.plist_base.specs.declared.event.Event.{Event}
-use Rattle.plist_base.specs.Events.{PlainEvent, StartArray, StartDictionary, EndCollection, Boolean, Data, Date, Integer, Real, String, Uid, Item, item_of}
+use Rattle.plist_base.specs.Events.{PlainEvent, Item, item_of}
 use Rattle.plist_base.specs.Faults as faults
 use Rattle.plist_base.specs.Faults.{FaultKind, Fault, fault_nowhere, UnexpectedEndOfEventStream}
 use Rattle.plist_base.specs.Trees.{Tree}
-use Rattle.plist_base.specs.Bracketing.{bracketing, unhinted, AreAlike}
+use Rattle.plist_base.specs.Bracketing.{unhinted, AreAlike}
 use Rattle.plist_base.proofs.Grammar.{map-append}
 use Rattle.plist.specs.LastWins.{with_pair, last_wins}
-use Rattle.plist.specs.Building.{Unfinished, NotBegun, Within, Complete, OpenCollection, InArray, InDictionary, AfterKey, Built, IsNested, nothing_built, complete_tree, events_so_far, last_wins_so_far, refusal_of, IsUnfinishedFor, IsUnfinished}
+use Rattle.plist.specs.Building.{Unfinished, NotBegun, Within, Complete, InArray, InDictionary, AfterKey, Built, IsNested, nothing_built, complete_tree, events_so_far, last_wins_so_far, refusal_of, IsUnfinishedFor, IsUnfinished}
 use Rattle.plist.specs.Steps.{and_pair, carried_on}
 use Rattle.plist.specs.Wanting.{incomplete}
 use Rattle.std.specs.Prelude.{IfOk, IfErr, MatchResult}

@@ -1,26 +1,22 @@
 -- A value whose events are handed to a writer of binary property lists goes out as one file.
-use Rattle.std.proofs.Common.{◌≡◌, inl, inr, ℕ, ◌^◌, ◌≤◌, Bool, MatchBool, IfErr, OnOk, true, false, List, [], ◌∷◌, ◌++◌, Option, Some, None, Result, Ok, Err, refl, sym, ap, ◌∙◌, append_assoc, append-nil, subst, map, option_and_then}
+use Rattle.std.proofs.Common.{◌≡◌, inl, inr, ℕ, Bool, MatchBool, true, false, List, [], ◌∷◌, ◌++◌, Option, Some, None, Ok, Err, refl, sym, ap, ◌∙◌, append_assoc, append-nil, subst, map, option_and_then}
 use Rattle.std.specs.declared.io.traits.Write.{Ghosts}
 use Rattle.std.specs.Io.KnownBytes.{Appends, Keeps}
 use Rattle.std.proofs.KnownBytes.{Appends-nil, Keeps-refl, Keeps-trans}
 use Rattle.std.proofs.lemmas.Bool.{true≢false}
-use Rattle.plist_base.specs.declared.error.Error.{Error}
 use Rattle.plist_base.specs.Bracketing.{bracketing, unhinted, AreAlike}
 use Rattle.plist_base.specs.Events.{PlainEvent}
-use Rattle.plist_base.specs.Faults.{FaultKind, Fault, Io, OutOfMemory, PlistTooLarge, fault_of, fault_nowhere}
+use Rattle.plist_base.specs.Faults.{FaultKind, Fault, Io, OutOfMemory, PlistTooLarge}
 use Rattle.plist_base.specs.Trees.{Tree, Leaf, Array, Dictionary}
 use Rattle.plist_base.specs.Wants.{Want, OneValue, step, wanted_after}
-use Rattle.plist_base.specs.Writing.{Answer, MatchKind, answer_of}
 use Rattle.plist_base.proofs.Grammar.{continues, none_is, all_taken, steps_snoc}
 use Rattle.plist_base.proofs.FailedKinds.{failed_kind}
 use Rattle.plist_binwrite.specs.declared.writer.BinaryWriter.{BinaryWriter}
 use Rattle.plist_binwrite.specs.Files.{IsFileOf}
-use Rattle.plist_binwrite.specs.Fronts.{AppendsFront}
 use Rattle.plist_binwrite.specs.Pendings.{refusal_of}
 use Rattle.plist_binwrite.specs.Sending.{FailsWith}
 use Rattle.plist_binwrite.specs.Taking.{Takes, TakesEvent, Accepts, held_by, failed_of, inner_of}
 use Rattle.plist.specs.Handing.{Took, RefusesNext, WantsMemory, Hands}
-use Rattle.plist.specs.Remaining.{BeginsWithStart}
 use Rattle.plist.specs.Sent.{StopsSending, SendsTree}
 
 -- ---- events of one tree

@@ -1,12 +1,12 @@
 -- The events that a writer has been handed.
-use Rattle.std.proofs.Common.{◌≡◌, ◌⊎◌, inl, inr, List, [], ◌∷◌, ◌++◌, Option, Some, None, Result, Ok, Err, refl, sym, ap, ◌∙◌, append_assoc, append-nil, subst}
+use Rattle.std.proofs.Common.{◌≡◌, inl, inr, List, [], ◌∷◌, ◌++◌, Some, None, Result, Ok, Err, refl, sym, ap, ◌∙◌, append_assoc, append-nil, subst}
 use Rattle.plist_base.specs.declared.error.Error.{Error}
 use Rattle.plist_base.specs.declared.event.Event.{Event}
 use Rattle.plist_base.specs.Events.{PlainEvent, event_of, item_of}
 use Rattle.plist_base.specs.Faults.{Fault, fault_of}
 use Rattle.plist_base.specs.Writing.{Answer}
 use Rattle.plist.specs.declared.stream.events.Events.{Events}
-use Rattle.plist.specs.Handing.{Took, RefusesNext, WantsMemory, Hands, HandsItem}
+use Rattle.plist.specs.Handing.{Took, Hands, HandsItem}
 use Rattle.plist.specs.Remaining.{remaining_events, GivesEvent}
 
 no_answer : {A : Type 0} (done : Unit {0}) (fault : Fault) → ◌≡◌ {A = Answer} (Ok done) (Err fault) → A

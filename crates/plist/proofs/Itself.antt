@@ -1,12 +1,12 @@
 -- A value is its own last-value form.
 use Rattle.std.proofs.Common.{◌≡◌, ℕ, List, [], ◌∷◌, Option, Some, None, option_map, map, refl, sym, ap, ◌∙◌, subst, string_bytes}
 use Rattle.plist_base.specs.Events.{PlainEvent}
-use Rattle.plist_base.specs.Trees.{Tree, Leaf, Array, Dictionary, trees_of, members_of}
+use Rattle.plist_base.specs.Trees.{Tree, Array, Dictionary, trees_of}
 use Rattle.plist.specs.declared.value.Value.{Value, ind-Value, fold-roll-Value, roll-Value}
 use Rattle.plist.specs.declared.value.Value.TheOpen.{Value-F}
 use Rattle.plist.specs.declared.value.Value.TheFolds.{map-Value}
 use Rattle.plist.specs.LastWins.{with_pair, last_values, last_wins}
-use Rattle.plist.specs.Building.{Unfinished, IsNested, IsCarriedOn, refusal_of, last_wins_in_rows, last_wins_within, last_wins_so_far, InArray, InDictionary, AfterKey, NotBegun, Within, Complete}
+use Rattle.plist.specs.Building.{Unfinished, IsNested, IsCarriedOn, refusal_of, last_wins_in_rows, last_wins_within, last_wins_so_far, InArray, InDictionary, AfterKey, Within, Complete}
 use Rattle.plist.specs.declared.partial.Open.{Open}
 use Rattle.plist.specs.declared.partial.Open.TheVariants as run
 use Rattle.plist.specs.Partials.{open_of, held_by}

@@ -1,14 +1,14 @@
 -- The first event of a collection, and those behind it.
-use Rattle.std.proofs.Common.{◌≡◌, ℕ, ◌+◌, List, [], ◌∷◌, ◌++◌, Option, Some, map, length, refl, sym, ap, ◌∙◌, append_assoc, arith, Vec, Global}
+use Rattle.std.proofs.Common.{◌≡◌, ℕ, List, [], ◌∷◌, ◌++◌, Some, map, length, refl, sym, ap, ◌∙◌, append_assoc, arith, Vec, Global}
 use Rattle.std.specs.Str.{bytes_eq}
 use Rattle.std.specs.List.{IsDistinct}
 use Rattle.std.specs.Map.{keys_of}
 use Rattle.plist_base.specs.Events.{PlainEvent, StartArray, StartDictionary, EndCollection}
-use Rattle.plist_base.specs.Trees.{Tree, Dictionary, trees_of, members_of, number_of_trees, number_of_members}
+use Rattle.plist_base.specs.Trees.{Dictionary, trees_of, members_of, number_of_trees, number_of_members}
 use Rattle.plist_base.specs.Bracketing.{bracketing, bracketing_of_items, bracketing_of_pairs}
 use Rattle.plist.specs.declared.value.Value.{Value}
 use Rattle.plist.specs.declared.value.Value.TheVariants as value
-use Rattle.plist.specs.LastWins.{Rows, last_values}
+use Rattle.plist.specs.LastWins.{Rows}
 use Rattle.plist.specs.Views.{tree_of, tree_pairs}
 use Rattle.plist.proofs.Keeping.{last-values-once}
 use Rattle.plist.proofs.TreeOf.{tree_of-Array, tree_of-Dictionary}

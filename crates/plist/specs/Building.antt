@@ -1,14 +1,13 @@
 -- What a builder holds: a tree that isn't complete yet, and how an event carries it on.
-use Rattle.std.specs.Prelude.{◌≡◌, ℕ, Bool, true, false, List, [], ◌∷◌, ◌++◌, Option, Some, None, Result, Ok, Err, map, ⊤}
+use Rattle.std.specs.Prelude.{◌≡◌, ℕ, Bool, true, false, List, [], ◌∷◌, ◌++◌, Option, Some, None, Ok, Err, map, ⊤}
 use mathlib.Core.HLevel.{×_prop, Unit-prop, ⊥_prop}
 use Rattle.plist_base.specs.declared.error.EventKind.TheVariants as event_kind
-use Rattle.plist_base.specs.Events.{PlainEvent, StartArray, StartDictionary, EndCollection, Boolean, Data, Date, Integer, Real, String, Uid, kind_of_event}
-use Rattle.plist_base.specs.Faults.{FaultKind, Fault, fault_nowhere, UnexpectedEventType, ExpectedEndOfEventStream, UnexpectedEndOfEventStream, OutOfMemory, WriterFailed}
-use Rattle.plist_base.specs.Trees as trees
-use Rattle.plist_base.specs.Trees.{Tree, Leaf, Array, Dictionary, trees_of, members_of}
+use Rattle.plist_base.specs.Events.{PlainEvent, StartArray, StartDictionary, EndCollection, String, kind_of_event}
+use Rattle.plist_base.specs.Faults.{FaultKind, Fault, UnexpectedEventType, ExpectedEndOfEventStream, UnexpectedEndOfEventStream, OutOfMemory, WriterFailed}
+use Rattle.plist_base.specs.Trees.{Tree, trees_of, members_of}
 use Rattle.plist_base.specs.Bracketing.{bracketing, bracketing_of_items, bracketing_of_pairs, AreAlike}
 use Rattle.plist_base.specs.Writing.{Answer}
-use Rattle.plist.specs.LastWins.{Rows, with_pair, last_values, last_wins}
+use Rattle.plist.specs.LastWins.{Rows, last_values, last_wins}
 
 -- an open collection: an array with its items so far; a dictionary with its pairs so far; a dictionary with these and a key whose value is to come
 pub data OpenCollection : Type 0 where

@@ -1,6 +1,6 @@
 -- The law of writers, at a builder.
-use Rattle.std.specs.Prelude.{◌≡◌, Bool, true, false, List, Option, Some, None, Result, Ok, Err}
-use Rattle.std.proofs.Common.{refl, sym, ap, ◌∙◌, subst, true≢false}
+use Rattle.std.specs.Prelude.{◌≡◌, true, false, Option, Some, None, Ok, Err}
+use Rattle.std.proofs.Common.{refl, sym, ◌∙◌, subst, true≢false}
 use Rattle.plist_base.specs.declared.error.EventKind.TheVariants as event_kind
 use Rattle.plist_base.specs.Events.{PlainEvent, StartArray, StartDictionary, EndCollection, Boolean, Data, Date, Integer, Real, String, Uid, kind_of_event}
 use Rattle.plist_base.specs.Faults as faults
@@ -8,7 +8,7 @@ use Rattle.plist_base.specs.Faults.{FaultKind, Fault, fault_nowhere, WriterFaile
 use Rattle.plist_base.specs.Bracketing.{CanContinue}
 use Rattle.plist_base.specs.Writing.{Answer, MatchKind, MatchAnswer}
 use Rattle.plist.specs.declared.stream.builder.Builder.{Builder}
-use Rattle.plist.specs.Building.{Unfinished, NotBegun, Within, InArray, InDictionary, AfterKey, Complete, Built, IsNested, events_so_far, refusal_of_value, refusal_of_key, refusal_of, IsRefused, IsAnswered}
+use Rattle.plist.specs.Building.{Unfinished, NotBegun, Within, InArray, InDictionary, AfterKey, Complete, Built, IsNested, events_so_far, refusal_of_value, refusal_of_key, refusal_of, IsRefused}
 use Rattle.plist.specs.Builders.{built_of, IsBuildingStep}
 use Rattle.plist.specs.Wanting.{refused-ends, taken-continues}
 

@@ -3,7 +3,7 @@ use Rattle.std.specs.Prelude.{ℕ, List, [], ◌∷◌, ◌++◌, Option, Some, 
 use Rattle.plist_base.specs.Events.{PlainEvent, StartArray, StartDictionary, EndCollection, Boolean, Data, Date, Integer, Real, String, Uid}
 use Rattle.plist_base.specs.Trees as trees
 use Rattle.plist_base.specs.Trees.{Tree, Leaf, Array, Dictionary, trees_of, members_of}
-use Rattle.plist.specs.LastWins.{Rows, with_pair}
+use Rattle.plist.specs.LastWins.{Rows}
 use Rattle.plist.specs.Building.{OpenCollection, InArray, InDictionary, AfterKey, Unfinished, NotBegun, Within, Complete}
 
 -- a pair goes last, whatever its key

@@ -1,13 +1,12 @@
 -- What is still to come after the events that a builder holds, and the law of writers for it.
-use Rattle.std.proofs.Common.{◌≡◌, ◌⊎◌, inl, inr, ℕ, Bool, true, false, true≢false, List, [], ◌∷◌, ◌++◌, Option, Some, None, Result, Ok, Err, option_and_then, map, refl, sym, ap, ◌∙◌, append_assoc, append-nil, subst}
-use Rattle.std.specs.Prelude.{⊤}
+use Rattle.std.proofs.Common.{◌≡◌, ℕ, List, [], ◌∷◌, ◌++◌, Option, Some, None, option_and_then, refl, sym, ap, ◌∙◌, append_assoc, append-nil}
 use Rattle.plist_base.specs.Events.{PlainEvent, StartArray, StartDictionary, EndCollection, Boolean, Data, Date, Integer, Real, String, Uid}
 use Rattle.plist_base.specs.Trees as trees
 use Rattle.plist_base.specs.Trees.{Scalar, Tree, Leaf, Array, Dictionary, Trees, NoTrees, TreeAnd, Members, NoMembers, MemberAnd, trees_of, members_of}
-use Rattle.plist_base.specs.Bracketing.{event_of_scalar, bracketing, bracketing_of_items, bracketing_of_pairs, unhinted, AreAlike, CanContinue}
+use Rattle.plist_base.specs.Bracketing.{event_of_scalar, bracketing, bracketing_of_items, bracketing_of_pairs, AreAlike, CanContinue}
 use Rattle.plist_base.specs.Wants.{Want, OneValue, Items, Pairs, step, steps, wanted_after}
 use Rattle.plist_base.proofs.Grammar.{Stack, wanted_alike, can_continue, continues, all_taken, none_is, steps_snoc}
-use Rattle.plist.specs.Building.{OpenCollection, InArray, InDictionary, AfterKey, Unfinished, NotBegun, Within, Complete, events_within, events_round, events_so_far, complete_tree, refusal_of_value, refusal_of_key, refusal_within, refusal_of}
+use Rattle.plist.specs.Building.{OpenCollection, InArray, InDictionary, AfterKey, Unfinished, NotBegun, Within, Complete, events_within, events_round, events_so_far, complete_tree, refusal_of_value, refusal_of_key, refusal_of}
 use Rattle.plist.specs.Building.{AllTakeValue, IsNested}
 
 -- in this stack a value may begin, and it leaves that one

@@ -1,4 +1,4 @@
-use Rattle.std.proofs.Common.{◌≡◌, ◌∙◌, ap, reverse, Some}
+use Rattle.std.proofs.Common.{◌∙◌, ap, reverse, Some}
 use Rattle.plist.specs.Partials.{held_by}
 use Rattle.plist.proofs.Tops.{once_from, pair_made}
 use Rattle.plist.proofs.Columns.{distinct-rows}
