@@ -19,7 +19,7 @@ IsFileOfEvents events file = (tree : Tree) → AreAlike events (bracketing tree)
 abbrev pub IsTooLarge : List PlainEvent → Type 0
 IsTooLarge events = (tree : Tree) → AreAlike events (bracketing tree) → 2 ^ 64 ≤ file_size tree
 
--- what went out where the call failed: of a device's fault a beginning of the file, else nothing; a file that is too large would have 2^64 bytes or more
+-- what went out where the call failed: of a device's fault a beginning of the file, else nothing; at the end of a tree alone a file is too large
 abbrev pub FailsWith : FaultKind → (events : List PlainEvent) (old new : Option (List ℕ)) → Type 0
 FailsWith Io events old new = (wanted_after events ≡ Some []) × ((file : List ℕ) × IsFileOfEvents events file × AppendsFront old new file)
 FailsWith PlistTooLarge events old new = (wanted_after events ≡ Some []) × IsTooLarge events × Keeps old new

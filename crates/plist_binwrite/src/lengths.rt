@@ -1,6 +1,6 @@
 //! How many bytes each form has. A length of 2^64 or more is `None`.
 
-ghost use Rattle.std.specs.Prelude.{◌≡◌, ◌+◌, ◌*◌, ◌≤◌, ◌<◌, ℕ, length};
+ghost use Rattle.std.specs.Prelude.{◌≡◌, ◌+◌, ◌*◌, ◌≤◌, ℕ, length};
 ghost use Rattle.plist_base.specs.Events.{event_of};
 ghost use Rattle.plist_binwrite.specs.Forms.{natural_form, integer_form, uid_form, length_form, date_form, real_form, text_form, scalar_form};
 ghost use Rattle.plist_binwrite.specs.Sizes.{TellsSize};
@@ -103,7 +103,7 @@ pub fn length_of_scalar(event: &Event<'_>) -> Option<u64>
     }
 }
 
-/// The length of a collection with this count, and so many references of this width.
+/// The length of a collection of this count with so many references, each of this width.
 pub fn length_of_collection(count: u64, references: u64, width: u64) -> Option<u64>
     ensures value { (high : ℕ) → TellsSize result (length (length_form high count) + references * width) }
 {

@@ -1,6 +1,6 @@
-//! How many bytes a file will have, before a byte of it is laid out. A size of 2^64 or more is `None`.
+//! How many bytes a file will have, before any of it is laid out. A size of 2^64 or more is `None`.
 
-ghost use Rattle.std.specs.Prelude.{◌≡◌, ◌+◌, ◌*◌, ◌^◌, ◌≤◌, ◌<◌, ℕ, length};
+ghost use Rattle.std.specs.Prelude.{◌≡◌, ◌+◌, ◌<◌, length};
 ghost use Rattle.plist_base.specs.Trees.{number_of_trees};
 ghost use Rattle.plist_binwrite.specs.Marks.{Tree, Trees, br, Sits, SitsItems};
 ghost use Rattle.plist_binwrite.specs.Held.{evs, IsBracketed, IsSkips, IsPlan, AllNumbered};
