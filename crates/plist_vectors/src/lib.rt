@@ -1,0 +1,16 @@
+//! The worked examples of the property-list crates: what is read, written and built, by public calls
+//! alone.
+#![tactic(auto)]
+
+#[cfg(test)]
+mod ascii;
+#[cfg(test)]
+mod building;
+#[cfg(test)]
+mod reading;
+#[cfg(test)]
+mod support;
+#[cfg(test)]
+mod values;
+#[cfg(test)]
+mod writing;

@@ -1,0 +1,48 @@
+//! Files of the binary format, in hexadecimal.
+
+use std::alloc::{AllocError, Global};
+use std::test::Fail;
+
+// The bytes that hexadecimal digits spell; blanks between them mean nothing.
+pub(crate) fn bytes_of(alloc: Global, digits: &str) -> Result<Vec<u8>, Fail> {
+    let mut bytes = Vec::new(alloc);
+    for word in digits.split(' ') {
+        let some = hex::decode(alloc, word)?;
+        bytes.extend_from_slice(some.as_slice())?;
+    }
+    Ok(bytes)
+}
+
+// A file: the magic, these objects with their table, and the trailer of the widths of a place and
+// of a reference, the number of objects, the number of the root and the place of the table.
+pub(crate) fn file_of(
+    alloc: Global,
+    body: &[u8],
+    widths: [u8; 2],
+    numbers: [u64; 3],
+) -> Result<Vec<u8>, AllocError> {
+    let mut bytes = Vec::from_slice(alloc, b"bplist00")?;
+    bytes.extend_from_slice(body)?;
+    bytes.extend_from_slice(&[0; 6])?;
+    bytes.extend_from_slice(&widths)?;
+    for number in numbers {
+        bytes.extend_from_slice(&number.to_be_bytes())?;
+    }
+    Ok(bytes)
+}
+
+// A file whose objects and table are in hexadecimal.
+pub(crate) fn file(
+    alloc: Global,
+    body: &str,
+    widths: [u8; 2],
+    numbers: [u64; 3],
+) -> Result<Vec<u8>, Fail> {
+    let body = bytes_of(alloc, body)?;
+    Ok(file_of(alloc, body.as_slice(), widths, numbers)?)
+}
+
+// At most this many bytes of the front.
+pub(crate) fn front(bytes: &[u8], count: usize) -> &[u8] {
+    &bytes[..bytes.len().min(count)]
+}
