@@ -1,7 +1,7 @@
 //! What `BinaryWriter` writes, byte by byte, and that `BinaryReader` reads the same events of it.
 
 use crate::support::{Device, answers, event_of, file, file_of, front, words_of};
-use plist::{Builder, write_value};
+use plist::{Builder, Value};
 use plist_base::Writer;
 use plist_binread::BinaryReader;
 use plist_binwrite::BinaryWriter;
@@ -25,9 +25,9 @@ fn written_value(alloc: Global, words: &str) -> Result<Vec<u8>, Fail> {
         builder.write(event_of(alloc, word)?)?;
     }
     let value = builder.finish()?;
-    let mut writer = BinaryWriter::new(alloc, Vec::new(alloc));
-    write_value(alloc, &value, &mut writer)?;
-    Ok(writer.into_inner())
+    let mut bytes = Vec::new(alloc);
+    value.to_writer_binary(alloc, &mut bytes)?;
+    Ok(bytes)
 }
 
 // The events of these words give this file, and the file these words.
@@ -340,6 +340,41 @@ fn a_failed_write_ends_the_writer(rt: HostRuntime) -> Result<(), Fail> {
         expect_failure(&rt, u64::from(fails_at), sent)?;
     }
     Ok(())
+}
+
+// A value stands behind what was written before; where the device fails at this call, so many bytes
+// of its file went out.
+fn expect_sent(
+    rt: &(impl Abort + AllocGlobal),
+    fails_at: u64,
+    answer: &str,
+    bytes: &[u8],
+) -> Result<(), Fail> {
+    let alloc = rt.alloc();
+    let mut device = Device::new(Vec::from_slice(alloc, b"before")?, fails_at);
+    let answered = match Value::Boolean(true).to_writer_binary(alloc, &mut device) {
+        Ok(()) => String::from_str(alloc, "ok")?,
+        Err(error) => error.to_string(alloc)?,
+    };
+    assert_eq!(rt; answered.as_str(), answer, "at call {fails_at}");
+    assert_eq!(rt; front(device.bytes.as_slice(), 6), b"before".as_slice());
+    assert_eq!(rt;
+        &device.bytes.as_slice()[6.min(device.bytes.len())..],
+        bytes,
+        "at call {fails_at}"
+    );
+    Ok(())
+}
+
+#[test]
+fn a_value_is_sent_whole_or_a_front_of_it(rt: HostRuntime) -> Result<(), Fail> {
+    let whole = file(rt.alloc(), "09 08", [1, 1], [1, 0, 9])?;
+    for fails_at in 0..42u32 {
+        let sent = front(whole.as_slice(), fails_at as usize);
+        expect_sent(&rt, u64::from(fails_at), "Io", sent)?;
+    }
+    expect_sent(&rt, 42, "Io", whole.as_slice())?;
+    expect_sent(&rt, 43, "ok", whole.as_slice())
 }
 
 #[test]
