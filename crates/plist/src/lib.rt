@@ -14,6 +14,3 @@ pub use dictionary::{Dictionary, Pairs};
 pub use stream::{Builder, Events};
 pub use value::{Value, kind_of_value};
 pub use writing::write_value;
-
-#[cfg(test)]
-mod tests;

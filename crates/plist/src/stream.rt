@@ -5,6 +5,3 @@ pub mod events;
 
 pub use builder::Builder;
 pub use events::Events;
-
-#[cfg(test)]
-mod tests;

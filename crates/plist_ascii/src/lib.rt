@@ -13,6 +13,3 @@ mod text;
 mod token;
 
 pub use reader::AsciiReader;
-
-#[cfg(test)]
-mod tests;

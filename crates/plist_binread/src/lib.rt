@@ -15,6 +15,3 @@ mod text;
 mod trailer;
 
 pub use reader::BinaryReader;
-
-#[cfg(test)]
-mod tests;

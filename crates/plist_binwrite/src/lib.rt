@@ -23,8 +23,3 @@ mod writer;
 
 pub use send::send_whole;
 pub use writer::BinaryWriter;
-
-#[cfg(test)]
-mod refusal_tests;
-#[cfg(test)]
-mod tests;

@@ -1,6 +1,6 @@
 //! What `BinaryReader` reads, and its faults.
 
-use crate::support::{Device, bytes_of, file, front, words_of};
+use crate::support::{Device, bytes_of, file, file_of_object, front, words_of};
 use plist_binread::BinaryReader;
 use std::alloc::Global;
 use std::process::Abort;
@@ -25,10 +25,7 @@ fn expect_object(
     object: &str,
     items: &str,
 ) -> Result<(), Fail> {
-    let alloc = rt.alloc();
-    let body = format!(in alloc; "{object} 08")?;
-    let table = 8 + object.len() as u64 / 2;
-    let bytes = file(alloc, body.as_str(), [1, 1], [1, 0, table])?;
+    let bytes = file_of_object(rt.alloc(), object)?;
     expect(rt, name, bytes.as_slice(), items)
 }
 

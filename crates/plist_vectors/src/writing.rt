@@ -1,6 +1,6 @@
 //! What `BinaryWriter` writes, byte by byte, and that `BinaryReader` reads the same events of it.
 
-use crate::support::{Device, answers, event_of, file, file_of, front, words_of};
+use crate::support::{Device, answers, event_of, file, file_of, file_of_object, front, words_of};
 use plist::{Builder, Value};
 use plist_base::Writer;
 use plist_binread::BinaryReader;
@@ -163,10 +163,7 @@ fn expect_object(
     word: &str,
     object: &str,
 ) -> Result<(), Fail> {
-    let alloc = rt.alloc();
-    let body = format!(in alloc; "{object} 08")?;
-    let table = 8 + object.len() as u64 / 2;
-    let bytes = file(alloc, body.as_str(), [1, 1], [1, 0, table])?;
+    let bytes = file_of_object(rt.alloc(), object)?;
     expect_value(rt, name, word, bytes.as_slice())
 }
 

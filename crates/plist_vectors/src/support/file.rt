@@ -42,6 +42,14 @@ pub(crate) fn file(
     Ok(file_of(alloc, body.as_slice(), widths, numbers)?)
 }
 
+// The file of this one object, in hexadecimal, with widths of one byte.
+pub(crate) fn file_of_object(alloc: Global, object: &str) -> Result<Vec<u8>, Fail> {
+    let mut body = bytes_of(alloc, object)?;
+    let table = 8 + body.len() as u64;
+    body.push(8)?;
+    Ok(file_of(alloc, body.as_slice(), [1, 1], [1, 0, table])?)
+}
+
 // At most this many bytes of the front.
 pub(crate) fn front(bytes: &[u8], count: usize) -> &[u8] {
     &bytes[..bytes.len().min(count)]
