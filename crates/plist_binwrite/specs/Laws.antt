@@ -3,7 +3,7 @@ use Rattle.std.proofs.Common.{◌≡◌, ℕ, Bool, true, false, List, Option, O
 use Rattle.std.specs.declared.io.traits.Write.{Ghosts}
 use Rattle.plist_base.specs.Bracketing.{CanContinue}
 use Rattle.plist_base.specs.Events.{PlainEvent}
-use Rattle.plist_base.specs.Faults.{FaultKind, fault_nowhere, UnexpectedEof, InvalidMagic, InvalidTrailerObjectOffsetSize, InvalidTrailerObjectReferenceSize, ObjectOffsetTooLarge, ObjectReferenceTooLarge, RecursiveObject, NullObjectUnimplemented, FillObjectUnimplemented, UnknownObjectType, IntegerOutOfRange, OverflowOrNanDate, InvalidUtf8String, InvalidUtf16String, UnclosedString, IncompleteComment, InvalidUtf8AsciiStream, InvalidOctalString, UnexpectedEventType, ExpectedEndOfEventStream, UnexpectedEndOfEventStream, Io, OutOfMemory, WriterFailed, PlistTooLarge}
+use Rattle.plist_base.specs.Faults.{FaultKind, fault_nowhere, UnexpectedEventType, ExpectedEndOfEventStream, Io, OutOfMemory, WriterFailed, PlistTooLarge}
 use Rattle.plist_base.specs.Writing.{Answer, MatchKind, MatchAnswer}
 use Rattle.std.proofs.lemmas.Bool.{true≢false, false≢true}
 use Rattle.plist_base.proofs.Grammar.{can_continue, continues, none_is}
@@ -12,31 +12,12 @@ use Rattle.plist_binwrite.specs.Taking.{Takes, TakesEvent, held_by, failed_of}
 
 -- each part of a fact by kind in turn
 pub by_kind : (kind : FaultKind) (a b c d : Type 0) → (a → c) → (b → d) → MatchKind kind a b ⊥ → MatchKind kind c d ⊥
-by_kind UnexpectedEof a b c d f g h = h
-by_kind InvalidMagic a b c d f g h = h
-by_kind InvalidTrailerObjectOffsetSize a b c d f g h = h
-by_kind InvalidTrailerObjectReferenceSize a b c d f g h = h
-by_kind ObjectOffsetTooLarge a b c d f g h = h
-by_kind ObjectReferenceTooLarge a b c d f g h = h
-by_kind RecursiveObject a b c d f g h = h
-by_kind NullObjectUnimplemented a b c d f g h = h
-by_kind FillObjectUnimplemented a b c d f g h = h
-by_kind (UnknownObjectType x) a b c d f g h = h
-by_kind IntegerOutOfRange a b c d f g h = h
-by_kind OverflowOrNanDate a b c d f g h = h
-by_kind InvalidUtf8String a b c d f g h = h
-by_kind InvalidUtf16String a b c d f g h = h
-by_kind UnclosedString a b c d f g h = h
-by_kind IncompleteComment a b c d f g h = h
-by_kind InvalidUtf8AsciiStream a b c d f g h = h
-by_kind InvalidOctalString a b c d f g h = h
-by_kind (UnexpectedEventType x y) a b c d f g h = f h
-by_kind (ExpectedEndOfEventStream x) a b c d f g h = f h
-by_kind UnexpectedEndOfEventStream a b c d f g h = h
+by_kind (UnexpectedEventType expected found) a b c d f g h = f h
+by_kind (ExpectedEndOfEventStream found) a b c d f g h = f h
 by_kind Io a b c d f g h = g h
 by_kind OutOfMemory a b c d f g h = g h
-by_kind WriterFailed a b c d f g h = h
 by_kind PlistTooLarge a b c d f g h = g h
+by_kind kind a b c d f g h = h
 
 match_false : (b : Bool) (x y : Type 0) → b ≡ false → MatchBool b x y → y
 match_false true x y e h = absurd (true≢false e)
