@@ -18,13 +18,18 @@ fn written(alloc: Global, words: &str) -> Result<Vec<u8>, Fail> {
     Ok(writer.into_inner())
 }
 
-// The file of the value that these words build.
-fn written_value(alloc: Global, words: &str) -> Result<Vec<u8>, Fail> {
+// The value that these words build.
+fn value_of(alloc: Global, words: &str) -> Result<Value, Fail> {
     let mut builder = Builder::new(alloc);
     for word in words.split(' ') {
         builder.write(event_of(alloc, word)?)?;
     }
-    let value = builder.finish()?;
+    Ok(builder.finish()?)
+}
+
+// Its file.
+fn written_value(alloc: Global, words: &str) -> Result<Vec<u8>, Fail> {
+    let value = value_of(alloc, words)?;
     let mut bytes = Vec::new(alloc);
     value.to_writer_binary(alloc, &mut bytes)?;
     Ok(bytes)
@@ -290,22 +295,29 @@ fn files_stand_behind_each_other(rt: HostRuntime) -> Result<(), Fail> {
     Ok(())
 }
 
-// The writer answers no device's fault where no call of the device failed.
+// Two files went to the device, a byte a call and a flush behind each, and no call failed.
+fn expect_two_files(rt: &(impl Abort + AllocGlobal), device: &Device) -> Result<(), Fail> {
+    let mut both = file(rt.alloc(), "09 08", [1, 1], [1, 0, 9])?;
+    let second = file(rt.alloc(), "a20101 5161 080b", [1, 1], [2, 0, 13])?;
+    both.extend_from_slice(second.as_slice())?;
+    assert_eq!(rt; device.bytes.as_slice(), both.as_slice());
+    assert_eq!(rt; device.calls, 42 + 1 + 47 + 1);
+    assert_eq!(rt; device.failures, 0);
+    Ok(())
+}
+
+// No device's fault is answered where no call of the device failed.
 #[test]
 fn io_without_failing_write(rt: HostRuntime) -> Result<(), Fail> {
     let a = rt.alloc();
     let mut writer = BinaryWriter::new(a, Device::new(Vec::new(a), u64::MAX));
     let answered = answers(a, &mut writer, "true [2 'a' 'a' end")?;
     assert_eq!(rt; answered.as_str(), "ok; ok; ok; ok; ok");
-    let device = writer.into_inner();
-    assert_eq!(rt; device.failures, 0);
-    // Each byte is a call, and each file ends with a flush.
-    assert_eq!(rt; device.calls, 42 + 1 + 47 + 1);
-    let mut both = file(a, "09 08", [1, 1], [1, 0, 9])?;
-    let second = file(a, "a20101 5161 080b", [1, 1], [2, 0, 13])?;
-    both.extend_from_slice(second.as_slice())?;
-    assert_eq!(rt; device.bytes.as_slice(), both.as_slice());
-    Ok(())
+    expect_two_files(&rt, &writer.into_inner())?;
+    let mut device = Device::new(Vec::new(a), u64::MAX);
+    value_of(a, "true")?.to_writer_binary(a, &mut device)?;
+    value_of(a, "[2 'a' 'a' end")?.to_writer_binary(a, &mut device)?;
+    expect_two_files(&rt, &device)
 }
 
 // The device fails at this call: these bytes went out, and the writer never asks it again.
