@@ -2,7 +2,6 @@
 
 ghost use Rattle.std.specs.Prelude.{◌≡◌, Bool, List, Err, false, true};
 ghost use Rattle.std.specs.Cow.{cow_slice_items, cow_str_bytes};
-ghost use Rattle.plist_base.specs.Bracketing.{CanContinue};
 ghost use Rattle.plist_base.specs.Faults.{WriterFailed, fault_nowhere};
 
 use crate::{Date, Error, Event, Integer, RealBits, Uid};
@@ -15,14 +14,14 @@ pub trait Sealed {}
 ///
 /// While a writer hasn't failed, it accepts an event exactly where the events that it holds can
 /// go on with it to those of a property list. An event that is refused for its place
-/// (`UnexpectedEventType`, `ExpectedEndOfEventStream`) changes nothing. After any other refusal
-/// (`OutOfMemory`, `Io`, `PlistTooLarge`) the writer has failed: each later call answers
-/// `WriterFailed` and changes nothing. No fault of a writer has an offset. Lengths of starts are
-/// hints, which decide nothing.
+/// (`UnexpectedEventType`, `ExpectedEndOfEventStream`) changes nothing. Any other refusal
+/// (`OutOfMemory`, `Io`, `PlistTooLarge`) comes only for an event that could come next, and the
+/// writer has failed then: each later call answers `WriterFailed` and changes nothing. No fault of
+/// a writer has an offset. Lengths of starts are hints, which decide nothing.
 pub trait Writer: Sealed {
     ghost use Rattle.plist_base.specs.Events as events;
     ghost use Rattle.plist_base.specs.Events.{PlainEvent, event_of};
-    ghost use Rattle.plist_base.specs.Writing.{Answer, MatchAnswer, answer_of};
+    ghost use Rattle.plist_base.specs.Writing.{Answer, AnswersByPlace, answer_of};
 
     ghost held: { Self → List PlainEvent };
 
@@ -88,9 +87,9 @@ pub trait Writer: Sealed {
         }
     }
 
-    // While it hasn't failed, an event is accepted where what is held can go on with it, and one
-    // that is refused for its place can't, and changes nothing; any other refusal is a failure.
-    ghost law: { (before : Self) (event : PlainEvent) (answer : Answer) (after : Self) → Step before event answer after → failed before ≡ false → MatchAnswer answer (CanContinue (held before) event × (failed after ≡ false)) ((CanContinue (held before) event → ⊥) × (after ≡ before)) (failed after ≡ true) ⊥ };
+    // While it hasn't failed, its answer is decided by what it holds and the event.
+    ghost law: { (before : Self) (event : PlainEvent) (answer : Answer) (after : Self) → Step before event answer after → failed before ≡ false
+        → AnswersByPlace (held before) event answer (held after) (failed after) (after ≡ before) };
 
     // Once failed, each call says so, and changes nothing.
     ghost law_of_failed: { (before : Self) (event : PlainEvent) (answer : Answer) (after : Self) → Step before event answer after → failed before ≡ true → (answer ≡ Err (fault_nowhere WriterFailed)) × (after ≡ before) };
