@@ -27,7 +27,7 @@ marks_unhinted : (es : List PlainEvent) → map mark_of (map unhinted es) ≡ ma
 marks_unhinted [] = refl
 marks_unhinted (e ∷ es) = λ i. mark_unhinted e i ∷ marks_unhinted es i
 
-scalar_mark : (x : Scalar) → mark_of (event_of_scalar x) ≡ leaf x
+pub scalar_mark : (x : Scalar) → mark_of (event_of_scalar x) ≡ leaf x
 scalar_mark (trees.Boolean v) = refl
 scalar_mark (trees.Data v) = refl
 scalar_mark (trees.Date v) = refl

@@ -3,6 +3,7 @@ use Rattle.std.proofs.lemmas.Result.{err_from_is_err_and}
 use Rattle.plist_base.proofs.Grammar.{complete_of_whole}
 use Rattle.plist_binwrite.specs.Files.{IsFileOf}
 use Rattle.plist_binwrite.specs.Pendings.{plain_events}
+use Rattle.plist_binwrite.proofs.Least.{least}
 use Rattle.plist_binwrite.proofs.Marked.{whole_bracketed, evs_alike}
 use Rattle.plist_binwrite.proofs.Sends.{sends_io, sends_unplanned}
 use Rattle.plist_binwrite.proofs.completion.complete.Goals as goal
@@ -18,6 +19,7 @@ returns g c =
         written = c.in_ok-file.ensures.written t (evs_alike c.args.events.now t alike);
         once = c.in_ok-file.ensures.once t (evs_alike c.args.events.now t alike);
         count = c.in_ok-file.ensures.count t (evs_alike c.args.events.now t alike);
+        least = least t;
         size = c.in_ok-file.ensures.size t (evs_alike c.args.events.now t alike);
         fits = subst (λ n. n < 2 ^ 64) (c.in_ok-file.ensures.size t (evs_alike c.args.events.now t alike)) c.in_ok-file.ensures.fits;
       }),
@@ -33,6 +35,7 @@ returns-in-Ok g c = (
       written = c.in_ok-file.ensures.written t (evs_alike c.args.events.now t alike);
       once = c.in_ok-file.ensures.once t (evs_alike c.args.events.now t alike);
       count = c.in_ok-file.ensures.count t (evs_alike c.args.events.now t alike);
+      least = least t;
       size = c.in_ok-file.ensures.size t (evs_alike c.args.events.now t alike);
       fits = subst (λ n. n < 2 ^ 64) (c.in_ok-file.ensures.size t (evs_alike c.args.events.now t alike)) c.in_ok-file.ensures.fits;
     }),
