@@ -1,12 +1,13 @@
 //! Bytes that are taken one by one, with one byte looked at ahead.
 
-ghost use Rattle.std.specs.Prelude.{◌≡◌, ℕ, ◌+◌, ◌-◌, ◌^◌, ◌<◌, ◌≤◌, List, [], ◌∷◌, drop, None, Some, true, false, IfOk, IfSome, IfErr, OnOk, IsSome, MatchOption};
+ghost use Rattle.std.specs.Prelude.{◌≡◌, ◌⊎◌, ℕ, ◌+◌, ◌-◌, ◌^◌, ◌<◌, ◌≤◌, List, [], ◌∷◌, drop, None, Some, Ok, true, false, IfOk, IfSome, IfErr, OnOk, IsSome, MatchOption};
 ghost use Rattle.plist_base.specs.Faults.{Io, UnclosedString, fault_of, fault_at, kind_of, error_kind_of};
 ghost use Rattle.plist_ascii.specs.Taken.{run};
+ghost use Rattle.plist_ascii.specs.Incoming.{AnswersIo};
 ghost use Rattle.plist_ascii.specs.Unread.{unread, Known, first, stops, Takes, IsAt, is_from_outside};
 
+use crate::bytes::Bytes;
 use plist_base::{Error, ErrorKind};
-use std::io::Read;
 
 /// What ends a run of bytes.
 #[derive(Clone, Copy)]
@@ -78,7 +79,7 @@ impl<R> Input<R> {
     }
 }
 
-impl<R: Read> Input<R> {
+impl<R: Bytes> Input<R> {
     // Reads one byte ahead.
     fn fetch(&mut self) -> Result<Option<u8>, Error>
         requires going { self.old.ended ≡ false }
@@ -88,19 +89,20 @@ impl<R: Read> Input<R> {
             (unread R.remaining self.new ≡ Some xs) × (byte ≡ first xs))) }
         ensures held { IfOk result (λ byte. IfSome byte (λ _.
             (self.new.peeked ≡ byte) × (self.new.ended ≡ false) × (self.new.taken < 2 ^ 64 - 1))) }
+        ensures end { IfOk result (λ byte. byte ≡ None → self.new.ended ≡ true) }
         ensures err { IfErr result (λ e. fault_of e ≡ fault_at Io self.new.taken) }
         ensures place { self.new.taken ≡ self.old.taken }
+        ensures failures { AnswersIo result
+            (R.failures self.old.inner) (R.failures self.new.inner) }
     {
-        let mut buffer = [0u8; 1];
-        match self.inner.read(&mut buffer) {
-            Ok(count) => {
-                if count == 0 {
-                    self.ended = true;
-                    return Ok(None);
-                }
-                let byte = buffer[0];
+        match self.inner.next_byte() {
+            Ok(Some(byte)) => {
                 self.peeked = Some(byte);
                 Ok(Some(byte))
+            }
+            Ok(None) => {
+                self.ended = true;
+                Ok(None)
             }
             Err(failure) => Err(self.fault(ErrorKind::Io(failure))),
         }
@@ -112,8 +114,14 @@ impl<R: Read> Input<R> {
             (unread R.remaining self.new ≡ Some xs) × (byte ≡ first xs))) }
         ensures held { IfOk result (λ byte. IfSome byte (λ _.
             (self.new.peeked ≡ byte) × (self.new.ended ≡ false) × (self.new.taken < 2 ^ 64 - 1))) }
+        ensures end { IfOk result (λ byte. byte ≡ None →
+            (self.new.ended ≡ true) ⊎ (self.new.taken ≡ 2 ^ 64 - 1)) }
+        ensures unasked { (self.old.ended ≡ true) ⊎ (self.old.taken ≡ 2 ^ 64 - 1)
+            → (result ≡ Ok None) × (self.new ≡ self.old) }
         ensures err { IfErr result (λ e. fault_of e ≡ fault_at Io self.new.taken) }
         ensures place { self.new.taken ≡ self.old.taken }
+        ensures failures { AnswersIo result
+            (R.failures self.old.inner) (R.failures self.new.inner) }
     {
         if self.ended {
             return Ok(None);
@@ -135,6 +143,7 @@ impl<R: Read> Input<R> {
         ensures next { Known (unread R.remaining self.old) (λ xs.
             unread R.remaining self.new ≡ Some (drop 1 xs)) }
         ensures place { self.new.taken ≡ self.old.taken + 1 }
+        ensures inner { self.new.inner ≡ self.old.inner }
     {
         self.peeked = None;
         self.taken += 1;
@@ -151,6 +160,8 @@ impl<R: Read> Input<R> {
         ensures place { IfOk result (λ o. MatchOption o (self.new.taken ≡ self.old.taken)
             (λ _. (self.new.taken ≡ self.old.taken + 1) × (self.new.taken < 2 ^ 64))) }
         ensures stays { IfErr result (λ _. self.new.taken ≡ self.old.taken) }
+        ensures failures { AnswersIo result
+            (R.failures self.old.inner) (R.failures self.new.inner) }
     {
         match self.look()? {
             Some(byte) => {
@@ -174,6 +185,8 @@ impl<R: Read> Input<R> {
         ensures place { IfOk result (λ o. MatchOption o (self.new.taken ≡ self.old.taken)
             (λ _. (self.new.taken ≡ self.old.taken + 1) × (self.new.taken < 2 ^ 64))) }
         ensures stays { IfErr result (λ _. self.new.taken ≡ self.old.taken) }
+        ensures failures { AnswersIo result
+            (R.failures self.old.inner) (R.failures self.new.inner) }
     {
         match self.look()? {
             Some(byte) => {
@@ -195,6 +208,8 @@ impl<R: Read> Input<R> {
             (fault_of e ≡ fault_at UnclosedString self.new.taken)
             × Known (unread R.remaining self.old) (λ xs.
             (unread R.remaining self.new ≡ Some xs) × (xs ≡ [])))) }
+        ensures failures { AnswersIo result
+            (R.failures self.old.inner) (R.failures self.new.inner) }
     {
         match self.take()? {
             Some(byte) => Ok(byte),
@@ -206,6 +221,7 @@ impl<R: Read> Input<R> {
     pub fn end(&mut self)
         ensures unread { unread R.remaining self.new ≡ Some [] }
         ensures ended { self.new.ended ≡ true }
+        ensures inner { self.new.inner ≡ self.old.inner }
         ensures place { self.new.taken ≡ self.old.taken }
     {
         self.peeked = None;
