@@ -1,7 +1,8 @@
 use Rattle.std.proofs.Common.{◌≡◌, ℕ, ◌≤◌, ◌<◌, List, [], ◌∷◌, length, get_or, map, codes, ap, sym, ◌∙◌, arith, true}
 use Rattle.std.specs.Str.{bytes_eq}
 use Rattle.std.proofs.lemmas.Slice.Eq.{bytes_eq-Decides}
-use Rattle.plist_tool.proofs.commands.file_to_print.Goals as goal
+use Rattle.plist_tool.specs.Commands.{Print}
+use Rattle.plist_tool.proofs.commands.command_of.Goals as goal
 
 two_items : {A : Type 0} (items : List A) (first second : A) → 2 ≤ length items → length items < 3 → first ≡ get_or items 0 first → second ≡ get_or items 1 second → items ≡ first ∷ second ∷ []
 two_items [] first second low high a b = absurd (omega arith)
@@ -21,4 +22,4 @@ returns-in-len2-clause-found c =
     c.as_str.ensures.value c.as_str-in-len2.ensures.value (sym c.eq.ensures ∙ c.if-eq.true)
 
 pub returns-in-len2-clause-wrong : goal.returns-in-len2-clause-wrong
-returns-in-len2-clause-wrong c = (λ none file is. cc, λ wrong. absurd (wrong _ (returns-in-len2-clause-found c)))
+returns-in-len2-clause-wrong c = (λ none asked is. cc, λ wrong. absurd (wrong (Print _) (returns-in-len2-clause-found c)))
