@@ -1,8 +1,8 @@
 //! Sources over a file, and what is read from their front on.
 
-use crate::support::{Disk, expect_io, must};
-use plist_base::{Seeking, Source, read_exact_at};
-use std::io::{Cursor, ErrorKind};
+use crate::support::{Device, Disk, Fault, expect_io, must};
+use plist_base::{Seeking, Sequential, Source, read_exact_at};
+use std::io::{Cursor, ErrorKind, Read};
 use std::process::Abort;
 
 // What lies at a place of the test's file.
@@ -133,4 +133,46 @@ fn goes_on_after_a_failure(rt: HostRuntime) {
     for call in 0..4 {
         expect_failure(&rt, call);
     }
+}
+
+// The reader's next bytes, where the buffer has this much room.
+fn expect_next<R: Read>(
+    rt: &(impl Abort + AllocGlobal),
+    reader: &mut R,
+    room: usize,
+    wanted: &[u8],
+) {
+    let mut buf = must(rt, vec![in rt.alloc(); 0u8; room]);
+    match reader.read(&mut buf) {
+        Ok(count) => assert_eq!(rt; &buf[..count], wanted),
+        Err(failure) => panic!(rt; "{failure:?}"),
+    }
+}
+
+#[test]
+fn reads_from_the_front(rt: HostRuntime) {
+    let mut reader = Sequential::new(b"abcdefg".as_slice());
+    expect_next(&rt, &mut reader, 2, b"ab");
+    expect_next(&rt, &mut reader, 0, b"");
+    expect_next(&rt, &mut reader, 4, b"cdef");
+    expect_next(&rt, &mut reader, 4, b"g");
+    expect_next(&rt, &mut reader, 4, b"");
+    assert_eq!(rt; reader.into_inner(), b"abcdefg".as_slice());
+}
+
+// A read that fails isn't tried again, and the next one begins at its place.
+#[test]
+fn a_failed_read_takes_nothing(rt: HostRuntime) {
+    let bytes = must(&rt, Vec::from_slice(rt.alloc(), b"abc"));
+    let device = Device::with_fault(bytes, 1, Fault::Fails(ErrorKind::TimedOut));
+    let mut reader = Sequential::new(device);
+    expect_next(&rt, &mut reader, 2, b"a");
+    match reader.read(&mut [0; 2]) {
+        Ok(_) => panic!(rt; "the device failed"),
+        Err(failure) => assert_eq!(rt; failure.kind(), ErrorKind::TimedOut),
+    }
+    expect_next(&rt, &mut reader, 2, b"b");
+    let device = reader.into_inner();
+    assert_eq!(rt; device.calls, 3);
+    assert_eq!(rt; device.place, 1);
 }
