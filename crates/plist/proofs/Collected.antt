@@ -7,17 +7,18 @@ use Rattle.plist_base.specs.Faults as faults
 use Rattle.plist_base.specs.Faults.{FaultKind, Fault, fault_nowhere, UnexpectedEndOfEventStream}
 use Rattle.plist_base.specs.Trees.{Tree}
 use Rattle.plist_base.specs.Bracketing.{unhinted, AreAlike}
-use Rattle.plist_base.proofs.Grammar.{map-append}
+use Rattle.std.proofs.lemmas.List.{map-append}
 use Rattle.plist.specs.LastWins.{with_pair, last_wins}
 use Rattle.plist.specs.Building.{Unfinished, NotBegun, Within, Complete, InArray, InDictionary, AfterKey, Built, IsNested, nothing_built, complete_tree, events_so_far, last_wins_so_far, refusal_of, IsUnfinishedFor, IsUnfinished}
 use Rattle.plist.specs.Steps.{and_pair, carried_on}
-use Rattle.plist.specs.Wanting.{incomplete}
+use Rattle.plist.specs.Following.{complete, refusal-last}
 use Rattle.std.specs.Prelude.{IfOk, IfErr, MatchResult}
 use Rattle.plist_base.specs.Faults.{fault_of}
 use Rattle.plist.specs.declared.value.Value.{Value}
 use Rattle.plist.specs.Views.{tree_of}
 use Rattle.plist.specs.Collecting.{IsBuiltFrom, IsRefusal, Takes, Refuses, built_tree}
-use Rattle.plist.proofs.Carrying.{carried-last, carried-nested, carried-events}
+use Rattle.plist.specs.Carried.{carried-nested, carried-events}
+use Rattle.plist.proofs.Carrying.{carried-last}
 
 -- what is held are the events of the items, with the last value of each key
 abbrev pub TookAll : List (Result Event Error) → Built → Type 0
@@ -59,14 +60,6 @@ took-item items item (Ok e) before after q (events, held, is, ok, alike, last, f
 pub took-more : (items : List (Result Event Error)) (item : Result Event Error) (before after : Built) → TookAll items before → Takes before (item_of item) after → TookAll (items ++ item ∷ []) after
 took-more items item before after t k = took-item items item (item_of item) before after refl t k
 
--- the last values change nothing in what can come next
-refusal-last : (u : Unfinished) (e : PlainEvent) → refusal_of (last_wins_so_far u) e ≡ refusal_of u e
-refusal-last NotBegun e = refl
-refusal-last (Within (InArray ts) outer) e = refl
-refusal-last (Within (InDictionary ps) outer) e = refl
-refusal-last (Within (AfterKey ps k) outer) e = refl
-refusal-last (Complete t) e = refl
-
 refused-item : (items : List (Result Event Error)) (item : Result Event Error) (x : Item) (built : Built) (fault : Fault) → item_of item ≡ x → TookAll items built → Refuses built.unfinished x fault
     → IsBuiltFrom (map item_of (items ++ item ∷ [])) (Err fault)
 refused-item items item (Err error) built fault q (events, held, is, ok, alike, last, fine) r =
@@ -102,9 +95,7 @@ ended items built fault UnexpectedEndOfEventStream q (events, held, is, ok, alik
   inr (inr (
     is,
     (λ i. record { kind = q i; offset = o i }),
-    λ t a.
-        let w = incomplete held t ok (alike ∙ a) in
-        k.1 (last_wins w.0) (ap (λ u. map unhinted (events_so_far u)) (last ∙ ap last_wins_so_far w.1)),
+    λ t a. k.1 (last_wins t) (ap (λ u. map unhinted (events_so_far u)) (last ∙ ap last_wins_so_far (complete held t ok (alike ∙ a)))),
   )),
 )
 ended items built fault faults.WriterFailed q (events, held, is, ok, alike, last, fine) o k = absurd (true≢false (sym k ∙ fine))

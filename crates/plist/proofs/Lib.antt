@@ -6,6 +6,5 @@ pub mod Tops
 pub mod Itself
 pub mod Starts
 pub mod Collected
-pub mod OneTree
 pub mod Handed
 pub mod Filed

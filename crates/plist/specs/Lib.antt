@@ -5,7 +5,9 @@ pub mod LastWins
 pub mod Views
 pub mod Building
 pub mod Steps
-pub mod Wanting
+pub mod Carried
+pub mod OneTree
+pub mod Following
 pub mod Partials
 pub mod Builders
 pub mod Laws

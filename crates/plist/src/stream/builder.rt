@@ -93,6 +93,7 @@ impl Builder {
     pub fn finish(&mut self) -> Result<Value, Error>
         ensures value { IfOk result (λ value. AreAlike (events_so_far (built_of self.old).unfinished) (bracketing (tree_of value))) }
         ensures complete { IfOk result (λ value. complete_tree (built_of self.old).unfinished ≡ Some (tree_of value)) }
+        ensures working { OnOk result ((built_of self.old).failed ≡ false) }
         ensures emptied { OnOk result (built_of self.new ≡ nothing_built) }
         ensures refused { IfErr result (λ error. IsUnfinished (built_of self.old) (fault_of error)) }
         ensures unchanged { OnErr result (self.new ≡ self.old) }

@@ -2,7 +2,7 @@ use Rattle.std.proofs.Common.{[], ◌∷◌, ◌++◌}
 use Rattle.std.proofs.iter.Next as it
 use Rattle.plist.specs.Builders.{built_of}
 use Rattle.plist.proofs.Collected.{took-none, took-more, refused-last, finished, either_way}
-use Rattle.plist.proofs.OneTree.{one_tree}
+use Rattle.plist.specs.OneTree.{one_tree}
 use Rattle.plist.proofs.value.Value.from_events.Goals as goal
 
 pub loop-item-init : goal.loop-item-init
