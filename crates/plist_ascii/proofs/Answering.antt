@@ -4,6 +4,7 @@ use Rattle.std.proofs.lemmas.List.{drop-drop}
 use Rattle.plist_base.specs.declared.error.Error.{Error}
 use Rattle.plist_base.specs.Faults.{FaultKind, Io, OutOfMemory, UnclosedString, fault_of, fault_at, fault_nowhere, kind_of, error_kind_of}
 use Rattle.plist_ascii.specs.Taken.{Taken, taken, past_one, past, past_outcome, followed}
+use Rattle.plist_ascii.specs.Kinds.{IsFaultOfBytes}
 use Rattle.plist_ascii.specs.Unread.{Known, Takes, TakesFront, Answers, IsAt, is_from_outside}
 use Rattle.plist_ascii.proofs.Inside.{kind_said, is_at_inside, is_at_io, is_at_memory, outside_io, outside_memory}
 
@@ -39,7 +40,7 @@ module _ {X A : Type 0} (view : X → A) where
   pub answers_here : (front : List ℕ → Taken A) (old : Option (List ℕ)) (p : ℕ) (x : X) → ((xs : List ℕ) → front xs ≡ taken 0 (Ok (view x))) → Answers view front old p old p (Ok x)
   answers_here front old p x h = (omega arith, λ xs e. let P : Taken A → Type 0 = λ t. TakesFront t (Ok (view x)) old p p xs in subst P (sym (h xs)) (refl, e, omega arith))
 
-  pub answers_fault : (front : List ℕ → Taken A) (old : Option (List ℕ)) (p : ℕ) (f : Error) (k : FaultKind) → fault_of f ≡ fault_at k p → is_from_outside k ≡ false
+  pub answers_fault : (front : List ℕ → Taken A) (old : Option (List ℕ)) (p : ℕ) (f : Error) (k : FaultKind) → fault_of f ≡ fault_at k p → IsFaultOfBytes k
       → ((xs : List ℕ) → front xs ≡ taken 0 (Err k)) → Answers view front old p old p (Err f)
   answers_fault front old p f k s i h = (
     is_at_inside f k p s i,

@@ -2,6 +2,7 @@
 use Rattle.std.proofs.Common.{◌≡◌, ℕ, true, false, Some, refl, sym, ap, subst}
 use Rattle.plist_base.specs.declared.error.Error.{Error}
 use Rattle.plist_base.specs.Faults.{Fault, FaultKind, Io, OutOfMemory, MatchFault, fault_of, fault_at, fault_nowhere, kind_of, error_kind_of}
+use Rattle.plist_ascii.specs.Kinds.{IsFaultOfBytes, IsAsciiFault}
 use Rattle.plist_ascii.specs.Unread.{IsAt, is_from_outside}
 
 -- the fact that a fault in the bytes has
@@ -25,8 +26,20 @@ outside_gets kind A B C e a b = absurd (cc)
 pub kind_said : (f : Error) (kind : FaultKind) (place : ℕ) → fault_of f ≡ fault_at kind place → kind ≡ kind_of (error_kind_of f)
 kind_said f kind place e = sym (ap (λ fault. fault.kind) e)
 
-pub is_at_inside : (f : Error) (kind : FaultKind) (place : ℕ) → fault_of f ≡ fault_at kind place → is_from_outside kind ≡ false → IsAt (fault_of f) place
-is_at_inside f kind place e i = let P : Fault → Type 0 = λ fault. IsAt fault place in subst P (sym e) (inside_gets kind _ _ _ i refl)
+-- a fault that the bytes can have isn't from outside
+pub bytes_inside : (kind : FaultKind) → IsFaultOfBytes kind → is_from_outside kind ≡ false
+bytes_inside Io h = absurd h
+bytes_inside OutOfMemory h = absurd h
+bytes_inside kind h = refl
+
+pub is_at_inside : (f : Error) (kind : FaultKind) (place : ℕ) → fault_of f ≡ fault_at kind place → IsFaultOfBytes kind → IsAt (fault_of f) place
+is_at_inside f kind place e i = let P : Fault → Type 0 = λ fault. IsAt fault place in subst P (sym e) (inside_gets kind _ _ _ (bytes_inside kind i) (i, refl))
+
+-- where a fault stands says which kinds it can have
+pub kind_at : (kind : FaultKind) (A B C : Type 0) → MatchFault kind A B (IsFaultOfBytes kind × C) → IsAsciiFault kind
+kind_at Io A B C h = tt
+kind_at OutOfMemory A B C h = tt
+kind_at kind A B C h = h.0
 
 pub is_at_io : (f : Error) (place : ℕ) → fault_of f ≡ fault_at Io place → IsAt (fault_of f) place
 is_at_io f place e = let P : Fault → Type 0 = λ fault. IsAt fault place in subst P (sym e) refl
@@ -45,4 +58,4 @@ fault_by : (fault : Fault) (place : ℕ) → fault.offset ≡ Some place → fau
 fault_by fault place e = ap (λ o. record { kind = fault.kind; offset = o }) e
 
 pub inside_is : (f : Error) (place : ℕ) → is_from_outside (kind_of (error_kind_of f)) ≡ false → IsAt (fault_of f) place → fault_of f ≡ fault_at (kind_of (error_kind_of f)) place
-inside_is f place i h = fault_by (fault_of f) place (inside_has (kind_of (error_kind_of f)) _ _ _ i h)
+inside_is f place i h = fault_by (fault_of f) place (inside_has (kind_of (error_kind_of f)) _ _ _ i h).1

@@ -5,6 +5,7 @@ pub mod Quoted
 pub mod Comments
 pub mod Ascii
 pub mod Parts
+pub mod Kinds
 pub mod Unread
 pub mod Coming
 pub mod Examples

@@ -7,6 +7,7 @@ use Rattle.plist_base.specs.declared.error.ErrorKind.{ErrorKind}
 use Rattle.plist_base.specs.declared.event.Event.{Event}
 use Rattle.plist_base.specs.Events.{PlainEvent, event_of}
 use Rattle.plist_base.specs.Faults.{Fault, FaultKind, Io, OutOfMemory, MatchFault, fault_of, kind_of, error_kind_of}
+use Rattle.plist_ascii.specs.Kinds.{IsFaultOfBytes, IsTextEvent}
 use Rattle.plist_ascii.specs.declared.input.Input.{Input}
 use Rattle.plist_ascii.specs.declared.input.Stop.{Stop}
 use Rattle.plist_ascii.specs.declared.input.Stop.TheVariants as stop
@@ -47,9 +48,9 @@ is_from_outside Io = true
 is_from_outside OutOfMemory = true
 is_from_outside kind = false
 
--- a fault stands where the bytes taken end; want of memory has no place
+-- a device's fault or one of the bytes stands where the bytes taken end; want of memory has no place
 abbrev pub IsAt : Fault → ℕ → Type 0
-IsAt fault place = MatchFault fault.kind (fault.offset ≡ Some place) (fault.offset ≡ None) (fault.offset ≡ Some place)
+IsAt fault place = MatchFault fault.kind (fault.offset ≡ Some place) (fault.offset ≡ None) (IsFaultOfBytes fault.kind × (fault.offset ≡ Some place))
 
 -- the first of the old bytes was taken
 abbrev pub Takes : Option (List ℕ) → ℕ → Option (List ℕ) → Type 0
@@ -68,4 +69,4 @@ Answers view front old p new q answer = MatchResult answer
 
 -- what a text means, as an event or a fault's kind
 abbrev pub Means : Result Event ErrorKind → Result (Option PlainEvent) FaultKind → Type 0
-Means answer outcome = MatchResult answer (λ event. outcome ≡ Ok (Some (event_of event))) (λ kind. (outcome ≡ Err (kind_of kind)) × (is_from_outside (kind_of kind) ≡ false))
+Means answer outcome = MatchResult answer (λ event. (outcome ≡ Ok (Some (event_of event))) × IsTextEvent (event_of event)) (λ kind. (outcome ≡ Err (kind_of kind)) × IsFaultOfBytes (kind_of kind))

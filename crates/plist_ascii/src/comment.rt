@@ -1,6 +1,6 @@
 //! Comments.
 
-ghost use Rattle.std.specs.Prelude.{◌≡◌, ◌≢◌, ◌+◌, ◌≤◌, ◌==◌, ◌&&◌, drop, Some, None, Ok, Err, IfErr, OnOk};
+ghost use Rattle.std.specs.Prelude.{◌≡◌, ◌≢◌, ◌+◌, ◌≤◌, ◌==◌, ◌&&◌, drop, Some, None, Ok, Err, IfOk, IfErr, OnOk};
 ghost use Rattle.std.specs.Option.{option_map};
 ghost use Rattle.plist_base.specs.Faults.{Io, OutOfMemory, fault_of, fault_at, kind_of, error_kind_of};
 ghost use Rattle.plist_base.specs.Events.{event_of};
@@ -45,6 +45,7 @@ impl<R: Read> Input<R> {
             (unread R.remaining self.old) self.old.taken
             (unread R.remaining self.new) self.new.taken result }
         ensures memory { IfErr result (λ e. kind_of (error_kind_of e) ≢ OutOfMemory) }
+        ensures nothing { IfOk result (λ event. event ≡ None) }
     {
         self.skip_run(Stop::LineEnd)?;
         Ok(None)
@@ -56,6 +57,7 @@ impl<R: Read> Input<R> {
             (unread R.remaining self.old) self.old.taken
             (unread R.remaining self.new) self.new.taken result }
         ensures memory { IfErr result (λ e. kind_of (error_kind_of e) ≢ OutOfMemory) }
+        ensures nothing { IfOk result (λ event. event ≡ None) }
     {
         let mut star = false;
         'bytes: loop {

@@ -1,6 +1,6 @@
 //! Bytes that are taken one by one, with one byte looked at ahead.
 
-ghost use Rattle.std.specs.Prelude.{◌≡◌, ℕ, ◌+◌, ◌-◌, ◌^◌, ◌<◌, ◌≤◌, List, [], ◌∷◌, drop, None, Some, true, false, IfOk, IfSome, IfErr, OnOk, IsSome, MatchOption};
+ghost use Rattle.std.specs.Prelude.{◌≡◌, ◌⊎◌, ℕ, ◌+◌, ◌-◌, ◌^◌, ◌<◌, ◌≤◌, List, [], ◌∷◌, drop, None, Some, Ok, true, false, IfOk, IfSome, IfErr, OnOk, IsSome, MatchOption};
 ghost use Rattle.plist_base.specs.Faults.{Io, UnclosedString, fault_of, fault_at, kind_of, error_kind_of};
 ghost use Rattle.plist_ascii.specs.Taken.{run};
 ghost use Rattle.plist_ascii.specs.Unread.{unread, Known, first, stops, Takes, IsAt, is_from_outside};
@@ -88,6 +88,7 @@ impl<R: Read> Input<R> {
             (unread R.remaining self.new ≡ Some xs) × (byte ≡ first xs))) }
         ensures held { IfOk result (λ byte. IfSome byte (λ _.
             (self.new.peeked ≡ byte) × (self.new.ended ≡ false) × (self.new.taken < 2 ^ 64 - 1))) }
+        ensures end { IfOk result (λ byte. byte ≡ None → self.new.ended ≡ true) }
         ensures err { IfErr result (λ e. fault_of e ≡ fault_at Io self.new.taken) }
         ensures place { self.new.taken ≡ self.old.taken }
     {
@@ -112,6 +113,10 @@ impl<R: Read> Input<R> {
             (unread R.remaining self.new ≡ Some xs) × (byte ≡ first xs))) }
         ensures held { IfOk result (λ byte. IfSome byte (λ _.
             (self.new.peeked ≡ byte) × (self.new.ended ≡ false) × (self.new.taken < 2 ^ 64 - 1))) }
+        ensures end { IfOk result (λ byte. byte ≡ None →
+            (self.new.ended ≡ true) ⊎ (self.new.taken ≡ 2 ^ 64 - 1)) }
+        ensures unasked { (self.old.ended ≡ true) ⊎ (self.old.taken ≡ 2 ^ 64 - 1)
+            → (result ≡ Ok None) × (self.new ≡ self.old) }
         ensures err { IfErr result (λ e. fault_of e ≡ fault_at Io self.new.taken) }
         ensures place { self.new.taken ≡ self.old.taken }
     {
@@ -206,6 +211,7 @@ impl<R: Read> Input<R> {
     pub fn end(&mut self)
         ensures unread { unread R.remaining self.new ≡ Some [] }
         ensures ended { self.new.ended ≡ true }
+        ensures inner { self.new.inner ≡ self.old.inner }
         ensures place { self.new.taken ≡ self.old.taken }
     {
         self.peeked = None;

@@ -5,6 +5,7 @@ ghost use Rattle.plist_base.specs.Faults.{OutOfMemory, fault_of, fault_nowhere, 
 ghost use Rattle.plist_base.specs.Events.{event_of};
 ghost use Rattle.plist_ascii.specs.Quoted.{quoted, quoted_token};
 ghost use Rattle.plist_ascii.specs.Parts.{piece_bytes, Parts, PartFails, Ends, EndFails};
+ghost use Rattle.plist_ascii.specs.Kinds.{IsTextEvent};
 ghost use Rattle.plist_ascii.specs.Unread.{unread, Known, IsAt, is_from_outside, Answers};
 
 use crate::escape::Piece;
@@ -95,9 +96,10 @@ impl<R: Read> Input<R> {
 
     /// Takes a quoted text, whose opening quote has been taken.
     pub fn quoted_text(&mut self, alloc: Global, quote: u8) -> Result<OwnedEvent, Error>
-        ensures { Answers (λ e. Some (event_of e)) (quoted_token quote)
+        ensures answers { Answers (λ e. Some (event_of e)) (quoted_token quote)
             (unread R.remaining self.old) self.old.taken
             (unread R.remaining self.new) self.new.taken result }
+        ensures kinds { IfOk result (λ event. IsTextEvent (event_of event)) }
     {
         let text = self.quoted(alloc, quote)?;
         match quoted_event(text) {

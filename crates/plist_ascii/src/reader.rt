@@ -2,6 +2,7 @@
 
 ghost use Rattle.std.specs.Prelude.{◌≡◌, ℕ, ◌-◌, ◌^◌, ◌<◌, List, take, None, Some, true, IfSome};
 ghost use Rattle.plist_base.specs.Faults.{kind_of, error_kind_of};
+ghost use Rattle.plist_ascii.specs.Kinds.{IsAsciiItem};
 ghost use Rattle.plist_ascii.specs.Unread.{unread, Known, stops, is_from_outside};
 ghost use Rattle.plist_ascii.specs.Coming.{GivesItem, Rises, FaultIsAt, EndsAfter, bytes_to_come};
 
@@ -25,7 +26,9 @@ impl<R: Read> Input<R> {
             × GivesItem (stops stop) xs self.old.taken result ys self.new.taken) }
         ensures rises { Rises result self.old.taken self.new.taken }
         ensures offset { FaultIsAt result self.new.taken }
+        ensures kinds { IsAsciiItem result }
         ensures ended { self.old.ended ≡ true → result ≡ None }
+        ensures unasked { self.old.ended ≡ true → self.new.inner ≡ self.old.inner }
         ensures ends { EndsAfter result (self.new.ended ≡ true) }
         ensures falls { IfSome result (λ _. bytes_to_come self.new.ended self.new.taken
             < bytes_to_come self.old.ended self.old.taken) }

@@ -7,6 +7,7 @@ ghost use Rattle.plist_base.specs.Events.{event_of};
 ghost use Rattle.plist_base.specs.IntegerText.{integer_of_text};
 ghost use Rattle.plist_ascii.specs.Taken.{run};
 ghost use Rattle.plist_ascii.specs.Texts.{bare, bare_event, quoted_event, number_or_text};
+ghost use Rattle.plist_ascii.specs.Kinds.{IsTextEvent};
 ghost use Rattle.plist_ascii.specs.Unread.{unread, Known, stops, IsAt, is_from_outside, Answers, Means};
 
 use crate::input::{Input, Stop};
@@ -84,9 +85,10 @@ impl<R: Read> Input<R> {
 
     /// Takes a bare text, whose first byte has been taken.
     pub fn bare(&mut self, alloc: Global, stop: Stop, first: u8) -> Result<OwnedEvent, Error>
-        ensures { Answers (λ e. Some (event_of e)) (bare (stops stop) first)
+        ensures answers { Answers (λ e. Some (event_of e)) (bare (stops stop) first)
             (unread R.remaining self.old) self.old.taken
             (unread R.remaining self.new) self.new.taken result }
+        ensures kinds { IfOk result (λ event. IsTextEvent (event_of event)) }
     {
         let mut text = Vec::new(alloc);
         push_byte(&mut text, first)?;

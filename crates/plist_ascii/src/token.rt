@@ -1,11 +1,12 @@
 //! Tokens.
 
-ghost use Rattle.std.specs.Prelude.{◌≡◌, Some, IfErr};
+ghost use Rattle.std.specs.Prelude.{◌≡◌, Some, IfOk, IfSome, IfErr};
 ghost use Rattle.std.specs.Option.{option_map};
 ghost use Rattle.plist_base.specs.Faults.{OutOfMemory, kind_of, error_kind_of};
 ghost use Rattle.plist_base.specs.Events.{event_of};
 ghost use Rattle.plist_ascii.specs.Comments.{slash};
 ghost use Rattle.plist_ascii.specs.Ascii.{lead_of, token_by, WantsMemory};
+ghost use Rattle.plist_ascii.specs.Kinds.{IsTextEvent, IsAsciiEvent};
 ghost use Rattle.plist_ascii.specs.Unread.{unread, Known, stops, Answers};
 
 use crate::input::{Input, Stop};
@@ -55,6 +56,7 @@ impl<R: Read> Input<R> {
             (unread R.remaining self.new) self.new.taken result }
         ensures memory { IfErr result (λ e. kind_of (error_kind_of e) ≡ OutOfMemory →
             Known (unread R.remaining self.old) (λ xs. WantsMemory (slash (stops stop) xs).gives)) }
+        ensures kinds { IfOk result (λ event. IfSome event (λ e. IsTextEvent (event_of e))) }
     {
         match self.look()? {
             Some(b'/') => {
@@ -86,6 +88,7 @@ impl<R: Read> Input<R> {
         ensures memory { IfErr result (λ e. kind_of (error_kind_of e) ≡ OutOfMemory →
             Known (unread R.remaining self.old) (λ xs.
             WantsMemory (token_by (stops stop) (lead_of byte) byte xs).gives)) }
+        ensures kinds { IfOk result (λ event. IfSome event (λ e. IsAsciiEvent (event_of e))) }
     {
         match lead_of(byte) {
             Lead::ArrayStart => Ok(Some(Event::StartArray(None))),

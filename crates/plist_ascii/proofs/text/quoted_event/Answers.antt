@@ -7,7 +7,7 @@ use Rattle.plist_ascii.proofs.text.quoted_event.Goals as goal
 
 pub returns : goal.returns
 unfolding quoted_event
-returns c = text_gives _ _ _ c.in_ok-text.ensures.ok.0 (ap String c.in_ok-text.ensures.ok.1)
+returns c = text_gives _ _ _ c.in_ok-text.ensures.ok.0 (ap String c.in_ok-text.ensures.ok.1) tt
 
 pub returns-in_err-text : goal.returns-in_err-text
 unfolding quoted_event

@@ -36,7 +36,7 @@ pub returns-in_default-clause-answers : goal.returns-in_default-clause-answers
 returns-in_default-clause-answers g c =
     let none = nothing_taken _ c.in_default.not-Some in
     let place = rw none at c.in_ok-byte.ensures.place in (
-      is_at_inside _ IncompleteComment _ c.fault.ensures refl,
+      is_at_inside _ IncompleteComment _ c.fault.ensures tt,
       omega (arith, c.bytes.invariant.rises, place),
       λ d xs e.
           let i = c.bytes.invariant.comment xs e in

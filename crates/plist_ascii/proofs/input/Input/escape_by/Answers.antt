@@ -14,4 +14,4 @@ pub returns-in-Some : goal.returns-in-Some
 returns-in-Some g c = answers_here piece_bytes (escape_by c.args.byte) _ _ (Byte c.in-Some.other) (λ xs. escape_simple c.args.byte xs c.in-Some.other (not_equal _ _ c.if-byte-eq85.false) (sym c.is_octal.ensures ∙ c.if-is_octal.false) (sym c.simple_of.ensures ∙ c.in-Some.is))
 
 pub returns-in-None : goal.returns-in-None
-returns-in-None g c = answers_fault piece_bytes (escape_by c.args.byte) _ _ _ _ c.fault.ensures refl (λ xs. escape_bad c.args.byte xs (not_equal _ _ c.if-byte-eq85.false) (sym c.is_octal.ensures ∙ c.if-is_octal.false) (sym c.simple_of.ensures ∙ c.in-None.is))
+returns-in-None g c = answers_fault piece_bytes (escape_by c.args.byte) _ _ _ _ c.fault.ensures tt (λ xs. escape_bad c.args.byte xs (not_equal _ _ c.if-byte-eq85.false) (sym c.is_octal.ensures ∙ c.if-is_octal.false) (sym c.simple_of.ensures ∙ c.in-None.is))

@@ -27,4 +27,4 @@ returns-in_default g c =
         | in_default-via-in_default w ↦ letter_none c.args.high xs (first_none _ xs (nothing_taken _ w.in_default.not-Some) h.1)
       ],
     ))
-    c.look.ensures.place (answers_fault piece_bytes (λ _. bad_unit 0) _ _ c.fault.result InvalidUtf16String c.fault.ensures refl (λ xs. refl))
+    c.look.ensures.place (answers_fault piece_bytes (λ _. bad_unit 0) _ _ c.fault.result InvalidUtf16String c.fault.ensures tt (λ xs. refl))

@@ -33,7 +33,7 @@ returns-in_ok-event-in-Some-clause-answers g c =
     let next = c.in_ok-look.ensures.next in
     answers_looked (λ e. Some (event_of e)) (slash (stops c.args.stop)) (bare (stops c.args.stop) 47) _ _ _ _ _ _ (Ok c.in_ok-event-in-Some.event)
     (λ xs e. let h = next xs e in (h.0, slash_bare _ _ xs _ (first_splits _ _ xs c.in-Some.is h.1) (not_equal _ _ c.in-Some.field-0-test.0.1) (not_equal _ _ c.in-Some.field-0-test.1)))
-    c.look.ensures.place c.in_ok-event-in-Some.ensures
+    c.look.ensures.place c.in_ok-event-in-Some.ensures.answers
 
 pub returns-in_err-event-in-Some-clause-answers : goal.returns-in_err-event-in-Some-clause-answers
 returns-in_err-event-in-Some-clause-answers g c =
@@ -41,7 +41,7 @@ returns-in_err-event-in-Some-clause-answers g c =
     let p = err_from_is_err_and c.from_residual-in_err-event-in-Some.result c.from_residual-in_err-event-in-Some.ensures.1 in
     rw (p.1, p.2) (answers_looked (λ e. Some (event_of e)) (slash (stops c.args.stop)) (bare (stops c.args.stop) 47) _ _ _ _ _ _ (Err c.in_err-event-in-Some.field-0.0)
     (λ xs e. let h = next xs e in (h.0, slash_bare _ _ xs _ (first_splits _ _ xs c.in-Some.is h.1) (not_equal _ _ c.in-Some.field-0-test.0.1) (not_equal _ _ c.in-Some.field-0-test.1)))
-    c.look.ensures.place c.in_err-event-in-Some.ensures)
+    c.look.ensures.place c.in_err-event-in-Some.ensures.answers)
 
 pub returns-in_err-event-in-Some-clause-memory : goal.returns-in_err-event-in-Some-clause-memory
 returns-in_err-event-in-Some-clause-memory g c =
@@ -54,7 +54,7 @@ returns-in_err-event-in-Some-clause-memory g c =
 pub returns-in-None-clause-answers : goal.returns-in-None-clause-answers
 returns-in-None-clause-answers g c =
     let next = rw c.in-None.is at c.in_ok-look.ensures.next in (
-      is_at_inside _ IncompleteComment _ c.fault.ensures refl,
+      is_at_inside _ IncompleteComment _ c.fault.ensures tt,
       omega (arith, c.look.ensures.place),
       λ d xs e. let h = next xs e in
           front_from (slash (stops c.args.stop) xs) _ _ _ _ 0 xs (slash_open _ xs (first_none _ xs refl h.1) ∙ ap (λ k. taken 0 (Err k)) (kind_said _ IncompleteComment _ c.fault.ensures)) h.0 (omega (arith, c.look.ensures.place)),

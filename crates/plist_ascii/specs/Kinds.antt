@@ -1,0 +1,36 @@
+-- Which events and which faults can come at all.
+use Rattle.std.specs.Prelude.{Option, None, Result, MatchOption, MatchResult, ⊤}
+use Rattle.plist_base.specs.declared.error.Error.{Error}
+use Rattle.plist_base.specs.declared.event.Event.{Event}
+use Rattle.plist_base.specs.Events.{PlainEvent, StartArray, StartDictionary, EndCollection, Integer, String, event_of}
+use Rattle.plist_base.specs.Faults.{FaultKind, UnclosedString, IncompleteComment, InvalidUtf8AsciiStream, InvalidOctalString, InvalidUtf16String, MatchFault, kind_of, error_kind_of}
+
+-- a fault that the bytes can have
+abbrev pub IsFaultOfBytes : FaultKind → Type 0
+IsFaultOfBytes UnclosedString = ⊤
+IsFaultOfBytes IncompleteComment = ⊤
+IsFaultOfBytes InvalidUtf8AsciiStream = ⊤
+IsFaultOfBytes InvalidOctalString = ⊤
+IsFaultOfBytes InvalidUtf16String = ⊤
+IsFaultOfBytes kind = ⊥
+
+-- a device's fault, want of memory, or one that the bytes can have
+abbrev pub IsAsciiFault : FaultKind → Type 0
+IsAsciiFault kind = MatchFault kind ⊤ ⊤ (IsFaultOfBytes kind)
+
+-- a text, or a number
+abbrev pub IsTextEvent : PlainEvent → Type 0
+IsTextEvent (String text) = ⊤
+IsTextEvent (Integer number) = ⊤
+IsTextEvent event = ⊥
+
+-- a text, a number, an end, or a start without a length
+abbrev pub IsAsciiEvent : PlainEvent → Type 0
+IsAsciiEvent (StartArray None) = ⊤
+IsAsciiEvent (StartDictionary None) = ⊤
+IsAsciiEvent EndCollection = ⊤
+IsAsciiEvent event = IsTextEvent event
+
+-- an item is one of these events or faults
+abbrev pub IsAsciiItem : Option (Result Event Error) → Type 0
+IsAsciiItem item = MatchOption item ⊤ (λ answer. MatchResult answer (λ event. IsAsciiEvent (event_of event)) (λ error. IsAsciiFault (kind_of (error_kind_of error))))

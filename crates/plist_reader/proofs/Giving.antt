@@ -1,0 +1,154 @@
+-- What the chosen reader gives.
+use Rattle.std.proofs.Common.{◌≡◌, ℕ, ◌-◌, ◌^◌, ◌<◌, Bool, true, false, List, [], ◌∷◌, length, Option, None, Some, Ok, Err, IfSome, OnErr, MatchBool, MatchOption, refl, ap, sym, ◌∙◌, subst, arith}
+use Rattle.std.specs.Option.{option_map}
+use Rattle.std.specs.Prelude.{Result}
+use Rattle.std.proofs.lemmas.List.{take-take}
+use Rattle.plist_base.specs.declared.error.Error.{Error}
+use Rattle.plist_base.specs.declared.event.Event.{Event}
+use Rattle.plist_base.specs.declared.source.Source.{Ghosts}
+use Rattle.plist_base.specs.declared.sequential.Sequential.{Sequential}
+use Rattle.plist_base.specs.Events.{Item}
+use Rattle.plist_base.specs.Faults.{kind_of, error_kind_of, fault_of}
+use Rattle.plist_base.specs.Sequences.{from_place, source_of, place_of}
+use Rattle.plist_base.specs.Sources.{ItemCountsIo}
+use Rattle.plist_base.proofs.Refusals.{MatchFault-weaker, MatchFault-all}
+use Rattle.plist_binread.specs.declared.reader.BinaryReader.{BinaryReader}
+use Rattle.plist_binread.specs.Coming as binary
+use Rattle.plist_binread.specs.Debt.{IsOwed, WantsMemory}
+use Rattle.plist_binread.specs.Unfolding.{items_of_file}
+use Rattle.plist_ascii.specs.declared.reader.AsciiReader.{AsciiReader}
+use Rattle.plist_ascii.specs.Ascii.{items_of_ascii, items_in, BeginsWithText}
+use Rattle.plist_ascii.specs.Coming as ascii
+use Rattle.plist_ascii.specs.Texts.{lax}
+use Rattle.plist_reader.specs.declared.reader.State.{State}
+use Rattle.plist_reader.specs.declared.reader.State.TheVariants as state
+use Rattle.plist_reader.specs.Coming.{coming, bytes_left, items_by, items_of_input, GivesItem, GoesOn, EndsAfter, StateGives, source_in}
+use Rattle.plist_reader.specs.declared.format.Format.TheVariants as format
+use Rattle.plist_reader.specs.Formats.{format_of, front}
+
+abbrev pub Given : Type 0
+Given = Option (Result Event Error)
+
+-- ---- where memory is wanted something is to come
+
+one-owed : {A : Type 0} (x : A) (xs : List A) → 0 < length (x ∷ xs)
+one-owed x xs = omega arith
+
+wants-owed : (before : List Item) → WantsMemory before → IsOwed before
+wants-owed [] h = absurd h
+wants-owed (x ∷ xs) h = one-owed x xs
+
+either-owed : (new : Bool) (before : List Item) → MatchBool new (IsOwed before) (WantsMemory before) → IsOwed before
+either-owed true before h = h
+either-owed false before h = wants-owed before h
+
+text-owed : (before : List Item) → BeginsWithText before → IsOwed before
+text-owed [] h = absurd h
+text-owed (x ∷ xs) h = one-owed x xs
+
+-- ---- one call
+
+binary-item : (new : Bool) (before after : List Item) (item : Given) → binary.GivesItem new before item after → GivesItem before item after
+binary-item new before after None h = h
+binary-item new before after (Some (Ok event)) h = h
+binary-item new before after (Some (Err error)) h =
+    MatchFault-weaker (kind_of (error_kind_of error)) (λ _. h.0) (λ m. (h.0, either-owed new before m)) (λ e. e ∙ ap (λ l. Err (fault_of error) ∷ l) (sym h.0)) h.1
+
+none-left : (bytes : List ℕ) (q : ℕ) → bytes ≡ [] → items_of_ascii lax bytes q ≡ []
+unfolding items_in
+none-left bytes q e = ap (λ l. items_of_ascii lax l q) e
+
+ascii-item : (bytes rest : List ℕ) (p q : ℕ) (item : Given) → ascii.GivesItem lax bytes p item rest q → GivesItem (items_of_ascii lax bytes p) item (items_of_ascii lax rest q)
+ascii-item bytes rest p q None h = (h.0, none-left rest q h.1)
+ascii-item bytes rest p q (Some (Ok event)) h = h.items
+ascii-item bytes rest p q (Some (Err error)) h =
+    MatchFault-weaker (kind_of (error_kind_of error)) (λ e. none-left rest q e) (λ m. (none-left rest q m.0, text-owed (items_of_ascii lax bytes p) m.1)) (λ b. b.items) h
+
+binary-goes : (k l : Option (List ℕ)) (f g : List ℕ → List Item) (new : Bool) (item : Given) → l ≡ k → IfSome k (λ bytes. binary.GivesItem new (f bytes) item (g bytes)) → GoesOn (option_map f k) item (option_map g l)
+binary-goes None l f g new item e h = tt
+binary-goes (Some bytes) l f g new item e h = (g bytes, ap (option_map g) e, binary-item new (f bytes) (g bytes) item h)
+
+pub ascii-goes : (k l : Option (List ℕ)) (p q : ℕ) (item : Given) → ((bytes : List ℕ) → k ≡ Some bytes → (rest : List ℕ) × (l ≡ Some rest) × ascii.GivesItem lax bytes p item rest q)
+    → GoesOn (option_map (λ bytes. items_of_ascii lax bytes p) k) item (option_map (λ bytes. items_of_ascii lax bytes q) l)
+ascii-goes None l p q item h = tt
+ascii-goes (Some bytes) l p q item h = let r = h bytes refl in (items_of_ascii lax r.0 q, ap (option_map (λ b. items_of_ascii lax b q)) r.1, ascii-item bytes r.0 p q item r.2)
+
+same-source : {A : Type 0} (a b : A) → Some a ≡ Some b → a ≡ b
+same-source a b e = cc
+
+no-source : {A B : Type 0} (b : A) → None ≡ Some b → B
+no-source b e = cc
+
+over-ends : (E : Type 0) (item : Given) → MatchOption item E (λ answer. OnErr answer E) → EndsAfter item E
+over-ends E None h = h
+over-ends E (Some (Ok event)) h = tt
+over-ends E (Some (Err error)) h = MatchFault-all (kind_of (error_kind_of error)) h h tt
+
+same-failures : {R : Type 0} (failed : R → ℕ) (a b s t : R) (item : Given) → Some a ≡ Some s → Some b ≡ Some t → ItemCountsIo item (failed a) (failed b) → ItemCountsIo item (failed s) (failed t)
+same-failures failed a b s t item p q h =
+    subst (λ x. ItemCountsIo item (failed x) (failed t)) (same-source a s p) (subst (λ y. ItemCountsIo item (failed a) (failed y)) (same-source b t q) h)
+
+-- the items to come before the first one is asked for
+same-items : (k l : Option (List ℕ)) (f : List ℕ → List Item) → l ≡ k → IfSome k (λ bytes. f bytes ≡ items_of_input bytes) → option_map f l ≡ option_map items_of_input k
+same-items None l f e h = ap (option_map f) e
+same-items (Some bytes) l f e h = ap (option_map f) e ∙ ap Some h
+
+take-twice : (bytes : List ℕ) → front (front bytes) ≡ front bytes
+take-twice bytes = take-take (2 ^ 64 - 1) (2 ^ 64 - 1) bytes (omega arith)
+
+ascii-items : (k l : Option (List ℕ)) → l ≡ k → IfSome k (λ bytes. format.Ascii ≡ format_of bytes) → option_map (λ bytes. items_of_ascii lax bytes 0) (option_map front (option_map (from_place 0) l)) ≡ option_map items_of_input k
+ascii-items None l e is = ap (λ o. option_map (λ bytes. items_of_ascii lax bytes 0) (option_map front (option_map (from_place 0) o))) e
+ascii-items (Some bytes) l e is =
+    ap (λ o. option_map (λ bytes. items_of_ascii lax bytes 0) (option_map front (option_map (from_place 0) o))) e
+    ∙ ap (λ b. Some (items_of_ascii lax b 0)) (take-twice bytes) ∙ ap (λ f. Some (items_by f bytes)) is
+
+module _ {R : Type 0} {g : Ghosts R} (known : R → Option (List ℕ)) (failed : R → ℕ) where
+  pub binary-gives : (old new : BinaryReader R g) (item : Given) → binary.Gives known failed old item new → StateGives known failed (state.Binary old) item (state.Binary new)
+  binary-gives old new item h = record {
+    items = binary-goes (known (binary.source_of old)) (known (binary.source_of new)) (λ bytes. binary.to_come bytes old) (λ bytes. binary.to_come bytes new) (binary.is_new old) item h.unchanged h.items;
+    failures = λ s t p q. same-failures failed (binary.source_of old) (binary.source_of new) s t item p q h.failures;
+    ended = h.ended;
+    ends = over-ends (binary.HasEnded new) item h.ends;
+  }
+
+  pub ascii-gives : (old new : AsciiReader (Sequential R)) (item : Given) → ascii.Gives (bytes_left known) old item new → StateGives {R = R} {g = g} known failed (state.Ascii old) item (state.Ascii new)
+  ascii-gives old new item h = record {
+    items = ascii-goes (ascii.bytes_left (bytes_left known) old) (ascii.bytes_left (bytes_left known) new) (ascii.place_of old) (ascii.place_of new) item h.items;
+    failures = λ s t p q. no-source s p;
+    ended = h.ended;
+    ends = h.ends;
+  }
+
+  -- ---- the first item
+
+  -- a state that stands as the source before the choice goes on as that
+  pub chosen-gives : (source : R) (old new : State R g) (item : Given) → coming known old ≡ option_map items_of_input (known source) → ((s : R) → source_in old ≡ Some s → failed s ≡ failed source)
+      → ((t : R) → source_in new ≡ Some t → (s : R) × (source_in old ≡ Some s)) → StateGives known failed old item new → StateGives known failed (state.Unread source) item new
+  chosen-gives source old new item same count some h = record {
+    items = subst (λ o. GoesOn o item (coming known new)) same h.items;
+    failures = λ s t p q. let o = some t q in subst (λ n. ItemCountsIo item n (failed t)) (count o.0 o.1 ∙ ap failed (same-source source s p)) (h.failures o.0 t o.1 q);
+    ended = λ e. absurd e;
+    ends = h.ends;
+  }
+
+  binary-items : (k l : Option (List ℕ)) (reader : BinaryReader R g) → l ≡ k → IfSome k (λ bytes. format.Binary ≡ format_of bytes) → IfSome l (λ bytes. binary.to_come bytes reader ≡ items_of_file bytes)
+      → IfSome k (λ bytes. binary.to_come bytes reader ≡ items_of_input bytes)
+  binary-items None l reader e is h = tt
+  binary-items (Some bytes) l reader e is h =
+      let fresh : IfSome (Some bytes) (λ bytes. binary.to_come bytes reader ≡ items_of_file bytes) = subst (λ o. IfSome o (λ bytes. binary.to_come bytes reader ≡ items_of_file bytes)) e h in
+      fresh ∙ ap (λ f. items_by f bytes) is
+
+  pub begun-binary : (source inner : R) (old new : BinaryReader R g) (item : Given) → binary.source_of old ≡ inner → known inner ≡ known source → failed inner ≡ failed source → IfSome (known source) (λ bytes. format.Binary ≡ format_of bytes)
+      → IfSome (known inner) (λ bytes. binary.to_come bytes old ≡ items_of_file bytes) → binary.Gives known failed old item new → StateGives known failed (state.Unread source) item (state.Binary new)
+  begun-binary source inner old new item at e f is fresh h =
+      chosen-gives source (state.Binary old) (state.Binary new) item
+      (same-items (known source) (known (binary.source_of old)) (λ bytes. binary.to_come bytes old) (ap known at ∙ e) (binary-items (known source) (known inner) old e is fresh))
+      (λ s p. ap failed (sym (same-source (binary.source_of old) s p) ∙ at) ∙ f) (λ t q. (binary.source_of old, refl)) (binary-gives old new item h)
+
+  pub begun-ascii : (source inner : R) (sequence : Sequential R) (old new : AsciiReader (Sequential R)) (item : Given) → source_of sequence ≡ inner → known inner ≡ known source → place_of sequence ≡ 0 → IfSome (known source) (λ bytes. format.Ascii ≡ format_of bytes)
+      → ascii.bytes_left (bytes_left known) old ≡ option_map front (bytes_left known sequence) → ascii.place_of old ≡ 0 → ascii.Gives (bytes_left known) old item new → StateGives {R = R} {g = g} known failed (state.Unread source) item (state.Ascii new)
+  begun-ascii source inner sequence old new item from e at is bytes place h =
+      chosen-gives source (state.Ascii old) (state.Ascii new) item
+      ((λ i. option_map (λ b. items_of_ascii lax b (place i)) (bytes i)) ∙ ap (λ p. option_map (λ b. items_of_ascii lax b 0) (option_map front (option_map (from_place p) (known (source_of sequence))))) at
+      ∙ ascii-items (known source) (known (source_of sequence)) (ap known from ∙ e) is)
+      (λ s p. no-source s p) (λ t q. no-source t q) (ascii-gives old new item h)

@@ -1,0 +1,63 @@
+-- Which format some bytes have.
+use Rattle.std.specs.Prelude.{◌≡◌, ℕ, ◌+◌, ◌-◌, ◌^◌, Bool, cond, ◌==◌, nat_eq, List, [], ◌∷◌, take, drop, get_or, Option, None, Some, codes, refl}
+use Rattle.std.specs.List.{list_any, prefix_len, starts_with}
+use Rattle.plist_binread.specs.Container.{magic}
+use Rattle.plist_reader.specs.declared.format.Format.{Format}
+use Rattle.plist_reader.specs.declared.format.Format.TheVariants.{Binary, Xml, Ascii}
+
+-- the bytes that are read from the front on: no input is longer than 2^64 - 1 bytes
+abbrev pub front : List ℕ → List ℕ
+front bytes = take (2 ^ 64 - 1) bytes
+
+-- tab, LF, form feed, CR, space
+abbrev pub is_white : ℕ → Bool
+is_white c = list_any (λ d. c == d) (9 ∷ 10 ∷ 12 ∷ 13 ∷ 32 ∷ [])
+
+-- the mark of the byte order in UTF-8
+abbrev pub mark : List ℕ
+mark = 0xEF ∷ 0xBB ∷ 0xBF ∷ []
+
+abbrev pub mark_length : List ℕ → ℕ
+mark_length bytes = cond (starts_with nat_eq bytes mark) 3 0
+
+-- the place of the first byte past white space, from a place on
+abbrev pub past_white : (place : ℕ) → List ℕ → ℕ
+past_white place bytes = place + prefix_len is_white (drop place bytes)
+
+-- that place, if `<` stands there
+abbrev pub xml_place : (place : ℕ) → List ℕ → Option ℕ
+xml_place place bytes = cond (get_or bytes (past_white place bytes) 0 == 60) (Some (past_white place bytes)) None
+
+abbrev pub text_format : Option ℕ → Format
+text_format None = Ascii
+text_format (Some place) = Xml place
+
+-- binary by its first eight bytes, XML by its first byte past white space, else ASCII
+unfoldable pub format_of : List ℕ → Format
+format_of bytes = cond (starts_with nat_eq bytes magic) Binary (text_format (xml_place (mark_length bytes) (front bytes)))
+
+-- ---- worked examples
+
+example_binary : format_of (codes "bplist00") ≡ Binary
+unfolding format_of
+example_binary = refl
+
+example_short : format_of (codes "bplist0") ≡ Ascii
+unfolding format_of
+example_short = refl
+
+example_empty : format_of [] ≡ Ascii
+unfolding format_of
+example_empty = refl
+
+example_xml : format_of (codes " <plist/>") ≡ Xml 1
+unfolding format_of
+example_xml = refl
+
+example_mark : format_of (0xEF ∷ 0xBB ∷ 0xBF ∷ 60 ∷ []) ≡ Xml 3
+unfolding format_of
+example_mark = refl
+
+example_marked_text : format_of (0xEF ∷ 0xBB ∷ 0xBF ∷ 123 ∷ 125 ∷ []) ≡ Ascii
+unfolding format_of
+example_marked_text = refl

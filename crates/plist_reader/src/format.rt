@@ -1,0 +1,157 @@
+//! Which format some bytes have.
+
+ghost use Rattle.std.specs.Prelude.{◌≡◌, ℕ, ◌+◌, ◌-◌, ◌^◌, ◌<◌, ◌≤◌, nat_eq, take, slice_get, IfOk, IfErr, IfSome};
+ghost use Rattle.std.specs.List.{starts_with};
+ghost use Rattle.plist_base.specs.Faults.{IsIo, Io, fault_at, fault_of, kind_of, error_kind_of};
+ghost use Rattle.plist_base.specs.Sources.{AnswersIo};
+ghost use Rattle.plist_binread.specs.Container.{magic};
+ghost use Rattle.plist_reader.specs.Formats.{is_white, mark, mark_length, front, xml_place, format_of};
+
+use plist_base::{Error, ErrorKind, Source, read_exact_at};
+
+const MAGIC: &[u8; 8] = b"bplist00";
+
+const MARK: &[u8; 3] = b"\xef\xbb\xbf";
+
+/// The format of a property list, as its first bytes tell it.
+#[derive(Clone, Copy, Debug, PartialEq, Eq)]
+pub enum Format {
+    /// Binary: the bytes begin with `bplist00`.
+    Binary,
+    /// XML: the first byte past an optional mark of the byte order and white space is `<`, at this
+    /// place.
+    Xml(u64),
+    /// ASCII: anything else.
+    Ascii,
+}
+
+// Do the bytes begin with the magic?
+fn has_magic<S: Source>(source: &mut S) -> Result<bool, Error>
+    ensures value { IfOk result (λ found. IfSome (S.known source.old) (λ bytes.
+        found ≡ starts_with nat_eq bytes magic)) }
+    ensures refused { IfErr result (λ e. IsIo (kind_of (error_kind_of e))) }
+    ensures unchanged { S.known source.new ≡ S.known source.old }
+    ensures failures { AnswersIo result (S.failures source.old) (S.failures source.new) }
+{
+    let mut found = [0; 8];
+    match read_exact_at(source, 0, &mut found) {
+        Ok(()) => Ok(MAGIC.as_slice() == found.as_slice()),
+        Err(error) => {
+            if error.is_io() {
+                return Err(error);
+            }
+            Ok(false)
+        }
+    }
+}
+
+// Do the bytes begin with the mark of the byte order?
+fn has_mark<S: Source>(source: &mut S) -> Result<bool, Error>
+    ensures value { IfOk result (λ found. IfSome (S.known source.old) (λ bytes.
+        found ≡ starts_with nat_eq bytes mark)) }
+    ensures refused { IfErr result (λ e. IsIo (kind_of (error_kind_of e))) }
+    ensures unchanged { S.known source.new ≡ S.known source.old }
+    ensures failures { AnswersIo result (S.failures source.old) (S.failures source.new) }
+{
+    let mut found = [0; 3];
+    match read_exact_at(source, 0, &mut found) {
+        Ok(()) => Ok(MARK.as_slice() == found.as_slice()),
+        Err(error) => {
+            if error.is_io() {
+                return Err(error);
+            }
+            Ok(false)
+        }
+    }
+}
+
+// How many bytes the mark of the byte order takes.
+fn mark_length<S: Source>(source: &mut S) -> Result<u64, Error>
+    ensures length { IfOk result (λ found. IfSome (S.known source.old) (λ bytes.
+        found ≡ mark_length bytes)) }
+    ensures refused { IfErr result (λ e. IsIo (kind_of (error_kind_of e))) }
+    ensures unchanged { S.known source.new ≡ S.known source.old }
+    ensures failures { AnswersIo result (S.failures source.old) (S.failures source.new) }
+{
+    match has_mark(source) {
+        Ok(true) => Ok(3),
+        Ok(false) => Ok(0),
+        Err(error) => Err(error),
+    }
+}
+
+// The byte at a place, if there is one.
+fn byte_at<S: Source>(source: &mut S, place: u64) -> Result<Option<u8>, Error>
+    ensures byte { IfOk result (λ byte. IfSome (S.known source.old) (λ bytes.
+        byte ≡ slice_get bytes place)) }
+    ensures refused { IfErr result (λ e. fault_of e ≡ fault_at Io place) }
+    ensures unchanged { S.known source.new ≡ S.known source.old }
+    ensures failures { AnswersIo result (S.failures source.old) (S.failures source.new) }
+{
+    let mut buffer = [0u8; 1];
+    match source.read_at(place, &mut buffer) {
+        Ok(count) => {
+            if count == 0 {
+                return Ok(None);
+            }
+            Ok(Some(buffer[0]))
+        }
+        Err(failure) => Err(ErrorKind::Io(failure).with_byte_offset(place)),
+    }
+}
+
+fn is_white(byte: u8) -> bool
+    ensures { result ≡ is_white byte }
+{
+    matches!(byte, b'\t' | b'\n' | 0x0c | b'\r' | b' ')
+}
+
+// Where the first byte past white space is `<`, its place.
+fn xml_place<S: Source>(source: &mut S, start: u64) -> Result<Option<u64>, Error>
+    ensures place { IfOk result (λ found. IfSome (S.known source.old) (λ bytes.
+        found ≡ xml_place start (front bytes))) }
+    ensures refused { IfErr result (λ e. IsIo (kind_of (error_kind_of e))) }
+    ensures unchanged { S.known source.new ≡ S.known source.old }
+    ensures failures { AnswersIo result (S.failures source.old) (S.failures source.new) }
+{
+    let mut place = start;
+    'white: while place < u64::MAX {
+        match byte_at(source, place) {
+            Ok(Some(byte)) => {
+                if !is_white(byte) {
+                    return Ok(if byte == b'<' { Some(place) } else { None });
+                }
+                place += 1;
+            }
+            Ok(None) => return Ok(None),
+            Err(error) => return Err(error),
+        }
+    }
+    Ok(None)
+}
+
+/// The format that a source's first bytes tell.
+///
+/// # Errors
+/// `Io` where a read failed, with its place.
+pub fn format_of<S: Source>(source: &mut S) -> Result<Format, Error>
+    ensures format { IfOk result (λ format. IfSome (S.known source.old) (λ bytes.
+        format ≡ format_of bytes)) }
+    ensures refused { IfErr result (λ e. IsIo (kind_of (error_kind_of e))) }
+    ensures unchanged { S.known source.new ≡ S.known source.old }
+    ensures failures { AnswersIo result (S.failures source.old) (S.failures source.new) }
+{
+    match has_magic(source) {
+        Ok(true) => return Ok(Format::Binary),
+        Ok(false) => {}
+        Err(error) => return Err(error),
+    }
+    match mark_length(source) {
+        Ok(start) => match xml_place(source, start) {
+            Ok(Some(place)) => Ok(Format::Xml(place)),
+            Ok(None) => Ok(Format::Ascii),
+            Err(error) => Err(error),
+        },
+        Err(error) => Err(error),
+    }
+}
