@@ -13,5 +13,6 @@ pub mod Builders
 pub mod Laws
 pub mod Remaining
 pub mod Collecting
+pub mod Inputs
 pub mod Handing
 pub mod Sent
