@@ -1,8 +1,8 @@
 -- What looking at a byte and taking it do to the bytes that are left.
-use Rattle.std.proofs.Common.{◌≡◌, ℕ, zero, suc, ◌+◌, ◌-◌, ◌^◌, ◌<◌, ◌≤◌, Bool, true, false, List, [], ◌∷◌, length, take, drop, get_or, Option, None, Some, refl, sym, ap, ◌∙◌, arith}
-use Rattle.std.specs.Io.KnownBytes.{Consumes, IsAtEnd}
+use Rattle.std.proofs.Common.{◌≡◌, ℕ, zero, suc, ◌+◌, ◌-◌, ◌^◌, ◌<◌, Bool, true, false, List, [], ◌∷◌, take, drop, Option, None, Some, refl, sym, ap, ◌∙◌, arith}
 use Rattle.std.specs.Prelude.{is_some, IfSome}
 use Rattle.std.specs.Option.{option_map}
+use Rattle.plist_ascii.specs.Incoming.{GivesByte}
 use Rattle.plist_ascii.specs.Taken.{run}
 use Rattle.plist_ascii.specs.Unread.{unread_of, first, within}
 
@@ -33,24 +33,20 @@ held_unread (Some a) c t xs l h =
     let same : within (Some c) t a ≡ xs = cc in
     (within None (t + 1) a, sym same ∙ e, refl)
 
-pub end_unread : (k now : Option (List ℕ)) (n t : ℕ) (buf xs : List ℕ) → n ≡ 0 → Consumes k now (take n buf) → IsAtEnd now → unread_of k false None t ≡ Some xs → xs ≡ []
+pub end_unread : (k now : Option (List ℕ)) (t : ℕ) (xs : List ℕ) → GivesByte k None now → unread_of k false None t ≡ Some xs → xs ≡ []
 unfolding unread_of
-end_unread None now n t buf xs z h g e = cc
-end_unread (Some a) None n t buf xs z h g e = absurd h
-end_unread (Some a) (Some b) n t buf xs z h g e =
-    let none : a ≡ [] = h ∙ rw (z, g) refl in
+end_unread None now t xs h e = cc
+end_unread (Some a) None t xs h e = absurd h.0
+end_unread (Some a) (Some b) t xs h e =
+    let none : a ≡ [] = h.0 ∙ h.1 in
     let cut : within None t a ≡ [] = rw none (take_nil (2 ^ 64 - 1 - t)) in
     cc
 
-pub one_unread : (k now : Option (List ℕ)) (n t : ℕ) (buf xs : List ℕ) → n ≤ 1 → 0 < n → length buf ≡ 1 → Consumes k now (take n buf) → unread_of k false None t ≡ Some xs → unread_of now false (Some (get_or buf 0 0)) t ≡ Some xs
+pub one_unread : (k now : Option (List ℕ)) (c t : ℕ) (xs : List ℕ) → GivesByte k (Some c) now → unread_of k false None t ≡ Some xs → unread_of now false (Some c) t ≡ Some xs
 unfolding unread_of
-one_unread k now n t [] xs l p e h g = absurd (omega arith)
-one_unread k now n t (c ∷ d ∷ buf) xs l p e h g = absurd (omega arith)
-one_unread k now zero t (c ∷ []) xs l p e h g = absurd (omega arith)
-one_unread k now (suc (suc n)) t (c ∷ []) xs l p e h g = absurd (omega arith)
-one_unread None now (suc zero) t (c ∷ []) xs l p e h g = cc
-one_unread (Some a) None (suc zero) t (c ∷ []) xs l p e h g = absurd h
-one_unread (Some a) (Some b) (suc zero) t (c ∷ []) xs l p e h g = rw (← h) g
+one_unread None now c t xs h g = cc
+one_unread (Some a) None c t xs h g = absurd h
+one_unread (Some a) (Some b) c t xs h g = rw (← h) g
 
 -- what `look` and `take` say
 
@@ -77,19 +73,19 @@ pub nothing_unread : (k : Option (List ℕ)) (p : Option ℕ) (t : ℕ) → unre
 unfolding unread_of
 nothing_unread k p t = refl
 
-pub end_looks : (k now : Option (List ℕ)) (e : Bool) (p : Option ℕ) (n t : ℕ) (buf xs : List ℕ) → e ≡ false → p ≡ None → n ≡ 0 → length buf ≡ 1 → Consumes k now (take n buf) × (n ≡ 0 → 0 < length buf → IsAtEnd now)
+pub end_looks : (k now : Option (List ℕ)) (e : Bool) (p : Option ℕ) (t : ℕ) (xs : List ℕ) → e ≡ false → p ≡ None → GivesByte k None now
     → unread_of k e p t ≡ Some xs → Looks (unread_of now true p t) None xs
-end_looks k now e p n t buf xs h q z l r g =
+end_looks k now e p t xs h q r g =
     let known : unread_of k false None t ≡ Some xs = rw (← h, ← q) g in
-    let none : xs ≡ [] = end_unread k now n t buf xs z r.0 (r.1 z (omega arith)) known in
+    let none : xs ≡ [] = end_unread k now t xs r known in
     none_looks _ xs none (nothing_unread now p t ∙ ap Some (sym none))
 
-pub one_looks : (k now : Option (List ℕ)) (e : Bool) (p : Option ℕ) (n t : ℕ) (buf xs : List ℕ) → e ≡ false → p ≡ None → t < 2 ^ 64 - 1 → n ≤ length buf → 0 < n → length buf ≡ 1 → Consumes k now (take n buf)
-    → unread_of k e p t ≡ Some xs → Looks (unread_of now e (Some (get_or buf 0 0)) t) (Some (get_or buf 0 0)) xs
-one_looks k now e p n t buf xs h q room l z b r g =
+pub one_looks : (k now : Option (List ℕ)) (e : Bool) (p : Option ℕ) (c t : ℕ) (xs : List ℕ) → e ≡ false → p ≡ None → t < 2 ^ 64 - 1 → GivesByte k (Some c) now
+    → unread_of k e p t ≡ Some xs → Looks (unread_of now e (Some c) t) (Some c) xs
+one_looks k now e p c t xs h q room r g =
     let known : unread_of k false None t ≡ Some xs = rw (← h, ← q) g in
-    let read : unread_of now false (Some (get_or buf 0 0)) t ≡ Some xs = one_unread k now n t buf xs (omega arith) z b r known in
-    held_looks now e (Some (get_or buf 0 0)) (get_or buf 0 0) t xs h refl room (rw h read)
+    let read : unread_of now false (Some c) t ≡ Some xs = one_unread k now c t xs r known in
+    held_looks now e (Some c) c t xs h refl room (rw h read)
 
 pub taken_next : (k : Option (List ℕ)) (e : Bool) (p : Option ℕ) (t : ℕ) (xs : List ℕ) → e ≡ false → is_some p ≡ true → t < 2 ^ 64 - 1 → unread_of k e p t ≡ Some xs → unread_of k e None (t + 1) ≡ Some (drop 1 xs)
 taken_next k e None t xs h q l g = cc

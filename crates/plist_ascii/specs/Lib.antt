@@ -6,6 +6,7 @@ pub mod Comments
 pub mod Ascii
 pub mod Parts
 pub mod Kinds
+pub mod Incoming
 pub mod Unread
 pub mod Coming
 pub mod Examples

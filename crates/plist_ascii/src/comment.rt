@@ -6,11 +6,12 @@ ghost use Rattle.plist_base.specs.Faults.{Io, OutOfMemory, fault_of, fault_at, k
 ghost use Rattle.plist_base.specs.Events.{event_of};
 ghost use Rattle.plist_ascii.specs.Taken.{run};
 ghost use Rattle.plist_ascii.specs.Comments.{line_comment, block_comment};
+ghost use Rattle.plist_ascii.specs.Incoming.{AnswersIo};
 ghost use Rattle.plist_ascii.specs.Unread.{unread, Known, stops, Answers};
 
+use crate::bytes::Bytes;
 use crate::input::{Input, Stop};
 use plist_base::{Error, ErrorKind, OwnedEvent};
-use std::io::Read;
 
 // Does this byte close a comment?
 fn closes(star: bool, byte: u8) -> bool
@@ -26,7 +27,7 @@ fn is_star(byte: u8) -> bool
     byte == b'*'
 }
 
-impl<R: Read> Input<R> {
+impl<R: Bytes> Input<R> {
     // Takes the bytes up to a stop.
     fn skip_run(&mut self, stop: Stop) -> Result<(), Error>
         ensures ok { OnOk result (Known (unread R.remaining self.old) (λ xs.
@@ -34,6 +35,8 @@ impl<R: Read> Input<R> {
             × (self.new.taken ≡ self.old.taken + run (stops stop) xs))) }
         ensures err { IfErr result (λ e. fault_of e ≡ fault_at Io self.new.taken) }
         ensures place { self.old.taken ≤ self.new.taken }
+        ensures failures { AnswersIo result
+            (R.failures self.old.inner) (R.failures self.new.inner) }
     {
         while let Some(_byte) = self.take_unless(stop)? {}
         Ok(())
@@ -46,6 +49,8 @@ impl<R: Read> Input<R> {
             (unread R.remaining self.new) self.new.taken result }
         ensures memory { IfErr result (λ e. kind_of (error_kind_of e) ≢ OutOfMemory) }
         ensures nothing { IfOk result (λ event. event ≡ None) }
+        ensures failures { AnswersIo result
+            (R.failures self.old.inner) (R.failures self.new.inner) }
     {
         self.skip_run(Stop::LineEnd)?;
         Ok(None)
@@ -58,6 +63,8 @@ impl<R: Read> Input<R> {
             (unread R.remaining self.new) self.new.taken result }
         ensures memory { IfErr result (λ e. kind_of (error_kind_of e) ≢ OutOfMemory) }
         ensures nothing { IfOk result (λ event. event ≡ None) }
+        ensures failures { AnswersIo result
+            (R.failures self.old.inner) (R.failures self.new.inner) }
     {
         let mut star = false;
         'bytes: loop {

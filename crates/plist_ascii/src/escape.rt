@@ -6,12 +6,13 @@ ghost use Rattle.std.specs.Char.Utf16.{is_high_surrogate, is_low_surrogate};
 ghost use Rattle.plist_base.specs.Faults.{InvalidOctalString, InvalidUtf16String};
 ghost use Rattle.plist_ascii.specs.Taken.{taken};
 ghost use Rattle.plist_ascii.specs.Escapes.{simple_escape, octal, octal_char, octal_text, unit, unit_of, is_surrogate, pair_text, first_unit, second_unit, second_letter, second_digits, unicode, escape, escape_by};
+ghost use Rattle.plist_ascii.specs.Incoming.{AnswersIo};
 ghost use Rattle.plist_ascii.specs.Unread.{unread, Answers};
 ghost use Rattle.plist_ascii.specs.Parts.{piece_bytes};
 
+use crate::bytes::Bytes;
 use crate::input::Input;
 use plist_base::{Error, ErrorKind};
-use std::io::Read;
 
 /// What an escape stands for.
 #[derive(Clone, Copy)]
@@ -148,11 +149,14 @@ fn pair_char(high: u16, low: u16) -> Option<char>
     char::from_u32(0x1_0000 + (u32::from(high) - 0xD800) * 0x400 + (u32::from(low) - 0xDC00))
 }
 
-impl<R: Read> Input<R> {
+impl<R: Bytes> Input<R> {
     /// Takes an escape, whose backslash has been taken.
     pub fn escape(&mut self) -> Result<Piece, Error>
-        ensures { Answers piece_bytes escape (unread R.remaining self.old) self.old.taken
+        ensures answers { Answers piece_bytes escape
+            (unread R.remaining self.old) self.old.taken
             (unread R.remaining self.new) self.new.taken result }
+        ensures failures { AnswersIo result
+            (R.failures self.old.inner) (R.failures self.new.inner) }
     {
         let byte = self.must_take()?;
         self.escape_by(byte)
@@ -160,8 +164,11 @@ impl<R: Read> Input<R> {
 
     // Takes the rest of an escape, whose first byte has been taken.
     fn escape_by(&mut self, byte: u8) -> Result<Piece, Error>
-        ensures { Answers piece_bytes (escape_by byte) (unread R.remaining self.old) self.old.taken
+        ensures answers { Answers piece_bytes (escape_by byte)
+            (unread R.remaining self.old) self.old.taken
             (unread R.remaining self.new) self.new.taken result }
+        ensures failures { AnswersIo result
+            (R.failures self.old.inner) (R.failures self.new.inner) }
     {
         if byte == b'U' {
             return self.unicode();
@@ -177,8 +184,11 @@ impl<R: Read> Input<R> {
 
     // Takes the second and third byte of an octal escape.
     fn octal(&mut self, first: u8) -> Result<Piece, Error>
-        ensures { Answers piece_bytes (octal first) (unread R.remaining self.old) self.old.taken
+        ensures answers { Answers piece_bytes (octal first)
+            (unread R.remaining self.old) self.old.taken
             (unread R.remaining self.new) self.new.taken result }
+        ensures failures { AnswersIo result
+            (R.failures self.old.inner) (R.failures self.new.inner) }
     {
         let second = self.must_take()?;
         let third = self.must_take()?;
@@ -190,8 +200,11 @@ impl<R: Read> Input<R> {
 
     // Takes the four digits of a unit.
     fn unit(&mut self) -> Result<Option<u16>, Error>
-        ensures { Answers (λ u. u) unit (unread R.remaining self.old) self.old.taken
+        ensures answers { Answers (λ u. u) unit
+            (unread R.remaining self.old) self.old.taken
             (unread R.remaining self.new) self.new.taken result }
+        ensures failures { AnswersIo result
+            (R.failures self.old.inner) (R.failures self.new.inner) }
     {
         let a = self.must_take()?;
         let b = self.must_take()?;
@@ -202,8 +215,11 @@ impl<R: Read> Input<R> {
 
     // Takes what follows `\U`.
     fn unicode(&mut self) -> Result<Piece, Error>
-        ensures { Answers piece_bytes unicode (unread R.remaining self.old) self.old.taken
+        ensures answers { Answers piece_bytes unicode
+            (unread R.remaining self.old) self.old.taken
             (unread R.remaining self.new) self.new.taken result }
+        ensures failures { AnswersIo result
+            (R.failures self.old.inner) (R.failures self.new.inner) }
     {
         let unit = self.unit()?;
         self.first_unit(unit)
@@ -211,8 +227,11 @@ impl<R: Read> Input<R> {
 
     // Takes what follows the digits of the first unit.
     fn first_unit(&mut self, unit: Option<u16>) -> Result<Piece, Error>
-        ensures { Answers piece_bytes (first_unit unit) (unread R.remaining self.old) self.old.taken
+        ensures answers { Answers piece_bytes (first_unit unit)
+            (unread R.remaining self.old) self.old.taken
             (unread R.remaining self.new) self.new.taken result }
+        ensures failures { AnswersIo result
+            (R.failures self.old.inner) (R.failures self.new.inner) }
     {
         let Some(unit) = unit else {
             return Err(self.fault(ErrorKind::InvalidUtf16String));
@@ -225,8 +244,11 @@ impl<R: Read> Input<R> {
 
     // Takes the backslash of the second unit, and what follows it.
     fn second_unit(&mut self, high: u16) -> Result<Piece, Error>
-        ensures { Answers piece_bytes (second_unit high) (unread R.remaining self.old) self.old.taken
+        ensures answers { Answers piece_bytes (second_unit high)
+            (unread R.remaining self.old) self.old.taken
             (unread R.remaining self.new) self.new.taken result }
+        ensures failures { AnswersIo result
+            (R.failures self.old.inner) (R.failures self.new.inner) }
     {
         if self.must_take()? == b'\\' {
             return self.second_letter(high);
@@ -236,8 +258,11 @@ impl<R: Read> Input<R> {
 
     // Takes the letter of the second unit if it stands there, and what follows it.
     fn second_letter(&mut self, high: u16) -> Result<Piece, Error>
-        ensures { Answers piece_bytes (second_letter high) (unread R.remaining self.old) self.old.taken
+        ensures answers { Answers piece_bytes (second_letter high)
+            (unread R.remaining self.old) self.old.taken
             (unread R.remaining self.new) self.new.taken result }
+        ensures failures { AnswersIo result
+            (R.failures self.old.inner) (R.failures self.new.inner) }
     {
         match self.look()? {
             Some(byte) if is_unit_letter(byte) => {
@@ -250,8 +275,11 @@ impl<R: Read> Input<R> {
 
     // Takes the digits of the second unit.
     fn second_digits(&mut self, high: u16) -> Result<Piece, Error>
-        ensures { Answers piece_bytes (second_digits high) (unread R.remaining self.old) self.old.taken
+        ensures answers { Answers piece_bytes (second_digits high)
+            (unread R.remaining self.old) self.old.taken
             (unread R.remaining self.new) self.new.taken result }
+        ensures failures { AnswersIo result
+            (R.failures self.old.inner) (R.failures self.new.inner) }
     {
         let low = self.unit()?;
         match low.and_then(|low| pair_char(high, low)) {

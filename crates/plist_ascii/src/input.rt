@@ -3,10 +3,11 @@
 ghost use Rattle.std.specs.Prelude.{◌≡◌, ◌⊎◌, ℕ, ◌+◌, ◌-◌, ◌^◌, ◌<◌, ◌≤◌, List, [], ◌∷◌, drop, None, Some, Ok, true, false, IfOk, IfSome, IfErr, OnOk, IsSome, MatchOption};
 ghost use Rattle.plist_base.specs.Faults.{Io, UnclosedString, fault_of, fault_at, kind_of, error_kind_of};
 ghost use Rattle.plist_ascii.specs.Taken.{run};
+ghost use Rattle.plist_ascii.specs.Incoming.{AnswersIo};
 ghost use Rattle.plist_ascii.specs.Unread.{unread, Known, first, stops, Takes, IsAt, is_from_outside};
 
+use crate::bytes::Bytes;
 use plist_base::{Error, ErrorKind};
-use std::io::Read;
 
 /// What ends a run of bytes.
 #[derive(Clone, Copy)]
@@ -78,7 +79,7 @@ impl<R> Input<R> {
     }
 }
 
-impl<R: Read> Input<R> {
+impl<R: Bytes> Input<R> {
     // Reads one byte ahead.
     fn fetch(&mut self) -> Result<Option<u8>, Error>
         requires going { self.old.ended ≡ false }
@@ -91,17 +92,17 @@ impl<R: Read> Input<R> {
         ensures end { IfOk result (λ byte. byte ≡ None → self.new.ended ≡ true) }
         ensures err { IfErr result (λ e. fault_of e ≡ fault_at Io self.new.taken) }
         ensures place { self.new.taken ≡ self.old.taken }
+        ensures failures { AnswersIo result
+            (R.failures self.old.inner) (R.failures self.new.inner) }
     {
-        let mut buffer = [0u8; 1];
-        match self.inner.read(&mut buffer) {
-            Ok(count) => {
-                if count == 0 {
-                    self.ended = true;
-                    return Ok(None);
-                }
-                let byte = buffer[0];
+        match self.inner.next_byte() {
+            Ok(Some(byte)) => {
                 self.peeked = Some(byte);
                 Ok(Some(byte))
+            }
+            Ok(None) => {
+                self.ended = true;
+                Ok(None)
             }
             Err(failure) => Err(self.fault(ErrorKind::Io(failure))),
         }
@@ -119,6 +120,8 @@ impl<R: Read> Input<R> {
             → (result ≡ Ok None) × (self.new ≡ self.old) }
         ensures err { IfErr result (λ e. fault_of e ≡ fault_at Io self.new.taken) }
         ensures place { self.new.taken ≡ self.old.taken }
+        ensures failures { AnswersIo result
+            (R.failures self.old.inner) (R.failures self.new.inner) }
     {
         if self.ended {
             return Ok(None);
@@ -140,6 +143,7 @@ impl<R: Read> Input<R> {
         ensures next { Known (unread R.remaining self.old) (λ xs.
             unread R.remaining self.new ≡ Some (drop 1 xs)) }
         ensures place { self.new.taken ≡ self.old.taken + 1 }
+        ensures inner { self.new.inner ≡ self.old.inner }
     {
         self.peeked = None;
         self.taken += 1;
@@ -156,6 +160,8 @@ impl<R: Read> Input<R> {
         ensures place { IfOk result (λ o. MatchOption o (self.new.taken ≡ self.old.taken)
             (λ _. (self.new.taken ≡ self.old.taken + 1) × (self.new.taken < 2 ^ 64))) }
         ensures stays { IfErr result (λ _. self.new.taken ≡ self.old.taken) }
+        ensures failures { AnswersIo result
+            (R.failures self.old.inner) (R.failures self.new.inner) }
     {
         match self.look()? {
             Some(byte) => {
@@ -179,6 +185,8 @@ impl<R: Read> Input<R> {
         ensures place { IfOk result (λ o. MatchOption o (self.new.taken ≡ self.old.taken)
             (λ _. (self.new.taken ≡ self.old.taken + 1) × (self.new.taken < 2 ^ 64))) }
         ensures stays { IfErr result (λ _. self.new.taken ≡ self.old.taken) }
+        ensures failures { AnswersIo result
+            (R.failures self.old.inner) (R.failures self.new.inner) }
     {
         match self.look()? {
             Some(byte) => {
@@ -200,6 +208,8 @@ impl<R: Read> Input<R> {
             (fault_of e ≡ fault_at UnclosedString self.new.taken)
             × Known (unread R.remaining self.old) (λ xs.
             (unread R.remaining self.new ≡ Some xs) × (xs ≡ [])))) }
+        ensures failures { AnswersIo result
+            (R.failures self.old.inner) (R.failures self.new.inner) }
     {
         match self.take()? {
             Some(byte) => Ok(byte),

@@ -4,6 +4,7 @@
 //! items that the bytes not yet taken spell, and takes the bytes up to its end.
 #![tactic(auto)]
 
+mod bytes;
 mod comment;
 mod escape;
 mod input;
@@ -12,4 +13,5 @@ mod reader;
 mod text;
 mod token;
 
+pub use bytes::Bytes;
 pub use reader::AsciiReader;

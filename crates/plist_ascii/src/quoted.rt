@@ -6,14 +6,15 @@ ghost use Rattle.plist_base.specs.Events.{event_of};
 ghost use Rattle.plist_ascii.specs.Quoted.{quoted, quoted_token};
 ghost use Rattle.plist_ascii.specs.Parts.{piece_bytes, Parts, PartFails, Ends, EndFails};
 ghost use Rattle.plist_ascii.specs.Kinds.{IsTextEvent};
+ghost use Rattle.plist_ascii.specs.Incoming.{AnswersIo};
 ghost use Rattle.plist_ascii.specs.Unread.{unread, Known, IsAt, is_from_outside, Answers};
 
+use crate::bytes::Bytes;
 use crate::escape::Piece;
 use crate::input::{Input, Stop};
 use crate::text::{push_byte, quoted_event};
 use plist_base::{Error, OwnedEvent};
 use std::alloc::Global;
-use std::io::Read;
 
 // Appends what an escape stands for.
 fn push_piece(text: &mut Vec<u8>, piece: Piece) -> Result<(), Error>
@@ -31,7 +32,7 @@ fn push_piece(text: &mut Vec<u8>, piece: Piece) -> Result<(), Error>
     }
 }
 
-impl<R: Read> Input<R> {
+impl<R: Bytes> Input<R> {
     // Takes what stands behind a run of plain bytes: the closing quote, or an escape.
     fn run_end(&mut self, quote: u8) -> Result<Option<Piece>, Error>
         ensures ok { IfOk result (λ piece. Known (unread R.remaining self.old) (λ xs. (n : ℕ)
@@ -46,6 +47,8 @@ impl<R: Read> Input<R> {
             × EndFails quote xs (kind_of (error_kind_of e)) n
             × (unread R.remaining self.new ≡ Some (drop n xs))
             × (self.new.taken ≡ self.old.taken + n)))) }
+        ensures failures { AnswersIo result
+            (R.failures self.old.inner) (R.failures self.new.inner) }
     {
         if self.must_take()? == quote {
             return Ok(None);
@@ -70,6 +73,8 @@ impl<R: Read> Input<R> {
             × PartFails quote xs (kind_of (error_kind_of e)) n
             × (unread R.remaining self.new ≡ Some (drop n xs))
             × (self.new.taken ≡ self.old.taken + n)))) }
+        ensures failures { AnswersIo result
+            (R.failures self.old.inner) (R.failures self.new.inner) }
     {
         self.take_run(Stop::Quoted(quote), text)?;
         match self.run_end(quote)? {
@@ -83,8 +88,11 @@ impl<R: Read> Input<R> {
 
     // Takes the bytes of a text up to and with its closing quote.
     fn quoted(&mut self, alloc: Global, quote: u8) -> Result<Vec<u8>, Error>
-        ensures { Answers vec_items (quoted quote) (unread R.remaining self.old) self.old.taken
+        ensures answers { Answers vec_items (quoted quote)
+            (unread R.remaining self.old) self.old.taken
             (unread R.remaining self.new) self.new.taken result }
+        ensures failures { AnswersIo result
+            (R.failures self.old.inner) (R.failures self.new.inner) }
     {
         let mut text = Vec::new(alloc);
         'parts: loop {
@@ -100,6 +108,8 @@ impl<R: Read> Input<R> {
             (unread R.remaining self.old) self.old.taken
             (unread R.remaining self.new) self.new.taken result }
         ensures kinds { IfOk result (λ event. IsTextEvent (event_of event)) }
+        ensures failures { AnswersIo result
+            (R.failures self.old.inner) (R.failures self.new.inner) }
     {
         let text = self.quoted(alloc, quote)?;
         match quoted_event(text) {

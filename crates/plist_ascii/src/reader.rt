@@ -3,13 +3,14 @@
 ghost use Rattle.std.specs.Prelude.{◌≡◌, ℕ, ◌-◌, ◌^◌, ◌<◌, List, take, None, Some, true, IfSome};
 ghost use Rattle.plist_base.specs.Faults.{kind_of, error_kind_of};
 ghost use Rattle.plist_ascii.specs.Kinds.{IsAsciiItem};
+ghost use Rattle.plist_ascii.specs.Incoming.{ItemCountsIo};
 ghost use Rattle.plist_ascii.specs.Unread.{unread, Known, stops, is_from_outside};
 ghost use Rattle.plist_ascii.specs.Coming.{GivesItem, Rises, FaultIsAt, EndsAfter, bytes_to_come};
 
+use crate::bytes::Bytes;
 use crate::input::{Input, Stop};
 use plist_base::{Error, ErrorKind, OwnedEvent};
 use std::alloc::Global;
-use std::io::Read;
 
 // A device's fault, or want of memory?
 fn is_from_outside(error: &Error) -> bool
@@ -18,7 +19,7 @@ fn is_from_outside(error: &Error) -> bool
     matches!(error.kind(), ErrorKind::Io(_) | ErrorKind::OutOfMemory)
 }
 
-impl<R: Read> Input<R> {
+impl<R: Bytes> Input<R> {
     // Takes tokens up to the first that gives an item.
     fn item(&mut self, alloc: Global, stop: Stop) -> Option<Result<OwnedEvent, Error>>
         ensures items { Known (unread R.remaining self.old) (λ xs. (ys : List ℕ)
@@ -32,6 +33,8 @@ impl<R: Read> Input<R> {
         ensures ends { EndsAfter result (self.new.ended ≡ true) }
         ensures falls { IfSome result (λ _. bytes_to_come self.new.ended self.new.taken
             < bytes_to_come self.old.ended self.old.taken) }
+        ensures failures { ItemCountsIo result
+            (R.failures self.old.inner) (R.failures self.new.inner) }
     {
         if self.has_ended() {
             return None;
@@ -84,7 +87,7 @@ pub struct AsciiReader<R> {
     alloc: Global,
 }
 
-impl<R: Read> AsciiReader<R> {
+impl<R: Bytes> AsciiReader<R> {
     ghost use Rattle.std.specs.Prelude.{◌≡◌, ◌-◌, ◌^◌, take, None, IfSome, Some};
     ghost use Rattle.std.specs.Option.{option_map};
     ghost use Rattle.plist_ascii.specs.Unread.{within};
@@ -116,13 +119,13 @@ impl<R: Read> AsciiReader<R> {
     }
 }
 
-impl<R: Read + Drop> Iterator for AsciiReader<R> {
+impl<R: Bytes + Drop> Iterator for AsciiReader<R> {
     type Item = Result<OwnedEvent, Error>;
 
     ghost use Rattle.std.specs.Iterator.{at_most};
     ghost use Rattle.plist_ascii.specs.Coming.{Gives, steps_to_come};
 
-    ghost next_gives = { Gives R.remaining };
+    ghost next_gives = { Gives R.remaining R.failures };
 
     ghost remaining = { λ s. at_most (steps_to_come s) };
 

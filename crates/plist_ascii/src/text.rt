@@ -8,13 +8,14 @@ ghost use Rattle.plist_base.specs.IntegerText.{integer_of_text};
 ghost use Rattle.plist_ascii.specs.Taken.{run};
 ghost use Rattle.plist_ascii.specs.Texts.{bare, bare_event, quoted_event, number_or_text};
 ghost use Rattle.plist_ascii.specs.Kinds.{IsTextEvent};
+ghost use Rattle.plist_ascii.specs.Incoming.{AnswersIo};
 ghost use Rattle.plist_ascii.specs.Unread.{unread, Known, stops, IsAt, is_from_outside, Answers, Means};
 
+use crate::bytes::Bytes;
 use crate::input::{Input, Stop};
 use plist_base::{Error, ErrorKind, Event, Integer, OwnedEvent};
 use std::alloc::Global;
 use std::borrow::CowStr;
-use std::io::Read;
 use std::str::FromStr;
 
 /// Appends a byte.
@@ -66,7 +67,7 @@ pub fn quoted_event(bytes: Vec<u8>) -> Result<OwnedEvent, ErrorKind>
     Ok(Event::String(CowStr::Owned(text)))
 }
 
-impl<R: Read> Input<R> {
+impl<R: Bytes> Input<R> {
     /// Takes the bytes up to a stop, and appends them.
     pub fn take_run(&mut self, stop: Stop, text: &mut Vec<u8>) -> Result<(), Error>
         ensures ok { OnOk result (Known (unread R.remaining self.old) (λ xs.
@@ -76,6 +77,8 @@ impl<R: Read> Input<R> {
         ensures err { IfErr result (λ e. IsAt (fault_of e) self.new.taken
             × (is_from_outside (kind_of (error_kind_of e)) ≡ true)) }
         ensures place { self.old.taken ≤ self.new.taken }
+        ensures failures { AnswersIo result
+            (R.failures self.old.inner) (R.failures self.new.inner) }
     {
         while let Some(byte) = self.take_unless(stop)? {
             push_byte(text, byte)?;
@@ -89,6 +92,8 @@ impl<R: Read> Input<R> {
             (unread R.remaining self.old) self.old.taken
             (unread R.remaining self.new) self.new.taken result }
         ensures kinds { IfOk result (λ event. IsTextEvent (event_of event)) }
+        ensures failures { AnswersIo result
+            (R.failures self.old.inner) (R.failures self.new.inner) }
     {
         let mut text = Vec::new(alloc);
         push_byte(&mut text, first)?;

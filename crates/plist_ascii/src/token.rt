@@ -7,12 +7,13 @@ ghost use Rattle.plist_base.specs.Events.{event_of};
 ghost use Rattle.plist_ascii.specs.Comments.{slash};
 ghost use Rattle.plist_ascii.specs.Ascii.{lead_of, token_by, WantsMemory};
 ghost use Rattle.plist_ascii.specs.Kinds.{IsTextEvent, IsAsciiEvent};
+ghost use Rattle.plist_ascii.specs.Incoming.{AnswersIo};
 ghost use Rattle.plist_ascii.specs.Unread.{unread, Known, stops, Answers};
 
+use crate::bytes::Bytes;
 use crate::input::{Input, Stop};
 use plist_base::{Error, ErrorKind, Event, OwnedEvent};
 use std::alloc::Global;
-use std::io::Read;
 
 /// What the first byte of a token begins.
 #[derive(Clone, Copy)]
@@ -48,7 +49,7 @@ fn lead_of(byte: u8) -> Lead
     }
 }
 
-impl<R: Read> Input<R> {
+impl<R: Bytes> Input<R> {
     // Takes what a slash begins.
     fn slash(&mut self, alloc: Global, stop: Stop) -> Result<Option<OwnedEvent>, Error>
         ensures answers { Answers (option_map event_of) (slash (stops stop))
@@ -57,6 +58,8 @@ impl<R: Read> Input<R> {
         ensures memory { IfErr result (λ e. kind_of (error_kind_of e) ≡ OutOfMemory →
             Known (unread R.remaining self.old) (λ xs. WantsMemory (slash (stops stop) xs).gives)) }
         ensures kinds { IfOk result (λ event. IfSome event (λ e. IsTextEvent (event_of e))) }
+        ensures failures { AnswersIo result
+            (R.failures self.old.inner) (R.failures self.new.inner) }
     {
         match self.look()? {
             Some(b'/') => {
@@ -67,7 +70,7 @@ impl<R: Read> Input<R> {
                 self.advance();
                 self.block_comment()
             }
-            Some(_) => {
+            Some(_byte) => {
                 let event = self.bare(alloc, stop, b'/')?;
                 Ok(Some(event))
             }
@@ -89,6 +92,8 @@ impl<R: Read> Input<R> {
             Known (unread R.remaining self.old) (λ xs.
             WantsMemory (token_by (stops stop) (lead_of byte) byte xs).gives)) }
         ensures kinds { IfOk result (λ event. IfSome event (λ e. IsAsciiEvent (event_of e))) }
+        ensures failures { AnswersIo result
+            (R.failures self.old.inner) (R.failures self.new.inner) }
     {
         match lead_of(byte) {
             Lead::ArrayStart => Ok(Some(Event::StartArray(None))),

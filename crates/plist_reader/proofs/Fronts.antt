@@ -43,7 +43,7 @@ module _ (m : ℕ) (bytes : List ℕ) where
   abbrev cut : List ℕ
   cut = take m bytes
 
-  inside : (place b : ℕ) → place < m → slice_get bytes place ≡ Some b → (place < length cut) × (get_or cut place 0 ≡ b)
+  pub inside : (place b : ℕ) → place < m → slice_get bytes place ≡ Some b → (place < length cut) × (get_or cut place 0 ≡ b)
   inside place b h e =
       let l : place < length bytes = slice_get_within bytes place b e in
       (omega (arith, length-take {A = ℕ}, l), get_or-take m bytes place 0 h ∙ get_or_from_slice_get bytes place b 0 e)
@@ -68,7 +68,7 @@ module _ (m : ℕ) (bytes : List ℕ) where
       let p : past_white place cut ≡ place = let z = prefix_len-drop_all is_white cut place h in omega (arith, z) in
       ap (λ q. cond (get_or cut q 0 == 60) (Some q) None) p ∙ ap (λ c. cond (c == 60) (Some place) None) (get_or_past cut place 0 h)
 
-  none_left : (place : ℕ) → None ≡ slice_get bytes place → length bytes ≤ place
+  pub none_left : (place : ℕ) → None ≡ slice_get bytes place → length bytes ≤ place
   none_left place e =
       elim (cases_lt place (length bytes)) [
         | inl l ↦ let no : None ≡ Some (get_or bytes place 0) → length bytes ≤ place = λ p. cc in no (e ∙ slice_get-get_or bytes place 0 l)

@@ -6,10 +6,11 @@ use Rattle.std.proofs.lemmas.List.{take-take}
 use Rattle.plist_base.specs.declared.error.Error.{Error}
 use Rattle.plist_base.specs.declared.event.Event.{Event}
 use Rattle.plist_base.specs.declared.source.Source.{Ghosts}
-use Rattle.plist_base.specs.declared.sequential.Sequential.{Sequential}
+use Rattle.plist_reader.specs.declared.bytes.SourceBytes.{SourceBytes}
 use Rattle.plist_base.specs.Events.{Item}
 use Rattle.plist_base.specs.Faults.{kind_of, error_kind_of, fault_of}
-use Rattle.plist_base.specs.Sequences.{from_place, source_of, place_of}
+use Rattle.plist_base.specs.Sequences.{from_place}
+use Rattle.plist_reader.specs.Streams.{bytes_left, source_of, place_of}
 use Rattle.plist_base.specs.Sources.{ItemCountsIo}
 use Rattle.plist_base.proofs.Refusals.{MatchFault-weaker, MatchFault-all}
 use Rattle.plist_binread.specs.declared.reader.BinaryReader.{BinaryReader}
@@ -19,10 +20,11 @@ use Rattle.plist_binread.specs.Unfolding.{items_of_file}
 use Rattle.plist_ascii.specs.declared.reader.AsciiReader.{AsciiReader}
 use Rattle.plist_ascii.specs.Ascii.{items_of_ascii, items_in, BeginsWithText}
 use Rattle.plist_ascii.specs.Coming as ascii
+use Rattle.plist_ascii.specs.Incoming as incoming
 use Rattle.plist_ascii.specs.Texts.{lax}
 use Rattle.plist_reader.specs.declared.reader.State.{State}
 use Rattle.plist_reader.specs.declared.reader.State.TheVariants as state
-use Rattle.plist_reader.specs.Coming.{coming, bytes_left, items_by, items_of_input, GivesItem, GoesOn, EndsAfter, StateGives, source_in}
+use Rattle.plist_reader.specs.Coming.{coming, items_by, items_of_input, GivesItem, GoesOn, EndsAfter, StateGives, HoldsSource, source_in}
 use Rattle.plist_reader.specs.declared.format.Format.TheVariants as format
 use Rattle.plist_reader.specs.Formats.{format_of, front}
 
@@ -73,20 +75,19 @@ pub ascii-goes : (k l : Option (List ℕ)) (p q : ℕ) (item : Given) → ((byte
 ascii-goes None l p q item h = tt
 ascii-goes (Some bytes) l p q item h = let r = h bytes refl in (items_of_ascii lax r.0 q, ap (option_map (λ b. items_of_ascii lax b q)) r.1, ascii-item bytes r.0 p q item r.2)
 
-same-source : {A : Type 0} (a b : A) → Some a ≡ Some b → a ≡ b
-same-source a b e = cc
-
-no-source : {A B : Type 0} (b : A) → None ≡ Some b → B
-no-source b e = cc
-
 over-ends : (E : Type 0) (item : Given) → MatchOption item E (λ answer. OnErr answer E) → EndsAfter item E
 over-ends E None h = h
 over-ends E (Some (Ok event)) h = tt
 over-ends E (Some (Err error)) h = MatchFault-all (kind_of (error_kind_of error)) h h tt
 
-same-failures : {R : Type 0} (failed : R → ℕ) (a b s t : R) (item : Given) → Some a ≡ Some s → Some b ≡ Some t → ItemCountsIo item (failed a) (failed b) → ItemCountsIo item (failed s) (failed t)
-same-failures failed a b s t item p q h =
-    subst (λ x. ItemCountsIo item (failed x) (failed t)) (same-source a s p) (subst (λ y. ItemCountsIo item (failed a) (failed y)) (same-source b t q) h)
+same-count : (a b : ℕ) → Some b ≡ Some a → b ≡ a
+same-count a b e = cc
+
+-- a count that is told
+told-failures : (a b : ℕ) (item : Given) → incoming.ItemCountsIo item (Some a) (Some b) → ItemCountsIo item a b
+told-failures a b None h = same-count a b h
+told-failures a b (Some (Ok event)) h = same-count a b h
+told-failures a b (Some (Err error)) h = MatchFault-weaker (kind_of (error_kind_of error)) (λ r. r) (same-count a b) (same-count a b) h
 
 -- the items to come before the first one is asked for
 same-items : (k l : Option (List ℕ)) (f : List ℕ → List Item) → l ≡ k → IfSome k (λ bytes. f bytes ≡ items_of_input bytes) → option_map f l ≡ option_map items_of_input k
@@ -106,15 +107,15 @@ module _ {R : Type 0} {g : Ghosts R} (known : R → Option (List ℕ)) (failed :
   pub binary-gives : (old new : BinaryReader R g) (item : Given) → binary.Gives known failed old item new → StateGives known failed (state.Binary old) item (state.Binary new)
   binary-gives old new item h = record {
     items = binary-goes (known (binary.source_of old)) (known (binary.source_of new)) (λ bytes. binary.to_come bytes old) (λ bytes. binary.to_come bytes new) (binary.is_new old) item h.unchanged h.items;
-    failures = λ s t p q. same-failures failed (binary.source_of old) (binary.source_of new) s t item p q h.failures;
+    failures = h.failures;
     ended = h.ended;
     ends = over-ends (binary.HasEnded new) item h.ends;
   }
 
-  pub ascii-gives : (old new : AsciiReader (Sequential R)) (item : Given) → ascii.Gives (bytes_left known) old item new → StateGives {R = R} {g = g} known failed (state.Ascii old) item (state.Ascii new)
+  pub ascii-gives : (old new : AsciiReader (SourceBytes R)) (item : Given) → ascii.Gives (bytes_left known) (λ s. Some (failed (source_of s))) old item new → StateGives {R = R} {g = g} known failed (state.Ascii old) item (state.Ascii new)
   ascii-gives old new item h = record {
     items = ascii-goes (ascii.bytes_left (bytes_left known) old) (ascii.bytes_left (bytes_left known) new) (ascii.place_of old) (ascii.place_of new) item h.items;
-    failures = λ s t p q. no-source s p;
+    failures = told-failures (failed (source_of (ascii.inner_of old))) (failed (source_of (ascii.inner_of new))) item h.failures;
     ended = h.ended;
     ends = h.ends;
   }
@@ -122,11 +123,11 @@ module _ {R : Type 0} {g : Ghosts R} (known : R → Option (List ℕ)) (failed :
   -- ---- the first item
 
   -- a state that stands as the source before the choice goes on as that
-  pub chosen-gives : (source : R) (old new : State R g) (item : Given) → coming known old ≡ option_map items_of_input (known source) → ((s : R) → source_in old ≡ Some s → failed s ≡ failed source)
-      → ((t : R) → source_in new ≡ Some t → (s : R) × (source_in old ≡ Some s)) → StateGives known failed old item new → StateGives known failed (state.Unread source) item new
-  chosen-gives source old new item same count some h = record {
+  chosen-gives : (source : R) (old new : State R g) (item : Given) → coming known old ≡ option_map items_of_input (known source) → HoldsSource failed (Some source) item (source_in new)
+      → StateGives known failed old item new → StateGives known failed (state.Unread source) item new
+  chosen-gives source old new item same count h = record {
     items = subst (λ o. GoesOn o item (coming known new)) same h.items;
-    failures = λ s t p q. let o = some t q in subst (λ n. ItemCountsIo item n (failed t)) (count o.0 o.1 ∙ ap failed (same-source source s p)) (h.failures o.0 t o.1 q);
+    failures = count;
     ended = λ e. absurd e;
     ends = h.ends;
   }
@@ -143,12 +144,12 @@ module _ {R : Type 0} {g : Ghosts R} (known : R → Option (List ℕ)) (failed :
   begun-binary source inner old new item at e f is fresh h =
       chosen-gives source (state.Binary old) (state.Binary new) item
       (same-items (known source) (known (binary.source_of old)) (λ bytes. binary.to_come bytes old) (ap known at ∙ e) (binary-items (known source) (known inner) old e is fresh))
-      (λ s p. ap failed (sym (same-source (binary.source_of old) s p) ∙ at) ∙ f) (λ t q. (binary.source_of old, refl)) (binary-gives old new item h)
+      (subst (λ n. ItemCountsIo item n (failed (binary.source_of new))) (ap failed at ∙ f) h.failures) (binary-gives old new item h)
 
-  pub begun-ascii : (source inner : R) (sequence : Sequential R) (old new : AsciiReader (Sequential R)) (item : Given) → source_of sequence ≡ inner → known inner ≡ known source → place_of sequence ≡ 0 → IfSome (known source) (λ bytes. format.Ascii ≡ format_of bytes)
-      → ascii.bytes_left (bytes_left known) old ≡ option_map front (bytes_left known sequence) → ascii.place_of old ≡ 0 → ascii.Gives (bytes_left known) old item new → StateGives {R = R} {g = g} known failed (state.Unread source) item (state.Ascii new)
-  begun-ascii source inner sequence old new item from e at is bytes place h =
+  pub begun-ascii : (source inner : R) (sequence : SourceBytes R) (old new : AsciiReader (SourceBytes R)) (item : Given) → source_of sequence ≡ inner → known inner ≡ known source → failed inner ≡ failed source → ascii.inner_of old ≡ sequence → place_of sequence ≡ 0 → IfSome (known source) (λ bytes. format.Ascii ≡ format_of bytes)
+      → ascii.bytes_left (bytes_left known) old ≡ option_map front (bytes_left known sequence) → ascii.place_of old ≡ 0 → ascii.Gives (bytes_left known) (λ s. Some (failed (source_of s))) old item new → StateGives {R = R} {g = g} known failed (state.Unread source) item (state.Ascii new)
+  begun-ascii source inner sequence old new item from e f inside at is bytes place h =
       chosen-gives source (state.Ascii old) (state.Ascii new) item
       ((λ i. option_map (λ b. items_of_ascii lax b (place i)) (bytes i)) ∙ ap (λ p. option_map (λ b. items_of_ascii lax b 0) (option_map front (option_map (from_place p) (known (source_of sequence))))) at
       ∙ ascii-items (known source) (known (source_of sequence)) (ap known from ∙ e) is)
-      (λ s p. no-source s p) (λ t q. no-source t q) (ascii-gives old new item h)
+      (subst (λ n. ItemCountsIo item n (failed (source_of (ascii.inner_of new)))) (ap (λ s. failed (source_of s)) inside ∙ ap failed from ∙ f) (let g : StateGives known failed (state.Ascii old) item (state.Ascii new) = ascii-gives old new item h in g.failures)) (ascii-gives old new item h)

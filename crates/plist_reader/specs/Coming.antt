@@ -4,11 +4,8 @@ use Rattle.std.specs.Option.{option_map}
 use Rattle.plist_base.specs.declared.error.Error.{Error}
 use Rattle.plist_base.specs.declared.event.Event.{Event}
 use Rattle.plist_base.specs.declared.source.Source.{Ghosts}
-use Rattle.plist_base.specs.declared.sequential.Sequential.{Sequential}
 use Rattle.plist_base.specs.Faults.{MatchFault, XmlUnsupported, kind_of, error_kind_of, fault_of, fault_at}
 use Rattle.plist_base.specs.Events.{Item, event_of}
-use Rattle.plist_base.specs.Sequences as sequence
-use Rattle.plist_base.specs.Sequences.{from_place}
 use Rattle.plist_base.specs.Sources.{ItemCountsIo}
 use Rattle.plist_binread.specs.Coming as binary
 use Rattle.plist_binread.specs.Debt.{IsOwed, steps}
@@ -22,6 +19,8 @@ use Rattle.plist_reader.specs.declared.reader.Reader.{Reader}
 use Rattle.plist_reader.specs.declared.reader.State.{State}
 use Rattle.plist_reader.specs.declared.reader.State.TheVariants as state
 use Rattle.plist_reader.specs.Formats.{front, format_of}
+use Rattle.plist_reader.specs.Streams as stream
+use Rattle.plist_reader.specs.Streams.{bytes_left}
 
 -- the items of some bytes of this format
 abbrev pub items_by : Format → List ℕ → List Item
@@ -32,10 +31,6 @@ items_by format.Ascii bytes = items_of_ascii lax (front bytes) 0
 -- the items of some bytes, by the format that their first bytes tell
 abbrev pub items_of_input : List ℕ → List Item
 items_of_input bytes = items_by (format_of bytes) bytes
-
--- the bytes that a source read from its front on has left
-abbrev pub bytes_left : {R : Type 0} → (R → Option (List ℕ)) → Sequential R → Option (List ℕ)
-bytes_left known reader = option_map (from_place (sequence.place_of reader)) (known (sequence.source_of reader))
 
 module _ {R : Type 0} {g : Ghosts R} (known : R → Option (List ℕ)) where
   -- the items still to come, where the source's bytes are known: before the choice those of the source, then those of the reader that was chosen
@@ -49,11 +44,11 @@ module _ {R : Type 0} {g : Ghosts R} (known : R → Option (List ℕ)) where
   abbrev pub to_come : Reader R g → Option (List Item)
   to_come reader = coming reader.state
 
--- the source, unless it is read as ASCII
+-- the source
 abbrev pub source_in : {R : Type 0} {g : Ghosts R} → State R g → Option R
 source_in (state.Unread source) = Some source
 source_in (state.Binary reader) = Some (binary.source_of reader)
-source_in (state.Ascii reader) = None
+source_in (state.Ascii reader) = Some (stream.source_of (ascii.inner_of reader))
 source_in (state.Refused source) = Some source
 source_in state.Moved = None
 
@@ -85,10 +80,14 @@ GoesOn before item after = IfSome before (λ all. (left : List Item) × (after �
 abbrev pub EndsAfter : Option (Result Event Error) → Type 0 → Type 0
 EndsAfter item ended = MatchOption item ended (λ answer. MatchResult answer (λ _. ⊤) (λ error. MatchFault (kind_of (error_kind_of error)) ended ended ⊤))
 
+-- the source is still held, and `Io` came only where its count of failures rose
+abbrev pub HoldsSource : {R : Type 0} (failed : R → ℕ) (old : Option R) → Option (Result Event Error) → (new : Option R) → Type 0
+HoldsSource failed old item new = MatchOption old ⊤ (λ source. MatchOption new ⊥ (λ kept. ItemCountsIo item (failed source) (failed kept)))
+
 -- one call of `next`
 pub record StateGives {R : Type 0} {g : Ghosts R} (known : R → Option (List ℕ)) (failed : R → ℕ) (old : State R g) (item : Option (Result Event Error)) (new : State R g) : Type 0 where
   pub items : GoesOn (coming known old) item (coming known new)
-  pub failures : (s t : R) → source_in old ≡ Some s → source_in new ≡ Some t → ItemCountsIo item (failed s) (failed t)
+  pub failures : HoldsSource failed (source_in old) item (source_in new)
   pub ended : IsOver old → item ≡ None
   pub ends : EndsAfter item (IsOver new)
 

@@ -7,6 +7,7 @@ ghost use Rattle.plist_base.specs.Sources.{AnswersIo};
 ghost use Rattle.plist_binread.specs.Container.{magic};
 ghost use Rattle.plist_reader.specs.Formats.{is_white, mark, mark_length, front, xml_place, format_of};
 
+use crate::bytes::byte_at;
 use plist_base::{Error, ErrorKind, Source, read_exact_at};
 
 const MAGIC: &[u8; 8] = b"bplist00";
@@ -80,26 +81,6 @@ fn mark_length<S: Source>(source: &mut S) -> Result<u64, Error>
     }
 }
 
-// The byte at a place, if there is one.
-fn byte_at<S: Source>(source: &mut S, place: u64) -> Result<Option<u8>, Error>
-    ensures byte { IfOk result (λ byte. IfSome (S.known source.old) (λ bytes.
-        byte ≡ slice_get bytes place)) }
-    ensures refused { IfErr result (λ e. fault_of e ≡ fault_at Io place) }
-    ensures unchanged { S.known source.new ≡ S.known source.old }
-    ensures failures { AnswersIo result (S.failures source.old) (S.failures source.new) }
-{
-    let mut buffer = [0u8; 1];
-    match source.read_at(place, &mut buffer) {
-        Ok(count) => {
-            if count == 0 {
-                return Ok(None);
-            }
-            Ok(Some(buffer[0]))
-        }
-        Err(failure) => Err(ErrorKind::Io(failure).with_byte_offset(place)),
-    }
-}
-
 fn is_white(byte: u8) -> bool
     ensures { result ≡ is_white byte }
 {
@@ -124,7 +105,7 @@ fn xml_place<S: Source>(source: &mut S, start: u64) -> Result<Option<u64>, Error
                 place += 1;
             }
             Ok(None) => return Ok(None),
-            Err(error) => return Err(error),
+            Err(failure) => return Err(ErrorKind::Io(failure).with_byte_offset(place)),
         }
     }
     Ok(None)

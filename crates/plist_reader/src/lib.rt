@@ -4,6 +4,7 @@
 //! the first bytes tell ([`format_of`]), and once it has chosen, those of the reader that it holds.
 #![tactic(auto)]
 
+mod bytes;
 mod format;
 mod reader;
 

@@ -3,9 +3,10 @@
 ghost use Rattle.std.specs.Prelude.{◌≡◌, ◌<◌, IfSome, Some};
 ghost use Rattle.plist_reader.specs.Coming.{StateGives, all_steps, steps_of};
 
+use crate::bytes::SourceBytes;
 use crate::format::{Format, format_of};
 use plist_ascii::AsciiReader;
-use plist_base::{Error, ErrorKind, OwnedEvent, Sequential, Source};
+use plist_base::{Error, ErrorKind, OwnedEvent, Source};
 use plist_binread::BinaryReader;
 use std::alloc::Global;
 use std::mem;
@@ -16,7 +17,7 @@ pub(crate) enum State<R: Source> {
     // No item has been asked for.
     Unread(R),
     Binary(BinaryReader<R>),
-    Ascii(AsciiReader<Sequential<R>>),
+    Ascii(AsciiReader<SourceBytes<R>>),
     // The source is for no reader, or a read failed before that was known.
     Refused(R),
     // While the first item is made.
@@ -39,7 +40,7 @@ fn begin<R: Source>(alloc: Global, mut source: R) -> (State<R>, Option<Result<Ow
             Some(Err(ErrorKind::XmlUnsupported.with_byte_offset(place))),
         ),
         Ok(Format::Ascii) => {
-            let mut reader = AsciiReader::new(alloc, Sequential::new(source));
+            let mut reader = AsciiReader::new(alloc, SourceBytes::new(source));
             let item = reader.next();
             (State::Ascii(reader), item)
         }

@@ -1,4 +1,4 @@
-use Rattle.std.proofs.Common.{◌+◌, arith, sym, ap, ◌∙◌, Some, Err, refl}
+use Rattle.std.proofs.Common.{◌+◌, arith, sym, ap, ◌∙◌, Some, Err}
 use Rattle.plist_base.specs.Faults.{IncompleteComment}
 use Rattle.plist_ascii.specs.Taken.{taken}
 use Rattle.plist_ascii.specs.Comments.{block_comment}
@@ -25,6 +25,7 @@ bytes-preserved g c =
     let some = rw c.in-Some.is at c.in_ok-byte.ensures.some in
     let place = rw c.in-Some.is at c.in_ok-byte.ensures.place in
     record {
+      counts = c.in_ok-byte.ensures.failures ∙ c.bytes.invariant.counts;
       rises = omega (arith, c.bytes.invariant.rises, place.0);
       comment = λ xs e.
           let i = c.bytes.invariant.comment xs e in

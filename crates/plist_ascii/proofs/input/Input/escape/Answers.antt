@@ -5,12 +5,12 @@ use Rattle.plist_ascii.specs.Parts.{piece_bytes}
 use Rattle.plist_ascii.proofs.Answering.{answers_past, answers_unclosed}
 use Rattle.plist_ascii.proofs.input.Input.escape.Goals as goal
 
-pub returns : goal.returns
+pub returns-clause-answers : goal.returns-clause-answers
 unfolding escape
-returns g c = answers_past piece_bytes escape (escape_by c.in_ok-byte.byte) _ _ c.in_ok-byte.byte _ _ _ _ _ c.in_ok-byte.ensures.ok c.in_ok-byte.ensures.place.0 (λ ys. refl) c.escape_by.ensures
+returns-clause-answers g c = answers_past piece_bytes escape (escape_by c.in_ok-byte.byte) _ _ c.in_ok-byte.byte _ _ _ _ _ c.in_ok-byte.ensures.ok c.in_ok-byte.ensures.place.0 (λ ys. refl) c.escape_by.ensures.answers
 
-pub returns-in_err-byte : goal.returns-in_err-byte
+pub returns-in_err-byte-clause-answers : goal.returns-in_err-byte-clause-answers
 unfolding escape
-returns-in_err-byte g c =
+returns-in_err-byte-clause-answers g c =
     let p = err_from_is_err_and c.from_residual.result c.from_residual.ensures.1 in
     rw (p.1, p.2) (answers_unclosed piece_bytes escape _ _ _ _ _ c.in_err-byte.ensures.err c.in_err-byte.ensures.stays refl)

@@ -31,6 +31,7 @@ tokens-preserved g c =
     let place = rw c.in-Ok-Some.field-0-is at c.in-Ok-Some.ensures.place in
     let a = rw c.in-Ok-None-token_by.field-0-is at c.in-Ok-None-token_by.ensures.answers in
     record {
+      counts = c.in-Ok-None-token_by.ensures.failures ∙ c.in-Ok-Some.ensures.failures ∙ c.tokens.invariant.counts;
       rises = omega (arith, c.tokens.invariant.rises, a.0, place.0);
       going = λ xs e.
           let i = c.tokens.invariant.going xs e in

@@ -5,8 +5,8 @@ use Rattle.plist_ascii.proofs.Answering.{front_from}
 use Rattle.plist_ascii.proofs.Quotes.{quoting_more, quoting_closed, quoting_fails, quoting_rest}
 use Rattle.plist_ascii.proofs.input.Input.quoted.Goals as goal
 
-pub returns-then-branch : goal.returns-then-branch
-returns-then-branch g c =
+pub returns-then-branch-clause-answers : goal.returns-then-branch-clause-answers
+returns-then-branch-clause-answers g c =
     let ok = rw c.if-branch.true at c.in_ok-part.ensures.ok in (
       omega (arith, c.parts.invariant.rises, c.in_ok-part.ensures.rises.0),
       λ xs e.
@@ -20,6 +20,7 @@ pub parts-preserved : goal.parts-preserved
 parts-preserved g c =
     let ok = rw c.if-branch.false at c.in_ok-part.ensures.ok in
     record {
+      counts = c.in_ok-part.ensures.failures ∙ c.parts.invariant.counts;
       rises = omega (arith, c.parts.invariant.rises, c.in_ok-part.ensures.rises.0);
       text = λ xs e.
           let i = c.parts.invariant.text xs e in
@@ -27,8 +28,8 @@ parts-preserved g c =
           (i.0 + t.0, drop t.0 i.1, t.4, quoting_more _ xs _ i.0 t.0 i.1 t.1 _ i.3 t.2 t.3, omega (arith, t.5, i.4));
     }
 
-pub returns-in_err-part : goal.returns-in_err-part
-returns-in_err-part g c =
+pub returns-in_err-part-clause-answers : goal.returns-in_err-part-clause-answers
+returns-in_err-part-clause-answers g c =
     let f = err_from_is_err_and c.from_residual.result c.from_residual.ensures.1 in
     let b = c.in_err-part.ensures.err in
     rw (f.1, f.2) (

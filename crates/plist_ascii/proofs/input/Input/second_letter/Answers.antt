@@ -9,16 +9,16 @@ use Rattle.plist_ascii.proofs.Comments.{nothing_taken}
 use Rattle.plist_ascii.proofs.input.Input.second_letter.Goals as goal
 use Rattle.plist_ascii.proofs.input.Input.second_letter.Goals.{in_default-via-in-Some+else-is_unit_letter, in_default-via-in_default}
 
-pub returns-in-Some : goal.returns-in-Some
-returns-in-Some g c =
+pub returns-in-Some-clause-answers : goal.returns-in-Some-clause-answers
+returns-in-Some-clause-answers g c =
     let next = rw c.in-Some.is at c.in_ok-byte.ensures.next in
     answers_past piece_bytes (second_letter c.args.high) (second_digits c.args.high) _ _ c.in-Some.byte _ _ _ _ _
     (λ xs e. let h = next xs e in (drop 1 xs, first_splits _ _ xs refl h.1, c.advance.ensures.next xs h.0))
     (omega (arith, c.advance.ensures.place, c.look.ensures.place))
-    (λ ys. letter_taken c.args.high c.in-Some.byte ys (sym c.is_unit_letter.ensures ∙ c.if-is_unit_letter.true)) c.second_digits.ensures
+    (λ ys. letter_taken c.args.high c.in-Some.byte ys (sym c.is_unit_letter.ensures ∙ c.if-is_unit_letter.true)) c.second_digits.ensures.answers
 
-pub returns-in_default : goal.returns-in_default
-returns-in_default g c =
+pub returns-in_default-clause-answers : goal.returns-in_default-clause-answers
+returns-in_default-clause-answers g c =
     answers_looked piece_bytes (second_letter c.args.high) (λ _. bad_unit 0) _ _ _ _ _ _ (Err c.fault.result)
     (λ xs e. let h = c.in_ok-byte.ensures.next xs e in (
       h.0,

@@ -6,7 +6,8 @@ use Rattle.plist_ascii.proofs.input.Input.skip_run.Given as goal
 abbrev pub invariant-loop-byte : goal.invariant-loop-byte
 invariant-loop-byte g l = record {
   rises : l.fn.self.taken ≤ l.self.taken;
-  runs : Known (unread g.R.Read.remaining l.fn.self) (λ xs. (ys : List ℕ) × (more : List ℕ) × (unread g.R.Read.remaining l.self ≡ Some ys)
+  counts : g.R.Bytes.failures l.self.inner ≡ g.R.Bytes.failures l.fn.self.inner;
+  runs : Known (unread g.R.Bytes.remaining l.fn.self) (λ xs. (ys : List ℕ) × (more : List ℕ) × (unread g.R.Bytes.remaining l.self ≡ Some ys)
       × RunsOn (stops l.stop) xs [] l.fn.self.taken ys more l.self.taken);
 }
 

@@ -1,4 +1,4 @@
-use Rattle.std.proofs.Common.{arith}
+use Rattle.std.proofs.Common.{◌∙◌, arith}
 use Rattle.plist_ascii.proofs.Runs.{runs_step}
 use Rattle.plist_ascii.proofs.input.Input.take_run.Goals as goal
 
@@ -10,6 +10,7 @@ loop-byte-preserved g c =
     let p = rw c.in-Some.is at c.in_ok-byte.ensures.place in
     let some = rw c.in-Some.is at c.in_ok-byte.ensures.some in
     record {
+      counts = c.in_ok-byte.ensures.failures ∙ c.loop-byte.invariant.counts;
       rises = omega (arith, p);
       runs = λ xs e.
           let r = c.loop-byte.invariant.runs xs e in

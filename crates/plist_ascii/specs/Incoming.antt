@@ -1,0 +1,33 @@
+-- What a read of a byte leaves, and what it tells of its failures.
+use Rattle.std.specs.Prelude.{◌≡◌, ℕ, List, [], ◌∷◌, Option, None, Some, Result, MatchOption, MatchResult, ⊤}
+use Rattle.std.specs.Io.KnownBytes.{Consumes, IsAtEnd}
+use Rattle.plist_base.specs.declared.error.Error.{Error}
+use Rattle.plist_base.specs.Faults.{MatchFault, kind_of, error_kind_of}
+use Rattle.plist_base.specs.Sources.{Rises}
+
+-- known bytes lose the one that came; none came only at their end
+abbrev pub GivesByte : Option (List ℕ) → Option ℕ → Option (List ℕ) → Type 0
+GivesByte old None new = Consumes old new [] × IsAtEnd new
+GivesByte old (Some byte) new = Consumes old new (byte ∷ [])
+
+-- the count of failures rose, or stands at its top, where it is told
+abbrev pub RisesIfTold : Option ℕ → Option ℕ → Type 0
+RisesIfTold None new = ⊤
+RisesIfTold (Some old) None = ⊥
+RisesIfTold (Some old) (Some new) = Rises old new
+
+-- `Ok` leaves the count of failures, and `Err` raises it
+abbrev pub CountsFailure : {A E : Type 0} → Result A E → Option ℕ → Option ℕ → Type 0
+CountsFailure answer old new = MatchResult answer (λ _. new ≡ old) (λ _. RisesIfTold old new)
+
+-- `Io` only where the count of failures rose; whatever else came, it is as it was
+abbrev pub CountsIo : Error → Option ℕ → Option ℕ → Type 0
+CountsIo error old new = MatchFault (kind_of (error_kind_of error)) (RisesIfTold old new) (new ≡ old) (new ≡ old)
+
+-- the same of a call's answer
+abbrev pub AnswersIo : {A : Type 0} → Result A Error → Option ℕ → Option ℕ → Type 0
+AnswersIo answer old new = MatchResult answer (λ _. new ≡ old) (λ error. CountsIo error old new)
+
+-- the same of an iterator's item
+abbrev pub ItemCountsIo : {A : Type 0} → Option (Result A Error) → Option ℕ → Option ℕ → Type 0
+ItemCountsIo item old new = MatchOption item (new ≡ old) (λ answer. AnswersIo answer old new)
