@@ -9,15 +9,15 @@ use Rattle.plist.specs.Building.{OpenCollection, InArray, InDictionary, AfterKey
 use Rattle.plist.specs.Steps.{and_pair, and_tree, begun, in_array, in_dictionary, carried_on, carried_through}
 
 -- what is held where a value is to come
-abbrev held_in : List OpenCollection → Unfinished
+abbrev pub held_in : List OpenCollection → Unfinished
 held_in [] = NotBegun
 held_in (collection ∷ outer) = Within collection outer
 
-abbrev list_of_trees : Trees → List Tree
+abbrev pub list_of_trees : Trees → List Tree
 list_of_trees NoTrees = []
 list_of_trees (TreeAnd tree trees) = tree ∷ list_of_trees trees
 
-abbrev list_of_members : Members → Rows
+abbrev pub list_of_members : Members → Rows
 list_of_members NoMembers = []
 list_of_members (MemberAnd key tree members) = (key, tree) ∷ list_of_members members
 
@@ -29,7 +29,7 @@ members-back : (ms : Members) → members_of (list_of_members ms) ≡ ms
 members-back NoMembers = refl
 members-back (MemberAnd k t ms) = ap (MemberAnd k t) (members-back ms)
 
-then_on : (e : PlainEvent) (es : List PlainEvent) (u w : Unfinished) → carried_on and_pair u e ≡ Some w → carried_through and_pair u (e ∷ es) ≡ carried_through and_pair w es
+pub then_on : (e : PlainEvent) (es : List PlainEvent) (u w : Unfinished) → carried_on and_pair u e ≡ Some w → carried_through and_pair u (e ∷ es) ≡ carried_through and_pair w es
 then_on e es u w p = ap (option_and_then (λ v. carried_through and_pair v es)) p
 
 begins-scalar : (x : Scalar) (outer : List OpenCollection) → begun and_pair outer (event_of_scalar x) ≡ Some (and_tree and_pair (Leaf x) outer)
@@ -56,13 +56,13 @@ on-scalar x (InArray ts ∷ outer) ok = item-scalar x ts outer
 on-scalar x (InDictionary ps ∷ outer) ok = absurd ok.0
 on-scalar x (AfterKey ps k ∷ outer) ok = begins-scalar x (AfterKey ps k ∷ outer)
 
-on-array : (n : Option ℕ) (outer : List OpenCollection) → AllTakeValue outer → carried_on and_pair (held_in outer) (StartArray n) ≡ Some (Within (InArray []) outer)
+pub on-array : (n : Option ℕ) (outer : List OpenCollection) → AllTakeValue outer → carried_on and_pair (held_in outer) (StartArray n) ≡ Some (Within (InArray []) outer)
 on-array n [] ok = refl
 on-array n (InArray ts ∷ outer) ok = refl
 on-array n (InDictionary ps ∷ outer) ok = absurd ok.0
 on-array n (AfterKey ps k ∷ outer) ok = refl
 
-on-dictionary : (n : Option ℕ) (outer : List OpenCollection) → AllTakeValue outer → carried_on and_pair (held_in outer) (StartDictionary n) ≡ Some (Within (InDictionary []) outer)
+pub on-dictionary : (n : Option ℕ) (outer : List OpenCollection) → AllTakeValue outer → carried_on and_pair (held_in outer) (StartDictionary n) ≡ Some (Within (InDictionary []) outer)
 on-dictionary n [] ok = refl
 on-dictionary n (InArray ts ∷ outer) ok = refl
 on-dictionary n (InDictionary ps ∷ outer) ok = absurd ok.0
@@ -70,7 +70,7 @@ on-dictionary n (AfterKey ps k ∷ outer) ok = refl
 
 mutual
   -- a tree's events lead to the tree
-  through-tree : (t : Tree) (outer : List OpenCollection) (es : List PlainEvent) → AllTakeValue outer → carried_through and_pair (held_in outer) (bracketing t ++ es) ≡ carried_through and_pair (and_tree and_pair t outer) es
+  pub through-tree : (t : Tree) (outer : List OpenCollection) (es : List PlainEvent) → AllTakeValue outer → carried_through and_pair (held_in outer) (bracketing t ++ es) ≡ carried_through and_pair (and_tree and_pair t outer) es
   through-tree (Leaf x) outer es ok = then_on (event_of_scalar x) es (held_in outer) (and_tree and_pair (Leaf x) outer) (on-scalar x outer ok)
   through-tree (Array ts) outer es ok =
       then_on _ ((bracketing_of_items ts ++ EndCollection ∷ []) ++ es) (held_in outer) (Within (InArray []) outer) (on-array _ outer ok)
@@ -83,7 +83,7 @@ mutual
       ∙ through-pairs ms [] outer (EndCollection ∷ es) ok
       ∙ ap (λ ns. carried_through and_pair (and_tree and_pair (Dictionary ns) outer) es) (members-back ms)
 
-  through-items : (ts : Trees) (done : List Tree) (outer : List OpenCollection) (es : List PlainEvent) → AllTakeValue outer
+  pub through-items : (ts : Trees) (done : List Tree) (outer : List OpenCollection) (es : List PlainEvent) → AllTakeValue outer
       → carried_through and_pair (Within (InArray done) outer) (bracketing_of_items ts ++ es) ≡ carried_through and_pair (Within (InArray (done ++ list_of_trees ts)) outer) es
   through-items NoTrees done outer es ok = ap (λ l. carried_through and_pair (Within (InArray l) outer) es) (sym (append-nil done))
   through-items (TreeAnd t ts) done outer es ok =
@@ -92,7 +92,7 @@ mutual
       ∙ through-items ts (done ++ t ∷ []) outer es ok
       ∙ ap (λ l. carried_through and_pair (Within (InArray l) outer) es) (append_assoc done (t ∷ []) (list_of_trees ts))
 
-  through-pairs : (ms : Members) (done : Rows) (outer : List OpenCollection) (es : List PlainEvent) → AllTakeValue outer
+  pub through-pairs : (ms : Members) (done : Rows) (outer : List OpenCollection) (es : List PlainEvent) → AllTakeValue outer
       → carried_through and_pair (Within (InDictionary done) outer) (bracketing_of_pairs ms ++ es) ≡ carried_through and_pair (Within (InDictionary (done ++ list_of_members ms)) outer) es
   through-pairs NoMembers done outer es ok = ap (λ l. carried_through and_pair (Within (InDictionary l) outer) es) (sym (append-nil done))
   through-pairs (MemberAnd k t ms) done outer es ok =
@@ -148,13 +148,13 @@ also_through : (f g : Unfinished → Option Unfinished) (o : Option Unfinished) 
 also_through f g None h = refl
 also_through f g (Some u) h = h u
 
-through-unhinted : (es : List PlainEvent) (u : Unfinished) → carried_through and_pair u (map unhinted es) ≡ carried_through and_pair u es
+pub through-unhinted : (es : List PlainEvent) (u : Unfinished) → carried_through and_pair u (map unhinted es) ≡ carried_through and_pair u es
 through-unhinted [] u = refl
 through-unhinted (e ∷ es) u =
     ap (option_and_then (λ v. carried_through and_pair v (map unhinted es))) (carried-unhinted u e)
     ∙ also_through (λ v. carried_through and_pair v (map unhinted es)) (λ v. carried_through and_pair v es) (carried_on and_pair u e) (λ v. through-unhinted es v)
 
-whole : (t : Tree) → carried_through and_pair NotBegun (bracketing t) ≡ Some (Complete t)
+pub whole : (t : Tree) → carried_through and_pair NotBegun (bracketing t) ≡ Some (Complete t)
 whole t = ap (carried_through and_pair NotBegun) (sym (append-nil (bracketing t))) ∙ through-tree t [] [] tt
 
 complete_is : (left right : Tree) → Some (Complete left) ≡ Some (Complete right) → left ≡ right
