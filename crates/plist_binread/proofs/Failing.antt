@@ -3,7 +3,7 @@ use Rattle.std.proofs.Common.{◌≡◌, ℕ, ◌+◌, ◌≤◌, Option, None, 
 use Rattle.std.specs.Prelude.{⊤}
 use Rattle.plist_base.specs.Faults.{FaultKind, Fault, UnexpectedEof, InvalidMagic, InvalidTrailerObjectOffsetSize, InvalidTrailerObjectReferenceSize, ObjectOffsetTooLarge, ObjectReferenceTooLarge, RecursiveObject, NullObjectUnimplemented, FillObjectUnimplemented, UnknownObjectType, IntegerOutOfRange, OverflowOrNanDate, InvalidUtf8String, InvalidUtf16String, Io, OutOfMemory, fault_at, fault_nowhere}
 use Rattle.plist_base.specs.Sources.{IsReadFault, IsPlaceWithin, FailsReading}
-use Rattle.plist_binread.specs.Failures.{MatchReader, HasPlace, FailsWithin}
+use Rattle.plist_binread.specs.Failures.{MatchReader, FailsWithin}
 
 read_fault : (kind : FaultKind) (A B C : Type 0) → IsReadFault kind → A → MatchReader kind A B C
 read_fault Io A B C h a = a
