@@ -13,7 +13,8 @@ use Rattle.plist.specs.Partials.{open_of, held_by}
 use Rattle.plist.specs.Views.{tree_of, tree_step, tree_pairs, pair_trees}
 use Rattle.plist.proofs.Keeping.{Settled, SettledItems, settled-items, settled-dictionary, settled-inserts, last-values-once, once-inserts}
 use Rattle.plist.specs.Steps.{and_pair, carried_on}
-use Rattle.plist.proofs.Carrying.{map-fixed, carried-taken, carried-last, carried-nested, carried-events}
+use Rattle.plist.specs.Carried.{carried-taken, carried-nested, carried-events}
+use Rattle.plist.proofs.Carrying.{map-fixed, carried-last}
 
 abbrev IsItself : Value → Type 0
 IsItself value = last_wins (tree_of value) ≡ tree_of value

@@ -6,6 +6,7 @@ pub mod Tops
 pub mod Itself
 pub mod Starts
 pub mod Collected
-pub mod OneTree
+pub mod MatchFaults
+pub mod Inputs
 pub mod Handed
 pub mod Filed

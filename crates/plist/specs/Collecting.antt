@@ -1,5 +1,6 @@
 -- The value of a list of items.
 use Rattle.std.specs.Prelude.{◌≡◌, ◌⊎◌, false, List, [], ◌∷◌, ◌++◌, Option, Some, None, Result, Ok, Err, map}
+use Rattle.std.specs.Iterator.{Drains, Yields}
 use Rattle.plist_base.specs.declared.error.Error.{Error}
 use Rattle.plist_base.specs.Events.{PlainEvent, Item}
 use Rattle.plist_base.specs.Faults.{FaultKind, Fault, fault_of, fault_nowhere, OutOfMemory, UnexpectedEndOfEventStream}
@@ -10,6 +11,11 @@ use Rattle.plist.specs.Building.{Unfinished, IsNested, Built, events_so_far, ref
 use Rattle.plist.specs.LastWins.{with_pair, last_wins}
 use Rattle.plist.specs.Steps.{carried_on}
 use Rattle.plist.specs.Views.{tree_of}
+
+-- what contracts see of an item whose event is seen by `plain`
+abbrev pub item_by : {E : Type 0} → (plain : E → PlainEvent) → Result E Error → Item
+item_by plain (Ok event) = Ok (plain event)
+item_by plain (Err error) = Err (fault_of error)
 
 -- what contracts see of a value that was asked for
 abbrev pub built_tree : Result Value Error → Result Tree Fault
@@ -29,18 +35,24 @@ EndsInError events items fault = items ≡ map Ok events ++ Err fault ∷ []
 abbrev pub EndsInRefusal : Unfinished → (events : List PlainEvent) → List Item → Fault → Type 0
 EndsInRefusal held events items fault = (event : PlainEvent) × (items ≡ map Ok events ++ Ok event ∷ []) × IsRefusal (refusal_of held event) fault
 
--- the events end, and are no tree's
-abbrev pub EndsTooEarly : (events : List PlainEvent) → List Item → Fault → Type 0
-EndsTooEarly events items fault =
-    (items ≡ map Ok events) × (fault ≡ fault_nowhere UnexpectedEndOfEventStream) × ((tree : Tree) → AreAlike events (bracketing tree) → ⊥)
+-- the events end, no item comes behind them, and they are no tree's
+abbrev pub EndsTooEarly : (ends : Type 0) → (events : List PlainEvent) → List Item → Fault → Type 0
+EndsTooEarly ends events items fault =
+    (items ≡ map Ok events) × ends × (fault ≡ fault_nowhere UnexpectedEndOfEventStream) × ((tree : Tree) → AreAlike events (bracketing tree) → ⊥)
 
 -- What comes of the items that were taken: the tree whose events they are up to lengths, with the
--- last value of each key; or the fault that ends them, behind events that could follow one another.
-abbrev pub IsBuiltFrom : List Item → Result Tree Fault → Type 0
-IsBuiltFrom items (Ok tree) = (events : List PlainEvent) × (whole : Tree) × (items ≡ map Ok events) × AreAlike events (bracketing whole) × (tree ≡ last_wins whole)
-IsBuiltFrom items (Err fault) =
+-- last value of each key, where no item comes behind them; or the fault that ends them, behind events
+-- that could follow one another. `ends` is that no item comes behind them.
+abbrev pub IsBuiltFrom : (ends : Type 0) → List Item → Result Tree Fault → Type 0
+IsBuiltFrom ends items (Ok tree) = (events : List PlainEvent) × (whole : Tree) × (items ≡ map Ok events) × ends × AreAlike events (bracketing whole) × (tree ≡ last_wins whole)
+IsBuiltFrom ends items (Err fault) =
     (events : List PlainEvent) × (held : Unfinished) × IsNested held × AreAlike (events_so_far held) events
-    × (EndsInError events items fault ⊎ (EndsInRefusal held events items fault ⊎ EndsTooEarly events items fault))
+    × (EndsInError events items fault ⊎ (EndsInRefusal held events items fault ⊎ EndsTooEarly ends events items fault))
+
+-- the items that were taken of an iterator, in order, and what came of them
+abbrev pub Collects : {E I : Type 0} → (plain : E → PlainEvent) → (I → Option (Result E Error) → I → Type 0) → I → Result Tree Fault → Type 0
+Collects {E} {I} plain next_gives iter answer =
+    (taken : List (Result E Error)) × ((rest : I) × Yields next_gives iter taken rest) × IsBuiltFrom (Drains next_gives iter taken) (map (item_by plain) taken) answer
 
 -- an item's event is taken
 abbrev pub Takes : Built → Item → Built → Type 0

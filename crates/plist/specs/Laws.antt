@@ -1,16 +1,17 @@
 -- The law of writers, at a builder.
-use Rattle.std.specs.Prelude.{◌≡◌, true, false, Option, Some, None, Ok, Err}
+use Rattle.std.specs.Prelude.{◌≡◌, ◌++◌, ◌∷◌, [], true, false, Option, Some, None, Ok, Err}
+use Rattle.std.proofs.Common.{inr}
 use Rattle.std.proofs.Common.{refl, sym, ◌∙◌, subst, true≢false}
 use Rattle.plist_base.specs.declared.error.EventKind.TheVariants as event_kind
 use Rattle.plist_base.specs.Events.{PlainEvent, StartArray, StartDictionary, EndCollection, Boolean, Data, Date, Integer, Real, String, Uid, kind_of_event}
 use Rattle.plist_base.specs.Faults as faults
 use Rattle.plist_base.specs.Faults.{FaultKind, Fault, fault_nowhere, WriterFailed}
-use Rattle.plist_base.specs.Bracketing.{CanContinue}
-use Rattle.plist_base.specs.Writing.{Answer, MatchKind, MatchAnswer}
+use Rattle.plist_base.specs.Bracketing.{CanContinue, ContinueAlike}
+use Rattle.plist_base.specs.Writing.{Answer, MatchKind, AnswersByPlace}
 use Rattle.plist.specs.declared.stream.builder.Builder.{Builder}
-use Rattle.plist.specs.Building.{Unfinished, NotBegun, Within, InArray, InDictionary, AfterKey, Complete, Built, IsNested, events_so_far, refusal_of_value, refusal_of_key, refusal_of, IsRefused}
+use Rattle.plist.specs.Building.{Unfinished, NotBegun, Within, InArray, InDictionary, AfterKey, Complete, Built, IsNested, events_so_far, last_wins_so_far, refusal_of_value, refusal_of_key, refusal_of, IsRefused}
 use Rattle.plist.specs.Builders.{built_of, IsBuildingStep}
-use Rattle.plist.specs.Wanting.{refused-ends, taken-continues}
+use Rattle.plist.specs.Following.{refused-ends, taken-continues, accepted-continues, last-continues}
 
 -- a refusal for the event's place
 abbrev IsOfPlace : FaultKind → Type 0
@@ -68,19 +69,28 @@ module _ (before after : Built) (event : PlainEvent) (unchanged : Type 0) (ok : 
   in_place : (kind : FaultKind) → refusal_of before.unfinished event ≡ Some kind → unchanged → Refused
   in_place kind r s = (refused-ends before.unfinished event ok (not_none (refusal_of before.unfinished event) kind r), s)
 
+  wanting : refusal_of before.unfinished event ≡ None → after.failed ≡ true → CanContinue (events_so_far before.unfinished) event × (after.failed ≡ true)
+  wanting r failed = (accepted-continues before.unfinished event ok r, failed)
+
   never : (kind : FaultKind) → refusal_of before.unfinished event ≡ Some kind → IsOfPlace kind
   never kind r = refusal-place before.unfinished event kind r
 
-  refusal_law : (kind : FaultKind) → IsRefused before event kind after unchanged → MatchKind kind Refused (after.failed ≡ true) ⊥
+  refusal_law : (kind : FaultKind) → IsRefused before event kind after unchanged → MatchKind kind Refused (CanContinue (events_so_far before.unfinished) event × (after.failed ≡ true)) ⊥
   refusal_law (faults.UnexpectedEventType expected found) r = in_place _ r.1 r.2
   refusal_law (faults.ExpectedEndOfEventStream found) r = in_place _ r.1 r.2
-  refusal_law faults.OutOfMemory r = r.2
+  refusal_law faults.OutOfMemory r = wanting r.1 r.2
   refusal_law faults.WriterFailed r = absurd (true≢false (sym r.0 ∙ f))
   refusal_law kind r = absurd (never kind r.1)
 
 pub building_law : (before : Builder) (event : PlainEvent) (answer : Answer) (after : Builder) → IsBuildingStep before event answer after → before.failed ≡ false
-    → MatchAnswer answer (CanContinue (events_so_far (built_of before).unfinished) event × (after.failed ≡ false)) ((CanContinue (events_so_far (built_of before).unfinished) event → ⊥) × (after ≡ before)) (after.failed ≡ true) ⊥
-building_law before event (Ok done) after s f = let c = s.1.3 in (taken-continues (built_of before).unfinished c.0 event c.1 c.2, s.1.2)
+    → AnswersByPlace (events_so_far (built_of before).unfinished) event answer (events_so_far (built_of after).unfinished) after.failed (after ≡ before)
+building_law before event (Ok done) after s f =
+    let (taken, nested, alike, last) = s.1.3 in
+    let held = events_so_far (built_of before).unfinished in (
+      taken-continues (built_of before).unfinished taken event nested alike,
+      s.1.2,
+      inr (subst (λ u. ContinueAlike (events_so_far u) (held ++ event ∷ [])) (sym last) (last-continues taken (held ++ event ∷ []) nested alike)),
+    )
 building_law before event (Err fault) after s f = (s.1.0, refusal_law (built_of before) (built_of after) event (after ≡ before) s.0 f fault.kind s.1.1)
 
 -- a failed builder's refusal

@@ -5,11 +5,14 @@ pub mod LastWins
 pub mod Views
 pub mod Building
 pub mod Steps
-pub mod Wanting
+pub mod Carried
+pub mod OneTree
+pub mod Following
 pub mod Partials
 pub mod Builders
 pub mod Laws
 pub mod Remaining
 pub mod Collecting
+pub mod Inputs
 pub mod Handing
 pub mod Sent

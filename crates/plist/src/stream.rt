@@ -3,5 +3,5 @@
 pub mod builder;
 pub mod events;
 
-pub use builder::Builder;
+pub use builder::{AnyEvent, Builder};
 pub use events::Events;

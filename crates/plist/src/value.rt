@@ -1,21 +1,22 @@
 //! Values of property lists.
 
-ghost use Rattle.std.specs.Prelude.{◌≡◌, List, Result, map, MatchResult};
-ghost use Rattle.std.specs.Iterator.{Drains, IsFinite, Yields};
+ghost use Rattle.std.specs.Prelude.{◌≡◌};
+ghost use Rattle.std.specs.Iterator.{IsFinite};
 ghost use Rattle.plist_base.specs.Bracketing.{AreAlike, bracketing};
-ghost use Rattle.plist_base.specs.Events.{item_of};
 ghost use Rattle.plist_base.specs.Writing.{answer_of};
 ghost use Rattle.plist.specs.Sent.{SendsTree};
-ghost use Rattle.plist.specs.Collecting.{IsBuiltFrom, built_tree};
+ghost use Rattle.plist.specs.Collecting.{Collects, built_tree};
+ghost use Rattle.plist.specs.Inputs.{AnswersAsSeen};
 ghost use Rattle.plist_base.specs.Trees.{Tree};
 ghost use Rattle.plist.specs.LastWins.{last_wins};
 ghost use Rattle.plist.specs.Remaining.{remaining_events};
 ghost use Rattle.plist.specs.Views.{kind_of_tree, tree_of};
 
 use crate::Dictionary;
-use crate::stream::{Builder, Events};
+use crate::collect::collect;
+use crate::stream::{AnyEvent, Events};
 use crate::writing::file_of;
-use plist_base::{Date, Error, Event, EventKind, Integer, RealBits, Uid};
+use plist_base::{Date, Error, EventKind, Integer, RealBits, Uid};
 use plist_binwrite::send_whole;
 use std::alloc::Global;
 use std::io::Write;
@@ -64,23 +65,18 @@ impl Value {
     ///   for one behind a whole value.
     /// - `UnexpectedEndOfEventStream` if the events end before the value does.
     /// - `OutOfMemory`.
-    pub fn from_events<'a, I: IntoIterator<Item = Result<Event<'a>, Error>>>(
+    pub fn from_events<E: AnyEvent, I: IntoIterator<Item = Result<E, Error>>>(
         alloc: Global,
         events: I,
     ) -> Result<Value, Error>
         requires asked { (iter : I.IntoIter) → I.into_iter_gives events iter → I.IntoIter.can_next iter × IsFinite (I.IntoIter.remaining iter) }
         ensures one_tree { (left right : Tree) → AreAlike (bracketing left) (bracketing right) → left ≡ right }
-        ensures value { (iter : I.IntoIter) × (items : List (Result Event Error)) × I.into_iter_gives events iter × IsBuiltFrom (map item_of items) (built_tree result) × MatchResult result (λ _. Drains I.IntoIter.next_gives iter items) (λ _. (rest : I.IntoIter) × Yields I.IntoIter.next_gives iter items rest) }
+        ensures value { (iter : I.IntoIter) × I.into_iter_gives events iter
+            × Collects E.plain I.IntoIter.next_gives iter (built_tree result) }
+        ensures shown { (iter : I.IntoIter) × I.into_iter_gives events iter
+            × AnswersAsSeen E.plain I.IntoIter.next_gives iter (built_tree result) }
     {
-        let mut builder = Builder::new(alloc);
-        let mut rest = events.into_iter();
-        while let Some(item) = rest.next() {
-            match builder.take_item(item) {
-                Ok(()) => {}
-                Err(error) => return Err(error),
-            }
-        }
-        builder.finish()
+        collect(alloc, events.into_iter())
     }
 
     /// Writes the value as a binary property list, behind what was written before, and flushes.

@@ -3,7 +3,7 @@ use Rattle.std.proofs.Common.{◌≡◌, ◌⊎◌, inl, inr, ℕ, true, List, [
 use Rattle.plist_base.specs.Events.{PlainEvent, StartArray, StartDictionary, EndCollection, Boolean, Data, Date, Integer, Real, String, Uid}
 use Rattle.plist_base.specs.Trees as trees
 use Rattle.plist_base.specs.Trees.{Scalar, Tree, Leaf, Array, Dictionary, Trees, NoTrees, TreeAnd, Members, NoMembers, MemberAnd}
-use Rattle.plist_base.specs.Bracketing.{event_of_scalar, bracketing, bracketing_of_items, bracketing_of_pairs, unhinted, AreAlike, CanContinue}
+use Rattle.plist_base.specs.Bracketing.{event_of_scalar, bracketing, bracketing_of_items, bracketing_of_pairs, unhinted, AreAlike, AreWhole, AreComplete, CanContinue, ContinueAlike}
 use Rattle.plist_base.specs.Wants.{Want, OneValue, Items, Pairs, change_of, changed, step, steps, wanted_after}
 
 abbrev pub Stack : Type 0
@@ -369,3 +369,33 @@ steps-then es e h (Some t) = h t
 pub steps_snoc : (es : List PlainEvent) (s : Stack) (e : PlainEvent) → steps s (es ++ e ∷ []) ≡ option_and_then (λ t. step t e) (steps s es)
 steps_snoc [] s e = only (step s e)
 steps_snoc (d ∷ es) s e = steps-then es e (λ t. steps_snoc es t e) (step s d)
+
+-- behind a tree's events none can come
+none_behind : (events : List PlainEvent) → AreWhole events → (e : PlainEvent) → CanContinue events e → ⊥
+none_behind events (t, alike) e c =
+    let g = continues events e c in
+    none_is (wanted_after (events ++ e ∷ [])) g.0 (steps_snoc events (OneValue ∷ []) e ∙ ap (option_and_then (λ s. step s e)) (all_taken events t alike)) g.1
+
+pub complete_of_whole : (events : List PlainEvent) → AreWhole events → AreComplete events
+complete_of_whole events whole = (whole, none_behind events whole)
+
+-- ---- lengths decide nothing
+
+-- the same events behind events that are alike
+pub alike_with : (left right more : List PlainEvent) → AreAlike left right → AreAlike (left ++ more) (right ++ more)
+alike_with left right more p = map-append unhinted left more ∙ ap (λ l. l ++ map unhinted more) p ∙ sym (map-append unhinted right more)
+
+pub whole_alike : (left right : List PlainEvent) → AreAlike left right → AreWhole left → AreWhole right
+whole_alike left right p (t, alike) = (t, sym p ∙ alike)
+
+continue_with : (left right : List PlainEvent) → AreAlike left right → (e : PlainEvent) → CanContinue left e → CanContinue right e
+continue_with left right p e (more, t, alike) = (more, t, sym (alike_with left right (e ∷ more) p) ∙ alike)
+
+pub continue_alike : (left right : List PlainEvent) → AreAlike left right → ContinueAlike left right
+continue_alike left right p e = (continue_with left right p e, continue_with right left (sym p) e)
+
+pub alike_unhinted : (events : List PlainEvent) → AreAlike (map unhinted events) events
+alike_unhinted events = all-unhinted-twice events
+
+pub alike_last : (events : List PlainEvent) (e : PlainEvent) → AreAlike (events ++ unhinted e ∷ []) (events ++ e ∷ [])
+alike_last events e = map-append unhinted events (unhinted e ∷ []) ∙ ap (λ l. map unhinted events ++ l) (all-unhinted-twice (e ∷ [])) ∙ sym (map-append unhinted events (e ∷ []))

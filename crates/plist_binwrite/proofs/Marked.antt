@@ -1,15 +1,15 @@
 -- Events and their marks.
-use Rattle.std.proofs.Common.{◌≡◌, List, [], ◌∷◌, ◌++◌, Some, map, refl, sym, ap, ◌∙◌}
+use Rattle.std.proofs.Common.{◌≡◌, List, [], ◌∷◌, ◌++◌, map, refl, sym, ap, ◌∙◌}
 use Rattle.std.proofs.lemmas.List.{map-append}
 use Rattle.plist_base.specs.declared.event.Event.{Event}
-use Rattle.plist_base.specs.Bracketing.{event_of_scalar, bracketing, bracketing_of_items, bracketing_of_pairs, unhinted, AreAlike}
+use Rattle.plist_base.specs.Bracketing.{event_of_scalar, bracketing, bracketing_of_items, bracketing_of_pairs, unhinted, AreAlike, AreWhole}
 use Rattle.plist_base.specs.Events as events
 use Rattle.plist_base.specs.Events.{PlainEvent, event_of}
 use Rattle.plist_base.specs.Trees as trees
-use Rattle.plist_base.specs.Wants.{wanted_after}
-use Rattle.plist_base.proofs.Grammar.{bracketed}
+use Rattle.plist_base.proofs.Grammar.{alike_unhinted}
 use Rattle.plist_binwrite.specs.Marks.{Scalar, start_array, start_dictionary, stop, leaf, mark_of, Tree, Leaf, Array, Dictionary, Trees, NoTrees, TreeAnd, Members, NoMembers, MemberAnd, br, br_items, br_pairs}
 use Rattle.plist_binwrite.specs.Held.{ev, evs, IsBracketed}
+use Rattle.plist_binwrite.specs.Pendings.{plain_events}
 
 mark_unhinted : (e : PlainEvent) → mark_of (unhinted e) ≡ mark_of e
 mark_unhinted (events.StartArray n) = refl
@@ -27,7 +27,7 @@ marks_unhinted : (es : List PlainEvent) → map mark_of (map unhinted es) ≡ ma
 marks_unhinted [] = refl
 marks_unhinted (e ∷ es) = λ i. mark_unhinted e i ∷ marks_unhinted es i
 
-scalar_mark : (x : Scalar) → mark_of (event_of_scalar x) ≡ leaf x
+pub scalar_mark : (x : Scalar) → mark_of (event_of_scalar x) ≡ leaf x
 scalar_mark (trees.Boolean v) = refl
 scalar_mark (trees.Data v) = refl
 scalar_mark (trees.Date v) = refl
@@ -58,8 +58,8 @@ pub evs_are : (es : List Event) → evs es ≡ map mark_of (map event_of es)
 evs_are [] = refl
 evs_are (e ∷ es) = ap (λ l. ev e ∷ l) (evs_are es)
 
-pub evs_alike : (es : List Event) (t : Tree) → AreAlike (map event_of es) (bracketing t) → evs es ≡ br t
-evs_alike es t h = evs_are es ∙ marks_alike (map event_of es) t h
+pub evs_alike : (es : List Event) (t : Tree) → AreAlike (plain_events es) (bracketing t) → evs es ≡ br t
+evs_alike es t h = evs_are es ∙ marks_alike (map event_of es) t (sym (alike_unhinted (map event_of es)) ∙ h)
 
-pub whole_bracketed : (es : List Event) → wanted_after (map event_of es) ≡ Some [] → IsBracketed (evs es)
-whole_bracketed es h = let b = bracketed (map event_of es) h in (b.0, evs_alike es b.0 b.1)
+pub whole_bracketed : (es : List Event) → AreWhole (plain_events es) → IsBracketed (evs es)
+whole_bracketed es whole = (whole.0, evs_alike es whole.0 whole.1)

@@ -46,6 +46,11 @@ Puts (top ∷ rest) (Pushed want) new = new ≡ want ∷ top ∷ rest
 Puts [] (Became want) new = new ≡ want ∷ []
 Puts (top ∷ rest) (Became want) new = new ≡ want ∷ rest
 
+-- nothing more is wanted
+abbrev pub is_nothing : List Want → Bool
+is_nothing [] = true
+is_nothing (want ∷ wants) = false
+
 -- ---- whether a stack is another
 
 abbrev pub want_eq : Want → Want → Bool

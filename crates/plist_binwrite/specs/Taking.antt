@@ -1,16 +1,15 @@
 -- What a call of the writer does: what it holds then, whether it has failed, and what went out.
-use Rattle.std.specs.Prelude.{◌≡◌, ℕ, Bool, true, false, List, [], ◌∷◌, ◌++◌, Option, None, Some, Ok, Err, MatchBool}
-use Rattle.std.specs.Io.KnownBytes.{Appends, Keeps}
+use Rattle.std.specs.Prelude.{◌≡◌, ◌⊎◌, ℕ, Bool, true, false, List, [], ◌∷◌, ◌++◌, Option, None, Ok, Err, MatchBool}
 use Rattle.std.specs.declared.io.traits.Write.{Ghosts}
+use Rattle.plist_base.specs.Bracketing.{unhinted, AreWhole, CanContinue}
 use Rattle.plist_base.specs.Events.{PlainEvent}
 use Rattle.plist_base.specs.Faults.{WriterFailed, fault_nowhere}
-use Rattle.plist_base.specs.Wants.{Want, wanted_after}
 use Rattle.plist_base.specs.Writing.{Answer, MatchKind}
 use Rattle.plist_binwrite.specs.declared.writer.BinaryWriter.{BinaryWriter}
-use Rattle.plist_binwrite.specs.Sending.{IsFileOfEvents, FailsWith}
+use Rattle.plist_binwrite.specs.Sending.{SendsFile, FailsWith}
 use Rattle.plist_binwrite.specs.Pendings.{events_held, refusal_of}
 
--- the events taken of the open property list
+-- the events taken of the open property list, without the lengths of starts
 abbrev pub held_by : {W : Type 0} {g : Ghosts W} → BinaryWriter W g → List PlainEvent
 held_by writer = events_held writer.pending
 
@@ -22,20 +21,25 @@ failed_of writer = writer.has_failed
 abbrev pub inner_of : {W : Type 0} {g : Ghosts W} → BinaryWriter W g → W
 inner_of writer = writer.writer
 
--- what is still wanted then: nothing, and a whole file went out and nothing is held; or something, and the event is held
-abbrev pub Accepts : (wanted : List Want) (events held_after : List PlainEvent) (old new : Option (List ℕ)) → Type 0
-Accepts [] events held_after old new = (held_after ≡ []) × ((file : List ℕ) × IsFileOfEvents events file × Appends old new file)
-Accepts (want ∷ wanted) events held_after old new = (held_after ≡ events) × Keeps old new
-
 module _ {W : Type 0} {g : Ghosts W} (contents : W → Option (List ℕ)) where
+  -- the events held and this one are a tree's: a file of it went out, and nothing is held
+  abbrev pub Completes : (before : BinaryWriter W g) → PlainEvent → (after : BinaryWriter W g) → Type 0
+  Completes before event after = SendsFile contents (held_by before ++ event ∷ []) (inner_of before) (inner_of after) × (held_by after ≡ [])
+
+  -- they are no tree's yet: the event is held, and nothing went out
+  abbrev pub Holds : (before : BinaryWriter W g) → PlainEvent → (after : BinaryWriter W g) → Type 0
+  Holds before event after =
+      (AreWhole (held_by before ++ event ∷ []) → ⊥)
+      × (held_by after ≡ held_by before ++ unhinted event ∷ []) × (inner_of after ≡ inner_of before)
+
   -- a call before the writer has failed
   abbrev pub TakesEvent : (before : BinaryWriter W g) → PlainEvent → Answer → (after : BinaryWriter W g) → Type 0
   TakesEvent before event (Ok done) after =
-      (failed_of after ≡ false) × ((wanted : List Want) × (wanted_after (held_by before ++ event ∷ []) ≡ Some wanted)
-      × Accepts wanted (held_by before ++ event ∷ []) (held_by after) (contents (inner_of before)) (contents (inner_of after)))
+      CanContinue (held_by before) event × (failed_of after ≡ false)
+      × (Completes before event after ⊎ Holds before event after)
   TakesEvent before event (Err fault) after = (fault.offset ≡ None) × MatchKind fault.kind
-      ((wanted_after (held_by before ++ event ∷ []) ≡ None) × (fault ≡ refusal_of (held_by before) event) × (after ≡ before))
-      ((failed_of after ≡ true) × FailsWith fault.kind (held_by before ++ event ∷ []) (contents (inner_of before)) (contents (inner_of after)))
+      ((CanContinue (held_by before) event → ⊥) × (fault ≡ refusal_of (held_by before) event) × (after ≡ before))
+      (CanContinue (held_by before) event × (failed_of after ≡ true) × FailsWith contents fault.kind (held_by before ++ event ∷ []) (inner_of before) (inner_of after))
       ⊥
 
   -- a call

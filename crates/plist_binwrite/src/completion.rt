@@ -1,9 +1,8 @@
 //! The end of a property list: its file is planned and sent.
 
-ghost use Rattle.std.specs.Prelude.{◌≡◌, [], map, Some};
-ghost use Rattle.plist_base.specs.Events.{event_of};
-ghost use Rattle.plist_base.specs.Wants.{wanted_after};
+ghost use Rattle.plist_base.specs.Bracketing.{AreWhole};
 ghost use Rattle.plist_base.specs.Writing.{answer_of};
+ghost use Rattle.plist_binwrite.specs.Pendings.{plain_events};
 ghost use Rattle.plist_binwrite.specs.Sending.{Sends};
 
 use crate::plan::plan_file;
@@ -18,8 +17,8 @@ use std::io::Write;
 /// `PlistTooLarge` where the file would have 2^64 bytes or more, and `OutOfMemory`, before a byte was
 /// sent; `Io` after a beginning of the file was.
 pub fn complete<W: Write>(alloc: Global, events: &[OwnedEvent], writer: &mut W) -> Result<(), Error>
-    requires whole { wanted_after (map event_of events.now) ≡ Some [] }
-    ensures { Sends (map event_of events.now) (answer_of result) (W.contents writer.old) (W.contents writer.new) }
+    requires whole { AreWhole (plain_events events.now) }
+    ensures { Sends W.contents (plain_events events.now) (answer_of result) writer.old writer.new }
 {
     let file = plan_file(alloc, events)?;
     match send_whole(writer, file.as_slice()) {

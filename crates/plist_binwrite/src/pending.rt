@@ -21,11 +21,11 @@ pub struct Pending {
 }
 
 impl Pending {
-    ghost use Rattle.std.specs.Prelude.{◌≡◌, ◌++◌, ◌∷◌, [], false, map, None, OnOk, IfErr, IfSome};
+    ghost use Rattle.std.specs.Prelude.{◌≡◌, [], false, None, OnOk, IfErr, IfSome};
+    ghost use Rattle.plist_base.specs.Bracketing.{CanContinue};
     ghost use Rattle.plist_base.specs.Events.{event_of};
     ghost use Rattle.plist_base.specs.Faults.{OutOfMemory, fault_of, fault_nowhere};
-    ghost use Rattle.plist_base.specs.Wants.{wanted_after};
-    ghost use Rattle.plist_binwrite.specs.Pendings.{events_held, is_whole, Takes, IsRefused, refusal_of};
+    ghost use Rattle.plist_binwrite.specs.Pendings.{events_held, is_whole, plain_events, Takes, IsRefused, refusal_of};
 
     /// No events. It takes no memory.
     pub fn new(alloc: Global) -> Pending
@@ -56,7 +56,7 @@ impl Pending {
     pub fn refusal(&self, event: &Event<'_>) -> Option<Error>
         requires still { is_whole self.now ≡ false }
         ensures refused { IfSome result (λ error. IsRefused (events_held self.now) (event_of event.now) (fault_of error)) }
-        ensures accepted { result ≡ None → (wanted_after (events_held self.now ++ event_of event.now ∷ []) ≡ None → ⊥) }
+        ensures accepted { result ≡ None → CanContinue (events_held self.now) (event_of event.now) }
     {
         match change_on(self.wants.as_slice(), event) {
             Change::Refused => Some(self.fault_of_event(event)),
@@ -70,7 +70,7 @@ impl Pending {
     /// `OutOfMemory`, without an offset.
     pub fn take(&mut self, alloc: Global, event: Event<'_>) -> Result<(), Error>
         requires still { is_whole self.old ≡ false }
-        requires accepted { wanted_after (events_held self.old ++ event_of event ∷ []) ≡ None → ⊥ }
+        requires accepted { CanContinue (events_held self.old) (event_of event) }
         ensures taken { OnOk result (Takes self.old (event_of event.entry) self.new) }
         ensures memory { IfErr result (λ error. fault_of error ≡ fault_nowhere OutOfMemory) }
     {
@@ -92,7 +92,7 @@ impl Pending {
 
     /// The events.
     pub fn events(&self) -> &[OwnedEvent]
-        ensures { map event_of result.now ≡ events_held self.now }
+        ensures { plain_events result.now ≡ events_held self.now }
     {
         self.events.as_slice()
     }

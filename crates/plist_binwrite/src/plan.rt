@@ -6,17 +6,17 @@ ghost use Rattle.plist_base.specs.Trees.{Tree};
 ghost use Rattle.plist_binread.specs.Visits.{VisitsOnce};
 ghost use Rattle.plist_binwrite.specs.Marks.{br};
 ghost use Rattle.plist_binwrite.specs.Counts.{HasObjects, object_count};
-ghost use Rattle.plist_binwrite.specs.Sizes.{file_size, IsUnplanned};
+ghost use Rattle.plist_binwrite.specs.Sizes.{file_size, IsUnlaid, IsUnplanned};
 ghost use Rattle.plist_binwrite.specs.Written.{IsWrittenAs};
-ghost use Rattle.plist_binwrite.specs.Held.{evs, IsBracketed};
+ghost use Rattle.plist_binwrite.specs.Held.{evs, num_of, AllNumbered, IsBracketed, IsPlan, IsSkips};
 ghost use Rattle.plist_binwrite.specs.Laying.{closed};
 
 use crate::forms::{least_width, push_numbers, push_trailer};
 use crate::layout::{Layout, lay_out};
-use crate::numbering::number_events;
-use crate::size::size_of_file;
+use crate::numbering::{Numbering, number_events};
+use crate::size::check_size;
 use crate::skips::skips_of;
-use plist_base::{Error, ErrorKind, OwnedEvent};
+use plist_base::{Error, OwnedEvent};
 use std::alloc::Global;
 
 // The table and the trailer behind the objects.
@@ -40,6 +40,38 @@ fn close(layout: Layout) -> Result<Vec<u8>, Error>
     Ok(file)
 }
 
+// The file of the tree whose events these are, with their numbers.
+fn lay_out_file(
+    alloc: Global,
+    events: &[OwnedEvent],
+    skips: &[usize],
+    numbering: &Numbering,
+) -> Result<Vec<u8>, Error>
+    requires skips { IsSkips (evs events.now) skips.now 0 }
+    requires whole { IsBracketed (evs events.now) }
+    requires plan { IsPlan (evs events.now) numbering.now.numbers.items numbering.now.firsts.items }
+    requires all { AllNumbered (evs events.now) numbering.now.numbers.items (length numbering.now.firsts.items) }
+    requires root { num_of numbering.now.numbers.items 0 ≡ 0 }
+    ensures written { IfOk result (λ file. (t : Tree) → evs events.now ≡ br t → IsWrittenAs t file.items) }
+    ensures once { IfOk result (λ file. (t : Tree) → evs events.now ≡ br t → VisitsOnce file.items) }
+    ensures count { IfOk result (λ file. (t : Tree) → evs events.now ≡ br t → HasObjects file.items (object_count t)) }
+    ensures size { IfOk result (λ file. (t : Tree) → evs events.now ≡ br t → length file.items ≡ file_size t) }
+    ensures fits { IfOk result (λ file. length file.items < 2 ^ 64) }
+    ensures refused { IfErr result (λ error. IsUnlaid (evs events.now) (fault_of error)) }
+{
+    match check_size(events, skips, numbering) {
+        Ok(()) => {}
+        Err(error) => return Err(error),
+    }
+    let count = numbering.firsts.len();
+    let width = least_width((count as u64).saturating_sub(1));
+    let numbers = numbering.numbers.as_slice();
+    match lay_out(alloc, events, skips, numbers, width, count) {
+        Ok(layout) => close(layout),
+        Err(error) => Err(error),
+    }
+}
+
 /// The file of the tree whose events these are.
 ///
 /// # Errors
@@ -56,19 +88,5 @@ pub fn plan_file(alloc: Global, events: &[OwnedEvent]) -> Result<Vec<u8>, Error>
 {
     let skips = skips_of(alloc, events)?;
     let numbering = number_events(alloc, events, skips.as_slice())?;
-    match size_of_file(events, skips.as_slice(), &numbering) {
-        Some(_) => {}
-        None => return Err(ErrorKind::PlistTooLarge.without_position()),
-    }
-    let count = numbering.firsts.len();
-    let width = least_width((count as u64).saturating_sub(1));
-    let layout = lay_out(
-        alloc,
-        events,
-        skips.as_slice(),
-        numbering.numbers.as_slice(),
-        width,
-        count,
-    )?;
-    close(layout)
+    lay_out_file(alloc, events, skips.as_slice(), &numbering)
 }

@@ -1,16 +1,17 @@
 //! How many bytes a file will have, before any of it is laid out. A size of 2^64 or more is `None`.
 
-ghost use Rattle.std.specs.Prelude.{◌≡◌, ◌+◌, ◌<◌, length};
+ghost use Rattle.std.specs.Prelude.{◌≡◌, ◌+◌, ◌<◌, length, IfOk, IfErr};
+ghost use Rattle.plist_base.specs.Faults.{PlistTooLarge, fault_of, fault_nowhere};
 ghost use Rattle.plist_base.specs.Trees.{number_of_trees};
 ghost use Rattle.plist_binwrite.specs.Marks.{Tree, Trees, br, Sits, SitsItems};
 ghost use Rattle.plist_binwrite.specs.Held.{evs, IsBracketed, IsSkips, IsPlan, AllNumbered};
-ghost use Rattle.plist_binwrite.specs.Sizes.{TellsSize, object_size, collections_size, scalars_size, table_place, file_size};
+ghost use Rattle.plist_binwrite.specs.Sizes.{TellsSize, object_size, collections_size, scalars_size, table_place, file_size, Fits, IsOversized};
 
 use crate::forms::least_width;
 use crate::kinds::{Kind, has_item, kind_at};
 use crate::lengths::{add, length_of_collection, length_of_scalar};
 use crate::numbering::Numbering;
-use plist_base::OwnedEvent;
+use plist_base::{Error, ErrorKind, OwnedEvent};
 
 // The number of items of an array from here on; a key is an item, and so is its value.
 fn count_items(events: &[OwnedEvent], skips: &[usize], from: usize) -> usize
@@ -79,8 +80,8 @@ fn place_of_table(events: &[OwnedEvent], skips: &[usize], numbering: &Numbering)
     add(Some(8), size_of_objects(events, skips, numbering, width))
 }
 
-/// The size of the file of the tree whose events these are.
-pub fn size_of_file(events: &[OwnedEvent], skips: &[usize], numbering: &Numbering) -> Option<u64>
+// The size of the file of the tree whose events these are.
+fn size_of_file(events: &[OwnedEvent], skips: &[usize], numbering: &Numbering) -> Option<u64>
     requires skips { IsSkips (evs events.now) skips.now 0 }
     requires whole { IsBracketed (evs events.now) }
     requires plan { IsPlan (evs events.now) numbering.now.numbers.items numbering.now.firsts.items }
@@ -94,5 +95,28 @@ pub fn size_of_file(events: &[OwnedEvent], skips: &[usize], numbering: &Numberin
             add(add(Some(table), offsets), Some(32))
         }
         None => None,
+    }
+}
+
+/// Tests the size of the file of the tree whose events these are. It takes no memory.
+///
+/// # Errors
+/// `PlistTooLarge`, without an offset, exactly where the file would have 2^64 bytes or more.
+pub fn check_size(
+    events: &[OwnedEvent],
+    skips: &[usize],
+    numbering: &Numbering,
+) -> Result<(), Error>
+    requires skips { IsSkips (evs events.now) skips.now 0 }
+    requires whole { IsBracketed (evs events.now) }
+    requires plan { IsPlan (evs events.now) numbering.now.numbers.items numbering.now.firsts.items }
+    requires all { AllNumbered (evs events.now) numbering.now.numbers.items (length numbering.now.firsts.items) }
+    ensures fits { IfOk result (λ done. Fits (evs events.now)) }
+    ensures kind { IfErr result (λ error. fault_of error ≡ fault_nowhere PlistTooLarge) }
+    ensures oversized { IfErr result (λ error. IsOversized (evs events.now)) }
+{
+    match size_of_file(events, skips, numbering) {
+        Some(_) => Ok(()),
+        None => Err(ErrorKind::PlistTooLarge.without_position()),
     }
 }

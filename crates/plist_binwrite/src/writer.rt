@@ -33,10 +33,10 @@ pub struct BinaryWriter<W: Write> {
 }
 
 impl<W: Write> BinaryWriter<W> {
-    ghost use Rattle.std.specs.Prelude.{◌≡◌, ◌++◌, ◌∷◌, [], false, None, IfSome};
+    ghost use Rattle.std.specs.Prelude.{◌≡◌, [], false, None, IfSome};
+    ghost use Rattle.plist_base.specs.Bracketing.{CanContinue};
     ghost use Rattle.plist_base.specs.Events.{event_of};
     ghost use Rattle.plist_base.specs.Faults.{fault_of};
-    ghost use Rattle.plist_base.specs.Wants.{wanted_after};
     ghost use Rattle.plist_binwrite.specs.Pendings.{IsRefused};
     ghost use Rattle.plist_base.specs.Writing.{answer_of};
     ghost use Rattle.plist_binwrite.specs.Taking.{Takes, held_by, failed_of, inner_of};
@@ -67,7 +67,7 @@ impl<W: Write> BinaryWriter<W> {
     fn refusal(&self, event: &Event<'_>) -> Option<Error>
         requires working { failed_of self.now ≡ false }
         ensures refused { IfSome result (λ error. IsRefused (held_by self.now) (event_of event.now) (fault_of error)) }
-        ensures accepted { result ≡ None → (wanted_after (held_by self.now ++ event_of event.now ∷ []) ≡ None → ⊥) }
+        ensures accepted { result ≡ None → CanContinue (held_by self.now) (event_of event.now) }
     {
         self.pending.refusal(event)
     }

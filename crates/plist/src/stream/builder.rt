@@ -1,8 +1,8 @@
 //! A value from its events.
 
-ghost use Rattle.std.specs.Prelude.{◌≡◌, IfErr, IfOk, None, OnErr, OnOk, Some, false, true};
+ghost use Rattle.std.specs.Prelude.{◌≡◌, IfErr, IfOk, None, Ok, OnErr, OnOk, Some, false, true};
 ghost use Rattle.plist_base.specs.Bracketing.{AreAlike, bracketing};
-ghost use Rattle.plist_base.specs.Events.{event_of, item_of};
+ghost use Rattle.plist_base.specs.Events.{event_of};
 ghost use Rattle.plist_base.specs.Faults.{fault_of};
 ghost use Rattle.plist_base.specs.Writing.{answer_of};
 ghost use Rattle.plist.specs.Building.{IsNested, IsNested-prop, IsUnfinished, complete_tree, events_so_far, nothing_built, refusal_of};
@@ -34,8 +34,7 @@ pub struct Builder {
 
 impl Builder {
     ghost use Rattle.plist.specs.Builders.{IsBuildingStep, built_of};
-    ghost use Rattle.plist.specs.Collecting.{IsRefusal, Refuses, Takes};
-    ghost use Rattle.plist.specs.Handing.{HandsItem};
+    ghost use Rattle.plist.specs.Collecting.{IsRefusal, Refuses, Takes, item_by};
 
     /// A builder that holds no events.
     pub fn new(alloc: Global) -> Builder
@@ -72,14 +71,13 @@ impl Builder {
     }
 
     // Takes the event of an item, or passes its fault on.
-    pub(crate) fn take_item(&mut self, item: Result<Event<'_>, Error>) -> Result<(), Error>
+    pub(crate) fn take_item<E: AnyEvent>(&mut self, item: Result<E, Error>) -> Result<(), Error>
         requires { (built_of self.old).failed ≡ false }
-        ensures step { HandsItem IsBuildingStep self.old (item_of item.entry) (answer_of result) self.new }
-        ensures taken { OnOk result (Takes (built_of self.old) (item_of item.entry) (built_of self.new)) }
-        ensures refused { IfErr result (λ error. Refuses (built_of self.old).unfinished (item_of item.entry) (fault_of error)) }
+        ensures taken { OnOk result (Takes (built_of self.old) (item_by E.plain item) (built_of self.new)) }
+        ensures refused { IfErr result (λ error. Refuses (built_of self.old).unfinished (item_by E.plain item) (fault_of error)) }
     {
         let event = item?;
-        self.take(event)
+        event.hand_to(self)
     }
 
     /// The value of the events, which leaves the builder empty. It takes no memory.
@@ -93,6 +91,7 @@ impl Builder {
     pub fn finish(&mut self) -> Result<Value, Error>
         ensures value { IfOk result (λ value. AreAlike (events_so_far (built_of self.old).unfinished) (bracketing (tree_of value))) }
         ensures complete { IfOk result (λ value. complete_tree (built_of self.old).unfinished ≡ Some (tree_of value)) }
+        ensures working { OnOk result ((built_of self.old).failed ≡ false) }
         ensures emptied { OnOk result (built_of self.new ≡ nothing_built) }
         ensures refused { IfErr result (λ error. IsUnfinished (built_of self.old) (fault_of error)) }
         ensures unchanged { OnErr result (self.new ≡ self.old) }
@@ -104,6 +103,31 @@ impl Builder {
             Some(root) => Ok(root),
             None => Err(ErrorKind::UnexpectedEndOfEventStream.without_position()),
         }
+    }
+}
+
+/// An event, whatever it borrows: an [`Event`] of any lifetime.
+pub trait AnyEvent: Drop {
+    ghost use Rattle.plist_base.specs.Events.{PlainEvent};
+    ghost use Rattle.plist.specs.Builders.{built_of};
+    ghost use Rattle.plist.specs.Collecting.{Refuses, Takes};
+
+    ghost plain: { Self → PlainEvent };
+
+    /// Hands the event to a builder that hasn't failed.
+    fn hand_to(self, builder: &mut Builder) -> Result<(), Error>
+        requires { (built_of builder.old).failed ≡ false }
+        ensures taken { OnOk result (Takes (built_of builder.old) (Ok (plain self)) (built_of builder.new)) }
+        ensures refused { IfErr result (λ error. Refuses (built_of builder.old).unfinished (Ok (plain self)) (fault_of error)) };
+}
+
+impl<'a> AnyEvent for Event<'a> {
+    ghost use Rattle.plist_base.specs.Events.{event_of};
+
+    ghost plain = { event_of };
+
+    fn hand_to(self, builder: &mut Builder) -> Result<(), Error> {
+        builder.take(self)
     }
 }
 

@@ -1,0 +1,62 @@
+-- The value of an input, from the items that it is seen to give.
+use Rattle.std.specs.Prelude.{◌≡◌, List, [], ◌∷◌, ◌++◌, Option, None, Some, Result, Ok, Err, IfSome, map, ⊤}
+use Rattle.std.specs.Option.{option_map}
+use Rattle.plist_base.specs.declared.error.Error.{Error}
+use Rattle.plist_base.specs.Events.{PlainEvent, Item}
+use Rattle.plist_base.specs.Faults.{Fault, fault_nowhere, UnexpectedEndOfEventStream, MatchFault, IsFromOutside}
+use Rattle.plist_base.specs.Trees.{Tree}
+use Rattle.plist_base.specs.Bracketing.{bracketing, AreAlike}
+use Rattle.plist.specs.Building.{Unfinished, IsNested, events_so_far, refusal_of}
+use Rattle.plist.specs.Collecting.{IsRefusal, item_by}
+use Rattle.plist.specs.LastWins.{last_wins}
+
+-- What stands behind events that can follow one another decides: a fault is the answer, an event
+-- that can't come next is refused, and where nothing stands there the events are no tree's.
+abbrev pub Decides : (held : Unfinished) (events : List PlainEvent) → (next : List Item) → Fault → Type 0
+Decides held events [] fault = (fault ≡ fault_nowhere UnexpectedEndOfEventStream) × ((tree : Tree) → AreAlike events (bracketing tree) → ⊥)
+Decides held events (Ok event ∷ more) fault = IsRefusal (refusal_of held event) fault
+Decides held events (Err error ∷ more) fault = fault ≡ error
+
+-- the items are a tree's events, up to lengths
+abbrev pub AreOf : List Item → Tree → Type 0
+AreOf items tree = (events : List PlainEvent) × (items ≡ map Ok events) × AreAlike events (bracketing tree)
+
+-- the first fault or refusal, and then the items are no tree's
+abbrev pub StopsAt : List Item → Fault → Type 0
+StopsAt items fault =
+    ((events : List PlainEvent) × (next : List Item) × (held : Unfinished) × (items ≡ map Ok events ++ next) × IsNested held × AreAlike (events_so_far held) events × Decides held events next fault)
+    × ((tree : Tree) → AreOf items tree → ⊥)
+
+-- The tree whose events the items are, with the last value of each key; or, but for a device's fault
+-- and want of memory, the first fault or refusal.
+abbrev pub IsReadFrom : List Item → Result Tree Fault → Type 0
+IsReadFrom items (Ok tree) = (whole : Tree) × AreOf items whole × (tree ≡ last_wins whole)
+IsReadFrom items (Err fault) = MatchFault fault.kind ⊤ ⊤ (StopsAt items fault)
+
+-- the same of items that may not be known
+abbrev pub Answers : Option (List Item) → Result Tree Fault → Type 0
+Answers items answer = IfSome items (λ all. IsReadFrom all answer)
+
+-- What is seen to come begins with this item, and nothing comes only where nothing is seen. A
+-- device's fault and want of memory may come anywhere.
+abbrev pub BeginsWith : (before : List Item) → Option Item → (after : List Item) → Type 0
+BeginsWith before None after = before ≡ []
+BeginsWith before (Some (Ok event)) after = before ≡ Ok event ∷ after
+BeginsWith before (Some (Err fault)) after = MatchFault fault.kind ⊤ ⊤ (before ≡ Err fault ∷ after)
+
+-- the same, and what comes next is seen too, where what is to come is seen
+abbrev pub GoesOn : (before : Option (List Item)) → Option Item → (after : Option (List Item)) → Type 0
+GoesOn before item after = IfSome before (λ all. (left : List Item) × (after ≡ Some left) × BeginsWith all item left)
+
+-- an iterator's calls give the items that are seen to come, one after the other
+abbrev pub Shows : {E I : Type 0} → (plain : E → PlainEvent) → (I → Option (Result E Error) → I → Type 0) → (coming : I → Option (List Item)) → Type 0
+Shows {E} {I} plain next_gives coming = (old : I) (item : Option (Result E Error)) (new : I) → next_gives old item new → GoesOn (coming old) (option_map (item_by plain) item) (coming new)
+
+-- whatever shows the items of an iterator, the answer is that of these items
+abbrev pub AnswersAsSeen : {E I : Type 0} → (plain : E → PlainEvent) → (I → Option (Result E Error) → I → Type 0) → I → Result Tree Fault → Type 0
+AnswersAsSeen {E} {I} plain next_gives iter answer = (coming : I → Option (List Item)) → Shows plain next_gives coming → Answers (coming iter) answer
+
+-- the answer is this tree, but for a device's fault and want of memory
+abbrev pub GivesBack : Tree → Result Tree Fault → Type 0
+GivesBack tree (Ok read) = read ≡ tree
+GivesBack tree (Err fault) = IsFromOutside fault.kind
