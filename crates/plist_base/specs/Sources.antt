@@ -1,11 +1,11 @@
 -- What a call of a source leaves and gives, and what a reader makes of its failures.
-use Rattle.std.specs.Prelude.{◌≡◌, ℕ, ◌-◌, ◌^◌, ◌<◌, ◌≤◌, ◌⊎◌, List, length, take, drop, Option, MatchResult, MatchOption, Result}
+use Rattle.std.specs.Prelude.{◌≡◌, ℕ, ◌+◌, ◌-◌, ◌^◌, ◌<◌, ◌≤◌, ◌⊎◌, List, length, take, drop, Option, None, Some, IfSome, MatchResult, MatchOption, Result, ⊤}
 use Rattle.plist_base.specs.declared.error.Error.{Error}
-use Rattle.plist_base.specs.Faults.{MatchFault, kind_of, error_kind_of}
+use Rattle.plist_base.specs.Faults.{FaultKind, Fault, UnexpectedEof, Io, MatchFault, kind_of, error_kind_of}
 
--- the count of failures rose, or stands at its top
+-- the count of failures rose by one, or stands at its top
 abbrev pub Rises : ℕ → ℕ → Type 0
-Rises old new = (old < new) ⊎ ((old ≡ 2 ^ 64 - 1) × (new ≡ 2 ^ 64 - 1))
+Rises old new = (new ≡ old + 1) ⊎ ((old ≡ 2 ^ 64 - 1) × (new ≡ 2 ^ 64 - 1))
 
 -- `Ok` leaves the count of failures, and `Err` raises it
 abbrev pub CountsFailure : {A E : Type 0} → Result A E → ℕ → ℕ → Type 0
@@ -26,3 +26,23 @@ AnswersIo answer old new = MatchResult answer (λ _. new ≡ old) (λ error. Cou
 -- the same of an iterator's item
 abbrev pub ItemCountsIo : {A : Type 0} → Option (Result A Error) → ℕ → ℕ → Type 0
 ItemCountsIo item old new = MatchOption item (new ≡ old) (λ answer. AnswersIo answer old new)
+
+-- the fault of a read that failed, or that gave nothing
+abbrev pub IsReadFault : FaultKind → Type 0
+IsReadFault Io = ⊤
+IsReadFault UnexpectedEof = ⊤
+IsReadFault kind = ⊥
+
+-- the offset is a place from `start` on and before `end`
+abbrev pub IsPlaceWithin : (start end : ℕ) → Option ℕ → Type 0
+IsPlaceWithin start end None = ⊥
+IsPlaceWithin start end (Some place) = (start ≤ place) × (place < end)
+
+-- one of the reads of `size` bytes from a place on failed or gave nothing, and the fault has the place of that read
+pub record FailsReading (place size : ℕ) (fault : Fault) : Type 0 where
+  pub kind : IsReadFault fault.kind
+  pub at : IsPlaceWithin place (place + size) fault.offset
+
+-- where the fault is that the bytes end too early, they end at or before its place
+abbrev pub EndsTooEarly : List ℕ → Fault → Type 0
+EndsTooEarly bytes fault = fault.kind ≡ UnexpectedEof → IfSome fault.offset (λ place. length bytes ≤ place)

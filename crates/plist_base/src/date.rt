@@ -1,6 +1,6 @@
 //! Dates.
 
-ghost use Rattle.std.specs.Prelude.{◌≡◌, ℕ, ◌^◌, ◌<◌, ◌≤◌, ◌↔◌, IsTrue, not, ◌==◌, true, false, pos, ℤ, ◌*ℤ◌, ◌-ℤ◌, Some, None, IsSome, IfSome, IsErr, IfOk, IfErr, MatchOption};
+ghost use Rattle.std.specs.Prelude.{◌≡◌, ℕ, ◌^◌, ◌<◌, ◌≤◌, ◌↔◌, not, ◌==◌, true, false, pos, ℤ, ◌*ℤ◌, ◌-ℤ◌, Some, None, IsSome, IfSome, IsErr, IfOk, IfErr, MatchOption};
 ghost use Rattle.plist_base.specs.Date.{IsSecondOf, IsSecondOfDate, date_bytes, date_of_bytes, has_fraction, if_second_of_date, is_no_number, is_second_of_date, parts_in_second, parts_left, plist_epoch, real_bits, real_exponent, real_mantissa, real_parts, real_scale, rounded_down, second_of_bits, second_of_bytes, whole_seconds};
 ghost use Rattle.plist_base.specs.DateBits.{second_bits, whole_bits};
 
@@ -271,87 +271,6 @@ fn bits_of_second(second: i64) -> Option<u64>
         Some(_) => {
             let bits = bits_of_whole(second.unsigned_abs());
             Some(if second < 0 { (1 << 63) + bits } else { bits })
-        }
-    }
-}
-
-#[cfg(test)]
-mod tests {
-    use super::*;
-
-    // The derived equality is that of the bytes.
-    fn is_same(a: &Date, b: &Date) -> bool
-        ensures { IsTrue result ↔ (a.now ≡ b.now) }
-    {
-        *a == *b
-    }
-
-    // The second of a real, and the real that comes back; or none where it is no date.
-    #[test]
-    fn reals(rt: HostRuntime) {
-        for (real, want) in [
-            (
-                0x3ff0_0000_0000_0000_u64,
-                Some((1, 0x3ff0_0000_0000_0000_u64)),
-            ),
-            (0xbff0_0000_0000_0000, Some((-1, 0xbff0_0000_0000_0000))),
-            (
-                0x424d_62d2_3c7f_8000,
-                Some((252_423_993_599, 0x424d_62d2_3c7f_8000)),
-            ),
-            (0x424d_62d2_3c80_0000, None),
-            (0x0000_0000_0000_0001, Some((0, 0x0000_0000_0000_0001))),
-            (0xbfe0_0000_0000_0000, Some((-1, 0xbfe0_0000_0000_0000))),
-            (0x3fe0_0000_0000_0000, Some((0, 0x3fe0_0000_0000_0000))),
-            (0x8000_0000_0000_0000, Some((0, 0))),
-            (
-                0xc1c2_7600_6500_0000,
-                Some((-619_446_474, 0xc1c2_7600_6500_0000)),
-            ),
-            (0x7ff0_0000_0000_0000, None),
-            (0xfff0_0000_0000_0000, None),
-            (0x7ff8_0000_0000_0000, None),
-            (0x7fef_ffff_ffff_ffff, None),
-            (0xffef_ffff_ffff_ffff, None),
-        ] {
-            match Date::from_plist_real(real.to_be_bytes()) {
-                Ok(date) => {
-                    let back = u64::from_be_bytes(date.to_plist_real());
-                    assert_eq!(rt; Some((date.plist_secs(), back)), want, "at {real:x}");
-                    let fractions = [1, 0xbfe0_0000_0000_0000, 0x3fe0_0000_0000_0000];
-                    assert_eq!(rt; date.has_fraction(), fractions.contains(&back));
-                }
-                Err(kind) => {
-                    assert!(rt; matches!(kind, ErrorKind::OverflowOrNanDate));
-                    assert_eq!(rt; None, want, "at {real:x}");
-                }
-            }
-        }
-    }
-
-    #[test]
-    fn seconds(rt: HostRuntime) {
-        assert!(rt; Date::from_plist_secs(1_000_000_000_000).is_none());
-        assert!(rt; Date::from_plist_secs(-1_000_000_000_000).is_none());
-        for (unix, want) in [
-            (i64::MIN, None),
-            (-377_705_116_801, None),
-            (-377_705_116_800, Some(-378_683_424_000)),
-            (0, Some(-978_307_200)),
-            (978_307_200, Some(0)),
-            (253_402_300_799, Some(252_423_993_599)),
-            (253_402_300_800, None),
-            (i64::MAX, None),
-        ] {
-            match Date::from_unix_secs(unix) {
-                None => assert_eq!(rt; None, want, "at {unix}"),
-                Some(date) => {
-                    let second = date.plist_secs();
-                    assert_eq!(rt; Some(second), want, "at {unix}");
-                    assert_eq!(rt; date.unix_secs(), unix);
-                    assert!(rt; Date::from_plist_secs(second).is_some_and(|d| is_same(&d, &date)));
-                }
-            }
         }
     }
 }

@@ -1,9 +1,10 @@
 //! Whole numbers.
 
-ghost use Rattle.std.specs.Prelude.{◌≡◌, pos, negsuc, codes, ◌-◌, ◌^◌, ◌≤◌, ◌≤ℤ◌, ◌<ℤ◌, ◌↔◌, IsTrue, IsSome, IfSome, Some};
+ghost use Rattle.std.specs.Prelude.{◌≡◌, pos, negsuc, codes, ◌-◌, ◌^◌, ◌≤◌, ◌≤ℤ◌, ◌<ℤ◌, ◌↔◌, IsSome, IfSome, Some};
 ghost use Rattle.std.specs.Fmt.{signed_decimal, styled_signed_decimal};
 ghost use Rattle.plist_base.specs.IntegerText.{SpellsInteger, integer_of_text, signed_of_text, unsigned_of_text, without_prefixes};
 
+use std::cmp::Ordering;
 use std::fmt;
 use std::marker::Model;
 use std::str::FromStr;
@@ -12,7 +13,7 @@ use std::str::FromStr;
 ///
 /// Two are equal, and one stands before another, as the whole numbers are: it doesn't matter from
 /// which type a number was made.
-#[derive(Clone, Copy, PartialEq, Eq, PartialOrd, Ord, Hash)]
+#[derive(Clone, Copy, PartialEq, Eq, Hash)]
 pub struct Integer {
     value: i128,
 }
@@ -50,6 +51,43 @@ impl Integer {
         ensures never_higher { self <ℤ pos (2 ^ 64) }
     {
         u64::try_from(self.value).ok()
+    }
+}
+
+/// In the order of the whole numbers.
+impl Ord for Integer {
+    ghost use Rattle.std.specs.Prelude.{refl};
+    ghost use Rattle.std.specs.Cmp.{int_cmp_total};
+    ghost use Rattle.std.specs.Ordering.{MatchOrdering, int_cmp};
+
+    ghost cmp = { int_cmp };
+
+    ghost total = { int_cmp_total };
+
+    ghost matches_partial_cmp = { λ a b. refl };
+
+    ghost matches_eq = { λ a b. refl };
+
+    fn cmp(&self, other: &Integer) -> Ordering
+        ensures value { result ≡ int_cmp self.now other.now }
+        ensures order { MatchOrdering result
+            (self.now <ℤ other.now) (self.now ≡ other.now) (other.now <ℤ self.now) }
+    {
+        self.value.cmp(&other.value)
+    }
+}
+
+/// In the order of the whole numbers.
+impl PartialOrd for Integer {
+    ghost use Rattle.std.specs.Cmp.{signed_po};
+    ghost use Rattle.std.specs.Ordering.{int_cmp};
+
+    ghost partial_cmp = { λ a b. Some (int_cmp a b) };
+
+    ghost laws = { signed_po };
+
+    fn partial_cmp(&self, other: &Integer) -> Option<Ordering> {
+        Some(self.cmp(other))
     }
 }
 
@@ -219,125 +257,5 @@ impl FromStr for Integer {
             Some(number) => Ok(number),
             None => Err(InvalidInteger),
         }
-    }
-}
-
-#[cfg(test)]
-mod tests {
-    use super::*;
-    use std::test::Fail;
-
-    // The derived order is that of the whole numbers.
-    fn is_below(a: &Integer, b: &Integer) -> bool
-        ensures { IsTrue result ↔ (a.now <ℤ b.now) }
-    {
-        *a < *b
-    }
-
-    // The derived equality is that of the whole numbers.
-    fn is_same(a: &Integer, b: &Integer) -> bool
-        ensures { IsTrue result ↔ (a.now ≡ b.now) }
-    {
-        *a == *b
-    }
-
-    #[test]
-    fn ends_of_the_range(rt: HostRuntime) -> Result<(), Fail> {
-        let least = Integer::from(i64::MIN);
-        assert_eq!(rt; least.as_signed(), Some(i64::MIN));
-        assert_eq!(rt; least.as_unsigned(), None);
-        assert_eq!(rt;
-            least.to_string(rt.alloc())?.as_str(),
-            "-9223372036854775808"
-        );
-
-        let below_zero = Integer::from(-1i8);
-        assert_eq!(rt; below_zero.as_signed(), Some(-1));
-        assert_eq!(rt; below_zero.as_unsigned(), None);
-        assert_eq!(rt; below_zero.to_string(rt.alloc())?.as_str(), "-1");
-
-        let zero = Integer::from(0u8);
-        assert_eq!(rt; zero.as_signed(), Some(0));
-        assert_eq!(rt; zero.as_unsigned(), Some(0));
-        assert_eq!(rt; zero.to_string(rt.alloc())?.as_str(), "0");
-
-        let greatest = Integer::from(u64::MAX);
-        assert_eq!(rt; greatest.as_signed(), None);
-        assert_eq!(rt; greatest.as_unsigned(), Some(u64::MAX));
-        assert_eq!(rt;
-            greatest.to_string(rt.alloc())?.as_str(),
-            "18446744073709551615"
-        );
-        assert_eq!(rt;
-            format!(in rt.alloc(); "{greatest:?}")?.as_str(),
-            "18446744073709551615"
-        );
-        Ok(())
-    }
-
-    #[test]
-    fn equal_from_each_type(rt: HostRuntime) {
-        let seven = Integer::from(7i64);
-        assert!(rt; is_same(&seven, &Integer::from(7i32)));
-        assert!(rt; is_same(&seven, &Integer::from(7i16)));
-        assert!(rt; is_same(&seven, &Integer::from(7i8)));
-        assert!(rt; is_same(&seven, &Integer::from(7u64)));
-        assert!(rt; is_same(&seven, &Integer::from(7u32)));
-        assert!(rt; is_same(&seven, &Integer::from(7u16)));
-        assert!(rt; is_same(&seven, &Integer::from(7u8)));
-        assert!(rt; !is_same(&seven, &Integer::from(-7i64)));
-    }
-
-    #[test]
-    fn ordered_as_whole_numbers(rt: HostRuntime) {
-        let above_signed = Integer::from(9_223_372_036_854_775_808u64);
-        assert!(rt; is_below(&Integer::from(-1i64), &Integer::from(0u8)));
-        assert!(rt; is_below(&Integer::from(0u8), &above_signed));
-        assert!(rt; !is_below(&above_signed, &Integer::from(i64::MAX)));
-        assert_eq!(rt;
-            above_signed.cmp(&Integer::from(i64::MIN)),
-            std::cmp::Ordering::Greater
-        );
-    }
-
-    #[test]
-    fn texts(rt: HostRuntime) {
-        for (text, signed, unsigned) in [
-            ("-1", Some(-1), None),
-            ("0", Some(0), Some(0)),
-            ("1", Some(1), Some(1)),
-            ("-9223372036854775808", Some(i64::MIN), None),
-            ("-9223372036854775809", None, None),
-            ("18446744073709551615", None, Some(u64::MAX)),
-            ("18446744073709551616", None, None),
-            ("0x0x10", Some(16), Some(16)),
-            ("0x0xff", Some(255), Some(255)),
-            ("+5", Some(5), Some(5)),
-            ("-0", Some(0), Some(0)),
-            ("-0x1", None, None),
-            ("0x", None, None),
-            ("", None, None),
-            ("5 ", None, None),
-        ] {
-            let number = Integer::from_str(text);
-            assert_eq!(rt;
-                number.is_err(),
-                signed.is_none() && unsigned.is_none(),
-                "{text}"
-            );
-            if let Ok(number) = number {
-                assert_eq!(rt; number.as_signed(), signed, "{text}");
-                assert_eq!(rt; number.as_unsigned(), unsigned, "{text}");
-            }
-        }
-    }
-
-    #[test]
-    fn text_of_the_refusal(rt: HostRuntime) -> Result<(), Fail> {
-        assert_eq!(rt;
-            InvalidInteger.to_string(rt.alloc())?.as_str(),
-            "String was not a valid plist integer"
-        );
-        Ok(())
     }
 }

@@ -1,8 +1,8 @@
 //! Where a reader takes its bytes from.
 
 ghost use Rattle.std.specs.Prelude.{◌≡◌, ℕ, ◌+◌, ◌-◌, ◌^◌, ◌<◌, ◌≤◌, List, length, take, drop, None, Some, Option, IfOk, IfErr, IfSome, OnOk};
-ghost use Rattle.plist_base.specs.Faults.{IsIo, kind_of, error_kind_of};
-ghost use Rattle.plist_base.specs.Sources.{CountsFailure, GivesAt, AnswersIo};
+ghost use Rattle.plist_base.specs.Faults.{IsIo, kind_of, error_kind_of, fault_of};
+ghost use Rattle.plist_base.specs.Sources.{CountsFailure, GivesAt, AnswersIo, FailsReading, EndsTooEarly};
 
 use crate::{Error, ErrorKind};
 use std::io;
@@ -89,6 +89,9 @@ pub fn read_exact_at<S: Source>(source: &mut S, place: u64, buf: &mut [u8]) -> R
     requires { place + length buf.old < 2 ^ 64 }
     ensures bytes { OnOk result (IfSome (S.known source.old) (λ bytes.
         buf.new ≡ take (length buf.new) (drop place bytes))) }
+    ensures fault { IfErr result (λ e. FailsReading place (length buf.old) (fault_of e)) }
+    ensures short { IfErr result (λ e. IfSome (S.known source.old) (λ bytes.
+        EndsTooEarly bytes (fault_of e))) }
     ensures refused { IfErr result (λ e. IfSome (S.known source.old) (λ bytes.
         place + length buf.old ≤ length bytes → IsIo (kind_of (error_kind_of e)))) }
     ensures unchanged { S.known source.new ≡ S.known source.old }

@@ -49,20 +49,3 @@ impl fmt::Debug for Uid {
         fmt::Debug::fmt(&self.number, f)
     }
 }
-
-#[cfg(test)]
-mod tests {
-    use super::*;
-    use std::test::Fail;
-
-    #[test]
-    fn ends_of_the_range(rt: HostRuntime) -> Result<(), Fail> {
-        for (number, text) in [(0, "0"), (u64::MAX, "18446744073709551615")] {
-            let uid = Uid::new(number);
-            assert_eq!(rt; uid.get(), number);
-            assert_eq!(rt; format!(in rt.alloc(); "{uid:?}")?.as_str(), text);
-        }
-        assert!(rt; Uid::new(1) != Uid::new(2));
-        Ok(())
-    }
-}

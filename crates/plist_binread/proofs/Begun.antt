@@ -1,20 +1,25 @@
 -- The first item of a file.
-use Rattle.std.proofs.Common.{◌≡◌, ℕ, suc, ◌≤◌, ◌-◌, List, [], ◌∷◌, ◌++◌, length, take, reverse, inl, inr, Option, None, Some, Result, Ok, Err, IfSome, MatchResult, refl, ap, sym, ◌∙◌, arith, append-nil}
+use Rattle.std.proofs.Common.{◌≡◌, ℕ, suc, ◌<◌, ◌≤◌, ◌-◌, get_or, replicate, List, [], ◌∷◌, ◌++◌, length, take, reverse, inl, inr, Option, None, Some, Result, Ok, Err, IfSome, MatchResult, refl, ap, sym, ◌∙◌, arith, append-nil}
 use Rattle.std.specs.Prelude.{⊤}
+use Rattle.std.specs.List.{slice_get}
 use Rattle.std.proofs.lemmas.Bool.{cases_lt}
+use Rattle.std.proofs.Math.ListN.{length-replicate}
 use Rattle.plist_base.specs.declared.error.Error.{Error}
 use Rattle.plist_base.specs.declared.event.Event.{Event}
-use Rattle.plist_base.specs.Faults.{Fault, MatchFault, kind_of, error_kind_of, fault_of}
+use Rattle.plist_base.specs.Faults.{Fault, OutOfMemory, MatchFault, fault_nowhere, kind_of, error_kind_of, fault_of}
 use Rattle.plist_base.specs.Events.{Item, event_of}
-use Rattle.plist_base.proofs.Refusals.{MatchFault-weaker}
+use Rattle.plist_base.proofs.Refusals.{MatchFault-at, MatchFault-weaker}
 use Rattle.plist_binread.specs.declared.frames.Frame.{Frame}
 use Rattle.plist_binread.specs.declared.table.Table.{Table}
 use Rattle.plist_binread.specs.Container.{Head, head_of}
 use Rattle.plist_binread.specs.Object.{Object}
 use Rattle.plist_binread.specs.Unfolding.{table_of, items_of, unfolding_of, until_fault, items_with, items_of_file}
-use Rattle.plist_binread.specs.Debt.{path_of, owed_by, entries_of, IsOwed, WantsMemory, Pays}
+use Rattle.plist_binread.specs.declared.table.Bounds.{Bounds}
+use Rattle.plist_binread.specs.Debt.{path_of, owed_by, entries_of, places_with, places_of, root_with, IsHeld, IsKnown, IsKept, IsOwed, WantsMemory, Pays}
 use Rattle.plist_binread.specs.Tables.{head_seen}
 use Rattle.plist_binread.proofs.Steps.{slice_get-within, slice_get-beyond, items_beyond, items_step, owed_at}
+use Rattle.plist_binread.proofs.Opened.{get_or-zeros}
+use Rattle.plist_binread.proofs.Known.{found}
 
 -- something is wanted only where something is owed
 owed_if_wanted : (items : List Item) → WantsMemory items → IsOwed items
@@ -46,9 +51,25 @@ file_refused : (bytes : List ℕ) (fault : Fault) → head_of bytes ≡ Err faul
 unfolding items_of_file
 file_refused bytes fault is = rw is refl
 
-file_walked : (bytes : List ℕ) (table : Table) → head_of bytes ≡ Ok (head_seen table) → items_of_file bytes ≡ until_fault (unfolding_of (entries_of bytes table) (length table.places.items) [] table.trailer table.root)
-unfolding items_of_file
-file_walked bytes table is = rw is refl
+module _ (bytes : List ℕ) (table : Table) (bounds : Bounds) (is : head_of bytes ≡ Ok (head_seen table)) (trailer : bounds.trailer ≡ table.trailer) (width : bounds.reference_width ≡ table.reference_width) where
+  file_walked : items_of_file bytes ≡ until_fault (unfolding_of (entries_of bytes bounds) (length table.places.items) [] table.trailer table.root)
+  unfolding items_of_file
+  file_walked = rw (is, trailer, width) refl
+
+  -- what is known once the table was read
+  known_first : (tags : List ℕ) (n : ℕ) → tags ≡ replicate n 0 → n ≡ length table.places.items → table.trailer ≤ length bytes → IsKnown bytes bounds tags table.places.items []
+  known_first tags n zeros count within = record {
+    head = rw is (trailer, width);
+    within = rw trailer within;
+    size = ap (λ head. length (places_with head)) is ∙ sym (ap length zeros ∙ length-replicate n 0 ∙ count);
+    held = λ number less. held number (rw (zeros, length-replicate, count) at less);
+    counts = tt;
+  }
+    where
+      held : (number : ℕ) → number < length table.places.items → IsHeld (slice_get (entries_of bytes bounds) number) (get_or tags number 0) (get_or table.places.items number 0)
+      held number less =
+          let there = found bytes bounds number (rw is less) in
+          rw (zeros, get_or-zeros n number, there, is) refl
 
 -- the answer to the first call
 abbrev pub Begins : List ℕ → Result Event Error → List Item → Type 0
@@ -70,19 +91,49 @@ none : (fs : List Frame) → length fs ≡ 0 → fs ≡ []
 none [] h = refl
 none (f ∷ fs) h = absurd (omega arith)
 
-pub known_begun : (known now : Option (List ℕ)) (table : Table) (fs gs : List Frame) (answer : Result Event Error) → now ≡ known → length fs ≡ 0
-    → IfSome known (λ bytes. head_of bytes ≡ Ok (head_seen table)) → IfSome known (λ bytes. table.trailer ≤ length bytes)
-    → IfSome now (λ bytes. table.trailer ≤ length bytes → Pays (unfolding_of (entries_of bytes table) (length table.places.items - length fs) (path_of (reverse fs)) table.trailer table.root ++ owed_by (entries_of bytes table) (reverse fs)) answer (owed_by (entries_of bytes table) (reverse gs)))
-    → IfSome known (λ bytes. Begins bytes answer (owed_by (entries_of bytes table) (reverse gs)))
-known_begun None now table fs gs answer same len value within pays = tt
-known_begun (Some bytes) now table fs gs answer same len value within pays =
-    let whole : length table.places.items - 0 ≡ length table.places.items = omega arith in
+pub known_wanted : (known : Option (List ℕ)) (e : Error) (after : List ℕ → List Item) → fault_of e ≡ fault_nowhere OutOfMemory → IfSome known (λ bytes. Begins bytes (Err e) (after bytes))
+known_wanted None e after memory = tt
+known_wanted (Some bytes) e after memory = MatchFault-at (kind_of (error_kind_of e)) OutOfMemory _ _ _ (ap (λ (f : Fault). f.kind) memory) (owed_file bytes)
+
+pub known_opens : (known now : Option (List ℕ)) (table : Table) (bounds : Bounds) (tags : List ℕ) (n : ℕ) (fs : List Frame) → now ≡ known → IfSome known (λ bytes. head_of bytes ≡ Ok (head_seen table)) → IfSome known (λ bytes. table.trailer ≤ length bytes) → bounds.trailer ≡ table.trailer → bounds.reference_width ≡ table.reference_width
+    → tags ≡ replicate n 0 → n ≡ length table.places.items → length fs ≡ 0 → IfSome now (λ bytes. IsKnown bytes bounds tags table.places.items (reverse fs))
+known_opens None now table bounds tags n fs same value within trailer width zeros count len = rw same tt
+known_opens (Some bytes) now table bounds tags n fs same value within trailer width zeros count len = rw (same, none fs len) (known_first bytes table bounds value trailer width tags n zeros count within)
+
+pub known_begun : (known now : Option (List ℕ)) (table : Table) (bounds : Bounds) (tags : List ℕ) (fs gs : List Frame) (answer : Result Event Error) → now ≡ known → length fs ≡ 0 → length tags ≡ length table.places.items → bounds.trailer ≡ table.trailer → bounds.reference_width ≡ table.reference_width
+    → IfSome known (λ bytes. head_of bytes ≡ Ok (head_seen table))
+    → IfSome now (λ bytes. Pays (unfolding_of (entries_of bytes bounds) (length tags - length fs) (path_of (reverse fs)) table.trailer table.root ++ owed_by (entries_of bytes bounds) (reverse fs)) answer (owed_by (entries_of bytes bounds) (reverse gs)))
+    → IfSome known (λ bytes. Begins bytes answer (owed_by (entries_of bytes bounds) (reverse gs)))
+known_begun None now table bounds tags fs gs answer same len count trailer width value pays = tt
+known_begun (Some bytes) now table bounds tags fs gs answer same len count trailer width value pays =
+    let whole : length tags - 0 ≡ length table.places.items = omega arith in
     let pays' = rw (same, none fs len, whole) at pays in
     begins_with bytes _ _ answer
-    (file_walked bytes table value ∙ ap until_fault (sym (append-nil (unfolding_of (entries_of bytes table) (length table.places.items) [] table.trailer table.root))))
-    (pays' within)
+    (file_walked bytes table bounds value trailer width ∙ ap until_fault (sym (append-nil (unfolding_of (entries_of bytes bounds) (length table.places.items) [] table.trailer table.root))))
+    pays'
 
--- where nothing was read, the trailer is at 0
-pub known_empty : (known : Option (List ℕ)) (trailer : ℕ) → trailer ≡ 0 → IfSome known (λ bytes. trailer ≤ length bytes)
-known_empty None trailer e = tt
-known_empty (Some bytes) trailer e = omega arith
+-- the object that is entered first is the root
+pub known_root : (known now : Option (List ℕ)) (table : Table) (item : Option (Result Event Error)) (tags : List ℕ) → now ≡ known → IfSome known (λ bytes. head_of bytes ≡ Ok (head_seen table)) → IfSome now (λ bytes. IsKept (Some table.root) item tags) → IfSome known (λ bytes. IsKept (root_with (head_of bytes)) item tags)
+known_root None now table item tags same value kept = tt
+known_root (Some bytes) now table item tags same value kept = rw value (rw same at kept)
+
+-- a fault keeps nothing
+kept_fault : (number : Option ℕ) (e : Error) (tags : List ℕ) → IsKept number (Some (Err e)) tags
+kept_fault None e tags = tt
+kept_fault (Some number) e tags = tt
+
+pub known_kept_fault : (known : Option (List ℕ)) (number : List ℕ → Option ℕ) (e : Error) (tags : List ℕ) → IfSome known (λ bytes. IsKept (number bytes) (Some (Err e)) tags)
+known_kept_fault None number e tags = tt
+known_kept_fault (Some bytes) number e tags = kept_fault (number bytes) e tags
+
+-- there are as many tags as objects, or none
+pub known_many : (known : Option (List ℕ)) (table : Table) (tags : List ℕ) → IfSome known (λ bytes. head_of bytes ≡ Ok (head_seen table)) → length tags ≡ length table.places.items → IfSome known (λ bytes. length tags ≤ length (places_of bytes))
+known_many None table tags value count = tt
+known_many (Some bytes) table tags value count = rw value (omega arith)
+
+pub known_few : (known : Option (List ℕ)) (tags : List ℕ) → length tags ≡ 0 → IfSome known (λ bytes. length tags ≤ length (places_of bytes))
+known_few None tags count = tt
+known_few (Some bytes) tags count = omega arith
+
+pub known_now : (known : Option (List ℕ)) (now : Option (List ℕ)) (P : List ℕ → Type 0) → now ≡ known → IfSome now P → IfSome known P
+known_now known now P same h = rw same at h

@@ -9,3 +9,8 @@ pub mod Opened
 pub mod Steps
 pub mod Taken
 pub mod Turned
+pub mod Packing
+pub mod Marks
+pub mod Children
+pub mod Known
+pub mod Failing

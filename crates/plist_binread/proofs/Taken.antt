@@ -1,5 +1,5 @@
 -- One call of a reader.
-use Rattle.std.proofs.Common.{ℕ, ◌≤◌, List, length, reverse, Option, None, Some, Result, Ok, Err, IfSome, refl, ap}
+use Rattle.std.proofs.Common.{◌≡◌, ℕ, ◌^◌, ◌<◌, ◌≤◌, arith, List, length, reverse, true, false, Option, None, Some, Result, Ok, Err, IfSome, MatchOption, refl, ap, sym}
 use Rattle.std.proofs.lemmas.List.{length-reverse}
 use Rattle.plist_base.specs.declared.error.Error.{Error}
 use Rattle.plist_base.specs.declared.event.Event.{Event}
@@ -8,43 +8,79 @@ use Rattle.plist_binread.specs.declared.frames.Frame.{Frame}
 use Rattle.plist_binread.specs.Unfolding.{until_fault}
 use Rattle.plist_binread.specs.declared.reader.State.{State}
 use Rattle.plist_binread.specs.declared.reader.State.TheVariants.{Fresh, Walking, Ended}
-use Rattle.plist_binread.specs.declared.table.Table.{Table}
-use Rattle.plist_binread.specs.Coming.{GivesItem}
-use Rattle.plist_binread.specs.Debt.{IsPath, is_fresh, still_owed, owed_by, entries_of, PaysNext}
+use Rattle.plist_binread.specs.declared.table.Bounds.{Bounds}
+use Rattle.plist_binread.specs.Container.{head_of}
+use Rattle.plist_binread.specs.Coming.{GivesItem, AreWithin}
+use Rattle.plist_binread.specs.Debt.{IsOpen, IsKnown, AreBoundsOf, IsKept, places_of, is_fresh, is_walking, ends_next, still_owed, owed_by, entries_of, PaysNext}
 use Rattle.plist_binread.proofs.Begun.{Begins}
-use Rattle.plist_binread.proofs.Opened.{IsPath-length}
+use Rattle.plist_binread.proofs.Opened.{IsOpen-length}
 
 -- no more collections are open than there are objects
-pub nested : (count : ℕ) (fs : List Frame) → IsPath count (reverse fs) → length fs ≤ count
-nested count fs path = rw (← length-reverse fs) (IsPath-length count (reverse fs) path)
+open_below : (tags : List ℕ) (fs : List Frame) → IsOpen tags (reverse fs) → length fs ≤ length tags
+open_below tags fs path = rw (← length-reverse fs) (IsOpen-length tags (reverse fs) path)
+
+-- nor than the head of the file tells
+pub nested : (known : Option (List ℕ)) (tags : List ℕ) (fs : List Frame) → IsOpen tags (reverse fs) → IfSome known (λ bytes. length tags ≤ length (places_of bytes)) → MatchOption known (length fs ≤ length tags) (λ bytes. length fs ≤ length (places_of bytes))
+nested None tags fs path bounded = open_below tags fs path
+nested (Some bytes) tags fs path bounded = omega (arith, open_below tags fs path)
+
+-- what is known of a file is known with its head
+pub holds_head : (known : Option (List ℕ)) (bounds : Bounds) (tags contents : List ℕ) (fs : List Frame) (walking : Type 0) → IfSome known (λ bytes. IsKnown bytes bounds tags contents fs) → IfSome known (λ bytes. walking → AreBoundsOf (head_of bytes) bounds × (length tags ≡ length (places_of bytes)))
+holds_head None bounds tags contents fs walking k = tt
+holds_head (Some bytes) bounds tags contents fs walking k = λ w. (k.head, sym k.size)
+
+-- and nothing where no file is held
+pub holds_none : (known : Option (List ℕ)) (bounds : Bounds) (tags : List ℕ) (walking : Type 0) → (walking → ⊥) → IfSome known (λ bytes. walking → AreBoundsOf (head_of bytes) bounds × (length tags ≡ length (places_of bytes)))
+holds_none None bounds tags walking never = tt
+holds_none (Some bytes) bounds tags walking never = λ w. absurd (never w)
+
+-- and none of the lists is longer
+pub lists : (known : Option (List ℕ)) (tags contents : List ℕ) (fs : List Frame) → IsOpen tags (reverse fs) → length contents ≡ length tags → IfSome known (λ bytes. length tags ≤ length (places_of bytes)) → IfSome known (λ bytes. AreWithin (length (places_of bytes)) tags contents fs)
+lists None tags contents fs path same bounded = tt
+lists (Some bytes) tags contents fs path same bounded = (bounded, omega arith, omega (arith, open_below tags fs path))
+
+-- where nothing comes next, nothing is kept
+pub kept_nothing : (known : Option (List ℕ)) (tags : List ℕ) → IfSome known (λ bytes. IsKept None None tags)
+kept_nothing None tags = tt
+kept_nothing (Some bytes) tags = tt
 
 -- what was to come and what is to come, over known bytes, by the item that was taken
 
-pub nothing_ended : (known : Option (List ℕ)) (table : Table) (fs : List Frame) → IfSome known (λ bytes. GivesItem (is_fresh Ended) (still_owed bytes Ended table fs) None (still_owed bytes Ended table fs))
-nothing_ended None table fs = tt
-nothing_ended (Some bytes) table fs = (refl, refl)
+pub nothing_ended : (known : Option (List ℕ)) (bounds : Bounds) (fs : List Frame) → IfSome known (λ bytes. GivesItem (is_fresh Ended) (still_owed bytes Ended bounds fs) None (still_owed bytes Ended bounds fs))
+nothing_ended None bounds fs = tt
+nothing_ended (Some bytes) bounds fs = (refl, refl)
 
-pub first_fault : (known : Option (List ℕ)) (table after_table : Table) (fs gs : List Frame) (after : List ℕ → List Item) (e : Error) → IfSome known (λ bytes. Begins bytes (Err e) (after bytes)) → IfSome known (λ bytes. GivesItem (is_fresh Fresh) (still_owed bytes Fresh table fs) (Some (Err e)) (still_owed bytes Ended after_table gs))
-first_fault None table after_table fs gs after e begins = tt
-first_fault (Some bytes) table after_table fs gs after e begins = (refl, begins)
+pub first_fault : (known : Option (List ℕ)) (bounds after_bounds : Bounds) (fs gs : List Frame) (after : List ℕ → List Item) (e : Error) → IfSome known (λ bytes. Begins bytes (Err e) (after bytes)) → IfSome known (λ bytes. GivesItem (is_fresh Fresh) (still_owed bytes Fresh bounds fs) (Some (Err e)) (still_owed bytes Ended after_bounds gs))
+first_fault None bounds after_bounds fs gs after e begins = tt
+first_fault (Some bytes) bounds after_bounds fs gs after e begins = (refl, begins)
 
-module _ (known : Option (List ℕ)) (table : Table) (fs gs : List Frame) where
+module _ (known : Option (List ℕ)) (bounds : Bounds) (fs gs : List Frame) where
   -- what a step of the walk pays
   abbrev pub StepPays : Option (Result Event Error) → Type 0
-  StepPays item = IfSome known (λ bytes. table.trailer ≤ length bytes → PaysNext (owed_by (entries_of bytes table) (reverse fs)) item (owed_by (entries_of bytes table) (reverse gs)))
+  StepPays item = IfSome known (λ bytes. PaysNext (owed_by (entries_of bytes bounds) (reverse fs)) item (owed_by (entries_of bytes bounds) (reverse gs)))
 
   -- what the reader gives then, in this state
   abbrev pub StepGives : Option (Result Event Error) → State → Type 0
-  StepGives item state = IfSome known (λ bytes. GivesItem (is_fresh Walking) (still_owed bytes Walking table fs) item (still_owed bytes state table gs))
+  StepGives item state = IfSome known (λ bytes. GivesItem (is_fresh Walking) (still_owed bytes Walking bounds fs) item (still_owed bytes state bounds gs))
 
-pub step_event : (known : Option (List ℕ)) (table : Table) (fs gs : List Frame) (within : IfSome known (λ bytes. table.trailer ≤ length bytes)) (event : Event) → StepPays known table fs gs (Some (Ok event)) → StepGives known table fs gs (Some (Ok event)) Walking
-step_event None table fs gs within event pays = tt
-step_event (Some bytes) table fs gs within event pays = pays within
+pub step_event : (known : Option (List ℕ)) (bounds : Bounds) (fs gs : List Frame) (event : Event) → StepPays known bounds fs gs (Some (Ok event)) → StepGives known bounds fs gs (Some (Ok event)) Walking
+step_event None bounds fs gs event pays = tt
+step_event (Some bytes) bounds fs gs event pays = pays
 
-pub step_fault : (known : Option (List ℕ)) (table : Table) (fs gs : List Frame) (within : IfSome known (λ bytes. table.trailer ≤ length bytes)) (e : Error) → StepPays known table fs gs (Some (Err e)) → StepGives known table fs gs (Some (Err e)) Ended
-step_fault None table fs gs within e pays = tt
-step_fault (Some bytes) table fs gs within e pays = (refl, pays within)
+pub step_fault : (known : Option (List ℕ)) (bounds : Bounds) (fs gs : List Frame) (e : Error) → StepPays known bounds fs gs (Some (Err e)) → StepGives known bounds fs gs (Some (Err e)) Ended
+step_fault None bounds fs gs e pays = tt
+step_fault (Some bytes) bounds fs gs e pays = (refl, pays)
 
-pub step_nothing : (known : Option (List ℕ)) (table : Table) (fs gs : List Frame) (within : IfSome known (λ bytes. table.trailer ≤ length bytes)) → StepPays known table fs gs None → StepGives known table fs gs None Ended
-step_nothing None table fs gs within pays = tt
-step_nothing (Some bytes) table fs gs within pays = let nothing = pays within in (ap until_fault nothing.0, refl)
+pub step_nothing : (known : Option (List ℕ)) (bounds : Bounds) (fs gs : List Frame) → StepPays known bounds fs gs None → StepGives known bounds fs gs None Ended
+step_nothing None bounds fs gs pays = tt
+step_nothing (Some bytes) bounds fs gs pays = let nothing = pays in (ap until_fault nothing.0, refl)
+
+-- no end comes first, or after the last item
+pub closes-fresh : (state : State) (fs : List Frame) → state ≡ Fresh → ends_next state fs ≡ true → ⊥
+closes-fresh state fs is e = let no : ends_next state fs ≡ false = ap (λ s. ends_next s fs) is in absurd (cc)
+
+pub closes-ended : (state : State) (fs : List Frame) → state ≡ Ended → ends_next state fs ≡ true → ⊥
+closes-ended state fs is e = let no : ends_next state fs ≡ false = ap (λ s. ends_next s fs) is in absurd (cc)
+
+pub walking-ended : (state : State) → state ≡ Ended → is_walking state ≡ true → ⊥
+walking-ended state is e = let no : is_walking state ≡ false = ap is_walking is in absurd (cc)

@@ -1,22 +1,16 @@
 -- What the innermost collection asks for.
-use Rattle.std.proofs.Common.{◌≡◌, ℕ, suc, ◌+◌, ◌-◌, ◌*◌, ◌<◌, ◌≤◌, List, [], ◌∷◌, ◌++◌, length, drop, take, get_or, set, reverse, Result, Ok, Err, refl, ap, sym, ◌∙◌, arith, append_assoc, add-one, Option, None, Some, IfSome, false, true, nat_eq}
-use Rattle.std.specs.List.{list_any, flat_map, slice_get}
+use Rattle.std.proofs.Common.{◌≡◌, cond, ℕ, zero, suc, ◌+◌, ◌-◌, ◌*◌, ◌<◌, ◌≤◌, List, [], ◌∷◌, ◌++◌, length, drop, take, get_or, set, reverse, not, true, Ok, Err, refl, ap, sym, ◌∙◌, arith, append_assoc, add-one, None, Some, false}
+use Rattle.std.specs.List.{flat_map, slice_get}
+use Rattle.std.proofs.lemmas.Bool.{lt-ltb}
 use Rattle.std.proofs.lemmas.List.{reverse-append, length-reverse}
 use Rattle.std.proofs.Math.Seq.{drop-cons, get_or-append_seam, set-append_seam, take-append_seam}
 use mathlib.Core.List.{reverse-reverse}
-use Rattle.plist_base.specs.declared.error.Error.{Error}
-use Rattle.plist_base.specs.Faults.{Fault, ObjectReferenceTooLarge, RecursiveObject, MatchFault, kind_of, error_kind_of, fault_of}
-use Rattle.plist_base.specs.Events.{EndCollection, Item}
-use Rattle.plist_base.specs.declared.event.Event.{Event}
-use Rattle.plist_base.proofs.Refusals.{MatchFault-weaker}
-use Rattle.std.specs.Prelude.{⊤}
+use Rattle.plist_base.specs.Events.{PlainEvent, EndCollection, Item}
 use Rattle.plist_binread.specs.declared.frames.Frame.{Frame}
-use Rattle.plist_binread.specs.declared.table.Table.{Table}
-use Rattle.plist_binread.specs.declared.object.Decoded.{Decoded}
-use Rattle.plist_binread.specs.Object.{object_in}
-use Rattle.plist_binread.specs.Unfolding.{Entry, table_of, unfolding_of, until_fault}
-use Rattle.plist_binread.specs.Debt.{IsRefusedAs, IsDecodedAs, path_of, IsPath, owed_by, entries_of, steps, weight, Explains, Pays}
-use Rattle.plist_binread.proofs.Steps.{items_beyond, items_open, slice_get-within, slice_get-beyond, length-table_of, pays_refused}
+use Rattle.plist_binread.specs.Packed.{Remarked}
+use Rattle.plist_binread.specs.Unfolding.{Entry, unfolding_of, until_fault}
+use Rattle.plist_binread.specs.declared.table.Bounds.{Bounds}
+use Rattle.plist_binread.specs.Debt.{path_of, IsOpen, IsKnown, children_at, place_at, entries_of, owed_by, IsOwed, next_number, steps, weight, closes}
 
 -- frames as they are kept, and as they are spoken of
 pub record Splits (xs : List Frame) (n : ℕ) (f g : Frame) : Type 0 where
@@ -46,62 +40,76 @@ splits xs n f g pos len is = splits_from xs (reverse xs) n f g refl pos len is
 
 -- the frame after its next child was taken
 abbrev pub after : Frame → Frame
-after f = record { object = f.object; place = f.place; children = f.children; next = f.next + 1 }
+after f = record { object = f.object; next = f.next + 1; count = f.count }
 
-pub child_path : (n : ℕ) (f : Frame) (fs : List Frame) → IsPath n (f ∷ fs) → IsPath n (after f ∷ fs)
-child_path n f fs o = record { distinct = o.distinct; below = o.below }
+pub child_path : (tags : List ℕ) (f : Frame) (fs : List Frame) → IsOpen tags (f ∷ fs) → IsOpen tags (after f ∷ fs)
+child_path tags f fs o = record { distinct = o.distinct; below = o.below; marks = o.marks; uncached = o.uncached }
 
 child_flat : (step : ℕ → List Item) (xs : List ℕ) (more : List Item) (i x : ℕ) → i < length xs → x ≡ get_or xs i x → flat_map step (drop i xs) ++ more ≡ step x ++ (flat_map step (drop (i + 1) xs) ++ more)
 child_flat step xs more i x h e =
     let rest : drop i xs ≡ x ∷ drop (i + 1) xs = drop-cons xs i x h ∙ ap (λ y. y ∷ drop (suc i) xs) (sym e) ∙ ap (λ j. x ∷ drop j xs) (sym (add-one i)) in
     rw rest (append_assoc (step x) (flat_map step (drop (i + 1) xs)) more)
 
-pub child_owed : (table : List Entry) (f : Frame) (fs : List Frame) (x : ℕ) → f.next < length f.children.items → x ≡ get_or f.children.items f.next x → owed_by table (f ∷ fs) ≡ unfolding_of table (length table - length (after f ∷ fs)) (path_of (after f ∷ fs)) f.place x ++ owed_by table (after f ∷ fs)
-child_owed table f fs x h e = child_flat (λ c. unfolding_of table (length table - suc (length fs)) (f.object ∷ path_of fs) f.place c) f.children.items (Ok EndCollection ∷ owed_by table fs) f.next x h e
+read_or : (xs : List ℕ) (i : ℕ) → get_or xs i 0 ≡ get_or xs i (get_or xs i 0)
+read_or [] i = refl
+read_or (x ∷ xs) zero = refl
+read_or (x ∷ xs) (suc i) = read_or xs i
+
+drop_all : (xs : List ℕ) (n : ℕ) → length xs ≤ n → drop n xs ≡ []
+drop_all [] zero h = refl
+drop_all [] (suc n) h = refl
+drop_all (x ∷ xs) zero h = absurd (omega arith)
+drop_all (x ∷ xs) (suc n) h = drop_all xs n (omega arith)
+
+until_some : (items : List Item) (event : PlainEvent) (more : List Item) → IsOwed (until_fault (items ++ Ok event ∷ more))
+until_some [] event more = omega arith
+until_some (Ok e ∷ items) event more = omega arith
+until_some (Err f ∷ items) event more = omega arith
+
+module _ (bytes tags contents : List ℕ) (bounds : Bounds) (f : Frame) (fs : List Frame) (k : IsKnown bytes bounds tags contents (f ∷ fs)) where
+  abbrev table : List Entry
+  table = entries_of bytes bounds
+
+  abbrev children : List ℕ
+  children = children_at (slice_get table f.object)
+
+  -- its next child
+  pub child_owed : f.next < f.count
+      → ((owed_by table (f ∷ fs) ≡ unfolding_of table (length table - length (after f ∷ fs)) (path_of (after f ∷ fs)) (place_at (slice_get table f.object)) (get_or children f.next 0) ++ owed_by table (after f ∷ fs))
+      × (f.next < length children)
+      × IsOwed (until_fault (owed_by table (f ∷ fs)))
+      × (next_number table (f ∷ fs) ≡ Some (get_or children f.next 0))) × IsKnown bytes bounds tags contents (after f ∷ fs)
+  child_owed h = (
+    (
+      child_flat (λ c. unfolding_of table (length table - suc (length fs)) (f.object ∷ path_of fs) (place_at (slice_get table f.object)) c) children (Ok EndCollection ∷ owed_by table fs) f.next (get_or children f.next 0) (rw k.counts.0 h) (read_or children f.next),
+      rw k.counts.0 h,
+      until_some (flat_map (λ c. unfolding_of table (length table - suc (length fs)) (f.object ∷ path_of fs) (place_at (slice_get table f.object)) c) (drop f.next children)) EndCollection (owed_by table fs),
+      ap (λ b. cond b (Some (get_or children f.next 0)) None) (lt-ltb f.next f.count h),
+    ),
+    record { head = k.head; within = k.within; size = k.size; held = k.held; counts = (k.counts.0, k.counts.1) },
+  )
+
+  -- or its end
+  pub closed_owed : (new : List ℕ) → f.count ≤ f.next → Remarked f.object false tags new → (owed_by table (f ∷ fs) ≡ Ok EndCollection ∷ owed_by table fs) × IsKnown bytes bounds new contents fs
+  closed_owed new h m = (
+    rw (drop_all children f.next (rw k.counts.0 h)) refl,
+    record { head = k.head; within = k.within; size = k.size ∙ sym m.size; held = λ q less. rw (m.tags q) (k.held q (rw m.size at less)); counts = k.counts.1 },
+  )
 
 one_less : (l i s w : ℕ) → i < l → (l - i) * s + 1 + w ≡ (l - (i + 1)) * s + 1 + w + s
 one_less l i s w h = let e : l - i ≡ suc (l - (i + 1)) = omega arith in rw e (omega arith)
 
-pub child_weight : (n : ℕ) (f : Frame) (fs : List Frame) → f.next < length f.children.items → weight n (f ∷ fs) ≡ weight n (after f ∷ fs) + steps (n - length (after f ∷ fs))
-child_weight n f fs h = one_less (length f.children.items) f.next (steps (n - suc (length fs))) (weight n fs) h
+pub child_weight : (n : ℕ) (f : Frame) (fs : List Frame) → f.next < f.count → weight n (f ∷ fs) ≡ weight n (after f ∷ fs) + steps (n - length (after f ∷ fs))
+child_weight n f fs h = one_less f.count f.next (steps (n - suc (length fs))) (weight n fs) h
 
--- ---- a number that isn't entered
+-- nothing closes where nothing is open
+pub closes-none : (xs : List Frame) → length xs ≡ 0 → closes (reverse xs) ≡ true → ⊥
+closes-none [] h e = absurd (cc)
+closes-none (x ∷ xs) h e = absurd (omega arith)
 
-pub refused_beyond : (places : List ℕ) (path : List ℕ) (at i : ℕ) (f : Fault) → length places ≤ i → f ≡ record { kind = ObjectReferenceTooLarge; offset = Some at } → (before : List ℕ) (width room : ℕ) → unfolding_of (table_of before width places) room path at i ≡ Err f ∷ []
-refused_beyond places path at i f h is before width room = items_beyond (table_of before width places) room path at i (slice_get-beyond before places width i h) ∙ ap (λ g. Err g ∷ []) (sym is)
-
-pub refused_open : (places : List ℕ) (path : List ℕ) (at i place : ℕ) (f : Fault) → i < length places → list_any (nat_eq i) path ≡ true → place ≡ get_or places i 0 → f ≡ record { kind = RecursiveObject; offset = Some place } → (before : List ℕ) (width room : ℕ) → unfolding_of (table_of before width places) room path at i ≡ Err f ∷ []
-refused_open places path at i place f h any is_place is before width room =
-    items_open (table_of before width places) room path at i _ (slice_get-within before places width i h) any
-    ∙ ap (λ p. Err (record { kind = RecursiveObject; offset = Some p }) ∷ []) (sym is_place) ∙ ap (λ g. Err g ∷ []) (sym is)
-
-explained : (before more : List Item) (e : Error) → MatchFault (kind_of (error_kind_of e)) ⊥ ⊥ ⊤ → before ≡ Err (fault_of e) ∷ [] → Explains (until_fault (before ++ more)) e
-explained before more e inside is = MatchFault-weaker (kind_of (error_kind_of e)) (λ none. absurd none) (λ none. absurd none) (λ _. ap (λ items. until_fault (items ++ more)) is) inside
-
--- the exit where no object is entered
-pub known_unentered : (known : Option (List ℕ)) (table : Table) (n at i : ℕ) (fs gs : List Frame) (e : Error) → ((before : List ℕ) (width room : ℕ) → unfolding_of (table_of before width table.places.items) room (path_of fs) at i ≡ Err (fault_of e) ∷ []) → MatchFault (kind_of (error_kind_of e)) ⊥ ⊥ ⊤ → IfSome known (λ bytes. table.trailer ≤ length bytes → Pays (unfolding_of (entries_of bytes table) n (path_of fs) at i ++ owed_by (entries_of bytes table) fs) (Err e) (owed_by (entries_of bytes table) gs))
-known_unentered None table n at i fs gs e refused inside = tt
-known_unentered (Some bytes) table n at i fs gs e refused inside = λ fits.
-    explained _ _ e inside (refused (take table.trailer bytes) table.reference_width n)
-
--- the exit where what is at a place is refused
-pub known_refused : (known : Option (List ℕ)) (table : Table) (n at i place : ℕ) (fs gs : List Frame) (e : Error) → n ≡ length fs → IsPath (length table.places.items) fs → i < length table.places.items → list_any (nat_eq i) (path_of fs) ≡ false → place ≡ get_or table.places.items i 0
-    → IfSome known (λ bytes. table.trailer ≤ length bytes → IsRefusedAs (object_in table.reference_width (drop place (take table.trailer bytes))) place e)
-    → IfSome known (λ bytes. table.trailer ≤ length bytes → Pays (unfolding_of (entries_of bytes table) (length table.places.items - n) (path_of fs) at i ++ owed_by (entries_of bytes table) fs) (Err e) (owed_by (entries_of bytes table) gs))
-known_refused None table n at i place fs gs e depth o h any is refused = tt
-known_refused (Some bytes) table n at i place fs gs e depth o h any is refused = λ fits.
-    pays_refused (entries_of bytes table) (length table.places.items) n fs at i _ (length-table_of (take table.trailer bytes) table.places.items table.reference_width) depth o h (slice_get-within (take table.trailer bytes) table.places.items table.reference_width i h) any e
-    (rw (← is) (refused fits))
-
--- the exit with what was entered
-pub known_entered : (known now : Option (List ℕ)) (table : Table) (n at i place : ℕ) (fs gs : List Frame) (d : Decoded) (answer : Result Event Error) → now ≡ known → i < length table.places.items → place ≡ get_or table.places.items i 0
-    → IfSome known (λ bytes. table.trailer ≤ length bytes → IsDecodedAs (object_in table.reference_width (drop place (take table.trailer bytes))) d)
-    → ((t : List Entry) (entry : Entry) (at' : ℕ) → length t ≡ length table.places.items → slice_get t i ≡ Some entry → entry.place ≡ place → IsDecodedAs entry.object d → Pays (unfolding_of t (length table.places.items - n) (path_of fs) at' i ++ owed_by t fs) answer (owed_by t gs))
-    → IfSome known (λ bytes. table.trailer ≤ length bytes → Pays (unfolding_of (entries_of bytes table) (length table.places.items - n) (path_of fs) at i ++ owed_by (entries_of bytes table) fs) answer (owed_by (entries_of bytes table) gs))
-known_entered None now table n at i place fs gs d answer same h is decoded pays = tt
-known_entered (Some bytes) now table n at i place fs gs d answer same h is decoded pays = λ fits.
-    pays (entries_of bytes table) _ at (length-table_of (take table.trailer bytes) table.places.items table.reference_width) (slice_get-within (take table.trailer bytes) table.places.items table.reference_width i h) (sym is) (rw (← is) (decoded fits))
-
-pub pays_done : (known : Option (List ℕ)) (table : Table) (fs gs : List Frame) → fs ≡ [] → gs ≡ [] → IfSome known (λ bytes. table.trailer ≤ length bytes → (owed_by (entries_of bytes table) fs ≡ []) × (owed_by (entries_of bytes table) gs ≡ []))
-pays_done None table fs gs e d = tt
-pays_done (Some bytes) table fs gs e d = λ fits. (ap (owed_by (entries_of bytes table)) e, ap (owed_by (entries_of bytes table)) d)
+-- nor where a child is left
+pub closes-child : (xs : List Frame) (f : Frame) (below : List Frame) → reverse xs ≡ f ∷ below → f.next < f.count → closes (reverse xs) ≡ true → ⊥
+closes-child xs f below whole h e =
+    let no : closes (f ∷ below) ≡ false = ap not (lt-ltb f.next f.count h) in
+    let yes : closes (f ∷ below) ≡ true = sym (ap closes whole) ∙ e in
+    absurd (cc)

@@ -1,38 +1,59 @@
 -- What contracts see of a reader: the items that it has still to give, and how much it holds open.
-use Rattle.std.specs.Prelude.{◌≡◌, ℕ, ◌≤◌, Bool, List, [], ◌∷◌, length, Option, None, Result, Ok, Err, MatchBool, MatchOption, MatchResult, OnErr, IfSome}
+use Rattle.std.specs.Prelude.{◌≡◌, ℕ, ◌^◌, ◌≤◌, Bool, true, false, List, [], ◌∷◌, length, reverse, Option, None, Some, Result, Ok, Err, MatchBool, MatchOption, MatchResult, OnErr, IfSome}
 use Rattle.plist_base.specs.declared.error.Error.{Error}
 use Rattle.plist_base.specs.declared.event.Event.{Event}
+use Rattle.plist_base.specs.declared.event.Event.TheVariants.{EndCollection}
 use Rattle.plist_base.specs.declared.source.Source.{Ghosts}
 use Rattle.plist_base.specs.Faults.{MatchFault, kind_of, error_kind_of, fault_of}
 use Rattle.plist_base.specs.Events.{Item, event_of}
 use Rattle.plist_base.specs.Sources.{ItemCountsIo}
+use Rattle.plist_binread.specs.Container.{head_of}
+use Rattle.plist_binread.specs.Failures.{ItemWithin}
 use Rattle.plist_binread.specs.declared.reader.BinaryReader.{BinaryReader}
 use Rattle.plist_binread.specs.declared.reader.State.TheVariants.{Ended}
-use Rattle.plist_binread.specs.Debt.{still_owed, is_fresh, IsOwed, WantsMemory, steps_left}
+use Rattle.plist_binread.specs.declared.frames.Frame.{Frame}
+use Rattle.plist_binread.specs.declared.counter.DecodeCounter.{Ghosts as CounterGhosts}
+use Rattle.plist_binread.specs.Debt.{IsOpen, still_owed, number_owed, cached_count, places_of, AreBoundsOf, IsKept, is_fresh, is_walking, ends_next, IsOwed, WantsMemory, steps_left}
 
 -- the source inside
-abbrev pub source_of : {R : Type 0} {g : Ghosts R} → BinaryReader R g → R
+abbrev pub source_of : {R C : Type 0} {g : Ghosts R} {h : CounterGhosts C} → BinaryReader R C g h → R
 source_of reader = reader.source
 
 -- the items still to come, where these are the file's bytes
-abbrev pub to_come : {R : Type 0} {g : Ghosts R} → List ℕ → BinaryReader R g → List Item
-to_come bytes reader = still_owed bytes reader.state reader.table reader.frames.items
+abbrev pub to_come : {R C : Type 0} {g : Ghosts R} {h : CounterGhosts C} → List ℕ → BinaryReader R C g h → List Item
+to_come bytes reader = still_owed bytes reader.state reader.bounds reader.frames.items
 
 -- has no item been asked for?
-abbrev pub is_new : {R : Type 0} {g : Ghosts R} → BinaryReader R g → Bool
+abbrev pub is_new : {R C : Type 0} {g : Ghosts R} {h : CounterGhosts C} → BinaryReader R C g h → Bool
 is_new reader = is_fresh reader.state
 
 -- the reader gives nothing more
-abbrev pub HasEnded : {R : Type 0} {g : Ghosts R} → BinaryReader R g → Type 0
+abbrev pub HasEnded : {R C : Type 0} {g : Ghosts R} {h : CounterGhosts C} → BinaryReader R C g h → Type 0
 HasEnded reader = reader.state ≡ Ended
 
 -- how many collections are open
-abbrev pub open_collections : {R : Type 0} {g : Ghosts R} → BinaryReader R g → ℕ
+abbrev pub open_collections : {R C : Type 0} {g : Ghosts R} {h : CounterGhosts C} → BinaryReader R C g h → ℕ
 open_collections reader = length reader.frames.items
 
+-- does the end of the innermost collection come next, none of whose children is left?
+abbrev pub end_comes : {R C : Type 0} {g : Ghosts R} {h : CounterGhosts C} → BinaryReader R C g h → Bool
+end_comes reader = ends_next reader.state reader.frames.items
+
+-- how many objects the head of these bytes tells
+abbrev pub told_objects : List ℕ → ℕ
+told_objects bytes = length (places_of bytes)
+
 -- how many objects the file has, as far as that has been read
-abbrev pub object_count : {R : Type 0} {g : Ghosts R} → BinaryReader R g → ℕ
-object_count reader = length reader.table.places.items
+abbrev pub object_count : {R C : Type 0} {g : Ghosts R} {h : CounterGhosts C} → BinaryReader R C g h → ℕ
+object_count reader = length reader.tags.items
+
+-- the number of the object whose item comes next, or none where that is an end
+abbrev pub number_to_come : {R C : Type 0} {g : Ghosts R} {h : CounterGhosts C} → List ℕ → BinaryReader R C g h → Option ℕ
+number_to_come bytes reader = number_owed bytes reader.state reader.bounds reader.frames.items
+
+-- a reader that has begun and not ended holds the head of these bytes
+abbrev pub HoldsHead : {R C : Type 0} {g : Ghosts R} {h : CounterGhosts C} → List ℕ → BinaryReader R C g h → Type 0
+HoldsHead bytes reader = is_walking reader.state ≡ true → AreBoundsOf (head_of bytes) reader.bounds × (object_count reader ≡ told_objects bytes)
 
 -- What was to come begins with this item and goes on with what is to come then. Nothing comes only
 -- where nothing was to come. After a fault nothing is to come; a device's fault comes only where
@@ -45,18 +66,30 @@ GivesItem new before item after =
     (λ error. (after ≡ []) × MatchFault (kind_of (error_kind_of error)) (IsOwed before) (MatchBool new (IsOwed before) (WantsMemory before)) (before ≡ Err (fault_of error) ∷ [])))
 
 -- after a fault, and where nothing comes, the reader has ended
-abbrev pub EndsAfter : {R : Type 0} {g : Ghosts R} → Option (Result Event Error) → BinaryReader R g → Type 0
+abbrev pub EndsAfter : {R C : Type 0} {g : Ghosts R} {h : CounterGhosts C} → Option (Result Event Error) → BinaryReader R C g h → Type 0
 EndsAfter item after = MatchOption item (HasEnded after) (λ answer. OnErr answer (HasEnded after))
 
+-- none of the reader's lists is longer than there are objects
+abbrev pub AreWithin : (count : ℕ) → (tags contents : List ℕ) → List Frame → Type 0
+AreWithin count tags contents frames = (length tags ≤ count) × (length contents ≤ count) × (length frames ≤ count)
+
 -- one call of `next`: known bytes stay as they are, and the item is the first of those to come
-pub record Gives {R : Type 0} {g : Ghosts R} (known : R → Option (List ℕ)) (failed : R → ℕ) (old : BinaryReader R g) (item : Option (Result Event Error)) (new : BinaryReader R g) : Type 0 where
+pub record Gives {R C : Type 0} {g : Ghosts R} {h : CounterGhosts C} (known : R → Option (List ℕ)) (failed : R → ℕ) (counts : Type 0) (count : C → ℕ) (old : BinaryReader R C g h) (item : Option (Result Event Error)) (new : BinaryReader R C g h) : Type 0 where
   pub unchanged : known (source_of new) ≡ known (source_of old)
   pub items : IfSome (known (source_of old)) (λ bytes. GivesItem (is_new old) (to_come bytes old) item (to_come bytes new))
   pub failures : ItemCountsIo item (failed (source_of old)) (failed (source_of new))
   pub ended : HasEnded old → item ≡ None
   pub ends : EndsAfter item new
-  pub nested : open_collections new ≤ object_count new
+  pub begun : is_new new ≡ false
+  pub faults : ItemWithin 0 (2 ^ 64) item
+  pub closes : end_comes old ≡ true → item ≡ Some (Ok EndCollection)
+  pub head : IfSome (known (source_of old)) (λ bytes. HoldsHead bytes new)
+  pub nested : MatchOption (known (source_of old)) (open_collections new ≤ object_count new) (λ bytes. open_collections new ≤ told_objects bytes)
+  pub cached : IfSome (known (source_of old)) (λ bytes. IsKept (number_to_come bytes old) item new.tags.items)
+  pub marked : IsOpen new.tags.items (reverse new.frames.items)
+  pub counted : counts → count new.counter ≡ cached_count new.tags.items
+  pub lists : IfSome (known (source_of old)) (λ bytes. AreWithin (told_objects bytes) new.tags.items new.contents.items new.frames.items)
 
 -- at most how many items are still to come
-abbrev pub steps_to_come : {R : Type 0} {g : Ghosts R} → BinaryReader R g → ℕ
-steps_to_come reader = steps_left reader.state (length reader.table.places.items) reader.frames.items
+abbrev pub steps_to_come : {R C : Type 0} {g : Ghosts R} {h : CounterGhosts C} → BinaryReader R C g h → ℕ
+steps_to_come reader = steps_left reader.state (length reader.tags.items) reader.frames.items

@@ -1,16 +1,20 @@
 -- What a reader in the middle of its walk still owes. A list of frames has the innermost one first.
-use Rattle.std.specs.Prelude.{◌≡◌, ℕ, zero, suc, ◌+◌, ◌-◌, ◌*◌, ◌^◌, ◌<◌, Bool, true, false, List, [], ◌∷◌, ◌++◌, length, take, drop, reverse, nat_eq, Result, Ok, Err, Option, Some, MatchResult, MatchOption, ⊤}
-use Rattle.std.specs.List.{list_any, flat_map, IsDistinct}
+use Rattle.std.specs.Prelude.{◌≡◌, ℕ, zero, suc, ◌+◌, ◌-◌, ◌*◌, ◌^◌, ◌<◌, ◌≤◌, Bool, true, false, not, List, [], ◌∷◌, ◌++◌, length, take, drop, reverse, nat_eq, nat_lt, cond, get_or, Result, Ok, Err, Option, None, Some, MatchBool, MatchResult, MatchOption, IfOk, ⊤}
+use Rattle.std.specs.List.{list_any, flat_map, IsDistinct, AllByRecursion, slice_get}
 use Rattle.plist_base.specs.declared.error.Error.{Error}
 use Rattle.plist_base.specs.declared.event.Event.{Event}
-use Rattle.plist_base.specs.Faults.{FaultKind, InvalidUtf8String, InvalidUtf16String, MatchFault, kind_of, error_kind_of, offset_of, fault_of}
+use Rattle.plist_base.specs.Faults.{Fault, FaultKind, IsIo, InvalidUtf8String, InvalidUtf16String, MatchFault, kind_of, error_kind_of, offset_of, fault_of}
 use Rattle.plist_base.specs.Events.{PlainEvent, StartArray, StartDictionary, EndCollection, Data, String, Item, event_of}
 use Rattle.plist_binread.specs.declared.frames.Frame.{Frame}
 use Rattle.plist_binread.specs.declared.frames.Turn.{Turn}
 use Rattle.plist_binread.specs.declared.frames.Turn.TheVariants as turn
 use Rattle.plist_binread.specs.declared.object.Decoded.{Decoded}
 use Rattle.plist_binread.specs.declared.object.Decoded.TheVariants as decoded
-use Rattle.plist_binread.specs.declared.table.Table.{Table}
+use Rattle.plist_binread.specs.declared.table.Bounds.{Bounds}
+use Rattle.plist_binread.specs.declared.frames.Found.{Found}
+use Rattle.plist_binread.specs.declared.frames.Found.TheVariants as found
+use Rattle.plist_binread.specs.Container.{Head, head_of}
+use Rattle.plist_binread.specs.Packed.{is_small, is_marked, unmarked, cached}
 use Rattle.plist_binread.specs.declared.reader.State.{State}
 use Rattle.plist_binread.specs.declared.reader.State.TheVariants.{Fresh, Walking, Ended}
 use Rattle.plist_binread.specs.Object.{Object, Scalar, Array, Dictionary, Faulty, children_of}
@@ -18,17 +22,33 @@ use Rattle.plist_binread.specs.Unfolding.{Entry, table_of, unfolding_of, until_f
 
 -- ---- what was decoded
 
--- a collection of this start and these children
-abbrev pub IsCollection : Object → PlainEvent → List ℕ → Type 0
-IsCollection (Array items) start children = (start ≡ StartArray (Some (length items))) × (children ≡ items)
-IsCollection (Dictionary pairs) start children = (start ≡ StartDictionary (Some (length pairs))) × (children ≡ children_of pairs)
-IsCollection (Scalar event) start children = ⊥
-IsCollection (Faulty kind) start children = ⊥
+-- the numbers of an object's children in the order of the walk
+abbrev pub children_in : Object → List ℕ
+children_in (Array items) = items
+children_in (Dictionary pairs) = children_of pairs
+children_in (Scalar event) = []
+children_in (Faulty kind) = []
+
+-- a collection of this start and so many children
+abbrev pub IsCollection : Object → PlainEvent → (count : ℕ) → Type 0
+IsCollection (Array items) start count = (start ≡ StartArray (Some (length items))) × (length items ≡ count)
+IsCollection (Dictionary pairs) start count = (start ≡ StartDictionary (Some (length pairs))) × (length (children_of pairs) ≡ count)
+IsCollection (Scalar event) start count = ⊥
+IsCollection (Faulty kind) start count = ⊥
 
 -- what was decoded is this object
 abbrev pub IsDecodedAs : Object → Decoded → Type 0
 IsDecodedAs object (decoded.Scalar event) = object ≡ Scalar (event_of event)
-IsDecodedAs object (decoded.Collection start children) = IsCollection object (event_of start) children.items
+IsDecodedAs object (decoded.Collection start count) = IsCollection object (event_of start) count
+
+-- how many small objects were decoded
+abbrev pub small_in : Decoded → ℕ
+small_in (decoded.Scalar event) = cond (is_small (event_of event)) 1 0
+small_in (decoded.Collection start count) = 0
+
+abbrev pub small_decoded : Result Decoded Error → ℕ
+small_decoded (Ok decoded) = small_in decoded
+small_decoded (Err error) = 0
 
 -- an object for which memory is wanted: a text, data, or a collection
 abbrev pub GrowsAt : Object → Type 0
@@ -55,30 +75,91 @@ abbrev pub path_of : List Frame → List ℕ
 path_of [] = []
 path_of (frame ∷ below) = frame.object ∷ path_of below
 
--- no object is open twice, and each has a number below `count`
-pub record IsPath (count : ℕ) (frames : List Frame) : Type 0 where
+-- No object is open twice, each has a tag, the marks stand exactly on those that are open, and no
+-- open object is cached.
+pub record IsOpen (tags : List ℕ) (frames : List Frame) : Type 0 where
   pub distinct : IsDistinct nat_eq (path_of frames)
-  pub below : (number : ℕ) → list_any (nat_eq number) (path_of frames) ≡ true → number < count
+  pub below : (number : ℕ) → list_any (nat_eq number) (path_of frames) ≡ true → number < length tags
+  pub marks : (number : ℕ) → number < length tags → is_marked (get_or tags number 0) ≡ list_any (nat_eq number) (path_of frames)
+  pub uncached : (number : ℕ) → is_marked (get_or tags number 0) ≡ true → unmarked (get_or tags number 0) ≡ 0
+
+-- how many objects are cached
+abbrev pub cached_count : (tags : List ℕ) → ℕ
+cached_count [] = 0
+cached_count (tag ∷ tags) = cond (nat_lt 0 (unmarked tag)) 1 0 + cached_count tags
 
 -- ---- the debt
+
+-- the place of what was found in a table
+abbrev pub place_at : Option Entry → ℕ
+place_at None = 0
+place_at (Some entry) = entry.place
+
+-- its children
+abbrev pub children_at : Option Entry → List ℕ
+children_at None = []
+children_at (Some entry) = children_in entry.object
+
+-- the event of an object that is a scalar
+abbrev pub scalar_in : Object → Option PlainEvent
+scalar_in (Scalar event) = Some event
+scalar_in (Array items) = None
+scalar_in (Dictionary pairs) = None
+scalar_in (Faulty kind) = None
+
+-- the event of what was found, where that is a scalar
+abbrev pub scalar_at : Option Entry → Option PlainEvent
+scalar_at None = None
+scalar_at (Some entry) = scalar_in entry.object
 
 module _ (table : List Entry) where
   -- the items that the frames still owe, were there no fault: those of the children of the innermost one that are still to come, its end, and what the frames below owe
   abbrev pub owed_by : List Frame → List Item
   owed_by [] = []
   owed_by (frame ∷ below) =
-      flat_map (unfolding_of table (length table - suc (length below)) (frame.object ∷ path_of below) frame.place) (drop frame.next frame.children.items)
+      flat_map (unfolding_of table (length table - suc (length below)) (frame.object ∷ path_of below) (place_at (slice_get table frame.object))) (drop frame.next (children_at (slice_get table frame.object)))
       ++ Ok EndCollection ∷ owed_by below
 
--- the objects of a table that the code holds, over the file's bytes
-abbrev pub entries_of : List ℕ → Table → List Entry
-entries_of bytes table = table_of (take table.trailer bytes) table.reference_width table.places.items
+-- ---- what is known of the file's bytes
+
+-- the places of the objects of a file with this head
+abbrev pub places_with : Result Head Fault → List ℕ
+places_with (Ok head) = head.places
+places_with (Err fault) = []
+
+-- the places of a file's objects
+abbrev pub places_of : List ℕ → List ℕ
+places_of bytes = places_with (head_of bytes)
+
+-- the file's objects, with these bounds
+abbrev pub entries_of : List ℕ → Bounds → List Entry
+entries_of bytes bounds = table_of (take bounds.trailer bytes) bounds.reference_width (places_of bytes)
+
+-- a file of this head has these bounds
+abbrev pub AreBoundsOf : Result Head Fault → Bounds → Type 0
+AreBoundsOf answer bounds = MatchResult answer (λ head. (bounds.trailer ≡ head.trailer) × (bounds.reference_width ≡ head.reference_width)) (λ fault. ⊥)
+
+-- what is held of an object is its place, or else this scalar
+abbrev pub HoldsPlaceOr : (is_place : Bool) → Option PlainEvent → (content : ℕ) → Option Entry → Type 0
+HoldsPlaceOr is_place scalar content entry = MatchBool is_place (content ≡ place_at entry) (MatchOption scalar ⊥ (λ event. scalar_at entry ≡ Some event))
+
+-- a tag and a content hold this object: its place, or all of a small scalar
+abbrev pub IsHeld : Option Entry → (tag content : ℕ) → Type 0
+IsHeld entry tag content = HoldsPlaceOr (nat_eq (unmarked tag) 0) (cached tag content) content entry
+
+-- what a reader knows of a file of these bytes once it has read its table
+pub record IsKnown (bytes : List ℕ) (bounds : Bounds) (tags contents : List ℕ) (frames : List Frame) : Type 0 where
+  pub head : AreBoundsOf (head_of bytes) bounds
+  pub within : bounds.trailer ≤ length bytes
+  pub size : length (places_of bytes) ≡ length tags
+  pub held : (number : ℕ) → number < length tags → IsHeld (slice_get (entries_of bytes bounds) number) (get_or tags number 0) (get_or contents number 0)
+  pub counts : AllByRecursion (λ frame. length (children_at (slice_get (entries_of bytes bounds) frame.object)) ≡ frame.count) frames
 
 -- the items to come
-abbrev pub still_owed : List ℕ → State → Table → List Frame → List Item
-still_owed bytes Fresh table frames = items_of_file bytes
-still_owed bytes Walking table frames = until_fault (owed_by (entries_of bytes table) (reverse frames))
-still_owed bytes Ended table frames = []
+abbrev pub still_owed : List ℕ → State → Bounds → List Frame → List Item
+still_owed bytes Fresh bounds frames = items_of_file bytes
+still_owed bytes Walking bounds frames = until_fault (owed_by (entries_of bytes bounds) (reverse frames))
+still_owed bytes Ended bounds frames = []
 
 -- ---- what a step pays
 
@@ -122,27 +203,85 @@ steps (suc room) = 2 + 2 ^ 64 * steps room
 
 abbrev pub weight : (count : ℕ) → List Frame → ℕ
 weight count [] = 0
-weight count (frame ∷ below) = (length frame.children.items - frame.next) * steps (count - suc (length below)) + 1 + weight count below
+weight count (frame ∷ below) = (frame.count - frame.next) * steps (count - suc (length below)) + 1 + weight count below
 
 abbrev pub steps_left : State → (count : ℕ) → List Frame → ℕ
 steps_left Fresh count frames = steps (2 ^ 64) + 1
 steps_left Walking count frames = weight count (reverse frames)
 steps_left Ended count frames = 0
 
+-- the number of the object whose item these frames owe first, or none where that is an end
+abbrev pub next_number : List Entry → List Frame → Option ℕ
+next_number table [] = None
+next_number table (frame ∷ below) = cond (nat_lt frame.next frame.count) (Some (get_or (children_at (slice_get table frame.object)) frame.next 0)) None
+
 -- ---- what the innermost frame asks for
 
 abbrev pub Turns : List Entry → List Frame → Turn → List Frame → Type 0
-Turns table old turn.Done new = old ≡ []
+Turns table old turn.Done new = (old ≡ []) × (new ≡ [])
 Turns table old turn.Closed new = owed_by table old ≡ Ok EndCollection ∷ owed_by table new
-Turns table old (turn.Child at number) new =
-    owed_by table old ≡ unfolding_of table (length table - length new) (path_of new) at number ++ owed_by table new
+Turns table old (turn.Child object index) new =
+    (owed_by table old ≡ unfolding_of table (length table - length new) (path_of new) (place_at (slice_get table object)) (get_or (children_at (slice_get table object)) index 0) ++ owed_by table new)
+    × (index < length (children_at (slice_get table object)))
+    × IsOwed (until_fault (owed_by table old))
+    × (next_number table old ≡ Some (get_or (children_at (slice_get table object)) index 0))
 
 abbrev pub Lightens : (count : ℕ) → List Frame → Turn → List Frame → Type 0
-Lightens count old turn.Done new = new ≡ []
+Lightens count old turn.Done new = Unit {0}
 Lightens count old turn.Closed new = weight count old ≡ weight count new + 1
-Lightens count old (turn.Child at number) new = weight count old ≡ weight count new + steps (count - length new)
+Lightens count old (turn.Child object index) new = weight count old ≡ weight count new + steps (count - length new)
 
 abbrev pub is_fresh : State → Bool
 is_fresh Fresh = true
 is_fresh Walking = false
 is_fresh Ended = false
+
+abbrev pub is_walking : State → Bool
+is_walking Fresh = false
+is_walking Walking = true
+is_walking Ended = false
+
+-- has the innermost collection no child left?
+abbrev pub closes : List Frame → Bool
+closes [] = false
+closes (frame ∷ below) = not (nat_lt frame.next frame.count)
+
+-- does an end come next?
+abbrev pub ends_next : State → List Frame → Bool
+ends_next Fresh frames = false
+ends_next Walking frames = closes (reverse frames)
+ends_next Ended frames = false
+
+-- ---- what is looked up and read
+
+-- what was found by a tag and a content: a scalar, or the place of an object that isn't cached
+abbrev pub IsFound : (tag content : ℕ) → Found → Type 0
+IsFound tag content (found.Scalar event) = (0 < unmarked tag) × (cached tag content ≡ Some (event_of event))
+IsFound tag content (found.Place place) = (unmarked tag ≡ 0) × (place ≡ content)
+
+-- a child's number, where the object has so many
+abbrev pub ReadsChild : Object → (index : ℕ) → Result ℕ Error → Type 0
+ReadsChild object index answer = index < length (children_in object) → MatchResult answer (λ number. number ≡ get_or (children_in object) index 0) (λ error. IsIo (kind_of (error_kind_of error)))
+
+-- a child that is asked for is one of an open object that isn't cached
+abbrev pub IsWithin : (tags : List ℕ) → Turn → Type 0
+IsWithin tags (turn.Child object index) = (object < length tags) × (unmarked (get_or tags object 0) ≡ 0)
+IsWithin tags _ = Unit {0}
+
+-- ---- which object comes next
+
+-- the number of the root of a file with this head
+abbrev pub root_with : Result Head Fault → Option ℕ
+root_with (Ok head) = Some head.root
+root_with (Err fault) = None
+
+-- the number of the object that comes next
+abbrev pub number_owed : List ℕ → State → Bounds → List Frame → Option ℕ
+number_owed bytes Fresh bounds frames = root_with (head_of bytes)
+number_owed bytes Walking bounds frames = next_number (entries_of bytes bounds) (reverse frames)
+number_owed bytes Ended bounds frames = None
+
+-- the object is cached if the event that it gave is small
+abbrev pub IsKept : Option ℕ → Option (Result Event Error) → (tags : List ℕ) → Type 0
+IsKept None item tags = ⊤
+IsKept (Some number) item tags = MatchOption item ⊤ (λ answer. IfOk answer (λ event. is_small (event_of event) ≡ true → 0 < unmarked (get_or tags number 0)))

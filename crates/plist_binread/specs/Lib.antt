@@ -1,9 +1,12 @@
 pub mod Container
 pub mod Object
 pub mod Places
+pub mod Failures
 pub mod Unfolding
 pub mod Visits
 pub mod Tables
+pub mod Packed
+pub mod Codes
 pub mod Debt
 pub mod Coming
 pub mod Examples

@@ -1,28 +1,35 @@
 //! The collections that are open, and the walk from one item to the next.
 
-ghost use Rattle.std.specs.Prelude.{◌≡◌, ℕ, ◌+◌, ◌-◌, ◌^◌, ◌<◌, ◌≤◌, List, [], ◌∷◌, ◌++◌, length, reverse, slice_index, nat_eq, false, Ok, Err, IfOk, IfErr, OnOk, OnErr, IfSome, MatchResult, Some};
-ghost use Rattle.std.specs.List.{list_any, slice_get};
+ghost use Rattle.std.specs.Prelude.{◌≡◌, ℕ, ◌+◌, ◌-◌, ◌^◌, ◌<◌, ◌≤◌, List, [], ◌∷◌, ◌++◌, length, get_or, reverse, true, false, Ok, Err, IfOk, IfErr, OnOk, OnErr, IfSome, MatchResult, Some, ⊤};
+ghost use Rattle.std.specs.List.{slice_get};
+ghost use Rattle.plist_base.specs.declared.event.Event.TheVariants.{EndCollection};
+ghost use Rattle.plist_base.specs.Events.{event_of};
 ghost use Rattle.plist_base.specs.Faults.{OutOfMemory, MatchFault, kind_of, error_kind_of, fault_of, fault_nowhere};
 ghost use Rattle.plist_base.specs.Sources.{AnswersIo, ItemCountsIo};
-ghost use Rattle.plist_binread.specs.Unfolding.{Entry, table_of, unfolding_of};
-ghost use Rattle.plist_binread.specs.Debt.{IsDecodedAs, path_of, IsPath, owed_by, entries_of, Pays, PaysNext, steps, weight, Turns, Lightens};
+ghost use Rattle.plist_binread.specs.declared.frames.Turn.TheVariants.{Closed};
+ghost use Rattle.plist_binread.specs.Packed.{is_small, is_marked, unmarked};
+ghost use Rattle.plist_binread.specs.Object.{Object};
+ghost use Rattle.plist_binread.specs.Unfolding.{Entry, unfolding_of, until_fault};
+ghost use Rattle.plist_binread.specs.Debt.{IsDecodedAs, small_in, path_of, IsOpen, IsKnown, IsFound, IsWithin, IsKept, cached_count, owed_by, entries_of, next_number, Explains, Pays, PaysNext, steps, weight, Turns, Lightens, closes};
+ghost use Rattle.plist_binread.specs.Failures.{ErrWithin, ItemWithin};
 
+use crate::child::read_child;
+use crate::counter::DecodeCounter;
 use crate::object::{Decoded, decode};
-use crate::table::Table;
+use crate::packed::{keep, mark, pack, unmark, unpack};
+use crate::table::Bounds;
 use plist_base::{Error, ErrorKind, Event, OwnedEvent, Source};
 use std::alloc::Global;
 
 /// An open collection.
-#[derive(Drop)]
+#[derive(Clone, Copy)]
 pub struct Frame {
     /// The number of its object.
     pub object: u64,
-    /// The place of its object.
-    pub place: u64,
-    /// The numbers of its children in the order of the walk.
-    pub children: Vec<u64>,
-    /// How many of the children have been entered.
-    pub next: usize,
+    /// How many of its children have been entered.
+    pub next: u64,
+    /// How many children it has.
+    pub count: u64,
 }
 
 /// What the innermost collection asks for.
@@ -32,97 +39,133 @@ pub enum Turn {
     Done,
     /// It had no more children and was closed.
     Closed,
-    /// This object is its next child, referred to from this place.
+    /// The child of this place among the children of this object.
     Child(u64, u64),
 }
 
-fn is_open(frames: &[Frame], number: u64) -> bool
-    ensures { result ≡ list_any (nat_eq number) (path_of (reverse frames.now)) }
-{
-    has_frame(frames, number)
+/// What is held of an object.
+#[derive(Drop)]
+pub enum Found {
+    /// All of a small scalar.
+    Scalar(OwnedEvent),
+    /// The place of an object that isn't cached.
+    Place(u64),
 }
 
-fn has_frame(frames: &[Frame], number: u64) -> bool
-    ensures { result ≡ list_any (λ f. nat_eq f.object number) frames.now }
+// What is held of an object that is about to be entered, referred to from `at`.
+fn look_up(
+    alloc: Global,
+    tags: &[u8],
+    contents: &[u64],
+    at: u64,
+    number: u64,
+) -> Result<Found, Error>
+    requires { length contents.now ≡ length tags.now }
+    ensures below { IfOk result (λ _. number < length tags.now) }
+    ensures new { IfOk result (λ _. is_marked (get_or tags.now number 0) ≡ false) }
+    ensures found { IfOk result (λ found.
+        IsFound (get_or tags.now number 0) (get_or contents.now number 0) found) }
+    ensures inside { IfErr result (λ e. MatchFault (kind_of (error_kind_of e)) ⊥ ⊤ ⊤) }
+    ensures refused { IfErr result (λ e. (bytes : List ℕ) (bounds : Bounds) (frames : List Frame) →
+        IsOpen tags.now frames → IsKnown bytes bounds tags.now contents.now frames →
+        Explains (until_fault
+        (unfolding_of (entries_of bytes bounds) (length tags.now - length frames) (path_of frames)
+        at number ++ owed_by (entries_of bytes bounds) frames)) e) }
+    ensures fault { ErrWithin 0 0 result }
 {
-    frames.iter().any(|frame| frame.object == number)
-}
-
-// The place of an object that is about to be entered, referred to from `at`.
-fn place_of(places: &[u64], frames: &[Frame], at: u64, number: u64) -> Result<u64, Error>
-    ensures below { IfOk result (λ _. number < length places.now) }
-    ensures place { IfOk result (λ place. place ≡ slice_index places.now number) }
-    ensures new { IfOk result (λ _.
-        list_any (nat_eq number) (path_of (reverse frames.now)) ≡ false) }
-    ensures refused { IfErr result (λ e. (before : List ℕ) (width room : ℕ) →
-        unfolding_of (table_of before width places.now) room (path_of (reverse frames.now))
-        at number
-        ≡ Err (fault_of e) ∷ []) }
-    ensures inside { IfErr result (λ e. MatchFault (kind_of (error_kind_of e)) ⊥ ⊥ (Unit {0})) }
-{
-    if number >= places.len() as u64 {
+    if number >= tags.len() as u64 {
         return Err(ErrorKind::ObjectReferenceTooLarge.with_byte_offset(at));
     }
-    let place = places[number as usize];
-    if is_open(frames, number) {
-        return Err(ErrorKind::RecursiveObject.with_byte_offset(place));
+    let tag = tags[number as usize];
+    let content = contents[number as usize];
+    if tag >= 128 {
+        return Err(ErrorKind::RecursiveObject.with_byte_offset(content));
     }
-    Ok(place)
+    if tag == 0 {
+        return Ok(Found::Place(content));
+    }
+    match unpack(alloc, tag, content)? {
+        Some(event) => Ok(Found::Scalar(event)),
+        None => Err(ErrorKind::ObjectReferenceTooLarge.with_byte_offset(at)),
+    }
 }
 
-fn push_frame(frames: &mut Vec<Frame>, frame: Frame) -> Result<(), Error>
-    ensures ok { OnOk result (frames.new.items ≡ frames.old.items ++ frame ∷ []) }
+// Opens a collection of so many children.
+fn push_frame(frames: &mut Vec<Frame>, object: u64, count: u64) -> Result<(), Error>
+    ensures ok { OnOk result (frames.new.items
+        ≡ frames.old.items ++ record { object = object; next = 0; count = count } ∷ []) }
+    ensures small { count < 2 ^ 64 }
     ensures err { IfErr result (λ e. fault_of e ≡ fault_nowhere OutOfMemory) }
     ensures unchanged { OnErr result (frames.new.items ≡ frames.old.items) }
 {
-    frames.push(frame)?;
+    frames.push(Frame {
+        object,
+        next: 0,
+        count,
+    })?;
     Ok(())
 }
 
-// Gives what was decoded, and opens it where it is a collection.
+// Gives what was decoded, keeps it where it is a small scalar, and opens it where it is a collection.
 fn open(
-    count: usize,
+    tags: &mut Vec<u8>,
+    contents: &mut Vec<u64>,
     frames: &mut Vec<Frame>,
     number: u64,
-    place: u64,
     decoded: Decoded,
 ) -> Result<OwnedEvent, Error>
-    requires path { IsPath count (reverse frames.old.items) }
-    requires below { number < count }
-    requires new { list_any (nat_eq number) (path_of (reverse frames.old.items)) ≡ false }
-    ensures path { IsPath count (reverse frames.new.items) }
-    ensures falls { OnOk result (weight count (reverse frames.new.items)
-        < weight count (reverse frames.old.items) + steps (count - length frames.old.items)) }
-    ensures pays { (table : List Entry) (entry : Entry) (at : ℕ) → length table ≡ count →
-        slice_get table number ≡ Some entry → entry.place ≡ place →
+    requires same { length contents.old.items ≡ length tags.old.items }
+    requires path { IsOpen tags.old.items (reverse frames.old.items) }
+    requires below { number < length tags.old.items }
+    requires new { get_or tags.old.items number 0 ≡ 0 }
+    ensures size { length tags.new.items ≡ length tags.old.items }
+    ensures same { length contents.new.items ≡ length tags.new.items }
+    ensures path { IsOpen tags.new.items (reverse frames.new.items) }
+    ensures counted { cached_count tags.new.items ≡ cached_count tags.old.items + small_in decoded }
+    ensures kept { (object : Object) → IsDecodedAs object decoded → IfOk result (λ event.
+        is_small (event_of event) ≡ true → 0 < unmarked (get_or tags.new.items number 0)) }
+    ensures falls { OnOk result (weight (length tags.old.items) (reverse frames.new.items)
+        < weight (length tags.old.items) (reverse frames.old.items)
+        + steps (length tags.old.items - length frames.old.items)) }
+    ensures pays { (bytes : List ℕ) (bounds : Bounds) (entry : Entry) (at : ℕ) →
+        IsKnown bytes bounds tags.old.items contents.old.items (reverse frames.old.items) →
+        slice_get (entries_of bytes bounds) number ≡ Some entry →
         IsDecodedAs entry.object decoded →
-        Pays (unfolding_of table (count - length frames.old.items)
+        Pays (unfolding_of (entries_of bytes bounds) (length tags.old.items - length frames.old.items)
         (path_of (reverse frames.old.items)) at number
-        ++ owed_by table (reverse frames.old.items))
-        result (owed_by table (reverse frames.new.items)) }
+        ++ owed_by (entries_of bytes bounds) (reverse frames.old.items))
+        result (owed_by (entries_of bytes bounds) (reverse frames.new.items))
+        × IsKnown bytes bounds tags.new.items contents.new.items (reverse frames.new.items) }
     ensures memory { IfErr result (λ e. fault_of e ≡ fault_nowhere OutOfMemory) }
 {
     match decoded {
-        Decoded::Scalar(event) => Ok(event),
-        Decoded::Collection(start, children) => {
-            let frame = Frame {
-                object: number,
-                place,
-                children,
-                next: 0,
-            };
-            push_frame(frames, frame)?;
+        Decoded::Scalar(event) => match pack(&event) {
+            Some((tag, content)) => {
+                keep(tags, contents, number as usize, tag, content);
+                Ok(event)
+            }
+            None => Ok(event),
+        },
+        Decoded::Collection(start, count) => {
+            push_frame(frames, number, count)?;
+            mark(tags, number as usize);
             Ok(start)
         }
     }
 }
 
 // Takes the next child of the innermost collection, or closes it where it has no more.
-fn turn_of(frames: &mut Vec<Frame>) -> Turn
-    ensures path { (count : ℕ) → IsPath count (reverse frames.old.items) →
-        IsPath count (reverse frames.new.items) }
-    ensures owed { (table : List Entry) →
-        Turns table (reverse frames.old.items) result (reverse frames.new.items) }
+fn turn_of(tags: &mut Vec<u8>, frames: &mut Vec<Frame>) -> Turn
+    requires { IsOpen tags.old.items (reverse frames.old.items) }
+    ensures size { length tags.new.items ≡ length tags.old.items }
+    ensures path { IsOpen tags.new.items (reverse frames.new.items) }
+    ensures counted { cached_count tags.new.items ≡ cached_count tags.old.items }
+    ensures within { IsWithin tags.new.items result }
+    ensures closes { closes (reverse frames.old.items) ≡ true → result ≡ Closed }
+    ensures owed { (bytes contents : List ℕ) (bounds : Bounds) →
+        IsKnown bytes bounds tags.old.items contents (reverse frames.old.items) →
+        Turns (entries_of bytes bounds) (reverse frames.old.items) result (reverse frames.new.items)
+        × IsKnown bytes bounds tags.new.items contents (reverse frames.new.items) }
     ensures weight { (count : ℕ) →
         Lightens count (reverse frames.old.items) result (reverse frames.new.items) }
 {
@@ -131,66 +174,111 @@ fn turn_of(frames: &mut Vec<Frame>) -> Turn
         return Turn::Done;
     }
     let frame = &mut frames[depth - 1];
-    if frame.next < frame.children.len() {
-        let number = frame.children[frame.next];
-        let at = frame.place;
+    if frame.next < frame.count {
+        let index = frame.next;
         frame.next += 1;
-        return Turn::Child(at, number);
+        return Turn::Child(frame.object, index);
     }
+    let object = frame.object;
+    unmark(tags, object as usize);
     let _ = frames.pop();
     Turn::Closed
 }
 
 /// The first item of an object, referred to from `at`. A collection is then open.
-pub fn enter<S: Source>(
+pub fn enter<S: Source, C: DecodeCounter>(
     alloc: Global,
     source: &mut S,
-    table: &Table,
+    counter: &mut C,
+    bounds: &Bounds,
+    tags: &mut Vec<u8>,
+    contents: &mut Vec<u64>,
     frames: &mut Vec<Frame>,
     at: u64,
     number: u64,
 ) -> Result<OwnedEvent, Error>
-    requires { IsPath (length table.now.places.items) (reverse frames.old.items) }
-    ensures path { IsPath (length table.now.places.items) (reverse frames.new.items) }
-    ensures pays { IfSome (S.known source.old) (λ bytes. table.now.trailer ≤ length bytes →
-        Pays (unfolding_of (entries_of bytes table.now)
-        (length table.now.places.items - length frames.old.items)
+    requires same { length contents.old.items ≡ length tags.old.items }
+    requires path { IsOpen tags.old.items (reverse frames.old.items) }
+    requires known { IfSome (S.known source.old) (λ bytes.
+        IsKnown bytes bounds.now tags.old.items contents.old.items (reverse frames.old.items)) }
+    requires counted { C.counts → C.count counter.old ≡ cached_count tags.old.items }
+    ensures size { length tags.new.items ≡ length tags.old.items }
+    ensures same { length contents.new.items ≡ length tags.new.items }
+    ensures path { IsOpen tags.new.items (reverse frames.new.items) }
+    ensures known { IfSome (S.known source.old) (λ bytes.
+        IsKnown bytes bounds.now tags.new.items contents.new.items (reverse frames.new.items)) }
+    ensures counted { C.counts → C.count counter.new ≡ cached_count tags.new.items }
+    ensures kept { IfSome (S.known source.old) (λ bytes.
+        IsKept (Some number) (Some result) tags.new.items) }
+    ensures pays { IfSome (S.known source.old) (λ bytes.
+        Pays (unfolding_of (entries_of bytes bounds.now)
+        (length tags.old.items - length frames.old.items)
         (path_of (reverse frames.old.items)) at number
-        ++ owed_by (entries_of bytes table.now) (reverse frames.old.items))
-        result (owed_by (entries_of bytes table.now) (reverse frames.new.items))) }
-    ensures falls { OnOk result (weight (length table.now.places.items) (reverse frames.new.items)
-        < weight (length table.now.places.items) (reverse frames.old.items)
-        + steps (length table.now.places.items - length frames.old.items)) }
+        ++ owed_by (entries_of bytes bounds.now) (reverse frames.old.items))
+        result (owed_by (entries_of bytes bounds.now) (reverse frames.new.items))) }
+    ensures falls { OnOk result (weight (length tags.old.items) (reverse frames.new.items)
+        < weight (length tags.old.items) (reverse frames.old.items)
+        + steps (length tags.old.items - length frames.old.items)) }
+    ensures fault { ErrWithin 0 bounds.now.trailer result }
     ensures unchanged { S.known source.new ≡ S.known source.old }
     ensures failures { AnswersIo result (S.failures source.old) (S.failures source.new) }
 {
-    let place = place_of(table.places.as_slice(), frames.as_slice(), at, number)?;
-    let decoded = decode(alloc, source, table, place)?;
-    open(table.places.len(), frames, number, place, decoded)
+    match look_up(alloc, tags.as_slice(), contents.as_slice(), at, number)? {
+        Found::Scalar(event) => Ok(event),
+        Found::Place(place) => {
+            let decoded = decode(alloc, source, counter, bounds, place)?;
+            open(tags, contents, frames, number, decoded)
+        }
+    }
 }
 
 /// The next item of what the open collections owe.
-pub fn advance<S: Source>(
+pub fn advance<S: Source, C: DecodeCounter>(
     alloc: Global,
     source: &mut S,
-    table: &Table,
+    counter: &mut C,
+    bounds: &Bounds,
+    tags: &mut Vec<u8>,
+    contents: &mut Vec<u64>,
     frames: &mut Vec<Frame>,
 ) -> Option<Result<OwnedEvent, Error>>
-    requires { IsPath (length table.now.places.items) (reverse frames.old.items) }
-    ensures path { IsPath (length table.now.places.items) (reverse frames.new.items) }
-    ensures pays { IfSome (S.known source.old) (λ bytes. table.now.trailer ≤ length bytes →
-        PaysNext (owed_by (entries_of bytes table.now) (reverse frames.old.items)) result
-        (owed_by (entries_of bytes table.now) (reverse frames.new.items))) }
+    requires same { length contents.old.items ≡ length tags.old.items }
+    requires path { IsOpen tags.old.items (reverse frames.old.items) }
+    requires known { IfSome (S.known source.old) (λ bytes.
+        IsKnown bytes bounds.now tags.old.items contents.old.items (reverse frames.old.items)) }
+    requires counted { C.counts → C.count counter.old ≡ cached_count tags.old.items }
+    ensures size { length tags.new.items ≡ length tags.old.items }
+    ensures same { length contents.new.items ≡ length tags.new.items }
+    ensures path { IsOpen tags.new.items (reverse frames.new.items) }
+    ensures known { IfSome (S.known source.old) (λ bytes.
+        IsKnown bytes bounds.now tags.new.items contents.new.items (reverse frames.new.items)) }
+    ensures counted { C.counts → C.count counter.new ≡ cached_count tags.new.items }
+    ensures kept { IfSome (S.known source.old) (λ bytes.
+        IsKept (next_number (entries_of bytes bounds.now) (reverse frames.old.items)) result
+        tags.new.items) }
+    ensures closes { closes (reverse frames.old.items) ≡ true → result ≡ Some (Ok EndCollection) }
+    ensures pays { IfSome (S.known source.old) (λ bytes.
+        PaysNext (owed_by (entries_of bytes bounds.now) (reverse frames.old.items)) result
+        (owed_by (entries_of bytes bounds.now) (reverse frames.new.items))) }
     ensures falls { IfSome result (λ answer.
-        (0 < weight (length table.now.places.items) (reverse frames.old.items))
-        × OnOk answer (weight (length table.now.places.items) (reverse frames.new.items)
-        < weight (length table.now.places.items) (reverse frames.old.items))) }
+        (0 < weight (length tags.old.items) (reverse frames.old.items))
+        × OnOk answer (weight (length tags.old.items) (reverse frames.new.items)
+        < weight (length tags.old.items) (reverse frames.old.items))) }
+    ensures fault { ItemWithin 0 bounds.now.trailer result }
     ensures unchanged { S.known source.new ≡ S.known source.old }
     ensures failures { ItemCountsIo result (S.failures source.old) (S.failures source.new) }
 {
-    match turn_of(frames) {
+    match turn_of(tags, frames) {
         Turn::Done => None,
         Turn::Closed => Some(Ok(Event::EndCollection)),
-        Turn::Child(at, number) => Some(enter(alloc, source, table, frames, at, number)),
+        Turn::Child(object, index) => {
+            let at = contents[object as usize];
+            match read_child(source, bounds, at, index) {
+                Ok(number) => Some(enter(
+                    alloc, source, counter, bounds, tags, contents, frames, at, number,
+                )),
+                Err(error) => Some(Err(error)),
+            }
+        }
     }
 }

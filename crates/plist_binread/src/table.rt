@@ -1,6 +1,8 @@
 //! The object table.
 
-ghost use Rattle.std.specs.Prelude.{ℕ, ◌<◌, ◌≤◌};
+ghost use Rattle.std.specs.Prelude.{◌≡◌, ℕ, ◌^◌, ◌<◌, ◌≤◌, length, IfOk, IfErr, IfSome};
+ghost use Rattle.plist_base.specs.Faults.{Io, fault_of, fault_at};
+ghost use Rattle.plist_base.specs.Sources.{AnswersIo};
 
 use crate::numbers::read_numbers;
 use crate::trailer::{check_trailer, has_magic, read_trailer};
@@ -25,25 +27,52 @@ pub struct Table {
     ghost width: { (0 < reference_width) × (reference_width ≤ 8) },
 }
 
+/// Where the objects end, and how wide a reference is.
+#[derive(Clone, Copy)]
+pub struct Bounds {
+    /// Where the trailer begins, and what lies before it ends.
+    pub trailer: u64,
+    /// How many bytes a reference has.
+    pub reference_width: usize,
+    ghost width: { (0 < reference_width) × (reference_width ≤ 8) },
+    ghost small: { trailer < 2 ^ 64 },
+}
+
+impl Bounds {
+    ghost use Rattle.std.specs.Prelude.{◌≡◌};
+
+    /// Nothing lies within.
+    pub fn new() -> Self
+        ensures { result.trailer ≡ 0 }
+    {
+        Bounds {
+            trailer: 0,
+            reference_width: 1,
+        }
+    }
+}
+
+// The number of bytes.
+fn read_size<S: Source>(source: &mut S) -> Result<u64, Error>
+    ensures length { IfOk result (λ size. IfSome (S.known source.old) (λ bytes.
+        size ≡ length bytes)) }
+    ensures refused { IfErr result (λ e. fault_of e ≡ fault_at Io 0) }
+    ensures unchanged { S.known source.new ≡ S.known source.old }
+    ensures failures { AnswersIo result (S.failures source.old) (S.failures source.new) }
+{
+    match source.size() {
+        Ok(size) => Ok(size),
+        Err(error) => Err(ErrorKind::Io(error).with_byte_offset(0)),
+    }
+}
+
 impl Table {
     ghost use Rattle.std.specs.Prelude.{◌≡◌, ◌+◌, ◌-◌, ◌*◌, ◌^◌, ◌<◌, ◌≤◌, ℕ, [], length, drop, Ok, Err, IfOk, IfErr, IfSome, MatchResult, ⊤};
     ghost use Rattle.plist_base.specs.Faults.{MatchFault, kind_of, error_kind_of, fault_of};
     ghost use Rattle.plist_base.specs.Sources.{AnswersIo};
+    ghost use Rattle.plist_binread.specs.Failures.{ErrWithin};
     ghost use Rattle.plist_binread.specs.Container.{trailer_in, head_with, head_of};
     ghost use Rattle.plist_binread.specs.Tables.{head_seen};
-
-    /// No object at all.
-    pub fn new(alloc: Global) -> Self
-        ensures trailer { result.trailer ≡ 0 }
-        ensures places { result.places.items ≡ [] }
-    {
-        Table {
-            trailer: 0,
-            reference_width: 1,
-            root: 0,
-            places: Vec::new(alloc),
-        }
-    }
 
     /// Reads the table of a file.
     pub fn read<S: Source>(alloc: Global, source: &mut S) -> Result<Self, Error>
@@ -53,13 +82,11 @@ impl Table {
             table.trailer ≤ length bytes)) }
         ensures refused { IfErr result (λ e. IfSome (S.known source.old) (λ bytes.
             MatchFault (kind_of (error_kind_of e)) ⊤ ⊤ (head_of bytes ≡ Err (fault_of e)))) }
+        ensures fault { ErrWithin 0 (2 ^ 64) result }
         ensures unchanged { S.known source.new ≡ S.known source.old }
         ensures failures { AnswersIo result (S.failures source.old) (S.failures source.new) }
     {
-        let size = match source.size() {
-            Ok(size) => size,
-            Err(error) => return Err(ErrorKind::Io(error).with_byte_offset(0)),
-        };
+        let size = read_size(source)?;
         if size < MAGIC_SIZE {
             return Err(ErrorKind::UnexpectedEof.with_byte_offset(size));
         }
@@ -82,6 +109,7 @@ impl Table {
         ensures refused { IfErr result (λ e. IfSome (S.known source.old) (λ bytes.
             length bytes ≡ trailer + 32 → MatchFault (kind_of (error_kind_of e)) ⊤ ⊤
             (head_with bytes trailer (trailer_in (drop trailer bytes)) ≡ Err (fault_of e)))) }
+        ensures fault { ErrWithin 0 (trailer + 32) result }
         ensures unchanged { S.known source.new ≡ S.known source.old }
         ensures failures { AnswersIo result (S.failures source.old) (S.failures source.new) }
     {

@@ -14,6 +14,8 @@ use Rattle.plist_reader.specs.Streams.{bytes_left, source_of, place_of}
 use Rattle.plist_base.specs.Sources.{ItemCountsIo}
 use Rattle.plist_base.proofs.Refusals.{MatchFault-weaker, MatchFault-all}
 use Rattle.plist_binread.specs.declared.reader.BinaryReader.{BinaryReader}
+use Rattle.plist_binread.specs.declared.counter.Uncounted.{Uncounted}
+use Rattle.plist_binread.specs.contracts.counter.UncountedDecodeCounter.TheImpl.{ghosts}
 use Rattle.plist_binread.specs.Coming as binary
 use Rattle.plist_binread.specs.Debt.{IsOwed, WantsMemory}
 use Rattle.plist_binread.specs.Unfolding.{items_of_file}
@@ -30,6 +32,10 @@ use Rattle.plist_reader.specs.Formats.{format_of, front}
 
 abbrev pub Given : Type 0
 Given = Option (Result Event Error)
+
+-- the binary reader, which counts nothing
+abbrev pub PlainReader : (R : Type 0) → Ghosts R → Type 0
+PlainReader R g = BinaryReader R Uncounted g ghosts
 
 -- ---- where memory is wanted something is to come
 
@@ -104,7 +110,7 @@ ascii-items (Some bytes) l e is =
     ∙ ap (λ b. Some (items_of_ascii lax b 0)) (take-twice bytes) ∙ ap (λ f. Some (items_by f bytes)) is
 
 module _ {R : Type 0} {g : Ghosts R} (known : R → Option (List ℕ)) (failed : R → ℕ) where
-  pub binary-gives : (old new : BinaryReader R g) (item : Given) → binary.Gives known failed old item new → StateGives known failed (state.Binary old) item (state.Binary new)
+  pub binary-gives : {counts : Type 0} {count : Uncounted → ℕ} (old new : PlainReader R g) (item : Given) → binary.Gives known failed counts count old item new → StateGives known failed (state.Binary old) item (state.Binary new)
   binary-gives old new item h = record {
     items = binary-goes (known (binary.source_of old)) (known (binary.source_of new)) (λ bytes. binary.to_come bytes old) (λ bytes. binary.to_come bytes new) (binary.is_new old) item h.unchanged h.items;
     failures = h.failures;
@@ -132,15 +138,15 @@ module _ {R : Type 0} {g : Ghosts R} (known : R → Option (List ℕ)) (failed :
     ends = h.ends;
   }
 
-  binary-items : (k l : Option (List ℕ)) (reader : BinaryReader R g) → l ≡ k → IfSome k (λ bytes. format.Binary ≡ format_of bytes) → IfSome l (λ bytes. binary.to_come bytes reader ≡ items_of_file bytes)
+  binary-items : (k l : Option (List ℕ)) (reader : PlainReader R g) → l ≡ k → IfSome k (λ bytes. format.Binary ≡ format_of bytes) → IfSome l (λ bytes. binary.to_come bytes reader ≡ items_of_file bytes)
       → IfSome k (λ bytes. binary.to_come bytes reader ≡ items_of_input bytes)
   binary-items None l reader e is h = tt
   binary-items (Some bytes) l reader e is h =
       let fresh : IfSome (Some bytes) (λ bytes. binary.to_come bytes reader ≡ items_of_file bytes) = subst (λ o. IfSome o (λ bytes. binary.to_come bytes reader ≡ items_of_file bytes)) e h in
       fresh ∙ ap (λ f. items_by f bytes) is
 
-  pub begun-binary : (source inner : R) (old new : BinaryReader R g) (item : Given) → binary.source_of old ≡ inner → known inner ≡ known source → failed inner ≡ failed source → IfSome (known source) (λ bytes. format.Binary ≡ format_of bytes)
-      → IfSome (known inner) (λ bytes. binary.to_come bytes old ≡ items_of_file bytes) → binary.Gives known failed old item new → StateGives known failed (state.Unread source) item (state.Binary new)
+  pub begun-binary : {counts : Type 0} {count : Uncounted → ℕ} (source inner : R) (old new : PlainReader R g) (item : Given) → binary.source_of old ≡ inner → known inner ≡ known source → failed inner ≡ failed source → IfSome (known source) (λ bytes. format.Binary ≡ format_of bytes)
+      → IfSome (known inner) (λ bytes. binary.to_come bytes old ≡ items_of_file bytes) → binary.Gives known failed counts count old item new → StateGives known failed (state.Unread source) item (state.Binary new)
   begun-binary source inner old new item at e f is fresh h =
       chosen-gives source (state.Binary old) (state.Binary new) item
       (same-items (known source) (known (binary.source_of old)) (λ bytes. binary.to_come bytes old) (ap known at ∙ e) (binary-items (known source) (known inner) old e is fresh))

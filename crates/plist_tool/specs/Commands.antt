@@ -1,14 +1,28 @@
--- What the words after the program's name ask for.
-use Rattle.std.specs.Prelude.{◌≡◌, ℕ, List, [], ◌∷◌, codes}
+-- What the words after the program's name ask for, and how the program ends.
+use Rattle.std.specs.Prelude.{◌≡◌, ℕ, Bool, List, [], ◌∷◌, Ok, Err, codes}
+use Rattle.plist_base.specs.Writing.{Answer}
+use Rattle.plist_tool.specs.Messages.{Said, Fault}
+use Rattle.plist_tool.specs.declared.commands.Command.{Command}
+use Rattle.plist_tool.specs.declared.commands.Command.TheVariants as command
 
--- the words are `print` and this file
-abbrev pub AsksToPrint : (words : List (List ℕ)) → (file : List ℕ) → Type 0
-AsksToPrint words file = words ≡ codes "print" ∷ file ∷ []
+-- what the program can be asked to do
+pub data Asked : Type 0 where
+  Print : (file : List ℕ) → Asked
+
+-- the words that ask for it
+abbrev pub words_for : Asked → List (List ℕ)
+words_for (Print file) = codes "print" ∷ file ∷ []
 
 -- the words are no command
 abbrev pub IsWrong : (words : List (List ℕ)) → Type 0
-IsWrong words = (file : List ℕ) → ¬ AsksToPrint words file
+IsWrong words = (asked : Asked) → ¬ (words ≡ words_for asked)
 
--- what is said of wrong words
-abbrev pub usage : List ℕ
-usage = codes "Usage: plist_tool print FILE\n"
+-- what contracts see of a command
+abbrev pub asked_of : Command → Asked
+asked_of (command.Print file) = Print file.now
+
+-- how the program ends where a command answered so: with 0 and no word where it is done, with 1
+-- where it was refused, and then its fault has been told
+abbrev pub EndsWith : {E : Type 0} → (tells : E → Said → Bool → E → Type 0) → Answer → (status : ℕ) → (old new : E) → Type 0
+EndsWith tells (Ok done) status old new = (status ≡ 0) × (new ≡ old)
+EndsWith tells (Err fault) status old new = (status ≡ 1) × ((told : Bool) × tells old (Fault fault) told new)

@@ -1,4 +1,5 @@
 pub mod Lines
 pub mod Fronts
 pub mod Printing
+pub mod Messages
 pub mod Commands

@@ -1,39 +1,71 @@
 //! What the words after the program's name ask for, and how it is done.
 
-ghost use Rattle.std.specs.Prelude.{◌≡◌, ◌≤◌, ◌↔◌, ◌++◌, map, codes, string_bytes, IfSome, IsNone, OnOk};
-ghost use Rattle.std.specs.Io.KnownBytes.{Appends, Keeps};
-ghost use Rattle.plist_base.specs.Faults.{fault_of, fault_text};
-ghost use Rattle.plist_tool.specs.Fronts.{AppendsFront};
-ghost use Rattle.plist_tool.specs.Commands.{AsksToPrint, IsWrong, usage};
+ghost use Rattle.std.specs.Prelude.{◌≡◌, ◌≢◌, ℕ, ◌↔◌, List, Option, Bool, map, string_bytes, IfSome, IsNone};
+ghost use Rattle.plist_base.specs.Writing.{Answer, answer_of};
+ghost use Rattle.plist_tool.specs.Messages.{Usage};
+ghost use Rattle.plist_tool.specs.Commands.{Asked, asked_of, words_for, IsWrong, EndsWith};
 
+use crate::messages::{Message, Messages};
 use crate::print::print_events;
-use crate::send::send;
 use plist_base::{Error, ErrorKind, Seeking};
 use std::alloc::Global;
+use std::fs;
 use std::io::Write;
 use std::rt::Files;
-use std::{fs, io};
 
-/// The file that is to be printed, or `None` if the words are no command.
-pub fn file_to_print(words: &[String]) -> Option<&str>
-    ensures found { IfSome result (λ file. AsksToPrint (map string_bytes words.now) file.now) }
+/// What the program can be asked to do.
+#[derive(Clone, Copy)]
+pub enum Command<'a> {
+    /// Print the events of this file.
+    Print(&'a str),
+}
+
+/// The command that the words ask for, or `None` if they are no command.
+pub fn command_of(words: &[String]) -> Option<Command<'_>>
+    ensures found { IfSome result (λ command.
+        map string_bytes words.now ≡ words_for (asked_of command)) }
     ensures wrong { IsNone result ↔ IsWrong (map string_bytes words.now) }
 {
     match words {
-        [verb, file] if verb.as_str() == "print" => Some(file.as_str()),
+        [verb, file] if verb.as_str() == "print" => Some(Command::Print(file.as_str())),
         _ => None,
     }
 }
 
-/// Says on the writer why a call was refused.
-///
-/// # Errors
-/// Where the writer fails.
-pub fn report<E: Write>(err: &mut E, error: &Error) -> io::Result<()>
-    ensures { OnOk result (Appends (E.contents err.old) (E.contents err.new)
-        (codes "Error: " ++ fault_text (fault_of error.now) ++ codes "\n")) }
-{
-    writeln!(err, "Error: {error}")
+/// Does commands. It is a trait so that a clause can name what a command answered.
+pub trait Commands {
+    /// What a command may have answered, and what an output then holds that tells its bytes.
+    ghost answers: { Self → Asked → (old : Option (List ℕ)) → Answer
+        → (new : Option (List ℕ)) → Type 0 };
+
+    /// Does a command. What it prints goes to `out`.
+    ///
+    /// # Errors
+    /// Where a file can't be opened, read or written, or holds no property list.
+    fn perform<O: Write>(
+        &self,
+        alloc: Global,
+        command: Command<'_>,
+        out: &mut O,
+    ) -> Result<(), Error>
+        ensures { answers self.now (asked_of command.entry)
+            (O.contents out.old) (answer_of result) (O.contents out.new) };
+}
+
+/// Nothing is known of what files hold, so nothing is of the answers.
+impl<R: Files> Commands for R {
+    ghost answers = { λ _ _ _ _ _. Unit {0} };
+
+    fn perform<O: Write>(
+        &self,
+        alloc: Global,
+        command: Command<'_>,
+        out: &mut O,
+    ) -> Result<(), Error> {
+        match command {
+            Command::Print(path) => print_file(self, alloc, path, out),
+        }
+    }
 }
 
 // Prints the events of a file. `Io` where it can't be opened.
@@ -50,31 +82,33 @@ fn print_file<R: Files, O: Write>(
 }
 
 /// Does what the words after the program's name ask for, and answers the status: 0 where it is done,
-/// 1 after a fault, which is then reported on `err`, and 2 for wrong words, for which `err` gets the
+/// 1 after a fault, which is then told on `err`, and 2 for wrong words, for which `err` gets the
 /// usage.
 ///
 /// A failure of `err` changes no status.
-pub fn run_words<R: Files, O: Write, E: Write>(
+pub fn run_words<R: Commands, O: Write, E: Messages>(
     rt: &R,
     alloc: Global,
     words: &[String],
     out: &mut O,
     err: &mut E,
 ) -> u8
-    ensures bound { result ≤ 2 }
     ensures wrong { (result ≡ 2) ↔ IsWrong (map string_bytes words.now) }
-    ensures silent { result ≡ 2 → Keeps (O.contents out.old) (O.contents out.new) }
-    ensures usage { result ≡ 2 → AppendsFront (E.contents err.old) (E.contents err.new) usage }
-    ensures done { result ≡ 0 → Keeps (E.contents err.old) (E.contents err.new) }
+    ensures silent { result ≡ 2 → out.new ≡ out.old }
+    ensures usage { result ≡ 2 → (told : Bool) × E.tells err.old Usage told err.new }
+    ensures ends { result ≢ 2 → (asked : Asked) × (answer : Answer)
+        × (map string_bytes words.now ≡ words_for asked)
+        × R.answers rt.now asked (O.contents out.old) answer (O.contents out.new)
+        × EndsWith E.tells answer result err.old err.new }
 {
-    let Some(path) = file_to_print(words) else {
-        let _ = send(err, b"Usage: plist_tool print FILE\n");
+    let Some(command) = command_of(words) else {
+        let _ = err.tell(Message::Usage);
         return 2;
     };
-    match print_file(rt, alloc, path, out) {
+    match rt.perform(alloc, command, out) {
         Ok(()) => 0,
         Err(error) => {
-            let _ = report(err, &error);
+            let _ = err.tell(Message::Fault(&error));
             1
         }
     }

@@ -1,20 +1,24 @@
 //! `plist_tool print FILE` prints the events of a binary property list, each on a line of its own.
 #![tactic(auto)]
 
-ghost use Rattle.std.specs.Prelude.{◌≡◌, ◌≤◌, IfOk, IfErr};
+ghost use Rattle.std.specs.Prelude.{◌≡◌, ◌≤◌, Bool, IfOk, IfErr, MatchResult};
+ghost use Rattle.std.specs.Process.{exit_status};
 ghost use Rattle.plist_base.specs.Faults.{OutOfMemory, fault_of, fault_nowhere};
+ghost use Rattle.plist_tool.specs.Messages.{Fault};
 
 mod commands;
 mod lines;
+mod messages;
 mod print;
 mod send;
 #[cfg(test)]
 mod trickle;
 
-use commands::{report, run_words};
+use commands::run_words;
+use messages::{Message, Messages};
 use plist_base::{Error, ErrorKind};
 use std::env::Env;
-use std::io::{BufWriter, Write};
+use std::io::BufWriter;
 use std::process::ExitCode;
 use std::rt::Files;
 use std::{env, io};
@@ -32,7 +36,7 @@ fn words_given<R: Env + AllocGlobal>(rt: &R) -> Result<Vec<String>, Error>
 }
 
 // Runs the command of the words given, over buffered standard output.
-fn run<R: Files + Env + Print + AllocGlobal, E: Write>(rt: &R, err: &mut E) -> Result<u8, Error>
+fn run<R: Files + Env + Print + AllocGlobal, E: Messages>(rt: &R, err: &mut E) -> Result<u8, Error>
     ensures status { IfOk result (λ status. status ≤ 2) }
     ensures memory { IfErr result (λ error. fault_of error ≡ fault_nowhere OutOfMemory) }
 {
@@ -43,13 +47,24 @@ fn run<R: Files + Env + Print + AllocGlobal, E: Write>(rt: &R, err: &mut E) -> R
     }
 }
 
-fn main(rt: HostRuntime) -> ExitCode {
-    let mut err = rt.stderr();
-    match run(&rt, &mut err) {
+// The exit code of a run: its status, or 1 where there was no memory to begin, which is then told.
+fn exit_code<E: Messages>(answer: Result<u8, Error>, err: &mut E) -> ExitCode
+    ensures status { MatchResult answer
+        (λ status. exit_status result ≡ status) (λ _. exit_status result ≡ 1) }
+    ensures told { MatchResult answer (λ _. err.new ≡ err.old)
+        (λ error. (told : Bool) × E.tells err.old (Fault (fault_of error)) told err.new) }
+{
+    match answer {
         Ok(status) => ExitCode::from(status),
         Err(error) => {
-            let _ = report(&mut err, &error);
+            let _ = err.tell(Message::Fault(&error));
             ExitCode::FAILURE
         }
     }
+}
+
+fn main(rt: HostRuntime) -> ExitCode {
+    let mut err = rt.stderr();
+    let answer = run(&rt, &mut err);
+    exit_code(answer, &mut err)
 }

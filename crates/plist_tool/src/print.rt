@@ -1,13 +1,13 @@
 //! Prints the events of a source.
 
-ghost use Rattle.std.specs.Prelude.{IfErr, IfSome, OnOk};
+ghost use Rattle.std.specs.Prelude.{◌≡◌, IfErr, IfSome, OnOk};
 ghost use Rattle.std.specs.Io.KnownBytes.{Appends};
-ghost use Rattle.plist_base.specs.Faults.{IsFromOutside, kind_of, error_kind_of};
 ghost use Rattle.plist_base.specs.Events.{event_of};
+ghost use Rattle.plist_binread.specs.Coming.{source_of, to_come};
 ghost use Rattle.plist_binread.specs.Unfolding.{items_of_file};
 ghost use Rattle.plist_tool.specs.Lines.{line_of, lines_of};
 ghost use Rattle.plist_tool.specs.Fronts.{AppendsFront};
-ghost use Rattle.plist_tool.specs.Printing.{PrintsAll, PrintsUntil};
+ghost use Rattle.plist_tool.specs.Printing.{PrintsAll, PrintsUntil, CountsReads, IsOwnFault};
 
 use crate::lines::push_line;
 use crate::send::{flush, send};
@@ -20,7 +20,7 @@ use std::io::Write;
 fn send_line<W: Write>(writer: &mut W, line: &mut Vec<u8>, event: OwnedEvent) -> Result<(), Error>
     ensures sent { OnOk result (Appends
         (W.contents writer.old) (W.contents writer.new) (line_of (event_of event.entry))) }
-    ensures failed { IfErr result (λ error. IsFromOutside (kind_of (error_kind_of error))) }
+    ensures failed { IfErr result IsOwnFault }
     ensures front { AppendsFront
         (W.contents writer.old) (W.contents writer.new) (line_of (event_of event.entry)) }
 {
@@ -29,21 +29,52 @@ fn send_line<W: Write>(writer: &mut W, line: &mut Vec<u8>, event: OwnedEvent) ->
     send(writer, line.as_slice())
 }
 
-// The same as `print_events` without the flush. One buffer serves all lines.
-fn send_lines<S: Source, W: Write>(alloc: Global, source: S, writer: &mut W) -> Result<(), Error>
-    ensures printed { OnOk result (IfSome (S.known source) (λ bytes.
-        PrintsAll (items_of_file bytes) (W.contents writer.old) (W.contents writer.new))) }
-    ensures refused { IfErr result (λ error. IfSome (S.known source) (λ bytes.
-        PrintsUntil error (items_of_file bytes) (W.contents writer.old) (W.contents writer.new))) }
-    ensures sent { IfSome (S.known source) (λ bytes. AppendsFront
-        (W.contents writer.old) (W.contents writer.new) (lines_of (items_of_file bytes))) }
+// Sends the lines of what a reader has still to give. One buffer serves all lines.
+fn send_lines<S: Source, W: Write>(
+    alloc: Global,
+    reader: &mut BinaryReader<S>,
+    writer: &mut W,
+) -> Result<(), Error>
+    ensures printed { OnOk result (IfSome (S.known (source_of reader.old)) (λ bytes.
+        PrintsAll (to_come bytes reader.old) (W.contents writer.old) (W.contents writer.new))) }
+    ensures refused { IfErr result (λ error. IfSome (S.known (source_of reader.old)) (λ bytes.
+        PrintsUntil error (to_come bytes reader.old)
+        (W.contents writer.old) (W.contents writer.new))) }
+    ensures sent { IfSome (S.known (source_of reader.old)) (λ bytes. AppendsFront
+        (W.contents writer.old) (W.contents writer.new) (lines_of (to_come bytes reader.old))) }
+    ensures unchanged { S.known (source_of reader.new) ≡ S.known (source_of reader.old) }
+    ensures failures { CountsReads result
+        (S.failures (source_of reader.old)) (S.failures (source_of reader.new)) }
 {
     let mut line = Vec::new(alloc);
-    for item in BinaryReader::new(alloc, source) {
+    while let Some(item) = reader.next() {
         let event = item?;
         send_line(writer, &mut line, event)?;
     }
     Ok(())
+}
+
+// The same, and then a flush, whose failure is an error only where nothing failed before it.
+fn print_items<S: Source, W: Write>(
+    alloc: Global,
+    reader: &mut BinaryReader<S>,
+    writer: &mut W,
+) -> Result<(), Error>
+    ensures printed { OnOk result (IfSome (S.known (source_of reader.old)) (λ bytes.
+        PrintsAll (to_come bytes reader.old) (W.contents writer.old) (W.contents writer.new))) }
+    ensures refused { IfErr result (λ error. IfSome (S.known (source_of reader.old)) (λ bytes.
+        PrintsUntil error (to_come bytes reader.old)
+        (W.contents writer.old) (W.contents writer.new))) }
+    ensures sent { IfSome (S.known (source_of reader.old)) (λ bytes. AppendsFront
+        (W.contents writer.old) (W.contents writer.new) (lines_of (to_come bytes reader.old))) }
+    ensures unchanged { S.known (source_of reader.new) ≡ S.known (source_of reader.old) }
+    ensures failures { CountsReads result
+        (S.failures (source_of reader.old)) (S.failures (source_of reader.new)) }
+{
+    let sent = send_lines(alloc, reader, writer);
+    let flushed = flush(writer);
+    sent?;
+    flushed
 }
 
 /// Prints the events of a source, each on a line of its own, up to the first fault, and flushes the
@@ -51,8 +82,8 @@ fn send_lines<S: Source, W: Write>(alloc: Global, source: S, writer: &mut W) -> 
 ///
 /// # Errors
 /// The first fault of the source, after the lines of the events before it. `Io` also where the
-/// writer fails, and `OutOfMemory` also for want of memory; a beginning of the lines went out. A
-/// failed flush is an error only where nothing failed before it.
+/// writer fails, without an offset, and `OutOfMemory` also for want of memory; a beginning of the
+/// lines went out. A failed flush is an error only where nothing failed before it.
 pub fn print_events<S: Source, W: Write>(
     alloc: Global,
     source: S,
@@ -64,17 +95,20 @@ pub fn print_events<S: Source, W: Write>(
         PrintsUntil error (items_of_file bytes) (W.contents writer.old) (W.contents writer.new))) }
     ensures sent { IfSome (S.known source) (λ bytes. AppendsFront
         (W.contents writer.old) (W.contents writer.new) (lines_of (items_of_file bytes))) }
+    // `left` is the source as the call left it
+    ensures failures { (left : S) × (S.known left ≡ S.known source)
+        × CountsReads result (S.failures source) (S.failures left) }
 {
-    let sent = send_lines(alloc, source, writer);
-    let flushed = flush(writer);
-    sent?;
-    flushed
+    let mut reader = BinaryReader::new(alloc, source);
+    print_items(alloc, &mut reader, writer)
 }
 
 #[cfg(test)]
 mod tests {
     use super::*;
-    use crate::trickle::Trickle;
+    use crate::trickle::{Trickle, Unreadable};
+    use plist_base::Seeking;
+    use std::io;
     use std::test::Fail;
 
     // An array of two references to one text, `a`.
@@ -84,43 +118,70 @@ mod tests {
 
     const LINES: &[u8] = b"StartArray 2\nString \"a\"\nString \"a\"\nEndCollection\n";
 
+    // What the device said, and where.
+    fn device_fault(answer: Result<(), Error>) -> Option<(io::ErrorKind, Option<u64>)> {
+        let error = answer.err()?;
+        let kind = error.as_io()?.kind();
+        Some((kind, error.offset()))
+    }
+
+    // The flush comes last: all the lines had been taken then.
     #[test]
-    fn prints_each_event(rt: HostRuntime) -> Result<(), Fail> {
+    fn prints_each_event(rt: HostRuntime) {
         let mut writer = Trickle::new(rt.alloc(), 1000);
-        print_events(rt.alloc(), TWO_TEXTS, &mut writer)?;
+        assert!(rt; print_events(rt.alloc(), TWO_TEXTS, &mut writer).is_ok());
         assert_eq!(rt; writer.taken.as_slice(), LINES);
         assert_eq!(rt; writer.flushes, 1);
-        Ok(())
+        assert_eq!(rt; writer.flushed, LINES.len());
     }
 
     #[test]
     fn stops_where_the_writer_fails(rt: HostRuntime) {
         let mut writer = Trickle::new(rt.alloc(), 20);
         let answer = print_events(rt.alloc(), TWO_TEXTS, &mut writer);
-        assert!(rt; answer.is_err_and(|error| error.is_io()));
+        assert_eq!(rt;
+            device_fault(answer),
+            Some((io::ErrorKind::PermissionDenied, None))
+        );
         assert_eq!(rt; writer.taken.as_slice(), &LINES[..20]);
+        assert_eq!(rt; writer.writes, 21);
         assert_eq!(rt; writer.flushes, 1);
+        assert_eq!(rt; writer.flushed, 20);
     }
 
     #[test]
     fn a_failed_flush_is_an_error(rt: HostRuntime) {
         let mut writer = Trickle::new(rt.alloc(), 1000);
-        writer.fails_to_flush = true;
+        writer.stuck = Some(io::ErrorKind::TimedOut);
         let answer = print_events(rt.alloc(), TWO_TEXTS, &mut writer);
-        assert!(rt; answer.is_err_and(|error| error.is_io()));
+        assert_eq!(rt; device_fault(answer), Some((io::ErrorKind::TimedOut, None)));
         assert_eq!(rt; writer.flushes, 1);
+        assert_eq!(rt; writer.flushed, LINES.len());
     }
 
     #[test]
     fn a_fault_comes_before_a_failed_flush(rt: HostRuntime) {
         let mut writer = Trickle::new(rt.alloc(), 1000);
-        writer.fails_to_flush = true;
+        writer.stuck = Some(io::ErrorKind::TimedOut);
         let answer = print_events(
             rt.alloc(),
             b"not a property list at all, but some text".as_slice(),
             &mut writer,
         );
         assert!(rt; answer.is_err_and(|error| !error.is_io()));
+        assert!(rt; writer.taken.is_empty());
+        assert_eq!(rt; writer.flushes, 1);
+    }
+
+    #[test]
+    fn a_read_that_fails(rt: HostRuntime) {
+        let mut writer = Trickle::new(rt.alloc(), 1000);
+        let source = Seeking::new(Unreadable { size: 64 });
+        let answer = print_events(rt.alloc(), source, &mut writer);
+        assert_eq!(rt;
+            device_fault(answer),
+            Some((io::ErrorKind::ConnectionReset, Some(0)))
+        );
         assert!(rt; writer.taken.is_empty());
         assert_eq!(rt; writer.flushes, 1);
     }

@@ -64,34 +64,42 @@ mod tests {
         send(&mut writer, b"three")?;
         send(&mut writer, b" words")?;
         assert_eq!(rt; writer.taken.as_slice(), b"three words".as_slice());
+        assert_eq!(rt; writer.writes, 11);
         assert_eq!(rt; writer.flushes, 0);
         Ok(())
     }
 
+    // The device's own error comes, and no write is tried again.
     #[test]
     fn stops_at_a_failure(rt: HostRuntime) {
         let mut writer = Trickle::new(rt.alloc(), 3);
-        assert_eq!(rt;
-            device_kind(send(&mut writer, b"three")),
-            Some(io::ErrorKind::Other)
-        );
+        let answer = send(&mut writer, b"three");
+        assert_eq!(rt; device_kind(answer), Some(io::ErrorKind::PermissionDenied));
         assert_eq!(rt; writer.taken.as_slice(), b"thr".as_slice());
-        writer.fails_when_full = false;
-        assert_eq!(rt;
-            device_kind(send(&mut writer, b"four")),
-            Some(io::ErrorKind::WriteZero)
-        );
-        assert_eq!(rt; writer.taken.as_slice(), b"thr".as_slice());
+        assert_eq!(rt; writer.writes, 4);
     }
 
     #[test]
-    fn flushes(rt: HostRuntime) -> Result<(), Fail> {
+    fn a_write_that_takes_nothing(rt: HostRuntime) {
+        let mut writer = Trickle::new(rt.alloc(), 2);
+        writer.full = None;
+        let answer = send(&mut writer, b"three");
+        assert_eq!(rt; device_kind(answer), Some(io::ErrorKind::WriteZero));
+        assert_eq!(rt; writer.taken.as_slice(), b"th".as_slice());
+        assert_eq!(rt; writer.writes, 3);
+    }
+
+    #[test]
+    fn flushes(rt: HostRuntime) {
         let mut writer = Trickle::new(rt.alloc(), 0);
-        flush(&mut writer)?;
+        assert!(rt; flush(&mut writer).is_ok());
         assert_eq!(rt; writer.flushes, 1);
-        writer.fails_to_flush = true;
-        assert_eq!(rt; device_kind(flush(&mut writer)), Some(io::ErrorKind::Other));
+        writer.stuck = Some(io::ErrorKind::TimedOut);
+        assert_eq!(rt;
+            device_kind(flush(&mut writer)),
+            Some(io::ErrorKind::TimedOut)
+        );
         assert_eq!(rt; writer.flushes, 2);
-        Ok(())
+        assert_eq!(rt; writer.writes, 0);
     }
 }

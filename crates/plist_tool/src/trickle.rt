@@ -1,8 +1,8 @@
-//! A writer for tests, which takes little and can fail.
+//! Devices for tests: a writer that takes little and can fail, and a file that can't be read.
 
 use std::alloc::Global;
 use std::io;
-use std::io::Write;
+use std::io::{Read, Seek, SeekFrom, Write};
 
 /// A writer that takes at most one byte a call, and tells how it was used.
 #[derive(Drop)]
@@ -10,10 +10,14 @@ pub(crate) struct Trickle {
     pub taken: Vec<u8>,
     /// After so many bytes it takes no more.
     pub room: usize,
-    /// It then fails, or else answers 0.
-    pub fails_when_full: bool,
+    /// How a write fails that finds no room; with none it answers 0.
+    pub full: Option<io::ErrorKind>,
+    pub writes: usize,
+    /// How each flush fails.
+    pub stuck: Option<io::ErrorKind>,
     pub flushes: usize,
-    pub fails_to_flush: bool,
+    /// How many bytes it had taken at the last flush.
+    pub flushed: usize,
 }
 
 impl Trickle {
@@ -21,15 +25,18 @@ impl Trickle {
         Trickle {
             taken: Vec::new(alloc),
             room,
-            fails_when_full: true,
+            full: Some(io::ErrorKind::PermissionDenied),
+            writes: 0,
+            stuck: None,
             flushes: 0,
-            fails_to_flush: false,
+            flushed: 0,
         }
     }
 }
 
 impl Write for Trickle {
     fn write(&mut self, buf: &[u8]) -> io::Result<usize> {
+        self.writes = self.writes.saturating_add(1);
         if buf.is_empty() {
             return Ok(0);
         }
@@ -37,17 +44,39 @@ impl Write for Trickle {
             self.taken.push(buf[0])?;
             return Ok(1);
         }
-        if self.fails_when_full {
-            return Err(io::Error::other("the device is full"));
+        match self.full {
+            Some(kind) => Err(io::Error::from(kind)),
+            None => Ok(0),
         }
-        Ok(0)
     }
 
     fn flush(&mut self) -> io::Result<()> {
         self.flushes = self.flushes.saturating_add(1);
-        if self.fails_to_flush {
-            return Err(io::Error::other("the device is gone"));
+        self.flushed = self.taken.len();
+        match self.stuck {
+            Some(kind) => Err(io::Error::from(kind)),
+            None => Ok(()),
         }
-        Ok(())
+    }
+}
+
+/// A file whose reads fail.
+#[derive(Drop)]
+pub(crate) struct Unreadable {
+    pub size: u64,
+}
+
+impl Read for Unreadable {
+    fn read(&mut self, _buf: &mut [u8]) -> io::Result<usize> {
+        Err(io::Error::from(io::ErrorKind::ConnectionReset))
+    }
+}
+
+impl Seek for Unreadable {
+    fn seek(&mut self, place: SeekFrom) -> io::Result<u64> {
+        match place {
+            SeekFrom::Start(place) => Ok(place),
+            _ => Ok(self.size),
+        }
     }
 }

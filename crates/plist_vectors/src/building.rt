@@ -1,214 +1,199 @@
 //! Values built of events, and the events of values.
 
-use crate::support::{answers, event_of, words_of_value};
+use crate::support::{event_of, expect_answers, must, text_of, words_of_value};
 use plist::{Builder, Dictionary, Value, write_value};
 use plist_base::{Date, Error, ErrorKind, Event, Integer, RealBits, Uid, Writer};
-use std::alloc::Global;
 use std::borrow::{CowSlice, CowStr};
-use std::test::Fail;
+use std::process::Abort;
 
-// What `finish` answers, as the events of the value or the text of the error.
-fn finished(alloc: Global, builder: &mut Builder) -> Result<String, Fail> {
-    match builder.finish() {
-        Ok(value) => Ok(words_of_value(alloc, &value)?),
-        Err(error) => Ok(error.to_string(alloc)?),
-    }
+// The events of a value, or the text of the error that came in its place.
+fn expect_value(rt: &(impl Abort + AllocGlobal), found: Result<Value, Error>, wanted: &str) {
+    let words = match found {
+        Ok(value) => words_of_value(rt, &value),
+        Err(error) => text_of(rt, Err(error)),
+    };
+    assert_eq!(rt; words.as_str(), wanted);
+}
+
+fn expect_finished(rt: &(impl Abort + AllocGlobal), builder: &mut Builder, wanted: &str) {
+    expect_value(rt, builder.finish(), wanted);
 }
 
 #[test]
-fn a_repeated_key_keeps_its_place(rt: HostRuntime) -> Result<(), Fail> {
-    let a = rt.alloc();
-    let mut builder = Builder::new(a);
-    let answered = answers(a, &mut builder, "{ 'k' 1 'x' 2 'k' 3 end")?;
-    assert_eq!(rt; answered.as_str(), "ok; ok; ok; ok; ok; ok; ok; ok");
-    assert_eq!(rt; finished(a, &mut builder)?.as_str(), "{2 'k' 3 'x' 2 end");
-    Ok(())
+fn a_repeated_key_keeps_its_place(rt: HostRuntime) {
+    let mut builder = Builder::new(rt.alloc());
+    let answers = "ok; ok; ok; ok; ok; ok; ok; ok";
+    expect_answers(&rt, &mut builder, "{ 'k' 1 'x' 2 'k' 3 end", answers);
+    expect_finished(&rt, &mut builder, "{2 'k' 3 'x' 2 end");
 }
 
 #[test]
-fn nothing_comes_after_the_root(rt: HostRuntime) -> Result<(), Fail> {
-    let a = rt.alloc();
-    let mut builder = Builder::new(a);
-    let answered = answers(a, &mut builder, "'a' 'b'")?;
-    assert_eq!(rt;
-        answered.as_str(),
-        "ok; ExpectedEndOfEventStream { found: String }"
-    );
-    assert_eq!(rt; finished(a, &mut builder)?.as_str(), "'a'");
-    let answered = answers(a, &mut builder, "[ end end")?;
-    assert_eq!(rt;
-        answered.as_str(),
-        "ok; ok; ExpectedEndOfEventStream { found: EndCollection }"
-    );
-    assert_eq!(rt; finished(a, &mut builder)?.as_str(), "[0 end");
-    assert_eq!(rt;
-        finished(a, &mut builder)?.as_str(),
-        "UnexpectedEndOfEventStream"
-    );
-    Ok(())
+fn nothing_comes_after_the_root(rt: HostRuntime) {
+    let mut builder = Builder::new(rt.alloc());
+    let answers = "ok; ExpectedEndOfEventStream { found: String }";
+    expect_answers(&rt, &mut builder, "'a' 'b'", answers);
+    expect_finished(&rt, &mut builder, "'a'");
+    let answers = "ok; ok; ExpectedEndOfEventStream { found: EndCollection }";
+    expect_answers(&rt, &mut builder, "[ end end", answers);
+    expect_finished(&rt, &mut builder, "[0 end");
+    expect_finished(&rt, &mut builder, "UnexpectedEndOfEventStream");
 }
 
 #[test]
-fn only_texts_are_keys(rt: HostRuntime) -> Result<(), Fail> {
-    let a = rt.alloc();
-    let mut builder = Builder::new(a);
-    let answered = answers(a, &mut builder, "{18446744073709551615 [ 5 end")?;
-    assert_eq!(rt;
-        answered.as_str(),
+fn only_texts_are_keys(rt: HostRuntime) {
+    let mut builder = Builder::new(rt.alloc());
+    expect_answers(
+        &rt,
+        &mut builder,
+        "{18446744073709551615 [ 5 end",
         "ok; UnexpectedEventType { expected: DictionaryKeyOrEndCollection, found: StartArray }; \
-         UnexpectedEventType { expected: DictionaryKeyOrEndCollection, found: Integer }; ok"
+         UnexpectedEventType { expected: DictionaryKeyOrEndCollection, found: Integer }; ok",
     );
-    assert_eq!(rt; finished(a, &mut builder)?.as_str(), "{0 end");
-    Ok(())
+    expect_finished(&rt, &mut builder, "{0 end");
 }
 
 #[test]
-fn a_lone_key_waits_for_its_value(rt: HostRuntime) -> Result<(), Fail> {
-    let a = rt.alloc();
-    let mut builder = Builder::new(a);
-    let answered = answers(a, &mut builder, "end { 'k' end true end")?;
-    assert_eq!(rt;
-        answered.as_str(),
+fn a_lone_key_waits_for_its_value(rt: HostRuntime) {
+    let mut builder = Builder::new(rt.alloc());
+    expect_answers(
+        &rt,
+        &mut builder,
+        "end { 'k' end true end",
         "UnexpectedEventType { expected: ValueOrStartCollection, found: EndCollection }; ok; ok; \
-         UnexpectedEventType { expected: ValueOrStartCollection, found: EndCollection }; ok; ok"
+         UnexpectedEventType { expected: ValueOrStartCollection, found: EndCollection }; ok; ok",
     );
-    assert_eq!(rt; finished(a, &mut builder)?.as_str(), "{1 'k' true end");
-    Ok(())
+    expect_finished(&rt, &mut builder, "{1 'k' true end");
 }
 
 // Each scalar in an array, by the writer's own calls.
-fn write_scalars<W: Writer>(writer: &mut W, date: Date) -> Result<(), Error> {
-    writer.write_start_array(None)?;
-    writer.write_boolean(true)?;
-    writer.write_data(CowSlice::Borrowed(&[0, 255]))?;
-    writer.write_date(date)?;
-    writer.write_integer(Integer::from(7u8))?;
-    writer.write_real(RealBits::Four([63, 192, 0, 0]))?;
-    writer.write_string(CowStr::Borrowed("x"))?;
-    writer.write_uid(Uid::new(4))?;
-    writer.write_start_dictionary(None)?;
-    writer.write_end_collection()?;
-    writer.write_end_collection()
+fn write_scalars<W: Writer>(rt: &impl Abort, writer: &mut W, date: Date) {
+    must(rt, writer.write_start_array(None));
+    must(rt, writer.write_boolean(true));
+    must(rt, writer.write_data(CowSlice::Borrowed(&[0, 255])));
+    must(rt, writer.write_date(date));
+    must(rt, writer.write_integer(Integer::from(7u8)));
+    must(rt, writer.write_real(RealBits::Four([63, 192, 0, 0])));
+    must(rt, writer.write_string(CowStr::Borrowed("x")));
+    must(rt, writer.write_uid(Uid::new(4)));
+    must(rt, writer.write_start_dictionary(None));
+    must(rt, writer.write_end_collection());
+    must(rt, writer.write_end_collection());
 }
 
 #[test]
-fn each_call_of_a_writer(rt: HostRuntime) -> Result<(), Fail> {
-    let a = rt.alloc();
-    let mut builder = Builder::new(a);
-    write_scalars(&mut builder, Date::from_plist_real([0; 8])?)?;
-    assert_eq!(rt;
-        finished(a, &mut builder)?.as_str(),
-        "[8 true <00ff> date:0 7 real:3fc00000 'x' uid:4 {0 end end"
-    );
-    Ok(())
+fn each_call_of_a_writer(rt: HostRuntime) {
+    let mut builder = Builder::new(rt.alloc());
+    let date = must(&rt, Date::from_plist_real([0; 8]));
+    write_scalars(&rt, &mut builder, date);
+    let wanted = "[8 true <00ff> date:0 7 real:3fc00000 'x' uid:4 {0 end end";
+    expect_finished(&rt, &mut builder, wanted);
+}
+
+// What `from_events` answers to the events of the words; a `!` is an item that is an error.
+fn expect_collected(rt: &(impl Abort + AllocGlobal), words: &str, wanted: &str) {
+    let mut items = Vec::new(rt.alloc());
+    for word in words.split(' ') {
+        let item = match word {
+            "!" => Err(ErrorKind::InvalidMagic.with_byte_offset(0)),
+            other => Ok(event_of(rt, other)),
+        };
+        must(rt, items.push(item));
+    }
+    expect_value(rt, Value::from_events(rt.alloc(), items), wanted);
 }
 
 #[test]
-fn four_pairs_in_order(rt: HostRuntime) -> Result<(), Fail> {
-    let a = rt.alloc();
+fn four_pairs_in_order(rt: HostRuntime) {
     let words = "{ 'Author' 'W' 'Lines' [ 'a' 'b' end 'Birthdate' 1564 \
                  'Height' real:3ff999999999999a end";
     let wanted = "{4 'Author' 'W' 'Lines' [2 'a' 'b' end 'Birthdate' 1564 \
                   'Height' real:3ff999999999999a end";
-    assert_eq!(rt; collected(a, words)?.as_str(), wanted);
-    assert_eq!(rt; collected(a, wanted)?.as_str(), wanted);
-    Ok(())
+    expect_collected(&rt, words, wanted);
+    expect_collected(&rt, wanted, wanted);
 }
 
 #[test]
-fn a_value_is_collected_again(rt: HostRuntime) -> Result<(), Fail> {
-    let a = rt.alloc();
-    let value = two_pairs(a)?;
-    let again = Value::from_events(a, value.events(a))?;
-    let wanted = "{2 'a' [1 'x' end 'b' 'a' end";
-    assert_eq!(rt; words_of_value(a, &again)?.as_str(), wanted);
-    Ok(())
+fn the_first_bad_item_decides(rt: HostRuntime) {
+    expect_collected(&rt, "[ ! end", "InvalidMagic (offset 0)");
+    let wanted = "ExpectedEndOfEventStream { found: String }";
+    expect_collected(&rt, "'a' 'b' !", wanted);
+    expect_collected(&rt, "[ 'b'", "UnexpectedEndOfEventStream");
+    expect_collected(&rt, "[ 'b' end", "[1 'b' end");
 }
 
-#[test]
-fn a_value_is_written_to_a_builder(rt: HostRuntime) -> Result<(), Fail> {
-    let a = rt.alloc();
-    let value = two_pairs(a)?;
-    let mut builder = Builder::new(a);
-    write_value(a, &value, &mut builder)?;
-    let wanted = "{2 'a' [1 'x' end 'b' 'a' end";
-    assert_eq!(rt; finished(a, &mut builder)?.as_str(), wanted);
-    let _answered = answers(a, &mut builder, "'a'")?;
-    match write_value(a, &value, &mut builder) {
-        Ok(()) => assert!(rt; false, "the builder has its root"),
-        Err(error) => assert_eq!(rt;
-            error.to_string(a)?.as_str(),
-            "ExpectedEndOfEventStream { found: StartDictionary }"
-        ),
-    }
-    assert_eq!(rt; finished(a, &mut builder)?.as_str(), "'a'");
-    Ok(())
-}
-
-// What `from_events` answers to the events of the words; a `!` is an item that is an error.
-fn collected(alloc: Global, words: &str) -> Result<String, Fail> {
-    let mut items = Vec::new(alloc);
-    for word in words.split(' ') {
-        items.push(match word {
-            "!" => Err(ErrorKind::InvalidMagic.with_byte_offset(0)),
-            other => Ok(event_of(alloc, other)?),
-        })?;
-    }
-    match Value::from_events(alloc, items) {
-        Ok(value) => Ok(words_of_value(alloc, &value)?),
-        Err(error) => Ok(error.to_string(alloc)?),
-    }
-}
-
-#[test]
-fn the_first_bad_item_decides(rt: HostRuntime) -> Result<(), Fail> {
-    let a = rt.alloc();
-    for (words, wanted) in [
-        ("[ ! end", "InvalidMagic (offset 0)"),
-        ("'a' 'b' !", "ExpectedEndOfEventStream { found: String }"),
-        ("[ 'b'", "UnexpectedEndOfEventStream"),
-        ("[ 'b' end", "[1 'b' end"),
-    ] {
-        assert_eq!(rt; collected(a, words)?.as_str(), wanted);
-    }
-    Ok(())
+fn text(rt: &(impl Abort + AllocGlobal), text: &str) -> String {
+    must(rt, String::from_str(rt.alloc(), text))
 }
 
 // The dictionary of a, which is an array of the text x, and of b, which is the text a.
-fn two_pairs(alloc: Global) -> Result<Value, Fail> {
-    let mut items = Vec::new(alloc);
-    items.push(Value::String(String::from_str(alloc, "x")?))?;
-    let mut pairs = Dictionary::new(alloc);
-    pairs.insert(String::from_str(alloc, "a")?, Value::Array(items))?;
-    let text = Value::String(String::from_str(alloc, "a")?);
-    pairs.insert(String::from_str(alloc, "b")?, text)?;
-    Ok(Value::Dictionary(pairs))
+fn two_pairs(rt: &(impl Abort + AllocGlobal)) -> Value {
+    let mut items = Vec::new(rt.alloc());
+    must(rt, items.push(Value::String(text(rt, "x"))));
+    let mut pairs = Dictionary::new(rt.alloc());
+    must(rt, pairs.insert(text(rt, "a"), Value::Array(items)));
+    must(
+        rt,
+        pairs.insert(text(rt, "b"), Value::String(text(rt, "a"))),
+    );
+    Value::Dictionary(pairs)
 }
 
-// How many of the events borrow their text or data.
-fn count_borrowed(alloc: Global, value: &Value) -> Result<u64, Error> {
-    let mut count = 0u64;
-    for item in value.events(alloc) {
-        let event = item?;
-        match &event {
-            Event::String(CowStr::Borrowed(_)) | Event::Data(CowSlice::Borrowed(_)) => {
-                count = count.saturating_add(1);
-            }
-            _ => {}
-        }
-    }
-    Ok(count)
+const TWO_PAIRS: &str = "{2 'a' [1 'x' end 'b' 'a' end";
+
+#[test]
+fn a_value_is_collected_again(rt: HostRuntime) {
+    let value = two_pairs(&rt);
+    let again = Value::from_events(rt.alloc(), value.events(rt.alloc()));
+    expect_value(&rt, again, TWO_PAIRS);
+}
+
+// What `write_value` answers.
+fn expect_handed(
+    rt: &(impl Abort + AllocGlobal),
+    value: &Value,
+    builder: &mut Builder,
+    answer: &str,
+) {
+    let found = text_of(rt, write_value(rt.alloc(), value, builder));
+    assert_eq!(rt; found.as_str(), answer);
 }
 
 #[test]
-fn events_borrow_their_texts(rt: HostRuntime) -> Result<(), Fail> {
-    let a = rt.alloc();
-    let value = two_pairs(a)?;
-    let wanted = "{2 'a' [1 'x' end 'b' 'a' end";
-    assert_eq!(rt; words_of_value(a, &value)?.as_str(), wanted);
-    assert_eq!(rt; count_borrowed(a, &value)?, 4);
-    let data = Value::Data(Vec::from_slice(a, &[0, 255])?);
-    assert_eq!(rt; words_of_value(a, &data)?.as_str(), "<00ff>");
-    assert_eq!(rt; count_borrowed(a, &data)?, 1);
-    Ok(())
+fn a_value_is_written_to_a_builder(rt: HostRuntime) {
+    let value = two_pairs(&rt);
+    let mut builder = Builder::new(rt.alloc());
+    expect_handed(&rt, &value, &mut builder, "ok");
+    expect_finished(&rt, &mut builder, TWO_PAIRS);
+    expect_answers(&rt, &mut builder, "'a'", "ok");
+    let refusal = "ExpectedEndOfEventStream { found: StartDictionary }";
+    expect_handed(&rt, &value, &mut builder, refusal);
+    expect_finished(&rt, &mut builder, "'a'");
+}
+
+// How many of the events borrow their text or data.
+fn count_borrowed(rt: &(impl Abort + AllocGlobal), value: &Value) -> u64 {
+    let mut count = 0u64;
+    for item in value.events(rt.alloc()) {
+        let event = must(rt, item);
+        if matches!(
+            &event,
+            Event::String(CowStr::Borrowed(_)) | Event::Data(CowSlice::Borrowed(_))
+        ) {
+            count = count.saturating_add(1);
+        }
+    }
+    count
+}
+
+// The value's events, of which so many borrow.
+fn expect_borrowed(rt: &(impl Abort + AllocGlobal), value: &Value, words: &str, borrowed: u64) {
+    assert_eq!(rt; words_of_value(rt, value).as_str(), words);
+    assert_eq!(rt; count_borrowed(rt, value), borrowed);
+}
+
+#[test]
+fn events_borrow_their_texts(rt: HostRuntime) {
+    expect_borrowed(&rt, &two_pairs(&rt), TWO_PAIRS, 4);
+    let bytes = must(&rt, Vec::from_slice(rt.alloc(), &[0, 255]));
+    expect_borrowed(&rt, &Value::Data(bytes), "<00ff>", 1);
 }

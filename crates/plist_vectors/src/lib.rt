@@ -7,7 +7,17 @@ mod ascii;
 #[cfg(test)]
 mod building;
 #[cfg(test)]
+mod dates;
+#[cfg(test)]
+mod events;
+#[cfg(test)]
+mod faults;
+#[cfg(test)]
+mod numbers;
+#[cfg(test)]
 mod reading;
+#[cfg(test)]
+mod sources;
 #[cfg(test)]
 mod support;
 #[cfg(test)]

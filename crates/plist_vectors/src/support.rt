@@ -1,9 +1,19 @@
-//! What the examples share: files in hexadecimal, events as words, and a device that fails.
+//! What the examples share: files in hexadecimal, events as words, and devices that fail.
 
 mod device;
 mod file;
 mod words;
 
-pub(crate) use device::Device;
+pub(crate) use device::{Device, Disk, Fault, expect_cut, expect_io};
 pub(crate) use file::{bytes_of, file, file_of, file_of_object, front};
-pub(crate) use words::{answers, event_of, words_of, words_of_value};
+use std::fmt::Debug;
+use std::process::Abort;
+pub(crate) use words::{event_of, expect_answers, text_of, words_of, words_of_value};
+
+// What an answer holds that is to be no fault.
+pub(crate) fn must<T, E: Debug>(rt: &impl Abort, answer: Result<T, E>) -> T {
+    match answer {
+        Ok(value) => value,
+        Err(error) => panic!(rt; "{error:?}"),
+    }
+}

@@ -1,62 +1,65 @@
 //! Dictionaries that keep their order, and values.
 
+use crate::support::must;
 use plist::{Dictionary, Pairs, Value, kind_of_value};
 use plist_base::{Date, EventKind, Integer, RealBits, Uid};
-use std::alloc::{AllocError, Global};
-use std::test::Fail;
+use std::process::Abort;
+
+fn text(rt: &(impl Abort + AllocGlobal), text: &str) -> String {
+    must(rt, String::from_str(rt.alloc(), text))
+}
+
+// What `insert` answers.
+fn put(
+    rt: &(impl Abort + AllocGlobal),
+    pairs: &mut Pairs<u32>,
+    key: &str,
+    value: u32,
+) -> Option<u32> {
+    must(rt, pairs.insert(text(rt, key), value))
+}
 
 // The pairs a = 1, b = 2 and c = 3.
-fn three(alloc: Global) -> Result<Pairs<u32>, Fail> {
-    let mut pairs = Pairs::new(alloc);
-    for (key, value) in [("a", 1), ("b", 2), ("c", 3)] {
-        pairs.insert(String::from_str(alloc, key)?, value)?;
-    }
-    Ok(pairs)
+fn three(rt: &(impl Abort + AllocGlobal)) -> Pairs<u32> {
+    let mut pairs = Pairs::new(rt.alloc());
+    put(rt, &mut pairs, "a", 1);
+    put(rt, &mut pairs, "b", 2);
+    put(rt, &mut pairs, "c", 3);
+    pairs
 }
 
-// The pairs as `a=1 b=2`.
-fn listed(alloc: Global, pairs: &Pairs<u32>) -> Result<String, AllocError> {
-    let mut all = String::new(alloc);
+// The pairs as ` a=1 b=2`.
+fn expect_pairs(rt: &(impl Abort + AllocGlobal), pairs: &Pairs<u32>, wanted: &str) {
+    let mut all = String::new(rt.alloc());
     for (key, value) in pairs {
-        if !all.is_empty() {
-            all.push(' ')?;
-        }
-        let pair = format!(in alloc; "{}={value}", key.as_str())?;
-        all.push_str(pair.as_str())?;
+        let pair = must(rt, format!(in rt.alloc(); " {}={value}", key.as_str()));
+        must(rt, all.push_str(pair.as_str()));
     }
-    Ok(all)
-}
-
-// What an iterator says of its length, by its bound.
-fn lengths<I: ExactSizeIterator>(iter: &I) -> (usize, (usize, Option<usize>)) {
-    (iter.len(), iter.size_hint())
+    assert_eq!(rt; all.as_str(), wanted);
 }
 
 #[test]
-fn remove_moves_the_last_pair(rt: HostRuntime) -> Result<(), Fail> {
-    let mut pairs = three(rt.alloc())?;
+fn remove_moves_the_last_pair(rt: HostRuntime) {
+    let mut pairs = three(&rt);
     assert_eq!(rt; pairs.remove("a"), Some(1));
-    assert_eq!(rt; listed(rt.alloc(), &pairs)?.as_str(), "c=3 b=2");
+    expect_pairs(&rt, &pairs, " c=3 b=2");
     assert_eq!(rt; pairs.remove("a"), None);
     assert_eq!(rt; pairs.remove("b"), Some(2));
     assert_eq!(rt; pairs.get("c").copied(), Some(3));
     assert_eq!(rt; pairs.len(), 1);
-    Ok(())
 }
 
 #[test]
-fn insert_keeps_the_place(rt: HostRuntime) -> Result<(), Fail> {
-    let a = rt.alloc();
-    let mut pairs = three(a)?;
-    assert_eq!(rt; pairs.insert(String::from_str(a, "b")?, 9)?, Some(2));
-    assert_eq!(rt; pairs.insert(String::from_str(a, "d")?, 4)?, None);
-    assert_eq!(rt; listed(a, &pairs)?.as_str(), "a=1 b=9 c=3 d=4");
-    Ok(())
+fn insert_keeps_the_place(rt: HostRuntime) {
+    let mut pairs = three(&rt);
+    assert_eq!(rt; put(&rt, &mut pairs, "b", 9), Some(2));
+    assert_eq!(rt; put(&rt, &mut pairs, "d", 4), None);
+    expect_pairs(&rt, &pairs, " a=1 b=9 c=3 d=4");
 }
 
 #[test]
-fn looks_up(rt: HostRuntime) -> Result<(), Fail> {
-    let mut pairs = three(rt.alloc())?;
+fn looks_up(rt: HostRuntime) {
+    let mut pairs = three(&rt);
     assert_eq!(rt; pairs.get("b").copied(), Some(2));
     assert_eq!(rt; pairs.get("B"), None);
     assert!(rt; pairs.contains_key("c"));
@@ -66,90 +69,116 @@ fn looks_up(rt: HostRuntime) -> Result<(), Fail> {
         Some(value) => *value = 30,
     }
     assert!(rt; pairs.get_mut("d").is_none());
-    assert_eq!(rt; listed(rt.alloc(), &pairs)?.as_str(), "a=1 b=2 c=30");
-    Ok(())
+    expect_pairs(&rt, &pairs, " a=1 b=2 c=30");
 }
 
 #[test]
-fn clear_empties(rt: HostRuntime) -> Result<(), Fail> {
-    let a = rt.alloc();
-    let mut pairs = three(a)?;
+fn clear_empties(rt: HostRuntime) {
+    let mut pairs = three(&rt);
     assert!(rt; !pairs.is_empty());
     pairs.clear();
     assert!(rt; pairs.is_empty());
     assert_eq!(rt; pairs.get("a"), None);
-    assert_eq!(rt; pairs.insert(String::from_str(a, "a")?, 7)?, None);
+    assert_eq!(rt; put(&rt, &mut pairs, "a", 7), None);
     assert_eq!(rt; pairs.len(), 1);
-    Ok(())
+}
+
+// So many are left, as the iterator says by each of its bounds.
+fn expect_length<I: ExactSizeIterator>(rt: &impl Abort, iter: &I, length: usize) {
+    assert_eq!(rt; iter.len(), length);
+    assert_eq!(rt; iter.size_hint(), (length, Some(length)));
 }
 
 #[test]
-fn iterators_give_the_order(rt: HostRuntime) -> Result<(), Fail> {
-    let pairs = three(rt.alloc())?;
+fn iter_gives_the_order(rt: HostRuntime) {
+    let pairs = three(&rt);
     let mut iter = pairs.iter();
-    assert_eq!(rt; lengths(&iter), (3, (3, Some(3))));
+    expect_length(&rt, &iter, 3);
     assert_eq!(rt; iter.next().map(|pair| *pair.1), Some(1));
-    assert_eq!(rt; lengths(&iter), (2, (2, Some(2))));
+    expect_length(&rt, &iter, 2);
+}
+
+#[test]
+fn keys_give_the_order(rt: HostRuntime) {
+    let pairs = three(&rt);
     let mut keys = pairs.keys();
-    assert_eq!(rt; lengths(&keys), (3, (3, Some(3))));
+    expect_length(&rt, &keys, 3);
     assert_eq!(rt; keys.next().map(|key| key.as_str()), Some("a"));
     assert_eq!(rt; keys.next().map(|key| key.as_str()), Some("b"));
+}
+
+#[test]
+fn values_give_the_order(rt: HostRuntime) {
+    let pairs = three(&rt);
     let mut values = pairs.values();
-    assert_eq!(rt; lengths(&values), (3, (3, Some(3))));
+    expect_length(&rt, &values, 3);
     assert_eq!(rt; values.next().copied(), Some(1));
     assert_eq!(rt; values.next().copied(), Some(2));
-    let mut owned = pairs.into_iter();
-    assert_eq!(rt; lengths(&owned), (3, (3, Some(3))));
-    for (name, number) in [("a", 1), ("b", 2), ("c", 3)] {
-        match owned.next() {
-            None => assert!(rt; false, "too few pairs"),
-            Some((key, value)) => {
-                assert_eq!(rt; key.as_str(), name);
-                assert_eq!(rt; value, number);
-            }
+}
+
+// The next pair that is handed over.
+fn expect_pair(rt: &impl Abort, next: Option<(String, u32)>, key: &str, value: u32) {
+    match next {
+        None => panic!(rt; "too few pairs"),
+        Some((name, number)) => {
+            assert_eq!(rt; name.as_str(), key);
+            assert_eq!(rt; number, value);
         }
     }
+}
+
+#[test]
+fn into_iter_gives_the_order(rt: HostRuntime) {
+    let mut owned = three(&rt).into_iter();
+    expect_length(&rt, &owned, 3);
+    expect_pair(&rt, owned.next(), "a", 1);
+    expect_pair(&rt, owned.next(), "b", 2);
+    expect_pair(&rt, owned.next(), "c", 3);
     assert!(rt; owned.next().is_none());
-    Ok(())
+}
+
+fn expect_kind(rt: &impl Abort, value: Value, kind: EventKind) {
+    assert_eq!(rt; kind_of_value(&value), kind);
 }
 
 #[test]
-fn kinds_of_values(rt: HostRuntime) -> Result<(), Fail> {
+fn kinds_of_values(rt: HostRuntime) {
     let a = rt.alloc();
-    let bytes = Vec::from_slice(a, &[1, 2])?;
-    let text = String::from_str(a, "x")?;
-    let kinds = [
-        (Value::Array(Vec::new(a)), EventKind::StartArray),
-        (
-            Value::Dictionary(Dictionary::new(a)),
-            EventKind::StartDictionary,
-        ),
-        (Value::Boolean(true), EventKind::Boolean),
-        (Value::Data(bytes), EventKind::Data),
-        (Value::Date(Date::from_plist_real([0; 8])?), EventKind::Date),
-        (Value::Real(RealBits::Four([0; 4])), EventKind::Real),
-        (Value::Integer(Integer::from(1u8)), EventKind::Integer),
-        (Value::String(text), EventKind::String),
-        (Value::Uid(Uid::new(1)), EventKind::Uid),
-    ];
-    for (value, kind) in Vec::from_array(a, kinds)? {
-        assert_eq!(rt; kind_of_value(&value), kind);
-    }
-    Ok(())
+    expect_kind(&rt, Value::Array(Vec::new(a)), EventKind::StartArray);
+    let pairs = Dictionary::new(a);
+    expect_kind(&rt, Value::Dictionary(pairs), EventKind::StartDictionary);
+    expect_kind(&rt, Value::Boolean(true), EventKind::Boolean);
+    let bytes = must(&rt, Vec::from_slice(a, &[1, 2]));
+    expect_kind(&rt, Value::Data(bytes), EventKind::Data);
+    let date = must(&rt, Date::from_plist_real([0; 8]));
+    expect_kind(&rt, Value::Date(date), EventKind::Date);
+    let real = Value::Real(RealBits::Four([0; 4]));
+    expect_kind(&rt, real, EventKind::Real);
+    let one = Value::Integer(Integer::from(1u8));
+    expect_kind(&rt, one, EventKind::Integer);
+    expect_kind(&rt, Value::String(text(&rt, "x")), EventKind::String);
+    expect_kind(&rt, Value::Uid(Uid::new(1)), EventKind::Uid);
+}
+
+// The dictionary of this one pair.
+fn one_pair(rt: &(impl Abort + AllocGlobal), key: &str, value: Value) -> Value {
+    let mut pairs = Dictionary::new(rt.alloc());
+    must(rt, pairs.insert(text(rt, key), value));
+    Value::Dictionary(pairs)
+}
+
+// The array of a dictionary and the number 5.
+fn two_items(rt: &(impl Abort + AllocGlobal)) -> Value {
+    let mut items = Vec::new(rt.alloc());
+    must(rt, items.push(one_pair(rt, "on", Value::Boolean(true))));
+    must(rt, items.push(Value::Integer(Integer::from(5u8))));
+    Value::Array(items)
 }
 
 #[test]
-fn dictionaries_in_values(rt: HostRuntime) -> Result<(), Fail> {
-    let a = rt.alloc();
-    let mut inner = Dictionary::new(a);
-    inner.insert(String::from_str(a, "on")?, Value::Boolean(true))?;
-    let mut items = Vec::new(a);
-    items.push(Value::Dictionary(inner))?;
-    items.push(Value::Integer(Integer::from(5u8)))?;
-    let mut outer = Dictionary::new(a);
-    outer.insert(String::from_str(a, "k")?, Value::Array(items))?;
-    let text = format!(in a; "{:?}", Value::Dictionary(outer))?;
+fn dictionaries_in_values(rt: HostRuntime) {
+    let value = one_pair(&rt, "k", two_items(&rt));
+    let found = must(&rt, format!(in rt.alloc(); "{value:?}"));
     let wanted = "Dictionary({\"k\": Array([Dictionary({\"on\": Boolean(true)}), Integer(5)])})";
-    assert_eq!(rt; text.as_str(), wanted);
-    Ok(())
+    assert_eq!(rt; found.as_str(), wanted);
 }

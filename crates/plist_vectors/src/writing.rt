@@ -1,185 +1,197 @@
 //! What `BinaryWriter` writes, byte by byte, and that `BinaryReader` reads the same events of it.
 
-use crate::support::{Device, answers, event_of, file, file_of, file_of_object, front, words_of};
+use crate::support::{
+    Device, Fault, event_of, expect_answers, expect_io, file, file_of, file_of_object, front, must,
+    text_of, words_of,
+};
 use plist::{Builder, Value};
-use plist_base::Writer;
+use plist_base::{Error, Writer};
 use plist_binread::BinaryReader;
 use plist_binwrite::BinaryWriter;
-use std::alloc::{AllocError, Global};
+use std::io::ErrorKind;
 use std::process::Abort;
-use std::test::Fail;
+
+// The writer accepts the events of these words.
+fn write_all<W: Writer>(rt: &(impl Abort + AllocGlobal), writer: &mut W, words: &str) {
+    for word in words.split(' ') {
+        must(rt, writer.write(event_of(rt, word)));
+    }
+}
 
 // The file of the events of these words.
-fn written(alloc: Global, words: &str) -> Result<Vec<u8>, Fail> {
-    let mut writer = BinaryWriter::new(alloc, Vec::new(alloc));
-    for word in words.split(' ') {
-        writer.write(event_of(alloc, word)?)?;
-    }
-    Ok(writer.into_inner())
+fn written(rt: &(impl Abort + AllocGlobal), words: &str) -> Vec<u8> {
+    let mut writer = BinaryWriter::new(rt.alloc(), Vec::new(rt.alloc()));
+    write_all(rt, &mut writer, words);
+    writer.into_inner()
 }
 
 // The value that these words build.
-fn value_of(alloc: Global, words: &str) -> Result<Value, Fail> {
-    let mut builder = Builder::new(alloc);
-    for word in words.split(' ') {
-        builder.write(event_of(alloc, word)?)?;
-    }
-    Ok(builder.finish()?)
+fn value_of(rt: &(impl Abort + AllocGlobal), words: &str) -> Value {
+    let mut builder = Builder::new(rt.alloc());
+    write_all(rt, &mut builder, words);
+    must(rt, builder.finish())
 }
 
 // Its file.
-fn written_value(alloc: Global, words: &str) -> Result<Vec<u8>, Fail> {
-    let value = value_of(alloc, words)?;
-    let mut bytes = Vec::new(alloc);
-    value.to_writer_binary(alloc, &mut bytes)?;
-    Ok(bytes)
+fn written_value(rt: &(impl Abort + AllocGlobal), words: &str) -> Vec<u8> {
+    let mut bytes = Vec::new(rt.alloc());
+    must(
+        rt,
+        value_of(rt, words).to_writer_binary(rt.alloc(), &mut bytes),
+    );
+    bytes
 }
 
 // The events of these words give this file, and the file these words.
-fn expect(
-    rt: &(impl Abort + AllocGlobal),
-    name: &str,
-    words: &str,
-    bytes: &[u8],
-) -> Result<(), Fail> {
-    let found = written(rt.alloc(), words)?;
-    assert_eq!(rt; found.as_slice(), bytes, "{name}");
-    let read = words_of(rt.alloc(), BinaryReader::new(rt.alloc(), found))?;
+fn expect(rt: &(impl Abort + AllocGlobal), name: &str, words: &str, bytes: &[u8]) {
+    assert_eq!(rt; written(rt, words).as_slice(), bytes, "{name}");
+    let read = words_of(rt, BinaryReader::new(rt.alloc(), bytes));
     assert_eq!(rt; read.as_str(), words, "{name}");
-    Ok(())
 }
 
 // So does the value.
-fn expect_value(
+fn expect_value(rt: &(impl Abort + AllocGlobal), name: &str, words: &str, bytes: &[u8]) {
+    expect(rt, name, words, bytes);
+    assert_eq!(rt;
+        written_value(rt, words).as_slice(),
+        bytes,
+        "the value: {name}"
+    );
+}
+
+// So it is with the file of these objects and their table, with widths of one byte.
+fn expect_file(
     rt: &(impl Abort + AllocGlobal),
     name: &str,
     words: &str,
-    bytes: &[u8],
-) -> Result<(), Fail> {
-    expect(rt, name, words, bytes)?;
-    let found = written_value(rt.alloc(), words)?;
-    assert_eq!(rt; found.as_slice(), bytes, "the value: {name}");
-    Ok(())
+    body: &str,
+    numbers: [u64; 3],
+) {
+    expect_value(rt, name, words, file(rt, body, [1, 1], numbers).as_slice());
+}
+
+// So it is with the file of this one object.
+fn expect_object(rt: &(impl Abort + AllocGlobal), name: &str, word: &str, object: &str) {
+    expect_value(rt, name, word, file_of_object(rt, object).as_slice());
 }
 
 #[test]
-fn collections(rt: HostRuntime) -> Result<(), Fail> {
-    for (name, words, body, numbers) in [
-        (
-            "one text twice",
-            "[2 'a' 'a' end",
-            "a20101 5161 080b",
-            [2, 0, 13],
-        ),
-        (
-            "a key that is its value",
-            "{1 'k' 'k' end",
-            "d10101 516b 080b",
-            [2, 0, 13],
-        ),
-        (
-            "an array in an array",
-            "[2 [1 'x' end 'y' end",
-            "a20102 a103 5178 5179 080b0f0d",
-            [4, 0, 17],
-        ),
-        (
-            "keys before values",
-            "{2 'a' [1 'x' end 'b' 'a' end",
-            "d201020301 5161 5162 a104 5178 080d0f1113",
-            [5, 0, 21],
-        ),
-    ] {
-        let bytes = file(rt.alloc(), body, [1, 1], numbers)?;
-        expect_value(&rt, name, words, bytes.as_slice())?;
-    }
-    Ok(())
+fn collections(rt: HostRuntime) {
+    expect_file(
+        &rt,
+        "one text twice",
+        "[2 'a' 'a' end",
+        "a20101 5161 080b",
+        [2, 0, 13],
+    );
+    expect_file(
+        &rt,
+        "a key that is its value",
+        "{1 'k' 'k' end",
+        "d10101 516b 080b",
+        [2, 0, 13],
+    );
+    expect_file(
+        &rt,
+        "an array in an array",
+        "[2 [1 'x' end 'y' end",
+        "a20102 a103 5178 5179 080b0f0d",
+        [4, 0, 17],
+    );
+    expect_file(
+        &rt,
+        "keys before values",
+        "{2 'a' [1 'x' end 'b' 'a' end",
+        "d201020301 5161 5162 a104 5178 080d0f1113",
+        [5, 0, 21],
+    );
 }
 
 // A writer keeps the pairs that it is handed; a value has each key once.
 #[test]
-fn a_repeated_key_is_written_twice(rt: HostRuntime) -> Result<(), Fail> {
+fn a_repeated_key_is_written_twice(rt: HostRuntime) {
     let words = "{2 'k' 1 'k' 2 end";
     let body = "d201010203 516b 1001 1002 080d0f11";
-    let bytes = file(rt.alloc(), body, [1, 1], [4, 0, 19])?;
-    expect(&rt, "a repeated key", words, bytes.as_slice())
+    let bytes = file(&rt, body, [1, 1], [4, 0, 19]);
+    expect(&rt, "a repeated key", words, bytes.as_slice());
 }
 
 #[test]
-fn lengths_are_hints(rt: HostRuntime) -> Result<(), Fail> {
-    let a = rt.alloc();
-    let bytes = file(a, "a20101 5161 080b", [1, 1], [2, 0, 13])?;
-    for words in [
-        "[ 'a' 'a' end",
-        "[0 'a' 'a' end",
-        "[18446744073709551615 'a' 'a' end",
-    ] {
-        assert_eq!(rt; written(a, words)?.as_slice(), bytes.as_slice(), "{words}");
-    }
-    Ok(())
+fn lengths_are_hints(rt: HostRuntime) {
+    let bytes = file(&rt, "a20101 5161 080b", [1, 1], [2, 0, 13]);
+    expect_written(&rt, "[ 'a' 'a' end", bytes.as_slice());
+    expect_written(&rt, "[0 'a' 'a' end", bytes.as_slice());
+    expect_written(&rt, "[18446744073709551615 'a' 'a' end", bytes.as_slice());
+}
+
+fn expect_written(rt: &(impl Abort + AllocGlobal), words: &str, bytes: &[u8]) {
+    assert_eq!(rt; written(rt, words).as_slice(), bytes, "{words}");
 }
 
 #[test]
-fn scalars(rt: HostRuntime) -> Result<(), Fail> {
-    for (name, word, object) in [
-        ("true", "true", "09"),
-        ("false", "false", "08"),
-        ("the last of one byte", "255", "10ff"),
-        ("the first of two", "256", "110100"),
-        ("the first of four", "65536", "1200010000"),
-        ("the first of eight", "4294967296", "130000000100000000"),
-        ("a negative one", "-1", "13ffffffffffffffff"),
-        (
-            "the greatest",
-            "18446744073709551615",
-            "140000000000000000ffffffffffffffff",
-        ),
-        ("a Uid of two bytes", "uid:256", "810100"),
-        ("a Uid of four", "uid:65536", "8300010000"),
-        ("a text in UTF-16", "'é'", "6100e9"),
-        ("a pair of surrogates", "'💩'", "62d83ddca9"),
-        (
-            "a text of fifteen bytes",
-            "'abcdefghijklmno'",
-            "5f100f6162636465666768696a6b6c6d6e6f",
-        ),
-        ("a real of four bytes", "real:3fc00000", "223fc00000"),
-        (
-            "a real of eight bytes",
-            "real:3ff8000000000000",
-            "233ff8000000000000",
-        ),
-        ("a date", "date:-619446474", "33c1c2760065000000"),
-        (
-            "a date with a fraction",
-            "date:0/3fe0000000000000",
-            "333fe0000000000000",
-        ),
-    ] {
-        expect_object(&rt, name, word, object)?;
-    }
-    Ok(())
-}
-
-// The one object of the file of one scalar.
-fn expect_object(
-    rt: &(impl Abort + AllocGlobal),
-    name: &str,
-    word: &str,
-    object: &str,
-) -> Result<(), Fail> {
-    let bytes = file_of_object(rt.alloc(), object)?;
-    expect_value(rt, name, word, bytes.as_slice())
+fn scalars(rt: HostRuntime) {
+    expect_object(&rt, "true", "true", "09");
+    expect_object(&rt, "false", "false", "08");
+    expect_object(&rt, "the last of one byte", "255", "10ff");
+    expect_object(&rt, "the first of two", "256", "110100");
+    expect_object(&rt, "the first of four", "65536", "1200010000");
+    expect_object(
+        &rt,
+        "the first of eight",
+        "4294967296",
+        "130000000100000000",
+    );
+    expect_object(&rt, "a negative one", "-1", "13ffffffffffffffff");
+    expect_object(
+        &rt,
+        "the greatest",
+        "18446744073709551615",
+        "140000000000000000ffffffffffffffff",
+    );
+    expect_object(&rt, "a Uid of two bytes", "uid:256", "810100");
+    expect_object(&rt, "a Uid of four", "uid:65536", "8300010000");
+    expect_object(&rt, "a text in UTF-16", "'é'", "6100e9");
+    expect_object(&rt, "a pair of surrogates", "'💩'", "62d83ddca9");
+    expect_object(
+        &rt,
+        "a text of fifteen bytes",
+        "'abcdefghijklmno'",
+        "5f100f6162636465666768696a6b6c6d6e6f",
+    );
+    expect_object(&rt, "a real of four bytes", "real:3fc00000", "223fc00000");
+    expect_object(
+        &rt,
+        "a real of eight bytes",
+        "real:3ff8000000000000",
+        "233ff8000000000000",
+    );
+    expect_object(&rt, "a date", "date:-619446474", "33c1c2760065000000");
+    expect_object(
+        &rt,
+        "a date with a fraction",
+        "date:0/3fe0000000000000",
+        "333fe0000000000000",
+    );
 }
 
 // The word of data of so many zero bytes.
-fn zeros_word(alloc: Global, count: u32) -> Result<String, AllocError> {
-    let mut word = String::from_str(alloc, "<")?;
+fn zeros_word(rt: &(impl Abort + AllocGlobal), count: u32) -> String {
+    let mut word = must(rt, String::from_str(rt.alloc(), "<"));
     for _ in 0..count {
-        word.push_str("00")?;
+        must(rt, word.push_str("00"));
     }
-    word.push('>')?;
-    Ok(word)
+    must(rt, word.push('>'));
+    word
+}
+
+// The body of a file of so many zero bytes, whose object begins so, and whose table is this one.
+fn zeros_body(rt: &(impl Abort + AllocGlobal), count: u32, begin: &[u8], table: &[u8]) -> Vec<u8> {
+    let mut body = must(rt, Vec::from_slice(rt.alloc(), begin));
+    for _ in 0..count {
+        must(rt, body.push(0));
+    }
+    must(rt, body.extend_from_slice(table));
+    body
 }
 
 // Data of so many zero bytes, whose object begins so, and whose table is this one at that place.
@@ -190,146 +202,160 @@ fn expect_zeros(
     table: &[u8],
     width: u8,
     place: u64,
-) -> Result<(), Fail> {
-    let alloc = rt.alloc();
-    let word = zeros_word(alloc, count)?;
-    let mut body = Vec::from_slice(alloc, begin)?;
-    for _ in 0..count {
-        body.push(0)?;
-    }
-    body.extend_from_slice(table)?;
-    let bytes = file_of(alloc, body.as_slice(), [width, 1], [1, 0, place])?;
-    expect_value(rt, "data of zeros", word.as_str(), bytes.as_slice())
+) {
+    let body = zeros_body(rt, count, begin, table);
+    let bytes = file_of(rt, body.as_slice(), [width, 1], [1, 0, place]);
+    expect_value(
+        rt,
+        "data of zeros",
+        zeros_word(rt, count).as_str(),
+        bytes.as_slice(),
+    );
 }
 
 #[test]
-fn widths_of_places(rt: HostRuntime) -> Result<(), Fail> {
-    expect_zeros(&rt, 244, b"\x4f\x10\xf4", &[8], 1, 255)?;
-    expect_zeros(&rt, 245, b"\x4f\x10\xf5", &[0, 8], 2, 256)?;
-    expect_zeros(&rt, 65524, b"\x4f\x11\xff\xf4", &[0, 0, 0, 8], 4, 65536)
+fn widths_of_places(rt: HostRuntime) {
+    expect_zeros(&rt, 244, b"\x4f\x10\xf4", &[8], 1, 255);
+    expect_zeros(&rt, 245, b"\x4f\x10\xf5", &[0, 8], 2, 256);
+    expect_zeros(&rt, 65524, b"\x4f\x11\xff\xf4", &[0, 0, 0, 8], 4, 65536);
 }
 
 // The words of the array of the whole numbers from 0 to the last one.
-fn numbers_words(alloc: Global, last: u8) -> Result<String, AllocError> {
-    let mut words = format!(in alloc; "[{}", u16::from(last) + 1)?;
+fn numbers_words(rt: &(impl Abort + AllocGlobal), last: u8) -> String {
+    let mut words = must(rt, format!(in rt.alloc(); "[{}", u16::from(last) + 1));
     for value in 0..=last {
-        let word = format!(in alloc; " {value}")?;
-        words.push_str(word.as_str())?;
+        let word = must(rt, format!(in rt.alloc(); " {value}"));
+        must(rt, words.push_str(word.as_str()));
     }
-    words.push_str(" end")?;
-    Ok(words)
+    must(rt, words.push_str(" end"));
+    words
 }
 
-// The file of that array, whose marker and length are these. The references go up from 1, each in
-// one byte or two; each number is an object of two bytes, the first one and the table at these
-// places, and the table has each place in two bytes.
-fn numbers_file(
-    alloc: Global,
+// The body of the file of that array, whose marker and length are these. The references go up from
+// 1, each in one byte or two; each number is an object of two bytes, the first one at this place,
+// and the table has each place in two bytes.
+fn numbers_body(
+    rt: &(impl Abort + AllocGlobal),
     last: u8,
     begin: &[u8],
     reference_width: u8,
     first: u16,
-    table: u64,
-) -> Result<Vec<u8>, AllocError> {
-    let mut body = Vec::from_slice(alloc, begin)?;
-    let mut objects = Vec::new(alloc);
-    let mut places = Vec::from_slice(alloc, &[0, 8])?;
+) -> Vec<u8> {
+    let mut body = must(rt, Vec::from_slice(rt.alloc(), begin));
+    let mut objects = Vec::new(rt.alloc());
+    let mut places = must(rt, Vec::from_slice(rt.alloc(), &[0, 8]));
     for value in 0..=last {
         let [high, low] = (u16::from(value) + 1).to_be_bytes();
         if reference_width == 2 {
-            body.push(high)?;
+            must(rt, body.push(high));
         }
-        body.push(low)?;
-        objects.extend_from_slice(&[0x10, value])?;
+        must(rt, body.push(low));
+        must(rt, objects.extend_from_slice(&[0x10, value]));
         let place = first.saturating_add(u16::from(value) * 2);
-        places.extend_from_slice(&place.to_be_bytes())?;
+        must(rt, places.extend_from_slice(&place.to_be_bytes()));
     }
-    body.extend_from_slice(objects.as_slice())?;
-    body.extend_from_slice(places.as_slice())?;
+    must(rt, body.extend_from_slice(objects.as_slice()));
+    must(rt, body.extend_from_slice(places.as_slice()));
+    body
+}
+
+// The array of the numbers from 0 to the last one, whose body and table are these, is a file of so
+// many bytes.
+fn expect_numbers(
+    rt: &(impl Abort + AllocGlobal),
+    last: u8,
+    body: &[u8],
+    reference_width: u8,
+    table: u64,
+    length: usize,
+) {
     let count = u64::from(last) + 2;
-    file_of(
-        alloc,
-        body.as_slice(),
-        [2, reference_width],
-        [count, 0, table],
-    )
+    let bytes = file_of(rt, body, [2, reference_width], [count, 0, table]);
+    assert_eq!(rt; bytes.len(), length);
+    let words = numbers_words(rt, last);
+    expect_value(rt, "numbers", words.as_str(), bytes.as_slice());
 }
 
 #[test]
-fn widths_of_references(rt: HostRuntime) -> Result<(), Fail> {
-    let a = rt.alloc();
-    let bytes = numbers_file(a, 254, b"\xaf\x10\xff", 1, 266, 776)?;
-    assert_eq!(rt; bytes.len(), 1320);
-    let words = numbers_words(a, 254)?;
-    expect_value(&rt, "0 to 254", words.as_str(), bytes.as_slice())?;
-    let bytes = numbers_file(a, 255, b"\xaf\x11\x01\x00", 2, 524, 1036)?;
-    assert_eq!(rt; bytes.len(), 1582);
-    let words = numbers_words(a, 255)?;
-    expect_value(&rt, "0 to 255", words.as_str(), bytes.as_slice())
+fn widths_of_references(rt: HostRuntime) {
+    let body = numbers_body(&rt, 254, b"\xaf\x10\xff", 1, 266);
+    expect_numbers(&rt, 254, body.as_slice(), 1, 776, 1320);
+    let body = numbers_body(&rt, 255, b"\xaf\x11\x01\x00", 2, 524);
+    expect_numbers(&rt, 255, body.as_slice(), 2, 1036, 1582);
 }
 
 #[test]
-fn refusals_change_nothing(rt: HostRuntime) -> Result<(), Fail> {
-    let a = rt.alloc();
-    let mut writer = BinaryWriter::new(a, Vec::new(a));
-    let answered = answers(a, &mut writer, "end { 1 'k' end true end")?;
-    assert_eq!(rt;
-        answered.as_str(),
+fn refusals_change_nothing(rt: HostRuntime) {
+    let mut writer = BinaryWriter::new(rt.alloc(), Vec::new(rt.alloc()));
+    expect_answers(
+        &rt,
+        &mut writer,
+        "end { 1 'k' end true end",
         "UnexpectedEventType { expected: ValueOrStartCollection, found: EndCollection }; ok; \
          UnexpectedEventType { expected: DictionaryKeyOrEndCollection, found: Integer }; ok; \
-         UnexpectedEventType { expected: DictionaryKeyOrEndCollection, found: EndCollection }; ok; ok"
+         UnexpectedEventType { expected: DictionaryKeyOrEndCollection, found: EndCollection }; ok; ok",
     );
-    let bytes = file(a, "d10102 516b 09 080b0d", [1, 1], [3, 0, 14])?;
+    let bytes = file(&rt, "d10102 516b 09 080b0d", [1, 1], [3, 0, 14]);
     assert_eq!(rt; writer.into_inner().as_slice(), bytes.as_slice());
-    Ok(())
+}
+
+// The file of `true`.
+fn one_file(rt: &(impl Abort + AllocGlobal)) -> Vec<u8> {
+    file(rt, "09 08", [1, 1], [1, 0, 9])
 }
 
 #[test]
-fn files_stand_behind_each_other(rt: HostRuntime) -> Result<(), Fail> {
-    let a = rt.alloc();
-    let mut two = file(a, "09 08", [1, 1], [1, 0, 9])?;
-    let one = file(a, "09 08", [1, 1], [1, 0, 9])?;
-    two.extend_from_slice(one.as_slice())?;
+fn files_stand_behind_each_other(rt: HostRuntime) {
+    let mut two = one_file(&rt);
+    must(&rt, two.extend_from_slice(one_file(&rt).as_slice()));
     assert_eq!(rt; two.len(), 84);
-    assert_eq!(rt; written(a, "true true")?.as_slice(), two.as_slice());
-    Ok(())
+    expect_written(&rt, "true true", two.as_slice());
+}
+
+// A device that takes bytes, with a fault at this call.
+fn device_of(rt: &(impl Abort + AllocGlobal), call: u64, fault: Fault) -> Device {
+    Device::with_fault(Vec::new(rt.alloc()), call, fault)
 }
 
 // Two files went to the device, a byte a call and a flush behind each, and no call failed.
-fn expect_two_files(rt: &(impl Abort + AllocGlobal), device: &Device) -> Result<(), Fail> {
-    let mut both = file(rt.alloc(), "09 08", [1, 1], [1, 0, 9])?;
-    let second = file(rt.alloc(), "a20101 5161 080b", [1, 1], [2, 0, 13])?;
-    both.extend_from_slice(second.as_slice())?;
+fn expect_two_files(rt: &(impl Abort + AllocGlobal), device: &Device) {
+    let mut both = one_file(rt);
+    let second = file(rt, "a20101 5161 080b", [1, 1], [2, 0, 13]);
+    must(rt, both.extend_from_slice(second.as_slice()));
     assert_eq!(rt; device.bytes.as_slice(), both.as_slice());
+    assert_eq!(rt; device.flushed, both.len());
     assert_eq!(rt; device.calls, 42 + 1 + 47 + 1);
     assert_eq!(rt; device.failures, 0);
-    Ok(())
 }
 
 // No device's fault is answered where no call of the device failed.
 #[test]
-fn io_without_failing_write(rt: HostRuntime) -> Result<(), Fail> {
-    let a = rt.alloc();
-    let mut writer = BinaryWriter::new(a, Device::new(Vec::new(a), u64::MAX));
-    let answered = answers(a, &mut writer, "true [2 'a' 'a' end")?;
-    assert_eq!(rt; answered.as_str(), "ok; ok; ok; ok; ok");
-    expect_two_files(&rt, &writer.into_inner())?;
-    let mut device = Device::new(Vec::new(a), u64::MAX);
-    value_of(a, "true")?.to_writer_binary(a, &mut device)?;
-    value_of(a, "[2 'a' 'a' end")?.to_writer_binary(a, &mut device)?;
-    expect_two_files(&rt, &device)
+fn io_without_failing_write(rt: HostRuntime) {
+    let device = Device::new(Vec::new(rt.alloc()), u64::MAX);
+    let mut writer = BinaryWriter::new(rt.alloc(), device);
+    expect_answers(
+        &rt,
+        &mut writer,
+        "true [2 'a' 'a' end",
+        "ok; ok; ok; ok; ok",
+    );
+    expect_two_files(&rt, &writer.into_inner());
+    let mut device = Device::new(Vec::new(rt.alloc()), u64::MAX);
+    send(&rt, "true", &mut device);
+    send(&rt, "[2 'a' 'a' end", &mut device);
+    expect_two_files(&rt, &device);
+}
+
+// The value of these words is sent to the device.
+fn send(rt: &(impl Abort + AllocGlobal), words: &str, device: &mut Device) {
+    must(rt, value_of(rt, words).to_writer_binary(rt.alloc(), device));
 }
 
 // The device fails at this call: these bytes went out, and the writer never asks it again.
-fn expect_failure(
-    rt: &(impl Abort + AllocGlobal),
-    fails_at: u64,
-    bytes: &[u8],
-) -> Result<(), Fail> {
-    let alloc = rt.alloc();
-    let mut writer = BinaryWriter::new(alloc, Device::new(Vec::new(alloc), fails_at));
-    let answered = answers(alloc, &mut writer, "true true")?;
-    assert_eq!(rt; answered.as_str(), "Io; WriterFailed", "at call {fails_at}");
+fn expect_failure(rt: &(impl Abort + AllocGlobal), fails_at: u64, bytes: &[u8]) {
+    let device = Device::new(Vec::new(rt.alloc()), fails_at);
+    let mut writer = BinaryWriter::new(rt.alloc(), device);
+    expect_answers(rt, &mut writer, "true true", "Io; WriterFailed");
     let device = writer.into_inner();
     assert_eq!(rt; device.bytes.as_slice(), bytes, "at call {fails_at}");
     assert_eq!(rt; device.failures, 1, "at call {fails_at}");
@@ -338,56 +364,90 @@ fn expect_failure(
         fails_at.saturating_add(1),
         "at call {fails_at}"
     );
-    Ok(())
 }
 
 #[test]
-fn a_failed_write_ends_the_writer(rt: HostRuntime) -> Result<(), Fail> {
-    let whole = file(rt.alloc(), "09 08", [1, 1], [1, 0, 9])?;
+fn a_failed_write_ends_the_writer(rt: HostRuntime) {
+    let whole = one_file(&rt);
     for fails_at in 0..42u32 {
         let sent = front(whole.as_slice(), fails_at as usize);
-        expect_failure(&rt, u64::from(fails_at), sent)?;
+        expect_failure(&rt, u64::from(fails_at), sent);
     }
-    Ok(())
+}
+
+#[test]
+fn a_failed_flush_ends_the_writer(rt: HostRuntime) {
+    expect_failure(&rt, 42, one_file(&rt).as_slice());
 }
 
 // A value stands behind what was written before; where the device fails at this call, so many bytes
-// of its file went out.
-fn expect_sent(
-    rt: &(impl Abort + AllocGlobal),
-    fails_at: u64,
-    answer: &str,
-    bytes: &[u8],
-) -> Result<(), Fail> {
-    let alloc = rt.alloc();
-    let mut device = Device::new(Vec::from_slice(alloc, b"before")?, fails_at);
-    let answered = match Value::Boolean(true).to_writer_binary(alloc, &mut device) {
-        Ok(()) => String::from_str(alloc, "ok")?,
-        Err(error) => error.to_string(alloc)?,
-    };
-    assert_eq!(rt; answered.as_str(), answer, "at call {fails_at}");
-    assert_eq!(rt; front(device.bytes.as_slice(), 6), b"before".as_slice());
+// of its file went out, and it isn't asked again.
+fn expect_sent(rt: &(impl Abort + AllocGlobal), fails_at: u64, answer: &str, bytes: &[u8]) {
+    let mut device = device_of(rt, fails_at, Fault::Fails(ErrorKind::Interrupted));
+    must(rt, device.bytes.extend_from_slice(b"before"));
+    let found = text_of(
+        rt,
+        Value::Boolean(true).to_writer_binary(rt.alloc(), &mut device),
+    );
+    assert_eq!(rt; found.as_str(), answer, "at call {fails_at}");
+    let mut wanted = must(rt, Vec::from_slice(rt.alloc(), b"before"));
+    must(rt, wanted.extend_from_slice(bytes));
     assert_eq!(rt;
-        &device.bytes.as_slice()[6.min(device.bytes.len())..],
-        bytes,
+        device.bytes.as_slice(),
+        wanted.as_slice(),
         "at call {fails_at}"
     );
-    Ok(())
+    let calls = fails_at.saturating_add(1).min(43);
+    assert_eq!(rt; device.calls, calls, "at call {fails_at}");
 }
 
 #[test]
-fn a_value_is_sent_whole_or_a_front_of_it(rt: HostRuntime) -> Result<(), Fail> {
-    let whole = file(rt.alloc(), "09 08", [1, 1], [1, 0, 9])?;
+fn a_value_is_sent_whole_or_a_front_of_it(rt: HostRuntime) {
+    let whole = one_file(&rt);
     for fails_at in 0..42u32 {
         let sent = front(whole.as_slice(), fails_at as usize);
-        expect_sent(&rt, u64::from(fails_at), "Io", sent)?;
+        expect_sent(&rt, u64::from(fails_at), "Io", sent);
     }
-    expect_sent(&rt, 42, "Io", whole.as_slice())?;
-    expect_sent(&rt, 43, "ok", whole.as_slice())
+    expect_sent(&rt, 42, "Io", whole.as_slice());
+    expect_sent(&rt, 43, "ok", whole.as_slice());
 }
 
+// What the writer answers to the event `true`.
+fn write_true(writer: &mut BinaryWriter<Device>) -> Result<(), Error> {
+    writer.write_boolean(true)
+}
+
+// With this fault at this call of the device, a writer and a value answer an error of this kind, and
+// don't ask again.
+fn expect_handed_on(rt: &(impl Abort + AllocGlobal), call: u64, fault: Fault, kind: ErrorKind) {
+    let mut writer = BinaryWriter::new(rt.alloc(), device_of(rt, call, fault));
+    expect_io(rt, write_true(&mut writer), kind, None);
+    let device = writer.into_inner();
+    assert_eq!(rt; device.calls, call.saturating_add(1));
+    let mut device = device_of(rt, call, fault);
+    let answer = Value::Boolean(true).to_writer_binary(rt.alloc(), &mut device);
+    expect_io(rt, answer, kind, None);
+    assert_eq!(rt; device.calls, call.saturating_add(1));
+}
+
+// A device's own error is handed on, at a write and at the flush.
 #[test]
-fn a_failed_flush_ends_the_writer(rt: HostRuntime) -> Result<(), Fail> {
-    let whole = file(rt.alloc(), "09 08", [1, 1], [1, 0, 9])?;
-    expect_failure(&rt, 42, whole.as_slice())
+fn errors_of_devices(rt: HostRuntime) {
+    for call in [0u64, 5, 42] {
+        for kind in [
+            ErrorKind::Interrupted,
+            ErrorKind::TimedOut,
+            ErrorKind::PermissionDenied,
+            ErrorKind::StorageFull,
+        ] {
+            expect_handed_on(&rt, call, Fault::Fails(kind), kind);
+        }
+    }
+}
+
+// A device that takes no byte.
+#[test]
+fn nothing_is_taken(rt: HostRuntime) {
+    expect_handed_on(&rt, 0, Fault::MovesNothing, ErrorKind::WriteZero);
+    expect_handed_on(&rt, 5, Fault::MovesNothing, ErrorKind::WriteZero);
 }

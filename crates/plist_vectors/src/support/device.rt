@@ -1,53 +1,75 @@
-//! A device that fails.
+//! Devices that fail, or end too early.
 
-ghost use Rattle.std.specs.Prelude.{◌≡◌, IsTrue, None};
-ghost use Rattle.plist_base.specs.Sources.{Rises};
+ghost use Rattle.std.specs.Prelude.{None};
+ghost use Rattle.plist_base.specs.Sources.{CountsFailure};
 
-use plist_base::Source;
+use crate::support::must;
+use plist_base::{Error, Source};
 use std::io;
-use std::io::{Read, Write};
+use std::io::{Cursor, ErrorKind, Read, Seek, SeekFrom, Write};
+use std::process::Abort;
 
-// It moves one byte a call, and fails at one call, counting from 0. The failure is one after which
-// callers may want to try again, and a second try would succeed.
+// What comes of the one call that is unlike the others.
+#[derive(Clone, Copy)]
+pub(crate) enum Fault {
+    Fails(ErrorKind),
+    MovesNothing,
+}
+
+// It moves one byte a call, but for one call, counting from 0. A second try of that would succeed.
 #[derive(Drop)]
 pub(crate) struct Device {
     // What it gives, or has taken.
     pub bytes: Vec<u8>,
-    // How many of them `read` has given.
-    pub given: usize,
+    // How many bytes `read` has given, or `write` has taken.
+    pub moved: usize,
+    // The place that the last call was asked for; 0 for a size.
+    pub place: u64,
+    // How many it had taken at its last flush.
+    pub flushed: usize,
     pub calls: u64,
-    pub fails_at: u64,
     pub failures: u64,
+    faulty_call: u64,
+    fault: Fault,
 }
 
 impl Device {
+    // It fails in a way after which callers may want to try again.
     pub(crate) fn new(bytes: Vec<u8>, fails_at: u64) -> Device {
+        Device::with_fault(bytes, fails_at, Fault::Fails(ErrorKind::Interrupted))
+    }
+
+    pub(crate) fn with_fault(bytes: Vec<u8>, faulty_call: u64, fault: Fault) -> Device {
         Device {
             bytes,
-            given: 0,
+            moved: 0,
+            place: 0,
+            flushed: 0,
             calls: 0,
-            fails_at,
             failures: 0,
+            faulty_call,
+            fault,
         }
     }
 
-    // Counts a call, and tells whether it fails.
-    fn fails(&mut self) -> bool
-        ensures failed { IsTrue result → Rises self.old.failures self.new.failures }
-        ensures unchanged { (IsTrue result → ⊥) → self.new.failures ≡ self.old.failures }
+    // Counts a call, and tells whether it moves a byte.
+    fn call(&mut self, place: u64) -> io::Result<bool>
+        ensures failures { CountsFailure result self.old.failures self.new.failures }
     {
+        self.place = place;
         let call = self.calls;
         self.calls = call.saturating_add(1);
-        if call != self.fails_at {
-            return false;
+        if call != self.faulty_call {
+            return Ok(true);
         }
-        self.failures = self.failures.saturating_add(1);
-        true
+        match self.fault {
+            Fault::MovesNothing => Ok(false),
+            Fault::Fails(kind) => {
+                self.failures = self.failures.saturating_add(1);
+                Err(io::Error::from(kind))
+            }
+        }
     }
-}
-
-fn failure() -> io::Error {
-    io::Error::from(io::ErrorKind::Interrupted)
 }
 
 impl Source for Device {
@@ -56,17 +78,12 @@ impl Source for Device {
     ghost failures = { λ device. device.failures };
 
     fn size(&mut self) -> Result<u64, io::Error> {
-        if self.fails() {
-            return Err(failure());
-        }
+        self.call(0)?;
         Ok(self.bytes.len() as u64)
     }
 
     fn read_at(&mut self, place: u64, buf: &mut [u8]) -> Result<usize, io::Error> {
-        if self.fails() {
-            return Err(failure());
-        }
-        if buf.is_empty() || place >= self.bytes.len() as u64 {
+        if !self.call(place)? || buf.is_empty() || place >= self.bytes.len() as u64 {
             return Ok(0);
         }
         buf[0] = self.bytes[place as usize];
@@ -74,38 +91,125 @@ impl Source for Device {
     }
 }
 
+// Lent to a reader, so that it can be looked at afterwards.
+impl<'a> Source for &'a mut Device {
+    ghost known = { λ _. None };
+
+    ghost failures = { λ device. device.now.failures };
+
+    fn size(&mut self) -> Result<u64, io::Error> {
+        (**self).size()
+    }
+
+    fn read_at(&mut self, place: u64, buf: &mut [u8]) -> Result<usize, io::Error> {
+        (**self).read_at(place, buf)
+    }
+}
+
 impl Read for Device {
     ghost remaining = { λ _. None };
 
     fn read(&mut self, buf: &mut [u8]) -> io::Result<usize> {
-        if self.fails() {
-            return Err(failure());
-        }
-        if buf.is_empty() || self.given >= self.bytes.len() {
+        if !self.call(self.moved as u64)? || buf.is_empty() || self.moved >= self.bytes.len() {
             return Ok(0);
         }
-        buf[0] = self.bytes[self.given];
-        self.given += 1;
+        buf[0] = self.bytes[self.moved];
+        self.moved += 1;
         Ok(1)
     }
 }
 
 impl Write for Device {
     fn write(&mut self, buf: &[u8]) -> io::Result<usize> {
-        if self.fails() {
-            return Err(failure());
-        }
-        if buf.is_empty() {
+        if !self.call(self.moved as u64)? || buf.is_empty() {
             return Ok(0);
         }
         self.bytes.push(buf[0])?;
+        self.moved = self.moved.saturating_add(1);
         Ok(1)
     }
 
     fn flush(&mut self) -> io::Result<()> {
-        if self.fails() {
-            return Err(failure());
+        self.call(self.moved as u64)?;
+        self.flushed = self.moved;
+        Ok(())
+    }
+}
+
+// The fault is a device's own error of this kind, with this offset.
+pub(crate) fn expect_io<T: Drop>(
+    rt: &impl Abort,
+    answer: Result<T, Error>,
+    kind: ErrorKind,
+    offset: Option<u64>,
+) {
+    match answer {
+        Ok(_) => panic!(rt; "no fault"),
+        Err(error) => {
+            assert_eq!(rt; error.offset(), offset);
+            match error.as_io() {
+                None => panic!(rt; "no device's fault"),
+                Some(failure) => assert_eq!(rt; failure.kind(), kind),
+            }
+        }
+    }
+}
+
+// The device failed once, at its last call and the place of that, and the items are a beginning of
+// the whole and then that fault.
+pub(crate) fn expect_cut(
+    rt: &(impl Abort + AllocGlobal),
+    device: &Device,
+    items: &str,
+    whole: &str,
+) {
+    let call = device.faulty_call;
+    assert_eq!(rt; device.failures, 1, "at call {call}");
+    assert_eq!(rt; device.calls, call.saturating_add(1));
+    let fault = format!(in rt.alloc(); "Io (offset {})", device.place);
+    match items.strip_suffix(must(rt, fault).as_str()) {
+        None => panic!(rt; "at call {call} came {items}"),
+        Some(before) => assert!(rt; whole.starts_with(before.trim_end()), "at call {call}"),
+    }
+}
+
+// A file that fails at one call, counting from 0.
+#[derive(Drop)]
+pub(crate) struct Disk {
+    inner: Cursor<Vec<u8>>,
+    pub calls: u64,
+    fails_at: u64,
+}
+
+impl Disk {
+    pub(crate) fn new(bytes: Vec<u8>, fails_at: u64) -> Disk {
+        Disk {
+            inner: Cursor::new(bytes),
+            calls: 0,
+            fails_at,
+        }
+    }
+
+    fn call(&mut self) -> io::Result<()> {
+        let call = self.calls;
+        self.calls = call.saturating_add(1);
+        if call == self.fails_at {
+            return Err(io::Error::from(ErrorKind::PermissionDenied));
         }
         Ok(())
+    }
+}
+
+impl Read for Disk {
+    fn read(&mut self, buf: &mut [u8]) -> io::Result<usize> {
+        self.call()?;
+        self.inner.read(buf)
+    }
+}
+
+impl Seek for Disk {
+    fn seek(&mut self, to: SeekFrom) -> io::Result<u64> {
+        self.call()?;
+        self.inner.seek(to)
     }
 }

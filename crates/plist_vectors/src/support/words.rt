@@ -7,12 +7,13 @@
 
 ghost use Rattle.std.specs.Iterator.{IsFinite};
 
+use crate::support::must;
 use hex::FromHex;
 use plist::Value;
 use plist_base::{Date, Error, Event, Integer, OwnedEvent, RealBits, Uid, Writer};
 use std::alloc::{AllocError, Global};
 use std::borrow::{CowSlice, CowStr};
-use std::test::Fail;
+use std::process::Abort;
 
 // What stands between two marks.
 fn between(word: &str, first: char, last: char) -> Option<&str> {
@@ -23,62 +24,63 @@ fn between(word: &str, first: char, last: char) -> Option<&str> {
 }
 
 // The length behind a bracket, if there is one.
-fn length_of(digits: &str) -> Result<Option<u64>, Fail> {
+fn length_of(rt: &impl Abort, digits: &str) -> Option<u64> {
     if digits.is_empty() {
-        return Ok(None);
+        return None;
     }
-    Ok(Some(digits.parse::<u64>()?))
+    Some(must(rt, digits.parse::<u64>()))
 }
 
-fn real_of(digits: &str) -> Result<RealBits, Fail> {
+fn real_of(rt: &impl Abort, digits: &str) -> RealBits {
     if digits.len() == 8 {
-        return Ok(RealBits::Four(<[u8; 4] as FromHex>::from_hex(digits)?));
+        return RealBits::Four(must(rt, <[u8; 4] as FromHex>::from_hex(digits)));
     }
-    Ok(RealBits::Eight(<[u8; 8] as FromHex>::from_hex(digits)?))
+    RealBits::Eight(must(rt, <[u8; 8] as FromHex>::from_hex(digits)))
 }
 
-fn date_of(content: &str) -> Result<Date, Fail> {
+fn date_of(rt: &impl Abort, content: &str) -> Date {
     if let Some((_, digits)) = content.split_once('/') {
-        return Ok(Date::from_plist_real(<[u8; 8] as FromHex>::from_hex(digits)?)?);
+        let bytes = must(rt, <[u8; 8] as FromHex>::from_hex(digits));
+        return must(rt, Date::from_plist_real(bytes));
     }
-    match Date::from_plist_secs(content.parse::<i64>()?) {
-        Some(date) => Ok(date),
-        None => Err(Fail::new("no date has this second")),
+    match Date::from_plist_secs(must(rt, content.parse::<i64>())) {
+        Some(date) => date,
+        None => panic!(rt; "no date has the second {content}"),
     }
 }
 
 // The event of a kind and a content with a colon between them.
-fn named(kind: &str, content: &str) -> Result<Event<'static>, Fail> {
+fn named(rt: &impl Abort, kind: &str, content: &str) -> Event<'static> {
     match kind {
-        "uid" => Ok(Event::Uid(Uid::new(content.parse::<u64>()?))),
-        "real" => Ok(Event::Real(real_of(content)?)),
-        "date" => Ok(Event::Date(date_of(content)?)),
-        _ => Err(Fail::new("no event has this name")),
+        "uid" => Event::Uid(Uid::new(must(rt, content.parse::<u64>()))),
+        "real" => Event::Real(real_of(rt, content)),
+        "date" => Event::Date(date_of(rt, content)),
+        _ => panic!(rt; "no event has the name {kind}"),
     }
 }
 
 // The event that a word stands for.
-pub(crate) fn event_of(alloc: Global, word: &str) -> Result<Event<'_>, Fail> {
+pub(crate) fn event_of<'a>(rt: &(impl Abort + AllocGlobal), word: &'a str) -> Event<'a> {
     if let Some(text) = between(word, '\'', '\'') {
-        return Ok(Event::String(CowStr::Borrowed(text)));
+        return Event::String(CowStr::Borrowed(text));
     }
     if let Some(digits) = between(word, '<', '>') {
-        return Ok(Event::Data(CowSlice::Owned(hex::decode(alloc, digits)?)));
+        return Event::Data(CowSlice::Owned(must(rt, hex::decode(rt.alloc(), digits))));
     }
     if let Some(digits) = word.strip_prefix('[') {
-        return Ok(Event::StartArray(length_of(digits)?));
+        return Event::StartArray(length_of(rt, digits));
     }
     if let Some(digits) = word.strip_prefix('{') {
-        return Ok(Event::StartDictionary(length_of(digits)?));
+        return Event::StartDictionary(length_of(rt, digits));
     }
     if let Some((kind, content)) = word.split_once(':') {
-        return named(kind, content);
+        return named(rt, kind, content);
     }
     match word {
-        "end" => Ok(Event::EndCollection),
-        "true" => Ok(Event::Boolean(true)),
-        "false" => Ok(Event::Boolean(false)),
-        number => Ok(Event::Integer(number.parse::<Integer>()?)),
+        "end" => Event::EndCollection,
+        "true" => Event::Boolean(true),
+        "false" => Event::Boolean(false),
+        number => Event::Integer(must(rt, number.parse::<Integer>())),
     }
 }
 
@@ -126,56 +128,66 @@ fn word_of(alloc: Global, event: &Event<'_>) -> Result<String, AllocError> {
 }
 
 // Adds an item's word, or the text of its fault, behind those that are there.
-fn add(alloc: Global, all: &mut String, item: &Result<Event<'_>, Error>) -> Result<(), AllocError> {
-    if !all.is_empty() {
-        all.push(' ')?;
-    }
+fn add(rt: &(impl Abort + AllocGlobal), all: &mut String, item: &Result<Event<'_>, Error>) {
     let word = match item {
-        Ok(event) => word_of(alloc, event)?,
-        Err(error) => format!(in alloc; "{error}")?,
+        Ok(event) => word_of(rt.alloc(), event),
+        Err(error) => error.to_string(rt.alloc()),
     };
-    all.push_str(word.as_str())
+    add_words(rt, all, " ", must(rt, word).as_str());
+}
+
+// Adds words, with this mark before them where they aren't the first.
+fn add_words(rt: &impl Abort, all: &mut String, mark: &str, words: &str) {
+    if !all.is_empty() {
+        must(rt, all.push_str(mark));
+    }
+    must(rt, all.push_str(words));
 }
 
 // The words of a reader's items.
 pub(crate) fn words_of<I: Iterator<Item = Result<OwnedEvent, Error>> + Drop>(
-    alloc: Global,
+    rt: &(impl Abort + AllocGlobal),
     reader: I,
-) -> Result<String, AllocError>
+) -> String
     requires asked { I.can_next reader }
     requires ends { IsFinite (I.remaining reader) }
 {
-    let mut all = String::new(alloc);
+    let mut all = String::new(rt.alloc());
     for item in reader {
-        add(alloc, &mut all, &item)?;
+        add(rt, &mut all, &item);
     }
-    Ok(all)
+    all
 }
 
 // The words of a value's events.
-pub(crate) fn words_of_value(alloc: Global, value: &Value) -> Result<String, AllocError> {
-    let mut all = String::new(alloc);
-    for item in value.events(alloc) {
-        add(alloc, &mut all, &item)?;
+pub(crate) fn words_of_value(rt: &(impl Abort + AllocGlobal), value: &Value) -> String {
+    let mut all = String::new(rt.alloc());
+    for item in value.events(rt.alloc()) {
+        add(rt, &mut all, &item);
     }
-    Ok(all)
+    all
+}
+
+// An answer: `ok`, or the text of the fault.
+pub(crate) fn text_of(rt: &(impl Abort + AllocGlobal), answer: Result<(), Error>) -> String {
+    let text = match answer {
+        Ok(()) => String::from_str(rt.alloc(), "ok"),
+        Err(error) => error.to_string(rt.alloc()),
+    };
+    must(rt, text)
 }
 
 // The answers of a writer to the events of these words, with a semicolon between two.
-pub(crate) fn answers<W: Writer>(
-    alloc: Global,
+pub(crate) fn expect_answers<W: Writer>(
+    rt: &(impl Abort + AllocGlobal),
     writer: &mut W,
     words: &str,
-) -> Result<String, Fail> {
-    let mut all = String::new(alloc);
+    answers: &str,
+) {
+    let mut all = String::new(rt.alloc());
     for word in words.split(' ') {
-        if !all.is_empty() {
-            all.push_str("; ")?;
-        }
-        match writer.write(event_of(alloc, word)?) {
-            Ok(()) => all.push_str("ok")?,
-            Err(error) => all.push_str(error.to_string(alloc)?.as_str())?,
-        }
+        let answer = writer.write(event_of(rt, word));
+        add_words(rt, &mut all, "; ", text_of(rt, answer).as_str());
     }
-    Ok(all)
+    assert_eq!(rt; all.as_str(), answers, "{words}");
 }

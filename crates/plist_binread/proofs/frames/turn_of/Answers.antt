@@ -1,24 +1,50 @@
-use Rattle.std.proofs.Common.{arith, ◌∙◌}
-use Rattle.plist_binread.proofs.Turned.{splits, after, child_path, child_owed, child_weight}
-use Rattle.plist_binread.proofs.Opened.{IsPath-pop}
+use Rattle.std.proofs.Common.{arith, ◌∙◌, false}
+use Rattle.plist_binread.proofs.Turned.{splits, after, child_path, child_owed, closed_owed, child_weight, closes-none, closes-child}
+use Rattle.plist_binread.proofs.Opened.{IsOpen-pop, first_below, first_uncached, cached_count-mark}
 use Rattle.plist_binread.proofs.frames.turn_of.Goals as goal
 
-pub returns-then-frame-len-clause-path : goal.returns-then-frame-len-clause-path
-returns-then-frame-len-clause-path c =
+pub returns-then-frame-clause-path : goal.returns-then-frame-clause-path
+returns-then-frame-clause-path c =
     let s = splits c.args.frames.now.items c.len-depth.result c.index_mut-frame.result.now (after c.index_mut-frame.result.now) (omega arith) (c.len-depth.ensures ∙ c.args.frames.now.ok.0) c.index_mut-frame.ensures.value in
-    λ n o. rw s.changed (child_path n _ _ (rw s.whole at o))
+    rw s.changed (child_path c.args.tags.now.items _ _ (rw s.whole at c.requires))
 
-pub returns-then-frame-len-clause-owed : goal.returns-then-frame-len-clause-owed
-returns-then-frame-len-clause-owed c =
+pub returns-then-frame-clause-within : goal.returns-then-frame-clause-within
+returns-then-frame-clause-within c =
     let s = splits c.args.frames.now.items c.len-depth.result c.index_mut-frame.result.now (after c.index_mut-frame.result.now) (omega arith) (c.len-depth.ensures ∙ c.args.frames.now.ok.0) c.index_mut-frame.ensures.value in
-    λ table. rw (s.whole, s.changed) (child_owed table c.index_mut-frame.result.now _ _ (omega (arith, c.index_mut-frame.result.now.children.ok.0)) c.index-number.ensures)
+    (first_below c.args.tags.now.items _ _ (rw s.whole at c.requires), first_uncached c.args.tags.now.items _ _ (rw s.whole at c.requires))
 
-pub returns-then-frame-len-clause-weight : goal.returns-then-frame-len-clause-weight
-returns-then-frame-len-clause-weight c =
+pub returns-then-frame-clause-owed : goal.returns-then-frame-clause-owed
+returns-then-frame-clause-owed c =
     let s = splits c.args.frames.now.items c.len-depth.result c.index_mut-frame.result.now (after c.index_mut-frame.result.now) (omega arith) (c.len-depth.ensures ∙ c.args.frames.now.ok.0) c.index_mut-frame.ensures.value in
-    λ n. rw (s.whole, s.changed) (child_weight n c.index_mut-frame.result.now _ (omega (arith, c.index_mut-frame.result.now.children.ok.0)))
+    λ bytes contents bounds k. rw (s.whole, s.changed) (child_owed bytes c.args.tags.now.items contents bounds c.index_mut-frame.result.now s.below (rw s.whole at k) c.if-frame.true)
+
+pub returns-then-frame-clause-weight : goal.returns-then-frame-clause-weight
+returns-then-frame-clause-weight c =
+    let s = splits c.args.frames.now.items c.len-depth.result c.index_mut-frame.result.now (after c.index_mut-frame.result.now) (omega arith) (c.len-depth.ensures ∙ c.args.frames.now.ok.0) c.index_mut-frame.ensures.value in
+    λ n. rw (s.whole, s.changed) (child_weight n c.index_mut-frame.result.now s.below c.if-frame.true)
+
+pub unmark-requires : goal.unmark-requires
+unmark-requires c =
+    let s = splits c.args.frames.now.items c.len-depth.result c.index_mut-frame.result.now c.index_mut-frame.result.now (omega arith) (c.len-depth.ensures ∙ c.args.frames.now.ok.0) c.index_mut-frame.ensures.value in
+    first_below c.args.tags.now.items _ _ (rw s.whole at c.requires)
 
 pub returns-clause-path : goal.returns-clause-path
 returns-clause-path c =
     let s = splits c.args.frames.now.items c.len-depth.result c.index_mut-frame.result.now c.index_mut-frame.result.now (omega arith) (c.len-depth.ensures ∙ c.args.frames.now.ok.0) c.index_mut-frame.ensures.value in
-    λ n o. rw (c.pop.ensures.rest, ← c.len-depth.ensures, s.closed) (IsPath-pop n _ _ (rw s.whole at o))
+    rw (c.pop.ensures.rest, ← c.len-depth.ensures, s.closed) (IsOpen-pop c.args.tags.now.items _ _ _ (rw s.whole at c.requires) c.unmark.ensures)
+
+pub returns-clause-counted : goal.returns-clause-counted
+returns-clause-counted c = cached_count-mark _ false _ _ c.unmark.ensures
+
+pub returns-clause-owed : goal.returns-clause-owed
+returns-clause-owed c =
+    let s = splits c.args.frames.now.items c.len-depth.result c.index_mut-frame.result.now c.index_mut-frame.result.now (omega arith) (c.len-depth.ensures ∙ c.args.frames.now.ok.0) c.index_mut-frame.ensures.value in
+    λ bytes contents bounds k. rw (c.pop.ensures.rest, ← c.len-depth.ensures, s.closed, s.whole) (closed_owed bytes c.args.tags.now.items contents bounds _ _ (rw s.whole at k) _ c.if-frame.false c.unmark.ensures)
+
+pub returns-then-depth-eq0-clause-closes : goal.returns-then-depth-eq0-clause-closes
+returns-then-depth-eq0-clause-closes c = λ e. absurd (closes-none c.args.frames.now.items (omega arith) e)
+
+pub returns-then-frame-clause-closes : goal.returns-then-frame-clause-closes
+returns-then-frame-clause-closes c =
+    let s = splits c.args.frames.now.items c.len-depth.result c.index_mut-frame.result.now (after c.index_mut-frame.result.now) (omega arith) (c.len-depth.ensures ∙ c.args.frames.now.ok.0) c.index_mut-frame.ensures.value in
+    λ e. absurd (closes-child c.args.frames.now.items _ _ s.whole c.if-frame.true e)

@@ -1,21 +1,40 @@
-use Rattle.std.proofs.Common.{reverse}
+use Rattle.std.proofs.Common.{arith, ◌∙◌, sym, ap, refl, length, reverse}
+use Rattle.std.proofs.Math.ListN.{length-replicate}
 use Rattle.std.proofs.lemmas.Result.{err_from_is_err_and}
+use Rattle.plist_binread.specs.declared.table.Bounds.{Bounds}
 use Rattle.plist_binread.specs.Debt.{owed_by, entries_of}
-use Rattle.plist_binread.proofs.Opened.{IsPath-none}
-use Rattle.plist_binread.proofs.Begun.{known_unread, known_begun}
+use Rattle.plist_binread.proofs.Opened.{IsOpen-none, IsOpen-empty, cached_count-none, cached_count-empty}
+use Rattle.plist_binread.proofs.Begun.{known_unread, known_wanted, known_opens, known_begun}
 use Rattle.plist_binread.proofs.reader.begin.Goals as goal
 
 pub returns-in_err-table-clause-path : goal.returns-in_err-table-clause-path
-returns-in_err-table-clause-path g c = IsPath-none _ _ c.requires.frames
+returns-in_err-table-clause-path g c = IsOpen-empty _ _ c.requires.tags c.requires.frames
 
 pub returns-in_err-table-clause-pays : goal.returns-in_err-table-clause-pays
 returns-in_err-table-clause-pays g c =
     let p = err_from_is_err_and c.from_residual.result c.from_residual.ensures.1 in
-    rw (p.1, p.2) (known_unread (g.S.Source.known c.args.source.now) c.in_err-table.field-0.0 (λ bytes. owed_by (entries_of bytes c.args.table.now) (reverse c.args.frames.now.items)) c.in_err-table.ensures.refused)
+    rw (p.1, p.2) (known_unread (g.S.Source.known c.args.source.now) c.in_err-table.field-0.0 (λ bytes. owed_by (entries_of bytes c.args.bounds.now) (reverse c.args.frames.now.items)) c.in_err-table.ensures.refused)
 
-pub enter-requires : goal.enter-requires
-enter-requires g c = IsPath-none _ _ c.requires.frames
+pub returns-in_err-none-clause-path : goal.returns-in_err-none-clause-path
+returns-in_err-none-clause-path g c = IsOpen-empty _ _ c.requires.tags c.requires.frames
+
+pub returns-in_err-none-clause-pays : goal.returns-in_err-none-clause-pays
+returns-in_err-none-clause-pays g c =
+    let p = err_from_is_err_and c.from_residual-in_err-none.result c.from_residual-in_err-none.ensures.1 in
+    rw (p.1, p.2) (known_wanted (g.S.Source.known c.args.source.now) c.in_err-none.field-0.0 (λ bytes. owed_by (entries_of bytes c.args.bounds.now) (reverse c.args.frames.now.items)) c.in_err-none.ensures.memory)
+
+pub enter-requires-clause-path : goal.enter-requires-clause-path
+enter-requires-clause-path g c = IsOpen-none _ _ _ c.in_ok-none.ensures.tags c.requires.frames
+
+pub enter-requires-clause-known : goal.enter-requires-clause-known
+enter-requires-clause-known g c =
+    known_opens (g.S.Source.known c.args.source.now) (g.S.Source.known c.read.new.source) c.in_ok-table.table _ c.in_ok-none.none.items c.len.result c.args.frames.now.items c.in_ok-table.ensures.unchanged c.in_ok-table.ensures.value c.in_ok-table.ensures.within refl refl c.in_ok-none.ensures.tags (c.len.ensures ∙ c.in_ok-table.table.places.ok.0) c.requires.frames
+
+pub enter-requires-clause-counted : goal.enter-requires-clause-counted
+enter-requires-clause-counted g c = λ counts. c.requires.counted counts ∙ cached_count-empty c.args.tags.now.items c.requires.tags ∙ sym (cached_count-none c.len.result c.in_ok-none.none.items c.in_ok-none.ensures.tags)
 
 pub returns-clause-pays : goal.returns-clause-pays
 returns-clause-pays g c =
-    known_begun _ _ c.in_ok-table.field-0 c.args.frames.now.items c.enter.new.frames.items c.enter.result c.in_ok-table.ensures.unchanged c.requires.frames c.in_ok-table.ensures.value c.in_ok-table.ensures.within c.enter.ensures.pays
+    let bounds : Bounds = record { trailer = c.in_ok-table.table.trailer; reference_width = c.in_ok-table.table.reference_width; width = c.in_ok-table.table.width; small = omega arith } in
+    known_begun (g.S.Source.known c.args.source.now) (g.S.Source.known c.read.new.source) c.in_ok-table.table bounds c.in_ok-none.none.items c.args.frames.now.items c.enter.new.frames.items c.enter.result c.in_ok-table.ensures.unchanged c.requires.frames
+    (ap length c.in_ok-none.ensures.tags ∙ length-replicate c.len.result 0 ∙ c.len.ensures ∙ c.in_ok-table.table.places.ok.0) refl refl c.in_ok-table.ensures.value c.enter.ensures.pays

@@ -32,7 +32,7 @@ pub returns-in_ok-event-in-Some-clause-answers : goal.returns-in_ok-event-in-Som
 returns-in_ok-event-in-Some-clause-answers g c =
     let next = c.in_ok-look.ensures.next in
     answers_looked (λ e. Some (event_of e)) (slash (stops c.args.stop)) (bare (stops c.args.stop) 47) _ _ _ _ _ _ (Ok c.in_ok-event-in-Some.event)
-    (λ xs e. let h = next xs e in (h.0, slash_bare _ _ xs _ (first_splits _ _ xs c.in-Some.is h.1) (not_equal _ _ c.in-Some.field-0-test.0.1) (not_equal _ _ c.in-Some.field-0-test.1)))
+    (λ xs e. let h = next xs e in (h.0, slash_bare _ _ xs _ (first_splits _ _ xs c.in-Some.is h.1) (not_equal _ _ c.in-Some._byte-test.0.1) (not_equal _ _ c.in-Some._byte-test.1)))
     c.look.ensures.place c.in_ok-event-in-Some.ensures.answers
 
 pub returns-in_err-event-in-Some-clause-answers : goal.returns-in_err-event-in-Some-clause-answers
@@ -40,7 +40,7 @@ returns-in_err-event-in-Some-clause-answers g c =
     let next = c.in_ok-look.ensures.next in
     let p = err_from_is_err_and c.from_residual-in_err-event-in-Some.result c.from_residual-in_err-event-in-Some.ensures.1 in
     rw (p.1, p.2) (answers_looked (λ e. Some (event_of e)) (slash (stops c.args.stop)) (bare (stops c.args.stop) 47) _ _ _ _ _ _ (Err c.in_err-event-in-Some.field-0.0)
-    (λ xs e. let h = next xs e in (h.0, slash_bare _ _ xs _ (first_splits _ _ xs c.in-Some.is h.1) (not_equal _ _ c.in-Some.field-0-test.0.1) (not_equal _ _ c.in-Some.field-0-test.1)))
+    (λ xs e. let h = next xs e in (h.0, slash_bare _ _ xs _ (first_splits _ _ xs c.in-Some.is h.1) (not_equal _ _ c.in-Some._byte-test.0.1) (not_equal _ _ c.in-Some._byte-test.1)))
     c.look.ensures.place c.in_err-event-in-Some.ensures.answers)
 
 pub returns-in_err-event-in-Some-clause-memory : goal.returns-in_err-event-in-Some-clause-memory
@@ -49,7 +49,7 @@ returns-in_err-event-in-Some-clause-memory g c =
     let p = err_from_is_err_and c.from_residual-in_err-event-in-Some.result c.from_residual-in_err-event-in-Some.ensures.1 in
     rw (p.1, p.2) (λ m xs e.
     let h = next xs e in
-    slash_wants (stops c.args.stop) xs (slash_bare (stops c.args.stop) _ xs _ (first_splits _ _ xs c.in-Some.is h.1) (not_equal _ _ c.in-Some.field-0-test.0.1) (not_equal _ _ c.in-Some.field-0-test.1)))
+    slash_wants (stops c.args.stop) xs (slash_bare (stops c.args.stop) _ xs _ (first_splits _ _ xs c.in-Some.is h.1) (not_equal _ _ c.in-Some._byte-test.0.1) (not_equal _ _ c.in-Some._byte-test.1)))
 
 pub returns-in-None-clause-answers : goal.returns-in-None-clause-answers
 returns-in-None-clause-answers g c =

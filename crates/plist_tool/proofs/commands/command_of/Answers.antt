@@ -1,0 +1,25 @@
+use Rattle.std.proofs.Common.{◌≡◌, ℕ, ◌≤◌, ◌<◌, List, [], ◌∷◌, length, get_or, map, codes, ap, sym, ◌∙◌, arith, true}
+use Rattle.std.specs.Str.{bytes_eq}
+use Rattle.std.proofs.lemmas.Slice.Eq.{bytes_eq-Decides}
+use Rattle.plist_tool.specs.Commands.{Print}
+use Rattle.plist_tool.proofs.commands.command_of.Goals as goal
+
+two_items : {A : Type 0} (items : List A) (first second : A) → 2 ≤ length items → length items < 3 → first ≡ get_or items 0 first → second ≡ get_or items 1 second → items ≡ first ∷ second ∷ []
+two_items [] first second low high a b = absurd (omega arith)
+two_items (x ∷ []) first second low high a b = absurd (omega arith)
+two_items (x ∷ y ∷ []) first second low high a b = cc
+two_items (x ∷ y ∷ z ∷ items) first second low high a b = absurd (omega arith)
+
+two_texts : {A : Type 0} (text : A → List ℕ) (items : List A) (first second : A) (verb file : List ℕ) → items ≡ first ∷ second ∷ [] → verb ≡ text first → file ≡ text second → bytes_eq verb (codes "print") ≡ true → map text items ≡ codes "print" ∷ file ∷ []
+two_texts text items first second verb file is a b same =
+    let print : verb ≡ codes "print" = (bytes_eq-Decides verb (codes "print")).0 same in
+    ap (map text) is ∙ ap (λ v. v ∷ text second ∷ []) (sym a ∙ print) ∙ ap (λ f. codes "print" ∷ f ∷ []) (sym b)
+
+pub returns-in-len2-clause-found : goal.returns-in-len2-clause-found
+returns-in-len2-clause-found c =
+    two_texts _ _ _ _ c.as_str.result.now _
+    (two_items _ _ _ c.in-len2.len_at_least c.in-len2.len_below c.verb-item.is c.file-item.is)
+    c.as_str.ensures.value c.as_str-in-len2.ensures.value (sym c.eq.ensures ∙ c.if-eq.true)
+
+pub returns-in-len2-clause-wrong : goal.returns-in-len2-clause-wrong
+returns-in-len2-clause-wrong c = (λ none asked is. cc, λ wrong. absurd (wrong (Print _) (returns-in-len2-clause-found c)))

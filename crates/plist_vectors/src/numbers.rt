@@ -1,0 +1,124 @@
+//! Whole numbers, and Uids.
+
+ghost use Rattle.std.specs.Prelude.{◌≡◌, ◌<ℤ◌, ◌↔◌, IsTrue};
+
+use crate::support::must;
+use plist_base::{Integer, InvalidInteger, Uid};
+use std::cmp::Ordering;
+use std::process::Abort;
+use std::str::FromStr;
+
+// What the number is, and its two texts.
+fn expect(
+    rt: &(impl Abort + AllocGlobal),
+    number: Integer,
+    signed: Option<i64>,
+    unsigned: Option<u64>,
+    text: &str,
+) {
+    assert_eq!(rt; number.as_signed(), signed);
+    assert_eq!(rt; number.as_unsigned(), unsigned);
+    assert_eq!(rt; must(rt, number.to_string(rt.alloc())).as_str(), text);
+    assert_eq!(rt;
+        must(rt, format!(in rt.alloc(); "{number:?}")).as_str(),
+        text
+    );
+}
+
+#[test]
+fn ends_of_the_range(rt: HostRuntime) {
+    let least = Integer::from(i64::MIN);
+    expect(&rt, least, Some(i64::MIN), None, "-9223372036854775808");
+    expect(&rt, Integer::from(-1i8), Some(-1), None, "-1");
+    expect(&rt, Integer::from(0u8), Some(0), Some(0), "0");
+    let greatest = Integer::from(u64::MAX);
+    expect(&rt, greatest, None, Some(u64::MAX), "18446744073709551615");
+}
+
+// Two are the same where the whole numbers are.
+fn is_same(a: &Integer, b: &Integer) -> bool
+    ensures { IsTrue result ↔ (a.now ≡ b.now) }
+{
+    *a == *b
+}
+
+#[test]
+fn equal_from_each_type(rt: HostRuntime) {
+    let seven = Integer::from(7i64);
+    assert!(rt; is_same(&seven, &Integer::from(7i32)));
+    assert!(rt; is_same(&seven, &Integer::from(7i16)));
+    assert!(rt; is_same(&seven, &Integer::from(7i8)));
+    assert!(rt; is_same(&seven, &Integer::from(7u64)));
+    assert!(rt; is_same(&seven, &Integer::from(7u32)));
+    assert!(rt; is_same(&seven, &Integer::from(7u16)));
+    assert!(rt; is_same(&seven, &Integer::from(7u8)));
+    assert!(rt; !is_same(&seven, &Integer::from(-7i64)));
+}
+
+// One is below another where the whole number is.
+fn is_below(a: &Integer, b: &Integer) -> bool
+    ensures { IsTrue result ↔ (a.now <ℤ b.now) }
+{
+    *a < *b
+}
+
+#[test]
+fn ordered_as_whole_numbers(rt: HostRuntime) {
+    let above_signed = Integer::from(9_223_372_036_854_775_808u64);
+    assert!(rt; is_below(&Integer::from(-1i64), &Integer::from(0u8)));
+    assert!(rt; is_below(&Integer::from(0u8), &above_signed));
+    assert!(rt; !is_below(&above_signed, &Integer::from(i64::MAX)));
+    let order = above_signed.cmp(&Integer::from(i64::MIN));
+    assert_eq!(rt; order, Ordering::Greater);
+}
+
+// The number that this text spells, or none.
+fn expect_text(rt: &impl Abort, text: &str, signed: Option<i64>, unsigned: Option<u64>) {
+    match Integer::from_str(text) {
+        Ok(number) => {
+            assert_eq!(rt; number.as_signed(), signed, "{text}");
+            assert_eq!(rt; number.as_unsigned(), unsigned, "{text}");
+        }
+        Err(InvalidInteger) => {
+            assert!(rt; signed.is_none() && unsigned.is_none(), "{text}");
+        }
+    }
+}
+
+#[test]
+fn texts_of_integers(rt: HostRuntime) {
+    expect_text(&rt, "-1", Some(-1), None);
+    expect_text(&rt, "0", Some(0), Some(0));
+    expect_text(&rt, "1", Some(1), Some(1));
+    expect_text(&rt, "-9223372036854775808", Some(i64::MIN), None);
+    expect_text(&rt, "-9223372036854775809", None, None);
+    expect_text(&rt, "18446744073709551615", None, Some(u64::MAX));
+    expect_text(&rt, "18446744073709551616", None, None);
+    expect_text(&rt, "0x0x10", Some(16), Some(16));
+    expect_text(&rt, "0x0xff", Some(255), Some(255));
+    expect_text(&rt, "+5", Some(5), Some(5));
+    expect_text(&rt, "-0", Some(0), Some(0));
+    expect_text(&rt, "-0x1", None, None);
+    expect_text(&rt, "0x", None, None);
+    expect_text(&rt, "", None, None);
+    expect_text(&rt, "5 ", None, None);
+}
+
+#[test]
+fn text_of_the_refusal(rt: HostRuntime) {
+    let text = must(&rt, InvalidInteger.to_string(rt.alloc()));
+    assert_eq!(rt; text.as_str(), "String was not a valid plist integer");
+}
+
+fn expect_uid(rt: &(impl Abort + AllocGlobal), number: u64, text: &str) {
+    let uid = Uid::new(number);
+    assert_eq!(rt; uid.get(), number);
+    assert_eq!(rt; must(rt, format!(in rt.alloc(); "{uid:?}")).as_str(), text);
+}
+
+#[test]
+fn uids(rt: HostRuntime) {
+    expect_uid(&rt, 0, "0");
+    expect_uid(&rt, u64::MAX, "18446744073709551615");
+    assert!(rt; Uid::new(1) != Uid::new(2));
+}
