@@ -84,11 +84,11 @@ impl Value {
     /// # Errors
     ///
     /// - `PlistTooLarge` where the file would have 2^64 bytes or more, and `OutOfMemory`: nothing
-    ///   of it went out.
+    ///   of it went out, and the writer is as it was.
     /// - `Io` where a write failed or took no byte, and where the flush failed: a beginning of the
     ///   file went out, all of it where the flush failed.
     pub fn to_writer_binary<W: Write>(&self, alloc: Global, writer: &mut W) -> Result<(), Error>
-        ensures sent { SendsTree (tree_of self.now) (answer_of result) (W.contents writer.old) (W.contents writer.new) }
+        ensures sent { SendsTree W.contents (tree_of self.now) (answer_of result) writer.old writer.new }
     {
         match file_of(alloc, self) {
             Ok(file) => send_whole(writer, file.as_slice()),

@@ -2,7 +2,7 @@ use Rattle.std.proofs.Common.{Some, ap, sym, ◌∙◌, subst}
 use Rattle.plist_base.specs.Faults.{fault_of}
 use Rattle.plist_binwrite.specs.Files.{IsFileOf}
 use Rattle.plist.specs.Views.{tree_of}
-use Rattle.plist.proofs.Filed.{filed, unfiled, filed_bytes}
+use Rattle.plist.proofs.Filed.{filed, unfiled, filed_bytes, unmade}
 use Rattle.plist.proofs.writing.file_of.Goals as goal
 
 pub returns-in-Ok-clause-file : goal.returns-in-Ok-clause-file
@@ -14,4 +14,6 @@ returns-in-Ok-clause-file c =
 
 pub returns-in-Err-clause-refused : goal.returns-in-Err-clause-refused
 returns-in-Err-clause-refused c =
-    unfiled (λ v. Some v.items) (tree_of c.args.value.now) c.new-writer.result c.write_value.new.writer c.new-writer.ensures.held c.new-writer.ensures.failed (fault_of c.in-Err.error) c.in-Err.ensures.handed
+    let t = tree_of c.args.value.now in
+    let u = unfiled (λ v. Some v.items) (tree_of c.args.value.now) c.new-writer.result c.write_value.new.writer c.new-writer.ensures.held c.new-writer.ensures.failed (fault_of c.in-Err.error) c.in-Err.ensures.handed in
+    unmade t (fault_of c.in-Err.error).kind (fault_of c.in_memory.result) c.in_memory.ensures.kind (c.in_memory.ensures.offset u.0) u.1
