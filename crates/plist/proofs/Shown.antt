@@ -12,6 +12,7 @@ use Rattle.plist_ascii.specs.Coming as ascii
 use Rattle.plist_ascii.specs.Texts.{lax}
 use Rattle.plist_ascii.specs.Unread.{Known}
 use Rattle.plist_base.specs.declared.source.Source.{Ghosts}
+use Rattle.plist_binread.specs.declared.counter.DecodeCounter.{Ghosts as CounterGhosts}
 use Rattle.plist_binread.specs.declared.reader.BinaryReader.{BinaryReader}
 use Rattle.plist_binread.specs.Coming as binary
 use Rattle.plist_binread.specs.Unfolding.{items_of_file}
@@ -72,7 +73,7 @@ ascii-start k left place e z = (λ i. option_map (λ bytes. items_of_ascii lax b
 -- ---- a reader of binary property lists
 
 -- the items that it has to come
-abbrev pub binary_coming : {R : Type 0} {g : Ghosts R} → (R → Option (List ℕ)) → BinaryReader R g → Option (List Item)
+abbrev pub binary_coming : {R C : Type 0} {g : Ghosts R} {h : CounterGhosts C} → (R → Option (List ℕ)) → BinaryReader R C g h → Option (List Item)
 binary_coming known reader = option_map (λ bytes. binary.to_come bytes reader) (known (binary.source_of reader))
 
 one-item : (before after : List Item) (fault : Fault) → after ≡ [] → before ≡ Err fault ∷ [] → before ≡ Err fault ∷ after
@@ -88,7 +89,7 @@ binary-goes : (new : Bool) (k l : Option (List ℕ)) (f h : List ℕ → List It
 binary-goes new None l f h item e x = tt
 binary-goes new (Some bytes) l f h item e x = (h bytes, ap (option_map h) e, binary-item new (f bytes) (h bytes) item x)
 
-pub binary-shows : {R : Type 0} {g : Ghosts R} (known : R → Option (List ℕ)) (old new : BinaryReader R g) (item : Given) → known (binary.source_of new) ≡ known (binary.source_of old)
+pub binary-shows : {R C : Type 0} {g : Ghosts R} {h : CounterGhosts C} (known : R → Option (List ℕ)) (old new : BinaryReader R C g h) (item : Given) → known (binary.source_of new) ≡ known (binary.source_of old)
     → IfSome (known (binary.source_of old)) (λ bytes. binary.GivesItem (binary.is_new old) (binary.to_come bytes old) item (binary.to_come bytes new))
     → GoesOn (binary_coming known old) (option_map (item_by event_of) item) (binary_coming known new)
 binary-shows known old new item same gives =
@@ -102,7 +103,7 @@ of-file : (k : Option (List ℕ)) (items : Option (List Item)) (answer : Result 
 of-file None items answer e h = tt
 of-file (Some bytes) items answer e h = subst (λ o. Answers o answer) e h
 
-pub of-binary : {R : Type 0} {g : Ghosts R} (known : R → Option (List ℕ)) (source : R) (iter new : BinaryReader R g) (answer : Result Tree Fault) → iter ≡ new → binary.source_of new ≡ source
+pub of-binary : {R C : Type 0} {g : Ghosts R} {h : CounterGhosts C} (known : R → Option (List ℕ)) (source : R) (iter new : BinaryReader R C g h) (answer : Result Tree Fault) → iter ≡ new → binary.source_of new ≡ source
     → IfSome (known source) (λ bytes. binary.to_come bytes new ≡ items_of_file bytes) → Answers (binary_coming known iter) answer → IfSome (known source) (λ bytes. IsReadFrom (items_of_file bytes) answer)
 of-binary known source iter new answer is holds items seen =
     of-file (known source) (binary_coming known iter) answer

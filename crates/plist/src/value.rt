@@ -8,9 +8,12 @@ ghost use Rattle.plist.specs.Sent.{SendsTree};
 ghost use Rattle.plist.specs.Collecting.{Collects, built_tree};
 ghost use Rattle.plist.specs.Inputs.{AnswersAsSeen, IsReadFrom};
 ghost use Rattle.plist.specs.ReadingBack.{ReadsBack};
+ghost use Rattle.std.specs.Option.{option_map};
+ghost use Rattle.plist_base.specs.Events.{event_of};
 ghost use Rattle.plist_ascii.specs.Ascii.{items_of_ascii};
+ghost use Rattle.plist_ascii.specs.Coming.{Gives as ascii_gives, inner_of};
 ghost use Rattle.plist_ascii.specs.Texts.{lax};
-ghost use Rattle.plist_reader.specs.Coming.{items_of_input};
+ghost use Rattle.plist_reader.specs.Coming.{Gives as reader_gives, items_of_input, to_come};
 ghost use Rattle.plist_reader.specs.Formats.{front};
 ghost use Rattle.plist_base.specs.Trees.{Tree};
 ghost use Rattle.plist.specs.LastWins.{AreLastValues, Rows, last_values, last_wins};
@@ -76,8 +79,10 @@ impl Value {
         alloc: Global,
         events: I,
     ) -> Result<Value, Error>
-        requires asked { (iter : I.IntoIter) → I.into_iter_gives events iter → I.IntoIter.can_next iter × IsFinite (I.IntoIter.remaining iter) }
-        ensures one_tree { (left right : Tree) → AreAlike (bracketing left) (bracketing right) → left ≡ right }
+        requires asked { (iter : I.IntoIter) → I.into_iter_gives events iter
+            → I.IntoIter.can_next iter × IsFinite (I.IntoIter.remaining iter) }
+        ensures one_tree { (left right : Tree) → AreAlike (bracketing left) (bracketing right)
+            → left ≡ right }
         ensures last_values { (rows : Rows) → AreLastValues rows (last_values rows) }
         ensures value { (iter : I.IntoIter) × I.into_iter_gives events iter
             × Collects E.plain I.IntoIter.next_gives iter (built_tree result) }
@@ -101,7 +106,11 @@ impl Value {
     pub fn from_reader<R: Source>(alloc: Global, source: R) -> Result<Value, Error>
         ensures value { IfSome (R.known source) (λ bytes.
             IsReadFrom (items_of_input bytes) (built_tree result)) }
-        ensures reads_back { IfSome (R.known source) (λ bytes. ReadsBack bytes (built_tree result)) }
+        ensures read { (reader : Reader R)
+            × (to_come R.known reader ≡ option_map items_of_input (R.known source))
+            × Collects event_of (reader_gives R.known R.failures) reader (built_tree result) }
+        ensures reads_back { IfSome (R.known source)
+            (λ bytes. ReadsBack bytes (built_tree result)) }
     {
         collect(alloc, Reader::new(alloc, source))
     }
@@ -117,6 +126,8 @@ impl Value {
     pub fn from_reader_ascii<R: Bytes + Drop>(alloc: Global, reader: R) -> Result<Value, Error>
         ensures value { IfSome (R.remaining reader) (λ bytes.
             IsReadFrom (items_of_ascii lax (front bytes) 0) (built_tree result)) }
+        ensures read { (ascii : AsciiReader R) × (inner_of ascii ≡ reader)
+            × Collects event_of (ascii_gives R.remaining R.failures) ascii (built_tree result) }
     {
         collect(alloc, AsciiReader::new(alloc, reader))
     }
@@ -130,7 +141,8 @@ impl Value {
     /// - `Io` where a write failed or took no byte, and where the flush failed: a beginning of the
     ///   file went out, all of it where the flush failed.
     pub fn to_writer_binary<W: Write>(&self, alloc: Global, writer: &mut W) -> Result<(), Error>
-        ensures sent { SendsTree W.contents (tree_of self.now) (answer_of result) writer.old writer.new }
+        ensures sent { SendsTree W.contents (tree_of self.now)
+            (answer_of result) writer.old writer.new }
     {
         match file_of(alloc, self) {
             Ok(file) => send_whole(writer, file.as_slice()),
