@@ -1,10 +1,12 @@
 #!/usr/bin/env python3
-"""Compares the lines of `plist_tool print` with what other programs read of the same files.
+"""Compares what `plist_tool` prints and writes with what other programs read.
 
 Makes binary property lists with Python's plistlib, with plistutil (libplist), with plser (GNUstep)
-and by hand, has the other programs read them, turns what they read into lines, and compares. A file
-that is named on the command line is compared too; where it isn't binary, plser makes a binary one
-of it first.
+and by hand, and ASCII ones with plser and by hand. The other programs read each file, and what they
+read is turned into lines. `plist_tool print` of a binary file has to print these lines, and of the
+file that `plist_tool convert` makes of either kind the other programs have to read them again. A
+file that is named on the command line is compared too; where it isn't binary, plser makes a binary
+one of it first.
 
 Usage: compare.py [FILE ..]      Ends with status 1 where a line differs or a program fails.
 """
@@ -77,6 +79,13 @@ def printed(path):
     return [with_long_real(line) for line in run(PLIST_TOOL, "print", path).decode("ascii").splitlines()]
 
 
+def converted(path):
+    made = path.with_suffix(".converted")
+    made.unlink(missing_ok=True)
+    run(PLIST_TOOL, "convert", path, made)
+    return made
+
+
 def sorted_by_key(lines):
     """The same lines, with each dictionary's pairs in the order of their keys."""
     rest = iter(lines)
@@ -117,7 +126,8 @@ def from_xml(xml):
 
 
 def plser(path, form):
-    return run("plser", "-Format", f"NSPropertyList{form}Format_v1_0", path)
+    name = "NSPropertyListOpenStepFormat" if form == "OpenStep" else f"NSPropertyList{form}Format_v1_0"
+    return run("plser", "-Format", name, path)
 
 
 Program = collections.namedtuple("Program", "write read keeps_order")
@@ -215,11 +225,47 @@ def files_of(names, folder):
             yield "plser of others", plser(path, "Binary"), PROGRAMS
 
 
+# Texts that every writer quotes: a bare text of this library goes on past a line end, where others
+# end it.
+PIECES = ["a b", " ", "é ü", "中 文", "tab\t lf\n \"q\" 'q' \\ <&>", "(x, y)", "{k = v;}", "// n", "/* n */"]
+
+
+def text_tree(rng, depth):
+    if depth == 0 or rng.random() < 0.4:
+        return " ".join(rng.choices(PIECES, k=rng.choice((1, 2, 40))))
+    children = [text_tree(rng, depth - 1) for _ in range(rng.choice((0, 1, 2, 5, 14, 15, 30)))]
+    if rng.random() < 0.5:
+        return children
+    return {f"{rng.choice(PIECES)} {place}": child for place, child in enumerate(children)}
+
+
+ESCAPES = {'"': r"\"", "\\": r"\\", "\n": r"\n", "\t": r"\t"}
+
+
+def ascii_of(rng, value):
+    """An ASCII property list, with comments and blanks by chance."""
+    gap = rng.choice(("", " ", "\n", " // to the line's end\n", " /* a comment */ "))
+    if isinstance(value, list):
+        return gap + "(" + "".join(ascii_of(rng, item) + gap + "," for item in value) + gap + ")"
+    if isinstance(value, dict):
+        return gap + "{" + "".join(ascii_of(rng, key) + gap + "=" + ascii_of(rng, item) + gap + ";"
+                                   for key, item in value.items()) + gap + "}"
+    return gap + '"' + "".join(ESCAPES.get(letter, letter) for letter in value) + '"'
+
+
+def ascii_files_of(folder):
+    """For each ASCII file its writer, its bytes, and the value that it says."""
+    rng = random.Random(2)
+    for _ in range(TREES_OF_A_KIND):
+        value = [text_tree(rng, 4) for _ in range(3)]
+        yield "hand (ASCII)", ascii_of(rng, value).encode(), value
+        yield "plser (ASCII)", plser(xml_of(value, folder / "value.xml", None), "OpenStep"), value
+
+
 # ---- the comparison
 
-def difference(ours, path, reader):
-    theirs = lines_of(reader.read(path))
-    if not reader.keeps_order:
+def difference(ours, theirs, keeps_order):
+    if not keeps_order:
         ours, theirs = sorted_by_key(ours), sorted_by_key(theirs)
     for number, (our, their) in enumerate(itertools.zip_longest(ours, theirs), start=1):
         if our != their:
@@ -229,19 +275,34 @@ def difference(ours, path, reader):
 
 def main(names):
     counts = collections.Counter()
+
+    def note(number, writer, reader, action, found):
+        counts[action, writer, reader, "DIFFER" if found else "are the same"] += 1
+        if found:
+            print(f"{action} of file {number} by {writer}, read by {reader}: {found[:300]}")
+
     with tempfile.TemporaryDirectory() as folder:
         path = pathlib.Path(folder) / "file.plist"
         for number, (writer, content, readers) in enumerate(files_of(names, path.parent)):
             path.write_bytes(content)
-            ours = printed(path)
-            for reader in readers:
-                found = difference(ours, path, PROGRAMS[reader])
-                counts[writer, reader, "DIFFER" if found else "are the same"] += 1
-                if found:
-                    print(f"file {number} by {writer}, read by {reader}: {found[:300]}")
-    for (writer, reader, outcome), count in sorted(counts.items()):
-        print(f"written by {writer}, read by {reader}: {count} {outcome}")
-    return 1 if any(outcome == "DIFFER" for _, _, outcome in counts) else 0
+            ours, made = printed(path), converted(path)
+            for name in readers:
+                reader = PROGRAMS[name]
+                theirs = lines_of(reader.read(path))
+                note(number, writer, name, "print", difference(ours, theirs, reader.keeps_order))
+                again = lines_of(reader.read(made))
+                note(number, writer, name, "convert", difference(again, theirs, reader.keeps_order))
+        for number, (writer, content, value) in enumerate(ascii_files_of(path.parent)):
+            path.write_bytes(content)
+            made = converted(path)
+            theirs = lines_of(from_xml(plser(path, "XML")))
+            note(number, writer, "plser", "reading", difference(lines_of(value), theirs, False))
+            for name, reader in PROGRAMS.items():
+                again = lines_of(reader.read(made))
+                note(number, writer, name, "convert", difference(again, theirs, False))
+    for (action, writer, reader, outcome), count in sorted(counts.items()):
+        print(f"{action}, written by {writer}, read by {reader}: {count} {outcome}")
+    return 1 if any(outcome == "DIFFER" for *_, outcome in counts) else 0
 
 
 if __name__ == "__main__":

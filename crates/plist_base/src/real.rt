@@ -11,18 +11,3 @@ pub enum RealBits {
     /// A `binary64`.
     Eight([u8; 8]),
 }
-
-#[cfg(test)]
-mod tests {
-    use super::*;
-
-    #[test]
-    fn equal_by_bytes_and_width(rt: HostRuntime) {
-        let zero = RealBits::Eight([0; 8]);
-        assert!(rt; zero == RealBits::Eight([0; 8]));
-        assert!(rt; zero != RealBits::Eight([128, 0, 0, 0, 0, 0, 0, 0]));
-        assert!(rt; zero != RealBits::Four([0; 4]));
-        let nan = RealBits::Four([127, 192, 0, 0]);
-        assert!(rt; nan == nan);
-    }
-}

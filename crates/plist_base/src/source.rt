@@ -108,3 +108,86 @@ pub fn read_exact_at<S: Source>(source: &mut S, place: u64, buf: &mut [u8]) -> R
     }
     Ok(())
 }
+
+#[cfg(test)]
+mod tests {
+    use super::*;
+
+    // Eight bytes, of which each read gives one. One call fails, counting from 0, and a second try
+    // would succeed.
+    #[derive(Drop)]
+    struct Slow {
+        calls: u64,
+        fails_at: u64,
+        failed: u64,
+    }
+
+    impl Source for Slow {
+        ghost use Rattle.std.specs.Prelude.{None};
+
+        ghost known = { λ _. None };
+
+        ghost failures = { λ source. source.failed };
+
+        fn size(&mut self) -> Result<u64, io::Error> {
+            Ok(8)
+        }
+
+        fn read_at(&mut self, place: u64, buf: &mut [u8]) -> Result<usize, io::Error> {
+            let call = self.calls;
+            self.calls = call.saturating_add(1);
+            if call == self.fails_at {
+                self.failed = self.failed.saturating_add(1);
+                return Err(io::Error::from(io::ErrorKind::Interrupted));
+            }
+            if buf.is_empty() || place >= 8 {
+                return Ok(0);
+            }
+            buf[0] = place as u8;
+            Ok(1)
+        }
+    }
+
+    // A failure is that of its own place, with the device's error, and isn't tried again.
+    #[test]
+    fn fails_at_once(rt: HostRuntime) {
+        for fails_at in 0..4 {
+            let mut source = Slow {
+                calls: 0,
+                fails_at,
+                failed: 0,
+            };
+            let mut buf = [0; 4];
+            match read_exact_at(&mut source, 2, &mut buf) {
+                Ok(()) => panic!(rt; "call {fails_at} fails"),
+                Err(error) => {
+                    assert_eq!(rt; error.offset(), Some(fails_at + 2));
+                    match error.as_io() {
+                        Some(error) => assert!(rt; error.kind() == io::ErrorKind::Interrupted),
+                        None => panic!(rt; "it is the device's fault"),
+                    }
+                }
+            }
+            assert_eq!(rt; source.calls, fails_at + 1);
+        }
+    }
+
+    // The bytes end where a read gives none.
+    #[test]
+    fn ends_where_no_byte_is(rt: HostRuntime) {
+        let mut source = Slow {
+            calls: 0,
+            fails_at: u64::MAX,
+            failed: 0,
+        };
+        let mut buf = [0; 4];
+        match read_exact_at(&mut source, 6, &mut buf) {
+            Ok(()) => panic!(rt; "two bytes are there"),
+            Err(error) => {
+                assert!(rt; error.is_eof());
+                assert_eq!(rt; error.offset(), Some(8));
+            }
+        }
+        assert_eq!(rt; source.calls, 3);
+    }
+}

@@ -15,7 +15,7 @@ use Rattle.plist_binread.specs.Container.{Head, head_of}
 use Rattle.plist_binread.specs.Object.{Object}
 use Rattle.plist_binread.specs.Unfolding.{table_of, items_of, unfolding_of, until_fault, items_with, items_of_file}
 use Rattle.plist_binread.specs.declared.table.Bounds.{Bounds}
-use Rattle.plist_binread.specs.Debt.{path_of, owed_by, entries_of, places_with, places_of, root_with, IsHeld, IsKnown, IsKept, IsOwed, WantsMemory, Pays}
+use Rattle.plist_binread.specs.Debt.{path_of, owed_by, entries_of, places_with, places_of, IsHeld, IsKnown, IsKept, IsOwed, WantsMemory, Pays}
 use Rattle.plist_binread.specs.Tables.{head_seen}
 use Rattle.plist_binread.proofs.Steps.{slice_get-within, slice_get-beyond, items_beyond, items_step, owed_at}
 use Rattle.plist_binread.proofs.Opened.{get_or-zeros}
@@ -112,28 +112,11 @@ known_begun (Some bytes) now table bounds tags fs gs answer same len count trail
     (file_walked bytes table bounds value trailer width ∙ ap until_fault (sym (append-nil (unfolding_of (entries_of bytes bounds) (length table.places.items) [] table.trailer table.root))))
     pays'
 
--- the object that is entered first is the root
-pub known_root : (known now : Option (List ℕ)) (table : Table) (item : Option (Result Event Error)) (tags : List ℕ) → now ≡ known → IfSome known (λ bytes. head_of bytes ≡ Ok (head_seen table)) → IfSome now (λ bytes. IsKept (Some table.root) item tags) → IfSome known (λ bytes. IsKept (root_with (head_of bytes)) item tags)
-known_root None now table item tags same value kept = tt
-known_root (Some bytes) now table item tags same value kept = rw value (rw same at kept)
-
 -- a fault keeps nothing
 kept_fault : (number : Option ℕ) (e : Error) (tags : List ℕ) → IsKept number (Some (Err e)) tags
 kept_fault None e tags = tt
 kept_fault (Some number) e tags = tt
 
-pub known_kept_fault : (known : Option (List ℕ)) (number : List ℕ → Option ℕ) (e : Error) (tags : List ℕ) → IfSome known (λ bytes. IsKept (number bytes) (Some (Err e)) tags)
-known_kept_fault None number e tags = tt
-known_kept_fault (Some bytes) number e tags = kept_fault (number bytes) e tags
-
--- there are as many tags as objects, or none
-pub known_many : (known : Option (List ℕ)) (table : Table) (tags : List ℕ) → IfSome known (λ bytes. head_of bytes ≡ Ok (head_seen table)) → length tags ≡ length table.places.items → IfSome known (λ bytes. length tags ≤ length (places_of bytes))
-known_many None table tags value count = tt
-known_many (Some bytes) table tags value count = rw value (omega arith)
-
 pub known_few : (known : Option (List ℕ)) (tags : List ℕ) → length tags ≡ 0 → IfSome known (λ bytes. length tags ≤ length (places_of bytes))
 known_few None tags count = tt
 known_few (Some bytes) tags count = omega arith
-
-pub known_now : (known : Option (List ℕ)) (now : Option (List ℕ)) (P : List ℕ → Type 0) → now ≡ known → IfSome now P → IfSome known P
-known_now known now P same h = rw same at h

@@ -1,14 +1,8 @@
 -- Where the faults of a reader are.
-use Rattle.std.proofs.Common.{◌≡◌, ℕ, ◌+◌, ◌≤◌, Option, None, Some, refl, arith}
-use Rattle.std.specs.Prelude.{⊤}
-use Rattle.plist_base.specs.Faults.{FaultKind, Fault, UnexpectedEof, InvalidMagic, InvalidTrailerObjectOffsetSize, InvalidTrailerObjectReferenceSize, ObjectOffsetTooLarge, ObjectReferenceTooLarge, RecursiveObject, NullObjectUnimplemented, FillObjectUnimplemented, UnknownObjectType, IntegerOutOfRange, OverflowOrNanDate, InvalidUtf8String, InvalidUtf16String, Io, OutOfMemory, fault_at, fault_nowhere}
-use Rattle.plist_base.specs.Sources.{IsReadFault, IsPlaceWithin, FailsReading}
-use Rattle.plist_binread.specs.Failures.{MatchReader, HasPlace, FailsWithin}
-
-read_fault : (kind : FaultKind) (A B C : Type 0) → IsReadFault kind → A → MatchReader kind A B C
-read_fault Io A B C h a = a
-read_fault UnexpectedEof A B C h a = a
-read_fault kind A B C h a = absurd h
+use Rattle.std.proofs.Common.{ℕ, ◌≤◌, Option, None, Some, arith}
+use Rattle.plist_base.specs.Faults.{FaultKind, Fault, UnexpectedEof, InvalidMagic, InvalidTrailerObjectOffsetSize, InvalidTrailerObjectReferenceSize, ObjectOffsetTooLarge, ObjectReferenceTooLarge, RecursiveObject, NullObjectUnimplemented, FillObjectUnimplemented, UnknownObjectType, IntegerOutOfRange, OverflowOrNanDate, InvalidUtf8String, InvalidUtf16String, Io, OutOfMemory}
+use Rattle.plist_base.specs.Sources.{IsPlaceWithin}
+use Rattle.plist_binread.specs.Failures.{MatchReader, FailsWithin}
 
 place_wider : (offset : Option ℕ) (s e s' e' : ℕ) → s' ≤ s → e ≤ e' → IsPlaceWithin s e offset → IsPlaceWithin s' e' offset
 place_wider None s e s' e' low high h = absurd h
@@ -33,18 +27,6 @@ MatchReader-weaker Io f g k h = f h
 MatchReader-weaker OutOfMemory f g k h = g h
 MatchReader-weaker kind f g k h = absurd h
 
--- a read in the range
-pub from_reading : (fault : Fault) (p n s e : ℕ) → FailsReading p n fault → s ≤ p → p + n ≤ e → FailsWithin s e fault
-from_reading fault p n s e h low high = record { placed = read_fault fault.kind _ _ _ h.kind (place_wider fault.offset p (p + n) s e low high h.at) }
-
 -- a smaller range
 pub from_within : (fault : Fault) (p q s e : ℕ) → FailsWithin p q fault → s ≤ p → q ≤ e → FailsWithin s e fault
 from_within fault p q s e h low high = record { placed = MatchReader-weaker fault.kind (place_wider fault.offset p q s e low high) (λ none. none) (λ has. has) h.placed }
-
--- want of memory
-pub from_memory : (fault : Fault) (s e : ℕ) → fault ≡ fault_nowhere OutOfMemory → FailsWithin s e fault
-from_memory fault s e is = rw is (record { placed = refl })
-
--- one of the others
-pub from_other : (fault : Fault) (kind : FaultKind) (place s e : ℕ) → fault ≡ fault_at kind place → MatchReader kind ⊥ ⊥ ⊤ → FailsWithin s e fault
-from_other fault kind place s e is other = rw is (record { placed = MatchReader-weaker kind (λ none. absurd none) (λ none. absurd none) (λ has. has) other })

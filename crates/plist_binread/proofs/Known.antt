@@ -33,11 +33,6 @@ from_scalar true scalar content entry event b is h = absurd (cc)
 from_scalar false None content entry event b is h = absurd (cc)
 from_scalar false (Some e) content entry event b is h = h ∙ sym is
 
-holds_none : (b : Bool) (scalar : Option PlainEvent) (content : ℕ) (entry : Option Entry) → b ≡ false → scalar ≡ None → HoldsPlaceOr b scalar content entry → ⊥
-holds_none true scalar content entry b is h = absurd (cc)
-holds_none false None content entry b is h = h
-holds_none false (Some e) content entry b is h = absurd (cc)
-
 module _ (bytes : List ℕ) (bounds : Bounds) where
   abbrev table : List Entry
   table = entries_of bytes bounds
@@ -134,10 +129,6 @@ module _ (bytes : List ℕ) (bounds : Bounds) where
           scalar_held : (scalar : Option PlainEvent) → cached (get_or tags number 0) (get_or contents number 0) ≡ scalar → IsTextOrData scalar → scalar_in (entry_of number).object ≡ scalar
           scalar_held None is wanted = absurd wanted
           scalar_held (Some event) is wanted = sym (ap scalar_at (entry_there number h)) ∙ held_scalar number event h some is
-
-      -- nothing is held
-      pub unfound_none : (e : Error) → number < length tags → 0 < unmarked (get_or tags number 0) → cached (get_or tags number 0) (get_or contents number 0) ≡ None → Explains (until_fault before) e
-      unfound_none e h some is = absurd (holds_none _ _ (get_or contents number 0) (slice_get table number) (not_zero (unmarked (get_or tags number 0)) some) is (k.held number h))
 
 -- ---- over bytes that may be unknown
 

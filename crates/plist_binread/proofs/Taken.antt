@@ -1,5 +1,5 @@
 -- One call of a reader.
-use Rattle.std.proofs.Common.{◌≡◌, ℕ, ◌^◌, ◌<◌, ◌≤◌, arith, List, length, reverse, true, false, Option, None, Some, Result, Ok, Err, IfSome, MatchOption, refl, ap, sym}
+use Rattle.std.proofs.Common.{◌≡◌, ℕ, ◌≤◌, arith, List, length, reverse, true, false, Option, None, Some, Result, Ok, Err, IfSome, MatchOption, refl, ap, sym}
 use Rattle.std.proofs.lemmas.List.{length-reverse}
 use Rattle.plist_base.specs.declared.error.Error.{Error}
 use Rattle.plist_base.specs.declared.event.Event.{Event}

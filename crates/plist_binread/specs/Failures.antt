@@ -1,5 +1,5 @@
 -- Where the faults of a reader are.
-use Rattle.std.specs.Prelude.{◌≡◌, ℕ, ◌^◌, Option, None, Some, Result, IfErr, MatchOption, ⊤}
+use Rattle.std.specs.Prelude.{◌≡◌, ℕ, Option, None, Some, Result, IfErr, MatchOption, ⊤}
 use Rattle.plist_base.specs.declared.error.Error.{Error}
 use Rattle.plist_base.specs.Faults.{FaultKind, Fault, UnexpectedEof, InvalidMagic, InvalidTrailerObjectOffsetSize, InvalidTrailerObjectReferenceSize, ObjectOffsetTooLarge, ObjectReferenceTooLarge, RecursiveObject, NullObjectUnimplemented, FillObjectUnimplemented, UnknownObjectType, IntegerOutOfRange, OverflowOrNanDate, InvalidUtf8String, InvalidUtf16String, Io, OutOfMemory, fault_of}
 use Rattle.plist_base.specs.Sources.{IsPlaceWithin}

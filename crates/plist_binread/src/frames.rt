@@ -106,7 +106,8 @@ fn push_frame(frames: &mut Vec<Frame>, object: u64, count: u64) -> Result<(), Er
     Ok(())
 }
 
-// Gives what was decoded, keeps it where it is a small scalar, and opens it where it is a collection.
+// Gives what was decoded, keeps it where it is a small scalar, and opens it where it is a
+// collection.
 fn open(
     tags: &mut Vec<u8>,
     contents: &mut Vec<u64>,
@@ -131,7 +132,8 @@ fn open(
         IsKnown bytes bounds tags.old.items contents.old.items (reverse frames.old.items) →
         slice_get (entries_of bytes bounds) number ≡ Some entry →
         IsDecodedAs entry.object decoded →
-        Pays (unfolding_of (entries_of bytes bounds) (length tags.old.items - length frames.old.items)
+        Pays (unfolding_of (entries_of bytes bounds)
+        (length tags.old.items - length frames.old.items)
         (path_of (reverse frames.old.items)) at number
         ++ owed_by (entries_of bytes bounds) (reverse frames.old.items))
         result (owed_by (entries_of bytes bounds) (reverse frames.new.items))

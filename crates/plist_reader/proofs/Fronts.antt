@@ -7,9 +7,16 @@ use Rattle.std.proofs.lemmas.List.{length-take, get_or-take, get_or_past}
 use Rattle.std.proofs.lemmas.List.Sums.{prefix_len-drop_all, prefix_len-drop_no, prefix_len-drop_yes}
 use Rattle.std.proofs.lemmas.Option.{slice_get_within, slice_get-get_or, get_or_from_slice_get}
 use Rattle.plist_base.specs.Faults.{FaultKind, Io, OutOfMemory, IsIo}
+use Rattle.plist_base.specs.Sources.{IsPlaceWithin}
 use Rattle.plist_binread.specs.Container.{magic}
+use Rattle.plist_binread.specs.Failures.{HasPlace}
 use Rattle.plist_reader.specs.declared.format.Format.TheVariants.{Binary}
 use Rattle.plist_reader.specs.Formats.{front, is_white, mark_length, past_white, xml_place, text_format, format_of}
+
+-- a place within bounds is one
+pub within-placed : (start end : ℕ) (offset : Option ℕ) → IsPlaceWithin start end offset → HasPlace offset
+within-placed start end None h = h
+within-placed start end (Some place) h = tt
 
 -- too few bytes begin with nothing longer
 pub short-starts : (bytes needle : List ℕ) → length bytes < length needle → starts_with nat_eq bytes needle ≡ false

@@ -8,15 +8,17 @@ use Rattle.plist_base.specs.declared.event.Event.{Event}
 use Rattle.plist_base.specs.declared.source.Source.{Ghosts}
 use Rattle.plist_reader.specs.declared.bytes.SourceBytes.{SourceBytes}
 use Rattle.plist_base.specs.Events.{Item}
-use Rattle.plist_base.specs.Faults.{kind_of, error_kind_of, fault_of}
+use Rattle.std.specs.Prelude.{⊤}
+use Rattle.plist_base.specs.Faults.{FaultKind, Io, OutOfMemory, MatchFault, kind_of, error_kind_of, fault_of, offset_of}
 use Rattle.plist_base.specs.Sequences.{from_place}
 use Rattle.plist_reader.specs.Streams.{bytes_left, source_of, place_of}
-use Rattle.plist_base.specs.Sources.{ItemCountsIo}
-use Rattle.plist_base.proofs.Refusals.{MatchFault-weaker, MatchFault-all}
+use Rattle.plist_base.specs.Sources.{ItemCountsIo, IsPlaceWithin}
+use Rattle.plist_reader.proofs.MatchFaults.{MatchFault-weaker, MatchFault-all}
 use Rattle.plist_binread.specs.declared.reader.BinaryReader.{BinaryReader}
 use Rattle.plist_binread.specs.declared.counter.Uncounted.{Uncounted}
 use Rattle.plist_binread.specs.contracts.counter.UncountedDecodeCounter.TheImpl.{ghosts}
 use Rattle.plist_binread.specs.Coming as binary
+use Rattle.plist_binread.specs.Failures.{HasPlace, MatchReader, ItemWithin}
 use Rattle.plist_binread.specs.Debt.{IsOwed, WantsMemory}
 use Rattle.plist_binread.specs.Unfolding.{items_of_file}
 use Rattle.plist_ascii.specs.declared.reader.AsciiReader.{AsciiReader}
@@ -26,9 +28,10 @@ use Rattle.plist_ascii.specs.Incoming as incoming
 use Rattle.plist_ascii.specs.Texts.{lax}
 use Rattle.plist_reader.specs.declared.reader.State.{State}
 use Rattle.plist_reader.specs.declared.reader.State.TheVariants as state
-use Rattle.plist_reader.specs.Coming.{coming, items_by, items_of_input, GivesItem, GoesOn, EndsAfter, StateGives, HoldsSource, source_in}
+use Rattle.plist_reader.specs.Coming.{coming, items_by, items_of_input, GivesItem, GoesOn, EndsAfter, StateGives, HoldsSource, HasItsPlace, source_in}
 use Rattle.plist_reader.specs.declared.format.Format.TheVariants as format
 use Rattle.plist_reader.specs.Formats.{format_of, front}
+use Rattle.plist_reader.proofs.Fronts.{within-placed}
 
 abbrev pub Given : Type 0
 Given = Option (Result Event Error)
@@ -89,6 +92,22 @@ over-ends E (Some (Err error)) h = MatchFault-all (kind_of (error_kind_of error)
 same-count : (a b : ℕ) → Some b ≡ Some a → b ≡ a
 same-count a b e = cc
 
+-- where the readers' own faults are
+binary-placed : (item : Given) → ItemWithin 0 (2 ^ 64) item → HasItsPlace item
+binary-placed None h = tt
+binary-placed (Some (Ok event)) h = tt
+binary-placed (Some (Err error)) h = placed (kind_of (error_kind_of error)) (offset_of error) h.placed
+  where
+    placed : (kind : FaultKind) (offset : Option ℕ) → MatchReader kind (IsPlaceWithin 0 (2 ^ 64) offset) (offset ≡ None) (HasPlace offset) → MatchFault kind (HasPlace offset) (offset ≡ None) ⊤
+    placed Io offset p = within-placed 0 (2 ^ 64) offset p
+    placed OutOfMemory offset p = p
+    placed kind offset p = tt
+
+ascii-placed : (place : ℕ) (item : Given) → ascii.FaultIsAt item place → HasItsPlace item
+ascii-placed place None h = tt
+ascii-placed place (Some (Ok event)) h = tt
+ascii-placed place (Some (Err error)) h = MatchFault-weaker (kind_of (error_kind_of error)) (λ e. subst (λ o. HasPlace o) (sym e) tt) (λ e. e) (λ _. tt) h
+
 -- a count that is told
 told-failures : (a b : ℕ) (item : Given) → incoming.ItemCountsIo item (Some a) (Some b) → ItemCountsIo item a b
 told-failures a b None h = same-count a b h
@@ -114,6 +133,7 @@ module _ {R : Type 0} {g : Ghosts R} (known : R → Option (List ℕ)) (failed :
   binary-gives old new item h = record {
     items = binary-goes (known (binary.source_of old)) (known (binary.source_of new)) (λ bytes. binary.to_come bytes old) (λ bytes. binary.to_come bytes new) (binary.is_new old) item h.unchanged h.items;
     failures = h.failures;
+    offset = binary-placed item h.faults;
     ended = h.ended;
     ends = over-ends (binary.HasEnded new) item h.ends;
   }
@@ -122,6 +142,7 @@ module _ {R : Type 0} {g : Ghosts R} (known : R → Option (List ℕ)) (failed :
   ascii-gives old new item h = record {
     items = ascii-goes (ascii.bytes_left (bytes_left known) old) (ascii.bytes_left (bytes_left known) new) (ascii.place_of old) (ascii.place_of new) item h.items;
     failures = told-failures (failed (source_of (ascii.inner_of old))) (failed (source_of (ascii.inner_of new))) item h.failures;
+    offset = ascii-placed (ascii.place_of new) item h.offset;
     ended = h.ended;
     ends = h.ends;
   }
@@ -134,6 +155,7 @@ module _ {R : Type 0} {g : Ghosts R} (known : R → Option (List ℕ)) (failed :
   chosen-gives source old new item same count h = record {
     items = subst (λ o. GoesOn o item (coming known new)) same h.items;
     failures = count;
+    offset = h.offset;
     ended = λ e. absurd e;
     ends = h.ends;
   }

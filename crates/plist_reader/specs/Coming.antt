@@ -4,10 +4,11 @@ use Rattle.std.specs.Option.{option_map}
 use Rattle.plist_base.specs.declared.error.Error.{Error}
 use Rattle.plist_base.specs.declared.event.Event.{Event}
 use Rattle.plist_base.specs.declared.source.Source.{Ghosts}
-use Rattle.plist_base.specs.Faults.{MatchFault, XmlUnsupported, kind_of, error_kind_of, fault_of, fault_at}
+use Rattle.plist_base.specs.Faults.{MatchFault, XmlUnsupported, kind_of, error_kind_of, fault_of, offset_of, fault_at}
 use Rattle.plist_base.specs.Events.{Item, event_of}
 use Rattle.plist_base.specs.Sources.{ItemCountsIo}
 use Rattle.plist_binread.specs.Coming as binary
+use Rattle.plist_binread.specs.Failures.{HasPlace}
 use Rattle.plist_binread.specs.Debt.{IsOwed, steps}
 use Rattle.plist_binread.specs.Unfolding.{items_of_file}
 use Rattle.plist_ascii.specs.Ascii.{items_of_ascii}
@@ -84,10 +85,15 @@ EndsAfter item ended = MatchOption item ended (λ answer. MatchResult answer (λ
 abbrev pub HoldsSource : {R : Type 0} (failed : R → ℕ) (old : Option R) → Option (Result Event Error) → (new : Option R) → Type 0
 HoldsSource failed old item new = MatchOption old ⊤ (λ source. MatchOption new ⊥ (λ kept. ItemCountsIo item (failed source) (failed kept)))
 
+-- a device's fault has a place, and want of memory has none
+abbrev pub HasItsPlace : Option (Result Event Error) → Type 0
+HasItsPlace item = MatchOption item ⊤ (λ answer. MatchResult answer (λ _. ⊤) (λ error. MatchFault (kind_of (error_kind_of error)) (HasPlace (offset_of error)) (offset_of error ≡ None) ⊤))
+
 -- one call of `next`
 pub record StateGives {R : Type 0} {g : Ghosts R} (known : R → Option (List ℕ)) (failed : R → ℕ) (old : State R g) (item : Option (Result Event Error)) (new : State R g) : Type 0 where
   pub items : GoesOn (coming known old) item (coming known new)
   pub failures : HoldsSource failed (source_in old) item (source_in new)
+  pub offset : HasItsPlace item
   pub ended : IsOver old → item ≡ None
   pub ends : EndsAfter item (IsOver new)
 

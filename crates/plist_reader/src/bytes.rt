@@ -8,7 +8,7 @@ use plist_base::Source;
 use std::io;
 
 /// The byte at a place, if there is one.
-pub fn byte_at<S: Source>(source: &mut S, place: u64) -> Result<Option<u8>, io::Error>
+pub fn read_byte<S: Source>(source: &mut S, place: u64) -> Result<Option<u8>, io::Error>
     ensures byte { IfOk result (λ byte. IfSome (S.known source.old) (λ bytes.
         byte ≡ slice_get bytes place)) }
     ensures unchanged { S.known source.new ≡ S.known source.old }
@@ -58,7 +58,7 @@ impl<R: Source> Bytes for SourceBytes<R> {
         if self.place == u64::MAX {
             return Ok(None);
         }
-        match byte_at(&mut self.source, self.place) {
+        match read_byte(&mut self.source, self.place) {
             Ok(Some(byte)) => {
                 self.place += 1;
                 Ok(Some(byte))

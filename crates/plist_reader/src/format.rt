@@ -2,12 +2,13 @@
 
 ghost use Rattle.std.specs.Prelude.{◌≡◌, ℕ, ◌+◌, ◌-◌, ◌^◌, ◌<◌, ◌≤◌, nat_eq, take, slice_get, IfOk, IfErr, IfSome};
 ghost use Rattle.std.specs.List.{starts_with};
-ghost use Rattle.plist_base.specs.Faults.{IsIo, Io, fault_at, fault_of, kind_of, error_kind_of};
+ghost use Rattle.plist_base.specs.Faults.{IsIo, Io, fault_at, fault_of, kind_of, error_kind_of, offset_of};
 ghost use Rattle.plist_base.specs.Sources.{AnswersIo};
+ghost use Rattle.plist_binread.specs.Failures.{HasPlace};
 ghost use Rattle.plist_binread.specs.Container.{magic};
 ghost use Rattle.plist_reader.specs.Formats.{is_white, mark, mark_length, front, xml_place, format_of};
 
-use crate::bytes::byte_at;
+use crate::bytes::read_byte;
 use plist_base::{Error, ErrorKind, Source, read_exact_at};
 
 const MAGIC: &[u8; 8] = b"bplist00";
@@ -31,6 +32,7 @@ fn has_magic<S: Source>(source: &mut S) -> Result<bool, Error>
     ensures value { IfOk result (λ found. IfSome (S.known source.old) (λ bytes.
         found ≡ starts_with nat_eq bytes magic)) }
     ensures refused { IfErr result (λ e. IsIo (kind_of (error_kind_of e))) }
+    ensures offset { IfErr result (λ e. HasPlace (offset_of e)) }
     ensures unchanged { S.known source.new ≡ S.known source.old }
     ensures failures { AnswersIo result (S.failures source.old) (S.failures source.new) }
 {
@@ -51,6 +53,7 @@ fn has_mark<S: Source>(source: &mut S) -> Result<bool, Error>
     ensures value { IfOk result (λ found. IfSome (S.known source.old) (λ bytes.
         found ≡ starts_with nat_eq bytes mark)) }
     ensures refused { IfErr result (λ e. IsIo (kind_of (error_kind_of e))) }
+    ensures offset { IfErr result (λ e. HasPlace (offset_of e)) }
     ensures unchanged { S.known source.new ≡ S.known source.old }
     ensures failures { AnswersIo result (S.failures source.old) (S.failures source.new) }
 {
@@ -71,6 +74,7 @@ fn mark_length<S: Source>(source: &mut S) -> Result<u64, Error>
     ensures length { IfOk result (λ found. IfSome (S.known source.old) (λ bytes.
         found ≡ mark_length bytes)) }
     ensures refused { IfErr result (λ e. IsIo (kind_of (error_kind_of e))) }
+    ensures offset { IfErr result (λ e. HasPlace (offset_of e)) }
     ensures unchanged { S.known source.new ≡ S.known source.old }
     ensures failures { AnswersIo result (S.failures source.old) (S.failures source.new) }
 {
@@ -81,6 +85,21 @@ fn mark_length<S: Source>(source: &mut S) -> Result<u64, Error>
     }
 }
 
+// The byte at a place, if there is one.
+fn byte_at<S: Source>(source: &mut S, place: u64) -> Result<Option<u8>, Error>
+    ensures byte { IfOk result (λ byte. IfSome (S.known source.old) (λ bytes.
+        byte ≡ slice_get bytes place)) }
+    ensures refused { IfErr result (λ e. fault_of e ≡ fault_at Io place) }
+    ensures unchanged { S.known source.new ≡ S.known source.old }
+    ensures failures { AnswersIo result (S.failures source.old) (S.failures source.new) }
+{
+    match read_byte(source, place) {
+        Ok(byte) => Ok(byte),
+        Err(failure) => Err(ErrorKind::Io(failure).with_byte_offset(place)),
+    }
+}
+
+// Is it white space?
 fn is_white(byte: u8) -> bool
     ensures { result ≡ is_white byte }
 {
@@ -92,6 +111,7 @@ fn xml_place<S: Source>(source: &mut S, start: u64) -> Result<Option<u64>, Error
     ensures place { IfOk result (λ found. IfSome (S.known source.old) (λ bytes.
         found ≡ xml_place start (front bytes))) }
     ensures refused { IfErr result (λ e. IsIo (kind_of (error_kind_of e))) }
+    ensures offset { IfErr result (λ e. HasPlace (offset_of e)) }
     ensures unchanged { S.known source.new ≡ S.known source.old }
     ensures failures { AnswersIo result (S.failures source.old) (S.failures source.new) }
 {
@@ -105,7 +125,7 @@ fn xml_place<S: Source>(source: &mut S, start: u64) -> Result<Option<u64>, Error
                 place += 1;
             }
             Ok(None) => return Ok(None),
-            Err(failure) => return Err(ErrorKind::Io(failure).with_byte_offset(place)),
+            Err(error) => return Err(error),
         }
     }
     Ok(None)
@@ -119,6 +139,7 @@ pub fn format_of<S: Source>(source: &mut S) -> Result<Format, Error>
     ensures format { IfOk result (λ format. IfSome (S.known source.old) (λ bytes.
         format ≡ format_of bytes)) }
     ensures refused { IfErr result (λ e. IsIo (kind_of (error_kind_of e))) }
+    ensures offset { IfErr result (λ e. HasPlace (offset_of e)) }
     ensures unchanged { S.known source.new ≡ S.known source.old }
     ensures failures { AnswersIo result (S.failures source.old) (S.failures source.new) }
 {

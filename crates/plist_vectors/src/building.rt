@@ -1,19 +1,10 @@
 //! Values built of events, and the events of values.
 
-use crate::support::{event_of, expect_answers, must, text_of, words_of_value};
+use crate::support::{event_of, expect_answers, expect_value, must, text_of, words_of_value};
 use plist::{Builder, Dictionary, Value, write_value};
 use plist_base::{Date, Error, ErrorKind, Event, Integer, RealBits, Uid, Writer};
 use std::borrow::{CowSlice, CowStr};
 use std::process::Abort;
-
-// The events of a value, or the text of the error that came in its place.
-fn expect_value(rt: &(impl Abort + AllocGlobal), found: Result<Value, Error>, wanted: &str) {
-    let words = match found {
-        Ok(value) => words_of_value(rt, &value),
-        Err(error) => text_of(rt, Err(error)),
-    };
-    assert_eq!(rt; words.as_str(), wanted);
-}
 
 fn expect_finished(rt: &(impl Abort + AllocGlobal), builder: &mut Builder, wanted: &str) {
     expect_value(rt, builder.finish(), wanted);

@@ -1,9 +1,9 @@
-//! Whole numbers, and Uids.
+//! Whole numbers, Uids and the bytes of reals.
 
 ghost use Rattle.std.specs.Prelude.{◌≡◌, ◌<ℤ◌, ◌↔◌, IsTrue};
 
 use crate::support::must;
-use plist_base::{Integer, InvalidInteger, Uid};
+use plist_base::{Integer, InvalidInteger, RealBits, Uid};
 use std::cmp::Ordering;
 use std::process::Abort;
 use std::str::FromStr;
@@ -121,4 +121,15 @@ fn uids(rt: HostRuntime) {
     expect_uid(&rt, 0, "0");
     expect_uid(&rt, u64::MAX, "18446744073709551615");
     assert!(rt; Uid::new(1) != Uid::new(2));
+}
+
+// Reals are equal by their bytes and their width.
+#[test]
+fn reals(rt: HostRuntime) {
+    let zero = RealBits::Eight([0; 8]);
+    assert!(rt; zero == RealBits::Eight([0; 8]));
+    assert!(rt; zero != RealBits::Eight([128, 0, 0, 0, 0, 0, 0, 0]));
+    assert!(rt; zero != RealBits::Four([0; 4]));
+    let nan = RealBits::Four([127, 192, 0, 0]);
+    assert!(rt; nan == nan);
 }

@@ -72,6 +72,13 @@ fn collections(rt: HostRuntime) {
         [5, 0, 21],
         "{2 'a' [1 'x' end 'b' 'a' end",
     );
+    expect_file(
+        &rt,
+        "a table that is a reference, and a text in the magic",
+        "a1 0008",
+        [2, 1, 9],
+        "[1 '\u{706c}\u{6973}' end",
+    );
     expect_file(&rt, "no pairs", "d0 08", [1, 0, 9], "{0 end");
     expect_file(
         &rt,

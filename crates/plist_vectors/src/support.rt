@@ -8,7 +8,7 @@ pub(crate) use device::{Device, Disk, Fault, expect_cut, expect_io};
 pub(crate) use file::{bytes_of, file, file_of, file_of_object, front};
 use std::fmt::Debug;
 use std::process::Abort;
-pub(crate) use words::{event_of, expect_answers, text_of, words_of, words_of_value};
+pub(crate) use words::{event_of, expect_answers, expect_value, text_of, words_of, words_of_value};
 
 // What an answer holds that is to be no fault.
 pub(crate) fn must<T, E: Debug>(rt: &impl Abort, answer: Result<T, E>) -> T {

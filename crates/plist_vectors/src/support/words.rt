@@ -177,6 +177,19 @@ pub(crate) fn text_of(rt: &(impl Abort + AllocGlobal), answer: Result<(), Error>
     must(rt, text)
 }
 
+// The events of a value, or the text of the error that came in its place.
+pub(crate) fn expect_value(
+    rt: &(impl Abort + AllocGlobal),
+    found: Result<Value, Error>,
+    wanted: &str,
+) {
+    let words = match found {
+        Ok(value) => words_of_value(rt, &value),
+        Err(error) => text_of(rt, Err(error)),
+    };
+    assert_eq!(rt; words.as_str(), wanted);
+}
+
 // The answers of a writer to the events of these words, with a semicolon between two.
 pub(crate) fn expect_answers<W: Writer>(
     rt: &(impl Abort + AllocGlobal),
