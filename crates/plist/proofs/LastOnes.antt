@@ -1,5 +1,5 @@
 -- The last values of pairs: keys in the order in which they came first, each with its last value.
-use Rattle.std.proofs.Common.{◌≡◌, ℕ, Bool, true, false, cond, ◌||◌, if◌then◌else◌, List, [], ◌∷◌, ◌++◌, Option, None, Some, refl, sym, ap, ◌∙◌, subst, true≢false}
+use Rattle.std.proofs.Common.{◌≡◌, ℕ, Bool, true, false, cond, ◌||◌, if◌then◌else◌, List, [], ◌∷◌, ◌++◌, Option, None, Some, refl, sym, ap, ◌∙◌, true≢false}
 use Rattle.std.specs.List.{list_any}
 use Rattle.std.specs.Map.{lookup, keys_of}
 use Rattle.std.specs.Option.{option_or}
@@ -7,7 +7,7 @@ use Rattle.std.specs.Str.{bytes_eq}
 use Rattle.std.proofs.lemmas.Slice.Eq.{bytes_eq-Decides}
 use Rattle.indexmap.specs.IndexMap.{insert_entry, insert_all}
 use Rattle.plist_base.specs.Trees.{Tree}
-use Rattle.plist.specs.LastWins.{Rows, last_values, and_key, first_keys_behind, first_keys, last_value, AreLastValues}
+use Rattle.plist.specs.LastWins.{Rows, last_values, and_key, first_keys_behind, last_value, AreLastValues}
 
 abbrev Key : Type 0
 Key = List ℕ

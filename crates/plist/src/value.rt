@@ -8,12 +8,11 @@ ghost use Rattle.plist.specs.Sent.{SendsTree};
 ghost use Rattle.plist.specs.Collecting.{Collects, built_tree};
 ghost use Rattle.plist.specs.Inputs.{AnswersAsSeen, IsReadFrom};
 ghost use Rattle.plist.specs.ReadingBack.{ReadsBack};
-ghost use Rattle.std.specs.Option.{option_map};
 ghost use Rattle.plist_base.specs.Events.{event_of};
 ghost use Rattle.plist_ascii.specs.Ascii.{items_of_ascii};
 ghost use Rattle.plist_ascii.specs.Coming.{Gives as ascii_gives, inner_of};
 ghost use Rattle.plist_ascii.specs.Texts.{lax};
-ghost use Rattle.plist_reader.specs.Coming.{Gives as reader_gives, items_of_input, to_come};
+ghost use Rattle.plist_reader.specs.Coming.{items_of_input};
 ghost use Rattle.plist_reader.specs.Formats.{front};
 ghost use Rattle.plist_base.specs.Trees.{Tree};
 ghost use Rattle.plist.specs.LastWins.{AreLastValues, Rows, last_values, last_wins};
@@ -106,9 +105,6 @@ impl Value {
     pub fn from_reader<R: Source>(alloc: Global, source: R) -> Result<Value, Error>
         ensures value { IfSome (R.known source) (λ bytes.
             IsReadFrom (items_of_input bytes) (built_tree result)) }
-        ensures read { (reader : Reader R)
-            × (to_come R.known reader ≡ option_map items_of_input (R.known source))
-            × Collects event_of (reader_gives R.known R.failures) reader (built_tree result) }
         ensures reads_back { IfSome (R.known source)
             (λ bytes. ReadsBack bytes (built_tree result)) }
     {
