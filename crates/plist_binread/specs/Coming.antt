@@ -69,9 +69,29 @@ GivesItem new before item after =
 abbrev pub EndsAfter : {R C : Type 0} {g : Ghosts R} {h : CounterGhosts C} → Option (Result Event Error) → BinaryReader R C g h → Type 0
 EndsAfter item after = MatchOption item (HasEnded after) (λ answer. OnErr answer (HasEnded after))
 
+-- the counter inside
+abbrev pub counter_of : {R C : Type 0} {g : Ghosts R} {h : CounterGhosts C} → BinaryReader R C g h → C
+counter_of reader = reader.counter
+
+-- how many objects are cached
+abbrev pub cached_objects : {R C : Type 0} {g : Ghosts R} {h : CounterGhosts C} → BinaryReader R C g h → ℕ
+cached_objects reader = cached_count reader.tags.items
+
+-- the marks stand exactly on the objects that are open, none of which is cached
+abbrev pub MarksItsPath : {R C : Type 0} {g : Ghosts R} {h : CounterGhosts C} → BinaryReader R C g h → Type 0
+MarksItsPath reader = IsOpen reader.tags.items (reverse reader.frames.items)
+
+-- the object of this number is cached in a reader that gave this item, if that is small
+abbrev pub CachesItem : {R C : Type 0} {g : Ghosts R} {h : CounterGhosts C} → Option ℕ → Option (Result Event Error) → BinaryReader R C g h → Type 0
+CachesItem number item reader = IsKept number item reader.tags.items
+
 -- none of the reader's lists is longer than there are objects
 abbrev pub AreWithin : (count : ℕ) → (tags contents : List ℕ) → List Frame → Type 0
 AreWithin count tags contents frames = (length tags ≤ count) × (length contents ≤ count) × (length frames ≤ count)
+
+-- the same of a reader
+abbrev pub KeepsWithin : {R C : Type 0} {g : Ghosts R} {h : CounterGhosts C} → (count : ℕ) → BinaryReader R C g h → Type 0
+KeepsWithin count reader = AreWithin count reader.tags.items reader.contents.items reader.frames.items
 
 -- one call of `next`: known bytes stay as they are, and the item is the first of those to come
 pub record Gives {R C : Type 0} {g : Ghosts R} {h : CounterGhosts C} (known : R → Option (List ℕ)) (failed : R → ℕ) (counts : Type 0) (count : C → ℕ) (old : BinaryReader R C g h) (item : Option (Result Event Error)) (new : BinaryReader R C g h) : Type 0 where
@@ -85,10 +105,10 @@ pub record Gives {R C : Type 0} {g : Ghosts R} {h : CounterGhosts C} (known : R 
   pub closes : end_comes old ≡ true → item ≡ Some (Ok EndCollection)
   pub head : IfSome (known (source_of old)) (λ bytes. HoldsHead bytes new)
   pub nested : MatchOption (known (source_of old)) (open_collections new ≤ object_count new) (λ bytes. open_collections new ≤ told_objects bytes)
-  pub cached : IfSome (known (source_of old)) (λ bytes. IsKept (number_to_come bytes old) item new.tags.items)
-  pub marked : IsOpen new.tags.items (reverse new.frames.items)
-  pub counted : counts → count new.counter ≡ cached_count new.tags.items
-  pub lists : IfSome (known (source_of old)) (λ bytes. AreWithin (told_objects bytes) new.tags.items new.contents.items new.frames.items)
+  pub cached : IfSome (known (source_of old)) (λ bytes. CachesItem (number_to_come bytes old) item new)
+  pub marked : MarksItsPath new
+  pub counted : counts → count (counter_of new) ≡ cached_objects new
+  pub lists : IfSome (known (source_of old)) (λ bytes. KeepsWithin (told_objects bytes) new)
 
 -- at most how many items are still to come
 abbrev pub steps_to_come : {R C : Type 0} {g : Ghosts R} {h : CounterGhosts C} → BinaryReader R C g h → ℕ
