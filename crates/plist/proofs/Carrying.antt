@@ -1,15 +1,13 @@
 -- Laws of what a builder holds.
-use Rattle.std.proofs.Common.{◌≡◌, ℕ, List, [], ◌∷◌, ◌++◌, Some, None, option_map, map, refl, sym, ap, ◌∙◌, append_assoc, append-nil, subst}
+use Rattle.std.proofs.Common.{◌≡◌, ℕ, List, [], ◌∷◌, ◌++◌, Some, option_map, map, refl, ap, ◌∙◌}
 use Rattle.std.specs.Str.{bytes_eq}
 use Rattle.indexmap.proofs.MapLemmas.{insert_all_push}
 use Rattle.plist_base.specs.Events.{PlainEvent, StartArray, StartDictionary, EndCollection, Boolean, Data, Date, Integer, Real, String, Uid}
 use Rattle.plist_base.specs.Trees as trees
-use Rattle.plist_base.specs.Trees.{Scalar, Tree, Leaf, Array, Dictionary, Trees, NoTrees, TreeAnd, Members, NoMembers, MemberAnd, trees_of, members_of}
-use Rattle.plist_base.specs.Bracketing.{event_of_scalar, bracketing, bracketing_of_items, bracketing_of_pairs, unhinted, AreAlike}
+use Rattle.plist_base.specs.Trees.{Tree, Leaf, Array, Dictionary, trees_of, members_of}
 use Rattle.std.proofs.lemmas.List.{map-append}
 use Rattle.plist.specs.LastWins.{Rows, with_pair, last_values, last_wins, last_wins_in_items, last_wins_in_pairs}
-use Rattle.plist.specs.Building.{OpenCollection, InArray, InDictionary, AfterKey, Unfinished, NotBegun, Within, Complete, events_within, events_round, events_so_far, last_wins_in_rows, last_wins_within, last_wins_so_far, refusal_of_value, refusal_of_key, refusal_of}
-use Rattle.plist.specs.Building.{AllTakeValue, IsNested}
+use Rattle.plist.specs.Building.{OpenCollection, InArray, InDictionary, AfterKey, Unfinished, NotBegun, Within, Complete, last_wins_in_rows, last_wins_within, last_wins_so_far}
 use Rattle.plist.specs.Steps.{and_pair, and_tree, begun, in_array, in_dictionary, carried_on}
 use Rattle.plist.proofs.Keeping.{Settled, settled-inserts, last-values-once, once-inserts, last-wins-twice}
 

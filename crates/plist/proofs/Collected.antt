@@ -3,12 +3,12 @@ use Rattle.std.proofs.Common.{◌≡◌, inl, inr, false, true≢false, List, []
 use Rattle.plist_base.specs.declared.error.Error.{Error}
 use Rattle.plist_base.specs.Events.{PlainEvent, Item}
 use Rattle.plist_base.specs.Faults as faults
-use Rattle.plist_base.specs.Faults.{FaultKind, Fault, fault_nowhere, UnexpectedEndOfEventStream}
+use Rattle.plist_base.specs.Faults.{FaultKind, Fault, UnexpectedEndOfEventStream}
 use Rattle.plist_base.specs.Trees.{Tree}
 use Rattle.plist_base.specs.Bracketing.{unhinted, AreAlike}
 use Rattle.std.proofs.lemmas.List.{map-append}
 use Rattle.plist.specs.LastWins.{with_pair, last_wins}
-use Rattle.plist.specs.Building.{Unfinished, NotBegun, Within, Complete, InArray, InDictionary, AfterKey, Built, IsNested, nothing_built, complete_tree, events_so_far, last_wins_so_far, refusal_of, IsUnfinishedFor, IsUnfinished}
+use Rattle.plist.specs.Building.{Unfinished, NotBegun, Within, Complete, Built, IsNested, nothing_built, complete_tree, events_so_far, last_wins_so_far, refusal_of, IsUnfinishedFor, IsUnfinished}
 use Rattle.plist.specs.Steps.{and_pair, carried_on}
 use Rattle.plist.specs.Following.{complete, refusal-last}
 use Rattle.std.specs.Prelude.{IfOk, IfErr}

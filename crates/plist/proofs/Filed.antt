@@ -7,8 +7,7 @@ use Rattle.std.proofs.lemmas.Bool.{true≢false}
 use Rattle.std.proofs.lemmas.List.{map-append}
 use Rattle.plist_base.specs.Bracketing.{bracketing, unhinted, AreAlike, AreComplete, CanContinue}
 use Rattle.plist_base.specs.Events.{PlainEvent, StartArray, StartDictionary, EndCollection, Boolean, Data, Date, Integer, Real, String, Uid}
-use Rattle.plist_base.specs.Faults as faults
-use Rattle.plist_base.specs.Faults.{FaultKind, Fault, Io, OutOfMemory, PlistTooLarge, UnexpectedEventType, ExpectedEndOfEventStream, fault_nowhere, MatchFault}
+use Rattle.plist_base.specs.Faults.{FaultKind, Fault, Io, OutOfMemory, PlistTooLarge, UnexpectedEventType, ExpectedEndOfEventStream, MatchFault}
 use Rattle.plist_base.specs.Trees.{Tree, Leaf, Array, Dictionary}
 use Rattle.plist_base.specs.Writing.{MatchKind}
 use Rattle.plist_binwrite.specs.declared.writer.BinaryWriter.{BinaryWriter}
@@ -17,7 +16,7 @@ use Rattle.plist_binwrite.specs.Sending.{FailsWith}
 use Rattle.plist_binwrite.specs.Sizes.{file_size}
 use Rattle.plist_binwrite.specs.Taking.{Takes, TakesEvent, Completes, Holds, held_by, failed_of, inner_of}
 use Rattle.plist.specs.Handing.{Took, RefusesNext, WantsMemory, Hands}
-use Rattle.plist.specs.Sent.{StopsFile, IsUnmade, StopsSending, SendsTree}
+use Rattle.plist.specs.Sent.{StopsFile, IsUnmade, StopsSending}
 
 -- ---- events of one tree
 

@@ -1,12 +1,11 @@
 -- What a builder has taken of the items that are seen to come.
 use Rattle.std.proofs.Common.{◌≡◌, false, true≢false, List, [], ◌∷◌, ◌++◌, Option, Some, None, Result, Ok, Err, IfOk, IfErr, IfSome, map, refl, sym, ap, ◌∙◌, subst, append-nil}
-use Rattle.std.specs.Option.{option_map}
 use Rattle.std.specs.Prelude.{⊤}
 use Rattle.std.proofs.lemmas.List.{map-append}
 use Rattle.plist_base.specs.declared.error.Error.{Error}
 use Rattle.plist_base.specs.Events.{PlainEvent, Item}
 use Rattle.plist_base.specs.Faults as faults
-use Rattle.plist_base.specs.Faults.{FaultKind, Fault, fault_nowhere, fault_of, MatchFault, UnexpectedEndOfEventStream}
+use Rattle.plist_base.specs.Faults.{FaultKind, Fault, fault_of, MatchFault, UnexpectedEndOfEventStream}
 use Rattle.plist_base.specs.Trees.{Tree}
 use Rattle.plist_base.specs.Bracketing.{bracketing, unhinted, AreAlike}
 use Rattle.plist.specs.declared.value.Value.{Value}

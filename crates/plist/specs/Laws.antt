@@ -5,11 +5,11 @@ use Rattle.std.proofs.Common.{refl, sym, ◌∙◌, subst, true≢false}
 use Rattle.plist_base.specs.declared.error.EventKind.TheVariants as event_kind
 use Rattle.plist_base.specs.Events.{PlainEvent, StartArray, StartDictionary, EndCollection, Boolean, Data, Date, Integer, Real, String, Uid, kind_of_event}
 use Rattle.plist_base.specs.Faults as faults
-use Rattle.plist_base.specs.Faults.{FaultKind, Fault, fault_nowhere, WriterFailed}
+use Rattle.plist_base.specs.Faults.{FaultKind, fault_nowhere, WriterFailed}
 use Rattle.plist_base.specs.Bracketing.{CanContinue, ContinueAlike}
 use Rattle.plist_base.specs.Writing.{Answer, MatchKind, AnswersByPlace}
 use Rattle.plist.specs.declared.stream.builder.Builder.{Builder}
-use Rattle.plist.specs.Building.{Unfinished, NotBegun, Within, InArray, InDictionary, AfterKey, Complete, Built, IsNested, events_so_far, last_wins_so_far, refusal_of_value, refusal_of_key, refusal_of, IsRefused}
+use Rattle.plist.specs.Building.{Unfinished, NotBegun, Within, InArray, InDictionary, AfterKey, Complete, Built, IsNested, events_so_far, refusal_of_value, refusal_of_key, refusal_of, IsRefused}
 use Rattle.plist.specs.Builders.{built_of, IsBuildingStep}
 use Rattle.plist.specs.Following.{refused-ends, taken-continues, accepted-continues, last-continues}
 

@@ -40,7 +40,8 @@ impl<V> Model for Pairs<V> {
 
     ghost view = { λ a. zip (map string_bytes a.keys.keys) a.items.items };
 
-    ghost invariant = { λ a. (length a.items.items ≡ length a.keys.keys) × IsDistinct bytes_eq (map string_bytes a.keys.keys) };
+    ghost invariant = { λ a. (length a.items.items ≡ length a.keys.keys)
+        × IsDistinct bytes_eq (map string_bytes a.keys.keys) };
 }
 
 impl<V> Pairs<V> {
@@ -108,10 +109,12 @@ impl<V> Pairs<V> {
     /// and the value come back.
     pub fn insert(&mut self, key: String, value: V) -> Result<Option<V>, (String, V)>
         ensures old { IfOk result (λ old. old ≡ lookup (bytes_eq (string_bytes key)) self.old) }
-        ensures pairs { OnOk result (self.new ≡ insert_entry bytes_eq self.old (string_bytes key) value) }
+        ensures pairs { OnOk result
+            (self.new ≡ insert_entry bytes_eq self.old (string_bytes key) value) }
         ensures handed_back { IfErr result (λ back. back ≡ (key, value)) }
         ensures unchanged { OnErr result (self.new ≡ self.old) }
-        ensures absent { OnErr result (is_some (lookup (bytes_eq (string_bytes key)) self.old) ≡ false) }
+        ensures absent { OnErr result
+            (is_some (lookup (bytes_eq (string_bytes key)) self.old) ≡ false) }
     {
         match self.keys.get_index_of(key.as_str()) {
             Some(index) => return Ok(Some(mem::replace(&mut self.items[index], value))),
@@ -192,7 +195,8 @@ impl<'a, V> IntoIterator for &'a Pairs<V> {
 
     type IntoIter = Iter<'a, V>;
 
-    ghost into_iter_gives = { λ pairs iter. (iter ≡ pairs.now) × ShowsInOrder (shown_pair {V = V}) × IsDistinct bytes_eq (keys_of pairs.now) };
+    ghost into_iter_gives = { λ pairs iter. (iter ≡ pairs.now) × ShowsInOrder (shown_pair {V = V})
+        × IsDistinct bytes_eq (keys_of pairs.now) };
 
     fn into_iter(self) -> Iter<'a, V> {
         self.iter()
@@ -209,7 +213,8 @@ impl<V: Drop> IntoIterator for Pairs<V> {
 
     type IntoIter = IntoIter<V>;
 
-    ghost into_iter_gives = { λ pairs iter. (iter ≡ pairs) × ShowsInOrder (shown_owned_pair {V = V}) × IsDistinct bytes_eq (keys_of pairs) };
+    ghost into_iter_gives = { λ pairs iter. (iter ≡ pairs) × ShowsInOrder (shown_owned_pair {V = V})
+        × IsDistinct bytes_eq (keys_of pairs) };
 
     fn into_iter(self) -> IntoIter<V> {
         let Pairs { keys, items } = self;

@@ -79,7 +79,8 @@ impl Partial {
 
     /// Why the event can't come next, if it can't.
     pub(crate) fn refusal(&self, event: &Event<'_>) -> Option<ErrorKind>
-        ensures { option_map kind_of result ≡ refusal_of (unfinished_of self.now) (event_of event.now) }
+        ensures { option_map kind_of result
+            ≡ refusal_of (unfinished_of self.now) (event_of event.now) }
     {
         if self.root.is_some() {
             return Some(ErrorKind::ExpectedEndOfEventStream {
@@ -96,7 +97,8 @@ impl Partial {
     // Opens a collection.
     fn begin(&mut self, collection: Open) -> Result<(), AllocError>
         requires { self.old.root ≡ None }
-        ensures { OnOk result (unfinished_of self.new ≡ Within (open_of collection) (collections_of self.old)) }
+        ensures { OnOk result (unfinished_of self.new
+            ≡ Within (open_of collection) (collections_of self.old)) }
     {
         self.collections.push(collection)?;
         Ok(())
@@ -105,7 +107,8 @@ impl Partial {
     // Puts a complete value where it belongs.
     fn add(&mut self, value: Value) -> Result<(), AllocError>
         requires { self.old.root ≡ None }
-        ensures { OnOk result (unfinished_of self.new ≡ and_tree with_pair (tree_of value) (collections_of self.old)) }
+        ensures { OnOk result (unfinished_of self.new
+            ≡ and_tree with_pair (tree_of value) (collections_of self.old)) }
     {
         match self.collections.pop() {
             None => self.root = Some(value),
@@ -131,7 +134,8 @@ impl Partial {
     fn end(&mut self) -> Result<(), AllocError>
         requires place { refusal_of (unfinished_of self.old) events.EndCollection ≡ None }
         requires root { self.old.root ≡ None }
-        ensures { OnOk result (carried_on with_pair (unfinished_of self.old) events.EndCollection ≡ Some (unfinished_of self.new)) }
+        ensures { OnOk result (carried_on with_pair (unfinished_of self.old) events.EndCollection
+            ≡ Some (unfinished_of self.new)) }
     {
         match self.collections.pop() {
             Some(Open::Array(items)) => self.add(Value::Array(items)),
@@ -143,7 +147,8 @@ impl Partial {
     // Puts a text where it belongs, as a key or as a value.
     fn add_text(&mut self, text: String) -> Result<(), AllocError>
         requires { self.old.root ≡ None }
-        ensures { OnOk result (carried_on with_pair (unfinished_of self.old) (events.String (string_bytes text)) ≡ Some (unfinished_of self.new)) }
+        ensures { OnOk result (carried_on with_pair (unfinished_of self.old)
+            (events.String (string_bytes text)) ≡ Some (unfinished_of self.new)) }
     {
         match self.collections.pop() {
             Some(Open::Dictionary(pairs)) => {
@@ -163,7 +168,8 @@ impl Partial {
     /// After a failure what is held isn't known.
     pub(crate) fn take(&mut self, alloc: Global, event: Event<'_>) -> Result<(), AllocError>
         requires { refusal_of (unfinished_of self.old) (event_of event) ≡ None }
-        ensures { OnOk result (carried_on with_pair (unfinished_of self.old) (event_of event.entry) ≡ Some (unfinished_of self.new)) }
+        ensures { OnOk result (carried_on with_pair (unfinished_of self.old) (event_of event.entry)
+            ≡ Some (unfinished_of self.new)) }
     {
         match event {
             Event::StartArray(_) => self.begin(Open::Array(Vec::new(alloc))),
@@ -182,7 +188,8 @@ impl Partial {
     /// Takes the root out, if it is complete; nothing is held then.
     pub(crate) fn take_root(&mut self) -> Option<Value>
         ensures root { option_map tree_of result ≡ complete_tree (unfinished_of self.old) }
-        ensures left { MatchOption result (self.new ≡ self.old) (λ _. unfinished_of self.new ≡ NotBegun) }
+        ensures left { MatchOption result (self.new ≡ self.old)
+            (λ _. unfinished_of self.new ≡ NotBegun) }
     {
         let root = self.root.take()?;
         self.collections.clear();

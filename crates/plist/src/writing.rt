@@ -30,7 +30,8 @@ fn hand<W: Writer>(writer: &mut W, item: Result<Event<'_>, Error>) -> Result<(),
 /// The writer's first refusal, after which it is handed nothing more; and `OutOfMemory` where the
 /// events of the value want memory, in the place of a start.
 pub fn write_value<W: Writer>(alloc: Global, value: &Value, writer: &mut W) -> Result<(), Error>
-    ensures handed { Hands W.Step writer.old (bracketing (tree_of value.now)) (answer_of result) writer.new }
+    ensures handed { Hands W.Step writer.old (bracketing (tree_of value.now))
+        (answer_of result) writer.new }
 {
     let mut events = value.events(alloc);
     while let Some(item) = events.next() {

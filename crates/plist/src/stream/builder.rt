@@ -50,8 +50,13 @@ impl Builder {
     // Takes one event.
     pub(crate) fn take(&mut self, event: Event<'_>) -> Result<(), Error>
         ensures step { IsBuildingStep self.old (event_of event.entry) (answer_of result) self.new }
-        ensures carried { OnOk result (carried_on with_pair (built_of self.old).unfinished (event_of event.entry) ≡ Some (built_of self.new).unfinished) }
-        ensures refused { (built_of self.old).failed ≡ false → IfErr result (λ error. IsRefusal (refusal_of (built_of self.old).unfinished (event_of event.entry)) (fault_of error)) }
+        ensures carried { OnOk result
+            (carried_on with_pair (built_of self.old).unfinished (event_of event.entry)
+            ≡ Some (built_of self.new).unfinished) }
+        ensures refused { (built_of self.old).failed ≡ false
+            → IfErr result (λ error.
+            IsRefusal (refusal_of (built_of self.old).unfinished (event_of event.entry))
+            (fault_of error)) }
     {
         if self.failed {
             return Err(ErrorKind::WriterFailed.without_position());
@@ -73,8 +78,11 @@ impl Builder {
     // Takes the event of an item, or passes its fault on.
     pub(crate) fn take_item<E: AnyEvent>(&mut self, item: Result<E, Error>) -> Result<(), Error>
         requires { (built_of self.old).failed ≡ false }
-        ensures taken { OnOk result (Takes (built_of self.old) (item_by E.plain item) (built_of self.new)) }
-        ensures refused { IfErr result (λ error. Refuses (built_of self.old).unfinished (item_by E.plain item) (fault_of error)) }
+        ensures taken { OnOk result
+            (Takes (built_of self.old) (item_by E.plain item) (built_of self.new)) }
+        ensures refused { IfErr result
+            (λ error. Refuses (built_of self.old).unfinished (item_by E.plain item)
+            (fault_of error)) }
     {
         let event = item?;
         event.hand_to(self)
@@ -89,14 +97,18 @@ impl Builder {
     /// - `WriterFailed` if it has failed.
     /// - `UnexpectedEndOfEventStream` if the events aren't those of a value yet.
     pub fn finish(&mut self) -> Result<Value, Error>
-        ensures value { IfOk result (λ value. AreAlike (events_so_far (built_of self.old).unfinished) (bracketing (tree_of value))) }
-        ensures complete { IfOk result (λ value. complete_tree (built_of self.old).unfinished ≡ Some (tree_of value)) }
+        ensures value { IfOk result
+            (λ value. AreAlike (events_so_far (built_of self.old).unfinished)
+            (bracketing (tree_of value))) }
+        ensures complete { IfOk result
+            (λ value. complete_tree (built_of self.old).unfinished ≡ Some (tree_of value)) }
         ensures working { OnOk result ((built_of self.old).failed ≡ false) }
         ensures emptied { OnOk result (built_of self.new ≡ nothing_built) }
         ensures refused { IfErr result (λ error. IsUnfinished (built_of self.old) (fault_of error)) }
         ensures unchanged { OnErr result (self.new ≡ self.old) }
     {
-        if self.failed {
+        let failed = self.failed;
+        if failed {
             return Err(ErrorKind::WriterFailed.without_position());
         }
         match self.partial.take_root() {
@@ -117,8 +129,10 @@ pub trait AnyEvent: Drop {
     /// Hands the event to a builder that hasn't failed.
     fn hand_to(self, builder: &mut Builder) -> Result<(), Error>
         requires { (built_of builder.old).failed ≡ false }
-        ensures taken { OnOk result (Takes (built_of builder.old) (Ok (plain self)) (built_of builder.new)) }
-        ensures refused { IfErr result (λ error. Refuses (built_of builder.old).unfinished (Ok (plain self)) (fault_of error)) };
+        ensures taken { OnOk result
+            (Takes (built_of builder.old) (Ok (plain self)) (built_of builder.new)) }
+        ensures refused { IfErr result
+            (λ error. Refuses (built_of builder.old).unfinished (Ok (plain self)) (fault_of error)) };
 }
 
 impl<'a> AnyEvent for Event<'a> {

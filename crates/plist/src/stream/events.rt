@@ -83,7 +83,9 @@ impl<'a> Events<'a> {
     // Opens a collection; for want of memory nothing is left.
     fn open(&mut self, level: Level<'a>) -> Result<(), Error>
         requires { self.old.value ≡ None }
-        ensures opened { OnOk result (remaining_events self.new ≡ left_of_level level.entry ++ EndCollection ∷ remaining_events self.old) }
+        ensures opened { OnOk result
+            (remaining_events self.new
+            ≡ left_of_level level.entry ++ EndCollection ∷ remaining_events self.old) }
         ensures memory { IfErr result (λ error. fault_of error ≡ fault_nowhere OutOfMemory) }
         ensures nothing { OnErr result (remaining_events self.new ≡ []) }
     {

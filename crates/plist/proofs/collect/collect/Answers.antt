@@ -4,7 +4,7 @@ use Rattle.std.specs.Option.{option_map}
 use Rattle.std.proofs.iter.Next as it
 use Rattle.plist_base.specs.Faults.{fault_of}
 use Rattle.plist.specs.Builders.{built_of}
-use Rattle.plist.specs.Collecting.{item_by, IsBuiltFrom, built_tree}
+use Rattle.plist.specs.Collecting.{item_by, IsBuiltFrom}
 use Rattle.plist.proofs.Collected.{TookAll, took-none, took-more, refused-last, finished, seen-more}
 use Rattle.plist.proofs.Inputs.{reads-none, reads-more, reads-refused, reads-whole}
 use Rattle.plist.proofs.collect.collect.Goals as goal
