@@ -13,3 +13,4 @@ pub mod Shown
 pub mod ReadingBack
 pub mod Handed
 pub mod Filed
+pub mod Storing

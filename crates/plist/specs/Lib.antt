@@ -17,3 +17,4 @@ pub mod Inputs
 pub mod ReadingBack
 pub mod Handing
 pub mod Sent
+pub mod Stored

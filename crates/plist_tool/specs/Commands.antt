@@ -8,10 +8,12 @@ use Rattle.plist_tool.specs.declared.commands.Command.TheVariants as command
 -- what the program can be asked to do
 pub data Asked : Type 0 where
   Print : (file : List ℕ) → Asked
+  Convert : (from to : List ℕ) → Asked
 
 -- the words that ask for it
 abbrev pub words_for : Asked → List (List ℕ)
 words_for (Print file) = codes "print" ∷ file ∷ []
+words_for (Convert from to) = codes "convert" ∷ from ∷ to ∷ []
 
 -- the words are no command
 abbrev pub IsWrong : (words : List (List ℕ)) → Type 0
@@ -20,6 +22,7 @@ IsWrong words = (asked : Asked) → ¬ (words ≡ words_for asked)
 -- what contracts see of a command
 abbrev pub asked_of : Command → Asked
 asked_of (command.Print file) = Print file.now
+asked_of (command.Convert from to) = Convert from.now to.now
 
 -- how the program ends where a command answered so: with 0 and no word where it is done, with 1
 -- where it was refused, and then its fault has been told

@@ -19,7 +19,7 @@ said_of (message.Fault error) = Fault (fault_of error.now)
 
 -- what is said of wrong words
 abbrev pub usage : List ℕ
-usage = codes "Usage: plist_tool print FILE\n"
+usage = codes "Usage: plist_tool print FILE | convert IN OUT\n"
 
 -- the text of a message
 abbrev pub text_of : Said → List ℕ

@@ -7,6 +7,7 @@ ghost use Rattle.plist_tool.specs.Commands.{Asked, asked_of, words_for, IsWrong,
 
 use crate::messages::{Message, Messages};
 use crate::print::print_events;
+use plist::Value;
 use plist_base::{Error, ErrorKind, Seeking};
 use std::alloc::Global;
 use std::fs;
@@ -18,6 +19,8 @@ use std::rt::Files;
 pub enum Command<'a> {
     /// Print the events of this file.
     Print(&'a str),
+    /// Write the property list of the first file to the second one, as a binary one.
+    Convert(&'a str, &'a str),
 }
 
 /// The command that the words ask for, or `None` if they are no command.
@@ -28,6 +31,9 @@ pub fn command_of(words: &[String]) -> Option<Command<'_>>
 {
     match words {
         [verb, file] if verb.as_str() == "print" => Some(Command::Print(file.as_str())),
+        [verb, from, to] if verb.as_str() == "convert" => {
+            Some(Command::Convert(from.as_str(), to.as_str()))
+        }
         _ => None,
     }
 }
@@ -64,6 +70,7 @@ impl<R: Files> Commands for R {
     ) -> Result<(), Error> {
         match command {
             Command::Print(path) => print_file(self, alloc, path, out),
+            Command::Convert(from, to) => convert_file(self, alloc, from, to),
         }
     }
 }
@@ -79,6 +86,12 @@ fn print_file<R: Files, O: Write>(
         Ok(file) => print_events(alloc, Seeking::new(file), out),
         Err(failure) => Err(ErrorKind::Io(failure).without_position()),
     }
+}
+
+// Writes the property list of a file to another one, or to itself.
+fn convert_file<R: Files>(rt: &R, alloc: Global, from: &str, to: &str) -> Result<(), Error> {
+    let value = Value::from_file(rt, alloc, from)?;
+    value.to_file_binary(rt, alloc, to)
 }
 
 /// Does what the words after the program's name ask for, and answers the status: 0 where it is done,
@@ -120,9 +133,11 @@ mod tests {
     use crate::trickle::Trickle;
     use std::alloc::AllocError;
     use std::env;
+    use std::env::Env;
+    use std::process::Abort;
     use std::test::Fail;
 
-    const USAGE: &str = "Usage: plist_tool print FILE\n";
+    const USAGE: &str = "Usage: plist_tool print FILE | convert IN OUT\n";
 
     fn words_of(alloc: Global, line: &str) -> Result<Vec<String>, AllocError> {
         let mut words = Vec::new(alloc);
@@ -134,7 +149,15 @@ mod tests {
 
     #[test]
     fn wrong_words(rt: HostRuntime) -> Result<(), Fail> {
-        for line in ["", "print", "print one two", "show one", "Print one"] {
+        for line in [
+            "",
+            "print",
+            "print one two",
+            "show one",
+            "Print one",
+            "convert one",
+            "convert one two three",
+        ] {
             let words = words_of(rt.alloc(), line)?;
             let mut out = Vec::new(rt.alloc());
             let mut err = Vec::new(rt.alloc());
@@ -210,5 +233,120 @@ mod tests {
         assert_eq!(rt; out.taken.as_slice(), b"Start".as_slice());
         assert_eq!(rt; err.as_slice(), b"Error: Io\n".as_slice());
         Ok(())
+    }
+
+    const SETTINGS: &[u8] = b"{ name = James, age = 42 }";
+
+    const CONVERTED: &[u8] = b"bplist00\
+        \xd2\x01\x02\x03\x04\x54name\x53age\x55James\x10\x2a\x08\x0d\x12\x16\x1c\
+        \0\0\0\0\0\0\x01\x01\0\0\0\0\0\0\0\x05\0\0\0\0\0\0\0\0\0\0\0\0\0\0\0\x1e";
+
+    // A path in the folder for temporary files.
+    fn temporary(rt: &(impl AllocGlobal + Env), name: &str) -> Result<String, Fail> {
+        let path = env::temp_dir(rt)?.join(rt.alloc(), name)?;
+        Ok(path.into_string())
+    }
+
+    fn put(rt: &HostRuntime, name: &str, bytes: &[u8]) -> Result<(), Fail> {
+        fs::write(rt, temporary(rt, name)?.as_str(), bytes)?;
+        Ok(())
+    }
+
+    fn remove(rt: &HostRuntime, name: &str) -> Result<(), Fail> {
+        let _ = fs::remove_file(rt, temporary(rt, name)?.as_str());
+        Ok(())
+    }
+
+    fn assert_holds(
+        rt: &(impl Abort + AllocGlobal + Env + Files),
+        name: &str,
+        expected: &[u8],
+    ) -> Result<(), Fail> {
+        let bytes = fs::read(rt, temporary(rt, name)?.as_str())?;
+        assert_eq!(rt; bytes.as_slice(), expected, "in {name}");
+        Ok(())
+    }
+
+    fn assert_missing(
+        rt: &(impl Abort + AllocGlobal + Env + Files),
+        name: &str,
+    ) -> Result<(), Fail> {
+        let is_there = fs::exists(rt, temporary(rt, name)?.as_str())?;
+        assert!(rt; !is_there, "{name} is there");
+        Ok(())
+    }
+
+    // The status of `convert` of these files is 1 where something is said, and else 0.
+    fn assert_convert(
+        rt: &(impl Abort + AllocGlobal + Env + Files),
+        from: &str,
+        to: &str,
+        said: &[u8],
+    ) -> Result<(), Fail> {
+        let mut words = words_of(rt.alloc(), "convert")?;
+        words.push(temporary(rt, from)?)?;
+        words.push(temporary(rt, to)?)?;
+        let mut out = Vec::new(rt.alloc());
+        let mut err = Vec::new(rt.alloc());
+        let status = run_words(rt, rt.alloc(), words.as_slice(), &mut out, &mut err);
+        assert_eq!(rt; err.as_slice(), said, "at {from}");
+        assert_eq!(rt; status, u8::from(!said.is_empty()), "at {from}");
+        assert!(rt; out.is_empty(), "at {from}");
+        Ok(())
+    }
+
+    #[test]
+    fn converts_to_a_new_file(rt: HostRuntime) -> Result<(), Fail> {
+        put(&rt, "plist_tool_new_in", SETTINGS)?;
+        remove(&rt, "plist_tool_new_out")?;
+        assert_convert(&rt, "plist_tool_new_in", "plist_tool_new_out", b"")?;
+        assert_holds(&rt, "plist_tool_new_out", CONVERTED)?;
+        assert_holds(&rt, "plist_tool_new_in", SETTINGS)
+    }
+
+    // A longer file is cut, and a binary one is read like one in ASCII.
+    #[test]
+    fn converts_a_file_to_itself(rt: HostRuntime) -> Result<(), Fail> {
+        put(&rt, "plist_tool_same", SETTINGS)?;
+        assert_convert(&rt, "plist_tool_same", "plist_tool_same", b"")?;
+        assert_holds(&rt, "plist_tool_same", CONVERTED)?;
+        assert_convert(&rt, "plist_tool_same", "plist_tool_same", b"")?;
+        assert_holds(&rt, "plist_tool_same", CONVERTED)?;
+        put(&rt, "plist_tool_long", &[b' '; 100])?;
+        assert_convert(&rt, "plist_tool_same", "plist_tool_long", b"")?;
+        assert_holds(&rt, "plist_tool_long", CONVERTED)
+    }
+
+    #[test]
+    fn a_fault_leaves_the_other_file(rt: HostRuntime) -> Result<(), Fail> {
+        put(&rt, "plist_tool_faulty", RECURSIVE)?;
+        put(&rt, "plist_tool_stands", b"it stands")?;
+        let said = b"Error: RecursiveObject (offset 8)\n";
+        assert_convert(&rt, "plist_tool_faulty", "plist_tool_stands", said)?;
+        assert_holds(&rt, "plist_tool_stands", b"it stands")?;
+        assert_convert(&rt, "plist_tool_faulty", "plist_tool_faulty", said)?;
+        assert_holds(&rt, "plist_tool_faulty", RECURSIVE)
+    }
+
+    #[test]
+    fn xml_is_refused(rt: HostRuntime) -> Result<(), Fail> {
+        put(&rt, "plist_tool_xml", b" <plist/>")?;
+        remove(&rt, "plist_tool_of_xml")?;
+        let said = b"Error: XmlUnsupported (offset 1)\n";
+        assert_convert(&rt, "plist_tool_xml", "plist_tool_of_xml", said)?;
+        assert_missing(&rt, "plist_tool_of_xml")
+    }
+
+    #[test]
+    fn files_that_cannot_be_opened(rt: HostRuntime) -> Result<(), Fail> {
+        remove(&rt, "plist_tool_of_none")?;
+        let said = b"Error: Io\n";
+        assert_convert(&rt, "plist_tool_no_folder/in", "plist_tool_of_none", said)?;
+        assert_missing(&rt, "plist_tool_of_none")?;
+        // a folder can be opened, and not read
+        assert_convert(&rt, ".", "plist_tool_of_none", b"Error: Io (offset 0)\n")?;
+        assert_missing(&rt, "plist_tool_of_none")?;
+        put(&rt, "plist_tool_whole", SETTINGS)?;
+        assert_convert(&rt, "plist_tool_whole", "plist_tool_no_folder/out", said)
     }
 }

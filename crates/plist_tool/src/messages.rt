@@ -35,7 +35,7 @@ impl<W: Write> Messages for W {
 
     fn tell(&mut self, message: Message<'_>) -> Result<(), Error> {
         match message {
-            Message::Usage => send(self, b"Usage: plist_tool print FILE\n"),
+            Message::Usage => send(self, b"Usage: plist_tool print FILE | convert IN OUT\n"),
             Message::Fault(error) => match writeln!(self, "Error: {error}") {
                 Ok(()) => Ok(()),
                 Err(failure) => Err(ErrorKind::Io(failure).without_position()),

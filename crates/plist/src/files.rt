@@ -1,0 +1,113 @@
+//! Values in files.
+
+ghost use Rattle.std.specs.Prelude.{◌≡◌, None, IfErr};
+ghost use Rattle.plist_base.specs.Faults.{Io, fault_of, fault_nowhere};
+ghost use Rattle.plist_base.specs.Writing.{answer_of};
+ghost use Rattle.plist.specs.Sent.{SendsTree};
+ghost use Rattle.plist.specs.Stored.{IsUnstored};
+ghost use Rattle.plist.specs.Views.{tree_of};
+
+use crate::Value;
+use plist_base::{Error, ErrorKind, Seeking};
+use std::alloc::Global;
+use std::fs::OpenFile;
+use std::io::Write;
+use std::rt::Files;
+use std::{fs, io};
+
+// A file that is created, or cut, at its first write.
+#[derive(Drop)]
+struct Output<'a, R: Files> {
+    rt: &'a R,
+    path: &'a str,
+    file: Option<R::File>,
+}
+
+impl<'a, R: Files> Write for Output<'a, R> {
+    // others may change what a file holds
+    ghost contents = { λ _. None };
+
+    fn write(&mut self, buf: &[u8]) -> io::Result<usize> {
+        match &mut self.file {
+            Some(file) => file.write(buf),
+            None => {
+                let mut file = fs::create(self.rt, self.path)?;
+                let answer = file.write(buf);
+                self.file = Some(file);
+                answer
+            }
+        }
+    }
+
+    fn flush(&mut self) -> io::Result<()> {
+        match &mut self.file {
+            Some(file) => file.flush(),
+            None => Ok(()),
+        }
+    }
+}
+
+impl<'a, R: Files> Output<'a, R> {
+    fn new(rt: &'a R, path: &'a str) -> Self
+        ensures { result.file ≡ None }
+    {
+        Output {
+            rt,
+            path,
+            file: None,
+        }
+    }
+
+    // Has the system store what was written.
+    fn sync(&self) -> Result<(), Error>
+        ensures { IfErr result (λ error. fault_of error ≡ fault_nowhere Io) }
+    {
+        let Some(file) = &self.file else {
+            return Ok(());
+        };
+        match file.sync_all() {
+            Ok(()) => Ok(()),
+            Err(failure) => Err(ErrorKind::Io(failure).without_position()),
+        }
+    }
+
+    // Writes a file of the value and has it stored. Where memory or size refuse, there is no file
+    // now where there was none.
+    fn store(&mut self, alloc: Global, value: &Value) -> Result<(), Error>
+        ensures { SendsTree (λ _. None) (tree_of value.now) (answer_of result) self.old self.new }
+    {
+        value.to_writer_binary(alloc, self)?;
+        self.sync()
+    }
+}
+
+impl Value {
+    /// The value of the file of this name, binary or in ASCII as [`Value::from_reader`] chooses. Each
+    /// read of the file fills a window of 8 KiB, from which most bytes are taken.
+    ///
+    /// # Errors
+    ///
+    /// - `Io` without an offset where the file can't be opened.
+    /// - Those of [`Value::from_reader`].
+    pub fn from_file<R: Files>(rt: &R, alloc: Global, path: &str) -> Result<Value, Error> {
+        match fs::open(rt, path) {
+            Ok(file) => Value::from_reader(alloc, Seeking::new(file)),
+            Err(failure) => Err(ErrorKind::Io(failure).without_position()),
+        }
+    }
+
+    /// Writes the value as a binary property list to the file of this name, which is created, or
+    /// cut first, and has the system store it.
+    ///
+    /// # Errors
+    ///
+    /// - `PlistTooLarge` where the file would have 2^64 bytes or more, and `OutOfMemory`: no file
+    ///   was created or cut.
+    /// - `Io` where the file can't be created, and where a write, the flush or the sync fails. The
+    ///   file may then hold a beginning of the property list.
+    pub fn to_file_binary<R: Files>(&self, rt: &R, alloc: Global, path: &str) -> Result<(), Error>
+        ensures refused { IfErr result (λ error. IsUnstored (tree_of self.now) (fault_of error)) }
+    {
+        Output::new(rt, path).store(alloc, self)
+    }
+}
