@@ -1,6 +1,7 @@
 pub mod Columns
 pub mod TreeOf
 pub mod Keeping
+pub mod LastOnes
 pub mod Carrying
 pub mod Tops
 pub mod Itself
@@ -8,5 +9,7 @@ pub mod Starts
 pub mod Collected
 pub mod MatchFaults
 pub mod Inputs
+pub mod Shown
+pub mod ReadingBack
 pub mod Handed
 pub mod Filed

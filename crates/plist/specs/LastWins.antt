@@ -1,5 +1,8 @@
 -- A tree in which each key stands once: in its first place, with its last value.
-use Rattle.std.specs.Prelude.{ℕ, List, [], ◌∷◌}
+use Rattle.std.specs.Prelude.{◌≡◌, ℕ, List, [], ◌∷◌, ◌++◌, Option, None, Some, cond}
+use Rattle.std.specs.List.{list_any}
+use Rattle.std.specs.Map.{lookup, keys_of}
+use Rattle.std.specs.Option.{option_or}
 use Rattle.std.specs.Str.{bytes_eq}
 use Rattle.indexmap.specs.IndexMap.{insert_entry, insert_all}
 use Rattle.plist_base.specs.Trees.{Tree, Leaf, Array, Dictionary, Trees, NoTrees, TreeAnd, Members, NoMembers, MemberAnd, trees_of, members_of}
@@ -15,6 +18,27 @@ with_pair rows key tree = insert_entry bytes_eq rows key tree
 -- the pairs, each key in its first place with its last value
 abbrev pub last_values : Rows → Rows
 last_values rows = insert_all bytes_eq [] rows
+
+-- the keys once this one has come: one that is there stays, a new one goes last
+abbrev pub and_key : (keys : List (List ℕ)) → (key : List ℕ) → List (List ℕ)
+and_key keys key = cond (list_any (bytes_eq key) keys) keys (keys ++ key ∷ [])
+
+abbrev pub first_keys_behind : (seen keys : List (List ℕ)) → List (List ℕ)
+first_keys_behind seen [] = seen
+first_keys_behind seen (key ∷ keys) = first_keys_behind (and_key seen key) keys
+
+-- the keys, each once, in the order in which they came first
+abbrev pub first_keys : List (List ℕ) → List (List ℕ)
+first_keys keys = first_keys_behind [] keys
+
+-- the value of the last pair with the key
+abbrev pub last_value : (key : List ℕ) → Rows → Option Tree
+last_value key [] = None
+last_value key (row ∷ rows) = option_or (last_value key rows) (cond (bytes_eq key row.0) (Some row.1) None)
+
+-- the keys in the order in which they came first, each with its last value
+abbrev pub AreLastValues : (rows result : Rows) → Type 0
+AreLastValues rows result = (keys_of result ≡ first_keys (keys_of rows)) × ((key : List ℕ) → lookup (bytes_eq key) result ≡ last_value key rows)
 
 -- the tree in which that is so of each dictionary
 abbrev mutual

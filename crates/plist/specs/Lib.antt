@@ -14,5 +14,6 @@ pub mod Laws
 pub mod Remaining
 pub mod Collecting
 pub mod Inputs
+pub mod ReadingBack
 pub mod Handing
 pub mod Sent

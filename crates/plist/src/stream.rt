@@ -1,7 +1,12 @@
-//! Events of values, and values of events.
+//! Events: what reads, what takes and what gives them.
 
 pub mod builder;
 pub mod events;
 
 pub use builder::{AnyEvent, Builder};
 pub use events::Events;
+pub use plist_ascii::AsciiReader;
+pub use plist_base::{Event, OwnedEvent, Seeking, Sequential, Source, Writer};
+pub use plist_binread::BinaryReader;
+pub use plist_binwrite::BinaryWriter;
+pub use plist_reader::Reader;

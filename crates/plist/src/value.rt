@@ -1,14 +1,19 @@
 //! Values of property lists.
 
-ghost use Rattle.std.specs.Prelude.{◌≡◌};
+ghost use Rattle.std.specs.Prelude.{◌≡◌, IfSome};
 ghost use Rattle.std.specs.Iterator.{IsFinite};
 ghost use Rattle.plist_base.specs.Bracketing.{AreAlike, bracketing};
 ghost use Rattle.plist_base.specs.Writing.{answer_of};
 ghost use Rattle.plist.specs.Sent.{SendsTree};
 ghost use Rattle.plist.specs.Collecting.{Collects, built_tree};
-ghost use Rattle.plist.specs.Inputs.{AnswersAsSeen};
+ghost use Rattle.plist.specs.Inputs.{AnswersAsSeen, IsReadFrom};
+ghost use Rattle.plist.specs.ReadingBack.{ReadsBack};
+ghost use Rattle.plist_ascii.specs.Ascii.{items_of_ascii};
+ghost use Rattle.plist_ascii.specs.Texts.{lax};
+ghost use Rattle.plist_reader.specs.Coming.{items_of_input};
+ghost use Rattle.plist_reader.specs.Formats.{front};
 ghost use Rattle.plist_base.specs.Trees.{Tree};
-ghost use Rattle.plist.specs.LastWins.{last_wins};
+ghost use Rattle.plist.specs.LastWins.{AreLastValues, Rows, last_values, last_wins};
 ghost use Rattle.plist.specs.Remaining.{remaining_events};
 ghost use Rattle.plist.specs.Views.{kind_of_tree, tree_of};
 
@@ -16,8 +21,10 @@ use crate::Dictionary;
 use crate::collect::collect;
 use crate::stream::{AnyEvent, Events};
 use crate::writing::file_of;
-use plist_base::{Date, Error, EventKind, Integer, RealBits, Uid};
+use plist_ascii::{AsciiReader, Bytes};
+use plist_base::{Date, Error, EventKind, Integer, RealBits, Source, Uid};
 use plist_binwrite::send_whole;
+use plist_reader::Reader;
 use std::alloc::Global;
 use std::io::Write;
 
@@ -71,12 +78,47 @@ impl Value {
     ) -> Result<Value, Error>
         requires asked { (iter : I.IntoIter) → I.into_iter_gives events iter → I.IntoIter.can_next iter × IsFinite (I.IntoIter.remaining iter) }
         ensures one_tree { (left right : Tree) → AreAlike (bracketing left) (bracketing right) → left ≡ right }
+        ensures last_values { (rows : Rows) → AreLastValues rows (last_values rows) }
         ensures value { (iter : I.IntoIter) × I.into_iter_gives events iter
             × Collects E.plain I.IntoIter.next_gives iter (built_tree result) }
         ensures shown { (iter : I.IntoIter) × I.into_iter_gives events iter
             × AnswersAsSeen E.plain I.IntoIter.next_gives iter (built_tree result) }
     {
         collect(alloc, events.into_iter())
+    }
+
+    /// The value of a source, binary or in ASCII as [`Reader`] chooses. A key that comes again keeps
+    /// its first place and takes its last value. A binary file that is written of a value gives that
+    /// value, in order.
+    ///
+    /// # Errors
+    ///
+    /// - The first fault of the source's items: those of [`Reader`].
+    /// - `UnexpectedEventType` for an event that can't come next, and `ExpectedEndOfEventStream`
+    ///   for one behind a whole value.
+    /// - `UnexpectedEndOfEventStream` if the items end before the value does.
+    /// - `OutOfMemory`.
+    pub fn from_reader<R: Source>(alloc: Global, source: R) -> Result<Value, Error>
+        ensures value { IfSome (R.known source) (λ bytes.
+            IsReadFrom (items_of_input bytes) (built_tree result)) }
+        ensures reads_back { IfSome (R.known source) (λ bytes. ReadsBack bytes (built_tree result)) }
+    {
+        collect(alloc, Reader::new(alloc, source))
+    }
+
+    /// The value of an ASCII property list, by the rules of [`Value::from_reader`]. Bytes past the
+    /// first 2^64 - 1 aren't read.
+    ///
+    /// It asks the reader for one byte at a time: wrap a plain file in a buffer.
+    ///
+    /// # Errors
+    ///
+    /// Those of [`Value::from_reader`], with the faults of [`AsciiReader`].
+    pub fn from_reader_ascii<R: Bytes + Drop>(alloc: Global, reader: R) -> Result<Value, Error>
+        ensures value { IfSome (R.remaining reader) (λ bytes.
+            IsReadFrom (items_of_ascii lax (front bytes) 0) (built_tree result)) }
+    {
+        collect(alloc, AsciiReader::new(alloc, reader))
     }
 
     /// Writes the value as a binary property list, behind what was written before, and flushes.

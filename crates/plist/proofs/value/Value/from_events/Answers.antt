@@ -1,4 +1,5 @@
 use Rattle.plist.specs.OneTree.{one_tree}
+use Rattle.plist.proofs.LastOnes.{are-last-values}
 use Rattle.plist.proofs.value.Value.from_events.Goals as goal
 
 pub returns-clause-one_tree : goal.returns-clause-one_tree
@@ -9,3 +10,6 @@ returns-clause-value g c = (c.into_iter.result, c.into_iter.ensures.into_iter_gi
 
 pub returns-clause-shown : goal.returns-clause-shown
 returns-clause-shown g c = (c.into_iter.result, c.into_iter.ensures.into_iter_gives, c.collect.ensures.shown)
+
+pub returns-clause-last_values : goal.returns-clause-last_values
+returns-clause-last_values g c = are-last-values

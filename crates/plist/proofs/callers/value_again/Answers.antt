@@ -1,0 +1,18 @@
+use Rattle.std.proofs.Common.{Ok, map, ap, ◌∙◌}
+use Rattle.plist.specs.Collecting.{built_tree}
+use Rattle.plist.specs.Remaining.{remaining_events}
+use Rattle.plist.specs.Views.{tree_of}
+use Rattle.plist.proofs.Inputs.{back}
+use Rattle.plist.proofs.Itself.{itself}
+use Rattle.plist.proofs.Shown.{events_coming, events-show}
+use Rattle.plist.proofs.callers.value_again.Goals as goal
+
+pub returns : goal.returns
+returns c =
+    let (iter, is, seen) = c.from_events.ensures.shown in
+    let value = c.args.value.now in
+    record {
+      value = back (tree_of value) (map Ok (remaining_events iter)) (built_tree c.from_events.result) (itself value)
+          (ap (λ e. map Ok (remaining_events e)) is ∙ ap (map Ok) c.events.ensures.items)
+          (seen events_coming (λ old item new gives. events-show old new item gives));
+    }
