@@ -23,4 +23,6 @@ mod support;
 #[cfg(test)]
 mod values;
 #[cfg(test)]
+mod whole;
+#[cfg(test)]
 mod writing;

@@ -2,7 +2,7 @@
 
 use crate::support::{
     Device, Fault, event_of, expect_answers, expect_io, file, file_of, file_of_object, front, must,
-    text_of, words_of,
+    text_of, words_of, words_of_value,
 };
 use plist::{Builder, Value};
 use plist_base::{Error, Writer};
@@ -49,9 +49,12 @@ fn expect(rt: &(impl Abort + AllocGlobal), name: &str, words: &str, bytes: &[u8]
     assert_eq!(rt; read.as_str(), words, "{name}");
 }
 
-// So does the value.
+// So does the value, and the file the value.
 fn expect_value(rt: &(impl Abort + AllocGlobal), name: &str, words: &str, bytes: &[u8]) {
     expect(rt, name, words, bytes);
+    let read = Value::from_events(rt.alloc(), BinaryReader::new(rt.alloc(), bytes));
+    let again = words_of_value(rt, &must(rt, read));
+    assert_eq!(rt; again.as_str(), words, "the value: {name}");
     assert_eq!(rt;
         written_value(rt, words).as_slice(),
         bytes,

@@ -1,0 +1,183 @@
+//! The whole way: what is read of either format, the value of it, and the file of that.
+
+use crate::support::{
+    Device, Fault, bytes_of, expect_cut, expect_io, expect_value, file, must, words_of,
+};
+use plist::Value;
+use plist_base::{Error, OwnedEvent};
+use plist_reader::Reader;
+use std::io::ErrorKind;
+use std::process::Abort;
+
+// The items of these bytes.
+fn expect(rt: &(impl Abort + AllocGlobal), bytes: &[u8], items: &str) {
+    let found = words_of(rt, Reader::new(rt.alloc(), bytes));
+    assert_eq!(rt; found.as_str(), items);
+}
+
+#[test]
+fn ascii_is_chosen(rt: HostRuntime) {
+    expect(&rt, b"", "");
+    expect(&rt, b"{}", "{ end");
+    expect(&rt, b"\xef\xbb\xbf{}", "'\u{feff}{}'");
+    expect(&rt, b"bplist0", "'bplist0'");
+    expect(&rt, b"bplist01", "'bplist01'");
+    expect(&rt, b"\x0b<", "'\u{b}<'");
+}
+
+#[test]
+fn binary_is_chosen(rt: HostRuntime) {
+    expect(&rt, b"bplist00", "UnexpectedEof (offset 8)");
+    let bytes = file(&rt, "09 08", [1, 1], [1, 0, 9]);
+    expect(&rt, bytes.as_slice(), "true");
+}
+
+#[test]
+fn xml_is_refused(rt: HostRuntime) {
+    expect(&rt, b"<plist/>", "XmlUnsupported (offset 0)");
+    expect(&rt, b" <plist/>", "XmlUnsupported (offset 1)");
+    expect(&rt, b"\xef\xbb\xbf<", "XmlUnsupported (offset 3)");
+    expect(&rt, b"\x09\x0a\x0c\x0d\x20<", "XmlUnsupported (offset 5)");
+}
+
+// The value of these bytes.
+fn value_of(rt: &(impl Abort + AllocGlobal), bytes: &[u8]) -> Result<Value, Error> {
+    Value::from_reader(rt.alloc(), bytes)
+}
+
+// The events of the value of these bytes, or its fault.
+fn expect_read(rt: &(impl Abort + AllocGlobal), bytes: &[u8], wanted: &str) {
+    expect_value(rt, value_of(rt, bytes), wanted);
+}
+
+#[test]
+fn values_of_bytes(rt: HostRuntime) {
+    expect_read(&rt, b"", "UnexpectedEndOfEventStream");
+    expect_read(&rt, b" <plist/>", "XmlUnsupported (offset 1)");
+    expect_read(&rt, b"(a)", "[1 'a' end");
+    expect_read(&rt, b"a b", "ExpectedEndOfEventStream { found: String }");
+    let shared = file(
+        &rt,
+        "d201020301 5161 5162 a104 5178 080d0f1113",
+        [1, 1],
+        [5, 0, 21],
+    );
+    expect_read(&rt, shared.as_slice(), "{2 'a' [1 'x' end 'b' 'a' end");
+    let repeated = file(
+        &rt,
+        "d201010203 516b 1001 1002 080d0f11",
+        [1, 1],
+        [4, 0, 19],
+    );
+    expect_read(&rt, repeated.as_slice(), "{1 'k' 2 end");
+    let number = file(&rt, "d10101 1005 080b", [1, 1], [2, 0, 13]);
+    expect_read(
+        &rt,
+        number.as_slice(),
+        "UnexpectedEventType { expected: DictionaryKeyOrEndCollection, found: Integer }",
+    );
+}
+
+// What is binary for another reader is text for this one.
+#[test]
+fn values_of_ascii(rt: HostRuntime) {
+    let value = Value::from_reader_ascii(rt.alloc(), b"(a)".as_slice());
+    expect_value(&rt, value, "[1 'a' end");
+    let value = Value::from_reader_ascii(rt.alloc(), b"bplist00".as_slice());
+    expect_value(&rt, value, "'bplist00'");
+    let value = Value::from_reader_ascii(rt.alloc(), b"".as_slice());
+    expect_value(&rt, value, "UnexpectedEndOfEventStream");
+}
+
+// The value of these bytes is written as this file.
+fn expect_file(rt: &(impl Abort + AllocGlobal), bytes: &[u8], wanted: &[u8]) {
+    let value = must(rt, value_of(rt, bytes));
+    let mut found = Vec::new(rt.alloc());
+    must(rt, value.to_writer_binary(rt.alloc(), &mut found));
+    assert_eq!(rt; found.as_slice(), wanted);
+}
+
+#[test]
+fn ascii_is_converted(rt: HostRuntime) {
+    let file = bytes_of(
+        &rt,
+        "62706c6973743030 d201020304 546e616d65 53616765 554a616d6573 102a 080d12161c \
+         000000000000 01 01 0000000000000005 0000000000000000 000000000000001e",
+    );
+    assert_eq!(rt; file.len(), 67);
+    expect_file(&rt, b"{ name = James, age = 42 }", file.as_slice());
+    expect_file(&rt, file.as_slice(), file.as_slice());
+}
+
+// Over a device that fails at this call the items are a beginning of the whole's, then `Io` with the
+// place of that read, then nothing. Tells whether it failed.
+fn expect_failure(rt: &(impl Abort + AllocGlobal), bytes: &[u8], whole: &str, call: u64) -> bool {
+    let mut device = Device::new(must(rt, Vec::from_slice(rt.alloc(), bytes)), call);
+    let found = words_of(rt, Reader::new(rt.alloc(), &mut device));
+    if device.failures == 0 {
+        assert_eq!(rt; found.as_str(), whole);
+        return false;
+    }
+    expect_cut(rt, &device, found.as_str(), whole);
+    true
+}
+
+// It fails at each call up to the one that is never made, which comes after this many.
+fn expect_failures(rt: &(impl Abort + AllocGlobal), bytes: &[u8], whole: &str, calls: u64) {
+    for call in 0..1000 {
+        if !expect_failure(rt, bytes, whole, call) {
+            assert!(rt; call > calls, "a failure at call {call} was lost");
+            return;
+        }
+    }
+    panic!(rt; "the device never stopped failing")
+}
+
+#[test]
+fn failing_devices(rt: HostRuntime) {
+    let shared = file(
+        &rt,
+        "d201020301 5161 5162 a104 5178 080d0f1113",
+        [1, 1],
+        [5, 0, 21],
+    );
+    let items = "{2 'a' [1 'x' end 'b' 'a' end";
+    expect_failures(&rt, shared.as_slice(), items, 50);
+    expect_failures(&rt, b" { a = (b, 5); }", "{ 'a' [ 'b' 5 end end", 16);
+    expect_failures(&rt, b"\t <plist/>", "XmlUnsupported (offset 2)", 2);
+}
+
+// The only item, if there is one.
+fn only_item(
+    rt: &(impl Abort + AllocGlobal),
+    device: &mut Device,
+) -> Option<Result<OwnedEvent, Error>> {
+    let mut reader = Reader::new(rt.alloc(), device);
+    let first = reader.next();
+    for _ in 0..3 {
+        assert!(rt; reader.next().is_none());
+    }
+    first
+}
+
+// A device's own error is handed on, and what failed isn't tried again.
+fn expect_handed_on(rt: &(impl Abort + AllocGlobal), bytes: &[u8], call: u64) {
+    let bytes = must(rt, Vec::from_slice(rt.alloc(), bytes));
+    let mut device = Device::with_fault(bytes, call, Fault::Fails(ErrorKind::TimedOut));
+    match only_item(rt, &mut device) {
+        Some(item) => expect_io(rt, item, ErrorKind::TimedOut, Some(device.place)),
+        None => panic!(rt; "no item"),
+    }
+    assert_eq!(rt; device.calls, call.saturating_add(1));
+}
+
+#[test]
+fn errors_of_devices(rt: HostRuntime) {
+    expect_handed_on(&rt, b"bplist00", 0);
+    expect_handed_on(&rt, b"bplist00", 3);
+    let truth = file(&rt, "09 08", [1, 1], [1, 0, 9]);
+    expect_handed_on(&rt, truth.as_slice(), 12);
+    expect_handed_on(&rt, b"  'a'", 0);
+    expect_handed_on(&rt, b"  'a'", 3);
+    expect_handed_on(&rt, b" <plist/>", 9);
+}
