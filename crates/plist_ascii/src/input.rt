@@ -1,6 +1,6 @@
 //! Bytes that are taken one by one, with one byte looked at ahead.
 
-ghost use Rattle.std.specs.Prelude.{◌≡◌, ◌⊎◌, ℕ, ◌+◌, ◌-◌, ◌^◌, ◌<◌, ◌≤◌, List, [], ◌∷◌, drop, None, Some, Ok, true, false, IfOk, IfSome, IfErr, OnOk, IsSome, MatchOption};
+ghost use Rattle.std.specs.Prelude.{◌≡◌, ◌⊎◌, ℕ, ◌+◌, ◌-◌, ◌^◌, ◌<◌, List, [], ◌∷◌, drop, None, Some, Ok, true, false, IfOk, IfSome, IfErr, OnOk, IsSome, MatchOption};
 ghost use Rattle.plist_base.specs.Faults.{Io, UnclosedString, fault_of, fault_at, kind_of, error_kind_of};
 ghost use Rattle.plist_ascii.specs.Taken.{run};
 ghost use Rattle.plist_ascii.specs.Incoming.{AnswersIo};

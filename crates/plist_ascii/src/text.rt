@@ -1,6 +1,6 @@
 //! Bare texts, and what texts mean.
 
-ghost use Rattle.std.specs.Prelude.{◌≡◌, ◌+◌, ◌≤◌, [], ◌∷◌, ◌++◌, take, drop, None, Some, Ok, Err, true, false, IfOk, IfErr, OnOk, string_bytes};
+ghost use Rattle.std.specs.Prelude.{◌≡◌, ◌+◌, ◌≤◌, [], ◌∷◌, ◌++◌, take, drop, Some, Ok, Err, true, false, IfOk, IfErr, OnOk, string_bytes};
 ghost use Rattle.std.specs.Str.{is_utf8};
 ghost use Rattle.plist_base.specs.Faults.{OutOfMemory, InvalidUtf8AsciiStream, fault_of, fault_nowhere, kind_of, error_kind_of};
 ghost use Rattle.plist_base.specs.Events.{event_of};

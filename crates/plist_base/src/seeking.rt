@@ -1,7 +1,7 @@
 //! A source over a reader that can seek.
 
-ghost use Rattle.std.specs.Prelude.{◌≡◌, ℕ, ◌-◌, ◌%◌, ◌≤◌, ◌<◌, length, take, None, IfOk, OnErr, Result};
-ghost use Rattle.plist_base.specs.Sources.{Rises, CountsFailure, GivesAt};
+ghost use Rattle.std.specs.Prelude.{◌≡◌, ◌-◌, ◌%◌, ◌≤◌, ◌<◌, length, take, None, IfOk, OnErr, Result};
+ghost use Rattle.plist_base.specs.Sources.{CountsFailure, GivesAt};
 
 use crate::source::{Source, copy_at};
 use std::io;

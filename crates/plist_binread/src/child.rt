@@ -1,6 +1,6 @@
 //! The reference of one child, read from the bytes of its collection.
 
-ghost use Rattle.std.specs.Prelude.{◌≡◌, ℕ, ◌*◌, ◌<◌, ◌≤◌, length, take, drop, IfSome};
+ghost use Rattle.std.specs.Prelude.{◌≡◌, ◌*◌, ◌<◌, ◌≤◌, length, take, drop, IfSome};
 ghost use Rattle.plist_base.specs.Sources.{AnswersIo};
 ghost use Rattle.plist_binread.specs.Container.{numbers_of};
 ghost use Rattle.plist_binread.specs.Object.{Array, dictionary, length_in, meaning_counted, layout_of, object_behind, object_in};

@@ -1,6 +1,6 @@
 //! The collections that are open, and the walk from one item to the next.
 
-ghost use Rattle.std.specs.Prelude.{◌≡◌, ℕ, ◌+◌, ◌-◌, ◌^◌, ◌<◌, ◌≤◌, List, [], ◌∷◌, ◌++◌, length, get_or, reverse, true, false, Ok, Err, IfOk, IfErr, OnOk, OnErr, IfSome, MatchResult, Some, ⊤};
+ghost use Rattle.std.specs.Prelude.{◌≡◌, ℕ, ◌+◌, ◌-◌, ◌^◌, ◌<◌, List, [], ◌∷◌, ◌++◌, length, get_or, reverse, true, false, Ok, Err, IfOk, IfErr, OnOk, OnErr, IfSome, Some, ⊤};
 ghost use Rattle.std.specs.List.{slice_get};
 ghost use Rattle.plist_base.specs.declared.event.Event.TheVariants.{EndCollection};
 ghost use Rattle.plist_base.specs.Events.{event_of};

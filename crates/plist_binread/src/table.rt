@@ -1,6 +1,6 @@
 //! The object table.
 
-ghost use Rattle.std.specs.Prelude.{◌≡◌, ℕ, ◌^◌, ◌<◌, ◌≤◌, length, IfOk, IfErr, IfSome};
+ghost use Rattle.std.specs.Prelude.{◌≡◌, ◌^◌, ◌<◌, ◌≤◌, length, IfOk, IfErr, IfSome};
 ghost use Rattle.plist_base.specs.Faults.{Io, fault_of, fault_at};
 ghost use Rattle.plist_base.specs.Sources.{AnswersIo};
 
@@ -67,7 +67,7 @@ fn read_size<S: Source>(source: &mut S) -> Result<u64, Error>
 }
 
 impl Table {
-    ghost use Rattle.std.specs.Prelude.{◌≡◌, ◌+◌, ◌-◌, ◌*◌, ◌^◌, ◌<◌, ◌≤◌, ℕ, [], length, drop, Ok, Err, IfOk, IfErr, IfSome, MatchResult, ⊤};
+    ghost use Rattle.std.specs.Prelude.{◌≡◌, ◌+◌, ◌-◌, ◌^◌, ◌<◌, ◌≤◌, length, drop, Ok, Err, IfOk, IfErr, IfSome, ⊤};
     ghost use Rattle.plist_base.specs.Faults.{MatchFault, kind_of, error_kind_of, fault_of};
     ghost use Rattle.plist_base.specs.Sources.{AnswersIo};
     ghost use Rattle.plist_binread.specs.Failures.{ErrWithin};

@@ -3,9 +3,7 @@
 //! Each function appends its bytes to a list. The one refusal is `OutOfMemory`, without an offset;
 //! a beginning of the bytes may then stand in the list.
 
-ghost use Rattle.std.specs.Prelude.{◌≡◌, ◌++◌, ◌∷◌, [], ◌≤◌, ◌<◌, ◌^◌, length, IfErr, OnOk};
-ghost use Rattle.plist_base.specs.Events as events;
-ghost use Rattle.plist_base.specs.Events.{event_of};
+ghost use Rattle.std.specs.Prelude.{◌≡◌, ◌++◌, ◌∷◌, [], ◌≤◌, ◌<◌, ◌^◌, IfErr, OnOk};
 ghost use Rattle.plist_base.specs.Faults.{OutOfMemory, fault_of, fault_nowhere};
 ghost use Rattle.plist_binwrite.specs.Forms.{IsDateBytes, IsInteger, IsReal, big_endian, doublings, least_width, natural_form, integer_form, uid_form, length_form, boolean_form, data_form, date_form, real_form, table_form, trailer_form};
 

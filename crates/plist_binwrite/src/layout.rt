@@ -1,6 +1,6 @@
 //! The objects of a file, one behind the other.
 
-ghost use Rattle.std.specs.Prelude.{◌≡◌, ◌≢◌, ◌+◌, ◌^◌, ◌<◌, ◌≤◌, ◌++◌, ◌∷◌, ℕ, length, map, get_or, true, false, IfOk, IfErr, OnOk};
+ghost use Rattle.std.specs.Prelude.{◌≡◌, ◌≢◌, ◌+◌, ◌^◌, ◌<◌, ◌≤◌, ◌++◌, ℕ, length, map, get_or, false, IfOk, IfErr, OnOk};
 ghost use Rattle.plist_base.specs.Faults.{OutOfMemory, fault_of, fault_nowhere};
 ghost use Rattle.plist_binread.specs.Object.{Object};
 ghost use Rattle.plist_binwrite.specs.Forms.{form, IsWritable, length_form, table_form};
@@ -11,7 +11,7 @@ ghost use Rattle.plist_binwrite.specs.Sizes.{file_size};
 ghost use Rattle.plist_binwrite.specs.Laying.{IsLaid, Lays};
 
 use crate::children::children;
-use crate::forms::{push_byte, push_bytes, push_length, push_number};
+use crate::forms::{push_bytes, push_length, push_number};
 use crate::kinds::{Kind, has_item, kind_at};
 use crate::scalar::push_scalar;
 use plist_base::{Error, OwnedEvent};

@@ -1,6 +1,6 @@
 //! The bytes of texts: ASCII, or UTF-16.
 
-ghost use Rattle.std.specs.Prelude.{◌≡◌, ◌++◌, ◌+◌, ◌≤◌, ◌<◌, ◌^◌, length, IfErr, OnOk, true};
+ghost use Rattle.std.specs.Prelude.{◌≡◌, ◌++◌, ◌+◌, ◌<◌, length, IfErr, OnOk};
 ghost use Rattle.std.specs.List.{flat_map};
 ghost use Rattle.std.specs.Char.Escape.{encode_utf16};
 ghost use Rattle.plist_base.specs.Faults.{OutOfMemory, fault_of, fault_nowhere};

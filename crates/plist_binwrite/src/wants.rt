@@ -1,6 +1,6 @@
 //! What has to come next, as a stack beside the held events.
 
-ghost use Rattle.std.specs.Prelude.{◌≡◌, ◌<◌, reverse, vec_len, vec_capacity};
+ghost use Rattle.std.specs.Prelude.{◌≡◌, ◌<◌, vec_len, vec_capacity};
 ghost use Rattle.plist_base.specs.Events.{event_of};
 ghost use Rattle.plist_binwrite.specs.Stacks.{change_seen, want_seen, change_on_top, Puts, stack_of};
 ghost use Rattle.plist_base.specs.Wants.{change_of};

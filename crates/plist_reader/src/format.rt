@@ -1,6 +1,6 @@
 //! Which format some bytes have.
 
-ghost use Rattle.std.specs.Prelude.{◌≡◌, ℕ, ◌+◌, ◌-◌, ◌^◌, ◌<◌, ◌≤◌, nat_eq, take, slice_get, IfOk, IfErr, IfSome};
+ghost use Rattle.std.specs.Prelude.{◌≡◌, ◌+◌, ◌-◌, ◌<◌, nat_eq, slice_get, IfOk, IfErr, IfSome};
 ghost use Rattle.std.specs.List.{starts_with};
 ghost use Rattle.plist_base.specs.Faults.{IsIo, Io, fault_at, fault_of, kind_of, error_kind_of, offset_of};
 ghost use Rattle.plist_base.specs.Sources.{AnswersIo};

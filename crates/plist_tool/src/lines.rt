@@ -1,6 +1,6 @@
 //! The line of each event.
 
-ghost use Rattle.std.specs.Prelude.{◌≡◌, ◌∷◌, ◌++◌, ◌<◌, OnOk, codes};
+ghost use Rattle.std.specs.Prelude.{◌≡◌, ◌++◌, ◌<◌, OnOk};
 ghost use Rattle.std.specs.Fmt.{signed_decimal};
 ghost use Rattle.plist_base.specs.Events.{event_of};
 ghost use Rattle.plist_tool.specs.Lines.{hexadecimal, hexadecimal_digit, text_of_byte, text_of_bytes, text_of_data, text_of_date, text_of_real, text_of_start, words_of, line_of};

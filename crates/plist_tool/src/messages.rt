@@ -1,6 +1,6 @@
 //! What the program says beside its output.
 
-ghost use Rattle.std.specs.Prelude.{◌≡◌, Bool, is_ok};
+ghost use Rattle.std.specs.Prelude.{Bool, is_ok};
 ghost use Rattle.plist_tool.specs.Messages.{Said, said_of, TakesMessage};
 
 use crate::send::send;

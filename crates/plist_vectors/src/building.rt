@@ -2,7 +2,7 @@
 
 use crate::support::{event_of, expect_answers, expect_value, must, text_of, words_of_value};
 use plist::{Builder, Dictionary, Value, write_value};
-use plist_base::{Date, Error, ErrorKind, Event, Integer, RealBits, Uid, Writer};
+use plist_base::{Date, ErrorKind, Event, Integer, RealBits, Uid, Writer};
 use std::borrow::{CowSlice, CowStr};
 use std::process::Abort;
 
