@@ -7,7 +7,7 @@ use Rattle.plist_base.specs.Events.{Item, event_of}
 use Rattle.plist_ascii.specs.declared.reader.AsciiReader.{AsciiReader}
 use Rattle.plist_ascii.specs.Texts.{lax}
 use Rattle.plist_ascii.specs.Ascii.{placed, placed_items, items_of_ascii, BeginsWithText}
-use Rattle.plist_ascii.specs.Kinds.{IsAsciiItem}
+use Rattle.plist_ascii.specs.Kinds.{IsAsciiItem, ItemBehindBracket}
 use Rattle.plist_ascii.specs.Incoming.{ItemCountsIo}
 use Rattle.plist_ascii.specs.Unread.{unread, Known, IsAt}
 
@@ -61,12 +61,13 @@ abbrev pub EndsAfter : Option (Result Event Error) → Type 0 → Type 0
 EndsAfter item ended = MatchOption item ended (λ answer. MatchResult answer (λ _. ⊤) (λ error. MatchFault (kind_of (error_kind_of error)) ended ended ⊤))
 
 -- one call of `next`: the item is the first of those that the bytes not yet taken give; once ended,
--- the reader inside is asked no more
+-- the reader inside is asked no more, and behind a start or an end no byte has been looked at
 pub record Gives {R : Type 0} (known : R → Option (List ℕ)) (failed : R → Option ℕ) (old : AsciiReader R) (item : Option (Result Event Error)) (new : AsciiReader R) : Type 0 where
   pub items : Known (bytes_left known old) (λ bytes. (rest : List ℕ) × (bytes_left known new ≡ Some rest) × GivesItem lax bytes (place_of old) item rest (place_of new))
   pub rises : Rises item (place_of old) (place_of new)
   pub offset : FaultIsAt item (place_of new)
   pub kinds : IsAsciiItem item
+  pub brackets : ItemBehindBracket item (looked_at new ≡ None)
   pub failures : ItemCountsIo item (failed (inner_of old)) (failed (inner_of new))
   pub ended : HasEnded old → item ≡ None
   pub unasked : HasEnded old → inner_of new ≡ inner_of old

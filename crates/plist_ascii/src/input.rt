@@ -142,6 +142,7 @@ impl<R: Bytes> Input<R> {
         requires room { self.old.taken < 2 ^ 64 - 1 }
         ensures next { Known (unread R.remaining self.old) (λ xs.
             unread R.remaining self.new ≡ Some (drop 1 xs)) }
+        ensures looked { self.new.peeked ≡ None }
         ensures place { self.new.taken ≡ self.old.taken + 1 }
         ensures inner { self.new.inner ≡ self.old.inner }
     {
@@ -179,6 +180,7 @@ impl<R: Bytes> Input<R> {
     pub fn take(&mut self) -> Result<Option<u8>, Error>
         ensures some { IfOk result (λ o. IfSome o (λ c.
             Takes (unread R.remaining self.old) c (unread R.remaining self.new))) }
+        ensures looked { IfOk result (λ o. IfSome o (λ _. self.new.peeked ≡ None)) }
         ensures none { IfOk result (λ o. o ≡ None → Known (unread R.remaining self.old) (λ xs.
             (unread R.remaining self.new ≡ Some xs) × (xs ≡ []))) }
         ensures err { IfErr result (λ e. fault_of e ≡ fault_at Io self.new.taken) }

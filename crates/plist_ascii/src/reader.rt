@@ -2,7 +2,7 @@
 
 ghost use Rattle.std.specs.Prelude.{◌≡◌, ℕ, ◌-◌, ◌^◌, ◌<◌, List, take, None, Some, true, IfSome};
 ghost use Rattle.plist_base.specs.Faults.{kind_of, error_kind_of};
-ghost use Rattle.plist_ascii.specs.Kinds.{IsAsciiItem};
+ghost use Rattle.plist_ascii.specs.Kinds.{IsAsciiItem, ItemBehindBracket};
 ghost use Rattle.plist_ascii.specs.Incoming.{ItemCountsIo};
 ghost use Rattle.plist_ascii.specs.Unread.{unread, Known, stops, is_from_outside};
 ghost use Rattle.plist_ascii.specs.Coming.{GivesItem, Rises, FaultIsAt, EndsAfter, bytes_to_come};
@@ -28,6 +28,7 @@ impl<R: Bytes> Input<R> {
         ensures rises { Rises result self.old.taken self.new.taken }
         ensures offset { FaultIsAt result self.new.taken }
         ensures kinds { IsAsciiItem result }
+        ensures brackets { ItemBehindBracket result (self.new.peeked ≡ None) }
         ensures ended { self.old.ended ≡ true → result ≡ None }
         ensures unasked { self.old.ended ≡ true → self.new.inner ≡ self.old.inner }
         ensures ends { EndsAfter result (self.new.ended ≡ true) }

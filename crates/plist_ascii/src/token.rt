@@ -1,12 +1,12 @@
 //! Tokens.
 
-ghost use Rattle.std.specs.Prelude.{◌≡◌, Some, IfOk, IfSome, IfErr};
+ghost use Rattle.std.specs.Prelude.{◌≡◌, None, Some, IfOk, IfSome, IfErr};
 ghost use Rattle.std.specs.Option.{option_map};
 ghost use Rattle.plist_base.specs.Faults.{OutOfMemory, kind_of, error_kind_of};
 ghost use Rattle.plist_base.specs.Events.{event_of};
 ghost use Rattle.plist_ascii.specs.Comments.{slash};
 ghost use Rattle.plist_ascii.specs.Ascii.{lead_of, token_by, WantsMemory};
-ghost use Rattle.plist_ascii.specs.Kinds.{IsTextEvent, IsAsciiEvent};
+ghost use Rattle.plist_ascii.specs.Kinds.{IsTextEvent, IsAsciiEvent, BehindBracket};
 ghost use Rattle.plist_ascii.specs.Incoming.{AnswersIo};
 ghost use Rattle.plist_ascii.specs.Unread.{unread, Known, stops, Answers};
 
@@ -92,6 +92,8 @@ impl<R: Bytes> Input<R> {
             Known (unread R.remaining self.old) (λ xs.
             WantsMemory (token_by (stops stop) (lead_of byte) byte xs).gives)) }
         ensures kinds { IfOk result (λ event. IfSome event (λ e. IsAsciiEvent (event_of e))) }
+        ensures brackets { self.old.peeked ≡ None → IfOk result (λ event. IfSome event (λ e.
+            BehindBracket (event_of e) (self.new.peeked ≡ None))) }
         ensures failures { AnswersIo result
             (R.failures self.old.inner) (R.failures self.new.inner) }
     {
