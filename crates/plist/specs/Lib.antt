@@ -18,3 +18,4 @@ pub mod ReadingBack
 pub mod Handing
 pub mod Sent
 pub mod Stored
+pub mod ReadBy

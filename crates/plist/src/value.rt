@@ -7,6 +7,7 @@ ghost use Rattle.plist_base.specs.Writing.{answer_of};
 ghost use Rattle.plist.specs.Sent.{SendsTree};
 ghost use Rattle.plist.specs.Collecting.{Collects, built_tree};
 ghost use Rattle.plist.specs.Inputs.{AnswersAsSeen, IsReadFrom};
+ghost use Rattle.plist.specs.ReadBy.{IsReadBy};
 ghost use Rattle.plist.specs.ReadingBack.{ReadsBack};
 ghost use Rattle.plist_base.specs.Events.{event_of};
 ghost use Rattle.plist_ascii.specs.Ascii.{items_of_ascii};
@@ -105,6 +106,7 @@ impl Value {
     pub fn from_reader<R: Source>(alloc: Global, source: R) -> Result<Value, Error>
         ensures value { IfSome (R.known source) (λ bytes.
             IsReadFrom (items_of_input bytes) (built_tree result)) }
+        ensures read { IsReadBy R.known R.failures source (built_tree result) }
         ensures reads_back { IfSome (R.known source)
             (λ bytes. ReadsBack bytes (built_tree result)) }
     {
