@@ -337,6 +337,13 @@ mod tests {
         assert_missing(&rt, "plist_tool_of_xml")
     }
 
+    // It takes no byte.
+    #[test]
+    fn a_full_device(rt: HostRuntime) -> Result<(), Fail> {
+        put(&rt, "plist_tool_for_full", SETTINGS)?;
+        assert_convert(&rt, "plist_tool_for_full", "/dev/full", b"Error: Io\n")
+    }
+
     #[test]
     fn files_that_cannot_be_opened(rt: HostRuntime) -> Result<(), Fail> {
         remove(&rt, "plist_tool_of_none")?;
