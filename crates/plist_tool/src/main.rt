@@ -1,4 +1,5 @@
-//! `plist_tool print FILE` prints the events of a binary property list, each on a line of its own.
+//! `plist_tool print FILE` prints the events of a binary property list, each on a line of its own;
+//! `plist_tool convert IN OUT` writes a property list of either format as a binary one.
 #![tactic(auto)]
 
 ghost use Rattle.std.specs.Prelude.{◌≡◌, ◌≤◌, Bool, IfOk, IfErr, MatchResult};
