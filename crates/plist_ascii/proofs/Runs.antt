@@ -1,5 +1,8 @@
--- A run of bytes that is taken one by one.
-use Rattle.std.proofs.Common.{◌≡◌, ℕ, suc, ◌+◌, Bool, false, List, [], ◌∷◌, ◌++◌, take, drop, refl, sym, ap, ◌∙◌, arith, append_assoc, append-nil}
+-- A run of bytes that is taken one by one, or several in one go.
+use Rattle.std.proofs.Common.{◌≡◌, ℕ, suc, ◌+◌, Bool, false, cond, List, [], ◌∷◌, ◌++◌, length, take, drop, refl, sym, ap, ◌∙◌, arith, append_assoc, append-nil}
+use Rattle.std.proofs.lemmas.Bool.{eq-eqb}
+use Rattle.std.proofs.lemmas.List.Folds.{prefix_len-append}
+use Rattle.std.proofs.Math.Seq.{take-append-add, drop-append-add}
 use Rattle.plist_ascii.specs.Taken.{run}
 
 -- from xs, text and place p on the run goes on as from ys, more and q on
@@ -24,6 +27,22 @@ runs_step stop xs text p ys zs more longer q r c on e h l s =
       text = ap (λ z. z ++ take (run stop zs) zs) l ∙ append_assoc more (c ∷ []) (take (run stop zs) zs) ∙ ap (λ z. more ++ z) (sym front) ∙ on.text;
       rest = sym back ∙ on.rest;
       place = let place : q + run stop ys ≡ p + run stop xs = on.place in omega arith;
+    }
+
+-- no stop is among the first bytes
+run_behind : (stop : ℕ → Bool) (part zs : List ℕ) → run stop part ≡ length part → run stop (part ++ zs) ≡ length part + run stop zs
+run_behind stop part zs h = prefix_len-append _ part zs ∙ ap (λ b. cond b (length part + run stop zs) (run stop part)) (eq-eqb (run stop part) (length part) h)
+
+pub runs_part : (stop : ℕ → Bool) (xs text : List ℕ) (p : ℕ) (ys part zs more longer : List ℕ) (q r : ℕ) → RunsOn stop xs text p ys more q
+    → ys ≡ part ++ zs → run stop part ≡ length part → longer ≡ more ++ part → r ≡ q + length part → RunsOn stop xs text p zs longer r
+runs_part stop xs text p ys part zs more longer q r on e h l s =
+    let n : run stop ys ≡ length part + run stop zs = rw e (run_behind stop part zs h) in
+    let front : take (run stop ys) ys ≡ part ++ take (run stop zs) zs = rw n (rw e (take-append-add part zs (run stop zs))) in
+    let back : drop (run stop ys) ys ≡ drop (run stop zs) zs = rw n (rw e (drop-append-add part zs (run stop zs))) in
+    record {
+      text = ap (λ z. z ++ take (run stop zs) zs) l ∙ append_assoc more part (take (run stop zs) zs) ∙ ap (λ z. more ++ z) (sym front) ∙ on.text;
+      rest = sym back ∙ on.rest;
+      place = let place : q + run stop ys ≡ p + run stop xs = on.place in omega (arith, n, s, place);
     }
 
 -- at a stop

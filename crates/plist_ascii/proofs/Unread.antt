@@ -1,7 +1,9 @@
 -- What looking at a byte and taking it do to the bytes that are left.
-use Rattle.std.proofs.Common.{◌≡◌, ℕ, zero, suc, ◌+◌, ◌-◌, ◌^◌, ◌<◌, Bool, true, false, List, [], ◌∷◌, take, drop, Option, None, Some, refl, sym, ap, ◌∙◌, arith}
+use Rattle.std.proofs.Common.{◌≡◌, ℕ, zero, suc, ◌+◌, ◌-◌, ◌^◌, ◌<◌, ◌≤◌, Bool, true, false, List, [], ◌∷◌, ◌++◌, length, take, drop, Option, None, Some, refl, sym, ap, ◌∙◌, arith}
 use Rattle.std.specs.Prelude.{is_some, IfSome}
 use Rattle.std.specs.Option.{option_map}
+use Rattle.std.specs.Io.KnownBytes.{Consumes}
+use Rattle.std.proofs.Math.Seq.{take-append-add}
 use Rattle.plist_ascii.specs.Incoming.{GivesByte}
 use Rattle.plist_ascii.specs.Taken.{run}
 use Rattle.plist_ascii.specs.Unread.{unread_of, first, within}
@@ -111,6 +113,25 @@ run_stop stop o b (c ∷ xs) e h t = let same : b ≡ c = cc in let stops : stop
 pub first_none : (o : Option ℕ) (xs : List ℕ) → o ≡ None → o ≡ first xs → xs ≡ []
 first_none o [] e h = refl
 first_none o (c ∷ xs) e h = cc
+
+-- several bytes at once
+
+known_behind : (k now : Option (List ℕ)) (t n : ℕ) (part xs : List ℕ) → length part ≡ n → t + n ≤ 2 ^ 64 - 1 → Consumes k now part → unread_of k false None t ≡ Some xs
+    → (ys : List ℕ) × (xs ≡ part ++ ys) × (unread_of now false None (t + n) ≡ Some ys)
+unfolding unread_of
+known_behind None now t n part xs l room c g = cc
+known_behind (Some a) None t n part xs l room c g = absurd c
+known_behind (Some a) (Some b) t n part xs l room c g =
+    let left : 2 ^ 64 - 1 - t ≡ length part + (2 ^ 64 - 1 - (t + n)) = omega (arith, l, room) in
+    let e : within None t a ≡ part ++ within None (t + n) b = rw c (rw left (take-append-add part b (2 ^ 64 - 1 - (t + n)))) in
+    let same : within None t a ≡ xs = cc in
+    (within None (t + n) b, sym same ∙ e, refl)
+
+pub part_unread : (k now : Option (List ℕ)) (e : Bool) (p : Option ℕ) (t n : ℕ) (part xs : List ℕ) → e ≡ false → is_some p ≡ false → length part ≡ n → t + n ≤ 2 ^ 64 - 1 → Consumes k now part
+    → unread_of k e p t ≡ Some xs → (ys : List ℕ) × (xs ≡ part ++ ys) × (unread_of now e p (t + n) ≡ Some ys)
+part_unread k now e (Some b) t n part xs h q l room c g = cc
+part_unread k now true None t n part xs h q l room c g = cc
+part_unread k now false None t n part xs h q l room c g = known_behind k now t n part xs l room c g
 
 -- what a reader has before its first byte
 pub new_unread : {R : Type 0} (known : R → Option (List ℕ)) (r inner : R) (e : Bool) (p : Option ℕ) (t : ℕ) → r ≡ inner → p ≡ None → t ≡ 0 → e ≡ false

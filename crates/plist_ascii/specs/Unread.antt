@@ -1,5 +1,5 @@
 -- The bytes that are still to be taken, and what taking a part of a token makes of them.
-use Rattle.std.specs.Prelude.{◌≡◌, ℕ, ◌+◌, ◌-◌, ◌^◌, ◌≤◌, Bool, true, false, ◌==◌, List, [], ◌∷◌, take, drop, Option, None, Some, Result, Ok, Err, MatchResult, slice_get}
+use Rattle.std.specs.Prelude.{◌≡◌, ℕ, ◌+◌, ◌-◌, ◌^◌, ◌≤◌, Bool, true, false, ◌==◌, List, [], ◌∷◌, ◌++◌, length, take, drop, Option, None, Some, Result, Ok, Err, MatchResult, slice_get}
 use Rattle.std.specs.List.{cons_option}
 use Rattle.std.specs.Option.{option_map}
 use Rattle.plist_base.specs.declared.error.Error.{Error}
@@ -11,7 +11,7 @@ use Rattle.plist_ascii.specs.Kinds.{IsFaultOfBytes, IsTextEvent}
 use Rattle.plist_ascii.specs.declared.input.Input.{Input}
 use Rattle.plist_ascii.specs.declared.input.Stop.{Stop}
 use Rattle.plist_ascii.specs.declared.input.Stop.TheVariants as stop
-use Rattle.plist_ascii.specs.Taken.{Taken}
+use Rattle.plist_ascii.specs.Taken.{Taken, run}
 use Rattle.plist_ascii.specs.Texts.{lax}
 use Rattle.plist_ascii.specs.Quoted.{ends_run}
 
@@ -55,6 +55,10 @@ IsAt fault place = MatchFault fault.kind (fault.offset ≡ Some place) (fault.of
 -- the first of the old bytes was taken
 abbrev pub Takes : Option (List ℕ) → ℕ → Option (List ℕ) → Type 0
 Takes old c new = Known old (λ bytes. (rest : List ℕ) × (bytes ≡ c ∷ rest) × (new ≡ Some rest))
+
+-- from place p to place q some of the first bytes were taken, which no stop is among, and stand behind the text
+abbrev pub TakesPart : (stops : ℕ → Bool) → (p : ℕ) → (text : List ℕ) → (new : Option (List ℕ)) → (q : ℕ) → (longer : List ℕ) → List ℕ → Type 0
+TakesPart stops p text new q longer bytes = (part : List ℕ) × (rest : List ℕ) × (bytes ≡ part ++ rest) × (run stops part ≡ length part) × (longer ≡ text ++ part) × (new ≡ Some rest) × (q ≡ p + length part)
 
 -- from place p to place q these bytes were taken, and gave this
 abbrev pub TakesFront : {A : Type 0} → Taken A → Result A FaultKind → (new : Option (List ℕ)) → (p q : ℕ) → List ℕ → Type 0

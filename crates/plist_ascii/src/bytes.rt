@@ -1,32 +1,49 @@
 //! Where the bytes come from.
 
-ghost use Rattle.std.specs.Prelude.{ℕ, List, Option, None, IfOk};
+ghost use Rattle.std.specs.Prelude.{◌≡◌, ◌≤◌, ℕ, List, [], length, take, Option, None, IfOk};
+ghost use Rattle.std.specs.Io.KnownBytes.{Consumes};
 ghost use Rattle.plist_ascii.specs.Incoming.{GivesByte, CountsFailure};
 
 use std::io;
 use std::io::Read;
 
-/// Bytes that come one by one.
+/// Bytes that come one by one, or several in one go where they are at hand.
 ///
-/// Every `Read` is one, which tells no failures; what counts its failures may be one too.
+/// Every `Read` is one, which tells no failures and has nothing at hand; what counts its failures
+/// may be one too.
 pub trait Bytes {
     /// The bytes that are still to come, where they are known.
     ghost remaining: { Self → Option (List ℕ) };
     /// How many reads failed, where that is told.
     ghost failures: { Self → Option ℕ };
+    /// The bytes that are at hand.
+    ghost held: { Self → List ℕ };
 
     /// The next byte, or `None` at the end.
     fn next_byte(&mut self) -> Result<Option<u8>, io::Error>
         ensures byte { IfOk result (λ byte.
             GivesByte (remaining self.old) byte (remaining self.new)) }
         ensures failures { CountsFailure result (failures self.old) (failures self.new) };
+
+    /// The bytes that are at hand: they are the next ones, and taking them reads nothing.
+    fn at_hand(&self) -> &[u8]
+        ensures { result.now ≡ held self.now };
+
+    /// Takes the first `count` of the bytes at hand.
+    fn pass(&mut self, count: usize)
+        requires within { count ≤ length (held self.old) }
+        ensures bytes { Consumes (remaining self.old) (remaining self.new)
+            (take count (held self.old)) }
+        ensures failures { failures self.new ≡ failures self.old };
 }
 
-/// No failures are told.
+/// No failures are told, and nothing is at hand.
 impl<R: Read> Bytes for R {
     ghost remaining = { R.remaining };
 
     ghost failures = { λ _. None };
+
+    ghost held = { λ _. [] };
 
     fn next_byte(&mut self) -> Result<Option<u8>, io::Error> {
         let mut buffer = [0u8; 1];
@@ -40,4 +57,10 @@ impl<R: Read> Bytes for R {
             Err(failure) => Err(failure),
         }
     }
+
+    fn at_hand(&self) -> &[u8] {
+        &[]
+    }
+
+    fn pass(&mut self, _count: usize) {}
 }

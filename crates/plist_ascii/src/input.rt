@@ -1,10 +1,11 @@
-//! Bytes that are taken one by one, with one byte looked at ahead.
+//! Bytes that are taken one by one, with one byte looked at ahead, or in one go where they are at
+//! hand.
 
-ghost use Rattle.std.specs.Prelude.{◌≡◌, ◌⊎◌, ℕ, ◌+◌, ◌-◌, ◌^◌, ◌<◌, List, [], ◌∷◌, drop, None, Some, Ok, true, false, IfOk, IfSome, IfErr, OnOk, IsSome, MatchOption};
-ghost use Rattle.plist_base.specs.Faults.{Io, UnclosedString, fault_of, fault_at, kind_of, error_kind_of};
+ghost use Rattle.std.specs.Prelude.{◌≡◌, ◌⊎◌, ℕ, ◌+◌, ◌-◌, ◌^◌, ◌<◌, ◌≤◌, List, [], ◌∷◌, length, take, drop, None, Some, Ok, true, false, IfOk, IfSome, IfErr, OnOk, IsSome, MatchOption};
+ghost use Rattle.plist_base.specs.Faults.{Io, OutOfMemory, UnclosedString, fault_of, fault_at, fault_nowhere, kind_of, error_kind_of};
 ghost use Rattle.plist_ascii.specs.Taken.{run};
 ghost use Rattle.plist_ascii.specs.Incoming.{AnswersIo};
-ghost use Rattle.plist_ascii.specs.Unread.{unread, Known, first, stops, Takes, IsAt, is_from_outside};
+ghost use Rattle.plist_ascii.specs.Unread.{unread, Known, first, stops, Takes, TakesPart, IsAt, is_from_outside};
 
 use crate::bytes::Bytes;
 use plist_base::{Error, ErrorKind};
@@ -31,7 +32,23 @@ pub fn is_stop(stop: Stop, byte: u8) -> bool
     }
 }
 
-/// Bytes that are taken one by one. At most one more has been read.
+// How many of the first `most` bytes stand before the first that ends the run.
+fn run_length(stop: Stop, bytes: &[u8], most: u64) -> usize
+    ensures within { result ≤ length bytes.now }
+    ensures most { result ≤ most }
+    ensures run { run (stops stop) (take result bytes.now) ≡ result }
+{
+    let mut count = 0;
+    'bytes: while count < bytes.len() && (count as u64) < most {
+        if is_stop(stop, bytes[count]) {
+            return count;
+        }
+        count += 1;
+    }
+    count
+}
+
+/// Bytes that are taken. At most one more was asked for.
 #[derive(Drop)]
 pub struct Input<R> {
     inner: R,
@@ -174,6 +191,29 @@ impl<R: Bytes> Input<R> {
             }
             None => Ok(None),
         }
+    }
+
+    /// Takes bytes that are at hand, up to a stop, and appends them.
+    pub fn take_at_hand(&mut self, stop: Stop, text: &mut Vec<u8>) -> Result<(), Error>
+        ensures ok { OnOk result (Known (unread R.remaining self.old)
+            (TakesPart (stops stop) self.old.taken text.old.items
+            (unread R.remaining self.new) self.new.taken text.new.items)) }
+        ensures err { IfErr result (λ e. fault_of e ≡ fault_nowhere OutOfMemory) }
+        ensures place { self.old.taken ≤ self.new.taken }
+        ensures failures { R.failures self.new.inner ≡ R.failures self.old.inner }
+    {
+        if self.ended {
+            return Ok(());
+        }
+        if self.peeked.is_some() {
+            return Ok(());
+        }
+        let bytes = self.inner.at_hand();
+        let count = run_length(stop, bytes, u64::MAX - self.taken);
+        text.extend_from_slice(&bytes[..count])?;
+        self.inner.pass(count);
+        self.taken += count as u64;
+        Ok(())
     }
 
     /// Takes the next byte.

@@ -1,5 +1,5 @@
 -- What the chosen reader gives.
-use Rattle.std.proofs.Common.{◌≡◌, ℕ, ◌-◌, ◌^◌, ◌<◌, Bool, true, false, List, [], ◌∷◌, length, Option, None, Some, Ok, Err, IfSome, OnErr, MatchBool, MatchOption, refl, ap, sym, ◌∙◌, subst, arith}
+use Rattle.std.proofs.Common.{◌≡◌, ℕ, ◌-◌, ◌^◌, ◌<◌, Bool, true, false, List, [], ◌∷◌, ◌++◌, length, Option, None, Some, Ok, Err, IfSome, OnErr, MatchBool, MatchOption, refl, ap, sym, ◌∙◌, subst, arith}
 use Rattle.std.specs.Option.{option_map}
 use Rattle.std.specs.Prelude.{Result}
 use Rattle.std.proofs.lemmas.List.{take-take}
@@ -11,7 +11,7 @@ use Rattle.plist_base.specs.Events.{Item}
 use Rattle.std.specs.Prelude.{⊤}
 use Rattle.plist_base.specs.Faults.{FaultKind, Io, OutOfMemory, MatchFault, kind_of, error_kind_of, fault_of, offset_of}
 use Rattle.plist_base.specs.Sequences.{from_place}
-use Rattle.plist_reader.specs.Streams.{bytes_left, source_of, place_of}
+use Rattle.plist_reader.specs.Streams.{bytes_left, source_of, place_of, held}
 use Rattle.plist_base.specs.Sources.{ItemCountsIo, IsPlaceWithin}
 use Rattle.plist_reader.proofs.MatchFaults.{MatchFault-weaker, MatchFault-all}
 use Rattle.plist_binread.specs.declared.reader.BinaryReader.{BinaryReader}
@@ -122,10 +122,10 @@ same-items (Some bytes) l f e h = ap (option_map f) e ∙ ap Some h
 take-twice : (bytes : List ℕ) → front (front bytes) ≡ front bytes
 take-twice bytes = take-take (2 ^ 64 - 1) (2 ^ 64 - 1) bytes (omega arith)
 
-ascii-items : (k l : Option (List ℕ)) → l ≡ k → IfSome k (λ bytes. format.Ascii ≡ format_of bytes) → option_map (λ bytes. items_of_ascii lax bytes 0) (option_map front (option_map (from_place 0) l)) ≡ option_map items_of_input k
-ascii-items None l e is = ap (λ o. option_map (λ bytes. items_of_ascii lax bytes 0) (option_map front (option_map (from_place 0) o))) e
+ascii-items : (k l : Option (List ℕ)) → l ≡ k → IfSome k (λ bytes. format.Ascii ≡ format_of bytes) → option_map (λ bytes. items_of_ascii lax bytes 0) (option_map front (option_map (λ bytes. [] ++ from_place 0 bytes) l)) ≡ option_map items_of_input k
+ascii-items None l e is = ap (λ o. option_map (λ bytes. items_of_ascii lax bytes 0) (option_map front (option_map (λ bytes. [] ++ from_place 0 bytes) o))) e
 ascii-items (Some bytes) l e is =
-    ap (λ o. option_map (λ bytes. items_of_ascii lax bytes 0) (option_map front (option_map (from_place 0) o))) e
+    ap (λ o. option_map (λ bytes. items_of_ascii lax bytes 0) (option_map front (option_map (λ bytes. [] ++ from_place 0 bytes) o))) e
     ∙ ap (λ b. Some (items_of_ascii lax b 0)) (take-twice bytes) ∙ ap (λ f. Some (items_by f bytes)) is
 
 module _ {R : Type 0} {g : Ghosts R} (known : R → Option (List ℕ)) (failed : R → ℕ) where
@@ -174,10 +174,11 @@ module _ {R : Type 0} {g : Ghosts R} (known : R → Option (List ℕ)) (failed :
       (same-items (known source) (known (binary.source_of old)) (λ bytes. binary.to_come bytes old) (ap known at ∙ e) (binary-items (known source) (known inner) old e is fresh))
       (subst (λ n. ItemCountsIo item n (failed (binary.source_of new))) (ap failed at ∙ f) h.failures) (binary-gives old new item h)
 
-  pub begun-ascii : (source inner : R) (sequence : SourceBytes R) (old new : AsciiReader (SourceBytes R)) (item : Given) → source_of sequence ≡ inner → known inner ≡ known source → failed inner ≡ failed source → ascii.inner_of old ≡ sequence → place_of sequence ≡ 0 → IfSome (known source) (λ bytes. format.Ascii ≡ format_of bytes)
+  pub begun-ascii : (source inner : R) (sequence : SourceBytes R) (old new : AsciiReader (SourceBytes R)) (item : Given) → source_of sequence ≡ inner → known inner ≡ known source → failed inner ≡ failed source → ascii.inner_of old ≡ sequence → place_of sequence ≡ 0 → held sequence ≡ [] → IfSome (known source) (λ bytes. format.Ascii ≡ format_of bytes)
       → ascii.bytes_left (bytes_left known) old ≡ option_map front (bytes_left known sequence) → ascii.place_of old ≡ 0 → ascii.Gives (bytes_left known) (λ s. Some (failed (source_of s))) old item new → StateGives {R = R} {g = g} known failed (state.Unread source) item (state.Ascii new)
-  begun-ascii source inner sequence old new item from e f inside at is bytes place h =
+  begun-ascii source inner sequence old new item from e f inside at none is bytes place h =
       chosen-gives source (state.Ascii old) (state.Ascii new) item
-      ((λ i. option_map (λ b. items_of_ascii lax b (place i)) (bytes i)) ∙ ap (λ p. option_map (λ b. items_of_ascii lax b 0) (option_map front (option_map (from_place p) (known (source_of sequence))))) at
+      ((λ i. option_map (λ b. items_of_ascii lax b (place i)) (bytes i)) ∙ ap (λ p. option_map (λ b. items_of_ascii lax b 0) (option_map front (option_map (λ bytes. held sequence ++ from_place p bytes) (known (source_of sequence))))) at
+      ∙ ap (λ w. option_map (λ b. items_of_ascii lax b 0) (option_map front (option_map (λ bytes. w ++ from_place 0 bytes) (known (source_of sequence))))) none
       ∙ ascii-items (known source) (known (source_of sequence)) (ap known from ∙ e) is)
       (subst (λ n. ItemCountsIo item n (failed (source_of (ascii.inner_of new)))) (ap (λ s. failed (source_of s)) inside ∙ ap failed from ∙ f) (let g : StateGives known failed (state.Ascii old) item (state.Ascii new) = ascii-gives old new item h in g.failures)) (ascii-gives old new item h)

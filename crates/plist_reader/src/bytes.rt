@@ -1,6 +1,6 @@
-//! A source's bytes, one by one.
+//! A source's bytes, from its first one on.
 
-ghost use Rattle.std.specs.Prelude.{◌≡◌, Some, IfOk, IfSome, slice_get};
+ghost use Rattle.std.specs.Prelude.{◌≡◌, ◌≤◌, Some, IfOk, IfSome, slice_get};
 ghost use Rattle.plist_base.specs.Sources.{CountsFailure};
 
 use plist_ascii::Bytes;
@@ -26,45 +26,100 @@ pub fn read_byte<S: Source>(source: &mut S, place: u64) -> Result<Option<u8>, io
     }
 }
 
+// As much as one read of the source asks for.
+const WINDOW: usize = 512;
+
 /// A source that is read from its first byte on, at most 2^64 - 1 bytes. It tells its failures.
+///
+/// It reads when a byte is asked for and none is at hand, and keeps what one read gave.
 #[derive(Drop)]
 pub struct SourceBytes<R> {
     source: R,
+    // How many of its bytes have been read.
     place: u64,
+    // What the last read gave. Those before `from` have been taken.
+    window: [u8; WINDOW],
+    from: usize,
+    end: usize,
+    ghost within: { (from ≤ end) × (end ≤ 512) },
 }
 
 impl<R: Source> SourceBytes<R> {
-    ghost use Rattle.std.specs.Prelude.{◌≡◌};
-    ghost use Rattle.plist_reader.specs.Streams.{source_of, place_of};
+    ghost use Rattle.std.specs.Prelude.{◌≡◌, [], OnOk};
+    ghost use Rattle.std.specs.Io.KnownBytes.{IsAtEnd};
+    ghost use Rattle.plist_reader.specs.Streams.{source_of, place_of, held, bytes_left};
 
     /// No byte has been read.
     pub fn new(source: R) -> Self
         ensures source { source_of result ≡ source }
         ensures place { place_of result ≡ 0 }
+        ensures held { held result ≡ [] }
     {
-        SourceBytes { source, place: 0 }
+        SourceBytes {
+            source,
+            place: 0,
+            window: [0; WINDOW],
+            from: 0,
+            end: 0,
+        }
+    }
+
+    // Reads on where no byte is at hand.
+    fn fill(&mut self) -> Result<(), io::Error>
+        ensures bytes { OnOk result (bytes_left R.known self.new ≡ bytes_left R.known self.old) }
+        ensures end { OnOk result (held self.new ≡ [] → IsAtEnd (bytes_left R.known self.new)) }
+        ensures failures { CountsFailure result
+            (R.failures (source_of self.old)) (R.failures (source_of self.new)) }
+    {
+        if self.from < self.end {
+            return Ok(());
+        }
+        let room = u64::MAX - self.place;
+        if room == 0 {
+            return Ok(());
+        }
+        match self.source.read_at(self.place, &mut self.window) {
+            Ok(count) => {
+                let count = room.min(count as u64);
+                self.from = 0;
+                self.end = count as usize;
+                self.place += count;
+                Ok(())
+            }
+            Err(failure) => Err(failure),
+        }
     }
 }
 
 impl<R: Source> Bytes for SourceBytes<R> {
     ghost use Rattle.std.specs.Prelude.{Some};
-    ghost use Rattle.plist_reader.specs.Streams.{bytes_left};
+    ghost use Rattle.plist_reader.specs.Streams.{bytes_left, held};
 
     ghost remaining = { bytes_left R.known };
 
     ghost failures = { λ s. Some (R.failures s.source) };
 
+    ghost held = { held };
+
     fn next_byte(&mut self) -> Result<Option<u8>, io::Error> {
-        if self.place == u64::MAX {
-            return Ok(None);
-        }
-        match read_byte(&mut self.source, self.place) {
-            Ok(Some(byte)) => {
-                self.place += 1;
+        match self.fill() {
+            Ok(()) => {
+                if self.from == self.end {
+                    return Ok(None);
+                }
+                let byte = self.window[self.from];
+                self.from += 1;
                 Ok(Some(byte))
             }
-            Ok(None) => Ok(None),
             Err(failure) => Err(failure),
         }
+    }
+
+    fn at_hand(&self) -> &[u8] {
+        &self.window[self.from..self.end]
+    }
+
+    fn pass(&mut self, count: usize) {
+        self.from += count;
     }
 }
