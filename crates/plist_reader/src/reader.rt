@@ -80,6 +80,26 @@ impl<R: Source> Reader<R> {
             state: State::Unread(source),
         }
     }
+
+    // The first item. Only here is the state moved: it may be as large as a source's windows.
+    fn first(&mut self) -> Option<Result<OwnedEvent, Error>>
+        ensures gives { (source : R) → self.old.state ≡ State.Unread source →
+            StateGives R.known R.failures (State.Unread source) result self.new.state }
+        ensures falls { (source : R) → self.old.state ≡ State.Unread source →
+            IfSome result (λ _. steps_of self.new.state < all_steps) }
+    {
+        match mem::replace(&mut self.state, State::Moved) {
+            State::Unread(source) => {
+                let (state, item) = begin(self.alloc, source);
+                self.state = state;
+                item
+            }
+            state => {
+                self.state = state;
+                None
+            }
+        }
+    }
 }
 
 impl<R: Source> Iterator for Reader<R> {
@@ -93,27 +113,11 @@ impl<R: Source> Iterator for Reader<R> {
     ghost remaining = { λ s. at_most (steps_of s.state) };
 
     fn next(&mut self) -> Option<Result<OwnedEvent, Error>> {
-        match mem::replace(&mut self.state, State::Moved) {
-            State::Unread(source) => {
-                let (state, item) = begin(self.alloc, source);
-                self.state = state;
-                item
-            }
-            State::Binary(mut reader) => {
-                let item = reader.next();
-                self.state = State::Binary(reader);
-                item
-            }
-            State::Ascii(mut reader) => {
-                let item = reader.next();
-                self.state = State::Ascii(reader);
-                item
-            }
-            State::Refused(source) => {
-                self.state = State::Refused(source);
-                None
-            }
-            State::Moved => None,
+        match &mut self.state {
+            State::Binary(reader) => reader.next(),
+            State::Ascii(reader) => reader.next(),
+            State::Refused(_) | State::Moved => None,
+            State::Unread(_) => self.first(),
         }
     }
 }
