@@ -210,6 +210,11 @@ mod tests {
         bytes[0] = b'"';
         bytes[1999] = b'"';
         expect_few_reads(&rt, Vec::from_slice(rt.alloc(), &bytes)?, 1998);
+        bytes[0] = b'/';
+        bytes[1] = b'/';
+        bytes[1998] = b'\n';
+        bytes[1999] = b'a';
+        expect_few_reads(&rt, Vec::from_slice(rt.alloc(), &bytes)?, 1);
         Ok(())
     }
 
