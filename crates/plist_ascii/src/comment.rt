@@ -38,7 +38,9 @@ impl<R: Bytes> Input<R> {
         ensures failures { AnswersIo result
             (R.failures self.old.inner) (R.failures self.new.inner) }
     {
-        while let Some(_byte) = self.take_unless(stop)? {}
+        while let Some(_byte) = self.take_unless(stop)? {
+            self.skip_at_hand(stop);
+        }
         Ok(())
     }
 

@@ -193,6 +193,25 @@ impl<R: Bytes> Input<R> {
         }
     }
 
+    /// Takes bytes that are at hand, up to a stop.
+    pub fn skip_at_hand(&mut self, stop: Stop)
+        ensures bytes { Known (unread R.remaining self.old) (λ xs. (part : List ℕ)
+            × TakesPart (stops stop) self.old.taken []
+            (unread R.remaining self.new) self.new.taken part xs) }
+        ensures place { self.old.taken ≤ self.new.taken }
+        ensures failures { R.failures self.new.inner ≡ R.failures self.old.inner }
+    {
+        if self.ended {
+            return;
+        }
+        if self.peeked.is_some() {
+            return;
+        }
+        let count = run_length(stop, self.inner.at_hand(), u64::MAX - self.taken);
+        self.inner.pass(count);
+        self.taken += count as u64;
+    }
+
     /// Takes bytes that are at hand, up to a stop, and appends them.
     pub fn take_at_hand(&mut self, stop: Stop, text: &mut Vec<u8>) -> Result<(), Error>
         ensures ok { OnOk result (Known (unread R.remaining self.old)

@@ -126,6 +126,8 @@ impl<R: Source> Iterator for Reader<R> {
 mod tests {
     use super::*;
     use std::borrow::CowStr;
+    use std::io;
+    use std::process::Abort;
     use std::test::Fail;
 
     // The place of `<`, where the item is that fault.
@@ -144,6 +146,80 @@ mod tests {
             Some(Ok(OwnedEvent::String(CowStr::Owned(found)))) => found.as_str() == text,
             _ => false,
         }
+    }
+
+    // A source that counts its reads.
+    #[derive(Drop)]
+    struct Counting {
+        bytes: Vec<u8>,
+        reads: u64,
+    }
+
+    impl Source for Counting {
+        ghost use Rattle.std.specs.Prelude.{None};
+
+        ghost known = { λ _. None };
+
+        ghost failures = { λ _. 0 };
+
+        fn size(&mut self) -> Result<u64, io::Error> {
+            Ok(self.bytes.len() as u64)
+        }
+
+        fn read_at(&mut self, place: u64, buf: &mut [u8]) -> Result<usize, io::Error> {
+            self.reads = self.reads.saturating_add(1);
+            let mut bytes = self.bytes.as_slice();
+            bytes.read_at(place, buf)
+        }
+    }
+
+    // Lent to a reader, so that it can be looked at afterwards.
+    impl<'a> Source for &'a mut Counting {
+        ghost use Rattle.std.specs.Prelude.{None};
+
+        ghost known = { λ _. None };
+
+        ghost failures = { λ _. 0 };
+
+        fn size(&mut self) -> Result<u64, io::Error> {
+            (**self).size()
+        }
+
+        fn read_at(&mut self, place: u64, buf: &mut [u8]) -> Result<usize, io::Error> {
+            (**self).read_at(place, buf)
+        }
+    }
+
+    // The bytes are one text of this length, and are read by windows.
+    fn expect_few_reads(rt: &(impl Abort + AllocGlobal), bytes: Vec<u8>, length: usize) {
+        let mut source = Counting { bytes, reads: 0 };
+        let mut reader = Reader::new(rt.alloc(), &mut source);
+        match &reader.next() {
+            Some(Ok(OwnedEvent::String(CowStr::Owned(text)))) => {
+                assert!(rt; text.as_str().len() == length);
+                assert!(rt; text.as_str().bytes().all(|byte| byte == b'a'));
+            }
+            _ => assert!(rt; false),
+        }
+        assert!(rt; reader.next().is_none());
+        drop(reader);
+        assert!(rt; source.reads <= 10);
+    }
+
+    #[test]
+    fn reads_by_windows(rt: HostRuntime) -> Result<(), Fail> {
+        let mut bytes = [b'a'; 2000];
+        expect_few_reads(&rt, Vec::from_slice(rt.alloc(), &bytes)?, 2000);
+        expect_few_reads(&rt, Vec::from_slice(rt.alloc(), &bytes[..512])?, 512);
+        bytes[0] = b'"';
+        bytes[1999] = b'"';
+        expect_few_reads(&rt, Vec::from_slice(rt.alloc(), &bytes)?, 1998);
+        bytes[0] = b'/';
+        bytes[1] = b'/';
+        bytes[1998] = b'\n';
+        bytes[1999] = b'a';
+        expect_few_reads(&rt, Vec::from_slice(rt.alloc(), &bytes)?, 1);
+        Ok(())
     }
 
     #[test]
