@@ -21,6 +21,7 @@ import time
 
 HERE = pathlib.Path(__file__).resolve().parent
 PLIST_TOOL = HERE.parents[1] / "plist_tool"
+PROGRAM = HERE.parents[1] / "crates/plist_tool/out/plist_tool"
 RUNS = 5
 SECONDS = 60
 
@@ -130,6 +131,17 @@ SHAPES = {"integers": integers, "distinct texts": distinct_texts, "repeated text
 OTHERS = {"10^5 levels": lambda: levels(10**5), "10^6 levels": lambda: levels(10**6),
           "doubling, 2^20 arrays": lambda: doubling(19)}
 
+
+def make(path, shape, *size):
+    """Makes a file in a process of its own: what this one holds would count for the programs."""
+    words = [sys.executable, __file__, "--make", path, shape, *size]
+    subprocess.run([str(word) for word in words], check=True)
+
+
+def made(path, shape, *size):
+    content = SHAPES[shape](int(size[0]) * 1_000_000) if size else OTHERS[shape]()
+    pathlib.Path(path).write_bytes(content)
+
 # ---- the programs
 
 
@@ -145,7 +157,9 @@ def peer(folder):
 
 
 def programs(folder):
-    yield "plist_tool", [PLIST_TOOL, "print"]
+    # builds the program where that is needed
+    subprocess.run([PLIST_TOOL], capture_output=True)
+    yield "plist_tool", [PROGRAM, "print"]
     crate = peer(folder)
     if crate:
         yield "the crate", [crate, "print"]
@@ -207,14 +221,14 @@ def main(words):
         print("|" + "---|" * (2 + len(known)))
         path = folder / "file.plist"
         grown = {}
-        for shape, make in SHAPES.items():
+        for shape in SHAPES:
             for size in sizes:
-                path.write_bytes(make(size * 1_000_000))
+                make(path, shape, size)
                 found = row(f"{shape}, {size} MB", path, known)
                 if found:
                     grown.setdefault(shape, []).append((path.stat().st_size, found[0]))
-        for shape, make in OTHERS.items():
-            path.write_bytes(make())
+        for shape in OTHERS:
+            make(path, shape)
             row(shape, path, known)
     print("\nIn brackets: the processor time of plist_tool to that of the program. Growth of plist_tool's time:")
     for shape, points in grown.items():
@@ -224,4 +238,7 @@ def main(words):
 
 
 if __name__ == "__main__":
-    main(sys.argv[1:])
+    if sys.argv[1:2] == ["--make"]:
+        made(*sys.argv[2:])
+    else:
+        main(sys.argv[1:])
