@@ -1,0 +1,51 @@
+-- How the worked examples write a file down.
+use Rattle.std.specs.Prelude.{⊤, ℕ, ◌+◌, ◌-◌, ◌*◌, not, filter, List, [], ◌∷◌, ◌++◌, ◌==◌, nat_lt, if◌then◌else◌, codes}
+use Prim.Native.String.{String}
+use Rattle.std.specs.Int.{bytes_high_first}
+use Rattle.std.specs.Str.{is_utf8, chars}
+use Rattle.std.specs.Char.Utf16.{utf16_chars}
+use lib.Utf8.{encode}
+use Rattle.plist_base.specs.Date.{real_exponent, real_mantissa, real_scale, parts_in_second, parts_of, whole_seconds, parts_left, real_second, second_of_bits}
+use Rattle.plist_binread.specs.Container.{Trailer, magic, head_of}
+use Rattle.plist_binread.specs.Object.{object_in}
+use Rattle.plist_binread.specs.Unfolding.{unfolding_of, items_of_file}
+
+-- the value of a hexadecimal digit: 0 to 9, or a to f
+abbrev pub digit_value : (code : ℕ) → ℕ
+digit_value code = if nat_lt code 58 then code - 48 else code - 87
+
+-- the bytes that these digits tell, two a byte; a space may stand between two bytes
+abbrev pub bytes_of_digits : List ℕ → List ℕ
+bytes_of_digits (high ∷ low ∷ rest) = (16 * digit_value high + digit_value low) ∷ bytes_of_digits rest
+bytes_of_digits rest = []
+
+-- these bytes, in hexadecimal
+abbrev pub hex : String → List ℕ
+hex text = bytes_of_digits (filter (λ code. not (code == 32)) (codes text))
+
+-- a trailer: how wide a place and a reference are, how many objects there are, the root's
+-- number, and the place of the table
+abbrev pub trailer : (offset_width reference_width count root table : ℕ) → Trailer
+trailer offset_width reference_width count root table = record {
+  offset_width = offset_width;
+  reference_width = reference_width;
+  count = count;
+  root = root;
+  table = table;
+}
+
+-- the bytes of a trailer
+abbrev pub bytes_of_trailer : Trailer → List ℕ
+bytes_of_trailer t =
+    hex "000000000000" ++ t.offset_width ∷ t.reference_width
+    ∷ bytes_high_first 8 t.count ++ bytes_high_first 8 t.root ++ bytes_high_first 8 t.table
+
+-- a file: the magic, then the objects and the table, in hexadecimal, then the trailer
+abbrev pub file : (objects : String) → Trailer → List ℕ
+file objects t = magic ++ hex objects ++ bytes_of_trailer t
+
+-- what a worked example unfolds, to compute the items of a file
+unfoldable pub worked_files : ⊤
+unfolding head_of object_in unfolding_of items_of_file is_utf8 chars encode utf16_chars real_exponent
+    real_mantissa real_scale parts_in_second parts_of whole_seconds parts_left real_second second_of_bits
+worked_files = tt
