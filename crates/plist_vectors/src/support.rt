@@ -2,6 +2,7 @@
 
 mod device;
 mod file;
+pub(crate) mod walk;
 mod words;
 
 pub(crate) use device::{Device, Disk, Fault, expect_cut, expect_io};
