@@ -220,4 +220,9 @@ impl<R: Read + Seek + Drop> Source for Seeking<R> {
         let answer = self.read_there(place, buf);
         self.count(answer)
     }
+
+    /// What its windows hold, without a read.
+    fn near(&self, place: u64) -> &[u8] {
+        self.held(place)
+    }
 }
