@@ -1,124 +1,96 @@
 //! A source over a reader that can seek.
 
-ghost use Rattle.std.specs.Prelude.{◌≡◌, ◌-◌, ◌%◌, ◌≤◌, ◌<◌, length, take, None, IfOk, OnErr, Result};
-ghost use Rattle.plist_base.specs.Sources.{CountsFailure, GivesAt};
+ghost use Rattle.std.specs.Prelude.{◌≡◌, ℕ, ◌+◌, ◌*◌, ◌≤◌, ◌<◌, length, slice_index, IfOk, IsTrue, OnErr};
+ghost use Rattle.plist_base.specs.Sources.{CountsFailure};
+ghost use Rattle.plist_base.specs.Windows.{failures_of, inner_of, LendsFrom};
 
 use crate::source::{Source, copy_at};
+use std::alloc::Global;
 use std::io;
 use std::io::{Read, Seek, SeekFrom};
 
 // As much as one read of a file usually gives.
 const WINDOW: usize = 8192;
 
-// The walk through a file is in few places at once: an object, a key that it shares with others, a
-// value that it shares.
-const WINDOWS: usize = 8;
+// Places that lie a multiple of so many windows apart share a slot.
+const SLOTS: usize = 64;
 
-// What a reader gave of the 8 KiB from a multiple of that on.
-#[derive(Clone, Copy)]
-struct Window {
-    bytes: [u8; WINDOW],
-    start: u64,
-    filled: usize,
-    // When it served last, by the source's clock.
-    served: u64,
-    ghost within: { filled ≤ 8192 },
-}
+// Two a slot, so that two parts of a file that share their slots stay side by side.
+const WINDOWS: usize = 128;
 
-impl Window {
-    const EMPTY: Window = Window {
-        bytes: [0; WINDOW],
-        start: 0,
-        filled: 0,
-        served: 0,
-    };
-
-    // Fills it from this start on. It is empty after a failure.
-    fn fill<R: Read + Seek>(&mut self, inner: &mut R, start: u64) -> Result<(), io::Error>
-        ensures start { self.new.start ≡ start }
-        ensures failed { OnErr result (self.new.filled ≡ 0) }
-    {
-        self.filled = 0;
-        self.start = start;
-        inner.seek(SeekFrom::Start(start))?;
-        let filled = inner.read(&mut self.bytes)?;
-        self.filled = filled;
-        Ok(())
-    }
-
-    // Copies what it has from a place on, and is filled before that where it hasn't that place.
-    fn copy_from<R: Read + Seek>(
-        &mut self,
-        inner: &mut R,
-        place: u64,
-        buf: &mut [u8],
-    ) -> Result<usize, io::Error>
-        ensures bound { IfOk result (λ count. count ≤ length buf.new) }
-        ensures start { self.new.start ≡ place - place % 8192 }
-        ensures bytes { IfOk result (λ count.
-            GivesAt (take self.new.filled self.new.bytes) (place % 8192) count buf.new) }
-        ensures failed { OnErr result (self.new.filled ≡ 0) }
-    {
-        let within = place % WINDOW as u64;
-        let start = place - within;
-        if self.start != start || within >= self.filled as u64 {
-            self.fill(inner, start)?;
-        }
-        Ok(copy_at(&self.bytes[..self.filled], within, buf))
-    }
-}
-
-// The window that served longest ago.
-fn oldest(windows: &[Window; WINDOWS]) -> usize
-    ensures { result < 8 }
+// The first window of a place's slot. The second one comes behind it.
+fn first_window(place: u64) -> usize
+    ensures { result + 1 < 128 }
 {
-    let mut oldest = 0;
-    for i in 1..WINDOWS {
-        if windows[i].served < windows[oldest].served {
-            oldest = i;
-        }
-    }
-    oldest
-}
-
-// The window that has this start, or else the one that served longest ago.
-fn window_for(windows: &[Window; WINDOWS], start: u64) -> usize
-    ensures { result < 8 }
-{
-    match windows.iter().position(|window| window.start == start) {
-        Some(i) => i,
-        None => oldest(windows),
-    }
+    let slot = place / WINDOW as u64 % SLOTS as u64;
+    2 * slot as usize
 }
 
 /// A source over a reader that can seek, such as a file. Its bytes aren't known, since others may
 /// change them.
 ///
-/// It keeps eight windows of 8 KiB and reads a place anew into the one that served longest ago, so
-/// that small reads near one another, in a few parts of a file in turn, cost one read of `R`. A read
-/// or seek that answers `Interrupted` is a failure, too.
+/// It keeps up to 128 windows of 8 KiB, which it lends, so that small reads near one another, in many
+/// parts of a file in turn, cost one read of `R`. It asks for their memory as it needs them; where
+/// that is refused, each read is one of `R`. A read or seek that answers `Interrupted` is a failure,
+/// too.
 #[derive(Drop)]
 pub struct Seeking<R> {
     inner: R,
     failed: u64,
-    windows: [Window; WINDOWS],
-    // How often a window served.
-    clock: u64,
+    // Where each window begins, and how many bytes it has from there on.
+    starts: [u64; WINDOWS],
+    filled: [u16; WINDOWS],
+    // The bytes of the windows so far.
+    bytes: Vec<u8>,
+    // Is the second window of a slot the next one to be filled?
+    turns: [bool; SLOTS],
+}
+
+impl<R> Seeking<R> {
+    // What a window has from a place on, perhaps nothing.
+    fn part_of(&self, i: usize, place: u64) -> &[u8]
+        requires { i < 128 }
+        ensures bytes { LendsFrom self.now i place result.now }
+    {
+        let within = place % WINDOW as u64;
+        if self.starts[i] != place - within {
+            return &[];
+        }
+        let first = i * WINDOW;
+        let end = first + usize::from(self.filled[i]);
+        let from = first + within as usize;
+        if from >= end || end > self.bytes.len() {
+            return &[];
+        }
+        &self.bytes[from..end]
+    }
+
+    // What is at hand from a place on, perhaps nothing.
+    fn held(&self, place: u64) -> &[u8]
+        ensures bytes { (i : ℕ) × LendsFrom self.now i place result.now }
+    {
+        let i = first_window(place);
+        let part = self.part_of(i, place);
+        if part.is_empty() {
+            return self.part_of(i + 1, place);
+        }
+        part
+    }
 }
 
 impl<R: Read + Seek> Seeking<R> {
-    ghost use Rattle.plist_base.specs.Windows.{failures_of, inner_of};
-
     /// A source over this reader, from its byte 0 on, wherever it stands.
-    pub fn new(inner: R) -> Self
+    pub fn new(alloc: Global, inner: R) -> Self
         ensures inner { inner_of result ≡ inner }
         ensures failures { failures_of result ≡ 0 }
     {
         Seeking {
             inner,
             failed: 0,
-            windows: [Window::EMPTY; WINDOWS],
-            clock: 0,
+            starts: [0; WINDOWS],
+            filled: [0; WINDOWS],
+            bytes: Vec::new(alloc),
+            turns: [false; SLOTS],
         }
     }
 
@@ -129,8 +101,10 @@ impl<R: Read + Seek> Seeking<R> {
         let Seeking {
             inner,
             failed: _,
-            windows: _,
-            clock: _,
+            starts: _,
+            filled: _,
+            bytes: _,
+            turns: _,
         } = self;
         inner
     }
@@ -146,16 +120,61 @@ impl<R: Read + Seek> Seeking<R> {
         answer
     }
 
-    // Copies what a window has from this place on.
+    // Sees that this window has memory, and tells whether it has.
+    fn has_memory(&mut self, i: usize) -> bool
+        requires { i < 128 }
+        ensures room { IsTrue result → i * 8192 + 8192 ≤ length self.new.bytes.items }
+        ensures failures { failures_of self.new ≡ failures_of self.old }
+    {
+        let size = i * WINDOW + WINDOW;
+        if size <= self.bytes.len() {
+            return true;
+        }
+        self.bytes.resize(size, 0).is_ok()
+    }
+
+    // Fills a window from its start on by one read. It is empty after a failure.
+    fn fill_window(&mut self, i: usize, start: u64) -> Result<(), io::Error>
+        requires index { i < 128 }
+        requires room { i * 8192 + 8192 ≤ length self.old.bytes.items }
+        ensures start { slice_index self.new.starts i ≡ start }
+        ensures failed { OnErr result (slice_index self.new.filled i ≡ 0) }
+        ensures failures { failures_of self.new ≡ failures_of self.old }
+    {
+        self.starts[i] = start;
+        self.filled[i] = 0;
+        self.inner.seek(SeekFrom::Start(start))?;
+        let first = i * WINDOW;
+        let filled = self.inner.read(&mut self.bytes[first..first + WINDOW])?;
+        self.filled[i] = filled as u16;
+        Ok(())
+    }
+
+    // Fills one of the windows of a place's slot in turn. Nothing is filled where memory for it is
+    // refused.
+    fn fill(&mut self, place: u64) -> Result<(), io::Error>
+        ensures failures { failures_of self.new ≡ failures_of self.old }
+    {
+        let first = first_window(place);
+        let slot = first / 2;
+        let turn = self.turns[slot];
+        let i = if turn { first + 1 } else { first };
+        if self.has_memory(i) {
+            self.fill_window(i, place - place % WINDOW as u64)?;
+            self.turns[slot] = !turn;
+        }
+        Ok(())
+    }
+
+    // Copies what a window has from this place on, which is filled before that where none has it.
     fn copy_from_window(&mut self, place: u64, buf: &mut [u8]) -> Result<usize, io::Error>
         ensures bound { IfOk result (λ count. count ≤ length buf.new) }
         ensures failures { failures_of self.new ≡ failures_of self.old }
     {
-        self.clock = self.clock.saturating_add(1);
-        let i = window_for(&self.windows, place - place % WINDOW as u64);
-        let window = &mut self.windows[i];
-        window.served = self.clock;
-        window.copy_from(&mut self.inner, place, buf)
+        if self.held(place).is_empty() {
+            self.fill(place)?;
+        }
+        Ok(copy_at(self.held(place), 0, buf))
     }
 
     fn read_past_windows(&mut self, place: u64, buf: &mut [u8]) -> Result<usize, io::Error>
@@ -200,5 +219,10 @@ impl<R: Read + Seek + Drop> Source for Seeking<R> {
     fn read_at(&mut self, place: u64, buf: &mut [u8]) -> Result<usize, io::Error> {
         let answer = self.read_there(place, buf);
         self.count(answer)
+    }
+
+    /// What its windows hold, without a read.
+    fn near(&self, place: u64) -> &[u8] {
+        self.held(place)
     }
 }

@@ -48,7 +48,6 @@ fn expect_read<S: Source>(
     }
 }
 
-// The last of these lie in more parts of a file than there are windows.
 const PLACES: [u32; 17] = [
     0, 8_190, 1, 8_192, 89_990, 0, 16_383, 12_000, 20_000, 30_000, 40_000, 50_000, 60_000, 70_000,
     80_000, 0, 20_000,
@@ -58,7 +57,7 @@ const PLACES: [u32; 17] = [
 #[test]
 fn gives_the_bytes(rt: HostRuntime) {
     let size = 90_000;
-    let mut source = Seeking::new(Cursor::new(sample(&rt, size)));
+    let mut source = Seeking::new(rt.alloc(), Cursor::new(sample(&rt, size)));
     assert_eq!(rt; must(&rt, source.size()), u64::from(size));
     for place in PLACES {
         expect_read(&rt, &mut source, size, place, 1);
@@ -69,26 +68,26 @@ fn gives_the_bytes(rt: HostRuntime) {
 
 // After small reads at these places, the reader under the source was called so often.
 fn expect_calls(rt: &(impl Abort + AllocGlobal), places: &[u32], calls: u64) {
-    let size = 90_000;
-    let mut source = Seeking::new(Disk::new(sample(rt, size), u64::MAX));
+    let size = 1_100_000;
+    let mut source = Seeking::new(rt.alloc(), Disk::new(sample(rt, size), u64::MAX));
     for place in places {
         expect_read(rt, &mut source, size, *place, 3);
     }
     assert_eq!(rt; source.into_inner().calls, calls, "{places:?}");
 }
 
-// Eight parts of a file in turn are read once each. A ninth takes the place of the one that served
-// longest ago.
+// Parts of a file in turn are read once each, two in one slot too (half a MiB apart). A third one of
+// the slot takes the place of the one that was filled first.
 #[test]
 fn keeps_its_windows(rt: HostRuntime) {
-    let places = [
-        0, 80_000, 10_000, 70_000, 20_000, 60_000, 30_000, 50_000, 5, 80_005, 40_000, 0, 80_000,
-        10_000,
-    ];
-    let calls = [2, 4, 6, 8, 10, 12, 14, 16, 16, 16, 18, 18, 18, 20];
-    for i in 0..14usize {
-        expect_calls(&rt, &places[..=i], calls[i]);
-    }
+    expect_calls(&rt, &[0, 8_192, 5, 80_000, 8_200, 3, 80_005], 6);
+    expect_calls(
+        &rt,
+        &[0, 524_288, 9, 524_290, 8_192, 532_480, 0, 524_288],
+        8,
+    );
+    expect_calls(&rt, &[0, 524_288, 1_048_576, 1_048_580, 524_288], 6);
+    expect_calls(&rt, &[0, 524_288, 1_048_576, 0, 1_048_576], 8);
 }
 
 // Reads three bytes, and tells whether the disk failed.
@@ -114,7 +113,7 @@ fn fails_at(rt: &impl Abort, source: &mut Seeking<Disk>, place: u32) -> bool {
 
 // The disk fails at this call: one read of three fails.
 fn expect_failure(rt: &(impl Abort + AllocGlobal), call: u64) {
-    let mut source = Seeking::new(Disk::new(sample(rt, 9_000), call));
+    let mut source = Seeking::new(rt.alloc(), Disk::new(sample(rt, 9_000), call));
     let first = fails_at(rt, &mut source, 5);
     let second = fails_at(rt, &mut source, 8_500);
     let third = fails_at(rt, &mut source, 5);
