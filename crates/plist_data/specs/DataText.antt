@@ -1,0 +1,90 @@
+-- The text of data: lines of base64 (RFC 4648, section 4).
+use Rattle.std.specs.Prelude.{◌≡◌, ℕ, ◌*◌, not, List, [], length, map, take, drop, replicate, ◌++◌, ◌∷◌, Option, None, Some, Err, refl, codes, ⊤}
+use Rattle.std.specs.List.{filter, join_with_byte, range_with_len}
+use Rattle.std.specs.Char.{is_ascii_whitespace}
+use Rattle.std.specs.Int.{div_ceil}
+use Rattle.base64.specs.Engines.{standard}
+use Rattle.base64.specs.GeneralPurpose.{encode_of, decode_of, decoded_of}
+use Rattle.base64.proofs.OnLiterals.{base64_on_literals}
+use Rattle.base64.specs.declared.decode.DecodeAllocError.{DecodeAllocError}
+use Rattle.base64.specs.declared.decode.DecodeAllocError.TheVariants as decoding
+use Rattle.plist_data.specs.declared.data.InvalidXmlData.{InvalidXmlData}
+use Rattle.plist_data.specs.declared.data.InvalidXmlData.TheVariants.{Decode, OutOfMemory}
+
+-- data once new bytes are written over its own: just these, since there are as many
+abbrev pub overwritten : (bytes new : List ℕ) → List ℕ
+overwritten bytes new = take (length bytes) (new ++ drop (length new) bytes)
+
+-- ---- what is written
+
+-- the bytes of a line, counted from 0: 51, but in the last line fewer where fewer are left
+abbrev pub bytes_of_line : List ℕ → ℕ → List ℕ
+bytes_of_line bytes line = take 51 (drop (line * 51) bytes)
+
+-- the first lines' base64
+abbrev pub first_lines : ℕ → List ℕ → List (List ℕ)
+first_lines count bytes = map (λ line. encode_of standard (bytes_of_line bytes line)) (range_with_len 0 count)
+
+-- how many lines the bytes fill or begin
+abbrev pub line_count : List ℕ → ℕ
+line_count bytes = div_ceil (length bytes) 51
+
+-- all lines, with LF between
+unfoldable pub data_text : List ℕ → List ℕ
+data_text bytes = join_with_byte 10 (first_lines (line_count bytes) bytes)
+
+-- ---- what is read
+
+-- the text without its bytes 09, 0A, 0C, 0D and 20
+abbrev pub without_white : List ℕ → List ℕ
+without_white text = filter (λ byte. not (is_ascii_whitespace byte)) text
+
+-- the bytes whose padded base64 that is, or none
+unfoldable pub data_of_text : List ℕ → Option (List ℕ)
+data_of_text text = decoded_of standard (without_white text)
+
+-- the refusal of a text: the fault of decoding it, whose places count what is left without white space
+abbrev pub IsFaultOf : List ℕ → InvalidXmlData → Type 0
+IsFaultOf text (Decode fault) = decode_of standard (without_white text) ≡ Err fault
+IsFaultOf text OutOfMemory = ⊤
+
+-- a text is refused by such a fault only where no bytes have it
+abbrev pub IsNoData : List ℕ → InvalidXmlData → Type 0
+IsNoData text (Decode fault) = data_of_text text ≡ None
+IsNoData text OutOfMemory = ⊤
+
+-- the refusal that an error of the decoder is
+abbrev pub refusal_of : DecodeAllocError → InvalidXmlData
+refusal_of (decoding.DecodeError fault) = Decode fault
+refusal_of decoding.OutOfMemory = OutOfMemory
+
+-- the text of a refusal
+abbrev pub refusal_text : InvalidXmlData → List ℕ
+refusal_text (Decode fault) = codes "Invalid XML data"
+refusal_text OutOfMemory = codes "OutOfMemory"
+
+-- ---- worked examples
+
+no_bytes : data_text [] ≡ []
+unfolding base64_on_literals data_text
+no_bytes = refl
+
+full_line : data_text (replicate 51 0) ≡ replicate 68 65
+unfolding base64_on_literals data_text
+full_line = refl
+
+second_line : data_text (replicate 52 0) ≡ replicate 68 65 ++ 10 ∷ codes "AA=="
+unfolding base64_on_literals data_text
+second_line = refl
+
+white_space : data_of_text (codes "A A\n==") ≡ Some (0 ∷ [])
+unfolding base64_on_literals data_of_text
+white_space = refl
+
+short_padding : data_of_text (codes "AA=") ≡ None
+unfolding base64_on_literals data_of_text
+short_padding = refl
+
+bits_left : data_of_text (codes "AB==") ≡ None
+unfolding base64_on_literals data_of_text
+bits_left = refl

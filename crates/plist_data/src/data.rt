@@ -1,0 +1,250 @@
+//! Data, and its text.
+
+ghost use Rattle.std.specs.Prelude.{◌≡◌, ◌↔◌, codes, List, ℕ, length, Some, Ok, IfOk, IfErr, OnOk, ◌++◌, string_bytes};
+ghost use Rattle.std.specs.Borrow.{Array, Lends, sem, u8};
+ghost use Rattle.base64.specs.Engines.{standard};
+ghost use Rattle.base64.specs.GeneralPurpose.{IsBytes, IsDecodeFailure, decode_of, encode_of};
+ghost use Rattle.plist_base.specs.Faults.{OutOfMemory, fault_nowhere, fault_of};
+ghost use Rattle.plist_data.specs.DataText.{IsFaultOf, IsNoData, data_of_text, data_text, overwritten, without_white};
+ghost use Rattle.plist_data.specs.contracts.data.Data.{the_row};
+
+use base64::engine::general_purpose::STANDARD;
+use base64::{DecodeAllocError, DecodeError};
+use plist_base::Error;
+use std::alloc::{AllocError, Global};
+use std::fmt;
+use std::marker::Model;
+
+// A line of text has 68 characters.
+const BYTES_A_LINE: usize = 51;
+
+/// Data of a property list: a list of bytes.
+#[derive(Drop)]
+pub struct Data {
+    bytes: Vec<u8>,
+}
+
+impl Model for Data {
+    ghost use Rattle.std.specs.Prelude.{List, ℕ};
+    ghost use Rattle.std.specs.Coded.{coded_list, coded_ℕ};
+
+    ghost Value = { List ℕ };
+
+    ghost coded = { coded_list coded_ℕ };
+
+    ghost view = { λ a. a.bytes.items };
+}
+
+/// Why a text isn't data.
+#[derive(Clone, Copy, Debug, PartialEq, Eq)]
+pub enum InvalidXmlData {
+    /// No bytes have this text. Places in the fault count the text without white space.
+    Decode(DecodeError),
+    /// A growth was refused.
+    OutOfMemory,
+}
+
+impl Data {
+    /// The data of some bytes.
+    pub fn new(bytes: Vec<u8>) -> Data
+        ensures { result ≡ bytes.items }
+    {
+        Data { bytes }
+    }
+
+    /// Reads the text of data: base64 in the standard alphabet, with padding. The bytes 09, 0A,
+    /// 0C, 0D and 20 may stand anywhere in it.
+    ///
+    /// # Errors
+    ///
+    /// [`InvalidXmlData::Decode`] if, without these bytes, it isn't the base64 of any bytes, and
+    /// [`InvalidXmlData::OutOfMemory`] if memory runs out.
+    pub fn from_xml_format(alloc: Global, text: &str) -> Result<Data, InvalidXmlData>
+        ensures data { IfOk result (λ found. data_of_text text.now ≡ Some found) }
+        ensures fault { IfErr result (λ refusal. IsFaultOf text.now refusal) }
+        ensures no_data { IfErr result (λ refusal. IsNoData text.now refusal) }
+        ensures spelled { (bytes : List ℕ) → IsBytes bytes → (data_of_text text.now ≡ Some bytes)
+            ↔ (without_white text.now ≡ encode_of standard bytes) }
+    {
+        let symbols = dark_bytes(alloc, text)?;
+        let bytes = decoded(alloc, &symbols)?;
+        Ok(Data { bytes })
+    }
+
+    /// The text of this data: base64 in lines of 68 characters, which stand for 51 bytes, with LF
+    /// between them and none at the end.
+    ///
+    /// # Errors
+    ///
+    /// [`plist_base::ErrorKind::OutOfMemory`] if memory runs out.
+    pub fn to_xml_format(&self, alloc: Global) -> Result<String, Error>
+        ensures text { IfOk result (λ text. string_bytes text ≡ data_text self.now) }
+        ensures back { IfOk result (λ text. data_of_text (string_bytes text) ≡ Some self.now) }
+        ensures memory { IfErr result (λ error. fault_of error ≡ fault_nowhere OutOfMemory) }
+    {
+        text_of(alloc, self.bytes.as_slice())
+    }
+
+    /// The bytes.
+    pub fn as_ref(&self) -> &[u8]
+        ensures { result.now ≡ self.now }
+    {
+        self.bytes.as_slice()
+    }
+
+    /// The bytes, to be changed.
+    pub fn as_mut(&mut self) -> &mut [u8]
+        ensures* writes_back { sem 𝓛 (Lends the_row (Array u8 0) self.entry result (overwritten self.old)) }
+        ensures value { result.now ≡ self.old }
+        ensures new_bytes { (bytes : List ℕ) → length bytes ≡ length self.old →
+            overwritten self.old bytes ≡ bytes }
+    {
+        self.bytes.as_mut_slice()
+    }
+
+    /// The same bytes again.
+    ///
+    /// # Errors
+    ///
+    /// [`plist_base::ErrorKind::OutOfMemory`] if memory runs out.
+    pub fn clone(&self) -> Result<Data, Error>
+        ensures same { IfOk result (λ copy. copy ≡ self.now) }
+        ensures memory { IfErr result (λ error. fault_of error ≡ fault_nowhere OutOfMemory) }
+    {
+        let bytes = self.bytes.clone()?;
+        Ok(Data { bytes })
+    }
+}
+
+// A text without its white space.
+fn dark_bytes(alloc: Global, text: &str) -> Result<Vec<u8>, AllocError>
+    ensures bytes { IfOk result (λ dark. dark.items ≡ without_white text.now) }
+    ensures spelled { (bytes : List ℕ) → IsBytes bytes → (data_of_text text.now ≡ Some bytes)
+        ↔ (without_white text.now ≡ encode_of standard bytes) }
+{
+    let mut bytes = Vec::new(alloc);
+    bytes.extend_from_slice(text.as_bytes())?;
+    bytes.retain(|byte| !byte.is_ascii_whitespace());
+    Ok(bytes)
+}
+
+// The bytes that some base64 stands for.
+fn decoded(alloc: Global, symbols: &[u8]) -> Result<Vec<u8>, DecodeAllocError>
+    ensures bytes { IfOk result (λ bytes. decode_of standard symbols.now ≡ Ok bytes.items) }
+    ensures refused { IfErr result (λ error. IsDecodeFailure standard symbols.now error) }
+{
+    STANDARD.decode(alloc, symbols)
+}
+
+// Puts the base64 of some bytes behind a text.
+fn push_base64(text: &mut String, bytes: &[u8]) -> Result<(), AllocError>
+    ensures { OnOk result
+        (string_bytes text.new ≡ string_bytes text.old ++ encode_of standard bytes.now) }
+{
+    STANDARD.encode_string(bytes, text)
+}
+
+// The lines of base64 of some bytes.
+fn text_of(alloc: Global, bytes: &[u8]) -> Result<String, Error>
+    ensures text { IfOk result (λ text. string_bytes text ≡ data_text bytes.now) }
+    ensures back { IfOk result (λ text. data_of_text (string_bytes text) ≡ Some bytes.now) }
+    ensures memory { IfErr result (λ error. fault_of error ≡ fault_nowhere OutOfMemory) }
+{
+    let mut text = String::new(alloc);
+    for line in 0..bytes.len().div_ceil(BYTES_A_LINE) {
+        if line > 0 {
+            text.push('\n')?;
+        }
+        let start = line * BYTES_A_LINE;
+        let end = bytes.len().min(start + BYTES_A_LINE);
+        push_base64(&mut text, &bytes[start..end])?;
+    }
+    Ok(text)
+}
+
+/// The data of the bytes.
+impl From<Vec<u8>> for Data {
+    ghost from_gives = { λ bytes made. made ≡ bytes.items };
+
+    fn from(bytes: Vec<u8>) -> Data {
+        Data::new(bytes)
+    }
+}
+
+/// The bytes of the data.
+impl From<Data> for Vec<u8> {
+    ghost from_gives = { λ from bytes. bytes.items ≡ from };
+
+    fn from(data: Data) -> Vec<u8> {
+        data.bytes
+    }
+}
+
+/// Equal if the bytes are.
+impl PartialEq for Data {
+    ghost use Rattle.std.specs.Prelude.{nat_eq};
+    ghost use Rattle.std.specs.Cmp.Lexicographic.{pointwise};
+    ghost use Rattle.std.proofs.Common.{rules};
+    ghost use Rattle.std.specs.Cmp.Rules.{comparing};
+
+    ghost eq = { pointwise nat_eq };
+
+    ghost laws = { Prim.search (comparing, rules) };
+
+    fn eq(&self, other: &Data) -> bool {
+        self.bytes.as_slice() == other.bytes.as_slice()
+    }
+}
+
+impl Eq for Data {
+    ghost use Rattle.std.proofs.Common.{rules};
+    ghost use Rattle.std.specs.Cmp.Rules.{comparing};
+
+    ghost laws = { Prim.search (comparing, rules) };
+}
+
+/// A list of the bytes in decimal.
+impl fmt::Debug for Data {
+    fn fmt<W: fmt::Write>(&self, f: &mut fmt::Formatter<W>) -> fmt::Result {
+        fmt::Debug::fmt(self.bytes.as_slice(), f)
+    }
+}
+
+impl fmt::Display for InvalidXmlData {
+    ghost use Rattle.plist_data.specs.DataText.{refusal_text};
+
+    ghost output = { λ refusal. Some (refusal_text refusal) };
+
+    fn fmt<W: fmt::Write>(&self, f: &mut fmt::Formatter<W>) -> fmt::Result {
+        f.write_str(match self {
+            InvalidXmlData::Decode(_) => "Invalid XML data",
+            InvalidXmlData::OutOfMemory => "OutOfMemory",
+        })
+    }
+}
+
+impl std::error::Error for InvalidXmlData {}
+
+impl From<AllocError> for InvalidXmlData {
+    ghost use Rattle.base64.specs.declared.decode.DecodeAllocError.TheVariants.{OutOfMemory as NoMemory};
+    ghost use Rattle.plist_data.specs.DataText.{refusal_of};
+
+    ghost from_gives = { λ _ refusal. refusal ≡ refusal_of NoMemory };
+
+    fn from(_error: AllocError) -> InvalidXmlData {
+        InvalidXmlData::OutOfMemory
+    }
+}
+
+impl From<DecodeAllocError> for InvalidXmlData {
+    ghost use Rattle.plist_data.specs.DataText.{refusal_of};
+
+    ghost from_gives = { λ error refusal. refusal ≡ refusal_of error };
+
+    fn from(error: DecodeAllocError) -> InvalidXmlData {
+        match error {
+            DecodeAllocError::DecodeError(fault) => InvalidXmlData::Decode(fault),
+            DecodeAllocError::OutOfMemory => InvalidXmlData::OutOfMemory,
+        }
+    }
+}
