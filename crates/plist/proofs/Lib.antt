@@ -14,3 +14,7 @@ pub mod ReadingBack
 pub mod Handed
 pub mod Filed
 pub mod Storing
+pub mod Depths
+pub mod SameTrees
+pub mod Copies
+pub mod EntrySteps

@@ -19,3 +19,8 @@ pub mod Handing
 pub mod Sent
 pub mod Stored
 pub mod ReadBy
+pub mod Same
+pub mod Sameness
+pub mod PairsSame
+pub mod EntryLends
+pub mod EntryPlaces

@@ -1,12 +1,19 @@
-//! Proved callers of `Value::from_events`: what its contract says over owned and borrowed events.
+//! Proved callers of what the crate offers: `Value::from_events` over owned and borrowed events,
+//! entries of dictionaries, and `==` with its laws.
 
-ghost use Rattle.std.specs.Prelude.{IfSome};
+ghost use Rattle.std.specs.Prelude.{◌≡◌, ◌↔◌, IfErr, IfSome, OnErr, OnOk, OnSome, List, ℕ, string_bytes, true};
+ghost use Rattle.std.specs.Map.{lookup};
+ghost use Rattle.std.specs.Str.{bytes_eq};
+ghost use Rattle.indexmap.specs.IndexMap.{insert_entry, swap_remove_entry};
+ghost use Rattle.plist_base.specs.Trees.{Dictionary, Leaf, Members, Scalar, Tree};
 ghost use Rattle.plist_binread.specs.Unfolding.{items_of_file};
 ghost use Rattle.plist.specs.Collecting.{built_tree};
 ghost use Rattle.plist.specs.Inputs.{GivesBack, IsReadFrom};
-ghost use Rattle.plist.specs.Views.{tree_of};
+ghost use Rattle.plist.specs.Same.{AreSameAt, first_value, same, same_pairs};
+ghost use Rattle.plist.specs.Views.{pair_trees, tree_of};
 
-use crate::Value;
+use crate::dictionary::Entry;
+use crate::{Dictionary, Pairs, Value};
 use plist_base::{Error, Source};
 use plist_binread::BinaryReader;
 use std::alloc::Global;
@@ -24,4 +31,63 @@ pub fn value_again(alloc: Global, value: &Value) -> Result<Value, Error>
     ensures value { GivesBack (tree_of value.now) (built_tree result) }
 {
     Value::from_events(alloc, value.events(alloc))
+}
+
+/// Whether two values are equal: whether their trees are the same, whatever the order of a
+/// dictionary's pairs. Sameness is an equivalence; scalars are the same where they are one, and
+/// dictionaries where they have the same at every key.
+pub fn are_equal(value: &Value, other: &Value) -> bool
+    ensures same { result ≡ same (tree_of value.now) (tree_of other.now) }
+    ensures reflexive { (tree : Tree) → same tree tree ≡ true }
+    ensures symmetric { (tree other : Tree) → same tree other ≡ same other tree }
+    ensures transitive { (first second third : Tree) → same first second ≡ true
+        → same second third ≡ true → same first third ≡ true }
+    ensures scalars { (left right : Scalar)
+        → (same (Leaf left) (Leaf right) ≡ true) ↔ (left ≡ right) }
+    ensures dictionaries { (left right : Members)
+        → (same (Dictionary left) (Dictionary right) ≡ true)
+        ↔ ((key : List ℕ) → AreSameAt (first_value key left) (first_value key right)) }
+{
+    value == other
+}
+
+/// Whether two dictionaries are equal: whether they are so as values.
+pub fn are_equal_dictionaries(pairs: &Dictionary, others: &Dictionary) -> bool
+    ensures same { result
+        ≡ same (Dictionary (pair_trees pairs.now)) (Dictionary (pair_trees others.now)) }
+    ensures pairs { result
+        ≡ same_pairs (λ v w. same (tree_of v) (tree_of w)) pairs.now others.now }
+{
+    let _counts = (pairs.pair_count(), others.pair_count());
+    pairs == others
+}
+
+/// Sets a key's value through its entry, which first adds the key with another value where it
+/// isn't there.
+pub fn set_by_entry<V: Drop>(
+    pairs: &mut Pairs<V>,
+    key: String,
+    first: V,
+    value: V,
+) -> Result<(), (String, V)>
+    ensures done { OnOk result
+        (pairs.new ≡ insert_entry bytes_eq pairs.old (string_bytes key) value) }
+    ensures refused { OnErr result (pairs.new ≡ pairs.old) }
+    ensures handed_back { IfErr result (λ back. back ≡ (key, first)) }
+{
+    let place = pairs.entry(key).or_insert(first)?;
+    *place = value;
+    Ok(())
+}
+
+/// Takes a key out through its entry.
+pub fn take_by_entry<V>(pairs: &mut Pairs<V>, key: String) -> Option<V>
+    ensures value { result ≡ lookup (bytes_eq (string_bytes key)) pairs.old }
+    ensures pairs { OnSome result
+        (pairs.new ≡ swap_remove_entry (bytes_eq (string_bytes key)) pairs.old) }
+{
+    match pairs.entry(key) {
+        Entry::Occupied(entry) => Some(entry.remove()),
+        Entry::Vacant(_entry) => None,
+    }
 }

@@ -6,9 +6,13 @@ ghost use Rattle.std.specs.Option.{option_copied, option_copied_mut};
 ghost use Rattle.std.specs.Map.{lookup, keys_of, values_of};
 ghost use Rattle.indexmap.specs.IndexMap.{insert_entry, swap_remove_entry};
 
+mod entry;
+mod equal;
 mod iter;
+mod places;
 
 use crate::Value;
+pub use entry::{Entry, OccupiedEntry, VacantEntry};
 use indexmap::IndexSet;
 pub use iter::{IntoIter, Iter, Keys, Values};
 use std::alloc::Global;

@@ -1,6 +1,6 @@
 //! Values of property lists.
 
-ghost use Rattle.std.specs.Prelude.{◌≡◌, IfSome};
+ghost use Rattle.std.specs.Prelude.{◌≡◌, IfErr, IfOk, IfSome};
 ghost use Rattle.std.specs.Iterator.{IsFinite};
 ghost use Rattle.plist_base.specs.Bracketing.{AreAlike, bracketing};
 ghost use Rattle.plist_base.specs.Writing.{answer_of};
@@ -15,13 +15,15 @@ ghost use Rattle.plist_ascii.specs.Coming.{Gives as ascii_gives, inner_of};
 ghost use Rattle.plist_ascii.specs.Texts.{lax};
 ghost use Rattle.plist_reader.specs.Coming.{items_of_input};
 ghost use Rattle.plist_reader.specs.Formats.{front};
-ghost use Rattle.plist_base.specs.Trees.{Tree};
+ghost use Rattle.plist_base.specs.Faults.{OutOfMemory, fault_nowhere, fault_of};
+ghost use Rattle.plist_base.specs.Trees.{Leaf, String, Tree};
 ghost use Rattle.plist.specs.LastWins.{AreLastValues, Rows, last_values, last_wins};
 ghost use Rattle.plist.specs.Remaining.{remaining_events};
 ghost use Rattle.plist.specs.Views.{kind_of_tree, tree_of};
 
 use crate::Dictionary;
 use crate::collect::collect;
+use crate::copy::copy;
 use crate::stream::{AnyEvent, Events};
 use crate::writing::file_of;
 use plist_ascii::{AsciiReader, Bytes};
@@ -128,6 +130,30 @@ impl Value {
             × Collects event_of (ascii_gives R.remaining R.failures) ascii (built_tree result) }
     {
         collect(alloc, AsciiReader::new(alloc, reader))
+    }
+
+    /// A copy: the same content, dictionaries in the same order.
+    ///
+    /// # Errors
+    ///
+    /// `OutOfMemory`.
+    pub fn clone(&self, alloc: Global) -> Result<Value, Error>
+        ensures copy { IfOk result (λ copy. tree_of copy ≡ tree_of self.now) }
+        ensures memory { IfErr result (λ error. fault_of error ≡ fault_nowhere OutOfMemory) }
+    {
+        Ok(copy(alloc, self)?)
+    }
+
+    /// The value of a text.
+    ///
+    /// # Errors
+    ///
+    /// `OutOfMemory`.
+    pub fn try_from_str(alloc: Global, text: &str) -> Result<Value, Error>
+        ensures value { IfOk result (λ value. tree_of value ≡ Leaf (String text.now)) }
+        ensures memory { IfErr result (λ error. fault_of error ≡ fault_nowhere OutOfMemory) }
+    {
+        Ok(Value::String(String::from_str(alloc, text)?))
     }
 
     /// Writes the value as a binary property list, behind what was written before, and flushes.

@@ -1,0 +1,73 @@
+-- Property lists that are the same, whatever the order of a dictionary's pairs. Of a key that stands more than once the first counts.
+use Rattle.std.specs.Prelude.{◌≡◌, ℕ, ◌==◌, ℤ, Bool, true, false, not, ◌&&◌, ◌||◌, cond, Option, Some, None, is_some, List, [], ◌∷◌}
+use Rattle.std.specs.Str.{bytes_eq}
+use Rattle.std.specs.List.{list_any}
+use Rattle.std.specs.Ordering.{int_eq}
+use Rattle.std.specs.HashMap.{entries_eq}
+use Rattle.plist_base.specs.declared.real.RealBits.{RealBits}
+use Rattle.plist_base.specs.declared.real.RealBits.TheVariants.{Four, Eight}
+use Rattle.plist_base.specs.Trees.{Scalar, Boolean, Data, Date, Integer, Real, String, Uid, Tree, Leaf, Array, Dictionary, Trees, NoTrees, TreeAnd, Members, NoMembers, MemberAnd}
+
+-- reals of one width with the same bytes
+abbrev pub same_real : RealBits → RealBits → Bool
+same_real (Four a) (Four b) = bytes_eq a b
+same_real (Eight a) (Eight b) = bytes_eq a b
+same_real _ _ = false
+
+-- scalars of one kind with the same content
+abbrev pub same_scalar : Scalar → Scalar → Bool
+same_scalar (Boolean a) (Boolean b) = cond a b (not b)
+same_scalar (Data a) (Data b) = bytes_eq a b
+same_scalar (Date a) (Date b) = bytes_eq a b
+same_scalar (Integer a) (Integer b) = int_eq a b
+same_scalar (Real a) (Real b) = same_real a b
+same_scalar (String a) (String b) = bytes_eq a b
+same_scalar (Uid a) (Uid b) = a == b
+same_scalar _ _ = false
+
+-- the first value of a key
+abbrev pub first_value : List ℕ → Members → Option Tree
+first_value key NoMembers = None
+first_value key (MemberAnd other tree members) = cond (bytes_eq key other) (Some tree) (first_value key members)
+
+abbrev pub is_among : List ℕ → List (List ℕ) → Bool
+is_among key seen = list_any (bytes_eq key) seen
+
+abbrev pub if_found : Option Tree → (Tree → Bool) → Bool
+if_found None test = false
+if_found (Some tree) test = test tree
+
+-- each key of the first stands in the second
+abbrev pub has_keys : Members → Members → Bool
+has_keys NoMembers others = true
+has_keys (MemberAnd key tree members) others = is_some (first_value key others) && has_keys members others
+
+abbrev mutual
+  -- equal kinds; arrays by place; dictionaries with the same keys and the same values
+  pub same : Tree → Tree → Bool
+  same (Leaf a) (Leaf b) = same_scalar a b
+  same (Array items) (Array others) = same_items items others
+  same (Dictionary members) (Dictionary others) = is_covered [] members others && has_keys others members
+  same _ _ = false
+
+  pub same_items : Trees → Trees → Bool
+  same_items NoTrees NoTrees = true
+  same_items (TreeAnd tree trees) (TreeAnd other others) = same tree other && same_items trees others
+  same_items _ _ = false
+
+  -- each key of the first that wasn't seen has the same value in the second
+  pub is_covered : (seen : List (List ℕ)) → Members → Members → Bool
+  is_covered seen NoMembers others = true
+  is_covered seen (MemberAnd key tree members) others =
+      (is_among key seen || if_found (first_value key others) (λ other. same tree other)) && is_covered (key ∷ seen) members others
+
+-- what two dictionaries have at a key
+abbrev pub AreSameAt : Option Tree → Option Tree → Type 0
+AreSameAt None None = Unit {0}
+AreSameAt None (Some u) = ⊥
+AreSameAt (Some t) None = ⊥
+AreSameAt (Some t) (Some u) = same t u ≡ true
+
+-- at each key of either list both have a value, and the two are equal by E
+abbrev pub same_pairs : {V : Type 0} → (V → V → Bool) → List (List ℕ × V) → List (List ℕ × V) → Bool
+same_pairs E pairs others = entries_eq bytes_eq (λ p q. E p.1 q.1) pairs others
