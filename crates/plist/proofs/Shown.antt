@@ -9,7 +9,8 @@ use Rattle.plist_base.specs.Trees.{Tree}
 use Rattle.plist_ascii.specs.declared.reader.AsciiReader.{AsciiReader}
 use Rattle.plist_ascii.specs.Ascii.{items_of_ascii}
 use Rattle.plist_ascii.specs.Coming as ascii
-use Rattle.plist_ascii.specs.Texts.{lax}
+use Rattle.plist_ascii.specs.declared.dialect.Dialect.{Dialect}
+use Rattle.plist_ascii.specs.Texts.{ends_bare}
 use Rattle.plist_ascii.specs.Unread.{Known}
 use Rattle.plist_base.specs.declared.source.Source.{Ghosts}
 use Rattle.plist_binread.specs.declared.counter.DecodeCounter.{Ghosts as CounterGhosts}
@@ -47,26 +48,33 @@ of-input (Some bytes) items answer e h = subst (λ o. Answers o answer) e h
 
 -- the items that it has to come
 abbrev pub ascii_coming : {R : Type 0} → (R → Option (List ℕ)) → AsciiReader R → Option (List Item)
-ascii_coming known reader = option_map (λ bytes. items_of_ascii lax bytes (ascii.place_of reader)) (ascii.bytes_left known reader)
+ascii_coming known reader = option_map (λ bytes. items_of_ascii (ascii.stops_of reader) bytes (ascii.place_of reader)) (ascii.bytes_left known reader)
 
-ascii-item : (bytes rest : List ℕ) (p q : ℕ) (item : Given) → ascii.GivesItem lax bytes p item rest q → BeginsWith (items_of_ascii lax bytes p) (option_map (item_by event_of) item) (items_of_ascii lax rest q)
-ascii-item bytes rest p q None h = h.0
-ascii-item bytes rest p q (Some (Ok event)) h = h.items
-ascii-item bytes rest p q (Some (Err error)) h = MatchFault-weaker (kind_of (error_kind_of error)) (λ _. tt) (λ _. tt) (λ b. b.items) h
+ascii-item : (stops : ℕ → Bool) (bytes rest : List ℕ) (p q : ℕ) (item : Given) → ascii.GivesItem stops bytes p item rest q → BeginsWith (items_of_ascii stops bytes p) (option_map (item_by event_of) item) (items_of_ascii stops rest q)
+ascii-item stops bytes rest p q None h = h.0
+ascii-item stops bytes rest p q (Some (Ok event)) h = h.items
+ascii-item stops bytes rest p q (Some (Err error)) h = MatchFault-weaker (kind_of (error_kind_of error)) (λ _. tt) (λ _. tt) (λ b. b.items) h
 
-pub ascii-shows : (k l : Option (List ℕ)) (p q : ℕ) (item : Given) → Known k (λ bytes. (rest : List ℕ) × (l ≡ Some rest) × ascii.GivesItem lax bytes p item rest q)
-    → GoesOn (option_map (λ bytes. items_of_ascii lax bytes p) k) (option_map (item_by event_of) item) (option_map (λ bytes. items_of_ascii lax bytes q) l)
-ascii-shows None l p q item h = tt
-ascii-shows (Some bytes) l p q item h = let r = h bytes refl in (items_of_ascii lax r.0 q, ap (option_map (λ b. items_of_ascii lax b q)) r.1, ascii-item bytes r.0 p q item r.2)
+-- the items go on under the same stops
+ascii-goes : (stops : ℕ → Bool) (k l : Option (List ℕ)) (p q : ℕ) (item : Given) → Known k (λ bytes. (rest : List ℕ) × (l ≡ Some rest) × ascii.GivesItem stops bytes p item rest q)
+    → GoesOn (option_map (λ bytes. items_of_ascii stops bytes p) k) (option_map (item_by event_of) item) (option_map (λ bytes. items_of_ascii stops bytes q) l)
+ascii-goes stops None l p q item h = tt
+ascii-goes stops (Some bytes) l p q item h = let r = h bytes refl in (items_of_ascii stops r.0 q, ap (option_map (λ b. items_of_ascii stops b q)) r.1, ascii-item stops bytes r.0 p q item r.2)
 
-pub of-ascii : (k : Option (List ℕ)) (items : Option (List Item)) (answer : Result Tree Fault) → items ≡ option_map (λ bytes. items_of_ascii lax (front bytes) 0) k → Answers items answer → IfSome k (λ bytes. IsReadFrom (items_of_ascii lax (front bytes) 0) answer)
-of-ascii None items answer e h = tt
-of-ascii (Some bytes) items answer e h = subst (λ o. Answers o answer) e h
+pub ascii-shows : (now then : Dialect) (k l : Option (List ℕ)) (p q : ℕ) (item : Given) → then ≡ now → Known k (λ bytes. (rest : List ℕ) × (l ≡ Some rest) × ascii.GivesItem (ends_bare now) bytes p item rest q)
+    → GoesOn (option_map (λ bytes. items_of_ascii (ends_bare now) bytes p) k) (option_map (item_by event_of) item) (option_map (λ bytes. items_of_ascii (ends_bare then) bytes q) l)
+ascii-shows now then k l p q item same h =
+    subst (λ d. GoesOn (option_map (λ bytes. items_of_ascii (ends_bare now) bytes p) k) (option_map (item_by event_of) item) (option_map (λ bytes. items_of_ascii (ends_bare d) bytes q) l)) (sym same) (ascii-goes (ends_bare now) k l p q item h)
 
-pub ascii-start : (k left : Option (List ℕ)) (place : ℕ) → left ≡ option_map front k → place ≡ 0 → option_map (λ bytes. items_of_ascii lax bytes place) left ≡ option_map (λ bytes. items_of_ascii lax (front bytes) 0) k
-ascii-start k left place e z = (λ i. option_map (λ bytes. items_of_ascii lax bytes (z i)) (e i)) ∙ joined k
+pub of-ascii : (stops : ℕ → Bool) (k : Option (List ℕ)) (items : Option (List Item)) (answer : Result Tree Fault) → items ≡ option_map (λ bytes. items_of_ascii stops (front bytes) 0) k → Answers items answer → IfSome k (λ bytes. IsReadFrom (items_of_ascii stops (front bytes) 0) answer)
+of-ascii stops None items answer e h = tt
+of-ascii stops (Some bytes) items answer e h = subst (λ o. Answers o answer) e h
+
+pub ascii-start : (now given : Dialect) (k left : Option (List ℕ)) (place : ℕ) → now ≡ given → left ≡ option_map front k → place ≡ 0
+    → option_map (λ bytes. items_of_ascii (ends_bare now) bytes place) left ≡ option_map (λ bytes. items_of_ascii (ends_bare given) (front bytes) 0) k
+ascii-start now given k left place d e z = (λ i. option_map (λ bytes. items_of_ascii (ends_bare (d i)) bytes (z i)) (e i)) ∙ joined k
   where
-    joined : (k : Option (List ℕ)) → option_map (λ bytes. items_of_ascii lax bytes 0) (option_map front k) ≡ option_map (λ bytes. items_of_ascii lax (front bytes) 0) k
+    joined : (k : Option (List ℕ)) → option_map (λ bytes. items_of_ascii (ends_bare given) bytes 0) (option_map front k) ≡ option_map (λ bytes. items_of_ascii (ends_bare given) (front bytes) 0) k
     joined None = refl
     joined (Some bytes) = refl
 

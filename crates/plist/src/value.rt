@@ -11,8 +11,8 @@ ghost use Rattle.plist.specs.ReadBy.{IsReadBy};
 ghost use Rattle.plist.specs.ReadingBack.{ReadsBack};
 ghost use Rattle.plist_base.specs.Events.{event_of};
 ghost use Rattle.plist_ascii.specs.Ascii.{items_of_ascii};
-ghost use Rattle.plist_ascii.specs.Coming.{Gives as ascii_gives, inner_of};
-ghost use Rattle.plist_ascii.specs.Texts.{lax};
+ghost use Rattle.plist_ascii.specs.Coming.{Gives as ascii_gives, dialect_of, inner_of};
+ghost use Rattle.plist_ascii.specs.Texts.{ends_bare, lax};
 ghost use Rattle.plist_reader.specs.Coming.{items_of_input};
 ghost use Rattle.plist_reader.specs.Formats.{front};
 ghost use Rattle.plist_base.specs.Faults.{OutOfMemory, fault_nowhere, fault_of};
@@ -26,7 +26,7 @@ use crate::collect::collect;
 use crate::copy::copy;
 use crate::stream::{AnyEvent, Events};
 use crate::writing::file_of;
-use plist_ascii::{AsciiReader, Bytes};
+use plist_ascii::{AsciiReader, Bytes, Dialect};
 use plist_base::{Date, Error, EventKind, Integer, RealBits, Source, Uid};
 use plist_binwrite::send_whole;
 use plist_reader::Reader;
@@ -129,7 +129,27 @@ impl Value {
         ensures read { (ascii : AsciiReader R) × (inner_of ascii ≡ reader)
             × Collects event_of (ascii_gives R.remaining R.failures) ascii (built_tree result) }
     {
-        collect(alloc, AsciiReader::new(alloc, reader))
+        Value::from_reader_ascii_with_dialect(alloc, reader, Dialect::Lax)
+    }
+
+    /// The same of an ASCII property list of this dialect. `{a=b}` is no value in the lax dialect,
+    /// and in the tight one a dictionary.
+    ///
+    /// # Errors
+    ///
+    /// Those of [`Value::from_reader_ascii`].
+    pub fn from_reader_ascii_with_dialect<R: Bytes + Drop>(
+        alloc: Global,
+        reader: R,
+        dialect: Dialect,
+    ) -> Result<Value, Error>
+        ensures value { IfSome (R.remaining reader) (λ bytes.
+            IsReadFrom (items_of_ascii (ends_bare dialect) (front bytes) 0) (built_tree result)) }
+        ensures read { (ascii : AsciiReader R) × (inner_of ascii ≡ reader)
+            × (dialect_of ascii ≡ dialect)
+            × Collects event_of (ascii_gives R.remaining R.failures) ascii (built_tree result) }
+    {
+        collect(alloc, AsciiReader::with_dialect(alloc, reader, dialect))
     }
 
     /// A copy: the same content, dictionaries in the same order.

@@ -11,3 +11,4 @@ pub mod Comments
 pub mod Slashes
 pub mod Items
 pub mod Wants
+pub mod Dialects

@@ -1,12 +1,12 @@
 -- The tokens of an old-style ASCII property list, and the items that they give.
-use Rattle.std.specs.Prelude.{ℕ, zero, suc, ◌+◌, Bool, cond, ◌||◌, ◌==◌, List, [], ◌∷◌, length, drop, map, Option, None, Some, Result, Ok, Err, ⊤}
+use Rattle.std.specs.Prelude.{◌≡◌, ◌⊎◌, ℕ, zero, suc, ◌+◌, Bool, cond, ◌||◌, ◌==◌, List, [], ◌∷◌, length, drop, map, Option, None, Some, Result, Ok, Err, ⊤}
 use Rattle.std.specs.List.{list_any}
 use Rattle.plist_base.specs.Faults.{FaultKind, UnclosedString, InvalidUtf8AsciiStream, InvalidOctalString, InvalidUtf16String, fault_at}
 use Rattle.plist_base.specs.Events.{PlainEvent, StartArray, StartDictionary, EndCollection, Integer, String, Item}
 use Rattle.plist_ascii.specs.declared.token.Lead.{Lead}
 use Rattle.plist_ascii.specs.declared.token.Lead.TheVariants as lead
 use Rattle.plist_ascii.specs.Taken.{taken, past_one}
-use Rattle.plist_ascii.specs.Texts.{Token, bare}
+use Rattle.plist_ascii.specs.Texts.{Token, bare, lax}
 use Rattle.plist_ascii.specs.Quoted.{quoted_token}
 use Rattle.plist_ascii.specs.Comments.{slash}
 
@@ -34,6 +34,10 @@ token_by stops lead.Bare c rest = bare stops c rest
 -- the first token of the bytes `c` and `rest`
 unfoldable pub token : (stops : ℕ → Bool) → ℕ → List ℕ → Token
 token stops c rest = past_one (token_by stops (lead_of c) c rest)
+
+-- Whatever ends a bare text, a token is the same; or it is a bare text, whatever ends it.
+abbrev pub OnlyBareTextsDiffer : Type 0
+OnlyBareTextsDiffer = (c : ℕ) (rest : List ℕ) → ((stops : ℕ → Bool) → token stops c rest ≡ token lax c rest) ⊎ ((stops : ℕ → Bool) → token stops c rest ≡ past_one (bare stops c rest))
 
 -- an item, and how many bytes are taken up to its end
 pub record PlacedItem : Type 0 where

@@ -5,7 +5,8 @@ use Rattle.plist_base.specs.declared.event.Event.{Event}
 use Rattle.plist_base.specs.Faults.{MatchFault, kind_of, error_kind_of, fault_of}
 use Rattle.plist_base.specs.Events.{Item, event_of}
 use Rattle.plist_ascii.specs.declared.reader.AsciiReader.{AsciiReader}
-use Rattle.plist_ascii.specs.Texts.{lax}
+use Rattle.plist_ascii.specs.declared.dialect.Dialect.{Dialect}
+use Rattle.plist_ascii.specs.Texts.{ends_bare}
 use Rattle.plist_ascii.specs.Ascii.{placed, placed_items, items_of_ascii, BeginsWithText}
 use Rattle.plist_ascii.specs.Kinds.{IsAsciiItem, ItemBehindBracket}
 use Rattle.plist_ascii.specs.Incoming.{ItemCountsIo}
@@ -22,6 +23,14 @@ looked_at reader = reader.input.peeked
 -- how many bytes have been taken
 abbrev pub place_of : {R : Type 0} → AsciiReader R → ℕ
 place_of reader = reader.input.taken
+
+-- the dialect that it reads
+abbrev pub dialect_of : {R : Type 0} → AsciiReader R → Dialect
+dialect_of reader = reader.dialect
+
+-- what ends a bare text in it
+abbrev pub stops_of : {R : Type 0} → AsciiReader R → ℕ → Bool
+stops_of reader = ends_bare (dialect_of reader)
 
 -- the reader gives nothing more
 abbrev pub HasEnded : {R : Type 0} → AsciiReader R → Type 0
@@ -63,7 +72,8 @@ EndsAfter item ended = MatchOption item ended (λ answer. MatchResult answer (λ
 -- one call of `next`: the item is the first of those that the bytes not yet taken give; once ended,
 -- the reader inside is asked no more, and behind a start or an end no byte has been looked at
 pub record Gives {R : Type 0} (known : R → Option (List ℕ)) (failed : R → Option ℕ) (old : AsciiReader R) (item : Option (Result Event Error)) (new : AsciiReader R) : Type 0 where
-  pub items : Known (bytes_left known old) (λ bytes. (rest : List ℕ) × (bytes_left known new ≡ Some rest) × GivesItem lax bytes (place_of old) item rest (place_of new))
+  pub items : Known (bytes_left known old) (λ bytes. (rest : List ℕ) × (bytes_left known new ≡ Some rest) × GivesItem (stops_of old) bytes (place_of old) item rest (place_of new))
+  pub dialect : dialect_of new ≡ dialect_of old
   pub rises : Rises item (place_of old) (place_of new)
   pub offset : FaultIsAt item (place_of new)
   pub kinds : IsAsciiItem item

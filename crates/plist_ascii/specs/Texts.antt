@@ -5,6 +5,8 @@ use Rattle.std.specs.Str.{is_utf8}
 use Rattle.plist_base.specs.Faults.{FaultKind, InvalidUtf8AsciiStream}
 use Rattle.plist_base.specs.Events.{PlainEvent, Integer, String}
 use Rattle.plist_base.specs.IntegerText.{integer_of_text}
+use Rattle.plist_ascii.specs.declared.dialect.Dialect.{Dialect}
+use Rattle.plist_ascii.specs.declared.dialect.Dialect.TheVariants as dialect
 use Rattle.plist_ascii.specs.Taken.{Taken, taken, run}
 
 -- a token gives an event, or nothing
@@ -14,6 +16,15 @@ Token = Taken (Option PlainEvent)
 -- ends a bare text: space, `)`, CR, tab, `;`, `,`
 abbrev pub lax : ℕ → Bool
 lax c = list_any (λ d. c == d) (32 ∷ 41 ∷ 13 ∷ 9 ∷ 59 ∷ 44 ∷ [])
+
+-- the same, and LF, `}`, `=`
+abbrev pub tight : ℕ → Bool
+tight c = list_any (λ d. c == d) (32 ∷ 41 ∷ 13 ∷ 9 ∷ 59 ∷ 44 ∷ 10 ∷ 125 ∷ 61 ∷ [])
+
+-- the stops of a dialect
+abbrev pub ends_bare : Dialect → ℕ → Bool
+ends_bare dialect.Lax c = lax c
+ends_bare dialect.Tight c = tight c
 
 -- a number where the text spells one, else the text
 abbrev pub number_or_text : List ℕ → Option ℤ → PlainEvent

@@ -12,7 +12,7 @@ use Rattle.plist_ascii.specs.declared.input.Input.{Input}
 use Rattle.plist_ascii.specs.declared.input.Stop.{Stop}
 use Rattle.plist_ascii.specs.declared.input.Stop.TheVariants as stop
 use Rattle.plist_ascii.specs.Taken.{Taken, run}
-use Rattle.plist_ascii.specs.Texts.{lax}
+use Rattle.plist_ascii.specs.Texts.{ends_bare}
 use Rattle.plist_ascii.specs.Quoted.{ends_run}
 
 -- a byte that was looked at, and the bytes behind it: no input is longer than 2^64 - 1 bytes
@@ -38,7 +38,7 @@ first bytes = slice_get bytes 0
 
 -- what ends a run
 abbrev pub stops : Stop → ℕ → Bool
-stops stop.Bare c = lax c
+stops (stop.Bare dialect) c = ends_bare dialect c
 stops stop.LineEnd c = c == 10
 stops (stop.Quoted quote) c = ends_run quote c
 

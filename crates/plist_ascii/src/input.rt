@@ -4,21 +4,38 @@
 ghost use Rattle.std.specs.Prelude.{◌≡◌, ◌⊎◌, ℕ, ◌+◌, ◌-◌, ◌^◌, ◌<◌, ◌≤◌, List, [], ◌∷◌, length, take, drop, None, Some, Ok, true, false, IfOk, IfSome, IfErr, OnOk, IsSome, MatchOption};
 ghost use Rattle.plist_base.specs.Faults.{Io, OutOfMemory, UnclosedString, fault_of, fault_at, fault_nowhere, kind_of, error_kind_of};
 ghost use Rattle.plist_ascii.specs.Taken.{run};
+ghost use Rattle.plist_ascii.specs.Texts.{ends_bare};
 ghost use Rattle.plist_ascii.specs.Incoming.{AnswersIo};
 ghost use Rattle.plist_ascii.specs.Unread.{unread, Known, first, stops, Takes, TakesPart, IsAt, is_from_outside};
 
 use crate::bytes::Bytes;
+use crate::dialect::Dialect;
 use plist_base::{Error, ErrorKind};
 
 /// What ends a run of bytes.
 #[derive(Clone, Copy)]
 pub enum Stop {
-    /// What ends a bare text.
-    Bare,
+    /// What ends a bare text of this dialect.
+    Bare(Dialect),
     /// LF.
     LineEnd,
     /// This quote, or a backslash.
     Quoted(u8),
+}
+
+// Does this byte end a bare text?
+fn ends_bare(dialect: Dialect, byte: u8) -> bool
+    ensures { result ≡ ends_bare dialect byte }
+{
+    match dialect {
+        Dialect::Lax => matches!(byte, b' ' | b')' | b'\r' | b'\t' | b';' | b','),
+        Dialect::Tight => {
+            matches!(
+                byte,
+                b' ' | b')' | b'\r' | b'\t' | b';' | b',' | b'\n' | b'}' | b'='
+            )
+        }
+    }
 }
 
 /// Does this byte end the run?
@@ -26,7 +43,7 @@ pub fn is_stop(stop: Stop, byte: u8) -> bool
     ensures { result ≡ stops stop byte }
 {
     match stop {
-        Stop::Bare => matches!(byte, b' ' | b')' | b'\r' | b'\t' | b';' | b','),
+        Stop::Bare(dialect) => ends_bare(dialect, byte),
         Stop::LineEnd => byte == b'\n',
         Stop::Quoted(quote) => byte == quote || byte == b'\\',
     }

@@ -6,6 +6,7 @@
 
 mod bytes;
 mod comment;
+mod dialect;
 mod escape;
 mod input;
 mod quoted;
@@ -14,4 +15,5 @@ mod text;
 mod token;
 
 pub use bytes::Bytes;
+pub use dialect::Dialect;
 pub use reader::AsciiReader;

@@ -8,6 +8,7 @@ ghost use Rattle.plist_ascii.specs.Unread.{unread, Known, stops, is_from_outside
 ghost use Rattle.plist_ascii.specs.Coming.{GivesItem, Rises, FaultIsAt, EndsAfter, bytes_to_come};
 
 use crate::bytes::Bytes;
+use crate::dialect::Dialect;
 use crate::input::{Input, Stop};
 use plist_base::{Error, ErrorKind, OwnedEvent};
 use std::alloc::Global;
@@ -68,9 +69,9 @@ impl<R: Bytes> Input<R> {
 /// Reads an ASCII property list as events, from its first byte on.
 ///
 /// Brackets open and close collections, quotes and other bytes open texts, and what stands between
-/// them is passed over; nesting isn't checked. A bare text that spells an integer is one. It looks
-/// at one byte behind an item only where that byte decides the item's end. At most 2^64 - 1 bytes
-/// are taken.
+/// them is passed over; nesting isn't checked. A bare text that spells an integer is one; the
+/// [`Dialect`] tells what ends it. It looks at one byte behind an item only where that byte decides
+/// the item's end. At most 2^64 - 1 bytes are taken.
 ///
 /// The offset of a fault is the number of bytes taken, and want of memory has none.
 ///
@@ -86,25 +87,45 @@ impl<R: Bytes> Input<R> {
 pub struct AsciiReader<R> {
     input: Input<R>,
     alloc: Global,
+    dialect: Dialect,
 }
 
 impl<R: Bytes> AsciiReader<R> {
     ghost use Rattle.std.specs.Prelude.{◌≡◌, ◌-◌, ◌^◌, take, None, IfSome, Some};
     ghost use Rattle.std.specs.Option.{option_map};
     ghost use Rattle.plist_ascii.specs.Unread.{within};
-    ghost use Rattle.plist_ascii.specs.Coming.{bytes_left, inner_of, looked_at, place_of, HasEnded};
+    ghost use Rattle.plist_ascii.specs.Ascii.{OnlyBareTextsDiffer};
+    ghost use Rattle.plist_ascii.specs.Coming.{bytes_left, dialect_of, inner_of, looked_at, place_of, HasEnded};
 
-    /// A reader over a device's bytes. It reads nothing before its first item is asked for.
+    /// A lax reader over a device's bytes. It reads nothing before its first item is asked for.
     pub fn new(alloc: Global, inner: R) -> Self
         ensures bytes { bytes_left R.remaining result
             ≡ option_map (λ bytes. take (2 ^ 64 - 1) bytes) (R.remaining inner) }
         ensures place { place_of result ≡ 0 }
         ensures inner { inner_of result ≡ inner }
         ensures looked_at { looked_at result ≡ None }
+        ensures dialect { dialect_of result ≡ Dialect.Lax }
+    {
+        AsciiReader::with_dialect(alloc, inner, Dialect::Lax)
+    }
+
+    /// A reader of this dialect over a device's bytes. It reads nothing before its first item is
+    /// asked for.
+    ///
+    /// In the tight dialect `{a=b}` gives a dictionary's start, `a`, `b` and an end.
+    pub fn with_dialect(alloc: Global, inner: R, dialect: Dialect) -> Self
+        ensures bytes { bytes_left R.remaining result
+            ≡ option_map (λ bytes. take (2 ^ 64 - 1) bytes) (R.remaining inner) }
+        ensures place { place_of result ≡ 0 }
+        ensures inner { inner_of result ≡ inner }
+        ensures looked_at { looked_at result ≡ None }
+        ensures dialect { dialect_of result ≡ dialect }
+        ensures alike { OnlyBareTextsDiffer }
     {
         AsciiReader {
             input: Input::new(inner),
             alloc,
+            dialect,
         }
     }
 
@@ -131,6 +152,6 @@ impl<R: Bytes + Drop> Iterator for AsciiReader<R> {
     ghost remaining = { λ s. at_most (steps_to_come s) };
 
     fn next(&mut self) -> Option<Result<OwnedEvent, Error>> {
-        self.input.item(self.alloc, Stop::Bare)
+        self.input.item(self.alloc, Stop::Bare(self.dialect))
     }
 }

@@ -25,7 +25,8 @@ use Rattle.plist_ascii.specs.declared.reader.AsciiReader.{AsciiReader}
 use Rattle.plist_ascii.specs.Ascii.{items_of_ascii, items_in, BeginsWithText}
 use Rattle.plist_ascii.specs.Coming as ascii
 use Rattle.plist_ascii.specs.Incoming as incoming
-use Rattle.plist_ascii.specs.Texts.{lax}
+use Rattle.plist_ascii.specs.declared.dialect.Dialect.TheVariants.{Lax}
+use Rattle.plist_ascii.specs.Texts.{lax, ends_bare}
 use Rattle.plist_reader.specs.declared.reader.State.{State}
 use Rattle.plist_reader.specs.declared.reader.State.TheVariants as state
 use Rattle.plist_reader.specs.Coming.{coming, items_by, items_of_input, GivesItem, GoesOn, EndsAfter, StateGives, HoldsSource, HasItsPlace, source_in}
@@ -65,24 +66,24 @@ binary-item new before after (Some (Ok event)) h = h
 binary-item new before after (Some (Err error)) h =
     MatchFault-weaker (kind_of (error_kind_of error)) (λ _. h.0) (λ m. (h.0, either-owed new before m)) (λ e. e ∙ ap (λ l. Err (fault_of error) ∷ l) (sym h.0)) h.1
 
-none-left : (bytes : List ℕ) (q : ℕ) → bytes ≡ [] → items_of_ascii lax bytes q ≡ []
+none-left : (stops : ℕ → Bool) (bytes : List ℕ) (q : ℕ) → bytes ≡ [] → items_of_ascii stops bytes q ≡ []
 unfolding items_in
-none-left bytes q e = ap (λ l. items_of_ascii lax l q) e
+none-left stops bytes q e = ap (λ l. items_of_ascii stops l q) e
 
-ascii-item : (bytes rest : List ℕ) (p q : ℕ) (item : Given) → ascii.GivesItem lax bytes p item rest q → GivesItem (items_of_ascii lax bytes p) item (items_of_ascii lax rest q)
-ascii-item bytes rest p q None h = (h.0, none-left rest q h.1)
-ascii-item bytes rest p q (Some (Ok event)) h = h.items
-ascii-item bytes rest p q (Some (Err error)) h =
-    MatchFault-weaker (kind_of (error_kind_of error)) (λ e. none-left rest q e) (λ m. (none-left rest q m.0, text-owed (items_of_ascii lax bytes p) m.1)) (λ b. b.items) h
+ascii-item : (stops : ℕ → Bool) (bytes rest : List ℕ) (p q : ℕ) (item : Given) → ascii.GivesItem stops bytes p item rest q → GivesItem (items_of_ascii stops bytes p) item (items_of_ascii stops rest q)
+ascii-item stops bytes rest p q None h = (h.0, none-left stops rest q h.1)
+ascii-item stops bytes rest p q (Some (Ok event)) h = h.items
+ascii-item stops bytes rest p q (Some (Err error)) h =
+    MatchFault-weaker (kind_of (error_kind_of error)) (λ e. none-left stops rest q e) (λ m. (none-left stops rest q m.0, text-owed (items_of_ascii stops bytes p) m.1)) (λ b. b.items) h
 
 binary-goes : (k l : Option (List ℕ)) (f g : List ℕ → List Item) (new : Bool) (item : Given) → l ≡ k → IfSome k (λ bytes. binary.GivesItem new (f bytes) item (g bytes)) → GoesOn (option_map f k) item (option_map g l)
 binary-goes None l f g new item e h = tt
 binary-goes (Some bytes) l f g new item e h = (g bytes, ap (option_map g) e, binary-item new (f bytes) (g bytes) item h)
 
-pub ascii-goes : (k l : Option (List ℕ)) (p q : ℕ) (item : Given) → ((bytes : List ℕ) → k ≡ Some bytes → (rest : List ℕ) × (l ≡ Some rest) × ascii.GivesItem lax bytes p item rest q)
-    → GoesOn (option_map (λ bytes. items_of_ascii lax bytes p) k) item (option_map (λ bytes. items_of_ascii lax bytes q) l)
-ascii-goes None l p q item h = tt
-ascii-goes (Some bytes) l p q item h = let r = h bytes refl in (items_of_ascii lax r.0 q, ap (option_map (λ b. items_of_ascii lax b q)) r.1, ascii-item bytes r.0 p q item r.2)
+pub ascii-goes : (stops : ℕ → Bool) (k l : Option (List ℕ)) (p q : ℕ) (item : Given) → ((bytes : List ℕ) → k ≡ Some bytes → (rest : List ℕ) × (l ≡ Some rest) × ascii.GivesItem stops bytes p item rest q)
+    → GoesOn (option_map (λ bytes. items_of_ascii stops bytes p) k) item (option_map (λ bytes. items_of_ascii stops bytes q) l)
+ascii-goes stops None l p q item h = tt
+ascii-goes stops (Some bytes) l p q item h = let r = h bytes refl in (items_of_ascii stops r.0 q, ap (option_map (λ b. items_of_ascii stops b q)) r.1, ascii-item stops bytes r.0 p q item r.2)
 
 over-ends : (E : Type 0) (item : Given) → MatchOption item E (λ answer. OnErr answer E) → EndsAfter item E
 over-ends E None h = h
@@ -140,7 +141,8 @@ module _ {R : Type 0} {g : Ghosts R} (known : R → Option (List ℕ)) (failed :
 
   pub ascii-gives : (old new : AsciiReader (SourceBytes R)) (item : Given) → ascii.Gives (bytes_left known) (λ s. Some (failed (source_of s))) old item new → StateGives {R = R} {g = g} known failed (state.Ascii old) item (state.Ascii new)
   ascii-gives old new item h = record {
-    items = ascii-goes (ascii.bytes_left (bytes_left known) old) (ascii.bytes_left (bytes_left known) new) (ascii.place_of old) (ascii.place_of new) item h.items;
+    items = subst (λ d. GoesOn ((let before : State R g = state.Ascii old in coming known before)) item (option_map (λ bytes. items_of_ascii (ends_bare d) bytes (ascii.place_of new)) (ascii.bytes_left (bytes_left known) new))) (sym h.dialect)
+        (ascii-goes (ascii.stops_of old) (ascii.bytes_left (bytes_left known) old) (ascii.bytes_left (bytes_left known) new) (ascii.place_of old) (ascii.place_of new) item h.items);
     failures = told-failures (failed (source_of (ascii.inner_of old))) (failed (source_of (ascii.inner_of new))) item h.failures;
     offset = ascii-placed (ascii.place_of new) item h.offset;
     ended = h.ended;
@@ -175,10 +177,11 @@ module _ {R : Type 0} {g : Ghosts R} (known : R → Option (List ℕ)) (failed :
       (subst (λ n. ItemCountsIo item n (failed (binary.source_of new))) (ap failed at ∙ f) h.failures) (binary-gives old new item h)
 
   pub begun-ascii : (source inner : R) (sequence : SourceBytes R) (old new : AsciiReader (SourceBytes R)) (item : Given) → source_of sequence ≡ inner → known inner ≡ known source → failed inner ≡ failed source → ascii.inner_of old ≡ sequence → place_of sequence ≡ 0 → held sequence ≡ [] → IfSome (known source) (λ bytes. format.Ascii ≡ format_of bytes)
-      → ascii.bytes_left (bytes_left known) old ≡ option_map front (bytes_left known sequence) → ascii.place_of old ≡ 0 → ascii.Gives (bytes_left known) (λ s. Some (failed (source_of s))) old item new → StateGives {R = R} {g = g} known failed (state.Unread source) item (state.Ascii new)
-  begun-ascii source inner sequence old new item from e f inside at none is bytes place h =
+      → ascii.bytes_left (bytes_left known) old ≡ option_map front (bytes_left known sequence) → ascii.place_of old ≡ 0 → ascii.dialect_of old ≡ Lax → ascii.Gives (bytes_left known) (λ s. Some (failed (source_of s))) old item new → StateGives {R = R} {g = g} known failed (state.Unread source) item (state.Ascii new)
+  begun-ascii source inner sequence old new item from e f inside at none is bytes place dialect h =
       chosen-gives source (state.Ascii old) (state.Ascii new) item
-      ((λ i. option_map (λ b. items_of_ascii lax b (place i)) (bytes i)) ∙ ap (λ p. option_map (λ b. items_of_ascii lax b 0) (option_map front (option_map (λ bytes. held sequence ++ from_place p bytes) (known (source_of sequence))))) at
+      (ap (λ d. option_map (λ b. items_of_ascii (ends_bare d) b (ascii.place_of old)) (ascii.bytes_left (bytes_left known) old)) dialect
+      ∙ (λ i. option_map (λ b. items_of_ascii lax b (place i)) (bytes i)) ∙ ap (λ p. option_map (λ b. items_of_ascii lax b 0) (option_map front (option_map (λ bytes. held sequence ++ from_place p bytes) (known (source_of sequence))))) at
       ∙ ap (λ w. option_map (λ b. items_of_ascii lax b 0) (option_map front (option_map (λ bytes. w ++ from_place 0 bytes) (known (source_of sequence))))) none
       ∙ ascii-items (known source) (known (source_of sequence)) (ap known from ∙ e) is)
       (subst (λ n. ItemCountsIo item n (failed (source_of (ascii.inner_of new)))) (ap (λ s. failed (source_of s)) inside ∙ ap failed from ∙ f) (let g : StateGives known failed (state.Ascii old) item (state.Ascii new) = ascii-gives old new item h in g.failures)) (ascii-gives old new item h)

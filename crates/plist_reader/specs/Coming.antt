@@ -38,7 +38,7 @@ module _ {R : Type 0} {g : Ghosts R} (known : R → Option (List ℕ)) where
   abbrev pub coming : State R g → Option (List Item)
   coming (state.Unread source) = option_map items_of_input (known source)
   coming (state.Binary reader) = option_map (λ bytes. binary.to_come bytes reader) (known (binary.source_of reader))
-  coming (state.Ascii reader) = option_map (λ bytes. items_of_ascii lax bytes (ascii.place_of reader)) (ascii.bytes_left (bytes_left known) reader)
+  coming (state.Ascii reader) = option_map (λ bytes. items_of_ascii (ascii.stops_of reader) bytes (ascii.place_of reader)) (ascii.bytes_left (bytes_left known) reader)
   coming (state.Refused source) = Some []
   coming state.Moved = Some []
 

@@ -1,12 +1,4 @@
-use Rattle.plist_ascii.specs.Coming.{bytes_left, place_of}
-use Rattle.plist.specs.Collecting.{built_tree}
-use Rattle.plist.proofs.Shown.{of-ascii, ascii-start, ascii-shows, ascii_coming}
 use Rattle.plist.proofs.value.Value.from_reader_ascii.Goals as goal
 
-pub returns-clause-value : goal.returns-clause-value
-returns-clause-value g c =
-    of-ascii _ _ (built_tree c.collect.result) (ascii-start _ _ _ c.new.ensures.bytes c.new.ensures.place)
-    (c.collect.ensures.shown (ascii_coming g.R.Bytes.remaining) (λ old item new gives. ascii-shows (bytes_left g.R.Bytes.remaining old) (bytes_left g.R.Bytes.remaining new) (place_of old) (place_of new) item gives.items))
-
 pub returns-clause-read : goal.returns-clause-read
-returns-clause-read g c = (c.new.result, c.new.ensures.inner, c.collect.ensures.value)
+returns-clause-read g c = let r = c.from_reader_ascii_with_dialect.ensures.read in (r.0, r.1, r.3)
