@@ -53,6 +53,10 @@ source_in (state.Ascii reader) = Some (stream.source_of (ascii.inner_of reader))
 source_in (state.Refused source) = Some source
 source_in state.Moved = None
 
+-- the same of a reader
+abbrev pub source_of : {R : Type 0} {g : Ghosts R} → Reader R g → Option R
+source_of reader = source_in reader.state
+
 -- the reader gives nothing more
 abbrev pub IsOver : {R : Type 0} {g : Ghosts R} → State R g → Type 0
 IsOver (state.Unread source) = ⊥

@@ -86,7 +86,7 @@ impl<R: Source> SourceBytes<R> {
                 self.place += count;
                 Ok(())
             }
-            Err(failure) => Err(failure),
+            Err(fault) => Err(fault),
         }
     }
 }

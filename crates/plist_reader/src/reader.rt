@@ -69,11 +69,12 @@ pub struct Reader<R: Source> {
 impl<R: Source> Reader<R> {
     ghost use Rattle.std.specs.Prelude.{◌≡◌};
     ghost use Rattle.std.specs.Option.{option_map};
-    ghost use Rattle.plist_reader.specs.Coming.{to_come, items_of_input};
+    ghost use Rattle.plist_reader.specs.Coming.{to_come, items_of_input, source_of};
 
     /// A reader over a source. It reads nothing before its first item is asked for.
     pub fn new(alloc: Global, source: R) -> Self
         ensures items { to_come R.known result ≡ option_map items_of_input (R.known source) }
+        ensures source { source_of result ≡ Some source }
     {
         Reader {
             alloc,

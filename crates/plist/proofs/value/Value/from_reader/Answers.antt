@@ -12,4 +12,4 @@ returns-clause-reads_back g c =
     reads-back _ (built_tree c.collect.result) (of-input _ _ (built_tree c.collect.result) c.new.ensures.items (c.collect.ensures.shown (to_come g.R.Source.known) (λ old item new gives. reader-shows _ _ item gives.items)))
 
 pub returns-clause-read : goal.returns-clause-read
-returns-clause-read g c = (c.new.result, c.new.ensures.items, c.collect.ensures.value)
+returns-clause-read g c = (c.new.result, c.new.ensures.source, c.new.ensures.items, c.collect.ensures.value)
