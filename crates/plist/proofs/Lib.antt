@@ -12,5 +12,5 @@ pub mod Inputs
 pub mod Shown
 pub mod ReadingBack
 pub mod Handed
-pub mod Filed
 pub mod Storing
+pub mod Gathered
