@@ -12,9 +12,9 @@ pub mod Inputs
 pub mod Shown
 pub mod ReadingBack
 pub mod Handed
-pub mod Filed
 pub mod Storing
 pub mod Depths
 pub mod SameTrees
 pub mod Copies
 pub mod EntrySteps
+pub mod Gathered

@@ -1,7 +1,7 @@
 -- What goes out where a value is written as a binary property list.
 use Rattle.std.specs.Prelude.{◌≡◌, ℕ, ◌^◌, ◌≤◌, List, Option, None, Ok, Err, ⊤}
 use Rattle.std.specs.Io.KnownBytes.{Appends}
-use Rattle.plist_base.specs.Faults.{FaultKind, Fault, Io, OutOfMemory, PlistTooLarge}
+use Rattle.plist_base.specs.Faults.{FaultKind, Io, OutOfMemory, PlistTooLarge}
 use Rattle.plist_base.specs.Trees.{Tree}
 use Rattle.plist_base.specs.Writing.{Answer}
 use Rattle.plist_binwrite.specs.Files.{IsFileOf}
@@ -13,10 +13,6 @@ abbrev pub StopsFile : FaultKind → Tree → Type 0
 StopsFile PlistTooLarge tree = 2 ^ 64 ≤ file_size tree
 StopsFile OutOfMemory tree = ⊤
 StopsFile kind tree = ⊥
-
--- the fault says why no file of the tree is made
-abbrev pub IsUnmade : Tree → Fault → Type 0
-IsUnmade tree fault = (fault.offset ≡ None) × StopsFile fault.kind tree
 
 module _ {W : Type 0} (contents : W → Option (List ℕ)) where
   -- the only refusals: of a device, after a beginning of a file of the tree; and where no file is made, and what takes the bytes is the same

@@ -25,10 +25,10 @@ use crate::Dictionary;
 use crate::collect::collect;
 use crate::copy::copy;
 use crate::stream::{AnyEvent, Events};
-use crate::writing::file_of;
+use crate::writing::collect_events;
 use plist_ascii::{AsciiReader, Bytes, Dialect};
 use plist_base::{Date, Error, EventKind, Integer, RealBits, Source, Uid};
-use plist_binwrite::send_whole;
+use plist_binwrite::complete;
 use plist_reader::Reader;
 use std::alloc::Global;
 use std::io::Write;
@@ -188,8 +188,8 @@ impl Value {
         ensures sent { SendsTree W.contents (tree_of self.now)
             (answer_of result) writer.old writer.new }
     {
-        match file_of(alloc, self) {
-            Ok(file) => send_whole(writer, file.as_slice()),
+        match collect_events(alloc, self) {
+            Ok(events) => complete(alloc, events.as_slice(), writer),
             Err(error) => Err(error),
         }
     }

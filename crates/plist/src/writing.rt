@@ -1,18 +1,15 @@
 //! Values as the events that a writer takes.
 
-ghost use Rattle.std.specs.Prelude.{◌≡◌, None, IfOk, IfErr};
+ghost use Rattle.std.specs.Prelude.{◌≡◌, map, IfOk, IfErr};
 ghost use Rattle.plist_base.specs.Bracketing.{bracketing};
-ghost use Rattle.plist_base.specs.Events.{item_of};
-ghost use Rattle.plist_base.specs.Faults.{MatchFault, OutOfMemory, fault_of};
+ghost use Rattle.plist_base.specs.Events.{event_of, item_of};
+ghost use Rattle.plist_base.specs.Faults.{OutOfMemory, fault_of, fault_nowhere};
 ghost use Rattle.plist_base.specs.Writing.{answer_of};
-ghost use Rattle.plist_binwrite.specs.Files.{IsFileOf};
 ghost use Rattle.plist.specs.Handing.{Hands, HandsItem};
-ghost use Rattle.plist.specs.Sent.{IsUnmade};
 ghost use Rattle.plist.specs.Views.{tree_of};
 
 use crate::Value;
-use plist_base::{Error, ErrorKind, Event, Writer};
-use plist_binwrite::BinaryWriter;
+use plist_base::{Error, Event, Writer};
 use std::alloc::Global;
 
 // Hands an item's event to the writer, or passes its fault on.
@@ -43,31 +40,22 @@ pub fn write_value<W: Writer>(alloc: Global, value: &Value, writer: &mut W) -> R
     Ok(())
 }
 
-// The fault of a writer into memory, whose failures are want of memory.
-fn in_memory(error: Error) -> Error
-    ensures kind { MatchFault (fault_of error).kind ((fault_of result).kind ≡ OutOfMemory)
-        ((fault_of result).kind ≡ (fault_of error).kind)
-        ((fault_of result).kind ≡ (fault_of error).kind) }
-    ensures offset { (fault_of error).offset ≡ None → (fault_of result).offset ≡ None }
-{
-    match error.kind() {
-        ErrorKind::Io(_) => ErrorKind::OutOfMemory.without_position(),
-        _ => error,
-    }
-}
-
-/// The file of the value, in memory.
+/// The events of the value, in order. Texts and data are borrowed.
 ///
 /// # Errors
 ///
-/// `PlistTooLarge` where it would have 2^64 bytes or more; `OutOfMemory`.
-pub fn file_of(alloc: Global, value: &Value) -> Result<Vec<u8>, Error>
-    ensures file { IfOk result (λ file. IsFileOf (tree_of value.now) file.items) }
-    ensures refused { IfErr result (λ error. IsUnmade (tree_of value.now) (fault_of error)) }
+/// `OutOfMemory`, without an offset.
+pub fn collect_events<'a>(alloc: Global, value: &'a Value) -> Result<Vec<Event<'a>>, Error>
+    ensures events { IfOk result (λ events. map event_of events.items ≡ bracketing (tree_of value.now)) }
+    ensures memory { IfErr result (λ error. fault_of error ≡ fault_nowhere OutOfMemory) }
 {
-    let mut writer = BinaryWriter::new(alloc, Vec::new(alloc));
-    match write_value(alloc, value, &mut writer) {
-        Ok(()) => Ok(writer.into_inner()),
-        Err(error) => Err(in_memory(error)),
+    let mut events = Vec::new(alloc);
+    let mut left = value.events(alloc);
+    while let Some(item) = left.next() {
+        match item {
+            Ok(event) => events.push(event)?,
+            Err(error) => return Err(error),
+        }
     }
+    Ok(events)
 }

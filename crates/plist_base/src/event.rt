@@ -12,7 +12,7 @@ use std::borrow::{CowSlice, CowStr};
 ///
 /// Two are equal if they are of one kind and their contents are, borrowed or not; a length is
 /// part of a start.
-#[derive(Debug, Drop, PartialEq, Eq)]
+#[derive(Debug, Drop, PartialEq, Eq, Hash)]
 pub enum Event<'a> {
     /// An array begins. Its length is a hint.
     StartArray(Option<u64>),

@@ -7,7 +7,7 @@ ghost use Rattle.plist_binwrite.specs.Sending.{Sends};
 
 use crate::plan::plan_file;
 use crate::send::send_whole;
-use plist_base::{Error, OwnedEvent};
+use plist_base::{Error, Event};
 use std::alloc::Global;
 use std::io::Write;
 
@@ -16,7 +16,7 @@ use std::io::Write;
 /// # Errors
 /// `PlistTooLarge` where the file would have 2^64 bytes or more, and `OutOfMemory`, before a byte was
 /// sent; `Io` after a beginning of the file was.
-pub fn complete<W: Write>(alloc: Global, events: &[OwnedEvent], writer: &mut W) -> Result<(), Error>
+pub fn complete<W: Write>(alloc: Global, events: &[Event<'_>], writer: &mut W) -> Result<(), Error>
     requires whole { AreWhole (plain_events events.now) }
     ensures { Sends W.contents (plain_events events.now) (answer_of result) writer.old writer.new }
 {

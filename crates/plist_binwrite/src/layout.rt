@@ -14,7 +14,7 @@ use crate::children::children;
 use crate::forms::{push_bytes, push_length, push_number};
 use crate::kinds::{Kind, has_item, kind_at};
 use crate::scalar::push_scalar;
-use plist_base::{Error, OwnedEvent};
+use plist_base::{Error, Event};
 use std::alloc::Global;
 
 // Appends references to the objects of the events at these places.
@@ -37,7 +37,7 @@ fn push_references(
 
 fn push_collection(
     alloc: Global,
-    events: &[OwnedEvent],
+    events: &[Event<'_>],
     skips: &[usize],
     numbers: &[usize],
     width: usize,
@@ -67,7 +67,7 @@ fn push_collection(
 // Appends the object of the tree that begins here.
 fn push_object(
     alloc: Global,
-    events: &[OwnedEvent],
+    events: &[Event<'_>],
     skips: &[usize],
     numbers: &[usize],
     width: usize,
@@ -95,7 +95,7 @@ fn push_object(
 // Appends the object of the event here, unless that is done.
 fn place_one(
     alloc: Global,
-    events: &[OwnedEvent],
+    events: &[Event<'_>],
     skips: &[usize],
     numbers: &[usize],
     width: usize,
@@ -131,7 +131,7 @@ fn place_one(
 
 fn place_all(
     alloc: Global,
-    events: &[OwnedEvent],
+    events: &[Event<'_>],
     skips: &[usize],
     numbers: &[usize],
     width: usize,
@@ -176,7 +176,7 @@ pub struct Layout {
 /// values. The file's size is below 2^64.
 pub fn lay_out(
     alloc: Global,
-    events: &[OwnedEvent],
+    events: &[Event<'_>],
     skips: &[usize],
     numbers: &[usize],
     width: usize,

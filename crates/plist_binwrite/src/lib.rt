@@ -5,6 +5,7 @@
 #![tactic(auto)]
 
 mod children;
+mod classes;
 mod completion;
 mod forms;
 mod kinds;
@@ -21,5 +22,6 @@ mod text;
 mod wants;
 mod writer;
 
+pub use completion::complete;
 pub use send::send_whole;
 pub use writer::BinaryWriter;

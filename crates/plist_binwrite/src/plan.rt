@@ -16,7 +16,7 @@ use crate::layout::{Layout, lay_out};
 use crate::numbering::{Numbering, number_events};
 use crate::size::check_size;
 use crate::skips::skips_of;
-use plist_base::{Error, OwnedEvent};
+use plist_base::{Error, Event};
 use std::alloc::Global;
 
 // The table and the trailer behind the objects.
@@ -43,7 +43,7 @@ fn close(layout: Layout) -> Result<Vec<u8>, Error>
 // The file of the tree whose events these are, with their numbers.
 fn lay_out_file(
     alloc: Global,
-    events: &[OwnedEvent],
+    events: &[Event<'_>],
     skips: &[usize],
     numbering: &Numbering,
 ) -> Result<Vec<u8>, Error>
@@ -77,7 +77,7 @@ fn lay_out_file(
 /// # Errors
 /// `PlistTooLarge` where the file would have 2^64 bytes or more, before any of it is laid out;
 /// `OutOfMemory`. Neither has an offset.
-pub fn plan_file(alloc: Global, events: &[OwnedEvent]) -> Result<Vec<u8>, Error>
+pub fn plan_file(alloc: Global, events: &[Event<'_>]) -> Result<Vec<u8>, Error>
     requires whole { IsBracketed (evs events.now) }
     ensures written { IfOk result (λ file. (t : Tree) → evs events.now ≡ br t → IsWrittenAs t file.items) }
     ensures once { IfOk result (λ file. (t : Tree) → evs events.now ≡ br t → VisitsOnce file.items) }

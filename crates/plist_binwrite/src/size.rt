@@ -11,10 +11,10 @@ use crate::forms::least_width;
 use crate::kinds::{Kind, has_item, kind_at};
 use crate::lengths::{add, length_of_collection, length_of_scalar};
 use crate::numbering::Numbering;
-use plist_base::{Error, ErrorKind, OwnedEvent};
+use plist_base::{Error, ErrorKind, Event};
 
 // The number of items of an array from here on; a key is an item, and so is its value.
-fn count_items(events: &[OwnedEvent], skips: &[usize], from: usize) -> usize
+fn count_items(events: &[Event<'_>], skips: &[usize], from: usize) -> usize
     requires { IsSkips (evs events.now) skips.now 0 }
     ensures { (ts : Trees) → SitsItems (evs events.now) ts from → result ≡ number_of_trees ts }
 {
@@ -28,7 +28,7 @@ fn count_items(events: &[OwnedEvent], skips: &[usize], from: usize) -> usize
 }
 
 // The size of the object of the tree that begins here.
-fn size_of_object(events: &[OwnedEvent], skips: &[usize], width: u64, place: usize) -> Option<u64>
+fn size_of_object(events: &[Event<'_>], skips: &[usize], width: u64, place: usize) -> Option<u64>
     requires skips { IsSkips (evs events.now) skips.now 0 }
     requires place { place < length events.now }
     ensures { (t : Tree) → Sits (evs events.now) t place → TellsSize result (object_size width t) }
@@ -48,7 +48,7 @@ fn size_of_object(events: &[OwnedEvent], skips: &[usize], width: u64, place: usi
 
 // The size of the objects that are numbered.
 fn size_of_objects(
-    events: &[OwnedEvent],
+    events: &[Event<'_>],
     skips: &[usize],
     numbering: &Numbering,
     width: u64,
@@ -68,7 +68,7 @@ fn size_of_objects(
 }
 
 // Where the offset table will lie, behind the magic and the objects.
-fn place_of_table(events: &[OwnedEvent], skips: &[usize], numbering: &Numbering) -> Option<u64>
+fn place_of_table(events: &[Event<'_>], skips: &[usize], numbering: &Numbering) -> Option<u64>
     requires skips { IsSkips (evs events.now) skips.now 0 }
     requires whole { IsBracketed (evs events.now) }
     requires plan { IsPlan (evs events.now) numbering.now.numbers.items numbering.now.firsts.items }
@@ -81,7 +81,7 @@ fn place_of_table(events: &[OwnedEvent], skips: &[usize], numbering: &Numbering)
 }
 
 // The size of the file of the tree whose events these are.
-fn size_of_file(events: &[OwnedEvent], skips: &[usize], numbering: &Numbering) -> Option<u64>
+fn size_of_file(events: &[Event<'_>], skips: &[usize], numbering: &Numbering) -> Option<u64>
     requires skips { IsSkips (evs events.now) skips.now 0 }
     requires whole { IsBracketed (evs events.now) }
     requires plan { IsPlan (evs events.now) numbering.now.numbers.items numbering.now.firsts.items }
@@ -102,11 +102,7 @@ fn size_of_file(events: &[OwnedEvent], skips: &[usize], numbering: &Numbering) -
 ///
 /// # Errors
 /// `PlistTooLarge`, without an offset, exactly where the file would have 2^64 bytes or more.
-pub fn check_size(
-    events: &[OwnedEvent],
-    skips: &[usize],
-    numbering: &Numbering,
-) -> Result<(), Error>
+pub fn check_size(events: &[Event<'_>], skips: &[usize], numbering: &Numbering) -> Result<(), Error>
     requires skips { IsSkips (evs events.now) skips.now 0 }
     requires whole { IsBracketed (evs events.now) }
     requires plan { IsPlan (evs events.now) numbering.now.numbers.items numbering.now.firsts.items }
