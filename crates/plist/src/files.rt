@@ -1,6 +1,8 @@
 //! Values in files.
 
-ghost use Rattle.std.specs.Prelude.{◌≡◌, None, IfErr};
+ghost use Rattle.std.specs.Prelude.{◌≡◌, None, IfErr, IsSome, OnOk};
+ghost use Rattle.std.specs.Io.{WritesAtMost};
+ghost use Rattle.std.specs.Io.KnownBytes.{WriteAppends};
 ghost use Rattle.plist_base.specs.Faults.{Io, fault_of, fault_nowhere};
 ghost use Rattle.plist_base.specs.Writing.{answer_of};
 ghost use Rattle.plist.specs.Sent.{SendsTree};
@@ -27,7 +29,11 @@ impl<'a, R: Files> Write for Output<'a, R> {
     // others may change what a file holds
     ghost contents = { λ _. None };
 
-    fn write(&mut self, buf: &[u8]) -> io::Result<usize> {
+    fn write(&mut self, buf: &[u8]) -> io::Result<usize>
+        ensures bound { WritesAtMost result buf.now }
+        ensures bytes { WriteAppends None None result buf.now }
+        ensures kept { OnOk result (IsSome self.new.file) }
+    {
         match &mut self.file {
             Some(file) => file.write(buf),
             None => {

@@ -112,7 +112,8 @@ impl Value {
         ensures reads_back { IfSome (R.known source)
             (λ bytes. ReadsBack bytes (built_tree result)) }
     {
-        collect(alloc, Reader::new(alloc, source))
+        let reader = Reader::new(alloc, source);
+        collect(alloc, reader)
     }
 
     /// The value of an ASCII property list, by the rules of [`Value::from_reader`]. Bytes past the

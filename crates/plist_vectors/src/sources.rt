@@ -66,6 +66,18 @@ fn gives_the_bytes(rt: HostRuntime) {
     }
 }
 
+// What a short read of a window didn't reach is read at its place.
+#[test]
+fn gives_the_bytes_of_short_reads(rt: HostRuntime) {
+    let size = 9_000;
+    let mut disk = Disk::new(sample(&rt, size), u64::MAX);
+    disk.most = 100;
+    let mut source = Seeking::new(disk);
+    for place in [0, 99, 150, 8_191, 8_998, 8_999] {
+        expect_read(&rt, &mut source, size, place, 2);
+    }
+}
+
 // After small reads at these places, the reader under the source was called so often.
 fn expect_calls(rt: &(impl Abort + AllocGlobal), places: &[u32], calls: u64) {
     let size = 1_100_000;

@@ -177,6 +177,8 @@ pub(crate) fn expect_cut(
 #[derive(Drop)]
 pub(crate) struct Disk {
     inner: Cursor<Vec<u8>>,
+    // How many bytes one read gives at most.
+    pub most: usize,
     pub calls: u64,
     fails_at: u64,
 }
@@ -185,6 +187,7 @@ impl Disk {
     pub(crate) fn new(bytes: Vec<u8>, fails_at: u64) -> Disk {
         Disk {
             inner: Cursor::new(bytes),
+            most: usize::MAX,
             calls: 0,
             fails_at,
         }
@@ -203,7 +206,8 @@ impl Disk {
 impl Read for Disk {
     fn read(&mut self, buf: &mut [u8]) -> io::Result<usize> {
         self.call()?;
-        self.inner.read(buf)
+        let count = buf.len().min(self.most);
+        self.inner.read(&mut buf[..count])
     }
 }
 
