@@ -15,6 +15,10 @@ CountsFailure answer old new = MatchResult answer (λ _. new ≡ old) (λ _. Ris
 abbrev pub GivesAt : List ℕ → ℕ → ℕ → List ℕ → Type 0
 GivesAt bytes place count buffer = (take count buffer ≡ take count (drop place bytes)) × (count ≡ 0 → (length buffer ≡ 0) ⊎ (length bytes ≤ place))
 
+-- these are the bytes from this place on, as many as there are of them
+abbrev pub LiesAt : (bytes : List ℕ) (place : ℕ) (lent : List ℕ) → Type 0
+LiesAt bytes place lent = lent ≡ take (length lent) (drop place bytes)
+
 -- `Io` only where the count of failures rose; whatever else came, it is as it was
 abbrev pub CountsIo : Error → ℕ → ℕ → Type 0
 CountsIo error old new = MatchFault (kind_of (error_kind_of error)) (Rises old new) (new ≡ old) (new ≡ old)

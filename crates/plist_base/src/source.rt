@@ -2,7 +2,7 @@
 
 ghost use Rattle.std.specs.Prelude.{◌≡◌, ℕ, ◌+◌, ◌-◌, ◌^◌, ◌<◌, ◌≤◌, List, length, take, drop, None, Some, Option, IfOk, IfErr, IfSome, OnOk};
 ghost use Rattle.plist_base.specs.Faults.{IsIo, kind_of, error_kind_of, fault_of};
-ghost use Rattle.plist_base.specs.Sources.{CountsFailure, GivesAt, AnswersIo, FailsReading, EndsTooEarly};
+ghost use Rattle.plist_base.specs.Sources.{CountsFailure, GivesAt, LiesAt, AnswersIo, FailsReading, EndsTooEarly};
 
 use crate::{Error, ErrorKind};
 use std::io;
@@ -31,6 +31,24 @@ pub trait Source: Drop {
             GivesAt bytes place count buf.new)) }
         ensures unchanged { known self.new ≡ known self.old }
         ensures failures { CountsFailure result (failures self.old) (failures self.new) };
+
+    /// The bytes from `place` on that are at hand without a read: as many as the source happens to
+    /// hold there, often none. By itself a source lends nothing.
+    fn near(&self, place: u64) -> &[u8]
+        ensures bytes { IfSome (known self.now) (λ bytes. LiesAt bytes place result.now) }
+    {
+        &[]
+    }
+}
+
+// What lies from a place on.
+fn rest_from(bytes: &[u8], place: u64) -> &[u8]
+    ensures bytes { result.now ≡ drop place bytes.now }
+{
+    if place >= bytes.len() as u64 {
+        return &[];
+    }
+    &bytes[place as usize..]
 }
 
 // Copies what lies from a place on, as much as there is room for.
@@ -63,6 +81,14 @@ impl<'a> Source for &'a [u8] {
     fn read_at(&mut self, place: u64, buf: &mut [u8]) -> Result<usize, io::Error> {
         Ok(copy_at(self, place, buf))
     }
+
+    /// All bytes from there on.
+    fn near(&self, place: u64) -> &[u8]
+        ensures bytes { IfSome (Some self.now.now) (λ bytes. LiesAt bytes place result.now) }
+        ensures whole { result.now ≡ drop place self.now.now }
+    {
+        rest_from(self, place)
+    }
 }
 
 /// The bytes are known, and no read fails.
@@ -77,6 +103,14 @@ impl Source for Vec<u8> {
 
     fn read_at(&mut self, place: u64, buf: &mut [u8]) -> Result<usize, io::Error> {
         Ok(copy_at(self.as_slice(), place, buf))
+    }
+
+    /// All bytes from there on.
+    fn near(&self, place: u64) -> &[u8]
+        ensures bytes { IfSome (Some self.now.items) (λ bytes. LiesAt bytes place result.now) }
+        ensures whole { result.now ≡ drop place self.now.items }
+    {
+        rest_from(self.as_slice(), place)
     }
 }
 

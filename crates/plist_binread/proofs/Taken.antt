@@ -1,17 +1,18 @@
 -- One call of a reader.
-use Rattle.std.proofs.Common.{◌≡◌, ℕ, ◌≤◌, arith, List, length, reverse, true, false, Option, None, Some, Result, Ok, Err, IfSome, MatchOption, refl, ap, sym}
+use Rattle.std.proofs.Common.{◌≡◌, ℕ, ◌≤◌, arith, List, length, reverse, true, false, Option, None, Some, Result, Ok, Err, IfSome, MatchOption, refl, ap, sym, ◌∙◌, Bool}
 use Rattle.std.proofs.lemmas.List.{length-reverse}
 use Rattle.plist_base.specs.declared.error.Error.{Error}
 use Rattle.plist_base.specs.declared.event.Event.{Event}
-use Rattle.plist_base.specs.Events.{Item}
+use Rattle.plist_base.specs.declared.event.Event.TheVariants as variant
+use Rattle.plist_base.specs.Events.{PlainEvent, EndCollection, Item, event_of}
 use Rattle.plist_binread.specs.declared.frames.Frame.{Frame}
 use Rattle.plist_binread.specs.Unfolding.{until_fault}
 use Rattle.plist_binread.specs.declared.reader.State.{State}
 use Rattle.plist_binread.specs.declared.reader.State.TheVariants.{Fresh, Walking, Ended}
 use Rattle.plist_binread.specs.declared.table.Bounds.{Bounds}
 use Rattle.plist_binread.specs.Container.{head_of}
-use Rattle.plist_binread.specs.Coming.{GivesItem, AreWithin}
-use Rattle.plist_binread.specs.Debt.{IsOpen, IsKnown, AreBoundsOf, IsKept, places_of, is_fresh, is_walking, ends_next, still_owed, owed_by, entries_of, PaysNext}
+use Rattle.plist_binread.specs.Coming.{GivesItem, TellsItem, AreWithin}
+use Rattle.plist_binread.specs.Debt.{IsOpen, IsKnown, AreBoundsOf, IsKept, IsKeptTold, places_of, is_fresh, is_walking, ends_next, still_owed, owed_by, entries_of, PaysNext}
 use Rattle.plist_binread.proofs.Begun.{Begins}
 use Rattle.plist_binread.proofs.Opened.{IsOpen-length}
 
@@ -84,3 +85,42 @@ closes-ended state fs is e = let no : ends_next state fs ≡ false = ap (λ s. e
 
 pub walking-ended : (state : State) → state ≡ Ended → is_walking state ≡ true → ⊥
 walking-ended state is e = let no : is_walking state ≡ false = ap is_walking is in absurd (cc)
+
+-- ---- an item that is told
+
+pub told_event : (known : Option (List ℕ)) (new : Bool) (before after : List ℕ → List Item) (event : Event) (told : PlainEvent) → told ≡ event_of event → IfSome known (λ bytes. GivesItem new (before bytes) (Some (Ok event)) (after bytes)) → IfSome known (λ bytes. TellsItem new (before bytes) (Some (Ok (tt {0}))) told (after bytes))
+told_event None new before after event told is gives = tt
+told_event (Some bytes) new before after event told is gives = rw is gives
+
+pub kept_told : (known : Option (List ℕ)) (number : List ℕ → Option ℕ) (tags : List ℕ) (event : Event) (told : PlainEvent) → told ≡ event_of event → IfSome known (λ bytes. IsKept (number bytes) (Some (Ok event)) tags) → IfSome known (λ bytes. IsKeptTold (number bytes) (Some (Ok (tt {0}))) told tags)
+kept_told None number tags event told is kept = tt
+kept_told (Some bytes) number tags event told is kept = by_number (number bytes) kept
+  where
+    by_number : (n : Option ℕ) → IsKept n (Some (Ok event)) tags → IsKeptTold n (Some (Ok (tt {0}))) told tags
+    by_number None h = tt
+    by_number (Some n) h = rw is h
+
+pub kept_fault : (known : Option (List ℕ)) (number : List ℕ → Option ℕ) (tags : List ℕ) (e : Error) (told : PlainEvent) → IfSome known (λ bytes. IsKeptTold {A = Unit {0}} (number bytes) (Some (Err e)) told tags)
+kept_fault None number tags e told = tt
+kept_fault (Some bytes) number tags e told = by_number (number bytes)
+  where
+    by_number : (n : Option ℕ) → IsKeptTold {A = Unit {0}} n (Some (Err e)) told tags
+    by_number None = tt
+    by_number (Some n) = tt
+
+pub kept_end : (known : Option (List ℕ)) (number : List ℕ → Option ℕ) (tags : List ℕ) (told : PlainEvent) → IfSome known (λ bytes. IsKeptTold {A = Unit {0}} (number bytes) None told tags)
+kept_end None number tags told = tt
+kept_end (Some bytes) number tags told = by_number (number bytes)
+  where
+    by_number : (n : Option ℕ) → IsKeptTold {A = Unit {0}} n None told tags
+    by_number None = tt
+    by_number (Some n) = tt
+
+-- the event of an item, or an end
+abbrev event_at : Option (Result Event Error) → PlainEvent
+event_at None = EndCollection
+event_at (Some (Ok event)) = event_of event
+event_at (Some (Err e)) = EndCollection
+
+pub told_end : (event : Event) (told : PlainEvent) → told ≡ event_of event → ◌≡◌ {A = Option (Result Event Error)} (Some (Ok event)) (Some (Ok variant.EndCollection)) → told ≡ EndCollection
+told_end event told is h = is ∙ ap event_at h

@@ -1,11 +1,12 @@
 -- What contracts see of a reader: the items that it has still to give, and how much it holds open.
-use Rattle.std.specs.Prelude.{◌≡◌, ℕ, ◌^◌, ◌≤◌, Bool, true, false, List, [], ◌∷◌, length, reverse, Option, None, Some, Result, Ok, Err, MatchBool, MatchOption, MatchResult, OnErr, IfSome}
+use Rattle.std.specs.Prelude.{◌≡◌, ℕ, ◌^◌, ◌<◌, ◌≤◌, Bool, true, false, List, [], ◌∷◌, length, reverse, Option, None, Some, Result, Ok, Err, MatchBool, MatchOption, MatchResult, OnErr, IfSome}
 use Rattle.plist_base.specs.declared.error.Error.{Error}
 use Rattle.plist_base.specs.declared.event.Event.{Event}
 use Rattle.plist_base.specs.declared.event.Event.TheVariants.{EndCollection}
 use Rattle.plist_base.specs.declared.source.Source.{Ghosts}
 use Rattle.plist_base.specs.Faults.{MatchFault, kind_of, error_kind_of, fault_of}
-use Rattle.plist_base.specs.Events.{Item, event_of}
+use Rattle.plist_base.specs.Events.{PlainEvent, Item, event_of}
+use Rattle.plist_base.specs.Events as plain
 use Rattle.plist_base.specs.Sources.{ItemCountsIo}
 use Rattle.plist_binread.specs.Container.{head_of}
 use Rattle.plist_binread.specs.Failures.{ItemWithin}
@@ -13,7 +14,8 @@ use Rattle.plist_binread.specs.declared.reader.BinaryReader.{BinaryReader}
 use Rattle.plist_binread.specs.declared.reader.State.TheVariants.{Ended}
 use Rattle.plist_binread.specs.declared.frames.Frame.{Frame}
 use Rattle.plist_binread.specs.declared.counter.DecodeCounter.{Ghosts as CounterGhosts}
-use Rattle.plist_binread.specs.Debt.{IsOpen, still_owed, number_owed, cached_count, places_of, AreBoundsOf, IsKept, is_fresh, is_walking, ends_next, IsOwed, WantsMemory, steps_left}
+use Rattle.plist_binread.specs.Told.{event_in}
+use Rattle.plist_binread.specs.Debt.{IsOpen, still_owed, number_owed, cached_count, places_of, AreBoundsOf, IsKept, IsKeptTold, is_fresh, is_walking, ends_next, IsOwed, WantsMemory, steps_left}
 
 -- the source inside
 abbrev pub source_of : {R C : Type 0} {g : Ghosts R} {h : CounterGhosts C} → BinaryReader R C g h → R
@@ -93,6 +95,10 @@ AreWithin count tags contents frames = (length tags ≤ count) × (length conten
 abbrev pub KeepsWithin : {R C : Type 0} {g : Ghosts R} {h : CounterGhosts C} → (count : ℕ) → BinaryReader R C g h → Type 0
 KeepsWithin count reader = AreWithin count reader.tags.items reader.contents.items reader.frames.items
 
+-- an end is told
+abbrev pub IsToldEnd : {A : Type 0} → Option (Result A Error) → (told : PlainEvent) → Type 0
+IsToldEnd item told = MatchOption item ⊥ (λ answer. MatchResult answer (λ _. told ≡ plain.EndCollection) (λ error. ⊥))
+
 -- one call of `next`: known bytes stay as they are, and the item is the first of those to come
 pub record Gives {R C : Type 0} {g : Ghosts R} {h : CounterGhosts C} (known : R → Option (List ℕ)) (failed : R → ℕ) (counts : Type 0) (count : C → ℕ) (old : BinaryReader R C g h) (item : Option (Result Event Error)) (new : BinaryReader R C g h) : Type 0 where
   pub unchanged : known (source_of new) ≡ known (source_of old)
@@ -113,3 +119,40 @@ pub record Gives {R C : Type 0} {g : Ghosts R} {h : CounterGhosts C} (known : R 
 -- at most how many items are still to come
 abbrev pub steps_to_come : {R C : Type 0} {g : Ghosts R} {h : CounterGhosts C} → BinaryReader R C g h → ℕ
 steps_to_come reader = steps_left reader.state (length reader.tags.items) reader.frames.items
+
+-- the event that was told last
+abbrev pub event_told : {R C : Type 0} {g : Ghosts R} {h : CounterGhosts C} → BinaryReader R C g h → PlainEvent
+event_told reader = event_in reader.last
+
+-- as `GivesItem`, where the item is told: the event is `told`
+abbrev pub TellsItem : {A : Type 0} → (new : Bool) (before : List Item) → Option (Result A Error) → (told : PlainEvent) → (after : List Item) → Type 0
+TellsItem new before item told after =
+    MatchOption item ((before ≡ []) × (after ≡ [])) (λ answer. MatchResult answer
+    (λ _. before ≡ Ok told ∷ after)
+    (λ error. (after ≡ []) × MatchFault (kind_of (error_kind_of error)) (IsOwed before) (MatchBool new (IsOwed before) (WantsMemory before)) (before ≡ Err (fault_of error) ∷ [])))
+
+-- as `EndsAfter`, where the item is told
+abbrev pub EndsTold : {A R C : Type 0} {g : Ghosts R} {h : CounterGhosts C} → Option (Result A Error) → BinaryReader R C g h → Type 0
+EndsTold item after = MatchOption item (HasEnded after) (λ answer. OnErr answer (HasEnded after))
+
+-- as `CachesItem`, where the item is told
+abbrev pub CachesTold : {A R C : Type 0} {g : Ghosts R} {h : CounterGhosts C} → Option ℕ → Option (Result A Error) → BinaryReader R C g h → Type 0
+CachesTold number item reader = IsKeptTold number item (event_told reader) reader.tags.items
+
+-- one call of `advance`: as one of `next`, but that the event is told
+pub record Tells {A R C : Type 0} {g : Ghosts R} {h : CounterGhosts C} (known : R → Option (List ℕ)) (failed : R → ℕ) (counts : Type 0) (count : C → ℕ) (old : BinaryReader R C g h) (item : Option (Result A Error)) (new : BinaryReader R C g h) : Type 0 where
+  pub unchanged : known (source_of new) ≡ known (source_of old)
+  pub items : IfSome (known (source_of old)) (λ bytes. TellsItem (is_new old) (to_come bytes old) item (event_told new) (to_come bytes new))
+  pub failures : ItemCountsIo item (failed (source_of old)) (failed (source_of new))
+  pub ended : HasEnded old → item ≡ None
+  pub ends : EndsTold item new
+  pub begun : is_new new ≡ false
+  pub faults : ItemWithin 0 (2 ^ 64) item
+  pub closes : end_comes old ≡ true → IsToldEnd item (event_told new)
+  pub head : IfSome (known (source_of old)) (λ bytes. HoldsHead bytes new)
+  pub nested : MatchOption (known (source_of old)) (open_collections new ≤ object_count new) (λ bytes. open_collections new ≤ told_objects bytes)
+  pub cached : IfSome (known (source_of old)) (λ bytes. CachesTold (number_to_come bytes old) item new)
+  pub marked : MarksItsPath new
+  pub counted : counts → count (counter_of new) ≡ cached_objects new
+  pub lists : IfSome (known (source_of old)) (λ bytes. KeepsWithin (told_objects bytes) new)
+  pub falls : IfSome item (λ _. steps_to_come new < steps_to_come old)

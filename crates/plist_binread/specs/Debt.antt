@@ -285,3 +285,8 @@ number_owed bytes Ended bounds frames = None
 abbrev pub IsKept : Option ℕ → Option (Result Event Error) → (tags : List ℕ) → Type 0
 IsKept None item tags = ⊤
 IsKept (Some number) item tags = MatchOption item ⊤ (λ answer. IfOk answer (λ event. is_small (event_of event) ≡ true → 0 < unmarked (get_or tags number 0)))
+
+-- the same of an event that is told
+abbrev pub IsKeptTold : {A : Type 0} → Option ℕ → Option (Result A Error) → (told : PlainEvent) → (tags : List ℕ) → Type 0
+IsKeptTold None item told tags = ⊤
+IsKeptTold (Some number) item told tags = MatchOption item ⊤ (λ answer. IfOk answer (λ _. is_small told ≡ true → 0 < unmarked (get_or tags number 0)))
