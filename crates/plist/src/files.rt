@@ -97,7 +97,7 @@ impl Value {
     /// - Those of [`Value::from_reader`].
     pub fn from_file<R: Files>(rt: &R, alloc: Global, path: &str) -> Result<Value, Error> {
         match fs::open(rt, path) {
-            Ok(file) => Value::from_reader(alloc, Seeking::new(alloc, file)),
+            Ok(file) => Value::from_reader(alloc, Seeking::with_windows(alloc, file)),
             Err(failure) => Err(ErrorKind::Io(failure).without_position()),
         }
     }

@@ -1,10 +1,10 @@
 //! A source over a reader that can seek.
 
-ghost use Rattle.std.specs.Prelude.{◌≡◌, ℕ, ◌+◌, ◌*◌, ◌≤◌, ◌<◌, length, slice_index, IfOk, IsTrue, OnErr};
+ghost use Rattle.std.specs.Prelude.{◌≡◌, ℕ, ◌+◌, ◌≤◌, ◌<◌, length, take, drop, slice_index, IfOk, OnErr};
 ghost use Rattle.plist_base.specs.Sources.{CountsFailure};
-ghost use Rattle.plist_base.specs.Windows.{failures_of, inner_of, LendsFrom};
+ghost use Rattle.plist_base.specs.Windows.{bytes_of_window, failures_of, inner_of, LendsFrom};
 
-use crate::source::{Source, copy_at};
+use crate::source::{Source, copy_at, rest_from};
 use std::alloc::Global;
 use std::io;
 use std::io::{Read, Seek, SeekFrom};
@@ -12,27 +12,31 @@ use std::io::{Read, Seek, SeekFrom};
 // As much as one read of a file usually gives.
 const WINDOW: usize = 8192;
 
-// Places that lie a multiple of so many windows apart share a slot.
+// Places that lie a multiple of so many windows apart share a slot: in a source that was given an
+// allocator, and in one that wasn't.
 const SLOTS: usize = 64;
 
-// Two a slot, so that two parts of a file that share their slots stay side by side.
-const WINDOWS: usize = 128;
+const OWN_SLOTS: usize = 4;
 
-// The first window of a place's slot. The second one comes behind it.
-fn first_window(place: u64) -> usize
-    ensures { result + 1 < 128 }
+// Two a slot, so that two parts of a file that share their slots stay side by side.
+const WINDOWS: usize = 2 * SLOTS;
+
+const OWN_WINDOWS: usize = 2 * OWN_SLOTS;
+
+// So many bytes from a place on, or as many of them as there are.
+fn part(bytes: &[u8], first: usize, size: usize) -> &[u8]
+    ensures { result.now ≡ take size (drop first bytes.now) }
 {
-    let slot = place / WINDOW as u64 % SLOTS as u64;
-    2 * slot as usize
+    let rest = &bytes[first.min(bytes.len())..];
+    &rest[..size.min(rest.len())]
 }
 
 /// A source over a reader that can seek, such as a file. Its bytes aren't known, since others may
 /// change them.
 ///
-/// It keeps up to 128 windows of 8 KiB, which it lends, so that small reads near one another, in many
-/// parts of a file in turn, cost one read of `R`. It asks for their memory as it needs them; where
-/// that is refused, each read is one of `R`. A read or seek that answers `Interrupted` is a failure,
-/// too.
+/// It keeps windows of 8 KiB, which it lends, so that small reads near one another, in several parts
+/// of a file in turn, cost one read of `R`: eight of them, or up to 128 where it is given an
+/// allocator. A read or seek that answers `Interrupted` is a failure, too.
 #[derive(Drop)]
 pub struct Seeking<R> {
     inner: R,
@@ -40,13 +44,41 @@ pub struct Seeking<R> {
     // Where each window begins, and how many bytes it has from there on.
     starts: [u64; WINDOWS],
     filled: [u16; WINDOWS],
-    // The bytes of the windows so far.
-    bytes: Vec<u8>,
+    // The bytes of the first windows, and of the others so far, if there are to be others.
+    own: [u8; OWN_WINDOWS * WINDOW],
+    more: Option<Vec<u8>>,
     // Is the second window of a slot the next one to be filled?
     turns: [bool; SLOTS],
 }
 
 impl<R> Seeking<R> {
+    // The first window of a place's slot. The second one comes behind it.
+    fn first_window(&self, place: u64) -> usize
+        ensures { result + 1 < 128 }
+    {
+        let window = place / WINDOW as u64;
+        let slot = match self.more {
+            Some(_) => window % SLOTS as u64,
+            None => window % OWN_SLOTS as u64,
+        };
+        2 * slot as usize
+    }
+
+    // What one read gave from a window's start on.
+    fn bytes_of_window(&self, i: usize) -> &[u8]
+        requires { i < 128 }
+        ensures { result.now ≡ bytes_of_window self.now i }
+    {
+        let size = usize::from(self.filled[i]);
+        if i < OWN_WINDOWS {
+            return part(&self.own, i * WINDOW, size);
+        }
+        match &self.more {
+            Some(more) => part(more.as_slice(), (i - OWN_WINDOWS) * WINDOW, size),
+            None => &[],
+        }
+    }
+
     // What a window has from a place on, perhaps nothing.
     fn part_of(&self, i: usize, place: u64) -> &[u8]
         requires { i < 128 }
@@ -56,20 +88,14 @@ impl<R> Seeking<R> {
         if self.starts[i] != place - within {
             return &[];
         }
-        let first = i * WINDOW;
-        let end = first + usize::from(self.filled[i]);
-        let from = first + within as usize;
-        if from >= end || end > self.bytes.len() {
-            return &[];
-        }
-        &self.bytes[from..end]
+        rest_from(self.bytes_of_window(i), within)
     }
 
     // What is at hand from a place on, perhaps nothing.
     fn held(&self, place: u64) -> &[u8]
         ensures bytes { (i : ℕ) × LendsFrom self.now i place result.now }
     {
-        let i = first_window(place);
+        let i = self.first_window(place);
         let part = self.part_of(i, place);
         if part.is_empty() {
             return self.part_of(i + 1, place);
@@ -79,8 +105,24 @@ impl<R> Seeking<R> {
 }
 
 impl<R: Read + Seek> Seeking<R> {
-    /// A source over this reader, from its byte 0 on, wherever it stands.
-    pub fn new(alloc: Global, inner: R) -> Self
+    /// A source over this reader, from its byte 0 on, wherever it stands. It keeps eight windows.
+    pub fn new(inner: R) -> Self
+        ensures inner { inner_of result ≡ inner }
+        ensures failures { failures_of result ≡ 0 }
+    {
+        Seeking::with_memory(inner, None)
+    }
+
+    /// The same, but it asks the allocator for the memory of up to 120 further windows as it needs
+    /// them. Where that is refused, a read goes past the windows.
+    pub fn with_windows(alloc: Global, inner: R) -> Self
+        ensures inner { inner_of result ≡ inner }
+        ensures failures { failures_of result ≡ 0 }
+    {
+        Seeking::with_memory(inner, Some(Vec::new(alloc)))
+    }
+
+    fn with_memory(inner: R, more: Option<Vec<u8>>) -> Self
         ensures inner { inner_of result ≡ inner }
         ensures failures { failures_of result ≡ 0 }
     {
@@ -89,7 +131,8 @@ impl<R: Read + Seek> Seeking<R> {
             failed: 0,
             starts: [0; WINDOWS],
             filled: [0; WINDOWS],
-            bytes: Vec::new(alloc),
+            own: [0; OWN_WINDOWS * WINDOW],
+            more,
             turns: [false; SLOTS],
         }
     }
@@ -103,7 +146,8 @@ impl<R: Read + Seek> Seeking<R> {
             failed: _,
             starts: _,
             filled: _,
-            bytes: _,
+            own: _,
+            more: _,
             turns: _,
         } = self;
         inner
@@ -123,29 +167,48 @@ impl<R: Read + Seek> Seeking<R> {
     // Sees that this window has memory, and tells whether it has.
     fn has_memory(&mut self, i: usize) -> bool
         requires { i < 128 }
-        ensures room { IsTrue result → i * 8192 + 8192 ≤ length self.new.bytes.items }
         ensures failures { failures_of self.new ≡ failures_of self.old }
     {
-        let size = i * WINDOW + WINDOW;
-        if size <= self.bytes.len() {
+        if i < OWN_WINDOWS {
             return true;
         }
-        self.bytes.resize(size, 0).is_ok()
+        let size = (i - OWN_WINDOWS) * WINDOW + WINDOW;
+        match &mut self.more {
+            Some(more) => size <= more.len() || more.resize(size, 0).is_ok(),
+            None => false,
+        }
+    }
+
+    // One read into a window's memory, if it has some.
+    fn read_into(&mut self, i: usize) -> Result<usize, io::Error>
+        requires { i < 128 }
+        ensures bound { IfOk result (λ count. count ≤ 8192) }
+        ensures kept { self.new.filled ≡ self.old.filled }
+        ensures failures { failures_of self.new ≡ failures_of self.old }
+    {
+        if i < OWN_WINDOWS {
+            let first = i * WINDOW;
+            return self.inner.read(&mut self.own[first..first + WINDOW]);
+        }
+        let first = (i - OWN_WINDOWS) * WINDOW;
+        match &mut self.more {
+            Some(more) if first + WINDOW <= more.len() => {
+                self.inner.read(&mut more[first..first + WINDOW])
+            }
+            _ => Ok(0),
+        }
     }
 
     // Fills a window from its start on by one read. It is empty after a failure.
     fn fill_window(&mut self, i: usize, start: u64) -> Result<(), io::Error>
-        requires index { i < 128 }
-        requires room { i * 8192 + 8192 ≤ length self.old.bytes.items }
-        ensures start { slice_index self.new.starts i ≡ start }
+        requires { i < 128 }
         ensures failed { OnErr result (slice_index self.new.filled i ≡ 0) }
         ensures failures { failures_of self.new ≡ failures_of self.old }
     {
         self.starts[i] = start;
         self.filled[i] = 0;
         self.inner.seek(SeekFrom::Start(start))?;
-        let first = i * WINDOW;
-        let filled = self.inner.read(&mut self.bytes[first..first + WINDOW])?;
+        let filled = self.read_into(i)?;
         self.filled[i] = filled as u16;
         Ok(())
     }
@@ -155,7 +218,7 @@ impl<R: Read + Seek> Seeking<R> {
     fn fill(&mut self, place: u64) -> Result<(), io::Error>
         ensures failures { failures_of self.new ≡ failures_of self.old }
     {
-        let first = first_window(place);
+        let first = self.first_window(place);
         let slot = first / 2;
         let turn = self.turns[slot];
         let i = if turn { first + 1 } else { first };

@@ -42,7 +42,7 @@ pub trait Source: Drop {
 }
 
 // What lies from a place on.
-fn rest_from(bytes: &[u8], place: u64) -> &[u8]
+pub(crate) fn rest_from(bytes: &[u8], place: u64) -> &[u8]
     ensures bytes { result.now ≡ drop place bytes.now }
 {
     if place >= bytes.len() as u64 {

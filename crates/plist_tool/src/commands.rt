@@ -83,7 +83,7 @@ fn print_file<R: Files, O: Write>(
     out: &mut O,
 ) -> Result<(), Error> {
     match fs::open(rt, path) {
-        Ok(file) => print_events(alloc, Seeking::new(alloc, file), out),
+        Ok(file) => print_events(alloc, Seeking::with_windows(alloc, file), out),
         Err(failure) => Err(ErrorKind::Io(failure).without_position()),
     }
 }

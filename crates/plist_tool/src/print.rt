@@ -176,7 +176,7 @@ mod tests {
     #[test]
     fn a_read_that_fails(rt: HostRuntime) {
         let mut writer = Trickle::new(rt.alloc(), 1000);
-        let source = Seeking::new(rt.alloc(), Unreadable { size: 64 });
+        let source = Seeking::with_windows(rt.alloc(), Unreadable { size: 64 });
         let answer = print_events(rt.alloc(), source, &mut writer);
         assert_eq!(rt;
             device_fault(answer),

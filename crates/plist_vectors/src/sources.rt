@@ -57,7 +57,7 @@ const PLACES: [u32; 17] = [
 #[test]
 fn gives_the_bytes(rt: HostRuntime) {
     let size = 90_000;
-    let mut source = Seeking::new(rt.alloc(), Cursor::new(sample(&rt, size)));
+    let mut source = Seeking::with_windows(rt.alloc(), Cursor::new(sample(&rt, size)));
     assert_eq!(rt; must(&rt, source.size()), u64::from(size));
     for place in PLACES {
         expect_read(&rt, &mut source, size, place, 1);
@@ -81,7 +81,7 @@ fn gives_the_bytes_of_short_reads(rt: HostRuntime) {
 // After small reads at these places, the reader under the source was called so often.
 fn expect_calls(rt: &(impl Abort + AllocGlobal), places: &[u32], calls: u64) {
     let size = 1_100_000;
-    let mut source = Seeking::new(rt.alloc(), Disk::new(sample(rt, size), u64::MAX));
+    let mut source = Seeking::with_windows(rt.alloc(), Disk::new(sample(rt, size), u64::MAX));
     for place in places {
         expect_read(rt, &mut source, size, *place, 3);
     }
@@ -125,7 +125,7 @@ fn fails_at(rt: &impl Abort, source: &mut Seeking<Disk>, place: u32) -> bool {
 
 // The disk fails at this call: one read of three fails.
 fn expect_failure(rt: &(impl Abort + AllocGlobal), call: u64) {
-    let mut source = Seeking::new(rt.alloc(), Disk::new(sample(rt, 9_000), call));
+    let mut source = Seeking::with_windows(rt.alloc(), Disk::new(sample(rt, 9_000), call));
     let first = fails_at(rt, &mut source, 5);
     let second = fails_at(rt, &mut source, 8_500);
     let third = fails_at(rt, &mut source, 5);
