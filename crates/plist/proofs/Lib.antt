@@ -18,3 +18,7 @@ pub mod Depths
 pub mod SameTrees
 pub mod Copies
 pub mod EntrySteps
+pub mod Inserted
+pub mod Retained
+pub mod Extended
+pub mod Rebuilt
