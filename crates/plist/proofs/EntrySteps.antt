@@ -1,10 +1,9 @@
 -- What is written at a place of a list of pairs.
-use Rattle.std.proofs.Common.{◌≡◌, ℕ, zero, suc, ◌+◌, ◌<◌, List, [], ◌∷◌, ◌++◌, length, refl, ap, sym, ◌∙◌, arith, Some, None, cond, Result, Ok, Err, OnErr}
+use Rattle.std.proofs.Common.{◌≡◌, ℕ, zero, suc, List, [], ◌∷◌, ◌++◌, length, refl, ap, sym, ◌∙◌, Some, None, cond, Result, Ok, Err, OnErr}
 use Rattle.std.specs.Prelude.{slice_get, Option, position, Bool, true, false, is_some, get_or, swap_remove, if◌then◌else◌}
 use Rattle.std.proofs.lemmas.List.Quantifiers.{position-Some}
 use Rattle.std.proofs.lemmas.Option.{slice_get-get_or}
 use Rattle.std.proofs.lemmas.Slice.Eq.{bytes_eq-Decides}
-use Rattle.std.specs.List.{zip}
 use Rattle.std.specs.Map.{lookup, keys_of, values_of}
 use Rattle.std.specs.Str.{bytes_eq}
 use Rattle.indexmap.proofs.MapLemmas.{Found-position, insert_entry-first, some_index, swap_remove_entry-found, swap_remove_entry-missing}
@@ -58,7 +57,7 @@ second_at [] i k v e = some_none (k, v) (sym e)
 second_at (p ∷ ps) zero k v e = ap Some (ap (λ q. q.1) (some_same (k, v) p (sym e)))
 second_at (p ∷ ps) (suc i) k v e = second_at ps i k v e
 
-none_of : {X : Type 0} (o : Option X) → is_some o ≡ false → o ≡ None
+pub none_of : {X : Type 0} (o : Option X) → is_some o ≡ false → o ≡ None
 none_of None e = refl
 none_of (Some x) e = absurd (cc)
 

@@ -1,5 +1,5 @@
 -- Sameness of values, list by list.
-use Rattle.std.proofs.Common.{◌≡◌, ℕ, zero, suc, ◌<◌, ◌+◌, Bool, true, false, ◌&&◌, cond, Option, Some, None, option_map, List, [], ◌∷◌, length, get_or, take, map, refl, sym, ap, ◌∙◌, arith, subst}
+use Rattle.std.proofs.Common.{◌≡◌, ℕ, zero, suc, ◌<◌, Bool, true, false, ◌&&◌, cond, Option, Some, None, option_map, List, [], ◌∷◌, length, get_or, refl, sym, ap, ◌∙◌, arith, subst}
 use Rattle.std.specs.Str.{bytes_eq}
 use Rattle.std.specs.List.{IsDistinct, AllByRecursion}
 use Rattle.std.specs.Map.{lookup, keys_of}
@@ -7,9 +7,8 @@ use Rattle.std.specs.Option.{option_eq}
 use Rattle.std.specs.Cmp.{both_ways}
 use Rattle.std.specs.Cmp.Lexicographic.{nat_list_eq_equiv}
 use Rattle.std_collections.specs.HashMap.Eq.{get_from_hash_map_eq, hash_map_eq_from_get}
-use Rattle.plist_base.specs.Trees.{Tree, Dictionary, Trees, Members, members_of, trees_of}
+use Rattle.plist_base.specs.Trees.{Tree, Dictionary, members_of}
 use Rattle.plist.specs.declared.value.Value.{Value}
-use Rattle.plist.specs.LastWins.{last_values}
 use Rattle.plist.specs.Same.{AreSameAt, same, same_items, first_value, same_pairs}
 use Rattle.plist.specs.Sameness.{dict_to, dict_from, same_by}
 use Rattle.plist.specs.PairsSame.{as_map}

@@ -13,7 +13,6 @@ use Rattle.std.specs.declared.alloc.Global.{Global}
 use Rattle.plist.specs.EntryLends.{IsRemovedAt}
 use Rattle.plist.specs.declared.dictionary.entry.Entry.{Entry}
 use Rattle.plist.specs.declared.dictionary.entry.OccupiedEntry.{OccupiedEntry}
-use Rattle.plist.specs.declared.dictionary.entry.VacantEntry.{VacantEntry}
 use Rattle.plist.specs.contracts.dictionary.Pairs.{the_row}
 use Rattle.plist.specs.contracts.dictionary.entry.OccupiedEntry as occupied
 

@@ -24,3 +24,6 @@ pub mod Sameness
 pub mod PairsSame
 pub mod EntryLends
 pub mod EntryPlaces
+pub mod Bulk
+pub mod Contents
+pub mod Rows

@@ -6,8 +6,10 @@ ghost use Rattle.std.specs.Option.{option_copied, option_copied_mut};
 ghost use Rattle.std.specs.Map.{lookup, keys_of, values_of};
 ghost use Rattle.indexmap.specs.IndexMap.{insert_entry, swap_remove_entry};
 
+mod bulk;
 mod entry;
 mod equal;
+mod index;
 mod iter;
 mod places;
 
@@ -120,20 +122,13 @@ impl<V> Pairs<V> {
         ensures absent { OnErr result
             (is_some (lookup (bytes_eq (string_bytes key)) self.old) ≡ false) }
     {
-        match self.keys.get_index_of(key.as_str()) {
-            Some(index) => return Ok(Some(mem::replace(&mut self.items[index], value))),
-            None => {}
-        }
-        match self.items.reserve(1) {
-            Ok(()) => {}
-            Err(_) => return Err((key, value)),
-        }
-        match self.keys.insert(key) {
-            Ok(_) => {
-                self.items.push_reserved(value);
-                Ok(None)
-            }
+        match self.keys.insert_full(key) {
             Err(refused) => Err((refused.value, value)),
+            Ok((index, false)) => Ok(Some(mem::replace(&mut self.items[index], value))),
+            Ok((_, true)) => match self.items.push(value) {
+                Ok(()) => Ok(None),
+                Err(refused) => Err((self.keys.pop().unwrap(), refused.value)),
+            },
         }
     }
 

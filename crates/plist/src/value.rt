@@ -21,6 +21,9 @@ ghost use Rattle.plist.specs.LastWins.{AreLastValues, Rows, last_values, last_wi
 ghost use Rattle.plist.specs.Remaining.{remaining_events};
 ghost use Rattle.plist.specs.Views.{kind_of_tree, tree_of};
 
+mod contents;
+mod from;
+
 use crate::Dictionary;
 use crate::collect::collect;
 use crate::copy::copy;

@@ -178,7 +178,7 @@ impl<'a, V> Entry<'a, V> {
     {
         match self {
             Entry::Vacant(entry) => entry.insert(value),
-            Entry::Occupied(entry) => Ok(entry.into_mut()),
+            Entry::Occupied(found) => Ok(found.into_mut()),
         }
     }
 

@@ -1,6 +1,6 @@
 //! Pairs by their places, for the calls that look a key up once.
 
-ghost use Rattle.std.specs.Prelude.{◌≡◌, ◌<◌, ◌++◌, ◌∷◌, None, Some, MatchOption, position, slice_get, swap, [], length, is_some, false, string_bytes, OnOk, IfErr, OnErr};
+ghost use Rattle.std.specs.Prelude.{◌≡◌, ◌<◌, ◌++◌, ◌∷◌, None, Some, MatchOption, position, slice_get, swap, take, [], length, is_some, false, string_bytes, OnOk, IfErr, OnErr};
 ghost use Rattle.std.specs.Str.{bytes_eq};
 ghost use Rattle.std.specs.Map.{lookup, keys_of, values_of};
 
@@ -97,5 +97,15 @@ impl<V> Pairs<V> {
         ensures { slice_get self.now index ≡ Some (result.0.now, result.1.now) }
     {
         (self.keys.as_slice()[index].as_str(), &self.items[index])
+    }
+
+    // Drops the pairs behind the first ones.
+    pub(crate) fn truncate(&mut self, count: usize)
+    where
+        V: Drop,
+        ensures { self.new ≡ take count self.old }
+    {
+        self.keys.truncate(count);
+        self.items.truncate(count);
     }
 }

@@ -1,67 +1,61 @@
-use Rattle.std.proofs.Common.{◌≡◌, length, string_bytes, sym, ap, ◌∙◌, arith, refl, ◌+◌, ◌++◌, ◌∷◌, [], cond, length-append}
-use Rattle.std.specs.Prelude.{Some, None, position, slice_set}
+use Rattle.std.proofs.Common.{length, string_bytes, sym, ap, ◌∙◌, arith, refl}
+use Rattle.std.specs.Prelude.{Some, is_some, slice_set}
 use Rattle.std.specs.Str.{bytes_eq}
-use Rattle.std.specs.List.{list_any}
 use Rattle.std.specs.Map.{lookup}
 use Rattle.std.proofs.lemmas.Option.{slice_get_read}
 use Rattle.indexmap.specs.IndexMap.{insert_entry}
-use Rattle.plist.proofs.Columns.{Text, rows, found_value, lost, rows-new, rows-old, distinct-bytes, not_there}
+use Rattle.plist.proofs.Columns.{rows, found_value, rows-old, distinct-bytes, any-rows}
+use Rattle.plist.proofs.Inserted.{new-absent, new-none, new-rows, new-lengths, old-keys, old-place}
 use Rattle.plist.proofs.dictionary.Pairs.insert.Goals as goal
 
-pub returns-in-Some-clause-old : goal.returns-in-Some-clause-old
-returns-in-Some-clause-old g c =
+pub invariant_of-self-in-Ok : goal.invariant_of-self-in-Ok
+invariant_of-self-in-Ok g c =
     let k = c.self.inside in
-    let q = c.in-Some.ensures.index ∙ ap (λ b. position (λ (l : Text). bytes_eq b (string_bytes l)) k.keys.keys) c.as_str.ensures.value in
-    let f = found_value k.keys.keys k.items.items c.self.invariant.0 (bytes_eq (string_bytes c.args.key)) c.in-Some.index q in
-    ap Some c.replace.ensures.value
-    ∙ sym (slice_get_read k.items.items (length k.items.items) c.in-Some.index c.index_mut.result.now refl (omega (arith, c.in-Some.ensures.within, c.self.invariant.0)) c.index_mut.ensures.value)
-    ∙ sym f ∙ ap (lookup (bytes_eq (string_bytes c.args.key))) c.self.view_is
-
-pub returns-in-Some-clause-pairs : goal.returns-in-Some-clause-pairs
-returns-in-Some-clause-pairs g c =
-    let k = c.self.inside in
-    let q = c.in-Some.ensures.index ∙ ap (λ b. position (λ (l : Text). bytes_eq b (string_bytes l)) k.keys.keys) c.as_str.ensures.value in
-    ap (λ w. rows k.keys.keys (slice_set k.items.items c.in-Some.index w)) c.replace.ensures.after
-    ∙ rows-old k.keys.keys k.items.items c.self.invariant.0 c.args.key c.args.value c.in-Some.index q ∙ ap (λ l. insert_entry bytes_eq l (string_bytes c.args.key) c.args.value) c.self.view_is
-
-new-keys : (g : _) (c : goal.After-push_reserved g) → c.insert.new.self.keys ≡ c.self.inside.keys.keys ++ c.args.key ∷ []
-new-keys g c =
-    let ks = c.self.inside.keys.keys in
-    c.in-Ok-insert.ensures.keys
-    ∙ ap (λ b. cond b ks (ks ++ c.args.key ∷ [])) (sym (c.in-None.ensures.found ∙ ap (λ b. list_any (λ (l : Text). bytes_eq b (string_bytes l)) ks) c.as_str.ensures.value))
-
-new-items : (g : _) (c : goal.After-push_reserved g) → c.push_reserved.new.self.items ≡ c.self.inside.items.items ++ c.args.value ∷ []
-new-items g c = c.push_reserved.ensures.items ∙ ap (λ l. l ++ c.args.value ∷ []) c.reserve.ensures.items
-
-pub invariant_of-self-in-Ok-insert : goal.invariant_of-self-in-Ok-insert
-invariant_of-self-in-Ok-insert g c =
-    let k = c.self.inside in (
-      ap length (new-items g c) ∙ length-append k.items.items (c.args.value ∷ []) ∙ ap (λ n. n + 1) c.self.invariant.0 ∙ sym (length-append k.keys.keys (c.args.key ∷ [])) ∙ ap length (sym (new-keys g c)),
-      distinct-bytes c.insert.new.self.keys c.in-Ok-insert.ensures.unique,
+    let e = c.in-Ok-default-true.ensures in (
+      new-lengths k.keys.keys k.items.items c.self.invariant.0 c.args.key c.args.self.now c.self.view_is c.in-Ok-default-true.field-0-1 e.added c.in-Ok-default-true.field-0-1-test c.args.value c.insert_full.new.self.keys c.push.new.self.items e.keys c.in-Ok.ensures.items,
+      distinct-bytes c.insert_full.new.self.keys e.unique,
     )
-
-none : (g : _) (c : goal.After-push_reserved g) → None ≡ position (λ (l : Text). bytes_eq (string_bytes c.args.key) (string_bytes l)) c.self.inside.keys.keys
-none g c = c.in-None.ensures.index ∙ ap (λ b. position (λ (l : Text). bytes_eq b (string_bytes l)) c.self.inside.keys.keys) c.as_str.ensures.value
-
-pub returns-in-Ok-insert-clause-old : goal.returns-in-Ok-insert-clause-old
-returns-in-Ok-insert-clause-old g c =
-    let k = c.self.inside in
-    sym (lost k.keys.keys k.items.items c.self.invariant.0 (bytes_eq (string_bytes c.args.key)) (none g c)).value ∙ ap (lookup (bytes_eq (string_bytes c.args.key))) c.self.view_is
-
-pub returns-in-Ok-insert-clause-pairs : goal.returns-in-Ok-insert-clause-pairs
-returns-in-Ok-insert-clause-pairs g c =
-    let k = c.self.inside in
-    (λ i. rows (new-keys g c i) (new-items g c i)) ∙ rows-new k.keys.keys k.items.items c.self.invariant.0 c.args.key c.args.value (none g c)
-    ∙ ap (λ l. insert_entry bytes_eq l (string_bytes c.args.key) c.args.value) c.self.view_is
 
 pub returns-in-Err-clause-absent : goal.returns-in-Err-clause-absent
 returns-in-Err-clause-absent g c =
     let k = c.self.inside in
-    let q = c.in-None.ensures.index ∙ ap (λ b. position (λ (l : Text). bytes_eq b (string_bytes l)) k.keys.keys) c.as_str.ensures.value in
-    not_there k.keys.keys k.items.items c.self.invariant.0 (bytes_eq (string_bytes c.args.key)) q c.args.self.now c.self.view_is
+    ap (λ l. is_some (lookup (bytes_eq (string_bytes c.args.key)) l)) (sym c.self.view_is)
+    ∙ sym (any-rows k.keys.keys k.items.items (bytes_eq (string_bytes c.args.key)) c.self.invariant.0) ∙ c.in-Err.ensures.absent
 
-pub returns-in-Err-insert-clause-absent : goal.returns-in-Err-insert-clause-absent
-returns-in-Err-insert-clause-absent g c =
+pub returns-in-Ok-clause-old : goal.returns-in-Ok-clause-old
+returns-in-Ok-clause-old g c =
     let k = c.self.inside in
-    let q = c.in-None.ensures.index ∙ ap (λ b. position (λ (l : Text). bytes_eq b (string_bytes l)) k.keys.keys) c.as_str.ensures.value in
-    not_there k.keys.keys k.items.items c.self.invariant.0 (bytes_eq (string_bytes c.args.key)) q c.args.self.now c.self.view_is
+    new-none k.keys.keys k.items.items c.self.invariant.0 c.args.key c.args.self.now c.self.view_is c.in-Ok-default-true.field-0-1 c.in-Ok-default-true.ensures.added c.in-Ok-default-true.field-0-1-test
+
+pub returns-in-Ok-clause-pairs : goal.returns-in-Ok-clause-pairs
+returns-in-Ok-clause-pairs g c =
+    let k = c.self.inside in
+    new-rows k.keys.keys k.items.items c.self.invariant.0 c.args.key c.args.self.now c.self.view_is c.in-Ok-default-true.field-0-1 c.in-Ok-default-true.ensures.added c.in-Ok-default-true.field-0-1-test c.args.value c.insert_full.new.self.keys c.push.new.self.items c.in-Ok-default-true.ensures.keys c.in-Ok.ensures.items
+
+pub returns-in-Err-push-clause-absent : goal.returns-in-Err-push-clause-absent
+returns-in-Err-push-clause-absent g c =
+    let k = c.self.inside in
+    new-absent k.keys.keys k.items.items c.self.invariant.0 c.args.key c.args.self.now c.self.view_is c.in-Ok-default-true.field-0-1 c.in-Ok-default-true.ensures.added c.in-Ok-default-true.field-0-1-test
+
+pub returns-in-Ok-default-false-clause-old : goal.returns-in-Ok-default-false-clause-old
+returns-in-Ok-default-false-clause-old g c =
+    let k = c.self.inside in
+    let e = c.in-Ok-default-false in
+    let same = old-keys k.keys.keys c.args.key e.field-0-1 e.ensures.added e.field-0-1-test c.insert_full.new.self.keys e.ensures.keys in
+    let place = old-place k.keys.keys c.args.key e.field-0-1 e.ensures.added e.field-0-1-test c.insert_full.new.self.keys e.ensures.keys e.index e.ensures.index e.ensures.within in
+    let i = e.index in
+    let f = found_value k.keys.keys k.items.items c.self.invariant.0 (bytes_eq (string_bytes c.args.key)) i place in
+    ap Some c.replace.ensures.value
+    ∙ sym (slice_get_read k.items.items (length k.items.items) i c.index_mut.result.now refl (omega (arith, e.ensures.within, ap length same, c.self.invariant.0)) c.index_mut.ensures.value)
+    ∙ sym f ∙ ap (lookup (bytes_eq (string_bytes c.args.key))) c.self.view_is
+
+pub returns-in-Ok-default-false-clause-pairs : goal.returns-in-Ok-default-false-clause-pairs
+returns-in-Ok-default-false-clause-pairs g c =
+    let k = c.self.inside in
+    let e = c.in-Ok-default-false in
+    let same = old-keys k.keys.keys c.args.key e.field-0-1 e.ensures.added e.field-0-1-test c.insert_full.new.self.keys e.ensures.keys in
+    let place = old-place k.keys.keys c.args.key e.field-0-1 e.ensures.added e.field-0-1-test c.insert_full.new.self.keys e.ensures.keys e.index e.ensures.index e.ensures.within in
+    let i = e.index in
+    ap (λ l. rows l (slice_set k.items.items i c.replace.new.dest)) same
+    ∙ ap (λ w. rows k.keys.keys (slice_set k.items.items i w)) c.replace.ensures.after
+    ∙ rows-old k.keys.keys k.items.items c.self.invariant.0 c.args.key c.args.value i place ∙ ap (λ l. insert_entry bytes_eq l (string_bytes c.args.key) c.args.value) c.self.view_is

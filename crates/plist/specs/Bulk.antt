@@ -1,0 +1,39 @@
+-- What calls that go over all pairs do.
+use Rattle.std.specs.Prelude.{◌≡◌, ℕ, ◌++◌, ◌∷◌, [], Bool, List, Option, String, Result, Ok, Err, map, string_bytes}
+use Rattle.std.specs.Borrow.{Bor}
+use Rattle.std.specs.Iterator.{Drains, Yields}
+use Rattle.std.specs.List.{AllZip, items_where_true}
+use Rattle.std.specs.Str.{bytes_eq}
+use Rattle.std.specs.declared.alloc.Global.{Global}
+use denote.Param.Members.{Shared}
+use Rattle.indexmap.specs.IndexMap.{insert_all}
+use Rattle.plist.specs.Shown.{shown_owned_pair}
+use Rattle.plist_base.specs.declared.error.Error.{Error}
+
+abbrev pub Rows : Type 0 → Type 0
+Rows V = List (List ℕ × V)
+
+module _ {F V : Type 0} (g : Shared F (Bor (String Global) × (Bor V × Unit {0})) Bool) (f : F) where
+  -- the closure, called at a key and a value that are those of the pair, may give this answer
+  pub record Answers (pair : List ℕ × V) (answer : Bool) : Type 0 where
+    pub key : Bor (String Global)
+    pub value : Bor V
+    pub shows : (string_bytes key.now ≡ pair.0) × (value.now ≡ pair.1)
+    pub says : g.post f (key, (value, tt)) answer
+
+  -- the pairs for which the closure answered `true`, in their order
+  abbrev pub Retains : Rows V → Rows V → Type 0
+  Retains old new = (answers : List Bool) × AllZip Answers old answers × (new ≡ items_where_true answers old)
+
+module _ {I V : Type 0} (next_gives : I → Option (String Global × V) → I → Type 0) (iter : I) where
+  -- All pairs of the iterator are inserted in turn. After an error these are the pairs before one
+  -- that was taken, too.
+  abbrev pub ExtendsBy : Rows V → Result (Unit {0}) Error → Rows V → Type 0
+  ExtendsBy old (Ok _) new = (taken : List (String Global × V)) × Drains next_gives iter taken × (new ≡ insert_all bytes_eq old (map shown_owned_pair taken))
+  ExtendsBy old (Err _) new =
+      (taken : List (String Global × V)) × (refused : String Global × V) × ((rest : I) × Yields next_gives iter (taken ++ refused ∷ []) rest)
+      × (new ≡ insert_all bytes_eq old (map shown_owned_pair taken))
+
+  -- all pairs of the iterator, inserted in turn
+  abbrev pub IsMadeOf : Rows V → Type 0
+  IsMadeOf made = (taken : List (String Global × V)) × Drains next_gives iter taken × (made ≡ insert_all bytes_eq [] (map shown_owned_pair taken))

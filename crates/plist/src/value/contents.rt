@@ -1,0 +1,198 @@
+//! What stands in a value of a kind. None of these calls takes memory.
+
+ghost use Rattle.std.specs.Prelude.{◌≡◌, ◌↔◌, ◌<ℤ◌, ◌≤ℤ◌, ◌^◌, ℤ, IfSome, IsSome, IsSomeAnd, Some, option_map, pos, string_bytes};
+ghost use Rattle.std.specs.Option.{option_copied};
+ghost use Rattle.plist.specs.Contents.{array_in, boolean_in, data_in, date_in, dictionary_in, integer_in, real_in, text_in, uid_in};
+ghost use Rattle.plist.specs.Views.{item_trees, pair_trees, tree_of};
+
+use crate::{Dictionary, Value};
+use plist_base::{Date, RealBits, Uid};
+
+impl Value {
+    ghost use Rattle.std.specs.Borrow.{LendsIf, sem};
+    ghost use Rattle.plist.specs.Rows.{array_row, dictionary_row};
+    ghost use Rattle.plist.specs.contracts.value.Value.{the_row};
+    ghost use Rattle.plist.specs.declared.value.Value.TheVariants as made;
+
+    /// The array, if the value is one.
+    pub fn into_array(self) -> Option<Vec<Value>>
+        ensures { option_map (λ items. item_trees items.items) result ≡ array_in (tree_of self) }
+    {
+        match self {
+            Value::Array(items) => Some(items),
+            _ => None,
+        }
+    }
+
+    /// The array, if the value is one.
+    pub fn as_array(&self) -> Option<&Vec<Value>>
+        ensures { option_map (λ items. item_trees items.now.items) result
+            ≡ array_in (tree_of self.now) }
+    {
+        match self {
+            Value::Array(items) => Some(items),
+            _ => None,
+        }
+    }
+
+    /// The array, to be changed, if the value is one.
+    pub fn as_array_mut(&mut self) -> Option<&mut Vec<Value>>
+        ensures* writes_back { sem 𝓛 (LendsIf the_row array_row self.entry result
+            made.Array self.old) }
+        ensures value { option_map (λ items. item_trees items.now.items) result
+            ≡ array_in (tree_of self.old) }
+    {
+        match self {
+            Value::Array(items) => Some(items),
+            _ => None,
+        }
+    }
+
+    /// The dictionary, if the value is one.
+    pub fn into_dictionary(self) -> Option<Dictionary>
+        ensures { option_map pair_trees result ≡ dictionary_in (tree_of self) }
+    {
+        match self {
+            Value::Dictionary(pairs) => Some(pairs),
+            _ => None,
+        }
+    }
+
+    /// The dictionary, if the value is one.
+    pub fn as_dictionary(&self) -> Option<&Dictionary>
+        ensures { option_map (λ pairs. pair_trees pairs.now) result
+            ≡ dictionary_in (tree_of self.now) }
+    {
+        match self {
+            Value::Dictionary(pairs) => Some(pairs),
+            _ => None,
+        }
+    }
+
+    /// The dictionary, to be changed, if the value is one.
+    pub fn as_dictionary_mut(&mut self) -> Option<&mut Dictionary>
+        ensures* writes_back { sem 𝓛 (LendsIf the_row dictionary_row self.entry result
+            made.Dictionary self.old) }
+        ensures value { option_map (λ pairs. pair_trees pairs.now) result
+            ≡ dictionary_in (tree_of self.old) }
+    {
+        match self {
+            Value::Dictionary(pairs) => Some(pairs),
+            _ => None,
+        }
+    }
+
+    /// The truth value, if the value is one.
+    pub fn as_boolean(&self) -> Option<bool>
+        ensures { result ≡ boolean_in (tree_of self.now) }
+    {
+        match self {
+            Value::Boolean(value) => Some(*value),
+            _ => None,
+        }
+    }
+
+    /// The bytes of data, if the value is data.
+    pub fn into_data(self) -> Option<Vec<u8>>
+        ensures { option_map (λ bytes. bytes.items) result ≡ data_in (tree_of self) }
+    {
+        match self {
+            Value::Data(bytes) => Some(bytes),
+            _ => None,
+        }
+    }
+
+    /// The bytes of data, if the value is data.
+    pub fn as_data(&self) -> Option<&[u8]>
+        ensures { option_copied result ≡ data_in (tree_of self.now) }
+    {
+        match self {
+            Value::Data(bytes) => Some(bytes.as_slice()),
+            _ => None,
+        }
+    }
+
+    /// The date, if the value is one.
+    pub fn as_date(&self) -> Option<Date>
+        ensures { result ≡ date_in (tree_of self.now) }
+    {
+        match self {
+            Value::Date(date) => Some(*date),
+            _ => None,
+        }
+    }
+
+    /// The bytes of a real, if the value is one.
+    pub fn as_real(&self) -> Option<RealBits>
+        ensures { result ≡ real_in (tree_of self.now) }
+    {
+        match self {
+            Value::Real(bits) => Some(*bits),
+            _ => None,
+        }
+    }
+
+    /// The number, if the value is an integer that fits an `i64`.
+    pub fn as_signed_integer(&self) -> Option<i64>
+        ensures fits { IsSome result ↔ IsSomeAnd (integer_in (tree_of self.now))
+            (λ n. n <ℤ pos (2 ^ 63)) }
+        ensures value { IfSome result (λ n. integer_in (tree_of self.now) ≡ Some n) }
+    {
+        match self {
+            Value::Integer(number) => number.as_signed(),
+            _ => None,
+        }
+    }
+
+    /// The number, if the value is an integer that isn't negative.
+    pub fn as_unsigned_integer(&self) -> Option<u64>
+        ensures fits { IsSome result ↔ IsSomeAnd (integer_in (tree_of self.now))
+            (λ n. pos 0 ≤ℤ n) }
+        ensures value { IfSome result (λ n. integer_in (tree_of self.now) ≡ Some (pos n)) }
+    {
+        match self {
+            Value::Integer(number) => number.as_unsigned(),
+            _ => None,
+        }
+    }
+
+    /// The text, if the value is one.
+    pub fn into_string(self) -> Option<String>
+        ensures { option_map string_bytes result ≡ text_in (tree_of self) }
+    {
+        match self {
+            Value::String(text) => Some(text),
+            _ => None,
+        }
+    }
+
+    /// The text, if the value is one.
+    pub fn as_string(&self) -> Option<&str>
+        ensures { option_copied result ≡ text_in (tree_of self.now) }
+    {
+        match self {
+            Value::String(text) => Some(text.as_str()),
+            _ => None,
+        }
+    }
+
+    /// The identifier, if the value is one.
+    pub fn into_uid(self) -> Option<Uid>
+        ensures { result ≡ uid_in (tree_of self) }
+    {
+        match self {
+            Value::Uid(uid) => Some(uid),
+            _ => None,
+        }
+    }
+
+    /// The identifier, if the value is one.
+    pub fn as_uid(&self) -> Option<&Uid>
+        ensures { option_copied result ≡ uid_in (tree_of self.now) }
+    {
+        match self {
+            Value::Uid(uid) => Some(uid),
+            _ => None,
+        }
+    }
+}
