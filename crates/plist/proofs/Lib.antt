@@ -17,11 +17,8 @@ pub mod Depths
 pub mod SameTrees
 pub mod Copies
 pub mod EntrySteps
-<<<<<<< HEAD
 pub mod Gathered
-=======
 pub mod Inserted
 pub mod Retained
 pub mod Extended
 pub mod Rebuilt
->>>>>>> 5d6640d19774b83c02103f5e28b235b0d33c01d9
