@@ -1,0 +1,87 @@
+//! The texts of dates.
+
+ghost use Rattle.std.specs.Prelude.{◌≡◌, ◌↔◌, codes, List, ℕ, true, Some, None, Ok, IsErr, IfOk, IfErr, MatchResult, string_bytes};
+ghost use Rattle.plist_base.specs.Date.{has_fraction, real_bits, second_of_bytes};
+ghost use Rattle.plist_base.specs.DateTexts.{HasTextYear, IsDateText, IsRefused, IsWhole, second_of_text};
+ghost use Rattle.plist_base.specs.Faults.{FractionalDate, InvalidDateString, OutOfMemory, YearOutOfRange, fault_nowhere, fault_of};
+
+use crate::{Date, Error, ErrorKind};
+use plist_dates::Moment;
+use std::alloc::Global;
+use std::fmt;
+
+/// A text that isn't that of a date.
+#[derive(Clone, Copy, Debug, PartialEq, Eq)]
+pub struct InvalidXmlDate;
+
+impl Date {
+    /// Reads the text of a date, as `2001-01-01T00:00:00Z`.
+    ///
+    /// It is a year of four digits, `-MM-DD`, one of `T`, `t` and the space, `HH:MM:SS`, and `Z`,
+    /// `z` or a sign with `HH:MM`. It has no fraction and no second 60.
+    ///
+    /// # Errors
+    ///
+    /// [`InvalidXmlDate`] exactly where the text isn't such a text, the calendar hasn't the day, or
+    /// the moment in UTC lies outside the range of dates.
+    pub fn from_xml_format(text: &str) -> Result<Date, InvalidXmlDate>
+        ensures second { IfOk result (λ date. second_of_bytes date ≡ second_of_text text.now) }
+        ensures whole { IfOk result (λ date. IsWhole date) }
+        ensures refused { IsErr result ↔ (second_of_text text.now ≡ None) }
+    {
+        match plist_dates::second_of_text(text) {
+            None => Err(InvalidXmlDate),
+            Some(second) => match Date::from_unix_secs(second) {
+                None => Err(InvalidXmlDate),
+                Some(date) => Ok(date),
+            },
+        }
+    }
+
+    /// The text of this date: `YYYY-MM-DDTHH:MM:SSZ`.
+    ///
+    /// # Errors
+    ///
+    /// [`ErrorKind::FractionalDate`] if it lies between two seconds, else
+    /// [`ErrorKind::YearOutOfRange`] if its year isn't one from 0 to 9999, else
+    /// [`ErrorKind::OutOfMemory`] if memory runs out.
+    pub fn to_xml_format(&self, alloc: Global) -> Result<String, Error>
+        ensures fraction { has_fraction (real_bits self.now) ≡ true →
+            IsRefused FractionalDate result }
+        ensures year { IsWhole self.now → (HasTextYear self.now → ⊥) →
+            IsRefused YearOutOfRange result }
+        ensures text { IsWhole self.now → HasTextYear self.now → MatchResult result
+            (λ text. IsDateText self.now (string_bytes text))
+            (λ error. fault_of error ≡ fault_nowhere OutOfMemory) }
+    {
+        if self.has_fraction() {
+            return Err(ErrorKind::FractionalDate.without_position());
+        }
+        match Moment::from_unix_secs(self.unix_secs()) {
+            None => Err(ErrorKind::YearOutOfRange.without_position()),
+            Some(moment) => {
+                let text = moment.to_string(alloc)?;
+                Ok(text)
+            }
+        }
+    }
+}
+
+impl fmt::Display for InvalidXmlDate {
+    ghost output = { λ _. Some (codes "String was not a valid XML plist date") };
+
+    fn fmt<W: fmt::Write>(&self, f: &mut fmt::Formatter<W>) -> fmt::Result {
+        f.write_str("String was not a valid XML plist date")
+    }
+}
+
+impl std::error::Error for InvalidXmlDate {}
+
+/// [`ErrorKind::InvalidDateString`], without an offset.
+impl From<InvalidXmlDate> for Error {
+    ghost from_gives = { λ _ e. fault_of e ≡ fault_nowhere InvalidDateString };
+
+    fn from(_error: InvalidXmlDate) -> Error {
+        ErrorKind::InvalidDateString.without_position()
+    }
+}

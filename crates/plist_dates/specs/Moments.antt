@@ -1,0 +1,14 @@
+-- The text of a moment.
+use Rattle.std.specs.Prelude.{ℕ, ◌-◌, ◌^◌, List, [], ◌∷◌, ◌++◌}
+use Rattle.std.specs.Fmt.{format_spec, styled_decimal}
+use Rattle.plist_dates.specs.declared.moment.Moment.{Moment}
+
+-- a number with a zero before a lone digit
+abbrev pub two_places : ℕ → List ℕ
+two_places number = styled_decimal (format_spec 32 0 4 2 (2 ^ 64 - 1)) number
+
+-- YYYY-MM-DDTHH:MM:SSZ
+abbrev pub moment_text : Moment → List ℕ
+moment_text moment =
+    two_places moment.century ++ (two_places moment.year ++ 45 ∷ (two_places moment.month ++ 45 ∷ (two_places moment.day
+    ++ 84 ∷ (two_places moment.hour ++ 58 ∷ (two_places moment.minute ++ 58 ∷ (two_places moment.second ++ 90 ∷ []))))))

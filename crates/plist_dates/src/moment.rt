@@ -1,0 +1,71 @@
+//! Moments, and their texts.
+
+ghost use Rattle.std.specs.Prelude.{◌↔◌, ◌<◌, ◌≤ℤ◌, ◌+ℤ◌, ◌*ℤ◌, pos, Some, IsSome, IfSome};
+ghost use Rattle.jiff_core.specs.Date.{epoch_day};
+ghost use Rattle.plist_dates.specs.DateText.{HasFourDigitYear, IsTextOfSecond};
+ghost use Rattle.plist_dates.specs.Moments.{moment_text};
+
+use jiff_core::civil::Date;
+use std::fmt;
+
+const SECONDS_A_DAY: i64 = 86_400;
+
+/// A second of the years 0 to 9999, in UTC.
+#[derive(Clone, Copy)]
+pub struct Moment {
+    century: u8,
+    // Of the century.
+    year: u8,
+    month: u8,
+    day: u8,
+    hour: u8,
+    minute: u8,
+    second: u8,
+}
+
+impl Moment {
+    /// The moment of a Unix second, or `None` if its year isn't one from 0 to 9999.
+    pub fn from_unix_secs(second: i64) -> Option<Moment>
+        ensures year { IsSome result ↔ HasFourDigitYear second }
+        ensures text { IfSome result (λ moment. IsTextOfSecond second (moment_text moment)) }
+    {
+        match Date::from_unix_epoch_day(second.div_euclid(SECONDS_A_DAY)) {
+            Ok(date) if date.year >= 0 => Some(moment_of(
+                date,
+                second.rem_euclid(SECONDS_A_DAY).unsigned_abs() as u32,
+            )),
+            _ => None,
+        }
+    }
+}
+
+// The moment of a second of a day.
+fn moment_of(date: Date, second: u32) -> Moment
+    requires year { pos 0 ≤ℤ date.year }
+    requires second { second < 86400 }
+    ensures { IsTextOfSecond (epoch_day date *ℤ pos 86400 +ℤ pos second) (moment_text result) }
+{
+    let year = date.year.unsigned_abs();
+    Moment {
+        century: (year / 100) as u8,
+        year: (year % 100) as u8,
+        month: date.month,
+        day: date.day,
+        hour: (second / 3600) as u8,
+        minute: (second / 60 % 60) as u8,
+        second: (second % 60) as u8,
+    }
+}
+
+/// `YYYY-MM-DDTHH:MM:SSZ`.
+impl fmt::Display for Moment {
+    ghost output = { λ moment. Some (moment_text moment) };
+
+    fn fmt<W: fmt::Write>(&self, f: &mut fmt::Formatter<W>) -> fmt::Result {
+        write!(
+            f,
+            "{:02}{:02}-{:02}-{:02}T{:02}:{:02}:{:02}Z",
+            self.century, self.year, self.month, self.day, self.hour, self.minute, self.second
+        )
+    }
+}

@@ -1,0 +1,164 @@
+//! The second that a date's text spells.
+
+ghost use Rattle.std.specs.Prelude.{◌≡◌, ◌+◌, ◌+ℤ◌, ◌-ℤ◌, ◌*ℤ◌, ◌<◌, ◌≤◌, length, ℤ, pos, neg_ℤ, IsTrue, IfSome};
+ghost use Rattle.jiff_core.specs.Calendar.{IsEpochDay, IsWithin};
+ghost use Rattle.plist_dates.specs.DateText as spec;
+
+use jiff_core::civil::Date;
+
+// The number of two digits at a place.
+#[tactic(auto, unfolding(crate::specs::DateText::two_digits))]
+fn two_at(text: &[u8], place: usize) -> Option<u8>
+    requires { place + 1 < length text.now }
+    ensures is { result ≡ spec.two_at text.now place }
+    ensures small { IfSome result (λ n. n < 100) }
+{
+    let (tens, ones) = (text[place], text[place + 1]);
+    if tens.is_ascii_digit() && ones.is_ascii_digit() {
+        Some((tens - b'0') * 10 + (ones - b'0'))
+    } else {
+        None
+    }
+}
+
+// The number of four digits at a place.
+fn four_at(text: &[u8], place: usize) -> Option<u16>
+    requires { place + 3 < length text.now }
+    ensures is { result ≡ spec.four_at text.now place }
+    ensures small { IfSome result (λ n. n < 10000) }
+{
+    let high = two_at(text, place)?;
+    let low = two_at(text, place + 2)?;
+    Some(u16::from(high) * 100 + u16::from(low))
+}
+
+// The days from 1970-01-01 to a date, where the calendar has it.
+#[tactic(auto, unfolding(crate::specs::DateText::day_number))]
+fn day_number(year: u16, month: u8, day: u8) -> Option<i32>
+    requires { year < 10000 }
+    ensures is { result ≡ spec.day_number year month day }
+    ensures bound { IfSome result (λ n. IsEpochDay n) }
+{
+    if month > 12 || day > 31 {
+        return None;
+    }
+    match Date::new(year as i16, month as i8, day as i8) {
+        Ok(date) => Some(date.to_unix_epoch_day()),
+        Err(_) => None,
+    }
+}
+
+// YYYY-MM-DD.
+fn day_in(text: &[u8]) -> Option<i32>
+    requires { 10 ≤ length text.now }
+    ensures is { result ≡ spec.day_in text.now }
+    ensures bound { IfSome result (λ n. IsEpochDay n) }
+{
+    let year = four_at(text, 0)?;
+    let month = two_at(text, 5)?;
+    let day = two_at(text, 8)?;
+    day_number(year, month, day)
+}
+
+// The second of a day.
+#[tactic(auto, unfolding(crate::specs::DateText::second_of_day))]
+fn second_of_day(hour: u8, minute: u8, second: u8) -> Option<u32>
+    ensures is { result ≡ spec.second_of_day hour minute second }
+    ensures bound { IfSome result (λ n. n < 86400) }
+{
+    if hour < 24 && minute < 60 && second < 60 {
+        Some(u32::from(hour) * 3600 + u32::from(minute) * 60 + u32::from(second))
+    } else {
+        None
+    }
+}
+
+// HH:MM:SS.
+fn time_in(text: &[u8]) -> Option<u32>
+    requires { 19 ≤ length text.now }
+    ensures is { result ≡ spec.time_in text.now }
+    ensures bound { IfSome result (λ n. n < 86400) }
+{
+    let hour = two_at(text, 11)?;
+    let minute = two_at(text, 14)?;
+    let second = two_at(text, 17)?;
+    second_of_day(hour, minute, second)
+}
+
+// Whether the marks stand where a date has them.
+fn has_marks(text: &[u8]) -> bool
+    ensures is { result ≡ spec.has_marks text.now }
+    ensures long { IsTrue result → 20 ≤ length text.now }
+{
+    text.len() >= 20
+        && text[4] == b'-'
+        && text[7] == b'-'
+        && (text[10] == b'T' || text[10] == b't' || text[10] == b' ')
+        && text[13] == b':'
+        && text[16] == b':'
+}
+
+// How many seconds hours and minutes behind this sign are before UTC.
+fn offset(sign: u8, hours: u8, minutes: u8) -> Option<i32>
+    ensures is { result ≡ spec.offset sign hours minutes }
+    ensures bound { IfSome result (λ n. IsWithin 86399 n) }
+{
+    if hours >= 24 || minutes >= 60 {
+        return None;
+    }
+    let seconds = i32::from(hours) * 3600 + i32::from(minutes) * 60;
+    match sign {
+        b'+' => Some(seconds),
+        b'-' => Some(-seconds),
+        _ => None,
+    }
+}
+
+// `Z`, `z`, or a sign with HH:MM: how many seconds the zone is before UTC.
+fn zone_in(text: &[u8]) -> Option<i32>
+    requires { 20 ≤ length text.now }
+    ensures is { result ≡ spec.zone_in text.now }
+    ensures bound { IfSome result (λ n. IsWithin 86399 n) }
+{
+    if text.len() == 20 {
+        return if text[19] == b'Z' || text[19] == b'z' {
+            Some(0)
+        } else {
+            None
+        };
+    }
+    if text.len() != 25 || text[22] != b':' {
+        return None;
+    }
+    let hours = two_at(text, 20)?;
+    let minutes = two_at(text, 23)?;
+    offset(text[19], hours, minutes)
+}
+
+// The Unix second of a day's second in a zone.
+fn unix_second(day: i32, time: u32, zone: i32) -> i64
+    requires day { IsEpochDay day }
+    requires time { time < 86400 }
+    requires zone { IsWithin 86399 zone }
+    ensures { result ≡ ((day *ℤ pos 86400 +ℤ pos time) -ℤ zone) }
+{
+    i64::from(day) * 86_400 + i64::from(time) - i64::from(zone)
+}
+
+/// The Unix second that a text spells, or `None` if it isn't the text of a date.
+///
+/// It is `YYYY-MM-DD`, one of `T`, `t` and the space, `HH:MM:SS`, and `Z`, `z` or a sign with
+/// `HH:MM`, of the years 0 to 9999. The day is one of the calendar, and there is no second 60.
+#[tactic(auto, unfolding(crate::specs::DateText::unix_second_of_text))]
+pub fn second_of_text(text: &str) -> Option<i64>
+    ensures is { result ≡ spec.unix_second_of_text text.now }
+{
+    let text = text.as_bytes();
+    if !has_marks(text) {
+        return None;
+    }
+    let day = day_in(text)?;
+    let time = time_in(text)?;
+    let zone = zone_in(text)?;
+    Some(unix_second(day, time, zone))
+}
