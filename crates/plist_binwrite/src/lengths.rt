@@ -114,7 +114,8 @@ pub fn length_of_scalar(event: &Event<'_>) -> Option<u64>
 
 /// The length of a collection of this count with so many references, each of this width.
 pub fn length_of_collection(count: u64, references: u64, width: u64) -> Option<u64>
-    ensures value { (high : ℕ) → TellsSize result (length (length_form high count) + references * width) }
+    ensures value { (high : ℕ) → TellsSize result (length
+        (length_form high count) + references * width) }
 {
     add(Some(length_of_count(count)), references.checked_mul(width))
 }

@@ -25,7 +25,8 @@ use plist_base::{Error, ErrorKind, Event};
 /// The number of items of an array from here on; a key is an item, and so is its value.
 pub fn count_items(events: &[Event<'_>], skips: &[usize], from: usize) -> usize
     requires { IsSkips (evs events.now) skips.now 0 }
-    ensures value { (ts : Trees) → SitsItems (evs events.now) ts from → result ≡ number_of_trees ts }
+    ensures value { (ts : Trees) → SitsItems (evs events.now) ts from
+        → result ≡ number_of_trees ts }
     ensures small { result < 2 ^ 64 }
 {
     let mut count = 0;
