@@ -1,15 +1,14 @@
 -- Objects that lie back to back are found at their places.
-use Rattle.std.proofs.Common.{◌≡◌, inl, inr, ℕ, ◌+◌, ◌<◌, ◌≤◌, Bool, true, false, ◌||◌, eqb, List, [], ◌∷◌, ◌++◌, length, get_or, set, refl, ap, sym, ◌∙◌, arith, append_assoc, append-nil, length-append}
+use Rattle.std.proofs.Common.{◌≡◌, ◌≢◌, ◌⊎◌, inl, inr, ℕ, ◌+◌, ◌<◌, ◌≤◌, Bool, true, false, ◌||◌, eqb, List, [], ◌∷◌, ◌++◌, length, get_or, set, refl, ap, sym, ◌∙◌, arith, append_assoc, length-append}
 use Rattle.std.specs.List.{list_any, IsDistinct, AllByRecursion}
 use Rattle.std.proofs.lemmas.Bool.{eq-eqb}
 use Rattle.std.proofs.lemmas.Bool.Decides.{eqb_tells}
 use Rattle.std.proofs.lemmas.List.{get_or-set_same, get_or-set_other, length-set}
-use Rattle.std.proofs.lemmas.Grind.{flat_map-append}
 use Rattle.plist_binread.specs.Container.{magic}
 use Rattle.plist_binread.specs.Object.{Object}
 use Rattle.plist_binwrite.specs.Forms.{form, IsWritable}
 use Rattle.plist_binwrite.specs.Written.{bodies, Laid}
-use Rattle.plist_binwrite.specs.Laying.{IsLaid}
+use Rattle.plist_binwrite.specs.Laying.{IsOrder, KeepsMarks, IsLaid}
 
 pub length-magic : (xs : List ℕ) → length (magic ++ xs) ≡ 8 + length xs
 length-magic xs = length-append magic xs
@@ -68,7 +67,7 @@ module _ (w : ℕ) (objects : ℕ → Object) where
   pub written_place : (places order : List ℕ) (at k : ℕ) → 0 < at → Laid w objects places order at → list_any (eqb k) order ≡ true → 0 < get_or places k 0
   written_place places order at k h l any = let f = found places order at k l any in omega (arith, f.at_place)
 
-  laid_snoc : (places order : List ℕ) (at k v : ℕ) → k < length places → list_any (eqb k) order ≡ false → IsWritable w (objects k) → v ≡ at + length (bodies w objects order) → Laid w objects places order at → Laid w objects (set places k v) (order ++ k ∷ []) at
+  pub laid_snoc : (places order : List ℕ) (at k v : ℕ) → k < length places → list_any (eqb k) order ≡ false → IsWritable w (objects k) → v ≡ at + length (bodies w objects order) → Laid w objects places order at → Laid w objects (set places k v) (order ++ k ∷ []) at
   laid_snoc places [] at k v h new good e l = (get_or-set_same places k v 0 h ∙ omega (arith, e), good, tt)
   laid_snoc places (j ∷ order) at k v h new good e l =
       elim (eqb_tells k j) [
@@ -85,7 +84,7 @@ module _ (w : ℕ) (objects : ℕ → Object) where
       not_both true b p q = cc
       not_both false b p q = cc
 
-any_snoc : (p : ℕ → Bool) (xs : List ℕ) (y : ℕ) → list_any p (xs ++ y ∷ []) ≡ list_any p xs || p y
+pub any_snoc : (p : ℕ → Bool) (xs : List ℕ) (y : ℕ) → list_any p (xs ++ y ∷ []) ≡ list_any p xs || p y
 any_snoc p [] y = or_nothing (p y)
   where
     or_nothing : (b : Bool) → b || false ≡ b
@@ -118,41 +117,64 @@ distinct_snoc (x ∷ xs) y d h =
     or_false true b h = absurd (cc)
     or_false false b h = (refl, h)
 
-pub laid_none : (w : ℕ) (objects : ℕ → Object) (places : List ℕ) → ((k : ℕ) → get_or places k 0 ≡ 0) → IsLaid w objects magic places
+pub order_none : (count : ℕ) (marks : List ℕ) → length marks ≡ count → ((k : ℕ) → get_or marks k 0 ≡ 0) → IsOrder count [] marks
 unfolding IsDistinct
-laid_none w objects places zeros = record { order = []; is = refl; laid = tt; distinct = tt; below = λ k any. absurd (cc); unset = λ k any. zeros k }
-
-not_written : (w : ℕ) (objects : ℕ → Object) (places order : List ℕ) (k : ℕ) → Laid w objects places order 8 → get_or places k 0 ≡ 0 → (b : Bool) → list_any (eqb k) order ≡ b → b ≡ false
-not_written w objects places order k l z true e = absurd (omega (arith, written_place w objects places order 8 k (omega arith) l e))
-not_written w objects places order k l z false e = refl
+order_none count marks long zeros = record { long = long; distinct = tt; below = λ k any. absurd (cc); marked = λ k any. absurd (cc); others = λ k any. zeros k }
 
 -- one more object
-pub laid_more : (w : ℕ) (objects : ℕ → Object) (file places more : List ℕ) (k : ℕ) → IsLaid w objects file places → k < length places → get_or places k 0 ≡ 0 → IsWritable w (objects k) → more ≡ form w (objects k) → IsLaid w objects (file ++ more) (set places k (length file))
-laid_more w objects file places more k l h z good e =
-    let new : list_any (eqb k) l.order ≡ false = not_written w objects places l.order k l.laid z (list_any (eqb k) l.order) refl in
-    record {
-      order = l.order ++ k ∷ [];
-      is = (λ i. l.is i ++ e i) ∙ ap (λ x. magic ++ x) (ap (λ x. bodies w objects l.order ++ x) (sym (append-nil (form w (objects k)))) ∙ sym (flat_map-append (λ j. form w (objects j)) l.order (k ∷ [])));
-      laid = laid_snoc w objects places l.order 8 k (length file) h new good (omega (arith, ap length l.is, length-magic (bodies w objects l.order))) l.laid;
-      distinct = distinct_snoc l.order k l.distinct new;
-      below = λ q any. rw length-set (below_snoc q (sym (any_snoc (eqb q) l.order k) ∙ any));
-      unset = λ q any. unset_snoc q (sym (any_snoc (eqb q) l.order k) ∙ any);
-    }
+module _ (count : ℕ) (order marks : List ℕ) (k : ℕ) (o : IsOrder count order marks) (h : k < count) (z : get_or marks k 0 ≡ 0) where
+  unmarked : (b : Bool) → list_any (eqb k) order ≡ b → b ≡ false
+  unmarked true e = absurd (o.marked k e z)
+  unmarked false e = refl
+
+  new : list_any (eqb k) order ≡ false
+  new = unmarked (list_any (eqb k) order) refl
+
+  here : get_or (set marks k 1) k 0 ≡ 1
+  here = get_or-set_same marks k 1 0 (omega (arith, o.long))
+
+  split : (q : ℕ) → list_any (eqb q) order || eqb q k ≡ true → (q ≡ k) ⊎ (list_any (eqb q) order ≡ true)
+  split q any = elim (eqb_tells q k) [ inl s ↦ inl s.1 | inr d ↦ inr (drop_or (list_any (eqb q) order) (eqb q k) d.0 any) ]
+    where
+      drop_or : (a b : Bool) → b ≡ false → a || b ≡ true → a ≡ true
+      drop_or true b x y = refl
+      drop_or false b x y = absurd (cc)
+
+  neither : (q : ℕ) → list_any (eqb q) order || eqb q k ≡ false → (list_any (eqb q) order ≡ false) × (q ≡ k → ⊥)
+  neither q any = let p = or_false (list_any (eqb q) order) (eqb q k) any in (p.0, λ s. bad (eqb q k) (eq-eqb q k s) p.1)
+    where
+      or_false : (a b : Bool) → a || b ≡ false → (a ≡ false) × (b ≡ false)
+      or_false true b h = absurd (cc)
+      or_false false b h = (refl, h)
+
+      bad : (x : Bool) → x ≡ true → x ≡ false → ⊥
+      bad x p q = cc
+
+  pub keeps_more : KeepsMarks marks (set marks k 1)
+  keeps_more q n = elim (eqb_tells q k) [
+    | inl s ↦ λ zero. absurd (omega (arith, here, ap (λ j. get_or (set marks k 1) j 0) (sym s.1), zero))
+    | inr d ↦ λ zero. n (sym (get_or-set_other marks k q 1 0 d.1) ∙ zero)
+  ]
+
+  pub marked_more : get_or (set marks k 1) k 0 ≢ 0
+  marked_more zero = absurd (omega (arith, here, zero))
+
+  pub order_more : IsOrder count (order ++ k ∷ []) (set marks k 1)
+  order_more = record {
+    long = length-set marks k 1 ∙ o.long;
+    distinct = distinct_snoc order k o.distinct new;
+    below = λ q any. elim (split q (sym (any_snoc (eqb q) order k) ∙ any)) [ inl s ↦ omega (arith, s, h) | inr t ↦ o.below q t ];
+    marked = λ q any. elim (split q (sym (any_snoc (eqb q) order k) ∙ any)) [
+      | inl s ↦ λ zero. marked_more (ap (λ j. get_or (set marks k 1) j 0) (sym s) ∙ zero)
+      | inr t ↦ keeps_more q (o.marked q t)
+    ];
+    others = λ q any. let n = neither q (sym (any_snoc (eqb q) order k) ∙ any) in get_or-set_other marks k q 1 0 n.1 ∙ o.others q n.0;
+  }
+
+-- what is marked is in the order
+pub in_order : (count : ℕ) (order marks : List ℕ) (k : ℕ) → IsOrder count order marks → get_or marks k 0 ≢ 0 → list_any (eqb k) order ≡ true
+in_order count order marks k o n = by (list_any (eqb k) order) refl
   where
-    below_snoc : (q : ℕ) → list_any (eqb q) l.order || eqb q k ≡ true → q < length places
-    below_snoc q any = elim (eqb_tells q k) [ inl s ↦ rw s.1 h | inr d ↦ l.below q (drop_or (list_any (eqb q) l.order) (eqb q k) d.0 any) ]
-      where
-        drop_or : (a b : Bool) → b ≡ false → a || b ≡ true → a ≡ true
-        drop_or true b x y = refl
-        drop_or false b x y = absurd (cc)
-
-    unset_snoc : (q : ℕ) → list_any (eqb q) l.order || eqb q k ≡ false → get_or (set places k (length file)) q 0 ≡ 0
-    unset_snoc q any = let p = or_false (list_any (eqb q) l.order) (eqb q k) any in
-        get_or-set_other places k q (length file) 0 (λ s. bad (eqb q k) (eq-eqb q k s) p.1) ∙ l.unset q p.0
-      where
-        or_false : (a b : Bool) → a || b ≡ false → (a ≡ false) × (b ≡ false)
-        or_false true b h = absurd (cc)
-        or_false false b h = (refl, h)
-
-        bad : (x : Bool) → x ≡ true → x ≡ false → ⊥
-        bad x p q = cc
+    by : (b : Bool) → list_any (eqb k) order ≡ b → b ≡ true
+    by true e = refl
+    by false e = absurd (n (o.others k e))

@@ -1,7 +1,5 @@
 -- Steps of a layout.
-use Rattle.std.proofs.Common.{◌≡◌, ◌≢◌, inl, inr, ℕ, suc, ◌+◌, ◌^◌, ◌<◌, ◌≤◌, false, List, [], ◌∷◌, ◌++◌, length, get_or, set, map, refl, ap, sym, ◌∙◌, subst, arith, length-append, append-nil}
-use Rattle.std.proofs.lemmas.Bool.Decides.{eqb_tells}
-use Rattle.std.proofs.lemmas.List.{get_or-set_same, get_or-set_other, length-set}
+use Rattle.std.proofs.Common.{◌≡◌, ℕ, suc, ◌+◌, ◌^◌, ◌<◌, ◌≤◌, false, List, [], ◌∷◌, ◌++◌, length, map, refl, ap, sym, ◌∙◌, subst, arith, append-nil}
 use Rattle.std.specs.List.{AllByRecursion}
 use Rattle.plist_base.specs.Events as events
 use Rattle.plist_base.specs.Events.{PlainEvent}
@@ -13,8 +11,6 @@ use Rattle.plist_binwrite.specs.Marks.{Scalar, Ev, start_array, start_dictionary
 use Rattle.plist_binwrite.specs.Numberings.{refs, pairs, obj_of}
 use Rattle.plist_binwrite.specs.Forms.{form, scalar_form, length_form, table_form, keys_of, values_of, IsWritable, IsWritableScalar, AllFit}
 use Rattle.plist_binwrite.specs.Held.{is_stop, kind_of, event_at, item_places, key_places, value_places, keys_in, values_in, num_of, AllNumbered, IsBracketed, IsScalarEvent}
-use Rattle.plist_binwrite.specs.Laying.{IsLaid, Lays}
-use Rattle.plist_binwrite.proofs.Layouts.{laid_more}
 use Rattle.plist_binwrite.proofs.Sitting.{sits_items, sits_pairs, sits_item, sits_next, sits_key, sits_value, sits_next_pair}
 use Rattle.plist_binwrite.proofs.Skipping.{first_event, begins, sits_within, size_positive}
 use Rattle.plist_binwrite.proofs.Inside.{inside}
@@ -65,15 +61,15 @@ is_scalar (trees.String v) = tt
 is_scalar (trees.Uid v) = tt
 
 module _ (num : ℕ → ℕ) where
-  refs_are : (ts : Trees) (q : ℕ) → refs num ts q ≡ map num (item_places ts q)
+  pub refs_are : (ts : Trees) (q : ℕ) → refs num ts q ≡ map num (item_places ts q)
   refs_are NoTrees q = refl
   refs_are (TreeAnd t ts) q = ap (λ l. num q ∷ l) (refs_are ts (q + size t))
 
-  keys_are : (ms : Members) (q : ℕ) → keys_of (pairs num ms q) ≡ map num (key_places ms q)
+  pub keys_are : (ms : Members) (q : ℕ) → keys_of (pairs num ms q) ≡ map num (key_places ms q)
   keys_are NoMembers q = refl
   keys_are (MemberAnd k t ms) q = ap (λ l. num q ∷ l) (keys_are ms (q + 1 + size t))
 
-  values_are : (ms : Members) (q : ℕ) → values_of (pairs num ms q) ≡ map num (value_places ms q)
+  pub values_are : (ms : Members) (q : ℕ) → values_of (pairs num ms q) ≡ map num (value_places ms q)
   values_are NoMembers q = refl
   values_are (MemberAnd k t ms) q = ap (λ l. num (q + 1) ∷ l) (values_are ms (q + 1 + size t))
 
@@ -127,32 +123,3 @@ sits_at es (t, e) p lt b =
     all_units : (ps : List ℕ) → AllByRecursion (λ q. Unit {0}) ps
     all_units [] = tt
     all_units (p ∷ ps) = (tt, all_units ps)
-
-pub lays_same : (w : ℕ) (es : List Ev) (numbers file table : List ℕ) → 0 < length file → Lays w es numbers file table file table
-lays_same w es numbers file table h = record { laid = λ objects d l. l; keeps = λ k n. n; long = refl; some = h }
-
-pub lays_then : {w : ℕ} {es : List Ev} {numbers a b c d e f : List ℕ} → Lays w es numbers a b c d → Lays w es numbers c d e f → Lays w es numbers a b e f
-lays_then {w} {es} {numbers} {a} {b} {c} {d} {e} {f} k l = record { laid = λ objects h i. l.laid objects h (k.laid objects h i); keeps = λ j n. l.keeps j (k.keeps j n); long = l.long ∙ k.long; some = l.some }
-
--- one more object
-pub lays_one : (w : ℕ) (es : List Ev) (numbers file table new : List ℕ) (p : ℕ) → IsBracketed es → p < length es → is_stop (event_at es p) ≡ false → AllNumbered es numbers (length table) → 0 < length file
-    → get_or table (get_or numbers p 0) 0 ≡ 0 → ((t : Tree) → Sits es t p → new ≡ file ++ form w (obj_of (num_of numbers) t p)) → ((t : Tree) → Sits es t p → IsWritable w (obj_of (num_of numbers) t p))
-    → Lays w es numbers file table new (set table (get_or numbers p 0) (length file))
-lays_one w es numbers file table new p whole lt b all some z h good =
-    let u = sits_at es whole p lt b in
-    let e = h u.0 u.1 in
-    record {
-      laid = λ objects d l.
-          let o : objects (get_or numbers p 0) ≡ obj_of (num_of numbers) u.0 p = d u.0 p u.1 in
-          subst (λ x. IsLaid w objects x (set table (get_or numbers p 0) (length file))) (sym e)
-          (laid_more w objects file table (form w (obj_of (num_of numbers) u.0 p)) (get_or numbers p 0) l (all p lt b) z (subst (IsWritable w) (sym o) (good u.0 u.1)) (ap (form w) (sym o)));
-      keeps = λ k n. elim (eqb_tells k (get_or numbers p 0)) [
-        | inl s ↦ subst (λ v. v ≢ 0) (sym (ap (λ j. get_or (set table (get_or numbers p 0) (length file)) j 0) s.1 ∙ get_or-set_same table (get_or numbers p 0) (length file) 0 (all p lt b))) (λ q. absurd (omega arith))
-        | inr x ↦ subst (λ v. v ≢ 0) (sym (get_or-set_other table (get_or numbers p 0) k (length file) 0 x.1)) n
-      ];
-      long = length-set table (get_or numbers p 0) (length file);
-      some = omega (arith, ap length e, length-append file (form w (obj_of (num_of numbers) u.0 p)));
-    }
-
-pub placed_one : (numbers table : List ℕ) (p v : ℕ) → get_or numbers p 0 < length table → 0 < v → get_or (set table (get_or numbers p 0) v) (get_or numbers p 0) 0 ≢ 0
-placed_one numbers table p v h k e = absurd (omega (arith, get_or-set_same table (get_or numbers p 0) v 0 h))

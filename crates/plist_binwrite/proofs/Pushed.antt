@@ -1,10 +1,11 @@
 -- What is appended form by form.
-use Rattle.std.proofs.Common.{◌≡◌, ℕ, zero, suc, ◌+◌, ◌*◌, ◌/◌, ◌^◌, ◌<◌, ◌≤◌, ℤ, pos, negsuc, ◌≤ℤ◌, ◌<ℤ◌, List, [], ◌∷◌, ◌++◌, refl, ap, ◌∙◌, arith, append_assoc}
+use Rattle.std.proofs.Common.{◌≡◌, ℕ, zero, suc, ◌+◌, ◌*◌, ◌/◌, ◌^◌, ◌<◌, ◌≤◌, ℤ, pos, negsuc, ◌≤ℤ◌, ◌<ℤ◌, List, [], ◌∷◌, ◌++◌, length, refl, arith}
 use Rattle.std.specs.Int.{cast_unsigned, w64, byte_at}
 use Rattle.std.proofs.lemmas.Bool.{lt-ltb, le-ltb}
 use Rattle.std.proofs.lemmas.Int.{ints}
 use native.Mathlib.Nat.{div-eq_of_lt}
-use Rattle.plist_binwrite.specs.Forms.{big_endian, natural_form, integer_form, length_form}
+use Rattle.plist_binwrite.specs.Forms.{big_endian, natural_form, integer_form, length_form, table_form, trailer_form}
+use Rattle.plist_binwrite.specs.Written.{reference_width, offset_width, ending}
 
 pub length_short : (high count : ℕ) → count < 15 → length_form high count ≡ (high * 16 + count) ∷ []
 unfolding length_form
@@ -49,8 +50,6 @@ pub integer_negative : (z : ℤ) → z <ℤ pos 0 → 0x13 ∷ big_endian 8 (cas
 integer_negative (pos m) h = absurd (omega (arith, ints))
 integer_negative (negsuc m) h = refl
 
-pub pushed_twice : (old first last x y all : List ℕ) → first ≡ old ++ x → last ≡ first ++ y → x ++ y ≡ all → last ≡ old ++ all
-pushed_twice old first last x y all a b e = b ∙ ap (λ l. l ++ y) a ∙ append_assoc old x y ∙ ap (λ l. old ++ l) e
-
-pub pushed_thrice : (old first second last x y z : List ℕ) → first ≡ old ++ x → second ≡ first ++ y → last ≡ second ++ z → last ≡ old ++ (x ++ (y ++ z))
-pushed_thrice old first second last x y z a b c = pushed_twice old first last x (y ++ z) (x ++ (y ++ z)) a (c ∙ ap (λ l. l ++ z) b ∙ append_assoc first y z) refl
+-- the table and the trailer behind the objects
+pub ending_is : (places : List ℕ) (table w r n : ℕ) → w ≡ offset_width table → r ≡ reference_width (length places) → n ≡ length places → table_form w places ++ trailer_form w r n table ≡ ending places table
+ending_is places table w r n a b c = λ i. table_form (a i) places ++ trailer_form (a i) (b i) (c i) table

@@ -1,17 +1,113 @@
 //! The end of a property list: its file is planned and sent.
 
+ghost use Rattle.std.specs.Prelude.{◌≡◌, [], ℕ, IfOk, IfErr};
 ghost use Rattle.plist_base.specs.Bracketing.{AreWhole};
+ghost use Rattle.plist_base.specs.Faults.{OutOfMemory, fault_of, fault_nowhere};
 ghost use Rattle.plist_base.specs.Writing.{answer_of};
+ghost use Rattle.plist_binread.specs.Object.{Object};
+ghost use Rattle.plist_binwrite.specs.Ending.{IsReady, SendsReady, file_of, numbers_in};
+ghost use Rattle.plist_binwrite.specs.Held.{evs, IsBracketed, Describes};
+ghost use Rattle.plist_binwrite.specs.Outlets.{Puts};
 ghost use Rattle.plist_binwrite.specs.Pendings.{plain_events};
 ghost use Rattle.plist_binwrite.specs.Sending.{Sends};
+ghost use Rattle.plist_binwrite.specs.Sizes.{IsUnplanned};
 
-use crate::plan::plan_file;
-use crate::send::send_whole;
+use crate::forms::{put_ending, reference_width};
+use crate::layout::order_objects;
+use crate::objects::put_objects;
+use crate::outlet::{finish, put};
+use crate::plan::{Plan, plan_events};
+use crate::size::check_size;
 use plist_base::{Error, Event};
 use std::alloc::Global;
 use std::io::Write;
 
-/// Plans the file of the events of a whole property list, sends it and flushes.
+// How many bytes wait together at most.
+const ROOM: usize = 1 << 16;
+
+// A planned file: its objects in order with their places, and the place of its offset table.
+#[derive(Drop)]
+struct Ready {
+    plan: Plan,
+    order: Vec<usize>,
+    places: Vec<usize>,
+    table: usize,
+}
+
+// Plans the file of the events of a tree.
+fn make_ready(alloc: Global, events: &[Event<'_>]) -> Result<Ready, Error>
+    requires whole { IsBracketed (evs events.now) }
+    ensures ready { IfOk result (λ ready. IsReady (evs events.now) ready) }
+    ensures refused { IfErr result (λ error. IsUnplanned (evs events.now) (fault_of error)) }
+{
+    let plan = plan_events(alloc, events)?;
+    let layout = order_objects(alloc, events, &plan)?;
+    let mut places = layout.places;
+    let order = layout.order;
+    match check_size(events, &plan, order.as_slice(), &mut places) {
+        Ok(table) => Ok(Ready {
+            plan,
+            order,
+            places,
+            table: table as usize,
+        }),
+        Err(error) => Err(error),
+    }
+}
+
+// Puts a planned file.
+fn put_file<W: Write>(
+    writer: &mut W,
+    room: &mut Vec<u8>,
+    events: &[Event<'_>],
+    ready: &Ready,
+) -> Result<(), Error>
+    requires ready { IsReady (evs events.now) ready.now }
+    ensures { (objects : ℕ → Object) → Describes (evs events.now) (numbers_in ready.now) objects
+        → Puts (W.contents writer.old) room.old.items (file_of ready.now objects)
+        (answer_of result) (W.contents writer.new) room.new.items }
+{
+    let order = ready.order.as_slice();
+    let places = ready.places.as_slice();
+    let width = reference_width(places.len() as u64);
+    match put(writer, room, b"bplist00") {
+        Ok(()) => {}
+        Err(error) => return Err(error),
+    }
+    match put_objects(writer, room, events, &ready.plan, width, order) {
+        Ok(()) => put_ending(writer, room, places, ready.table),
+        Err(error) => Err(error),
+    }
+}
+
+// Sends a planned file through an empty room, and flushes. It takes no memory.
+fn send_file<W: Write>(
+    writer: &mut W,
+    room: &mut Vec<u8>,
+    events: &[Event<'_>],
+    ready: &Ready,
+) -> Result<(), Error>
+    requires ready { IsReady (evs events.now) ready.now }
+    requires empty { room.old.items ≡ [] }
+    ensures { SendsReady W.contents (evs events.now) ready.now
+        (answer_of result) writer.old writer.new }
+{
+    match put_file(writer, room, events, ready) {
+        Ok(()) => finish(writer, room.as_slice()),
+        Err(error) => Err(error),
+    }
+}
+
+fn make_room(alloc: Global) -> Result<Vec<u8>, Error>
+    ensures empty { IfOk result (λ room. room.items ≡ []) }
+    ensures memory { IfErr result (λ error. fault_of error ≡ fault_nowhere OutOfMemory) }
+{
+    let room = Vec::with_capacity(alloc, ROOM)?;
+    Ok(room)
+}
+
+/// Plans the file of the events of a whole property list, sends it and flushes. All memory is taken
+/// before the first byte is sent: besides the plan, a room of fixed size that bytes are sent through.
 ///
 /// # Errors
 /// `PlistTooLarge` where the file would have 2^64 bytes or more, and `OutOfMemory`, before a byte was
@@ -20,8 +116,9 @@ pub fn complete<W: Write>(alloc: Global, events: &[Event<'_>], writer: &mut W) -
     requires whole { AreWhole (plain_events events.now) }
     ensures { Sends W.contents (plain_events events.now) (answer_of result) writer.old writer.new }
 {
-    let file = plan_file(alloc, events)?;
-    match send_whole(writer, file.as_slice()) {
+    let mut room = make_room(alloc)?;
+    let ready = make_ready(alloc, events)?;
+    match send_file(writer, &mut room, events, &ready) {
         Ok(()) => Ok(()),
         Err(error) => Err(error),
     }

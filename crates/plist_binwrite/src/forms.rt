@@ -1,31 +1,20 @@
-//! The bytes of scalars, lengths and references, in the least form that holds them.
+//! The bytes of each form of a file: scalars, lengths, references, the offset table and the trailer,
+//! each in the least form that holds it.
 //!
-//! Each function appends its bytes to a list. The one refusal is `OutOfMemory`, without an offset;
-//! a beginning of the bytes may then stand in the list.
+//! Each function puts its bytes through a room to a writer, as [`put`](crate::outlet::put) does. The
+//! one refusal is `Io` without an offset; a beginning of all that was put went out then.
 
-ghost use Rattle.std.specs.Prelude.{◌≡◌, ◌++◌, ◌∷◌, [], ◌≤◌, ◌<◌, ◌^◌, IfErr, OnOk};
-ghost use Rattle.plist_base.specs.Faults.{OutOfMemory, fault_of, fault_nowhere};
-ghost use Rattle.plist_binwrite.specs.Forms.{IsDateBytes, IsInteger, IsReal, big_endian, doublings, least_width, natural_form, integer_form, uid_form, length_form, boolean_form, data_form, date_form, real_form, table_form, trailer_form};
+ghost use Rattle.std.specs.Prelude.{◌≡◌, ◌++◌, ◌∷◌, [], ◌≤◌, ◌<◌, ◌^◌};
+ghost use Rattle.plist_base.specs.Writing.{answer_of};
+ghost use Rattle.plist_binwrite.specs.Forms.{big_endian, doublings, least_width, natural_form, integer_form, uid_form, length_form, boolean_form, data_form, date_form, real_form, table_form, trailer_form};
+ghost use Rattle.plist_binwrite.specs.Outlets.{Puts};
+ghost use Rattle.plist_binwrite.specs.Written.{reference_width, offset_width, ending};
 
+use crate::outlet::put;
+pub use crate::scalar::put_scalar;
+pub use crate::text::put_text;
 use plist_base::{Date, Error, Integer, RealBits, Uid};
-
-/// Appends a byte.
-pub fn push_byte(bytes: &mut Vec<u8>, byte: u8) -> Result<(), Error>
-    ensures written { OnOk result (bytes.new.items ≡ bytes.old.items ++ byte ∷ []) }
-    ensures memory { IfErr result (λ error. fault_of error ≡ fault_nowhere OutOfMemory) }
-{
-    bytes.push(byte)?;
-    Ok(())
-}
-
-/// Appends some bytes.
-pub fn push_bytes(bytes: &mut Vec<u8>, more: &[u8]) -> Result<(), Error>
-    ensures written { OnOk result (bytes.new.items ≡ bytes.old.items ++ more.now) }
-    ensures memory { IfErr result (λ error. fault_of error ≡ fault_nowhere OutOfMemory) }
-{
-    bytes.extend_from_slice(more)?;
-    Ok(())
-}
+use std::io::Write;
 
 /// The least of 1, 2, 4 and 8 bytes that hold a number.
 #[tactic(auto, using(crate::proofs::Widths::width_1, crate::proofs::Widths::width_2, crate::proofs::Widths::width_4, crate::proofs::Widths::width_8))]
@@ -45,6 +34,24 @@ pub fn least_width(number: u64) -> usize
     }
 }
 
+/// How many bytes a reference has among so many objects.
+pub fn reference_width(count: u64) -> usize
+    ensures value { result ≡ reference_width count }
+    ensures range { (1 ≤ result) × (result ≤ 8) }
+    ensures holds { count ≤ 256 ^ result }
+{
+    least_width(count.saturating_sub(1))
+}
+
+/// How many bytes a place has in an offset table that lies here.
+pub fn offset_width(table: u64) -> usize
+    ensures value { result ≡ offset_width table }
+    ensures range { (1 ≤ result) × (result ≤ 8) }
+    ensures holds { table < 256 ^ result }
+{
+    least_width(table)
+}
+
 // How often 1 is doubled to give a width.
 fn doublings(width: usize) -> u8
     ensures value { result ≡ doublings width }
@@ -58,147 +65,227 @@ fn doublings(width: usize) -> u8
     }
 }
 
-/// Appends the lowest `width` bytes of a number, the highest of them first.
-pub fn push_number(bytes: &mut Vec<u8>, width: usize, number: u64) -> Result<(), Error>
+/// Puts a byte.
+pub fn put_byte<W: Write>(writer: &mut W, room: &mut Vec<u8>, byte: u8) -> Result<(), Error>
+    ensures { Puts (W.contents writer.old) room.old.items (byte ∷ [])
+        (answer_of result) (W.contents writer.new) room.new.items }
+{
+    put(writer, room, &[byte])
+}
+
+// Puts a marker and the bytes behind it.
+fn put_marked<W: Write>(
+    writer: &mut W,
+    room: &mut Vec<u8>,
+    marker: u8,
+    bytes: &[u8],
+) -> Result<(), Error>
+    ensures { Puts (W.contents writer.old) room.old.items (marker ∷ bytes.now)
+        (answer_of result) (W.contents writer.new) room.new.items }
+{
+    match put_byte(writer, room, marker) {
+        Ok(()) => put(writer, room, bytes),
+        Err(error) => Err(error),
+    }
+}
+
+/// Puts the lowest `width` bytes of a number, the highest of them first.
+pub fn put_number<W: Write>(
+    writer: &mut W,
+    room: &mut Vec<u8>,
+    width: usize,
+    number: u64,
+) -> Result<(), Error>
     requires width { width ≤ 8 }
-    ensures written { OnOk result (bytes.new.items ≡ bytes.old.items ++ big_endian width number) }
-    ensures memory { IfErr result (λ error. fault_of error ≡ fault_nowhere OutOfMemory) }
+    ensures { Puts (W.contents writer.old) room.old.items (big_endian width number)
+        (answer_of result) (W.contents writer.new) room.new.items }
 {
     let digits = number.to_be_bytes();
-    push_bytes(bytes, &digits[8 - width..])
+    put(writer, room, &digits[8 - width..])
 }
 
-// Appends a marker and the lowest `width` bytes of a number.
-fn push_marked(bytes: &mut Vec<u8>, marker: u8, width: usize, number: u64) -> Result<(), Error>
+// Puts a marker and the lowest `width` bytes of a number.
+fn put_marked_number<W: Write>(
+    writer: &mut W,
+    room: &mut Vec<u8>,
+    marker: u8,
+    width: usize,
+    number: u64,
+) -> Result<(), Error>
     requires width { width ≤ 8 }
-    ensures written { OnOk result (bytes.new.items ≡ bytes.old.items ++ marker ∷ big_endian width number) }
-    ensures memory { IfErr result (λ error. fault_of error ≡ fault_nowhere OutOfMemory) }
+    ensures { Puts (W.contents writer.old) room.old.items (marker ∷ big_endian width number)
+        (answer_of result) (W.contents writer.new) room.new.items }
 {
-    push_byte(bytes, marker)?;
-    push_number(bytes, width, number)
+    match put_byte(writer, room, marker) {
+        Ok(()) => put_number(writer, room, width, number),
+        Err(error) => Err(error),
+    }
 }
 
-/// Appends a number without sign, in the least of 1, 2, 4 and 8 bytes.
-pub fn push_natural(bytes: &mut Vec<u8>, number: u64) -> Result<(), Error>
-    ensures written { OnOk result (bytes.new.items ≡ bytes.old.items ++ natural_form number) }
-    ensures memory { IfErr result (λ error. fault_of error ≡ fault_nowhere OutOfMemory) }
+/// Puts a number without sign, in the least of 1, 2, 4 and 8 bytes.
+pub fn put_natural<W: Write>(writer: &mut W, room: &mut Vec<u8>, number: u64) -> Result<(), Error>
+    ensures { Puts (W.contents writer.old) room.old.items (natural_form number)
+        (answer_of result) (W.contents writer.new) room.new.items }
 {
     let width = least_width(number);
-    push_marked(bytes, 0x10 + doublings(width), width, number)
+    put_marked_number(writer, room, 0x10 + doublings(width), width, number)
 }
 
-/// Appends a marker of this high half with a length: in its low half below 15, else behind it.
-#[tactic(auto, using(crate::proofs::Pushed::length_short, crate::proofs::Pushed::length_long))]
-pub fn push_length(bytes: &mut Vec<u8>, high: u8, count: u64) -> Result<(), Error>
+/// Puts a marker of this high half with a length: in its low half below 15, else behind it.
+pub fn put_length<W: Write>(
+    writer: &mut W,
+    room: &mut Vec<u8>,
+    high: u8,
+    count: u64,
+) -> Result<(), Error>
     requires half { high < 16 }
-    ensures written { OnOk result (bytes.new.items ≡ bytes.old.items ++ length_form high count) }
-    ensures memory { IfErr result (λ error. fault_of error ≡ fault_nowhere OutOfMemory) }
+    ensures { Puts (W.contents writer.old) room.old.items (length_form high count)
+        (answer_of result) (W.contents writer.new) room.new.items }
 {
     if count < 15 {
-        return push_byte(bytes, high * 16 + count as u8);
+        return put_byte(writer, room, high * 16 + count as u8);
     }
-    push_byte(bytes, high * 16 + 15)?;
-    push_natural(bytes, count)
+    match put_byte(writer, room, high * 16 + 15) {
+        Ok(()) => put_natural(writer, room, count),
+        Err(error) => Err(error),
+    }
 }
 
-/// Appends a truth value.
-pub fn push_boolean(bytes: &mut Vec<u8>, value: bool) -> Result<(), Error>
-    ensures written { OnOk result (bytes.new.items ≡ bytes.old.items ++ boolean_form value) }
-    ensures memory { IfErr result (λ error. fault_of error ≡ fault_nowhere OutOfMemory) }
+/// Puts a truth value.
+pub fn put_boolean<W: Write>(writer: &mut W, room: &mut Vec<u8>, value: bool) -> Result<(), Error>
+    ensures { Puts (W.contents writer.old) room.old.items (boolean_form value)
+        (answer_of result) (W.contents writer.new) room.new.items }
 {
-    push_byte(bytes, if value { 0x09 } else { 0x08 })
+    put_byte(writer, room, if value { 0x09 } else { 0x08 })
 }
 
-/// Appends data.
-pub fn push_data(bytes: &mut Vec<u8>, content: &[u8]) -> Result<(), Error>
-    ensures written { OnOk result (bytes.new.items ≡ bytes.old.items ++ data_form content.now) }
-    ensures memory { IfErr result (λ error. fault_of error ≡ fault_nowhere OutOfMemory) }
+/// Puts data.
+pub fn put_data<W: Write>(writer: &mut W, room: &mut Vec<u8>, content: &[u8]) -> Result<(), Error>
+    ensures { Puts (W.contents writer.old) room.old.items (data_form content.now)
+        (answer_of result) (W.contents writer.new) room.new.items }
 {
-    push_length(bytes, 0x4, content.len() as u64)?;
-    push_bytes(bytes, content)
+    let count = content.len();
+    match put_length(writer, room, 0x4, count as u64) {
+        Ok(()) => put(writer, room, content),
+        Err(error) => Err(error),
+    }
 }
 
-/// Appends a date by its eight bytes.
-pub fn push_date(bytes: &mut Vec<u8>, date: Date) -> Result<(), Error>
-    ensures written { OnOk result (bytes.new.items ≡ bytes.old.items ++ date_form date) }
-    ensures writable { IsDateBytes date }
-    ensures memory { IfErr result (λ error. fault_of error ≡ fault_nowhere OutOfMemory) }
+/// Puts a date by its eight bytes.
+pub fn put_date<W: Write>(writer: &mut W, room: &mut Vec<u8>, date: Date) -> Result<(), Error>
+    ensures { Puts (W.contents writer.old) room.old.items (date_form date)
+        (answer_of result) (W.contents writer.new) room.new.items }
 {
-    push_byte(bytes, 0x33)?;
-    push_bytes(bytes, &date.to_plist_real())
+    put_marked(writer, room, 0x33, &date.to_plist_real())
 }
 
-/// Appends a real in the width that it has.
-pub fn push_real(bytes: &mut Vec<u8>, bits: RealBits) -> Result<(), Error>
-    ensures written { OnOk result (bytes.new.items ≡ bytes.old.items ++ real_form bits) }
-    ensures writable { IsReal bits }
-    ensures memory { IfErr result (λ error. fault_of error ≡ fault_nowhere OutOfMemory) }
+/// Puts a real in the width that it has.
+pub fn put_real<W: Write>(writer: &mut W, room: &mut Vec<u8>, bits: RealBits) -> Result<(), Error>
+    ensures { Puts (W.contents writer.old) room.old.items (real_form bits)
+        (answer_of result) (W.contents writer.new) room.new.items }
 {
     match bits {
-        RealBits::Four(digits) => {
-            push_byte(bytes, 0x22)?;
-            push_bytes(bytes, &digits)
-        }
-        RealBits::Eight(digits) => {
-            push_byte(bytes, 0x23)?;
-            push_bytes(bytes, &digits)
-        }
+        RealBits::Four(digits) => put_marked(writer, room, 0x22, &digits),
+        RealBits::Eight(digits) => put_marked(writer, room, 0x23, &digits),
     }
 }
 
-/// Appends a Uid.
-pub fn push_uid(bytes: &mut Vec<u8>, uid: Uid) -> Result<(), Error>
-    ensures written { OnOk result (bytes.new.items ≡ bytes.old.items ++ uid_form uid) }
-    ensures writable { uid < 2 ^ 64 }
-    ensures memory { IfErr result (λ error. fault_of error ≡ fault_nowhere OutOfMemory) }
+/// Puts a Uid.
+pub fn put_uid<W: Write>(writer: &mut W, room: &mut Vec<u8>, uid: Uid) -> Result<(), Error>
+    ensures { Puts (W.contents writer.old) room.old.items (uid_form uid)
+        (answer_of result) (W.contents writer.new) room.new.items }
 {
     let width = least_width(uid.get());
-    push_marked(bytes, 0x7f + width as u8, width, uid.get())
+    put_marked_number(writer, room, 0x7f + width as u8, width, uid.get())
 }
 
-/// Appends an integer: one from 0 to `i64::MAX` in the least of 1, 2, 4 and 8 bytes, a negative one
+// Puts an integer above `i64::MAX`, in sixteen bytes.
+fn put_wide_integer<W: Write>(writer: &mut W, room: &mut Vec<u8>, number: u64) -> Result<(), Error>
+    ensures { Puts (W.contents writer.old) room.old.items (0x14 ∷ big_endian 16 number)
+        (answer_of result) (W.contents writer.new) room.new.items }
+{
+    match put_marked_number(writer, room, 0x14, 8, 0) {
+        Ok(()) => put_number(writer, room, 8, number),
+        Err(error) => Err(error),
+    }
+}
+
+/// Puts an integer: one from 0 to `i64::MAX` in the least of 1, 2, 4 and 8 bytes, a negative one
 /// in eight, and one above `i64::MAX` in sixteen.
-pub fn push_integer(bytes: &mut Vec<u8>, value: Integer) -> Result<(), Error>
-    ensures written { OnOk result (bytes.new.items ≡ bytes.old.items ++ integer_form value) }
-    ensures writable { IsInteger value }
-    ensures memory { IfErr result (λ error. fault_of error ≡ fault_nowhere OutOfMemory) }
+pub fn put_integer<W: Write>(
+    writer: &mut W,
+    room: &mut Vec<u8>,
+    value: Integer,
+) -> Result<(), Error>
+    ensures { Puts (W.contents writer.old) room.old.items (integer_form value)
+        (answer_of result) (W.contents writer.new) room.new.items }
 {
     match (value.as_unsigned(), value.as_signed()) {
-        (Some(number), Some(_)) => push_natural(bytes, number),
-        (Some(number), None) => {
-            push_marked(bytes, 0x14, 8, 0)?;
-            push_number(bytes, 8, number)
-        }
-        (None, Some(number)) => push_marked(bytes, 0x13, 8, number.cast_unsigned()),
+        (Some(number), Some(_)) => put_natural(writer, room, number),
+        (Some(number), None) => put_wide_integer(writer, room, number),
+        (None, Some(number)) => { put_marked_number(writer, room, 0x13, 8, number.cast_unsigned()) }
         (None, None) => Ok(()),
     }
 }
 
-/// Appends some numbers of this width, as the references of a collection or an offset table.
-pub fn push_numbers(bytes: &mut Vec<u8>, width: usize, numbers: &[usize]) -> Result<(), Error>
+/// Puts some numbers of this width, as an offset table has them.
+pub fn put_numbers<W: Write>(
+    writer: &mut W,
+    room: &mut Vec<u8>,
+    width: usize,
+    numbers: &[usize],
+) -> Result<(), Error>
     requires width { width ≤ 8 }
-    ensures written { OnOk result (bytes.new.items ≡ bytes.old.items ++ table_form width numbers.now) }
-    ensures memory { IfErr result (λ error. fault_of error ≡ fault_nowhere OutOfMemory) }
+    ensures { Puts (W.contents writer.old) room.old.items (table_form width numbers.now)
+        (answer_of result) (W.contents writer.new) room.new.items }
 {
     for number in numbers {
-        push_number(bytes, width, *number as u64)?;
+        match put_number(writer, room, width, *number as u64) {
+            Ok(()) => {}
+            Err(error) => return Err(error),
+        }
     }
     Ok(())
 }
 
-/// Appends the trailer; the root is object 0.
-pub fn push_trailer(
-    bytes: &mut Vec<u8>,
+/// Puts the trailer; the root is object 0.
+pub fn put_trailer<W: Write>(
+    writer: &mut W,
+    room: &mut Vec<u8>,
     offset_width: u8,
     reference_width: u8,
-    count: u64,
-    table: u64,
+    count: usize,
+    table: usize,
 ) -> Result<(), Error>
-    ensures written { OnOk result (bytes.new.items ≡ bytes.old.items ++ trailer_form offset_width reference_width count table) }
-    ensures memory { IfErr result (λ error. fault_of error ≡ fault_nowhere OutOfMemory) }
+    ensures { Puts (W.contents writer.old) room.old.items
+        (trailer_form offset_width reference_width count table)
+        (answer_of result) (W.contents writer.new) room.new.items }
 {
-    push_bytes(bytes, &[0, 0, 0, 0, 0, 0, offset_width, reference_width])?;
-    push_number(bytes, 8, count)?;
-    push_number(bytes, 8, 0)?;
-    push_number(bytes, 8, table)
+    match put(
+        writer,
+        room,
+        &[0, 0, 0, 0, 0, 0, offset_width, reference_width],
+    ) {
+        Ok(()) => put_numbers(writer, room, 8, &[count, 0, table]),
+        Err(error) => Err(error),
+    }
+}
+
+/// Puts the offset table, which lies at `table`, and the trailer.
+pub fn put_ending<W: Write>(
+    writer: &mut W,
+    room: &mut Vec<u8>,
+    places: &[usize],
+    table: usize,
+) -> Result<(), Error>
+    ensures { Puts (W.contents writer.old) room.old.items (ending places.now table)
+        (answer_of result) (W.contents writer.new) room.new.items }
+{
+    let width = offset_width(table as u64);
+    let count = places.len();
+    let narrow = reference_width(count as u64);
+    match put_numbers(writer, room, width, places) {
+        Ok(()) => put_trailer(writer, room, width as u8, narrow as u8, count, table),
+        Err(error) => Err(error),
+    }
 }

@@ -1,159 +1,95 @@
-//! The objects of a file, one behind the other.
+//! The order of a file's objects.
 
-ghost use Rattle.std.specs.Prelude.{◌≡◌, ◌≢◌, ◌+◌, ◌^◌, ◌<◌, ◌≤◌, ◌++◌, ℕ, length, map, get_or, false, IfOk, IfErr, OnOk};
+ghost use Rattle.std.specs.Prelude.{◌≡◌, ◌≢◌, ◌<◌, ℕ, length, get_or, eqb, true, false, IfOk, IfErr, OnOk};
+ghost use Rattle.std.specs.List.{list_any};
 ghost use Rattle.plist_base.specs.Faults.{OutOfMemory, fault_of, fault_nowhere};
-ghost use Rattle.plist_binread.specs.Object.{Object};
-ghost use Rattle.plist_binwrite.specs.Forms.{form, IsWritable, length_form, table_form};
-ghost use Rattle.plist_binwrite.specs.Marks.{Tree, br, Sits};
-ghost use Rattle.plist_binwrite.specs.Numberings.{obj_of};
-ghost use Rattle.plist_binwrite.specs.Held.{evs, is_stop, event_at, IsBracketed, IsSkips, AllBelow, keys_in, values_in, num_of, AllNumbered, Describes};
-ghost use Rattle.plist_binwrite.specs.Sizes.{file_size};
-ghost use Rattle.plist_binwrite.specs.Laying.{IsLaid, Lays};
+ghost use Rattle.plist_binwrite.specs.Held.{evs, is_stop, event_at, num_of};
+ghost use Rattle.plist_binwrite.specs.Laying.{IsOrder, KeepsMarks};
+ghost use Rattle.plist_binwrite.specs.Planning.{IsPlanned, count_of, numbers_of};
 
-use crate::children::children;
-use crate::forms::{push_bytes, push_length, push_number};
-use crate::kinds::{Kind, has_item, kind_at};
-use crate::scalar::push_scalar;
+use crate::kinds::{Kind, has_item, kind_at, push_place};
+use crate::plan::Plan;
 use plist_base::{Error, Event};
 use std::alloc::Global;
 
-// Appends references to the objects of the events at these places.
-fn push_references(
-    file: &mut Vec<u8>,
-    width: usize,
-    numbers: &[usize],
-    places: &[usize],
-) -> Result<(), Error>
-    requires width { width ≤ 8 }
-    requires places { AllBelow (length numbers.now) places.now }
-    ensures written { OnOk result (file.new.items ≡ file.old.items ++ table_form width (map (num_of numbers.now) places.now)) }
-    ensures memory { IfErr result (λ error. fault_of error ≡ fault_nowhere OutOfMemory) }
-{
-    for place in places {
-        push_number(file, width, numbers[*place] as u64)?;
-    }
-    Ok(())
-}
-
-fn push_collection(
-    alloc: Global,
+// Puts the object of the event here into the order, unless it is there already. A mark that isn't 0
+// tells of each object that it is.
+fn order_one(
     events: &[Event<'_>],
-    skips: &[usize],
-    numbers: &[usize],
-    width: usize,
+    plan: &Plan,
     place: usize,
-    high: u8,
-    file: &mut Vec<u8>,
+    order: &mut Vec<usize>,
+    marks: &mut Vec<usize>,
 ) -> Result<(), Error>
-    requires skips { IsSkips (evs events.now) skips.now 0 }
-    requires place { place < length events.now }
-    requires long { length numbers.now ≡ length events.now }
-    requires width { width ≤ 8 }
-    requires half { high < 16 }
-    ensures written { OnOk result ((t : Tree) → Sits (evs events.now) t place →
-        file.new.items ≡ file.old.items ++ (length_form high (length (values_in t place)) ++ (table_form width (map (num_of numbers.now) (keys_in t place)) ++ table_form width (map (num_of numbers.now) (values_in t place))))) }
-    ensures count { OnOk result ((t : Tree) → Sits (evs events.now) t place → length (values_in t place) < 2 ^ 64) }
-    ensures memory { IfErr result (λ error. fault_of error ≡ fault_nowhere OutOfMemory) }
-{
-    let mut keys = Vec::new(alloc);
-    let mut values = Vec::new(alloc);
-    children(events, skips, place, &mut keys, &mut values)?;
-    push_length(file, high, values.len() as u64)?;
-    push_references(file, width, numbers, keys.as_slice())?;
-    push_references(file, width, numbers, values.as_slice())?;
-    Ok(())
-}
-
-// Appends the object of the tree that begins here.
-fn push_object(
-    alloc: Global,
-    events: &[Event<'_>],
-    skips: &[usize],
-    numbers: &[usize],
-    width: usize,
-    count: usize,
-    place: usize,
-    file: &mut Vec<u8>,
-) -> Result<(), Error>
-    requires skips { IsSkips (evs events.now) skips.now 0 }
-    requires place { place < length events.now }
-    requires long { length numbers.now ≡ length events.now }
-    requires width { width ≤ 8 }
-    requires all { AllNumbered (evs events.now) numbers.now count }
-    requires fits { count ≤ 256 ^ width }
-    ensures written { OnOk result ((t : Tree) → Sits (evs events.now) t place → file.new.items ≡ file.old.items ++ form width (obj_of (num_of numbers.now) t place)) }
-    ensures writable { OnOk result ((t : Tree) → Sits (evs events.now) t place → IsWritable width (obj_of (num_of numbers.now) t place)) }
-    ensures memory { IfErr result (λ error. fault_of error ≡ fault_nowhere OutOfMemory) }
-{
-    match kind_at(events, place) {
-        Kind::Array => push_collection(alloc, events, skips, numbers, width, place, 0xa, file),
-        Kind::Dictionary => push_collection(alloc, events, skips, numbers, width, place, 0xd, file),
-        _ => push_scalar(file, &events[place]),
-    }
-}
-
-// Appends the object of the event here, unless that is done.
-fn place_one(
-    alloc: Global,
-    events: &[Event<'_>],
-    skips: &[usize],
-    numbers: &[usize],
-    width: usize,
-    place: usize,
-    file: &mut Vec<u8>,
-    table: &mut Vec<usize>,
-) -> Result<(), Error>
-    requires skips { IsSkips (evs events.now) skips.now 0 }
-    requires place { place < length events.now }
-    requires long { length numbers.now ≡ length events.now }
-    requires width { width ≤ 8 }
-    requires all { AllNumbered (evs events.now) numbers.now (length table.old.items) }
-    requires fits { length table.old.items ≤ 256 ^ width }
-    requires whole { IsBracketed (evs events.now) }
-    requires some { 0 < length file.old.items }
-    ensures lays { OnOk result (Lays width (evs events.now) numbers.now file.old.items table.old.items file.new.items table.new.items) }
-    ensures placed { OnOk result (is_stop (event_at (evs events.now) place) ≡ false → get_or table.new.items (get_or numbers.now place 0) 0 ≢ 0) }
+    requires planned { IsPlanned (evs events.now) plan.now }
+    requires order { IsOrder (count_of plan.now) order.old.items marks.old.items }
+    ensures order { OnOk result (IsOrder (count_of plan.now) order.new.items marks.new.items) }
+    ensures keeps { OnOk result (KeepsMarks marks.old.items marks.new.items) }
+    ensures marked { OnOk result (place < length events.now
+        → is_stop (event_at (evs events.now) place) ≡ false
+        → get_or marks.new.items (num_of (numbers_of plan.now) place) 0 ≢ 0) }
     ensures memory { IfErr result (λ error. fault_of error ≡ fault_nowhere OutOfMemory) }
 {
     if !has_item(events, place) {
         return Ok(());
     }
-    let number = numbers[place];
-    if table.as_slice()[number] != 0 {
+    let number = plan.number(place);
+    if marks.as_slice()[number] != 0 {
         return Ok(());
     }
-    let at = file.len();
-    let count = table.len();
-    push_object(alloc, events, skips, numbers, width, count, place, file)?;
-    table[number] = at;
+    push_place(order, number)?;
+    marks[number] = 1;
     Ok(())
 }
 
-fn place_all(
-    alloc: Global,
+// Puts the keys of a dictionary into the order, from here on.
+fn order_keys(
     events: &[Event<'_>],
-    skips: &[usize],
-    numbers: &[usize],
-    width: usize,
-    places: &[usize],
-    file: &mut Vec<u8>,
-    table: &mut Vec<usize>,
+    plan: &Plan,
+    from: usize,
+    order: &mut Vec<usize>,
+    marks: &mut Vec<usize>,
 ) -> Result<(), Error>
-    requires skips { IsSkips (evs events.now) skips.now 0 }
-    requires places { AllBelow (length events.now) places.now }
-    requires long { length numbers.now ≡ length events.now }
-    requires width { width ≤ 8 }
-    requires all { AllNumbered (evs events.now) numbers.now (length table.old.items) }
-    requires fits { length table.old.items ≤ 256 ^ width }
-    requires whole { IsBracketed (evs events.now) }
-    requires some { 0 < length file.old.items }
-    ensures lays { OnOk result (Lays width (evs events.now) numbers.now file.old.items table.old.items file.new.items table.new.items) }
+    requires planned { IsPlanned (evs events.now) plan.now }
+    requires order { IsOrder (count_of plan.now) order.old.items marks.old.items }
+    ensures order { OnOk result (IsOrder (count_of plan.now) order.new.items marks.new.items) }
+    ensures keeps { OnOk result (KeepsMarks marks.old.items marks.new.items) }
     ensures memory { IfErr result (λ error. fault_of error ≡ fault_nowhere OutOfMemory) }
 {
-    for place in places {
-        place_one(alloc, events, skips, numbers, width, *place, file, table)?;
+    let mut key = from;
+    'walk: while has_item(events, key) {
+        order_one(events, plan, key, order, marks)?;
+        let value = key + 1;
+        if value >= events.len() {
+            return Ok(());
+        }
+        key = plan.skip(value);
     }
     Ok(())
+}
+
+// Puts the object of the event here into the order, and behind it those of its keys.
+fn order_here(
+    events: &[Event<'_>],
+    plan: &Plan,
+    place: usize,
+    order: &mut Vec<usize>,
+    marks: &mut Vec<usize>,
+) -> Result<(), Error>
+    requires planned { IsPlanned (evs events.now) plan.now }
+    requires place { place < length events.now }
+    requires order { IsOrder (count_of plan.now) order.old.items marks.old.items }
+    ensures order { OnOk result (IsOrder (count_of plan.now) order.new.items marks.new.items) }
+    ensures keeps { OnOk result (KeepsMarks marks.old.items marks.new.items) }
+    ensures marked { OnOk result (is_stop (event_at (evs events.now) place) ≡ false
+        → get_or marks.new.items (num_of (numbers_of plan.now) place) 0 ≢ 0) }
+    ensures memory { IfErr result (λ error. fault_of error ≡ fault_nowhere OutOfMemory) }
+{
+    order_one(events, plan, place, order, marks)?;
+    match kind_at(events, place) {
+        Kind::Dictionary => order_keys(events, plan, place + 1, order, marks),
+        _ => Ok(()),
+    }
 }
 
 fn zeros(alloc: Global, count: usize) -> Result<Vec<usize>, Error>
@@ -165,55 +101,30 @@ fn zeros(alloc: Global, count: usize) -> Result<Vec<usize>, Error>
     Ok(places)
 }
 
-/// The magic and the objects of a file, and by number the place of each object.
+/// The numbers of a file's objects in its order, and a list with room for the place of each.
 #[derive(Drop)]
 pub struct Layout {
-    pub file: Vec<u8>,
-    pub table: Vec<usize>,
+    pub order: Vec<usize>,
+    pub places: Vec<usize>,
 }
 
-/// Lays the objects out behind the magic, in the order of the events, a dictionary's keys before its
-/// values. The file's size is below 2^64.
-pub fn lay_out(
-    alloc: Global,
-    events: &[Event<'_>],
-    skips: &[usize],
-    numbers: &[usize],
-    width: usize,
-    count: usize,
-) -> Result<Layout, Error>
-    requires skips { IsSkips (evs events.now) skips.now 0 }
-    requires long { length numbers.now ≡ length events.now }
-    requires width { width ≤ 8 }
-    requires all { AllNumbered (evs events.now) numbers.now count }
-    requires fits { count ≤ 256 ^ width }
-    requires whole { IsBracketed (evs events.now) }
-    requires small { (t : Tree) → evs events.now ≡ br t → file_size t < 2 ^ 64 }
-    ensures laid { IfOk result (λ r. (objects : ℕ → Object) → Describes (evs events.now) numbers.now objects → IsLaid width objects r.file.items r.table.items) }
-    ensures long { IfOk result (λ r. length r.table.items ≡ count) }
-    ensures placed { IfOk result (λ r. (p : ℕ) → p < length events.now → is_stop (event_at (evs events.now) p) ≡ false → get_or r.table.items (get_or numbers.now p 0) 0 ≢ 0) }
+/// Puts the objects into order: that of the events, where the keys of a dictionary come before its
+/// values.
+///
+/// # Errors
+/// `OutOfMemory`, without an offset.
+pub fn order_objects(alloc: Global, events: &[Event<'_>], plan: &Plan) -> Result<Layout, Error>
+    requires planned { IsPlanned (evs events.now) plan.now }
+    ensures order { IfOk result (λ r. IsOrder (count_of plan.now) r.order.items r.places.items) }
+    ensures all { IfOk result (λ r. (k : ℕ) → k < count_of plan.now
+        → list_any (eqb k) r.order.items ≡ true) }
     ensures memory { IfErr result (λ error. fault_of error ≡ fault_nowhere OutOfMemory) }
 {
-    let mut table = zeros(alloc, count)?;
-    let mut file = Vec::new(alloc);
-    push_bytes(&mut file, b"bplist00")?;
-    let mut keys = Vec::new(alloc);
-    let mut values = Vec::new(alloc);
+    let count = plan.numbering.firsts.len();
+    let mut places = zeros(alloc, count)?;
+    let mut order = Vec::new(alloc);
     for place in 0..events.len() {
-        place_one(
-            alloc, events, skips, numbers, width, place, &mut file, &mut table,
-        )?;
-        children(events, skips, place, &mut keys, &mut values)?;
-        place_all(
-            alloc,
-            events,
-            skips,
-            numbers,
-            width,
-            keys.as_slice(),
-            &mut file,
-            &mut table,
-        )?;
+        order_here(events, plan, place, &mut order, &mut places)?;
     }
-    Ok(Layout { file, table })
+    Ok(Layout { order, places })
 }

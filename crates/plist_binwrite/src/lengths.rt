@@ -1,8 +1,9 @@
 //! How many bytes each form has. A length of 2^64 or more is `None`.
 
-ghost use Rattle.std.specs.Prelude.{◌≡◌, ◌+◌, ◌*◌, ◌≤◌, ℕ, length};
+ghost use Rattle.std.specs.Prelude.{◌≡◌, ◌+◌, ◌*◌, ◌≤◌, ◌<◌, ◌^◌, ℕ, length, None};
 ghost use Rattle.plist_base.specs.Events.{event_of};
-ghost use Rattle.plist_binwrite.specs.Forms.{natural_form, integer_form, uid_form, length_form, date_form, real_form, text_form, scalar_form};
+ghost use Rattle.plist_binwrite.specs.Forms.{IsDateBytes, IsInteger, IsReal, IsText, IsWritableScalar, natural_form, integer_form, uid_form, length_form, date_form, real_form, text_form, scalar_form};
+ghost use Rattle.plist_binwrite.specs.Held.{IsScalarEvent};
 ghost use Rattle.plist_binwrite.specs.Sizes.{TellsSize};
 
 use crate::forms::least_width;
@@ -12,6 +13,7 @@ use plist_base::{Date, Event, Integer, RealBits, Uid};
 /// So many bytes, and so many more.
 pub fn add(length: Option<u64>, more: Option<u64>) -> Option<u64>
     ensures sum { (a b : ℕ) → TellsSize length a → TellsSize more b → TellsSize result (a + b) }
+    ensures none { length ≡ None → result ≡ None }
 {
     match (length, more) {
         (Some(length), Some(more)) => length.checked_add(more),
@@ -48,6 +50,7 @@ fn length_of_bytes(count: u64) -> Option<u64>
 
 fn length_of_text(text: &str) -> Option<u64>
     ensures value { TellsSize result (length (text_form text.now)) }
+    ensures writable { IsText text.now }
 {
     if is_ascii_text(text) {
         return length_of_bytes(text.len() as u64);
@@ -58,12 +61,14 @@ fn length_of_text(text: &str) -> Option<u64>
 
 fn length_of_date(date: Date) -> u64
     ensures value { result ≡ length (date_form date) }
+    ensures writable { IsDateBytes date }
 {
     1 + date.to_plist_real().len() as u64
 }
 
 fn length_of_integer(value: Integer) -> u64
     ensures value { result ≡ length (integer_form value) }
+    ensures writable { IsInteger value }
 {
     match (value.as_unsigned(), value.as_signed()) {
         (Some(number), Some(_)) => length_of_natural(number),
@@ -74,6 +79,7 @@ fn length_of_integer(value: Integer) -> u64
 
 fn length_of_real(bits: RealBits) -> u64
     ensures value { result ≡ length (real_form bits) }
+    ensures writable { IsReal bits }
 {
     match bits {
         RealBits::Four(_) => 5,
@@ -83,6 +89,7 @@ fn length_of_real(bits: RealBits) -> u64
 
 fn length_of_uid(uid: Uid) -> u64
     ensures value { result ≡ length (uid_form uid) }
+    ensures writable { uid < 2 ^ 64 }
 {
     1 + least_width(uid.get()) as u64
 }
@@ -90,6 +97,8 @@ fn length_of_uid(uid: Uid) -> u64
 /// The length of a scalar, and 0 for the start or the end of a collection.
 pub fn length_of_scalar(event: &Event<'_>) -> Option<u64>
     ensures value { TellsSize result (length (scalar_form (event_of event.now))) }
+    ensures writable { IsScalarEvent (event_of event.now)
+        → IsWritableScalar (event_of event.now) }
 {
     match event {
         Event::Boolean(_) => Some(1),
@@ -105,7 +114,8 @@ pub fn length_of_scalar(event: &Event<'_>) -> Option<u64>
 
 /// The length of a collection of this count with so many references, each of this width.
 pub fn length_of_collection(count: u64, references: u64, width: u64) -> Option<u64>
-    ensures value { (high : ℕ) → TellsSize result (length (length_form high count) + references * width) }
+    ensures value { (high : ℕ) → TellsSize result (length
+        (length_form high count) + references * width) }
 {
     add(Some(length_of_count(count)), references.checked_mul(width))
 }

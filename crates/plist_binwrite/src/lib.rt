@@ -7,11 +7,13 @@
 mod children;
 mod classes;
 mod completion;
-mod forms;
+pub mod forms;
 mod kinds;
 mod layout;
 mod lengths;
 mod numbering;
+mod objects;
+pub mod outlet;
 mod pending;
 mod plan;
 mod scalar;

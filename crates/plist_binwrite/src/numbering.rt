@@ -25,15 +25,19 @@ fn number_one(
     firsts: &mut Vec<usize>,
     place: usize,
 ) -> Result<(), Error>
-    requires plan { IsPlan (evs events.now) (num_of classes.now) numbers.old.items firsts.old.items }
+    requires plan { IsPlan (evs events.now)
+        (num_of classes.now) numbers.old.items firsts.old.items }
     requires ids { HaveIds classes.now ids.old.items firsts.old.items }
     requires long { length classes.now ≡ length events.now }
     requires place { place < length events.now }
-    ensures plan { OnOk result (IsPlan (evs events.now) (num_of classes.now) numbers.new.items firsts.new.items) }
+    ensures plan { OnOk result (IsPlan (evs events.now)
+        (num_of classes.now) numbers.new.items firsts.new.items) }
     ensures ids { OnOk result (HaveIds classes.now ids.new.items firsts.new.items) }
     ensures keeps { OnOk result (Keeps numbers.old.items firsts.old.items numbers.new.items firsts.new.items) }
-    ensures numbered { OnOk result (is_stop (event_at (evs events.now) place) ≡ false → IsNumbered numbers.new.items firsts.new.items place) }
-    ensures first { OnOk result (length firsts.old.items ≡ 0 → is_stop (event_at (evs events.now) place) ≡ false → get_or firsts.new.items 0 0 ≡ place) }
+    ensures numbered { OnOk result (is_stop (event_at (evs events.now) place) ≡ false
+        → IsNumbered numbers.new.items firsts.new.items place) }
+    ensures first { OnOk result (length firsts.old.items ≡ 0
+        → is_stop (event_at (evs events.now) place) ≡ false → get_or firsts.new.items 0 0 ≡ place) }
     ensures memory { IfErr result (λ error. fault_of error ≡ fault_nowhere OutOfMemory) }
 {
     if !has_item(events, place) {
@@ -63,14 +67,18 @@ fn number_all(
     firsts: &mut Vec<usize>,
     places: &[usize],
 ) -> Result<(), Error>
-    requires plan { IsPlan (evs events.now) (num_of classes.now) numbers.old.items firsts.old.items }
+    requires plan { IsPlan (evs events.now)
+        (num_of classes.now) numbers.old.items firsts.old.items }
     requires ids { HaveIds classes.now ids.old.items firsts.old.items }
     requires long { length classes.now ≡ length events.now }
     requires places { AllBelow (length events.now) places.now }
-    ensures plan { OnOk result (IsPlan (evs events.now) (num_of classes.now) numbers.new.items firsts.new.items) }
+    ensures plan { OnOk result (IsPlan (evs events.now)
+        (num_of classes.now) numbers.new.items firsts.new.items) }
     ensures ids { OnOk result (HaveIds classes.now ids.new.items firsts.new.items) }
     ensures keeps { OnOk result (Keeps numbers.old.items firsts.old.items numbers.new.items firsts.new.items) }
-    ensures numbered { OnOk result ((i : ℕ) → i < length places.now → is_stop (event_at (evs events.now) (get_or places.now i 0)) ≡ false → IsNumbered numbers.new.items firsts.new.items (get_or places.now i 0)) }
+    ensures numbered { OnOk result ((i : ℕ) → i < length places.now
+        → is_stop (event_at (evs events.now) (get_or places.now i 0)) ≡ false
+        → IsNumbered numbers.new.items firsts.new.items (get_or places.now i 0)) }
     ensures memory { IfErr result (λ error. fault_of error ≡ fault_nowhere OutOfMemory) }
 {
     for place in places {
@@ -98,9 +106,12 @@ pub fn number_by_class(
     requires skips { IsSkips (evs events.now) skips.now 0 }
     requires long { length classes.now ≡ length events.now }
     requires below { AllBelow count classes.now }
-    ensures plan { IfOk result (λ r. IsPlan (evs events.now) (num_of classes.now) r.numbers.items r.firsts.items) }
-    ensures all { IfOk result (λ r. (t : Tree) → evs events.now ≡ br t → AllNumbered (evs events.now) r.numbers.items (length r.firsts.items)) }
-    ensures root { IfOk result (λ r. (t : Tree) → evs events.now ≡ br t → num_of r.numbers.items 0 ≡ 0) }
+    ensures plan { IfOk result (λ r. IsPlan (evs events.now)
+        (num_of classes.now) r.numbers.items r.firsts.items) }
+    ensures all { IfOk result (λ r. (t : Tree) → evs events.now ≡ br t
+        → AllNumbered (evs events.now) r.numbers.items (length r.firsts.items)) }
+    ensures root { IfOk result (λ r. (t : Tree) → evs events.now ≡ br t
+        → num_of r.numbers.items 0 ≡ 0) }
     ensures memory { IfErr result (λ error. fault_of error ≡ fault_nowhere OutOfMemory) }
 {
     let mut numbers = vec![in alloc; NO_NUMBER; events.len()]?;
@@ -142,8 +153,10 @@ pub fn number_events(
 ) -> Result<Numbering, Error>
     requires skips { IsSkips (evs events.now) skips.now 0 }
     ensures plan { IfOk result (λ r. held.IsPlan (evs events.now) r.numbers.items r.firsts.items) }
-    ensures all { IfOk result (λ r. (t : Tree) → evs events.now ≡ br t → AllNumbered (evs events.now) r.numbers.items (length r.firsts.items)) }
-    ensures root { IfOk result (λ r. (t : Tree) → evs events.now ≡ br t → num_of r.numbers.items 0 ≡ 0) }
+    ensures all { IfOk result (λ r. (t : Tree) → evs events.now ≡ br t
+        → AllNumbered (evs events.now) r.numbers.items (length r.firsts.items)) }
+    ensures root { IfOk result (λ r. (t : Tree) → evs events.now ≡ br t
+        → num_of r.numbers.items 0 ≡ 0) }
     ensures memory { IfErr result (λ error. fault_of error ≡ fault_nowhere OutOfMemory) }
 {
     let classes = classes_of(alloc, events)?;

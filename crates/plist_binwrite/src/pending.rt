@@ -55,7 +55,8 @@ impl Pending {
     /// The fault of an event, `UnexpectedEventType` without an offset, if it can't follow those held.
     pub fn refusal(&self, event: &Event<'_>) -> Option<Error>
         requires still { is_whole self.now ≡ false }
-        ensures refused { IfSome result (λ error. IsRefused (events_held self.now) (event_of event.now) (fault_of error)) }
+        ensures refused { IfSome result (λ error. IsRefused (events_held self.now)
+            (event_of event.now) (fault_of error)) }
         ensures accepted { result ≡ None → CanContinue (events_held self.now) (event_of event.now) }
     {
         match change_on(self.wants.as_slice(), event) {

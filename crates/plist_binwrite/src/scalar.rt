@@ -1,32 +1,32 @@
 //! The bytes of any scalar.
 
-ghost use Rattle.std.specs.Prelude.{◌≡◌, ◌++◌, IfErr, OnOk};
 ghost use Rattle.plist_base.specs.Events.{event_of};
-ghost use Rattle.plist_base.specs.Faults.{OutOfMemory, fault_of, fault_nowhere};
-ghost use Rattle.plist_binwrite.specs.Forms.{scalar_form, IsWritableScalar};
-ghost use Rattle.plist_binwrite.specs.Held.{IsScalarEvent};
+ghost use Rattle.plist_base.specs.Writing.{answer_of};
+ghost use Rattle.plist_binwrite.specs.Forms.{scalar_form};
+ghost use Rattle.plist_binwrite.specs.Outlets.{Puts};
 
-use crate::forms::{push_boolean, push_data, push_date, push_integer, push_real, push_uid};
-use crate::text::push_text;
+use crate::forms::{put_boolean, put_data, put_date, put_integer, put_real, put_uid};
+use crate::text::put_text;
 use plist_base::{Error, Event};
+use std::io::Write;
 
-/// Appends a scalar, and nothing for the start or the end of a collection.
-///
-/// # Errors
-/// `OutOfMemory`, without an offset; a beginning of the bytes may then stand in the list.
-pub fn push_scalar(bytes: &mut Vec<u8>, event: &Event<'_>) -> Result<(), Error>
-    ensures written { OnOk result (bytes.new.items ≡ bytes.old.items ++ scalar_form (event_of event.now)) }
-    ensures writable { IsScalarEvent (event_of event.now) → IsWritableScalar (event_of event.now) }
-    ensures memory { IfErr result (λ error. fault_of error ≡ fault_nowhere OutOfMemory) }
+/// Puts a scalar, and nothing for the start or the end of a collection.
+pub fn put_scalar<W: Write>(
+    writer: &mut W,
+    room: &mut Vec<u8>,
+    event: &Event<'_>,
+) -> Result<(), Error>
+    ensures { Puts (W.contents writer.old) room.old.items (scalar_form (event_of event.now))
+        (answer_of result) (W.contents writer.new) room.new.items }
 {
     match event {
-        Event::Boolean(value) => push_boolean(bytes, *value),
-        Event::Data(data) => push_data(bytes, data.as_slice()),
-        Event::Date(date) => push_date(bytes, *date),
-        Event::Integer(value) => push_integer(bytes, *value),
-        Event::Real(bits) => push_real(bytes, *bits),
-        Event::String(text) => push_text(bytes, text.as_str()),
-        Event::Uid(uid) => push_uid(bytes, *uid),
+        Event::Boolean(value) => put_boolean(writer, room, *value),
+        Event::Data(data) => put_data(writer, room, data.as_slice()),
+        Event::Date(date) => put_date(writer, room, *date),
+        Event::Integer(value) => put_integer(writer, room, *value),
+        Event::Real(bits) => put_real(writer, room, *bits),
+        Event::String(text) => put_text(writer, room, text.as_str()),
+        Event::Uid(uid) => put_uid(writer, room, *uid),
         Event::StartArray(_) | Event::StartDictionary(_) | Event::EndCollection => Ok(()),
     }
 }

@@ -1,22 +1,33 @@
-//! How many bytes a file will have, before any of it is laid out. A size of 2^64 or more is `None`.
+//! How many bytes the objects and the file will have, before any byte is sent. A size of 2^64 or more is
+//! `None`.
 
-ghost use Rattle.std.specs.Prelude.{◌≡◌, ◌+◌, ◌<◌, length, IfOk, IfErr};
+ghost use Rattle.std.specs.Prelude.{◌≡◌, ◌+◌, ◌^◌, ◌<◌, ◌≤◌, ℕ, length, eqb, true, false, IfOk, IfErr, IfSome};
+ghost use Rattle.std.specs.List.{list_any};
 ghost use Rattle.plist_base.specs.Faults.{PlistTooLarge, fault_of, fault_nowhere};
 ghost use Rattle.plist_base.specs.Trees.{number_of_trees};
+ghost use Rattle.plist_binread.specs.Object.{Object};
+ghost use Rattle.plist_binwrite.specs.Counts.{object_count};
+ghost use Rattle.plist_binwrite.specs.Forms.{IsWritable};
 ghost use Rattle.plist_binwrite.specs.Marks.{Tree, Trees, br, Sits, SitsItems};
-ghost use Rattle.plist_binwrite.specs.Held.{evs, IsBracketed, IsSkips, IsPlan, AllNumbered};
-ghost use Rattle.plist_binwrite.specs.Sizes.{TellsSize, object_size, collections_size, scalars_size, table_place, file_size, Fits, IsOversized};
+ghost use Rattle.plist_binwrite.specs.Held.{evs, num_of, IsSkips, Describes};
+ghost use Rattle.plist_binwrite.specs.Laying.{IsOrder, laid_out};
+ghost use Rattle.plist_binwrite.specs.Numberings.{obj_of};
+ghost use Rattle.plist_binwrite.specs.Planning.{IsPlanned, count_of, numbers_of};
+ghost use Rattle.plist_binwrite.specs.Sizes.{TellsSize, object_size, table_place, file_size, Fits, IsOversized};
+ghost use Rattle.plist_binwrite.specs.Written.{Laid, reference_width};
 
-use crate::forms::least_width;
+use crate::forms::{offset_width, reference_width};
 use crate::kinds::{Kind, has_item, kind_at};
 use crate::lengths::{add, length_of_collection, length_of_scalar};
-use crate::numbering::Numbering;
+use crate::plan::Plan;
 use plist_base::{Error, ErrorKind, Event};
 
-// The number of items of an array from here on; a key is an item, and so is its value.
-fn count_items(events: &[Event<'_>], skips: &[usize], from: usize) -> usize
+/// The number of items of an array from here on; a key is an item, and so is its value.
+pub fn count_items(events: &[Event<'_>], skips: &[usize], from: usize) -> usize
     requires { IsSkips (evs events.now) skips.now 0 }
-    ensures { (ts : Trees) → SitsItems (evs events.now) ts from → result ≡ number_of_trees ts }
+    ensures value { (ts : Trees) → SitsItems (evs events.now) ts from
+        → result ≡ number_of_trees ts }
+    ensures small { result < 2 ^ 64 }
 {
     let mut count = 0;
     let mut place = from;
@@ -28,91 +39,123 @@ fn count_items(events: &[Event<'_>], skips: &[usize], from: usize) -> usize
 }
 
 // The size of the object of the tree that begins here.
-fn size_of_object(events: &[Event<'_>], skips: &[usize], width: u64, place: usize) -> Option<u64>
-    requires skips { IsSkips (evs events.now) skips.now 0 }
+fn size_of_object(events: &[Event<'_>], plan: &Plan, width: usize, place: usize) -> Option<u64>
+    requires planned { IsPlanned (evs events.now) plan.now }
     requires place { place < length events.now }
-    ensures { (t : Tree) → Sits (evs events.now) t place → TellsSize result (object_size width t) }
+    requires fits { count_of plan.now ≤ 256 ^ width }
+    ensures size { (t : Tree) → Sits (evs events.now) t place
+        → TellsSize result (object_size width t) }
+    ensures writable { (t : Tree) → Sits (evs events.now) t place
+        → IsWritable width (obj_of (num_of (numbers_of plan.now)) t place) }
 {
     match kind_at(events, place) {
         Kind::Array => {
-            let count = count_items(events, skips, place + 1) as u64;
-            length_of_collection(count, count, width)
+            let count = count_items(events, plan.skips.as_slice(), place + 1) as u64;
+            length_of_collection(count, count, width as u64)
         }
         Kind::Dictionary => {
-            let count = count_items(events, skips, place + 1) as u64;
-            length_of_collection(count / 2, count, width)
+            let count = count_items(events, plan.skips.as_slice(), place + 1) as u64;
+            length_of_collection(count / 2, count, width as u64)
         }
         _ => length_of_scalar(&events[place]),
     }
 }
 
-// The size of the objects that are numbered.
-fn size_of_objects(
+// A place that is told, and 0 where none is.
+fn place_or_none(told: Option<u64>) -> usize
+    ensures { IfSome told (λ place. result ≡ place) }
+{
+    match told {
+        Some(place) => place as usize,
+        None => 0,
+    }
+}
+
+// Gives each object its place, in this order from behind the magic on. The place behind them all.
+fn place_objects(
     events: &[Event<'_>],
-    skips: &[usize],
-    numbering: &Numbering,
-    width: u64,
+    plan: &Plan,
+    width: usize,
+    order: &[usize],
+    places: &mut Vec<usize>,
 ) -> Option<u64>
-    requires skips { IsSkips (evs events.now) skips.now 0 }
-    requires whole { IsBracketed (evs events.now) }
-    requires plan { IsPlan (evs events.now) numbering.now.numbers.items numbering.now.firsts.items }
-    requires all { AllNumbered (evs events.now) numbering.now.numbers.items (length numbering.now.firsts.items) }
-    ensures { (t : Tree) → evs events.now ≡ br t → TellsSize result (collections_size width t + scalars_size t) }
+    requires planned { IsPlanned (evs events.now) plan.now }
+    requires fits { count_of plan.now ≤ 256 ^ width }
+    requires order { IsOrder (count_of plan.now) order.now places.old.items }
+    ensures long { length places.new.items ≡ count_of plan.now }
+    ensures size { (objects : ℕ → Object) → Describes (evs events.now) (numbers_of plan.now) objects
+        → TellsSize result (length (laid_out width objects order.now)) }
+    ensures laid { IfSome result (λ end. (objects : ℕ → Object)
+        → Describes (evs events.now) (numbers_of plan.now) objects
+        → Laid width objects places.new.items order.now 8) }
 {
-    let mut size = Some(0);
-    let firsts = numbering.firsts.as_slice();
-    for place in firsts {
-        size = add(size, size_of_object(events, skips, width, *place));
+    let mut at = Some(8);
+    for number in order {
+        places[*number] = place_or_none(at);
+        let first = plan.first(*number);
+        let size = size_of_object(events, plan, width, first);
+        at = add(at, size);
     }
-    size
+    at
 }
 
-// Where the offset table will lie, behind the magic and the objects.
-fn place_of_table(events: &[Event<'_>], skips: &[usize], numbering: &Numbering) -> Option<u64>
-    requires skips { IsSkips (evs events.now) skips.now 0 }
-    requires whole { IsBracketed (evs events.now) }
-    requires plan { IsPlan (evs events.now) numbering.now.numbers.items numbering.now.firsts.items }
-    requires all { AllNumbered (evs events.now) numbering.now.numbers.items (length numbering.now.firsts.items) }
-    ensures { (t : Tree) → evs events.now ≡ br t → TellsSize result (table_place t) }
+// The size of a file with so many objects, whose offset table lies here.
+fn size_of_file(table: u64, count: u64) -> Option<u64>
+    ensures { (t : Tree) → table ≡ table_place t → count ≡ object_count t
+        → TellsSize result (file_size t) }
 {
-    let count = numbering.firsts.len() as u64;
-    let width = least_width(count.saturating_sub(1)) as u64;
-    add(Some(8), size_of_objects(events, skips, numbering, width))
+    let offsets = count.checked_mul(offset_width(table) as u64);
+    add(add(Some(table), offsets), Some(32))
 }
 
-// The size of the file of the tree whose events these are.
-fn size_of_file(events: &[Event<'_>], skips: &[usize], numbering: &Numbering) -> Option<u64>
-    requires skips { IsSkips (evs events.now) skips.now 0 }
-    requires whole { IsBracketed (evs events.now) }
-    requires plan { IsPlan (evs events.now) numbering.now.numbers.items numbering.now.firsts.items }
-    requires all { AllNumbered (evs events.now) numbering.now.numbers.items (length numbering.now.firsts.items) }
-    ensures size { (t : Tree) → evs events.now ≡ br t → TellsSize result (file_size t) }
+// Whether a file with so many objects, whose offset table lies here, has less than 2^64 bytes.
+fn has_size(table: u64, count: u64) -> bool
+    ensures yes { result ≡ true → (t : Tree) → table ≡ table_place t → count ≡ object_count t
+        → file_size t < 2 ^ 64 }
+    ensures no { result ≡ false → (t : Tree) → table ≡ table_place t → count ≡ object_count t
+        → 2 ^ 64 ≤ file_size t }
 {
-    let count = numbering.firsts.len() as u64;
-    match place_of_table(events, skips, numbering) {
-        Some(table) => {
-            let offsets = count.checked_mul(least_width(table) as u64);
-            add(add(Some(table), offsets), Some(32))
-        }
-        None => None,
+    match size_of_file(table, count) {
+        Some(_) => true,
+        None => false,
     }
 }
 
-/// Tests the size of the file of the tree whose events these are. It takes no memory.
+/// Gives each object its place, and tests the size of the file of the tree whose events these are.
+/// The place of its offset table. It takes no memory.
 ///
 /// # Errors
 /// `PlistTooLarge`, without an offset, exactly where the file would have 2^64 bytes or more.
-pub fn check_size(events: &[Event<'_>], skips: &[usize], numbering: &Numbering) -> Result<(), Error>
-    requires skips { IsSkips (evs events.now) skips.now 0 }
-    requires whole { IsBracketed (evs events.now) }
-    requires plan { IsPlan (evs events.now) numbering.now.numbers.items numbering.now.firsts.items }
-    requires all { AllNumbered (evs events.now) numbering.now.numbers.items (length numbering.now.firsts.items) }
-    ensures fits { IfOk result (λ done. Fits (evs events.now)) }
+pub fn check_size(
+    events: &[Event<'_>],
+    plan: &Plan,
+    order: &[usize],
+    places: &mut Vec<usize>,
+) -> Result<u64, Error>
+    requires planned { IsPlanned (evs events.now) plan.now }
+    requires order { IsOrder (count_of plan.now) order.now places.old.items }
+    requires all { (k : ℕ) → k < count_of plan.now → list_any (eqb k) order.now ≡ true }
+    ensures long { length places.new.items ≡ count_of plan.now }
+    ensures table { IfOk result (λ table. (objects : ℕ → Object)
+        → Describes (evs events.now) (numbers_of plan.now) objects
+        → table ≡ length (laid_out (reference_width (count_of plan.now)) objects order.now)) }
+    ensures laid { IfOk result (λ table. (objects : ℕ → Object)
+        → Describes (evs events.now) (numbers_of plan.now) objects
+        → Laid (reference_width (count_of plan.now)) objects places.new.items order.now 8) }
+    ensures fits { IfOk result (λ table. Fits (evs events.now)) }
     ensures kind { IfErr result (λ error. fault_of error ≡ fault_nowhere PlistTooLarge) }
     ensures oversized { IfErr result (λ error. IsOversized (evs events.now)) }
 {
-    match size_of_file(events, skips, numbering) {
-        Some(_) => Ok(()),
+    let count = plan.numbering.firsts.len();
+    let width = reference_width(count as u64);
+    match place_objects(events, plan, width, order, places) {
+        Some(table) => {
+            if has_size(table, count as u64) {
+                Ok(table)
+            } else {
+                Err(ErrorKind::PlistTooLarge.without_position())
+            }
+        }
         None => Err(ErrorKind::PlistTooLarge.without_position()),
     }
 }

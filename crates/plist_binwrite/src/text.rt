@@ -1,33 +1,46 @@
 //! The bytes of texts: ASCII, or UTF-16.
 
-ghost use Rattle.std.specs.Prelude.{◌≡◌, ◌++◌, ◌+◌, ◌<◌, length, IfErr, OnOk};
+ghost use Rattle.std.specs.Prelude.{◌≡◌, ◌++◌, length};
 ghost use Rattle.std.specs.List.{flat_map};
 ghost use Rattle.std.specs.Char.Escape.{encode_utf16};
-ghost use Rattle.plist_base.specs.Faults.{OutOfMemory, fault_of, fault_nowhere};
-ghost use Rattle.plist_binwrite.specs.Forms.{IsText, big_endian, units_of, is_ascii_text, text_form};
+ghost use Rattle.plist_base.specs.Writing.{answer_of};
+ghost use Rattle.plist_binwrite.specs.Forms.{big_endian, length_form, units_of, is_ascii_text, text_form};
+ghost use Rattle.plist_binwrite.specs.Outlets.{Puts};
 
-use crate::forms::{push_bytes, push_length, push_number};
+use crate::forms::{put_length, put_number, put_numbers};
+use crate::outlet::put;
 use plist_base::Error;
+use std::io::Write;
 
-// Appends the one or two units of a character.
-fn push_char(bytes: &mut Vec<u8>, c: char) -> Result<(), Error>
-    ensures written { OnOk result (bytes.new.items ≡ bytes.old.items ++ flat_map (big_endian 2) (encode_utf16 c)) }
-    ensures memory { IfErr result (λ error. fault_of error ≡ fault_nowhere OutOfMemory) }
+// Puts the one or two units of a character.
+fn put_char<W: Write>(writer: &mut W, room: &mut Vec<u8>, c: char) -> Result<(), Error>
+    ensures { Puts (W.contents writer.old) room.old.items
+        (flat_map (big_endian 2) (encode_utf16 c))
+        (answer_of result) (W.contents writer.new) room.new.items }
 {
     let code = u64::from(c as u32);
     if code < 0x1_0000 {
-        return push_number(bytes, 2, code);
+        return put_number(writer, room, 2, code);
     }
-    push_number(bytes, 2, 0xd800 + (code - 0x1_0000) / 0x400)?;
-    push_number(bytes, 2, 0xdc00 + (code - 0x1_0000) % 0x400)
+    let above = (code - 0x1_0000) as usize;
+    put_numbers(
+        writer,
+        room,
+        2,
+        &[0xd800 + above / 0x400, 0xdc00 + above % 0x400],
+    )
 }
 
-fn push_units(bytes: &mut Vec<u8>, text: &str) -> Result<(), Error>
-    ensures written { OnOk result (bytes.new.items ≡ bytes.old.items ++ flat_map (big_endian 2) (units_of text.now)) }
-    ensures memory { IfErr result (λ error. fault_of error ≡ fault_nowhere OutOfMemory) }
+fn put_units<W: Write>(writer: &mut W, room: &mut Vec<u8>, text: &str) -> Result<(), Error>
+    ensures { Puts (W.contents writer.old) room.old.items
+        (flat_map (big_endian 2) (units_of text.now))
+        (answer_of result) (W.contents writer.new) room.new.items }
 {
     for c in text.chars() {
-        push_char(bytes, c)?;
+        match put_char(writer, room, c) {
+            Ok(()) => {}
+            Err(error) => return Err(error),
+        }
     }
     Ok(())
 }
@@ -57,19 +70,39 @@ pub fn is_ascii_text(text: &str) -> bool
     text.as_bytes().iter().all(|byte| *byte < 128)
 }
 
-/// Appends a text: its bytes where all are ASCII, else its UTF-16 units.
-///
-/// # Errors
-/// `OutOfMemory`, without an offset; a beginning of the bytes may then stand in the list.
-pub fn push_text(bytes: &mut Vec<u8>, text: &str) -> Result<(), Error>
-    ensures written { OnOk result (bytes.new.items ≡ bytes.old.items ++ text_form text.now) }
-    ensures writable { IsText text.now }
-    ensures memory { IfErr result (λ error. fault_of error ≡ fault_nowhere OutOfMemory) }
+fn put_ascii<W: Write>(writer: &mut W, room: &mut Vec<u8>, text: &str) -> Result<(), Error>
+    ensures { Puts (W.contents writer.old) room.old.items
+        (length_form 0x5 (length text.now) ++ text.now)
+        (answer_of result) (W.contents writer.new) room.new.items }
+{
+    let count = text.len();
+    match put_length(writer, room, 0x5, count as u64) {
+        Ok(()) => put(writer, room, text.as_bytes()),
+        Err(error) => Err(error),
+    }
+}
+
+fn put_wide<W: Write>(writer: &mut W, room: &mut Vec<u8>, text: &str) -> Result<(), Error>
+    ensures { Puts (W.contents writer.old) room.old.items
+        (length_form 0x6 (length (units_of text.now))
+        ++ flat_map (big_endian 2) (units_of text.now))
+        (answer_of result) (W.contents writer.new) room.new.items }
+{
+    let count = count_units(text);
+    match put_length(writer, room, 0x6, count as u64) {
+        Ok(()) => put_units(writer, room, text),
+        Err(error) => Err(error),
+    }
+}
+
+/// Puts a text: its bytes where all are ASCII, else its UTF-16 units.
+pub fn put_text<W: Write>(writer: &mut W, room: &mut Vec<u8>, text: &str) -> Result<(), Error>
+    ensures { Puts (W.contents writer.old) room.old.items (text_form text.now)
+        (answer_of result) (W.contents writer.new) room.new.items }
 {
     if is_ascii_text(text) {
-        push_length(bytes, 0x5, text.len() as u64)?;
-        return push_bytes(bytes, text.as_bytes());
+        put_ascii(writer, room, text)
+    } else {
+        put_wide(writer, room, text)
     }
-    push_length(bytes, 0x6, count_units(text) as u64)?;
-    push_units(bytes, text)
 }

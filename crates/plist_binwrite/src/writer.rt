@@ -66,7 +66,8 @@ impl<W: Write> BinaryWriter<W> {
     // The fault of an event, if it can't follow those held.
     fn refusal(&self, event: &Event<'_>) -> Option<Error>
         requires working { failed_of self.now ≡ false }
-        ensures refused { IfSome result (λ error. IsRefused (held_by self.now) (event_of event.now) (fault_of error)) }
+        ensures refused { IfSome result (λ error. IsRefused (held_by self.now)
+            (event_of event.now) (fault_of error)) }
         ensures accepted { result ≡ None → CanContinue (held_by self.now) (event_of event.now) }
     {
         self.pending.refusal(event)

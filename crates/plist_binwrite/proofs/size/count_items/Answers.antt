@@ -14,7 +14,7 @@ walk-preserved c =
     let f = c.requires.forward c.walk.place (omega arith) (omega (arith, y.0)) in
     (omega (arith, f.0, c.walk.invariant.0), λ ts s. counts_next (c.walk.invariant.1 ts s) y.1 (λ t q. c.requires.ends t c.walk.place (omega arith) q))
 
-pub returns : goal.returns
-returns c = λ ts s.
+pub returns-clause-value : goal.returns-clause-value
+returns-clause-value c = λ ts s.
     let n : length (evs c.args.events.now) ≡ length c.args.events.now = length-map c.args.events.now ev in
     counts_stop (c.walk.invariant.1 ts s) (elim (c.walk-test.ensures.no refl) [ inl h ↦ inl h | inr h ↦ inr (omega arith) ])

@@ -1,0 +1,10 @@
+use Rattle.std.proofs.Common.{length, ◌-◌}
+use Rattle.plist_binwrite.specs.Laying.{IsOrder, KeepsMarks}
+use Rattle.plist_binwrite.specs.Planning.{count_of}
+use Rattle.plist_binwrite.proofs.layout.order_keys.Given as goal
+
+abbrev pub invariant-walk : goal.invariant-walk
+invariant-walk l = IsOrder (count_of l.plan) l.order.items l.marks.items × KeepsMarks l.initial.marks.items l.marks.items
+
+abbrev pub decreases-walk : goal.decreases-walk
+decreases-walk l = length l.events - l.key

@@ -1,0 +1,35 @@
+use Rattle.std.proofs.Common.{[], ◌++◌, rules, flat_map, ap, sym, ◌∙◌, append_assoc, append-nil}
+use Rattle.std.specs.Char.Escape.{encode_utf16}
+use Rattle.std.proofs.lemmas.Str.{IsUtf8-past_char}
+use Rattle.plist_binwrite.specs.Forms.{big_endian}
+use Rattle.plist_binwrite.proofs.Outgoing.{puts_none, puts_then, puts_front, puts_as}
+use Rattle.plist_binwrite.proofs.Texts.{units_empty, unit_bytes_step}
+use Rattle.plist_binwrite.proofs.text.put_units.Goals as goal
+
+pub loop-c-init : goal.loop-c-init
+loop-c-init g c = (search rules, ([], puts_none, search rules))
+
+pub loop-c-preserved : goal.loop-c-preserved
+loop-c-preserved g c =
+    let held = c.loop-c.invariant in
+    let parts = c.in-Some.ensures.steps.0 in
+    let step = unit_bytes_step _ _ c.in-Some.c held.0 parts in (
+      IsUtf8-past_char _ _ c.in-Some.c held.0 parts,
+      (
+        held.1.0 ++ flat_map (big_endian 2) (encode_utf16 c.in-Some.c),
+        puts_then held.1.1 c.in-Ok.ensures,
+        append_assoc held.1.0 (flat_map (big_endian 2) (encode_utf16 c.in-Some.c)) _ ∙ ap (λ l. held.1.0 ++ l) (sym step) ∙ held.1.2,
+      ),
+    )
+
+pub returns-in-Err : goal.returns-in-Err
+returns-in-Err g c =
+    let held = c.loop-c.invariant in
+    let parts = c.in-Some.ensures.steps.0 in
+    let step = unit_bytes_step _ _ c.in-Some.c held.0 parts in
+    puts_as (ap (λ l. held.1.0 ++ l) (sym step) ∙ held.1.2) (puts_then held.1.1 (puts_front _ c.in-Err.ensures))
+
+pub returns : goal.returns
+returns g c =
+    let held = c.loop-c.invariant in
+    puts_as (sym (append-nil held.1.0) ∙ ap (λ l. held.1.0 ++ flat_map (big_endian 2) l) (sym (units_empty _ c.in-None.ensures.steps.0.0)) ∙ held.1.2) held.1.1

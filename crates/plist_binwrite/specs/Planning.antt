@@ -1,0 +1,28 @@
+-- What is planned of the events of a tree.
+use Rattle.std.specs.Prelude.{◌≡◌, ℕ, List, length}
+use Rattle.plist_binwrite.specs.declared.plan.Plan.{Plan}
+use Rattle.plist_binwrite.specs.Marks.{Ev}
+use Rattle.plist_binwrite.specs.Held.{IsBracketed, IsSkips, IsPlan, AllNumbered, num_of}
+
+-- by event, the place behind the tree that it begins
+abbrev pub skips_in : Plan → List ℕ
+skips_in plan = plan.skips.items
+
+-- by event, the number of its object; and by number, the place of the first event of that object
+abbrev pub numbers_of : Plan → List ℕ
+numbers_of plan = plan.numbering.numbers.items
+
+abbrev pub firsts_of : Plan → List ℕ
+firsts_of plan = plan.numbering.firsts.items
+
+-- how many objects there are
+abbrev pub count_of : Plan → ℕ
+count_of plan = length (firsts_of plan)
+
+-- the events are those of a tree, and this is planned of them
+pub record IsPlanned (es : List Ev) (plan : Plan) : Type 0 where
+  pub whole : IsBracketed es
+  pub skips : IsSkips es (skips_in plan) 0
+  pub numbered : IsPlan es (numbers_of plan) (firsts_of plan)
+  pub all : AllNumbered es (numbers_of plan) (count_of plan)
+  pub root : num_of (numbers_of plan) 0 ≡ 0

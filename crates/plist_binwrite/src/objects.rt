@@ -1,0 +1,211 @@
+//! Puts the objects of a planned file.
+
+ghost use Rattle.std.specs.Prelude.{◌≡◌, ◌+◌, ◌<◌, ◌≤◌, ℕ, length, map};
+ghost use Rattle.plist_base.specs.Writing.{answer_of};
+ghost use Rattle.plist_binread.specs.Object.{Object};
+ghost use Rattle.plist_binwrite.specs.Forms.{form, table_form};
+ghost use Rattle.plist_binwrite.specs.Held.{evs, num_of, item_places, key_places, value_places, AllBelow, Describes};
+ghost use Rattle.plist_binwrite.specs.Marks.{Tree, Trees, Members, Array, Dictionary, Sits, SitsItems, SitsPairs};
+ghost use Rattle.plist_binwrite.specs.Numberings.{obj_of};
+ghost use Rattle.plist_binwrite.specs.Outlets.{Puts};
+ghost use Rattle.plist_binwrite.specs.Planning.{IsPlanned, count_of, numbers_of};
+ghost use Rattle.plist_binwrite.specs.Written.{bodies};
+
+use crate::forms::{put_length, put_number, put_scalar};
+use crate::kinds::{Kind, has_item, kind_at};
+use crate::plan::Plan;
+use crate::size::count_items;
+use plist_base::{Error, Event};
+use std::io::Write;
+
+// Puts references to the items of an array, from here on.
+fn put_items<W: Write>(
+    writer: &mut W,
+    room: &mut Vec<u8>,
+    events: &[Event<'_>],
+    plan: &Plan,
+    width: usize,
+    from: usize,
+) -> Result<(), Error>
+    requires planned { IsPlanned (evs events.now) plan.now }
+    requires width { width ≤ 8 }
+    ensures { (ts : Trees) → SitsItems (evs events.now) ts from
+        → Puts (W.contents writer.old) room.old.items
+        (table_form width (map (num_of (numbers_of plan.now)) (item_places ts from)))
+        (answer_of result) (W.contents writer.new) room.new.items }
+{
+    let mut place = from;
+    'walk: while has_item(events, place) {
+        let number = plan.number(place);
+        match put_number(writer, room, width, number as u64) {
+            Ok(()) => {}
+            Err(error) => return Err(error),
+        }
+        place = plan.skip(place);
+    }
+    Ok(())
+}
+
+// Puts references to the keys of a dictionary, from here on.
+fn put_keys<W: Write>(
+    writer: &mut W,
+    room: &mut Vec<u8>,
+    events: &[Event<'_>],
+    plan: &Plan,
+    width: usize,
+    from: usize,
+) -> Result<(), Error>
+    requires planned { IsPlanned (evs events.now) plan.now }
+    requires width { width ≤ 8 }
+    ensures { (ms : Members) → SitsPairs (evs events.now) ms from
+        → Puts (W.contents writer.old) room.old.items
+        (table_form width (map (num_of (numbers_of plan.now)) (key_places ms from)))
+        (answer_of result) (W.contents writer.new) room.new.items }
+{
+    let mut key = from;
+    'walk: while has_item(events, key) {
+        let number = plan.number(key);
+        match put_number(writer, room, width, number as u64) {
+            Ok(()) => {}
+            Err(error) => return Err(error),
+        }
+        let value = key + 1;
+        if value >= events.len() {
+            return Ok(());
+        }
+        key = plan.skip(value);
+    }
+    Ok(())
+}
+
+// Puts references to the values of a dictionary, from here on.
+fn put_values<W: Write>(
+    writer: &mut W,
+    room: &mut Vec<u8>,
+    events: &[Event<'_>],
+    plan: &Plan,
+    width: usize,
+    from: usize,
+) -> Result<(), Error>
+    requires planned { IsPlanned (evs events.now) plan.now }
+    requires width { width ≤ 8 }
+    ensures { (ms : Members) → SitsPairs (evs events.now) ms from
+        → Puts (W.contents writer.old) room.old.items
+        (table_form width (map (num_of (numbers_of plan.now)) (value_places ms from)))
+        (answer_of result) (W.contents writer.new) room.new.items }
+{
+    let mut key = from;
+    'walk: while has_item(events, key) {
+        let value = key + 1;
+        if value >= events.len() {
+            return Ok(());
+        }
+        let number = plan.number(value);
+        match put_number(writer, room, width, number as u64) {
+            Ok(()) => {}
+            Err(error) => return Err(error),
+        }
+        key = plan.skip(value);
+    }
+    Ok(())
+}
+
+fn put_array<W: Write>(
+    writer: &mut W,
+    room: &mut Vec<u8>,
+    events: &[Event<'_>],
+    plan: &Plan,
+    width: usize,
+    place: usize,
+) -> Result<(), Error>
+    requires planned { IsPlanned (evs events.now) plan.now }
+    requires place { place < length events.now }
+    requires width { width ≤ 8 }
+    ensures { (ts : Trees) → SitsItems (evs events.now) ts (place + 1)
+        → Puts (W.contents writer.old) room.old.items
+        (form width (obj_of (num_of (numbers_of plan.now)) (Array ts) place))
+        (answer_of result) (W.contents writer.new) room.new.items }
+{
+    let count = count_items(events, plan.skips.as_slice(), place + 1) as u64;
+    match put_length(writer, room, 0xa, count) {
+        Ok(()) => put_items(writer, room, events, plan, width, place + 1),
+        Err(error) => Err(error),
+    }
+}
+
+fn put_dictionary<W: Write>(
+    writer: &mut W,
+    room: &mut Vec<u8>,
+    events: &[Event<'_>],
+    plan: &Plan,
+    width: usize,
+    place: usize,
+) -> Result<(), Error>
+    requires planned { IsPlanned (evs events.now) plan.now }
+    requires place { place < length events.now }
+    requires width { width ≤ 8 }
+    ensures { (ms : Members) → SitsPairs (evs events.now) ms (place + 1)
+        → Puts (W.contents writer.old) room.old.items
+        (form width (obj_of (num_of (numbers_of plan.now)) (Dictionary ms) place))
+        (answer_of result) (W.contents writer.new) room.new.items }
+{
+    let count = count_items(events, plan.skips.as_slice(), place + 1) as u64;
+    match put_length(writer, room, 0xd, count / 2) {
+        Ok(()) => {}
+        Err(error) => return Err(error),
+    }
+    match put_keys(writer, room, events, plan, width, place + 1) {
+        Ok(()) => put_values(writer, room, events, plan, width, place + 1),
+        Err(error) => Err(error),
+    }
+}
+
+// Puts the object of the tree that begins here.
+fn put_object<W: Write>(
+    writer: &mut W,
+    room: &mut Vec<u8>,
+    events: &[Event<'_>],
+    plan: &Plan,
+    width: usize,
+    place: usize,
+) -> Result<(), Error>
+    requires planned { IsPlanned (evs events.now) plan.now }
+    requires place { place < length events.now }
+    requires width { width ≤ 8 }
+    ensures { (t : Tree) → Sits (evs events.now) t place
+        → Puts (W.contents writer.old) room.old.items
+        (form width (obj_of (num_of (numbers_of plan.now)) t place))
+        (answer_of result) (W.contents writer.new) room.new.items }
+{
+    match kind_at(events, place) {
+        Kind::Array => put_array(writer, room, events, plan, width, place),
+        Kind::Dictionary => put_dictionary(writer, room, events, plan, width, place),
+        _ => put_scalar(writer, room, &events[place]),
+    }
+}
+
+/// Puts the objects in this order.
+pub fn put_objects<W: Write>(
+    writer: &mut W,
+    room: &mut Vec<u8>,
+    events: &[Event<'_>],
+    plan: &Plan,
+    width: usize,
+    order: &[usize],
+) -> Result<(), Error>
+    requires planned { IsPlanned (evs events.now) plan.now }
+    requires width { width ≤ 8 }
+    requires order { AllBelow (count_of plan.now) order.now }
+    ensures { (objects : ℕ → Object) → Describes (evs events.now) (numbers_of plan.now) objects
+        → Puts (W.contents writer.old) room.old.items (bodies width objects order.now)
+        (answer_of result) (W.contents writer.new) room.new.items }
+{
+    for number in order {
+        let first = plan.first(*number);
+        match put_object(writer, room, events, plan, width, first) {
+            Ok(()) => {}
+            Err(error) => return Err(error),
+        }
+    }
+    Ok(())
+}

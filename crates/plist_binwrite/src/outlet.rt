@@ -1,0 +1,66 @@
+//! Sends bytes part by part, through a room of fixed size.
+
+ghost use Rattle.std.specs.Prelude.{◌≡◌, ◌≤◌, ◌++◌, [], ℕ, List, Option, true, false, OnOk, IfErr};
+ghost use Rattle.std.specs.Io.KnownBytes.{Appends};
+ghost use Rattle.plist_base.specs.Faults.{Io, fault_of, fault_nowhere};
+ghost use Rattle.plist_base.specs.Writing.{answer_of};
+ghost use Rattle.plist_binwrite.specs.Fronts.{AppendsFront};
+ghost use Rattle.plist_binwrite.specs.Outlets.{IsOut, Puts};
+
+use crate::send::{send, send_whole};
+use plist_base::Error;
+use std::io::Write;
+
+// Has bytes wait, where they fit into the room.
+fn hold(room: &mut Vec<u8>, bytes: &[u8]) -> bool
+    ensures yes { result ≡ true → room.new.items ≡ room.old.items ++ bytes.now }
+    ensures no { result ≡ false → room.new.items ≡ room.old.items }
+{
+    if bytes.len() > room.capacity() - room.len() {
+        return false;
+    }
+    room.extend_from_slice(bytes).is_ok()
+}
+
+/// Bytes that fit wait in the room; where they don't, those that wait go out, and then these. The
+/// room never grows, so memory can't run out.
+///
+/// # Errors
+/// `Io` without an offset where a write fails or takes no byte; a beginning of all that was put went
+/// out.
+pub fn put<W: Write>(writer: &mut W, room: &mut Vec<u8>, bytes: &[u8]) -> Result<(), Error>
+    ensures { Puts (W.contents writer.old) room.old.items bytes.now
+        (answer_of result) (W.contents writer.new) room.new.items }
+{
+    if hold(room, bytes) {
+        return Ok(());
+    }
+    match send(writer, room.as_slice()) {
+        Ok(()) => {}
+        Err(error) => return Err(error),
+    }
+    room.clear();
+    match send(writer, bytes) {
+        Ok(()) => Ok(()),
+        Err(error) => Err(error),
+    }
+}
+
+/// Sends what waits, and then has the writer pass on what it holds back.
+///
+/// # Errors
+/// Those of `put`; and where the flush fails, after all of it went out.
+pub fn finish<W: Write>(writer: &mut W, room: &[u8]) -> Result<(), Error>
+    ensures sent { OnOk result ((first : Option (List ℕ)) (done : List ℕ)
+        → IsOut first (W.contents writer.old) room.now done
+        → Appends first (W.contents writer.new) done) }
+    ensures front { (first : Option (List ℕ)) (done : List ℕ)
+        → IsOut first (W.contents writer.old) room.now done
+        → AppendsFront first (W.contents writer.new) done }
+    ensures failed { IfErr result (λ error. fault_of error ≡ fault_nowhere Io) }
+{
+    match send_whole(writer, room) {
+        Ok(()) => Ok(()),
+        Err(error) => Err(error),
+    }
+}
