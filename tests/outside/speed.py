@@ -5,13 +5,20 @@ Each shape of file is made at some sizes. The programs run in turn, and of each 
 least processor time (user and system) counts; its peak memory is shown beside it. The peers are the
 Rust crate `plist` as Debian packages it (librust-plist-dev, built by cargo from tests/outside/peer;
 it reads the file into memory first), Python's plistlib, and plistutil (libplist), which turns the
-file to XML. A peer that is missing is left out, and so is one that fails on a shape.
+file to XML. A peer that is missing is left out, and so is one that fails on a shape. One whose first
+run takes long is run once.
 
-Usage: speed.py [MEGABYTES ..]      1 and 10 where none are named.
+A second table is of reading from memory into events with texts of their own: `BinaryReader` over a
+slice (tests/outside/items, which is proved and built in a copy of its crates by the kit's `rt`)
+beside the crate's. Then system calls are counted, by `strace` where it is there.
+
+Usage: speed.py [MEGABYTES ..]      1, 10 and 50 where none are named.
 """
+import datetime
 import math
 import os
 import pathlib
+import plistlib
 import random
 import shutil
 import subprocess
@@ -24,6 +31,12 @@ PLIST_TOOL = HERE.parents[1] / "plist_tool"
 PROGRAM = HERE.parents[1] / "crates/plist_tool/out/plist_tool"
 RUNS = 5
 SECONDS = 60
+# a peer that takes so long isn't run again
+LONG = 10
+# of fewer objects the memory isn't told: what is the same for each file would count for them
+MANY = 50_000
+# what the windows over a file take
+WINDOWS = 1 << 20
 
 # ---- the files
 
@@ -126,10 +139,23 @@ def doubling(depth):
     return file.bytes(inner)
 
 
+def settings_by_plistlib(size):
+    """Settings as plistlib lays them out, with 5,000 texts that they share."""
+    rng, start = random.Random(1), datetime.datetime(2001, 1, 1)
+    shared = [f"value {n}" for n in range(5000)]
+    items = [{
+        "name": f"setting {number}", "enabled": rng.random() < 0.5, "count": number, "path": rng.choice(shared),
+        "modified": start + datetime.timedelta(seconds=rng.randrange(10**9)), "icon": rng.randbytes(24),
+        "tags": rng.choices(shared, k=4), "options": {rng.choice(shared): False, "name": rng.choice(shared)},
+    } for number in range(size // 185)]
+    return plistlib.dumps(items, fmt=plistlib.FMT_BINARY, sort_keys=False)
+
+
 SHAPES = {"integers": integers, "distinct texts": distinct_texts, "repeated texts": repeated_texts,
           "settings": settings, "blobs": blobs}
-OTHERS = {"10^5 levels": lambda: levels(10**5), "10^6 levels": lambda: levels(10**6),
-          "doubling, 2^20 arrays": lambda: doubling(19)}
+LEVELS = {"10^5 levels": lambda: levels(10**5), "10^6 levels": lambda: levels(10**6)}
+SHARING = {"doubling, 2^17 arrays": lambda: doubling(16), "doubling, 2^20 arrays": lambda: doubling(19)}
+OTHERS = {**LEVELS, **SHARING, "one object": lambda: doubling(0), "settings by plistlib": lambda: settings_by_plistlib(10_000_000)}
 
 
 def make(path, shape, *size):
@@ -156,11 +182,25 @@ def peer(folder):
     return source / "target/release/peer" if built.returncode == 0 else None
 
 
-def programs(folder):
+def items_program(folder):
+    """The program over `BinaryReader`, built in a repository of its own, where the kit is there."""
+    if shutil.which("rt") is None:
+        return None
+    crates = HERE.parents[1] / "crates"
+    root = folder / "items"
+    for crate in ("plist_base", "plist_binread"):
+        shutil.copytree(crates / crate, root / "crates" / crate)
+    shutil.copytree(HERE / "items", root / "crates/items")
+    (root / "crates.txt").write_text("plist_base:\nplist_binread: plist_base\nitems: plist_base plist_binread\n")
+    subprocess.run(["rt", "run", "--", "no_such_file"], cwd=root / "crates/items", capture_output=True)
+    built = root / "crates/items/out/items"
+    return built if built.exists() else None
+
+
+def programs(crate):
     # builds the program where that is needed
     subprocess.run([PLIST_TOOL], capture_output=True)
     yield "plist_tool", [PROGRAM, "print"]
-    crate = peer(folder)
     if crate:
         yield "the crate", [crate, "print"]
     yield "plistlib", [sys.executable, "-c", "import plistlib, sys; plistlib.load(open(sys.argv[1], 'rb'))"]
@@ -168,12 +208,25 @@ def programs(folder):
         yield "plistutil", ["plistutil", "-f", "xml", "-i"]
 
 
+def peak_of(pid, before):
+    """The most memory that a process has held so far, in bytes, where that can be seen."""
+    try:
+        with open(f"/proc/{pid}/status") as status:
+            return max([before, *(int(line.split()[1]) * 1024 for line in status if line.startswith("VmHWM"))])
+    except OSError:
+        return before
+
+
 def measure(words):
-    """Processor seconds and peak memory in MB, or None where it fails or takes too long."""
-    start = time.monotonic()
+    """Processor seconds and peak memory in bytes, or None where it fails or takes too long.
+
+    The memory that the system tells of a child counts what its parent held, so it is looked up while
+    the child runs, and taken from the system only where the child was too fast."""
+    start, peak = time.monotonic(), 0
     with open(os.devnull, "wb") as sink:
         child = subprocess.Popen([str(word) for word in words], stdout=sink, stderr=sink)
         while True:
+            peak = peak_of(child.pid, peak)
             done, status, usage = os.wait4(child.pid, os.WNOHANG)
             if done:
                 break
@@ -182,59 +235,125 @@ def measure(words):
                 os.wait4(child.pid, 0)
                 child.returncode = -9
                 return None
-            time.sleep(0.002)
+            time.sleep(0.001)
     child.returncode = status
-    return (usage.ru_utime + usage.ru_stime, usage.ru_maxrss / 1024) if status == 0 else None
+    return (usage.ru_utime + usage.ru_stime, peak or usage.ru_maxrss * 1024) if status == 0 else None
 
 
 def best(runs):
-    return None if None in runs else min(runs)
+    """The least time, and the most memory."""
+    return None if None in runs else (min(time for time, _ in runs), max(peak for _, peak in runs))
 
 
-def row(name, path, known):
+def measured(path, known):
+    """The best runs of each program on a file, in turn."""
     runs = {program: [] for program in known}
     for _ in range(RUNS):
         for program, words in known.items():
-            if None not in runs[program]:
-                runs[program].append(measure([*words, path]))
-    found = {program: best(list_) for program, list_ in runs.items()}
-    ours = found["plist_tool"]
-    cells = []
-    for program, value in found.items():
+            taken = runs[program]
+            if None not in taken and not (taken and taken[0][0] > LONG):
+                taken.append(measure([*words, path]))
+    return {program: best(taken) for program, taken in runs.items()}
+
+
+def cells_of(found):
+    ours = next(iter(found.values()))
+    for i, value in enumerate(found.values()):
         if value is None:
-            cells.append("fails")
-        elif program == "plist_tool" or ours is None:
-            cells.append(f"{value[0]:.2f} s, {value[1]:.0f} MB")
-        else:
-            ratio = ours[0] / value[0] if value[0] else math.inf
-            cells.append(f"{value[0]:.2f} s, {value[1]:.0f} MB ({ratio:.2f})")
-    print(f"| {name} | {path.stat().st_size:,} | " + " | ".join(cells) + " |", flush=True)
-    return ours
+            yield "fails"
+            continue
+        shown = f"{value[0]:.3f} s, {value[1] / 1e6:.0f} MB"
+        if i and ours:
+            shown += f" ({ours[0] / value[0] if value[0] else math.inf:.2f})"
+        yield shown
+
+
+def objects_of(path):
+    """How many objects a file tells."""
+    return int.from_bytes(path.read_bytes()[-24:-16], "big")
+
+
+def row(name, path, found, memory):
+    ours = found.get("plist_tool")
+    objects = objects_of(path)
+    held = f"{max(0, ours[1] - memory) / objects:.0f}" if memory and ours and objects >= MANY else "-"
+    print(f"| {name} | {path.stat().st_size:,} | " + " | ".join(cells_of(found)) + (f" | {held} |" if memory else " |"), flush=True)
+
+
+def heading(words):
+    print("| " + " | ".join(words) + " |\n|" + "---|" * len(words))
+
+
+def print_growth(points):
+    print("\nGrowth of the time of `plist_tool print`, from each size to the next:\n")
+    for shape, found in points.items():
+        for (small, first), (large, last) in zip(found, found[1:]):
+            if first > 0:
+                print(f"- {shape}: exponent {math.log(last / first) / math.log(large / small):.2f} from {small:,} to {large:,}")
+
+
+def print_table(path, sizes, known):
+    make(path, "one object")
+    # what the program holds beside what it holds of the objects
+    memory = (measure([*known["plist_tool"], path]) or (0, 0))[1] + WINDOWS
+    heading(["shape", "bytes", *known, "bytes an object"])
+    grown = {}
+    for shape in SHAPES:
+        for size in sizes:
+            make(path, shape, size)
+            found = measured(path, known)
+            row(f"{shape}, {size} MB", path, found, memory)
+            if found["plist_tool"]:
+                grown.setdefault(f"{shape}, bytes", []).append((path.stat().st_size, found["plist_tool"][0]))
+    for kind, family, counts in (("levels", LEVELS, (10**5, 10**6)), ("doubling, arrays", SHARING, (2**17, 2**20))):
+        for shape, count in zip(family, counts):
+            make(path, shape)
+            found = measured(path, known)
+            row(shape, path, found, memory)
+            if found["plist_tool"]:
+                grown.setdefault(kind, []).append((count, found["plist_tool"][0]))
+    print_growth(grown)
+
+
+def print_items(path, size, known):
+    print(f"\nItems with texts of their own, read from memory, {size} MB:\n")
+    heading(["shape", "bytes", *known])
+    for shape in SHAPES:
+        make(path, shape, size)
+        row(shape, path, measured(path, known), 0)
+    for shape in ("10^6 levels", "doubling, 2^20 arrays"):
+        make(path, shape)
+        row(shape, path, measured(path, known), 0)
+
+
+def calls_of(words, path):
+    """The system calls of a program, where they can be counted."""
+    if shutil.which("strace") is None:
+        return None
+    counts = path.with_name("calls")
+    subprocess.run(["strace", "-f", "-c", "-o", counts, *words, path], stdout=subprocess.DEVNULL, check=True)
+    last = counts.read_text().split("\n")[-2].split()
+    return int(last[3])
+
+
+def print_calls(path, words):
+    make(path, "settings by plistlib")
+    calls = calls_of(words, path)
+    if calls is not None:
+        print(f"\nSystem calls of `plist_tool print` on settings that plistlib wrote, with 5,000 texts that they share, {path.stat().st_size:,} bytes: {calls:,}.")
 
 
 def main(words):
-    sizes = [int(word) for word in words] or [1, 10]
+    sizes = [int(word) for word in words] or [1, 10, 50]
     with tempfile.TemporaryDirectory() as name:
         folder = pathlib.Path(name)
-        known = dict(programs(folder))
-        print("| shape | bytes | " + " | ".join(known) + " |")
-        print("|" + "---|" * (2 + len(known)))
         path = folder / "file.plist"
-        grown = {}
-        for shape in SHAPES:
-            for size in sizes:
-                make(path, shape, size)
-                found = row(f"{shape}, {size} MB", path, known)
-                if found:
-                    grown.setdefault(shape, []).append((path.stat().st_size, found[0]))
-        for shape in OTHERS:
-            make(path, shape)
-            row(shape, path, known)
-    print("\nIn brackets: the processor time of plist_tool to that of the program. Growth of plist_tool's time:")
-    for shape, points in grown.items():
-        (small, first), (large, last) = points[0], points[-1]
-        if small < large and first > 0:
-            print(f"- {shape}: exponent {math.log(last / first) / math.log(large / small):.2f} from {small:,} to {large:,} bytes")
+        crate, items = peer(folder), items_program(folder)
+        known = dict(programs(crate))
+        print_table(path, sizes, known)
+        if items:
+            print_items(path, min(sizes, key=lambda size: abs(size - 10)), {"BinaryReader": [items], **({"the crate": [crate, "items"]} if crate else {})})
+        print_calls(path, known["plist_tool"])
 
 
 if __name__ == "__main__":

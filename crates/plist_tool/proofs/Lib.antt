@@ -1,3 +1,4 @@
 pub mod Dates
 pub mod Sent
 pub mod Steps
+pub mod Plain

@@ -1,9 +1,9 @@
 //! The line of each event.
 
-ghost use Rattle.std.specs.Prelude.{◌≡◌, ◌++◌, ◌<◌, OnOk};
+ghost use Rattle.std.specs.Prelude.{◌≡◌, ◌++◌, ◌<◌, true, OnOk};
 ghost use Rattle.std.specs.Fmt.{signed_decimal};
 ghost use Rattle.plist_base.specs.Events.{event_of};
-ghost use Rattle.plist_tool.specs.Lines.{hexadecimal, hexadecimal_digit, text_of_byte, text_of_bytes, text_of_data, text_of_date, text_of_real, text_of_start, words_of, line_of};
+ghost use Rattle.plist_tool.specs.Lines.{hexadecimal, hexadecimal_digit, stands_for_itself, text_of_byte, text_of_bytes, text_of_data, text_of_date, text_of_real, text_of_start, words_of, line_of};
 
 use itoa::Buffer;
 use plist_base::{Date, Event, Integer, RealBits};
@@ -20,26 +20,44 @@ fn hexadecimal_digit_of(value: u8) -> u8
     }
 }
 
+// Does a byte of a text stand for itself?
+fn is_plain(byte: u8) -> bool
+    ensures { result ≡ stands_for_itself byte }
+{
+    byte >= 0x20 && byte <= 0x7e && byte != b'\\' && byte != b'"'
+}
+
+// Do all bytes of a text stand for themselves? It looks at each, which is done for many at once.
+fn are_plain(text: &[u8]) -> bool
+    ensures { result ≡ true → text_of_bytes text.now ≡ text.now }
+{
+    let mut plain = true;
+    for &byte in text {
+        plain &= is_plain(byte);
+    }
+    plain
+}
+
 // A byte of a text, escaped unless it stands for itself.
 fn push_byte(line: &mut Vec<u8>, byte: u8) -> Result<(), AllocError>
     ensures { OnOk result (line.new.items ≡ line.old.items ++ text_of_byte byte) }
 {
-    match byte {
-        b'"' | b'\\' | 0..=0x1f | 0x7f..=0xff => {
-            let high = hexadecimal_digit_of(byte / 16);
-            let low = hexadecimal_digit_of(byte % 16);
-            line.extend_from_slice(&[b'\\', b'x', high, low])
-        }
-        _ => {
-            line.push(byte)?;
-            Ok(())
-        }
+    if is_plain(byte) {
+        line.push(byte)?;
+        return Ok(());
     }
+    let high = hexadecimal_digit_of(byte / 16);
+    let low = hexadecimal_digit_of(byte % 16);
+    line.extend_from_slice(&[b'\\', b'x', high, low])
 }
 
+// A text in runs of so many bytes, of which those without an escape go in one piece.
 fn push_text(line: &mut Vec<u8>, text: &[u8]) -> Result<(), AllocError>
     ensures { OnOk result (line.new.items ≡ line.old.items ++ text_of_bytes text.now) }
 {
+    if are_plain(text) {
+        return line.extend_from_slice(text);
+    }
     for &byte in text {
         push_byte(line, byte)?;
     }
@@ -148,6 +166,15 @@ fn push_words(line: &mut Vec<u8>, event: &Event<'_>) -> Result<(), AllocError>
             line.extend_from_slice(b"Uid ")?;
             line.extend_from_slice(Buffer::new().format(uid.get()).as_bytes())
         }
+    }
+}
+
+/// The line of an event has at most so many bytes, where they are that many.
+pub fn most_bytes(event: &Event<'_>) -> usize {
+    match event {
+        Event::String(text) => text.as_str().len().saturating_mul(4).saturating_add(64),
+        Event::Data(bytes) => bytes.as_slice().len().saturating_mul(2).saturating_add(64),
+        _ => 64,
     }
 }
 

@@ -19,7 +19,6 @@ use commands::run_words;
 use messages::{Message, Messages};
 use plist_base::{Error, ErrorKind};
 use std::env::Env;
-use std::io::BufWriter;
 use std::process::ExitCode;
 use std::rt::Files;
 use std::{env, io};
@@ -36,16 +35,15 @@ fn words_given<R: Env + AllocGlobal>(rt: &R) -> Result<Vec<String>, Error>
     }
 }
 
-// Runs the command of the words given, over buffered standard output.
+// Runs the command of the words given, over standard output, to which a command sends its lines many
+// at a time.
 fn run<R: Files + Env + Print + AllocGlobal, E: Messages>(rt: &R, err: &mut E) -> Result<u8, Error>
     ensures status { IfOk result (λ status. status ≤ 2) }
     ensures memory { IfErr result (λ error. fault_of error ≡ fault_nowhere OutOfMemory) }
 {
     let words = words_given(rt)?;
-    match BufWriter::new(rt.alloc(), io::writer(rt)) {
-        Ok(mut out) => Ok(run_words(rt, rt.alloc(), words.as_slice(), &mut out, err)),
-        Err(_) => Err(ErrorKind::OutOfMemory.without_position()),
-    }
+    let mut out = io::writer(rt);
+    Ok(run_words(rt, rt.alloc(), words.as_slice(), &mut out, err))
 }
 
 // The exit code of a run: its status, or 1 where there was no memory to begin, which is then told.

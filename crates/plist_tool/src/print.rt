@@ -1,35 +1,70 @@
 //! Prints the events of a source.
 
-ghost use Rattle.std.specs.Prelude.{◌≡◌, IfErr, IfSome, OnOk};
-ghost use Rattle.std.specs.Io.KnownBytes.{Appends};
+ghost use Rattle.std.specs.Prelude.{◌≡◌, ◌++◌, IfErr, IfSome, OnErr, OnOk};
 ghost use Rattle.plist_base.specs.Events.{event_of};
-ghost use Rattle.plist_binread.specs.Coming.{source_of, to_come};
+ghost use Rattle.plist_binread.specs.Coming.{event_told, source_of, to_come};
 ghost use Rattle.plist_binread.specs.Unfolding.{items_of_file};
 ghost use Rattle.plist_tool.specs.Lines.{line_of, lines_of};
-ghost use Rattle.plist_tool.specs.Fronts.{AppendsFront};
+ghost use Rattle.plist_tool.specs.Fronts.{AppendsFront, PassesOn};
 ghost use Rattle.plist_tool.specs.Printing.{PrintsAll, PrintsUntil, CountsReads, IsOwnFault};
 
-use crate::lines::push_line;
+use crate::lines::{most_bytes, push_line};
 use crate::send::{flush, send};
-use plist_base::{Error, OwnedEvent, Source};
+use plist_base::{Error, Event, Source};
 use plist_binread::BinaryReader;
 use std::alloc::Global;
 use std::io::Write;
 
-// Sends the line of an event. The buffer is made anew for it, and keeps its room.
-fn send_line<W: Write>(writer: &mut W, line: &mut Vec<u8>, event: OwnedEvent) -> Result<(), Error>
-    ensures sent { OnOk result (Appends
-        (W.contents writer.old) (W.contents writer.new) (line_of (event_of event.entry))) }
+// Lines are held back until the next one may not fit behind them in so many bytes.
+const FULL: usize = 65536;
+
+// Sends what is held back where a line of so many bytes may not fit behind it.
+fn make_room<W: Write>(writer: &mut W, lines: &mut Vec<u8>, size: usize) -> Result<(), Error>
+    ensures passed { OnOk result (PassesOn
+        (W.contents writer.old) (W.contents writer.new) lines.old.items lines.new.items) }
     ensures failed { IfErr result IsOwnFault }
-    ensures front { AppendsFront
-        (W.contents writer.old) (W.contents writer.new) (line_of (event_of event.entry)) }
+    ensures front { OnErr result (AppendsFront
+        (W.contents writer.old) (W.contents writer.new) lines.old.items) }
 {
-    line.clear();
-    push_line(line, &event)?;
-    send(writer, line.as_slice())
+    if size <= FULL.saturating_sub(lines.len()) {
+        return Ok(());
+    }
+    send(writer, lines.as_slice())?;
+    lines.clear();
+    Ok(())
 }
 
-// Sends the lines of what a reader has still to give. One buffer serves all lines.
+// Puts the line of an event behind the lines that are held back, which are sent before that where it
+// may not fit. So only a line that is longer than the buffer wants memory, and none is held back
+// then.
+fn pass_line<W: Write>(writer: &mut W, lines: &mut Vec<u8>, event: &Event<'_>) -> Result<(), Error>
+    ensures passed { OnOk result (PassesOn (W.contents writer.old) (W.contents writer.new)
+        (lines.old.items ++ line_of (event_of event.now)) lines.new.items) }
+    ensures failed { IfErr result IsOwnFault }
+    ensures front { OnErr result (AppendsFront (W.contents writer.old) (W.contents writer.new)
+        (lines.old.items ++ line_of (event_of event.now))) }
+{
+    make_room(writer, lines, most_bytes(event))?;
+    push_line(lines, event)?;
+    Ok(())
+}
+
+// The same of the event that a reader told last.
+fn pass_told<S: Source, W: Write>(
+    writer: &mut W,
+    lines: &mut Vec<u8>,
+    reader: &BinaryReader<S>,
+) -> Result<(), Error>
+    ensures passed { OnOk result (PassesOn (W.contents writer.old) (W.contents writer.new)
+        (lines.old.items ++ line_of (event_told reader.now)) lines.new.items) }
+    ensures failed { IfErr result IsOwnFault }
+    ensures front { OnErr result (AppendsFront (W.contents writer.old) (W.contents writer.new)
+        (lines.old.items ++ line_of (event_told reader.now))) }
+{
+    pass_line(writer, lines, &reader.event())
+}
+
+// Sends the lines of what a reader has still to give.
 fn send_lines<S: Source, W: Write>(
     alloc: Global,
     reader: &mut BinaryReader<S>,
@@ -46,11 +81,17 @@ fn send_lines<S: Source, W: Write>(
     ensures failures { CountsReads result
         (S.failures (source_of reader.old)) (S.failures (source_of reader.new)) }
 {
-    let mut line = Vec::new(alloc);
-    while let Some(item) = reader.next() {
-        let event = item?;
-        send_line(writer, &mut line, event)?;
+    let mut lines = Vec::with_capacity(alloc, FULL)?;
+    while let Some(item) = reader.advance() {
+        match item {
+            Ok(()) => pass_told(writer, &mut lines, reader)?,
+            Err(error) => {
+                send(writer, lines.as_slice())?;
+                return Err(error);
+            }
+        }
     }
+    send(writer, lines.as_slice())?;
     Ok(())
 }
 

@@ -1,6 +1,6 @@
 use Rattle.std.proofs.Common.{◌≡◌, IfSome}
 use Rattle.plist_binread.specs.Coming.{source_of, to_come, steps_to_come}
-use Rattle.plist_tool.proofs.Sent.{IsSentUpTo}
+use Rattle.plist_tool.proofs.Sent.{IsPassedUpTo}
 use Rattle.plist_tool.proofs.print.send_lines.Given as goal
 
 abbrev pub invariant-loop-item : goal.invariant-loop-item
@@ -8,7 +8,7 @@ invariant-loop-item g l = record {
   unchanged : g.S.Source.known (source_of l.reader) ≡ g.S.Source.known (source_of l.initial.reader);
   failures : g.S.Source.failures (source_of l.reader) ≡ g.S.Source.failures (source_of l.initial.reader);
   so_far : IfSome (g.S.Source.known (source_of l.initial.reader)) (λ bytes.
-      IsSentUpTo (g.W.Write.contents l.initial.writer) (g.W.Write.contents l.writer) (to_come bytes l.initial.reader) (to_come bytes l.reader));
+      IsPassedUpTo (g.W.Write.contents l.initial.writer) (g.W.Write.contents l.writer) l.lines.items (to_come bytes l.initial.reader) (to_come bytes l.reader));
 }
 
 abbrev pub decreases-loop-item : goal.decreases-loop-item
