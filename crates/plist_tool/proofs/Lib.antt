@@ -1,3 +1,5 @@
 pub mod Dates
 pub mod Sent
 pub mod Steps
+pub mod ValueLines
+pub mod Trees
