@@ -89,6 +89,7 @@ impl Value {
         ensures one_tree { (left right : Tree) → AreAlike (bracketing left) (bracketing right)
             → left ≡ right }
         ensures last_values { (rows : Rows) → AreLastValues rows (last_values rows) }
+        ensures itself { (value : Value) → last_wins (tree_of value) ≡ tree_of value }
         ensures value { (iter : I.IntoIter) × I.into_iter_gives events iter
             × Collects E.plain I.IntoIter.next_gives iter (built_tree result) }
         ensures shown { (iter : I.IntoIter) × I.into_iter_gives events iter

@@ -2,3 +2,5 @@ pub mod Dates
 pub mod Sent
 pub mod Steps
 pub mod Plain
+pub mod ValueLines
+pub mod Trees

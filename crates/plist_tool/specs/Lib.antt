@@ -3,3 +3,5 @@ pub mod Fronts
 pub mod Printing
 pub mod Messages
 pub mod Commands
+pub mod Failures
+pub mod Archives

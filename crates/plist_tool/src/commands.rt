@@ -1,10 +1,12 @@
 //! What the words after the program's name ask for, and how it is done.
 
 ghost use Rattle.std.specs.Prelude.{◌≡◌, ◌≢◌, ℕ, ◌↔◌, List, Option, Bool, map, string_bytes, IfSome, IsNone};
-ghost use Rattle.plist_base.specs.Writing.{Answer, answer_of};
+ghost use Rattle.plist_tool.specs.Failures.{Outcome, outcome_of};
 ghost use Rattle.plist_tool.specs.Messages.{Usage};
 ghost use Rattle.plist_tool.specs.Commands.{Asked, asked_of, words_for, IsWrong, EndsWith};
 
+use crate::failure::Failure;
+use crate::keyed::keyed_file;
 use crate::messages::{Message, Messages};
 use crate::print::print_events;
 use plist::Value;
@@ -21,6 +23,8 @@ pub enum Command<'a> {
     Print(&'a str),
     /// Write the property list of the first file to the second one, as a binary one.
     Convert(&'a str, &'a str),
+    /// Print the tree that the file's archive has under this key.
+    Keyed(&'a str, &'a str),
 }
 
 /// The command that the words ask for, or `None` if they are no command.
@@ -34,6 +38,9 @@ pub fn command_of(words: &[String]) -> Option<Command<'_>>
         [verb, from, to] if verb.as_str() == "convert" => {
             Some(Command::Convert(from.as_str(), to.as_str()))
         }
+        [verb, file, key] if verb.as_str() == "keyed" => {
+            Some(Command::Keyed(file.as_str(), key.as_str()))
+        }
         _ => None,
     }
 }
@@ -41,21 +48,22 @@ pub fn command_of(words: &[String]) -> Option<Command<'_>>
 /// Does commands. It is a trait so that a clause can name what a command answered.
 pub trait Commands {
     /// What a command may have answered, and what an output then holds that tells its bytes.
-    ghost answers: { Self → Asked → (old : Option (List ℕ)) → Answer
+    ghost answers: { Self → Asked → (old : Option (List ℕ)) → Outcome
         → (new : Option (List ℕ)) → Type 0 };
 
     /// Does a command. What it prints goes to `out`.
     ///
     /// # Errors
-    /// Where a file can't be opened, read or written, or holds no property list.
+    /// Where a file can't be opened, read or written, or holds no property list, or no archive with
+    /// a tree under the key that was asked for.
     fn perform<O: Write>(
         &self,
         alloc: Global,
         command: Command<'_>,
         out: &mut O,
-    ) -> Result<(), Error>
+    ) -> Result<(), Failure>
         ensures { answers self.now (asked_of command.entry)
-            (O.contents out.old) (answer_of result) (O.contents out.new) };
+            (O.contents out.old) (outcome_of result) (O.contents out.new) };
 }
 
 /// Nothing is known of what files hold, so nothing is of the answers.
@@ -67,10 +75,11 @@ impl<R: Files> Commands for R {
         alloc: Global,
         command: Command<'_>,
         out: &mut O,
-    ) -> Result<(), Error> {
+    ) -> Result<(), Failure> {
         match command {
-            Command::Print(path) => print_file(self, alloc, path, out),
-            Command::Convert(from, to) => convert_file(self, alloc, from, to),
+            Command::Print(path) => Ok(print_file(self, alloc, path, out)?),
+            Command::Convert(from, to) => Ok(convert_file(self, alloc, from, to)?),
+            Command::Keyed(path, key) => keyed_file(self, alloc, path, key, out),
         }
     }
 }
@@ -109,7 +118,7 @@ pub fn run_words<R: Commands, O: Write, E: Messages>(
     ensures wrong { (result ≡ 2) ↔ IsWrong (map string_bytes words.now) }
     ensures silent { result ≡ 2 → out.new ≡ out.old }
     ensures usage { result ≡ 2 → (told : Bool) × E.tells err.old Usage told err.new }
-    ensures ends { result ≢ 2 → (asked : Asked) × (answer : Answer)
+    ensures ends { result ≢ 2 → (asked : Asked) × (answer : Outcome)
         × (map string_bytes words.now ≡ words_for asked)
         × R.answers rt.now asked (O.contents out.old) answer (O.contents out.new)
         × EndsWith E.tells answer result err.old err.new }
@@ -120,8 +129,8 @@ pub fn run_words<R: Commands, O: Write, E: Messages>(
     };
     match rt.perform(alloc, command, out) {
         Ok(()) => 0,
-        Err(error) => {
-            let _ = err.tell(Message::Fault(&error));
+        Err(failure) => {
+            let _ = err.tell(Message::Fault(&failure));
             1
         }
     }
@@ -137,7 +146,7 @@ mod tests {
     use std::process::Abort;
     use std::test::Fail;
 
-    const USAGE: &str = "Usage: plist_tool print FILE | convert IN OUT\n";
+    const USAGE: &str = "Usage: plist_tool print FILE | convert IN OUT | keyed FILE KEY\n";
 
     fn words_of(alloc: Global, line: &str) -> Result<Vec<String>, AllocError> {
         let mut words = Vec::new(alloc);
@@ -157,6 +166,8 @@ mod tests {
             "Print one",
             "convert one",
             "convert one two three",
+            "keyed one",
+            "keyed one two three",
         ] {
             let words = words_of(rt.alloc(), line)?;
             let mut out = Vec::new(rt.alloc());

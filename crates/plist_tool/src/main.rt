@@ -1,21 +1,27 @@
 //! `plist_tool print FILE` prints the events of a binary property list, each on a line of its own;
-//! `plist_tool convert IN OUT` writes a property list of either format as a binary one.
+//! `plist_tool convert IN OUT` writes a property list of either format as a binary one;
+//! `plist_tool keyed FILE KEY` prints a tree of a keyed archive as `print` prints a file.
 #![tactic(auto)]
 
 ghost use Rattle.std.specs.Prelude.{◌≡◌, ◌≤◌, Bool, IfOk, IfErr, MatchResult};
 ghost use Rattle.std.specs.Process.{exit_status};
 ghost use Rattle.plist_base.specs.Faults.{OutOfMemory, fault_of, fault_nowhere};
+ghost use Rattle.plist_tool.specs.Failures.{OfPlist};
 ghost use Rattle.plist_tool.specs.Messages.{Fault};
 
 mod commands;
+mod failure;
+mod keyed;
 mod lines;
 mod messages;
 mod print;
 mod send;
 #[cfg(test)]
 mod trickle;
+mod values;
 
 use commands::run_words;
+use failure::Failure;
 use messages::{Message, Messages};
 use plist_base::{Error, ErrorKind};
 use std::env::Env;
@@ -51,12 +57,12 @@ fn exit_code<E: Messages>(answer: Result<u8, Error>, err: &mut E) -> ExitCode
     ensures status { MatchResult answer
         (λ status. exit_status result ≡ status) (λ _. exit_status result ≡ 1) }
     ensures told { MatchResult answer (λ _. err.new ≡ err.old)
-        (λ error. (told : Bool) × E.tells err.old (Fault (fault_of error)) told err.new) }
+        (λ error. (told : Bool) × E.tells err.old (Fault (OfPlist (fault_of error))) told err.new) }
 {
     match answer {
         Ok(status) => ExitCode::from(status),
         Err(error) => {
-            let _ = err.tell(Message::Fault(&error));
+            let _ = err.tell(Message::Fault(&Failure::Plist(error)));
             ExitCode::FAILURE
         }
     }

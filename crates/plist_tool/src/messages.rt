@@ -3,6 +3,7 @@
 ghost use Rattle.std.specs.Prelude.{Bool, is_ok};
 ghost use Rattle.plist_tool.specs.Messages.{Said, said_of, TakesMessage};
 
+use crate::failure::Failure;
 use crate::send::send;
 use plist_base::{Error, ErrorKind};
 use std::io::Write;
@@ -13,7 +14,7 @@ pub enum Message<'a> {
     /// How the program is used.
     Usage,
     /// Why a command was refused.
-    Fault(&'a Error),
+    Fault(&'a Failure),
 }
 
 /// Takes messages. It is a trait so that a clause can name what was told.
@@ -35,10 +36,13 @@ impl<W: Write> Messages for W {
 
     fn tell(&mut self, message: Message<'_>) -> Result<(), Error> {
         match message {
-            Message::Usage => send(self, b"Usage: plist_tool print FILE | convert IN OUT\n"),
-            Message::Fault(error) => match writeln!(self, "Error: {error}") {
+            Message::Usage => send(
+                self,
+                b"Usage: plist_tool print FILE | convert IN OUT | keyed FILE KEY\n",
+            ),
+            Message::Fault(failure) => match writeln!(self, "Error: {failure}") {
                 Ok(()) => Ok(()),
-                Err(failure) => Err(ErrorKind::Io(failure).without_position()),
+                Err(error) => Err(ErrorKind::Io(error).without_position()),
             },
         }
     }

@@ -1,7 +1,7 @@
 use Rattle.std.proofs.Common.{◌≡◌, ℕ, ◌≤◌, ◌<◌, List, [], ◌∷◌, length, get_or, map, codes, ap, sym, ◌∙◌, arith, true}
 use Rattle.std.specs.Str.{bytes_eq}
 use Rattle.std.proofs.lemmas.Slice.Eq.{bytes_eq-Decides}
-use Rattle.plist_tool.specs.Commands.{Print, Convert}
+use Rattle.plist_tool.specs.Commands.{Print, Convert, Keyed}
 use Rattle.plist_tool.proofs.commands.command_of.Goals as goal
 
 two_items : {A : Type 0} (items : List A) (first second : A) → 2 ≤ length items → length items < 3 → first ≡ get_or items 0 first → second ≡ get_or items 1 second → items ≡ first ∷ second ∷ []
@@ -31,17 +31,26 @@ three_items (x ∷ y ∷ []) first second third low high a b d = absurd (omega a
 three_items (x ∷ y ∷ z ∷ []) first second third low high a b d = cc
 three_items (x ∷ y ∷ z ∷ w ∷ items) first second third low high a b d = absurd (omega arith)
 
-three_texts : {A : Type 0} (text : A → List ℕ) (items : List A) (first second third : A) (verb from to : List ℕ) → items ≡ first ∷ second ∷ third ∷ [] → verb ≡ text first → from ≡ text second → to ≡ text third → bytes_eq verb (codes "convert") ≡ true
-    → map text items ≡ codes "convert" ∷ from ∷ to ∷ []
-three_texts text items first second third verb from to is a b d same =
-    let convert : verb ≡ codes "convert" = (bytes_eq-Decides verb (codes "convert")).0 same in
-    ap (map text) is ∙ ap (λ v. v ∷ text second ∷ text third ∷ []) (sym a ∙ convert) ∙ ap (λ f. codes "convert" ∷ f ∷ text third ∷ []) (sym b) ∙ ap (λ f. codes "convert" ∷ from ∷ f ∷ []) (sym d)
+three_texts : {A : Type 0} (text : A → List ℕ) (items : List A) (first second third : A) (word verb from to : List ℕ) → items ≡ first ∷ second ∷ third ∷ [] → verb ≡ text first → from ≡ text second → to ≡ text third → bytes_eq verb word ≡ true
+    → map text items ≡ word ∷ from ∷ to ∷ []
+three_texts text items first second third word verb from to is a b d same =
+    let asked : verb ≡ word = (bytes_eq-Decides verb word).0 same in
+    ap (map text) is ∙ ap (λ v. v ∷ text second ∷ text third ∷ []) (sym a ∙ asked) ∙ ap (λ f. word ∷ f ∷ text third ∷ []) (sym b) ∙ ap (λ f. word ∷ from ∷ f ∷ []) (sym d)
 
 pub returns-in-len3-clause-found : goal.returns-in-len3-clause-found
 returns-in-len3-clause-found c =
-    three_texts _ _ _ _ _ c.as_str-then-words-lt4.result.now _ _
+    three_texts _ _ _ _ _ (codes "convert") c.as_str-then-words-lt4.result.now _ _
     (three_items _ _ _ _ c.in-len3.len_at_least c.in-len3.len_below c.verb-item-then-words-lt4.is c.from-item.is c.to-item.is)
     c.as_str-then-words-lt4.ensures.value c.as_str-in-len3.ensures.value c.as_str-in-len3-2.ensures.value (sym c.eq-then-words-lt4.ensures ∙ c.if-eq-2.true)
 
 pub returns-in-len3-clause-wrong : goal.returns-in-len3-clause-wrong
 returns-in-len3-clause-wrong c = (λ none asked is. cc, λ wrong. absurd (wrong (Convert _ _) (returns-in-len3-clause-found c)))
+
+pub returns-in-len3-2-clause-found : goal.returns-in-len3-2-clause-found
+returns-in-len3-2-clause-found c =
+    three_texts _ _ _ _ _ (codes "keyed") c.as_str-then-words-lt4-2.result.now _ _
+    (three_items _ _ _ _ c.in-len3.len_at_least c.in-len3.len_below c.verb-item-then-words-lt4-2.is c.file-item-then-words-lt4.is c.key-item.is)
+    c.as_str-then-words-lt4-2.ensures.value c.as_str-in-len3-2-2.ensures.value c.as_str-in-len3-2-3.ensures.value (sym c.eq-then-words-lt4-2.ensures ∙ c.if-eq-3.true)
+
+pub returns-in-len3-2-clause-wrong : goal.returns-in-len3-2-clause-wrong
+returns-in-len3-2-clause-wrong c = (λ none asked is. cc, λ wrong. absurd (wrong (Keyed _ _) (returns-in-len3-2-clause-found c)))

@@ -1,4 +1,5 @@
 use Rattle.plist.specs.OneTree.{one_tree}
+use Rattle.plist.proofs.Itself.{itself}
 use Rattle.plist.proofs.LastOnes.{are-last-values}
 use Rattle.plist.proofs.value.Value.from_events.Goals as goal
 
@@ -13,3 +14,6 @@ returns-clause-shown g c = (c.into_iter.result, c.into_iter.ensures.into_iter_gi
 
 pub returns-clause-last_values : goal.returns-clause-last_values
 returns-clause-last_values g c = are-last-values
+
+pub returns-clause-itself : goal.returns-clause-itself
+returns-clause-itself g c = itself

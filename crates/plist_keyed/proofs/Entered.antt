@@ -1,0 +1,131 @@
+-- Which objects of an archive are open, and what is owed once one is entered or left.
+use Rattle.std.proofs.Common.{◌≡◌, ℕ, zero, suc, ◌-◌, ◌<◌, ◌≤◌, inl, inr, Bool, true, false, ◌||◌, nat_eq, List, [], ◌∷◌, ◌++◌, length, map, reverse, Option, Some, None, Err, refl, ap, sym, ◌∙◌, append_assoc, arith}
+use Rattle.std.specs.Prelude.{slice_get, option_map}
+use Rattle.std.specs.List.{list_any, AllByRecursion, IsDistinct}
+use Rattle.std.proofs.lemmas.Map.Steps.{length-le_from_distinct_below}
+use Rattle.std.proofs.lemmas.Bool.Decides.{eqb_tells}
+use Rattle.std.proofs.lemmas.List.{reverse-append}
+use Rattle.std.proofs.lemmas.List.Folds.{list_any-append}
+use Rattle.std.proofs.lemmas.Option.{slice_get-map, slice_get_within}
+use Rattle.plist_base.specs.Bracketing.{bracketing}
+use Rattle.plist_base.specs.Events.{PlainEvent}
+use Rattle.plist.specs.declared.stream.events.Events.{Events}
+use Rattle.plist.specs.declared.value.Value.{Value}
+use Rattle.plist.specs.Remaining.{remaining_events}
+use Rattle.plist.specs.Views.{tree_of}
+use Rattle.plist_keyed.specs.Archives.{UidOutOfRange, RecursiveUid}
+use Rattle.plist_keyed.specs.Walks.{Step, told, steps_of, steps_found, steps_at}
+use Rattle.plist_keyed.specs.Owing.{IsPath, follow_in, objects_seen, owed_by}
+
+or_false : (a b : Bool) → a || b ≡ false → (a ≡ false) × (b ≡ false)
+or_false true b h = absurd (cc)
+or_false false b h = (refl, h)
+
+none_equal : (i : ℕ) (xs : List ℕ) → list_any (nat_eq i) xs ≡ false → AllByRecursion (λ y. nat_eq i y ≡ false) xs
+none_equal i [] h = tt
+none_equal i (x ∷ xs) h = let k = or_false (nat_eq i x) (list_any (nat_eq i) xs) h in (k.0, none_equal i xs k.1)
+
+below_cons : (i n q : ℕ) (xs : List ℕ) → i < n → ((p : ℕ) → list_any (nat_eq p) xs ≡ true → p < n) → list_any (nat_eq q) (i ∷ xs) ≡ true → q < n
+below_cons i n q xs h all any =
+    elim (eqb_tells q i) [
+      | inl e ↦ rw e.1 h
+      | inr e ↦ all q (rw e.0 at any)
+    ]
+
+-- nothing is open at first
+pub IsPath-none : (n : ℕ) → IsPath n []
+unfolding IsDistinct
+IsPath-none n = record { distinct = tt; below = λ q any. absurd (cc) }
+
+-- one more object may be opened
+pub IsPath-push : (n uid : ℕ) (path : List ℕ) → IsPath n path → uid < n → list_any (nat_eq uid) path ≡ false → IsPath n (uid ∷ path)
+unfolding IsDistinct
+IsPath-push n uid path o h new = record {
+  distinct = (none_equal uid path new, o.distinct);
+  below = λ q any. below_cons uid n q path h o.below any;
+}
+
+any_later : (a b : Bool) → b ≡ true → a || b ≡ true
+any_later true b h = refl
+any_later false b h = h
+
+-- what is left when the innermost one is left
+pub IsPath-pop : (n uid : ℕ) (path : List ℕ) → IsPath n (uid ∷ path) → IsPath n path
+unfolding IsDistinct
+IsPath-pop n uid path o = record {
+  distinct = o.distinct.1;
+  below = λ q any. o.below q (any_later (nat_eq q uid) (list_any (nat_eq q) path) any);
+}
+
+-- there is room for an object that isn't open
+has_room : (n uid : ℕ) (path : List ℕ) → IsPath n path → uid < n → list_any (nat_eq uid) path ≡ false → length path < n
+unfolding IsDistinct
+has_room n uid path o h new =
+    let k : length (uid ∷ path) ≤ n = length-le_from_distinct_below (uid ∷ path) n (none_equal uid path new, o.distinct) (λ q any. below_cons uid n q path h o.below any) in
+    omega (arith, k)
+
+or_comm : (a b : Bool) → a || (b || false) ≡ b || a
+or_comm true true = refl
+or_comm true false = refl
+or_comm false true = refl
+or_comm false false = refl
+
+-- the test of the code, over the Uids as they are kept
+pub any_reversed : (p : ℕ → Bool) (xs : List ℕ) → list_any p (reverse xs) ≡ list_any p xs
+any_reversed p [] = refl
+any_reversed p (x ∷ xs) =
+    ap (list_any p) (reverse-append (x ∷ []) xs) ∙ list_any-append p (reverse xs) (x ∷ []) ∙ ap (λ b. b || (p x || false)) (any_reversed p xs) ∙ or_comm (list_any p xs) (p x)
+
+pub reverse-snoc : {A : Type 0} → (xs : List A) (x : A) → reverse (xs ++ x ∷ []) ≡ x ∷ reverse xs
+reverse-snoc xs x = reverse-append xs (x ∷ [])
+
+module _ (objects : List (List PlainEvent)) where
+  -- no object has the number
+  pub out_of_range : (room : ℕ) (path : List ℕ) (uid : ℕ) → slice_get objects uid ≡ None → steps_at objects room path uid ≡ Some (Err (told (UidOutOfRange uid))) ∷ []
+  unfolding steps_at
+  out_of_range zero path uid h = rw h refl
+  out_of_range (suc room) path uid h = rw h refl
+
+  -- the object is open
+  pub recursive : (room : ℕ) (path : List ℕ) (uid : ℕ) (es : List PlainEvent) → slice_get objects uid ≡ Some es → list_any (nat_eq uid) path ≡ true → steps_at objects room path uid ≡ Some (Err (told (RecursiveUid uid))) ∷ []
+  unfolding steps_at
+  recursive zero path uid es h o = rw h refl
+  recursive (suc room) path uid es h o = rw (h, o) refl
+
+  -- the object is opened
+  opened_at : (room : ℕ) (path : List ℕ) (uid : ℕ) (es : List PlainEvent) → slice_get objects uid ≡ Some es → list_any (nat_eq uid) path ≡ false
+      → steps_at objects (suc room) path uid ≡ None ∷ (steps_of (steps_at objects room (uid ∷ path)) es ++ None ∷ [])
+  unfolding steps_at
+  opened_at room path uid es h o = rw (h, o) refl
+
+  pub opened : (levels : List Events) (path : List ℕ) (uid : ℕ) (level : Events) (es : List PlainEvent) → IsPath (length objects) path → slice_get objects uid ≡ Some es → list_any (nat_eq uid) path ≡ false → remaining_events level ≡ es
+      → follow_in objects path uid ++ owed_by objects levels path ≡ None ∷ owed_by objects (level ∷ levels) (uid ∷ path)
+  opened levels path uid level es o at new left =
+      let room = length objects - suc (length path) in
+      let fits : length path < length objects = has_room (length objects) uid path o (slice_get_within objects uid es at) new in
+      let e : length objects - length path ≡ suc room = omega (arith, fits) in
+      let inside = steps_of (steps_at objects room (uid ∷ path)) in
+      ap (λ r. steps_at objects r path uid ++ owed_by objects levels path) e
+      ∙ ap (λ l. l ++ owed_by objects levels path) (opened_at room path uid es at new)
+      ∙ ap (λ l. None ∷ l) (append_assoc (inside es) (None ∷ []) (owed_by objects levels path))
+      ∙ ap (λ l. None ∷ (inside l ++ None ∷ owed_by objects levels path)) (sym left)
+
+  -- a step is there, whatever a Uid finds
+  found_some : (found : Option (List PlainEvent)) (is_open : Bool) (uid : ℕ) (steps : List PlainEvent → List Step) → 0 < length (steps_found found is_open uid steps)
+  found_some None o uid steps = omega arith
+  found_some (Some es) true uid steps = omega arith
+  found_some (Some es) false uid steps = omega arith
+
+  pub some_step : (room : ℕ) (path : List ℕ) (uid : ℕ) → 0 < length (steps_at objects room path uid)
+  unfolding steps_at
+  some_step zero path uid = found_some (slice_get objects uid) true uid (λ object. [])
+  some_step (suc room) path uid = found_some (slice_get objects uid) (list_any (nat_eq uid) path) uid (λ object. steps_of (steps_at objects room (uid ∷ path)) object)
+
+-- an object as it is seen
+pub seen_at : (objects : List Value) (uid : ℕ) (found : Option Value) → found ≡ slice_get objects uid → slice_get (objects_seen objects) uid ≡ option_map (λ v. bracketing (tree_of v)) found
+seen_at objects uid found is =
+    slice_get-map bracketing (map tree_of objects) uid ∙ ap (option_map bracketing) (slice_get-map tree_of objects uid ∙ ap (option_map tree_of) (sym is)) ∙ twice found
+  where
+    twice : (o : Option Value) → option_map bracketing (option_map tree_of o) ≡ option_map (λ v. bracketing (tree_of v)) o
+    twice None = refl
+    twice (Some v) = refl

@@ -1,0 +1,45 @@
+-- What an archive holds: its objects, and the pairs that name some of them.
+use Rattle.std.specs.Prelude.{◌≡◌, ℕ, List, Some, codes, map}
+use Rattle.std.specs.Map.{lookup}
+use Rattle.std.specs.Str.{bytes_eq}
+use Rattle.std.specs.declared.alloc.Global.{Global}
+use Rattle.std.specs.declared.vec.Vec.{Vec}
+use Rattle.plist_base.specs.Trees.{Tree}
+use Rattle.plist.specs.declared.value.Value.{Value}
+use Rattle.plist.specs.declared.value.Value.TheVariants as value
+use Rattle.plist.specs.Views.{tree_of}
+use Rattle.plist_keyed.specs.declared.archive.Archive.{Archive}
+
+-- the objects, by number
+abbrev pub objects_of : Archive → List Value
+objects_of archive = archive.objects.now.items
+
+-- the tree of each
+abbrev pub trees_of : Archive → List Tree
+trees_of archive = map tree_of (objects_of archive)
+
+-- the pairs of a name and what it stands for
+abbrev pub names_of : Archive → List (List ℕ × Value)
+names_of archive = archive.names.now
+
+-- the array stands at the key
+abbrev pub IsArrayAt : (key : List ℕ) → (pairs : List (List ℕ × Value)) → (array : Vec Value Global) → Type 0
+IsArrayAt key pairs array = lookup (bytes_eq key) pairs ≡ Some (value.Array array)
+
+-- the dictionary of these pairs stands at the key
+abbrev pub IsDictionaryAt : (key : List ℕ) → (pairs others : List (List ℕ × Value)) → Type 0
+IsDictionaryAt key pairs others = lookup (bytes_eq key) pairs ≡ Some (value.Dictionary others)
+
+-- the Uid stands at the key
+abbrev pub IsUidAt : (key : List ℕ) → (pairs : List (List ℕ × Value)) → (uid : ℕ) → Type 0
+IsUidAt key pairs uid = lookup (bytes_eq key) pairs ≡ Some (value.Uid uid)
+
+-- the property list is a dictionary with these objects in the array at `$objects`, and these names in the dictionary at `$top`
+abbrev pub IsArchiveOf : (root : Value) → (objects : List Value) → (names : List (List ℕ × Value)) → Type 0
+IsArchiveOf root objects names =
+    (pairs : List (List ℕ × Value)) × (array : Vec Value Global)
+    × (root ≡ value.Dictionary pairs) × IsArrayAt (codes "$objects") pairs array × (array.items ≡ objects) × IsDictionaryAt (codes "$top") pairs names
+
+-- the property list is an archive
+abbrev pub IsArchive : (root : Value) → Type 0
+IsArchive root = (objects : List Value) × (names : List (List ℕ × Value)) × IsArchiveOf root objects names

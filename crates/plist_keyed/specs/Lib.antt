@@ -1,0 +1,6 @@
+pub mod Archives
+pub mod Examples
+pub mod Contents
+pub mod Errors
+pub mod Walks
+pub mod Owing

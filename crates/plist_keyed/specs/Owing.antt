@@ -1,0 +1,98 @@
+-- What a walk over an archive still owes. Lists of open places have the innermost one first.
+use Rattle.std.specs.Prelude.{◌≡◌, ℕ, ◌-◌, ◌<◌, true, List, [], ◌∷◌, ◌++◌, length, map, Option, Some, None, Result, Ok, Err, nat_eq, reverse, ⊤}
+use Rattle.std.specs.List.{list_any, IsDistinct}
+use Rattle.std.specs.Option.{option_map}
+use Rattle.plist_base.specs.declared.error.Error.{Error}
+use Rattle.plist_base.specs.declared.event.Event.{Event}
+use Rattle.plist_base.specs.Bracketing.{bracketing}
+use Rattle.plist_base.specs.Events as events
+use Rattle.plist_base.specs.Events.{PlainEvent, Item, event_of}
+use Rattle.plist_base.specs.Faults.{Fault, MatchFault, fault_of}
+use Rattle.plist.specs.declared.stream.events.Events.{Events}
+use Rattle.plist.specs.declared.value.Value.{Value}
+use Rattle.plist.specs.Collecting.{item_by}
+use Rattle.plist.specs.Inputs.{BeginsWith}
+use Rattle.plist.specs.Remaining.{remaining_events}
+use Rattle.plist.specs.Views.{tree_of}
+use Rattle.plist_keyed.specs.declared.walk.Move.{Move}
+use Rattle.plist_keyed.specs.declared.walk.Move.TheVariants as move
+use Rattle.plist_keyed.specs.declared.walk.Walk.{Walk}
+use Rattle.plist_keyed.specs.Walks.{Step, items_of, steps_of, steps_at}
+
+-- the events of each object
+abbrev pub objects_seen : List Value → List (List PlainEvent)
+objects_seen objects = map bracketing (map tree_of objects)
+
+-- the items of a Uid's walk
+abbrev pub items_at : List Value → (uid : ℕ) → List Item
+items_at objects uid = items_of (steps_at (objects_seen objects) (length (objects_seen objects)) [] uid)
+
+-- the number of a Uid's event
+abbrev pub uid_in : PlainEvent → Option ℕ
+uid_in (events.Uid uid) = Some uid
+uid_in event = None
+
+-- the Uids on the path are different ones of these many objects
+pub record IsPath (count : ℕ) (path : List ℕ) : Type 0 where
+  pub distinct : IsDistinct nat_eq path
+  pub below : (uid : ℕ) → list_any (nat_eq uid) path ≡ true → uid < count
+
+module _ (objects : List (List PlainEvent)) where
+  -- the steps of a Uid behind the path
+  abbrev pub follow_in : (path : List ℕ) → ℕ → List Step
+  follow_in path uid = steps_at objects (length objects - length path) path uid
+
+  -- the steps that the open places still owe: those of the events left of the innermost one, its end, and what those below owe
+  abbrev pub owed_by : List Events → (path : List ℕ) → List Step
+  owed_by [] path = []
+  owed_by (level ∷ below) [] = []
+  owed_by (level ∷ below) (uid ∷ path) = steps_of (follow_in (uid ∷ path)) (remaining_events level) ++ None ∷ owed_by below path
+
+-- the open Uids
+abbrev pub path_of : Walk → List ℕ
+path_of walk = reverse walk.path.keys
+
+-- what is left of each
+abbrev pub levels_of : Walk → List Events
+levels_of walk = reverse walk.levels.items
+
+-- its path is one, and something is left of each object on it
+abbrev pub IsWalk : Walk → Type 0
+IsWalk walk = IsPath (length (objects_seen walk.objects.now)) (path_of walk) × (length (levels_of walk) ≡ length (path_of walk))
+
+-- what the walk owes
+abbrev pub owed : Walk → List Step
+owed walk = owed_by (objects_seen walk.objects.now) (levels_of walk) (path_of walk)
+
+-- what a Uid would owe in its place
+abbrev pub follow : Walk → ℕ → List Step
+follow walk uid = follow_in (objects_seen walk.objects.now) (path_of walk) uid
+
+-- the walk is as it was
+abbrev pub IsKept : Walk → Walk → Type 0
+IsKept old new = (new.objects ≡ old.objects) × (new.path.keys ≡ old.path.keys) × (new.levels.items ≡ old.levels.items)
+
+-- this object was opened
+abbrev pub IsOpened : Walk → ℕ → Value → Walk → Type 0
+IsOpened old uid object new =
+    (new.objects ≡ old.objects) × (new.path.keys ≡ old.path.keys ++ uid ∷ [])
+    × ((level : Events) × (new.levels.items ≡ old.levels.items ++ level ∷ []) × (remaining_events level ≡ bracketing (tree_of object)))
+
+-- the only step is this fault, unless it comes from outside
+abbrev pub FailsAt : List Step → Fault → Type 0
+FailsAt steps fault = MatchFault fault.kind ⊤ ⊤ (steps ≡ Some (Err fault) ∷ [])
+
+-- the first step is taken
+abbrev pub Moves : List Step → Move → List Step → Type 0
+Moves before move.Done after = (before ≡ []) × (after ≡ [])
+Moves before (move.Gave event) after = before ≡ Some (Ok (event_of event)) ∷ after
+Moves before move.Passed after = before ≡ None ∷ after
+
+-- the same, or the first step is a fault; what comes from outside may take steps, too
+abbrev pub Pays : List Step → Result Move Error → List Step → Type 0
+Pays before (Ok done) after = Moves before done after
+Pays before (Err error) after = (length after < length before) × MatchFault (fault_of error).kind ⊤ ⊤ (before ≡ Some (Err (fault_of error)) ∷ after)
+
+-- the items that are to come begin with this one
+abbrev pub Gives : Walk → Option (Result Event Error) → Walk → Type 0
+Gives old item new = BeginsWith (items_of (owed old)) (option_map (item_by event_of) item) (items_of (owed new))

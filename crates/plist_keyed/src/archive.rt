@@ -1,0 +1,123 @@
+//! An archive: its objects, and the names of some of them.
+
+ghost use Rattle.std.specs.Prelude.{◌≡◌, ℕ, List, Ok, IfErr, IfOk, IfSome, IsNone, slice_get};
+ghost use Rattle.std.specs.declared.alloc.Global.{Global};
+ghost use Rattle.std.specs.declared.vec.Vec.{Vec};
+ghost use Rattle.std.specs.Option.{option_copied};
+ghost use Rattle.plist_keyed.specs.Contents.{IsArchive, IsArchiveOf, IsArrayAt, IsDictionaryAt, IsUidAt, names_of, objects_of, trees_of};
+ghost use Rattle.plist.specs.Views.{tree_of};
+ghost use Rattle.plist_keyed.specs.Archives.{resolved_tree};
+ghost use Rattle.plist_keyed.specs.Errors.{IsFaultOf};
+
+use crate::KeyedError;
+use crate::walk::value_at;
+use plist::{Dictionary, Uid, Value};
+use std::alloc::Global;
+
+/// A property list as an archive: the objects of its `$objects`, and the pairs of its `$top`, which
+/// name some of them by their Uids.
+///
+/// An object's Uid is its place among the objects, from 0 on.
+#[derive(Clone, Copy)]
+pub struct Archive<'a> {
+    objects: &'a Vec<Value>,
+    names: &'a Dictionary,
+}
+
+// The array at a key.
+fn array_at<'a>(pairs: &'a Dictionary, key: &str) -> Option<&'a Vec<Value>>
+    ensures found { IfSome result (λ array. IsArrayAt key.now pairs.now array.now) }
+    ensures missing { IsNone result →
+        (array : Vec Value Global) → ¬ (IsArrayAt key.now pairs.now array) }
+{
+    match pairs.get(key) {
+        Some(Value::Array(array)) => Some(array),
+        _ => None,
+    }
+}
+
+// The dictionary at a key.
+fn dictionary_at<'a>(pairs: &'a Dictionary, key: &str) -> Option<&'a Dictionary>
+    ensures found { IfSome result (λ others. IsDictionaryAt key.now pairs.now others.now) }
+    ensures missing { IsNone result →
+        (others : List (List ℕ × Value)) → ¬ (IsDictionaryAt key.now pairs.now others) }
+{
+    match pairs.get(key) {
+        Some(Value::Dictionary(others)) => Some(others),
+        _ => None,
+    }
+}
+
+impl<'a> Archive<'a> {
+    /// The archive of a property list. It takes no memory.
+    ///
+    /// # Errors
+    ///
+    /// `NotAnArchive` unless the property list is a dictionary whose `$objects` is an array and whose
+    /// `$top` is a dictionary.
+    pub fn open(root: &'a Value) -> Result<Archive<'a>, KeyedError>
+        ensures archive { IfOk result (λ archive.
+            IsArchiveOf root.now (objects_of archive) (names_of archive)) }
+        ensures refused { IfErr result (λ error.
+            (error ≡ KeyedError.NotAnArchive) × ¬ (IsArchive root.now)) }
+    {
+        let Value::Dictionary(pairs) = root else {
+            return Err(KeyedError::NotAnArchive);
+        };
+        let Some(objects) = array_at(pairs, "$objects") else {
+            return Err(KeyedError::NotAnArchive);
+        };
+        let Some(names) = dictionary_at(pairs, "$top") else {
+            return Err(KeyedError::NotAnArchive);
+        };
+        Ok(Archive { objects, names })
+    }
+
+    /// The Uid at a key of `$top`; `None` where the key is missing, or holds no Uid. It takes no
+    /// memory.
+    pub fn top(&self, key: &str) -> Option<Uid>
+        ensures found { IfSome result (IsUidAt key.now (names_of self.now)) }
+        ensures missing { IsNone result → (uid : ℕ) → ¬ (IsUidAt key.now (names_of self.now) uid) }
+    {
+        match self.names.get(key) {
+            Some(Value::Uid(uid)) => Some(*uid),
+            _ => None,
+        }
+    }
+
+    /// The object of a Uid, in which no Uid is followed; `None` where there is none. It takes no
+    /// memory.
+    pub fn get(&self, uid: Uid) -> Option<&'a Value>
+        ensures { option_copied result ≡ slice_get (objects_of self.now) uid }
+    {
+        self.objects.get(uid.get() as usize)
+    }
+
+    /// The object of a Uid, with each Uid in it replaced by the tree of the object that it names. An
+    /// object that is named more than once stands in the tree as often.
+    ///
+    /// So the tree may be exponentially larger than the archive: thirty objects, each an array that
+    /// names the next one twice, make a tree of 2^30 leaves. To walk over an archive without making
+    /// its tree, follow its Uids by [`Archive::get`].
+    ///
+    /// The walk has a list of its own for the objects that are open, so any depth is walked over;
+    /// what is deeper than the call stack is long can't be dropped, as any [`Value`] of that depth.
+    ///
+    /// # Errors
+    ///
+    /// The first fault, depth first, an object's Uid before what the object holds:
+    ///
+    /// - `UidOutOfRange` for a Uid that names no object.
+    /// - `RecursiveUid` for a Uid that is met while its own object is open.
+    /// - `OutOfMemory`, wherever a growth was refused.
+    pub fn tree(&self, alloc: Global, uid: Uid) -> Result<Value, KeyedError>
+        ensures value { IfOk result (λ value.
+            resolved_tree (trees_of self.now) uid ≡ Ok (tree_of value)) }
+        ensures fault { IfErr result (IsFaultOf (resolved_tree (trees_of self.now) uid)) }
+    {
+        match value_at(alloc, self.objects.as_slice(), uid) {
+            Ok(value) => Ok(value),
+            Err(error) => Err(KeyedError::told_by(&error)),
+        }
+    }
+}

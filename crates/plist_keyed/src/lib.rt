@@ -1,0 +1,13 @@
+//! Keyed archives: property lists whose values lie in one list of objects and name each other by
+//! [`Uid`](plist::Uid).
+//!
+//! The main contract is that of [`Archive::tree`]: it gives the tree of a Uid, with each Uid in it
+//! replaced by its own tree, or the first fault, depth first.
+#![tactic(auto)]
+
+mod archive;
+mod error;
+mod walk;
+
+pub use archive::Archive;
+pub use error::KeyedError;

@@ -1,0 +1,112 @@
+//! Prints the events of a value.
+
+ghost use Rattle.std.specs.Prelude.{Ok, IfErr, OnOk, map};
+ghost use Rattle.std.specs.Io.KnownBytes.{Appends};
+ghost use Rattle.plist_base.specs.Bracketing.{bracketing};
+ghost use Rattle.plist_base.specs.Events.{event_of};
+ghost use Rattle.plist.specs.Remaining.{remaining_events};
+ghost use Rattle.plist.specs.Views.{tree_of};
+ghost use Rattle.plist_tool.specs.Fronts.{AppendsFront};
+ghost use Rattle.plist_tool.specs.Lines.{line_of, lines_of};
+ghost use Rattle.plist_tool.specs.Printing.{IsOwnFault};
+
+use crate::lines::push_line;
+use crate::send::{flush, send};
+use plist::Value;
+use plist::stream::{Event, Events};
+use plist_base::Error;
+use std::alloc::Global;
+use std::io::Write;
+
+// Sends the line of an event. The buffer is made anew for it, and keeps its room.
+fn send_event<W: Write>(writer: &mut W, line: &mut Vec<u8>, event: Event<'_>) -> Result<(), Error>
+    ensures sent { OnOk result (Appends
+        (W.contents writer.old) (W.contents writer.new) (line_of (event_of event.entry))) }
+    ensures failed { IfErr result IsOwnFault }
+    ensures front { AppendsFront
+        (W.contents writer.old) (W.contents writer.new) (line_of (event_of event.entry)) }
+{
+    line.clear();
+    push_line(line, &event)?;
+    send(writer, line.as_slice())
+}
+
+// Sends the lines of the events that are left. One buffer serves all lines.
+fn send_events<W: Write>(
+    alloc: Global,
+    events: &mut Events<'_>,
+    writer: &mut W,
+) -> Result<(), Error>
+    ensures printed { OnOk result (Appends (W.contents writer.old) (W.contents writer.new)
+        (lines_of (map Ok (remaining_events events.old)))) }
+    ensures failed { IfErr result IsOwnFault }
+    ensures sent { AppendsFront (W.contents writer.old) (W.contents writer.new)
+        (lines_of (map Ok (remaining_events events.old))) }
+{
+    let mut line = Vec::new(alloc);
+    while let Some(item) = events.next() {
+        let event = item?;
+        send_event(writer, &mut line, event)?;
+    }
+    Ok(())
+}
+
+/// Prints the events of a value, each on a line of its own, and flushes the writer at the end.
+///
+/// # Errors
+/// `Io` where the writer fails, and `OutOfMemory`, both without an offset; a beginning of the lines
+/// went out. A failed flush is an error only where nothing failed before it.
+pub fn print_value<W: Write>(alloc: Global, value: &Value, writer: &mut W) -> Result<(), Error>
+    ensures printed { OnOk result (Appends (W.contents writer.old) (W.contents writer.new)
+        (lines_of (map Ok (bracketing (tree_of value.now))))) }
+    ensures failed { IfErr result IsOwnFault }
+    ensures sent { AppendsFront (W.contents writer.old) (W.contents writer.new)
+        (lines_of (map Ok (bracketing (tree_of value.now)))) }
+{
+    let mut events = value.events(alloc);
+    let sent = send_events(alloc, &mut events, writer);
+    let flushed = flush(writer);
+    sent?;
+    flushed
+}
+
+#[cfg(test)]
+mod tests {
+    use super::*;
+    use crate::trickle::Trickle;
+    use std::io;
+
+    // What the device said.
+    fn device_kind(answer: Result<(), Error>) -> Option<io::ErrorKind> {
+        let failure = answer.err()?.into_io().ok()?;
+        Some(failure.kind())
+    }
+
+    // The flush comes last: the line had been taken then.
+    #[test]
+    fn prints_a_value(rt: HostRuntime) {
+        let mut writer = Trickle::new(rt.alloc(), 100);
+        assert!(rt; print_value(rt.alloc(), &Value::Boolean(true), &mut writer).is_ok());
+        assert_eq!(rt; writer.taken.as_slice(), b"Boolean true\n".as_slice());
+        assert_eq!(rt; writer.flushes, 1);
+        assert_eq!(rt; writer.flushed, 13);
+    }
+
+    #[test]
+    fn stops_where_the_writer_fails(rt: HostRuntime) {
+        let mut writer = Trickle::new(rt.alloc(), 7);
+        writer.stuck = Some(io::ErrorKind::TimedOut);
+        let answer = print_value(rt.alloc(), &Value::Boolean(true), &mut writer);
+        assert_eq!(rt; device_kind(answer), Some(io::ErrorKind::PermissionDenied));
+        assert_eq!(rt; writer.taken.as_slice(), b"Boolean".as_slice());
+        assert_eq!(rt; writer.flushes, 1);
+    }
+
+    #[test]
+    fn a_failed_flush_is_an_error(rt: HostRuntime) {
+        let mut writer = Trickle::new(rt.alloc(), 100);
+        writer.stuck = Some(io::ErrorKind::TimedOut);
+        let answer = print_value(rt.alloc(), &Value::Boolean(true), &mut writer);
+        assert_eq!(rt; device_kind(answer), Some(io::ErrorKind::TimedOut));
+    }
+}
