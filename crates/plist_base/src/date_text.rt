@@ -1,6 +1,6 @@
 //! The texts of dates.
 
-ghost use Rattle.std.specs.Prelude.{◌≡◌, ◌↔◌, codes, List, ℕ, true, Some, None, Ok, IsErr, IfOk, IfErr, MatchResult, string_bytes};
+ghost use Rattle.std.specs.Prelude.{◌≡◌, ◌↔◌, codes, true, Some, None, Ok, IsErr, IfOk, MatchResult, string_bytes};
 ghost use Rattle.plist_base.specs.Date.{has_fraction, real_bits, second_of_bytes};
 ghost use Rattle.plist_base.specs.DateTexts.{HasTextYear, IsDateText, IsRefused, IsWhole, second_of_text};
 ghost use Rattle.plist_base.specs.Faults.{FractionalDate, InvalidDateString, OutOfMemory, YearOutOfRange, fault_nowhere, fault_of};

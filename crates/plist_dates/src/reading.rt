@@ -1,6 +1,6 @@
 //! The second that a date's text spells.
 
-ghost use Rattle.std.specs.Prelude.{◌≡◌, ◌+◌, ◌+ℤ◌, ◌-ℤ◌, ◌*ℤ◌, ◌<◌, ◌≤◌, length, ℤ, pos, neg_ℤ, IsTrue, IfSome};
+ghost use Rattle.std.specs.Prelude.{◌≡◌, ◌+◌, ◌+ℤ◌, ◌-ℤ◌, ◌*ℤ◌, ◌<◌, ◌≤◌, length, ℤ, pos, IsTrue, IfSome};
 ghost use Rattle.jiff_core.specs.Calendar.{IsEpochDay, IsWithin};
 ghost use Rattle.plist_dates.specs.DateText as spec;
 
@@ -39,6 +39,7 @@ fn day_number(year: u16, month: u8, day: u8) -> Option<i32>
     ensures is { result ≡ spec.day_number year month day }
     ensures bound { IfSome result (λ n. IsEpochDay n) }
 {
+    // So that both fit the calendar's signed parameters.
     if month > 12 || day > 31 {
         return None;
     }
