@@ -4,7 +4,7 @@
 //! Each function puts its bytes through a room to a writer, as [`put`](crate::outlet::put) does. The
 //! one refusal is `Io` without an offset; a beginning of all that was put went out then.
 
-ghost use Rattle.std.specs.Prelude.{◌≡◌, ◌++◌, ◌∷◌, [], ◌≤◌, ◌<◌, ◌^◌};
+ghost use Rattle.std.specs.Prelude.{◌≡◌, ◌∷◌, [], ◌≤◌, ◌<◌, ◌^◌};
 ghost use Rattle.plist_base.specs.Writing.{answer_of};
 ghost use Rattle.plist_binwrite.specs.Forms.{big_endian, doublings, least_width, natural_form, integer_form, uid_form, length_form, boolean_form, data_form, date_form, real_form, table_form, trailer_form};
 ghost use Rattle.plist_binwrite.specs.Outlets.{Puts};

@@ -1,6 +1,6 @@
 //! The numbers of objects: one for each collection, and one for each different scalar.
 
-ghost use Rattle.std.specs.Prelude.{◌≡◌, ◌<◌, ◌≤◌, ℕ, length, get_or, true, false, None, IfSome, IfOk, IfErr, OnOk};
+ghost use Rattle.std.specs.Prelude.{◌≡◌, ◌<◌, ℕ, length, get_or, false, IfOk, IfErr, OnOk};
 ghost use Rattle.plist_base.specs.Faults.{OutOfMemory, fault_of, fault_nowhere};
 ghost use Rattle.plist_binwrite.specs.Marks.{Tree, br};
 ghost use Rattle.plist_binwrite.specs.Held.{evs, is_stop, event_at, IsSkips, AllBelow, num_of, IsNumbered, Keeps, AllNumbered};

@@ -1,6 +1,6 @@
 //! Sends bytes part by part, through a room of fixed size.
 
-ghost use Rattle.std.specs.Prelude.{◌≡◌, ◌≤◌, ◌++◌, [], ℕ, List, Option, true, false, OnOk, IfErr};
+ghost use Rattle.std.specs.Prelude.{◌≡◌, ◌++◌, ℕ, List, Option, true, false, OnOk, IfErr};
 ghost use Rattle.std.specs.Io.KnownBytes.{Appends};
 ghost use Rattle.plist_base.specs.Faults.{Io, fault_of, fault_nowhere};
 ghost use Rattle.plist_base.specs.Writing.{answer_of};

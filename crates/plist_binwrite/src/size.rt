@@ -8,7 +8,7 @@ ghost use Rattle.plist_base.specs.Trees.{number_of_trees};
 ghost use Rattle.plist_binread.specs.Object.{Object};
 ghost use Rattle.plist_binwrite.specs.Counts.{object_count};
 ghost use Rattle.plist_binwrite.specs.Forms.{IsWritable};
-ghost use Rattle.plist_binwrite.specs.Marks.{Tree, Trees, br, Sits, SitsItems};
+ghost use Rattle.plist_binwrite.specs.Marks.{Tree, Trees, Sits, SitsItems};
 ghost use Rattle.plist_binwrite.specs.Held.{evs, num_of, IsSkips, Describes};
 ghost use Rattle.plist_binwrite.specs.Laying.{IsOrder, laid_out};
 ghost use Rattle.plist_binwrite.specs.Numberings.{obj_of};
