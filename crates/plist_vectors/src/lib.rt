@@ -9,6 +9,8 @@ mod building;
 #[cfg(test)]
 mod dates;
 #[cfg(test)]
+mod entries;
+#[cfg(test)]
 mod events;
 #[cfg(test)]
 mod faults;
