@@ -11,6 +11,8 @@ mod dates;
 #[cfg(test)]
 mod dialects;
 #[cfg(test)]
+mod entries;
+#[cfg(test)]
 mod events;
 #[cfg(test)]
 mod faults;

@@ -1,0 +1,366 @@
+//! Values and dictionaries: what they hold, equality, copies, entries, and calls that go over all
+//! pairs.
+
+use crate::support::{event_of, expect_value, must};
+use plist::dictionary::Entry;
+use plist::{Builder, Dictionary, Value};
+use plist_base::{Date, Integer, RealBits, Uid, Writer};
+use std::process::Abort;
+
+fn text(rt: &(impl Abort + AllocGlobal), text: &str) -> String {
+    must(rt, String::from_str(rt.alloc(), text))
+}
+
+// The value of these events.
+fn value_of(rt: &(impl Abort + AllocGlobal), words: &str) -> Value {
+    let mut builder = Builder::new(rt.alloc());
+    for word in words.split(' ') {
+        must(rt, builder.write(event_of(rt, word)));
+    }
+    must(rt, builder.finish())
+}
+
+// The dictionary of these events.
+fn dictionary_of(rt: &(impl Abort + AllocGlobal), words: &str) -> Dictionary {
+    match value_of(rt, words).into_dictionary() {
+        Some(pairs) => pairs,
+        None => panic!(rt; "{words} is no dictionary"),
+    }
+}
+
+fn expect_dictionary(rt: &(impl Abort + AllocGlobal), pairs: Dictionary, wanted: &str) {
+    expect_value(rt, Ok(Value::from(pairs)), wanted);
+}
+
+// Pairs of a key and a number, as `b=2 a=3`.
+fn pairs_of(rt: &(impl Abort + AllocGlobal), words: &str) -> Vec<(String, Value)> {
+    let mut pairs = Vec::new(rt.alloc());
+    for word in words.split(' ') {
+        match word.split_once('=') {
+            None => panic!(rt; "{word} is no pair"),
+            Some((key, number)) => {
+                let number = must(rt, number.parse::<Integer>());
+                must(rt, pairs.push((text(rt, key), Value::Integer(number))));
+            }
+        }
+    }
+    pairs
+}
+
+// The value of a key, which is there.
+fn at<'a>(rt: &impl Abort, pairs: &'a Dictionary, key: &str) -> &'a Value {
+    if !pairs.contains_key(key) {
+        panic!(rt; "{key} isn't there");
+    }
+    &pairs[key]
+}
+
+// Sets the value of a key, which is there.
+fn set_at(rt: &impl Abort, pairs: &mut Dictionary, key: &str, value: Value) {
+    if !pairs.contains_key(key) {
+        panic!(rt; "{key} isn't there");
+    }
+    pairs[key] = value;
+}
+
+fn number(value: u8) -> Value {
+    Value::from(value)
+}
+
+#[test]
+fn keys_are_sorted_by_their_bytes(rt: HostRuntime) {
+    let mut pairs = dictionary_of(&rt, "{ 'b' 1 'a' 2 'é' 3 'Z' 4 end");
+    must(&rt, pairs.sort_keys());
+    expect_dictionary(&rt, pairs, "{4 'Z' 4 'a' 2 'b' 1 'é' 3 end");
+}
+
+#[test]
+fn pairs_are_inserted_in_order(rt: HostRuntime) {
+    let mut pairs = dictionary_of(&rt, "{ 'a' 1 end");
+    must(&rt, pairs.extend(pairs_of(&rt, "b=2 a=3")));
+    assert!(rt; pairs == dictionary_of(&rt, "{ 'b' 2 'a' 3 end"));
+    expect_dictionary(&rt, pairs, "{2 'a' 3 'b' 2 end");
+}
+
+#[test]
+fn from_pairs_gives_each_text(rt: HostRuntime) {
+    let mut pairs = Vec::new(rt.alloc());
+    must(
+        &rt,
+        pairs.push((text(&rt, "Doge"), Value::from(text(&rt, "Shiba Inu")))),
+    );
+    must(
+        &rt,
+        pairs.push((text(&rt, "Cheems"), Value::from(text(&rt, "Shiba Inu")))),
+    );
+    must(
+        &rt,
+        pairs.push((text(&rt, "Walter"), Value::from(text(&rt, "Bull Terrier")))),
+    );
+    let dogs = must(&rt, Dictionary::from_pairs(rt.alloc(), pairs));
+    assert_eq!(rt; at(&rt, &dogs, "Doge").as_string(), Some("Shiba Inu"));
+    assert_eq!(rt; at(&rt, &dogs, "Cheems").as_string(), Some("Shiba Inu"));
+    assert_eq!(rt; at(&rt, &dogs, "Walter").as_string(), Some("Bull Terrier"));
+    assert_eq!(rt; dogs.len(), 3);
+}
+
+#[test]
+fn from_pairs_is_insert(rt: HostRuntime) {
+    let mut pairs = Vec::new(rt.alloc());
+    must(
+        &rt,
+        pairs.push((text(&rt, "foo"), Value::from(text(&rt, "bar")))),
+    );
+    let made = must(&rt, Dictionary::from_pairs(rt.alloc(), pairs));
+    let mut inserted = Dictionary::new(rt.alloc());
+    assert!(rt;
+        inserted
+            .insert(text(&rt, "foo"), Value::from(text(&rt, "bar")))
+            .is_ok()
+    );
+    assert!(rt; made == inserted);
+}
+
+#[test]
+fn retain_keeps_what_passes(rt: HostRuntime) {
+    let mut pairs = dictionary_of(&rt, "{ 'a' 1 'b' 2 'c' 3 'd' 2 'e' 5 end");
+    pairs.retain(|_, value: &Value| value.as_signed_integer() != Some(2));
+    expect_dictionary(&rt, pairs, "{3 'a' 1 'c' 3 'e' 5 end");
+    let mut pairs = dictionary_of(&rt, "{ 'a' 1 'b' 2 end");
+    pairs.retain(|key: &String, _| key.as_str() == "b");
+    expect_dictionary(&rt, pairs, "{1 'b' 2 end");
+}
+
+#[test]
+fn an_entry_is_removed(rt: HostRuntime) {
+    let mut pairs = dictionary_of(&rt, "{ 'a' 1 'b' 2 'c' 3 end");
+    match pairs.entry(text(&rt, "a")) {
+        Entry::Vacant(_entry) => panic!(rt; "the key is there"),
+        Entry::Occupied(entry) => {
+            assert_eq!(rt; entry.key().as_str(), "a");
+            assert!(rt; entry.remove() == number(1));
+        }
+    }
+    expect_dictionary(&rt, pairs, "{2 'c' 3 'b' 2 end");
+}
+
+#[test]
+fn an_entry_is_changed(rt: HostRuntime) {
+    let mut pairs = dictionary_of(&rt, "{ 'a' 1 'b' 2 'c' 3 end");
+    match pairs.entry(text(&rt, "b")) {
+        Entry::Vacant(_entry) => panic!(rt; "the key is there"),
+        Entry::Occupied(mut entry) => {
+            assert!(rt; *entry.get() == number(2));
+            assert!(rt; entry.insert(number(7)) == number(2));
+            *entry.get_mut() = number(8);
+            *entry.into_mut() = number(9);
+        }
+    }
+    expect_dictionary(&rt, pairs, "{3 'a' 1 'b' 9 'c' 3 end");
+}
+
+#[test]
+fn a_vacant_entry_is_filled(rt: HostRuntime) {
+    let mut pairs = dictionary_of(&rt, "{ 'a' 1 end");
+    match pairs.entry(text(&rt, "d")) {
+        Entry::Occupied(_entry) => panic!(rt; "the key isn't there"),
+        Entry::Vacant(entry) => {
+            assert_eq!(rt; entry.key().as_str(), "d");
+            match entry.insert(number(2)) {
+                Err(_back) => panic!(rt; "there is memory"),
+                Ok(value) => assert!(rt; *value == number(2)),
+            }
+        }
+    }
+    expect_dictionary(&rt, pairs, "{2 'a' 1 'd' 2 end");
+}
+
+// What the key has behind `or_insert` of 2.
+fn expect_or_insert(rt: &(impl Abort + AllocGlobal), pairs: &mut Dictionary, key: &str, has: u8) {
+    match pairs.entry(text(rt, key)).or_insert(number(2)) {
+        Err(_back) => panic!(rt; "there is memory"),
+        Ok(value) => assert!(rt; *value == number(has)),
+    }
+}
+
+#[test]
+fn or_insert_adds(rt: HostRuntime) {
+    let mut pairs = dictionary_of(&rt, "{ 'a' 1 end");
+    assert_eq!(rt; pairs.entry(text(&rt, "d")).key().as_str(), "d");
+    expect_or_insert(&rt, &mut pairs, "d", 2);
+    expect_or_insert(&rt, &mut pairs, "a", 1);
+    expect_dictionary(&rt, pairs, "{2 'a' 1 'd' 2 end");
+}
+
+// What the key has behind `or_insert_with` of 2.
+fn expect_or_insert_with(
+    rt: &(impl Abort + AllocGlobal),
+    pairs: &mut Dictionary,
+    key: &str,
+    has: u8,
+) {
+    match pairs.entry(text(rt, key)).or_insert_with(|| number(2)) {
+        Err(_back) => panic!(rt; "there is memory"),
+        Ok(value) => assert!(rt; *value == number(has)),
+    }
+}
+
+#[test]
+fn or_insert_with_adds(rt: HostRuntime) {
+    let mut pairs = dictionary_of(&rt, "{ 'a' 1 end");
+    expect_or_insert_with(&rt, &mut pairs, "d", 2);
+    expect_or_insert_with(&rt, &mut pairs, "a", 1);
+    expect_dictionary(&rt, pairs, "{2 'a' 1 'd' 2 end");
+}
+
+#[test]
+fn a_key_is_an_index(rt: HostRuntime) {
+    let mut pairs = dictionary_of(&rt, "{ 'a' 1 'b' 2 end");
+    assert!(rt; *at(&rt, &pairs, "b") == number(2));
+    set_at(&rt, &mut pairs, "a", number(3));
+    expect_dictionary(&rt, pairs, "{2 'a' 3 'b' 2 end");
+}
+
+#[test]
+fn copies_are_the_same(rt: HostRuntime) {
+    let words = "{2 'b' 2 'a' [1 'x' end end";
+    let value = value_of(&rt, words);
+    expect_value(&rt, value.clone(rt.alloc()), words);
+    assert!(rt; must(&rt, value.clone(rt.alloc())) == value);
+    let pairs = dictionary_of(&rt, words);
+    expect_dictionary(&rt, must(&rt, pairs.clone()), words);
+    expect_value(&rt, value_of(&rt, "<00ff>").clone(rt.alloc()), "<00ff>");
+    expect_value(&rt, Value::try_from_str(rt.alloc(), "a"), "'a'");
+}
+
+// Whether the values of the two sides of each line are equal, as the line says.
+fn expect_equalities(rt: &(impl Abort + AllocGlobal), lines: &str) {
+    for line in lines.split('\n') {
+        let (left, right, wanted) = match line.split_once(" == ") {
+            Some((left, right)) => (left, right, true),
+            None => match line.split_once(" != ") {
+                Some((left, right)) => (left, right, false),
+                None => panic!(rt; "{line} says nothing"),
+            },
+        };
+        let equal = value_of(rt, left) == value_of(rt, right);
+        assert_eq!(rt; equal, wanted, "{line}");
+    }
+}
+
+#[test]
+fn equal_values(rt: HostRuntime) {
+    expect_equalities(
+        &rt,
+        "real:00000000 != real:0000000000000000\nreal:3fc00000 == real:3fc00000\n\
+         real:00000000 != real:80000000\n\
+         { 'a' 1 'b' 2 end == { 'b' 2 'a' 1 end\n{ 'a' 1 'b' 2 end != { 'a' 1 end\n\
+         { 'a' 1 end != { 'a' 1 'b' 2 end\n{ 'a' 1 'b' 2 end != { 'a' 1 'c' 2 end\n\
+         { 'a' 1 'b' 2 end != { 'a' 2 'b' 1 end\n\
+         [ { 'a' 1 'b' [ end end end == [ { 'b' [ end 'a' 1 end end\n\
+         [ 1 2 end != [ 2 1 end\n[ 1 end != [ 1 1 end\n[ end != { end\n\
+         'a' == 'a'\n'a' != 'b'\n'1' != 1\n1 != uid:1\n1 == 1\n-1 != 18446744073709551615\n\
+         true != false\ntrue != 1\n<61> != 'a'\n<00ff> == <00ff>\n<00ff> != <00>\n\
+         date:0 == date:0\ndate:0 != date:0/3fe0000000000000\nuid:4 != uid:5\nuid:4 == uid:4",
+    );
+}
+
+// A value has nothing of another kind than this one, whose call answered.
+fn expect_nothing_else(rt: &impl Abort, value: &Value, kind: &str) {
+    assert_eq!(rt; value.as_array().is_some(), kind == "array");
+    assert_eq!(rt; value.as_dictionary().is_some(), kind == "dictionary");
+    assert_eq!(rt; value.as_boolean().is_some(), kind == "boolean");
+    assert_eq!(rt; value.as_data().is_some(), kind == "data");
+    assert_eq!(rt; value.as_date().is_some(), kind == "date");
+    assert_eq!(rt; value.as_real().is_some(), kind == "real");
+    assert_eq!(rt; value.as_signed_integer().is_some(), kind == "integer");
+    assert_eq!(rt; value.as_unsigned_integer().is_some(), kind == "integer");
+    assert_eq!(rt; value.as_string().is_some(), kind == "string");
+    assert_eq!(rt; value.as_uid().is_some(), kind == "uid");
+}
+
+#[test]
+fn each_kind_alone_answers(rt: HostRuntime) {
+    expect_nothing_else(&rt, &value_of(&rt, "[ 1 end"), "array");
+    expect_nothing_else(&rt, &value_of(&rt, "{ 'a' 1 end"), "dictionary");
+    expect_nothing_else(&rt, &value_of(&rt, "true"), "boolean");
+    expect_nothing_else(&rt, &value_of(&rt, "<00ff>"), "data");
+    expect_nothing_else(&rt, &value_of(&rt, "date:0"), "date");
+    expect_nothing_else(&rt, &value_of(&rt, "real:3fc00000"), "real");
+    expect_nothing_else(&rt, &value_of(&rt, "5"), "integer");
+    expect_nothing_else(&rt, &value_of(&rt, "'a'"), "string");
+    expect_nothing_else(&rt, &value_of(&rt, "uid:4"), "uid");
+}
+
+#[test]
+fn scalars_in_values(rt: HostRuntime) {
+    assert_eq!(rt; Value::from(true).as_boolean(), Some(true));
+    assert_eq!(rt; Value::from(&false).as_boolean(), Some(false));
+    let date = must(&rt, Date::from_plist_real([0; 8]));
+    assert!(rt; Value::from(date).as_date() == Some(date));
+    assert!(rt; Value::from(&date).as_date() == Some(date));
+    let bits = RealBits::Four([0x3f, 0xc0, 0, 0]);
+    assert!(rt; Value::Real(bits).as_real() == Some(bits));
+    assert!(rt; Value::Uid(Uid::new(4)).as_uid().copied() == Some(Uid::new(4)));
+    assert!(rt; Value::Uid(Uid::new(4)).into_uid() == Some(Uid::new(4)));
+    assert!(rt; Value::from(true).into_uid().is_none());
+    let data = value_of(&rt, "<00ff>");
+    assert_eq!(rt; data.as_data(), Some([0, 255].as_slice()));
+    assert!(rt; data.into_data().is_some());
+    assert!(rt; Value::from(true).into_data().is_none());
+    let value = Value::from(text(&rt, "a"));
+    assert_eq!(rt; value.as_string(), Some("a"));
+    assert!(rt; value.into_string().is_some());
+    assert!(rt; Value::from(true).into_string().is_none());
+}
+
+fn expect_numbers(rt: &impl Abort, value: Value, signed: Option<i64>, unsigned: Option<u64>) {
+    assert_eq!(rt; value.as_signed_integer(), signed);
+    assert_eq!(rt; value.as_unsigned_integer(), unsigned);
+}
+
+#[test]
+fn numbers_in_values(rt: HostRuntime) {
+    expect_numbers(&rt, Value::from(-1i64), Some(-1), None);
+    expect_numbers(&rt, Value::from(-2i32), Some(-2), None);
+    expect_numbers(&rt, Value::from(-3i16), Some(-3), None);
+    expect_numbers(&rt, Value::from(-4i8), Some(-4), None);
+    expect_numbers(&rt, Value::from(1u64 << 63), None, Some(1 << 63));
+    expect_numbers(&rt, Value::from(5u32), Some(5), Some(5));
+    expect_numbers(&rt, Value::from(6u16), Some(6), Some(6));
+    expect_numbers(&rt, Value::from(7u8), Some(7), Some(7));
+    expect_numbers(&rt, Value::from(&-1i64), Some(-1), None);
+    expect_numbers(&rt, Value::from(&-2i32), Some(-2), None);
+    expect_numbers(&rt, Value::from(&-3i16), Some(-3), None);
+    expect_numbers(&rt, Value::from(&-4i8), Some(-4), None);
+    expect_numbers(&rt, Value::from(&8u64), Some(8), Some(8));
+    expect_numbers(&rt, Value::from(&9u32), Some(9), Some(9));
+    expect_numbers(&rt, Value::from(&10u16), Some(10), Some(10));
+    expect_numbers(&rt, Value::from(&11u8), Some(11), Some(11));
+}
+
+#[test]
+fn collections_in_values(rt: HostRuntime) {
+    let mut value = value_of(&rt, "[ 1 end");
+    match value.as_array_mut() {
+        None => panic!(rt; "an array"),
+        Some(items) => must(&rt, items.push(number(2))),
+    }
+    assert!(rt; value.as_dictionary_mut().is_none());
+    let mut pairs = value_of(&rt, "{ 'a' 1 end");
+    match pairs.as_dictionary_mut() {
+        None => panic!(rt; "a dictionary"),
+        Some(pairs) => assert!(rt; pairs.insert(text(&rt, "b"), number(2)).is_ok()),
+    }
+    assert!(rt; pairs.as_array_mut().is_none());
+    assert!(rt; Value::from(true).into_array().is_none());
+    assert!(rt; Value::from(true).into_dictionary().is_none());
+    match value.into_array() {
+        None => panic!(rt; "an array"),
+        Some(items) => expect_value(&rt, Ok(Value::from(items)), "[2 1 2 end"),
+    }
+    match pairs.into_dictionary() {
+        None => panic!(rt; "a dictionary"),
+        Some(pairs) => expect_dictionary(&rt, pairs, "{2 'a' 1 'b' 2 end"),
+    }
+}
