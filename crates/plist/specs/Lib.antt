@@ -19,3 +19,4 @@ pub mod Handing
 pub mod Sent
 pub mod Stored
 pub mod ReadBy
+pub mod Limiting

@@ -1,6 +1,6 @@
 //! Values of property lists.
 
-ghost use Rattle.std.specs.Prelude.{◌≡◌, IfSome};
+ghost use Rattle.std.specs.Prelude.{◌≡◌, IfOk, IfSome};
 ghost use Rattle.std.specs.Iterator.{IsFinite};
 ghost use Rattle.plist_base.specs.Bracketing.{AreAlike, bracketing};
 ghost use Rattle.plist_base.specs.Writing.{answer_of};
@@ -10,6 +10,7 @@ ghost use Rattle.plist.specs.Inputs.{AnswersAsSeen, IsReadFrom};
 ghost use Rattle.plist.specs.ReadBy.{IsReadBy};
 ghost use Rattle.plist.specs.ReadingBack.{ReadsBack};
 ghost use Rattle.plist_base.specs.Events.{event_of};
+ghost use Rattle.plist_base.specs.Limits.{limited_items};
 ghost use Rattle.plist_ascii.specs.Ascii.{items_of_ascii};
 ghost use Rattle.plist_ascii.specs.Coming.{Gives as ascii_gives, dialect_of, inner_of};
 ghost use Rattle.plist_ascii.specs.Texts.{ends_bare, lax};
@@ -17,6 +18,7 @@ ghost use Rattle.plist_reader.specs.Coming.{items_of_input};
 ghost use Rattle.plist_reader.specs.Formats.{front};
 ghost use Rattle.plist_base.specs.Trees.{Tree};
 ghost use Rattle.plist.specs.LastWins.{AreLastValues, Rows, last_values, last_wins};
+ghost use Rattle.plist.specs.Limiting.{IsReadUnder, IsWithin};
 ghost use Rattle.plist.specs.Remaining.{remaining_events};
 ghost use Rattle.plist.specs.Views.{kind_of_tree, tree_of};
 
@@ -25,7 +27,7 @@ use crate::collect::collect;
 use crate::stream::{AnyEvent, Events};
 use crate::writing::file_of;
 use plist_ascii::{AsciiReader, Bytes, Dialect};
-use plist_base::{Date, Error, EventKind, Integer, RealBits, Source, Uid};
+use plist_base::{Date, Error, EventKind, Integer, Limited, Limits, RealBits, Source, Uid};
 use plist_binwrite::send_whole;
 use plist_reader::Reader;
 use std::alloc::Global;
@@ -111,6 +113,27 @@ impl Value {
             (λ bytes. ReadsBack bytes (built_tree result)) }
     {
         collect(alloc, Reader::new(alloc, source))
+    }
+
+    /// The same, of no more than these limits let come. The value nests at most `limits.depth`
+    /// collections, and came of at most `limits.items` events.
+    ///
+    /// # Errors
+    ///
+    /// - `LimitReached` in the place of the first event that is one too many, or else of a start that
+    ///   would open one collection too many, unless an earlier item was refused.
+    /// - Those of [`Value::from_reader`].
+    pub fn from_reader_with_limits<R: Source>(
+        alloc: Global,
+        source: R,
+        limits: Limits,
+    ) -> Result<Value, Error>
+        ensures value { IfSome (R.known source) (λ bytes.
+            IsReadFrom (limited_items limits (items_of_input bytes)) (built_tree result)) }
+        ensures within { IfOk (built_tree result) (IsWithin limits) }
+        ensures read { IsReadUnder limits R.known R.failures source (built_tree result) }
+    {
+        collect(alloc, Limited::new(Reader::new(alloc, source), limits))
     }
 
     /// The value of an ASCII property list, by the rules of [`Value::from_reader`]. Bytes past the
