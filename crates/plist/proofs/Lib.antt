@@ -10,6 +10,7 @@ pub mod Collected
 pub mod MatchFaults
 pub mod Inputs
 pub mod Shown
+pub mod Limiting
 pub mod ReadingBack
 pub mod Handed
 pub mod Storing

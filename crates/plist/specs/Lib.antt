@@ -27,3 +27,4 @@ pub mod EntryPlaces
 pub mod Bulk
 pub mod Contents
 pub mod Rows
+pub mod Limiting

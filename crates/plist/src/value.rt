@@ -10,6 +10,7 @@ ghost use Rattle.plist.specs.Inputs.{AnswersAsSeen, IsReadFrom};
 ghost use Rattle.plist.specs.ReadBy.{IsReadBy};
 ghost use Rattle.plist.specs.ReadingBack.{ReadsBack};
 ghost use Rattle.plist_base.specs.Events.{event_of};
+ghost use Rattle.plist_base.specs.Limits.{limited_items};
 ghost use Rattle.plist_ascii.specs.Ascii.{items_of_ascii};
 ghost use Rattle.plist_ascii.specs.Coming.{Gives as ascii_gives, dialect_of, inner_of};
 ghost use Rattle.plist_ascii.specs.Texts.{ends_bare, lax};
@@ -18,6 +19,7 @@ ghost use Rattle.plist_reader.specs.Formats.{front};
 ghost use Rattle.plist_base.specs.Faults.{OutOfMemory, fault_nowhere, fault_of};
 ghost use Rattle.plist_base.specs.Trees.{Leaf, String, Tree};
 ghost use Rattle.plist.specs.LastWins.{AreLastValues, Rows, last_values, last_wins};
+ghost use Rattle.plist.specs.Limiting.{IsReadUnder, IsWithin};
 ghost use Rattle.plist.specs.Remaining.{remaining_events};
 ghost use Rattle.plist.specs.Views.{kind_of_tree, tree_of};
 
@@ -30,7 +32,7 @@ use crate::copy::copy;
 use crate::stream::{AnyEvent, Events};
 use crate::writing::collect_events;
 use plist_ascii::{AsciiReader, Bytes, Dialect};
-use plist_base::{Date, Error, EventKind, Integer, RealBits, Source, Uid};
+use plist_base::{Date, Error, EventKind, Integer, Limited, Limits, RealBits, Source, Uid};
 use plist_binwrite::complete;
 use plist_reader::Reader;
 use std::alloc::Global;
@@ -118,6 +120,27 @@ impl Value {
     {
         let reader = Reader::new(alloc, source);
         collect(alloc, reader)
+    }
+
+    /// The same, of no more than these limits let come. The value nests at most `limits.depth`
+    /// collections, and came of at most `limits.items` events.
+    ///
+    /// # Errors
+    ///
+    /// - `LimitReached` in the place of the first event that is one too many, or else of a start that
+    ///   would open one collection too many, unless an earlier item was refused.
+    /// - Those of [`Value::from_reader`].
+    pub fn from_reader_with_limits<R: Source>(
+        alloc: Global,
+        source: R,
+        limits: Limits,
+    ) -> Result<Value, Error>
+        ensures value { IfSome (R.known source) (λ bytes.
+            IsReadFrom (limited_items limits (items_of_input bytes)) (built_tree result)) }
+        ensures within { IfOk (built_tree result) (IsWithin limits) }
+        ensures read { IsReadUnder limits R.known R.failures source (built_tree result) }
+    {
+        collect(alloc, Limited::new(Reader::new(alloc, source), limits))
     }
 
     /// The value of an ASCII property list, by the rules of [`Value::from_reader`]. Bytes past the

@@ -7,7 +7,6 @@ use Rattle.plist_ascii.specs.declared.token.Lead.{Lead}
 use Rattle.plist_ascii.specs.declared.token.Lead.TheVariants as lead
 use Rattle.plist_ascii.specs.Taken.{past_one}
 use Rattle.plist_ascii.specs.Texts.{bare, lax}
-use Rattle.plist_ascii.specs.Comments.{slash}
 use Rattle.plist_ascii.specs.Ascii.{lead_of, token, token_by, OnlyBareTextsDiffer}
 
 -- the token that c begins is the same, or a bare text

@@ -10,10 +10,12 @@ use Rattle.plist_ascii.specs.Texts.{Token, bare, lax}
 use Rattle.plist_ascii.specs.Quoted.{quoted_token}
 use Rattle.plist_ascii.specs.Comments.{slash}
 
--- what a byte begins: ( and { a start, ) and } an end, the separators and white space nothing, quotes and / a text or a comment, and all else a bare text
+-- what a byte begins: ( and { a start, ) and } an end, the separators and white space nothing,
+-- quotes and / a text or a comment, and all else a bare text
 abbrev pub lead_of : ℕ → Lead
 lead_of c =
-    cond (c == 40) lead.ArrayStart (cond (c == 123) lead.DictionaryStart (cond ((c == 41) || (c == 125)) lead.End
+    cond (c == 40) lead.ArrayStart (cond (c == 123) lead.DictionaryStart
+    (cond ((c == 41) || (c == 125)) lead.End
     (cond (list_any (λ d. c == d) (44 ∷ 59 ∷ 61 ∷ 32 ∷ 13 ∷ 9 ∷ 10 ∷ [])) lead.Blank
     (cond ((c == 39) || (c == 34)) lead.Quote (cond (c == 47) lead.Slash lead.Bare)))))
 
@@ -37,7 +39,9 @@ token stops c rest = past_one (token_by stops (lead_of c) c rest)
 
 -- Whatever ends a bare text, a token is the same; or it is a bare text, whatever ends it.
 abbrev pub OnlyBareTextsDiffer : Type 0
-OnlyBareTextsDiffer = (c : ℕ) (rest : List ℕ) → ((stops : ℕ → Bool) → token stops c rest ≡ token lax c rest) ⊎ ((stops : ℕ → Bool) → token stops c rest ≡ past_one (bare stops c rest))
+OnlyBareTextsDiffer =
+    (c : ℕ) (rest : List ℕ) → ((stops : ℕ → Bool) → token stops c rest ≡ token lax c rest)
+    ⊎ ((stops : ℕ → Bool) → token stops c rest ≡ past_one (bare stops c rest))
 
 -- an item, and how many bytes are taken up to its end
 pub record PlacedItem : Type 0 where
@@ -59,7 +63,8 @@ items_in stops zero bytes place = []
 items_in stops (suc room) [] place = []
 items_in stops (suc room) (c ∷ rest) place =
     let t = token stops c rest in
-    item_then (place + t.bytes) t.gives (items_in stops room (drop t.bytes (c ∷ rest)) (place + t.bytes))
+    item_then (place + t.bytes) t.gives
+    (items_in stops room (drop t.bytes (c ∷ rest)) (place + t.bytes))
 
 -- the items of some bytes, with their ends, where the first byte stands at this place
 abbrev pub placed_items : (stops : ℕ → Bool) → List ℕ → (place : ℕ) → List PlacedItem

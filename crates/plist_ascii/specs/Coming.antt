@@ -1,4 +1,5 @@
--- What contracts see of a reader: the bytes that it has still to take, and the items that they give.
+-- What contracts see of a reader: the bytes that it has still to take, and the items that they
+-- give.
 use Rattle.std.specs.Prelude.{◌≡◌, ℕ, ◌-◌, ◌^◌, ◌<◌, ◌≤◌, Bool, true, false, List, [], ◌∷◌, drop, Option, None, Some, Result, Ok, Err, MatchOption, MatchResult, ⊤}
 use Rattle.plist_base.specs.declared.error.Error.{Error}
 use Rattle.plist_base.specs.declared.event.Event.{Event}
@@ -40,20 +41,25 @@ HasEnded reader = reader.input.ended ≡ true
 abbrev pub bytes_left : {R : Type 0} → (R → Option (List ℕ)) → AsciiReader R → Option (List ℕ)
 bytes_left known reader = unread known reader.input
 
--- From place p on the items begin with this one, which ends at place q; the others are those of the rest, which are the bytes from q on.
-pub record BeginsWith (stops : ℕ → Bool) (bytes : List ℕ) (p : ℕ) (item : Item) (left : List ℕ) (q : ℕ) : Type 0 where
+-- From place p on the items begin with this one, which ends at place q; the others are those of the
+-- rest, which are the bytes from q on.
+pub record BeginsWith (stops : ℕ → Bool) (bytes : List ℕ) (p : ℕ) (item : Item) (left : List ℕ)
+    (q : ℕ) : Type 0 where
   pub items : items_of_ascii stops bytes p ≡ item ∷ items_of_ascii stops left q
   pub ends : placed_items stops bytes p ≡ placed q item ∷ placed_items stops left q
   pub rest : left ≡ drop (q - p) bytes
 
--- The first item came, and left the rest; nothing only where there is none. After a fault from outside nothing is left; want of memory
--- comes only in the place of a text.
-abbrev pub GivesItem : (stops : ℕ → Bool) → List ℕ → (p : ℕ) → Option (Result Event Error) → (rest : List ℕ) → (q : ℕ) → Type 0
+-- The first item came, and left the rest; nothing only where there is none. After a fault from
+-- outside nothing is left; want of memory comes only in the place of a text.
+abbrev pub GivesItem : (stops : ℕ → Bool) → List ℕ → (p : ℕ) → Option (Result Event Error)
+    → (rest : List ℕ) → (q : ℕ) → Type 0
 GivesItem stops bytes p item rest q = MatchOption item
     ((items_of_ascii stops bytes p ≡ []) × (rest ≡ []))
     (λ answer. MatchResult answer
     (λ event. BeginsWith stops bytes p (Ok (event_of event)) rest q)
-    (λ error. MatchFault (kind_of (error_kind_of error)) (rest ≡ []) ((rest ≡ []) × BeginsWithText (items_of_ascii stops bytes p)) (BeginsWith stops bytes p (Err (fault_of error)) rest q)))
+    (λ error. MatchFault (kind_of (error_kind_of error)) (rest ≡ [])
+    ((rest ≡ []) × BeginsWithText (items_of_ascii stops bytes p))
+    (BeginsWith stops bytes p (Err (fault_of error)) rest q)))
 
 -- an event and a fault in the bytes have taken a byte or more; whatever came, no byte comes back
 abbrev pub Rises : Option (Result Event Error) → (p q : ℕ) → Type 0
@@ -63,16 +69,23 @@ Rises item p q = MatchOption item (p ≤ q) (λ answer. MatchResult answer
 
 -- a fault stands where the bytes taken end; want of memory has no place
 abbrev pub FaultIsAt : Option (Result Event Error) → ℕ → Type 0
-FaultIsAt item place = MatchOption item ⊤ (λ answer. MatchResult answer (λ _. ⊤) (λ error. IsAt (fault_of error) place))
+FaultIsAt item place =
+    MatchOption item ⊤ (λ answer. MatchResult answer (λ _. ⊤)
+    (λ error. IsAt (fault_of error) place))
 
 -- after a fault from outside, and where nothing comes, nothing comes for good
 abbrev pub EndsAfter : Option (Result Event Error) → Type 0 → Type 0
-EndsAfter item ended = MatchOption item ended (λ answer. MatchResult answer (λ _. ⊤) (λ error. MatchFault (kind_of (error_kind_of error)) ended ended ⊤))
+EndsAfter item ended =
+    MatchOption item ended (λ answer. MatchResult answer (λ _. ⊤)
+    (λ error. MatchFault (kind_of (error_kind_of error)) ended ended ⊤))
 
 -- one call of `next`: the item is the first of those that the bytes not yet taken give; once ended,
 -- the reader inside is asked no more, and behind a start or an end no byte has been looked at
-pub record Gives {R : Type 0} (known : R → Option (List ℕ)) (failed : R → Option ℕ) (old : AsciiReader R) (item : Option (Result Event Error)) (new : AsciiReader R) : Type 0 where
-  pub items : Known (bytes_left known old) (λ bytes. (rest : List ℕ) × (bytes_left known new ≡ Some rest) × GivesItem (stops_of old) bytes (place_of old) item rest (place_of new))
+pub record Gives {R : Type 0} (known : R → Option (List ℕ)) (failed : R → Option ℕ)
+    (old : AsciiReader R) (item : Option (Result Event Error)) (new : AsciiReader R) : Type 0 where
+  pub items : Known (bytes_left known old) (λ bytes. (rest : List ℕ)
+      × (bytes_left known new ≡ Some rest)
+      × GivesItem (stops_of old) bytes (place_of old) item rest (place_of new))
   pub dialect : dialect_of new ≡ dialect_of old
   pub rises : Rises item (place_of old) (place_of new)
   pub offset : FaultIsAt item (place_of new)

@@ -17,7 +17,8 @@ begins_with c (d ∷ rest) = d == c
 -- the place of the first `*/`
 abbrev pub close_at : List ℕ → Option ℕ
 close_at [] = None
-close_at (c ∷ rest) = cond ((c == 42) && begins_with 47 rest) (Some 0) (option_map suc (close_at rest))
+close_at (c ∷ rest) =
+    cond ((c == 42) && begins_with 47 rest) (Some 0) (option_map suc (close_at rest))
 
 -- up to and with the `*/` at this place
 abbrev pub block_comment_to : List ℕ → Option ℕ → Token

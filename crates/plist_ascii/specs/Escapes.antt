@@ -13,7 +13,8 @@ use Rattle.plist_ascii.specs.Taken.{Taken, taken, past_one, followed, needs}
 abbrev pub simple_escape : ℕ → Option ℕ
 simple_escape c =
     cond ((c == 92) || ((c == 34) || (c == 39))) (Some c)
-    (cond (c == 97) (Some 7) (cond (c == 98) (Some 8) (cond (c == 102) (Some 12) (cond (c == 110) (Some 10)
+    (cond (c == 97) (Some 7) (cond (c == 98) (Some 8)
+    (cond (c == 102) (Some 12) (cond (c == 110) (Some 10)
     (cond (c == 114) (Some 13) (cond (c == 116) (Some 9) (cond (c == 118) (Some 11) None)))))))
 
 -- a letter stands for its byte, or for nothing
@@ -41,7 +42,9 @@ octal_char n = cond (nat_le 128 n && nat_lt n 256) (slice_index nextstep (n - 12
 
 -- three octal digits
 abbrev pub octal_text : List ℕ → Result (List ℕ) FaultKind
-octal_text digits = cond (list_all (λ c. is_digit c 8) digits) (Ok (encode_utf8 (octal_char (digits_value 8 digits)))) (Err InvalidOctalString)
+octal_text digits =
+    cond (list_all (λ c. is_digit c 8) digits)
+    (Ok (encode_utf8 (octal_char (digits_value 8 digits)))) (Err InvalidOctalString)
 
 -- the digit c, and two more bytes
 abbrev pub octal : ℕ → List ℕ → Taken (List ℕ)
@@ -66,7 +69,9 @@ bad_unit n = taken n (Err InvalidUtf16String)
 
 -- the character of a high and then a low surrogate
 abbrev pub pair_text : ℕ → Option ℕ → Result (List ℕ) FaultKind
-pair_text high (Some low) = cond (is_high_surrogate high && is_low_surrogate low) (Ok (encode_utf8 (surrogate_pair_char high low))) (Err InvalidUtf16String)
+pair_text high (Some low) =
+    cond (is_high_surrogate high && is_low_surrogate low)
+    (Ok (encode_utf8 (surrogate_pair_char high low))) (Err InvalidUtf16String)
 pair_text high None = Err InvalidUtf16String
 
 -- the second unit, behind its letter
@@ -76,7 +81,8 @@ second_digits high rest = followed rest (unit rest) (λ low _. taken 0 (pair_tex
 -- the letter of the second unit, which is only looked at unless it is `u` or `U`
 abbrev pub second_letter : ℕ → List ℕ → Taken (List ℕ)
 second_letter high [] = bad_unit 0
-second_letter high (c ∷ rest) = cond ((c == 117) || (c == 85)) (past_one (second_digits high rest)) (bad_unit 0)
+second_letter high (c ∷ rest) =
+    cond ((c == 117) || (c == 85)) (past_one (second_digits high rest)) (bad_unit 0)
 
 -- the second unit, behind the digits of the first: a backslash, a letter and digits
 abbrev pub second_unit : ℕ → List ℕ → Taken (List ℕ)
@@ -96,7 +102,8 @@ unicode rest = followed rest (unit rest) first_unit
 
 -- what an escape stands for whose first byte is c
 abbrev pub escape_by : ℕ → List ℕ → Taken (List ℕ)
-escape_by c rest = cond (c == 85) (unicode rest) (cond (is_digit c 8) (octal c rest) (simple (simple_escape c)))
+escape_by c rest =
+    cond (c == 85) (unicode rest) (cond (is_digit c 8) (octal c rest) (simple (simple_escape c)))
 
 -- the bytes of the text that an escape stands for
 unfoldable pub escape : List ℕ → Taken (List ℕ)

@@ -22,7 +22,8 @@ CountsFailure answer old new = MatchResult answer (λ _. new ≡ old) (λ _. Ris
 
 -- `Io` only where the count of failures rose; whatever else came, it is as it was
 abbrev pub CountsIo : Error → Option ℕ → Option ℕ → Type 0
-CountsIo error old new = MatchFault (kind_of (error_kind_of error)) (RisesIfTold old new) (new ≡ old) (new ≡ old)
+CountsIo error old new =
+    MatchFault (kind_of (error_kind_of error)) (RisesIfTold old new) (new ≡ old) (new ≡ old)
 
 -- the same of a call's answer
 abbrev pub AnswersIo : {A : Type 0} → Result A Error → Option ℕ → Option ℕ → Type 0

@@ -33,7 +33,9 @@ IsAsciiEvent event = IsTextEvent event
 
 -- an item is one of these events or faults
 abbrev pub IsAsciiItem : Option (Result Event Error) → Type 0
-IsAsciiItem item = MatchOption item ⊤ (λ answer. MatchResult answer (λ event. IsAsciiEvent (event_of event)) (λ error. IsAsciiFault (kind_of (error_kind_of error))))
+IsAsciiItem item =
+    MatchOption item ⊤ (λ answer. MatchResult answer (λ event. IsAsciiEvent (event_of event))
+    (λ error. IsAsciiFault (kind_of (error_kind_of error))))
 
 -- this holds, if the event is a start or an end
 abbrev pub BehindBracket : PlainEvent → (behind : Type 0) → Type 0
@@ -44,4 +46,6 @@ BehindBracket event behind = ⊤
 
 -- the same of an item
 abbrev pub ItemBehindBracket : Option (Result Event Error) → (behind : Type 0) → Type 0
-ItemBehindBracket item behind = MatchOption item ⊤ (λ answer. MatchResult answer (λ event. BehindBracket (event_of event) behind) (λ _. ⊤))
+ItemBehindBracket item behind =
+    MatchOption item ⊤ (λ answer. MatchResult answer
+    (λ event. BehindBracket (event_of event) behind) (λ _. ⊤))

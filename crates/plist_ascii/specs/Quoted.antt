@@ -34,7 +34,9 @@ module _ (quote : ℕ) (more : List ℕ → Taken (List ℕ)) where
 
   -- the longest run of plain bytes, and then what ends it
   abbrev pub quoted_by : List ℕ → Taken (List ℕ)
-  quoted_by bytes = behind (run (ends_run quote) bytes) (take (run (ends_run quote) bytes) bytes) (run_end (drop (run (ends_run quote) bytes) bytes))
+  quoted_by bytes =
+      behind (run (ends_run quote) bytes) (take (run (ends_run quote) bytes) bytes)
+      (run_end (drop (run (ends_run quote) bytes) bytes))
 
 -- runs and escapes in turn; `room` is at least the number of escapes
 unfoldable pub quoted_in : (quote room : ℕ) → List ℕ → Taken (List ℕ)

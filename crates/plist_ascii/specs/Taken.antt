@@ -22,7 +22,8 @@ abbrev pub past : {A : Type 0} → ℕ → Taken A → Taken A
 past n t = record { bytes = n + t.bytes; gives = t.gives }
 
 -- after n bytes comes what follows what they gave; a fault ends it
-abbrev pub past_outcome : {A B : Type 0} → List ℕ → ℕ → Result A FaultKind → (A → List ℕ → Taken B) → Taken B
+abbrev pub past_outcome : {A B : Type 0} → List ℕ → ℕ → Result A FaultKind → (A → List ℕ → Taken B)
+    → Taken B
 past_outcome bytes n (Ok a) next = past n (next a (drop n bytes))
 past_outcome bytes n (Err fault) next = taken n (Err fault)
 
@@ -36,8 +37,10 @@ front zero bytes = Some []
 front (suc n) [] = None
 front (suc n) (c ∷ bytes) = option_map (λ cs. c ∷ cs) (front n bytes)
 
--- what the front gives; where it isn't there, the n bytes that are left are taken, and the text is unclosed
-abbrev pub front_gives : {A : Type 0} → ℕ → ℕ → Option (List ℕ) → (List ℕ → Result A FaultKind) → Taken A
+-- what the front gives; where it isn't there, the n bytes that are left are taken, and the text is
+-- unclosed
+abbrev pub front_gives : {A : Type 0} → ℕ → ℕ → Option (List ℕ) → (List ℕ → Result A FaultKind)
+    → Taken A
 front_gives count left (Some digits) meaning = taken count (meaning digits)
 front_gives count left None meaning = taken left (Err UnclosedString)
 

@@ -20,7 +20,8 @@ abbrev pub within : Option ℕ → (taken : ℕ) → List ℕ → List ℕ
 within peeked taken bytes = take (2 ^ 64 - 1 - taken) (cons_option peeked bytes)
 
 -- the bytes not taken, where they are known; none once the input has ended
-unfoldable pub unread_of : Option (List ℕ) → (ended : Bool) → Option ℕ → (taken : ℕ) → Option (List ℕ)
+unfoldable pub unread_of : Option (List ℕ) → (ended : Bool) → Option ℕ → (taken : ℕ)
+    → Option (List ℕ)
 unread_of known true peeked taken = Some []
 unread_of known false peeked taken = option_map (λ bytes. within peeked taken bytes) known
 
@@ -48,29 +49,44 @@ is_from_outside Io = true
 is_from_outside OutOfMemory = true
 is_from_outside kind = false
 
--- a device's fault or one of the bytes stands where the bytes taken end; want of memory has no place
+-- a device's fault or one of the bytes stands where the bytes taken end; want of memory has no
+-- place
 abbrev pub IsAt : Fault → ℕ → Type 0
-IsAt fault place = MatchFault fault.kind (fault.offset ≡ Some place) (fault.offset ≡ None) (IsFaultOfBytes fault.kind × (fault.offset ≡ Some place))
+IsAt fault place =
+    MatchFault fault.kind (fault.offset ≡ Some place) (fault.offset ≡ None)
+    (IsFaultOfBytes fault.kind × (fault.offset ≡ Some place))
 
 -- the first of the old bytes was taken
 abbrev pub Takes : Option (List ℕ) → ℕ → Option (List ℕ) → Type 0
 Takes old c new = Known old (λ bytes. (rest : List ℕ) × (bytes ≡ c ∷ rest) × (new ≡ Some rest))
 
--- from place p to place q some of the first bytes were taken, which no stop is among, and stand behind the text
-abbrev pub TakesPart : (stops : ℕ → Bool) → (p : ℕ) → (text : List ℕ) → (new : Option (List ℕ)) → (q : ℕ) → (longer : List ℕ) → List ℕ → Type 0
-TakesPart stops p text new q longer bytes = (part : List ℕ) × (rest : List ℕ) × (bytes ≡ part ++ rest) × (run stops part ≡ length part) × (longer ≡ text ++ part) × (new ≡ Some rest) × (q ≡ p + length part)
+-- from place p to place q some of the first bytes were taken, which no stop is among, and stand
+-- behind the text
+abbrev pub TakesPart : (stops : ℕ → Bool) → (p : ℕ) → (text : List ℕ) → (new : Option (List ℕ))
+    → (q : ℕ) → (longer : List ℕ) → List ℕ → Type 0
+TakesPart stops p text new q longer bytes =
+    (part : List ℕ) × (rest : List ℕ) × (bytes ≡ part ++ rest) × (run stops part ≡ length part)
+    × (longer ≡ text ++ part) × (new ≡ Some rest) × (q ≡ p + length part)
 
 -- from place p to place q these bytes were taken, and gave this
-abbrev pub TakesFront : {A : Type 0} → Taken A → Result A FaultKind → (new : Option (List ℕ)) → (p q : ℕ) → List ℕ → Type 0
-TakesFront t outcome new p q bytes = (t.gives ≡ outcome) × (new ≡ Some (drop t.bytes bytes)) × (q ≡ p + t.bytes)
+abbrev pub TakesFront : {A : Type 0} → Taken A → Result A FaultKind → (new : Option (List ℕ))
+    → (p q : ℕ) → List ℕ → Type 0
+TakesFront t outcome new p q bytes =
+    (t.gives ≡ outcome) × (new ≡ Some (drop t.bytes bytes)) × (q ≡ p + t.bytes)
 
--- From place p to place q, what stands at the front of the old bytes was taken, and gave what the answer says, seen by view. A fault
--- from outside says nothing of the bytes.
-abbrev pub Answers : {X A : Type 0} → (view : X → A) → (front : List ℕ → Taken A) → (old : Option (List ℕ)) → (p : ℕ) → (new : Option (List ℕ)) → (q : ℕ) → Result X Error → Type 0
+-- From place p to place q, what stands at the front of the old bytes was taken, and gave what the
+-- answer says, seen by view. A fault from outside says nothing of the bytes.
+abbrev pub Answers : {X A : Type 0} → (view : X → A) → (front : List ℕ → Taken A)
+    → (old : Option (List ℕ)) → (p : ℕ) → (new : Option (List ℕ)) → (q : ℕ) → Result X Error
+    → Type 0
 Answers view front old p new q answer = MatchResult answer
     (λ x. (p ≤ q) × Known old (λ bytes. TakesFront (front bytes) (Ok (view x)) new p q bytes))
-    (λ e. IsAt (fault_of e) q × (p ≤ q) × (is_from_outside (kind_of (error_kind_of e)) ≡ false → Known old (λ bytes. TakesFront (front bytes) (Err (kind_of (error_kind_of e))) new p q bytes)))
+    (λ e. IsAt (fault_of e) q × (p ≤ q) × (is_from_outside (kind_of (error_kind_of e)) ≡ false
+    → Known old (λ bytes.
+    TakesFront (front bytes) (Err (kind_of (error_kind_of e))) new p q bytes)))
 
 -- what a text means, as an event or a fault's kind
 abbrev pub Means : Result Event ErrorKind → Result (Option PlainEvent) FaultKind → Type 0
-Means answer outcome = MatchResult answer (λ event. (outcome ≡ Ok (Some (event_of event))) × IsTextEvent (event_of event)) (λ kind. (outcome ≡ Err (kind_of kind)) × IsFaultOfBytes (kind_of kind))
+Means answer outcome = MatchResult answer
+    (λ event. (outcome ≡ Ok (Some (event_of event))) × IsTextEvent (event_of event))
+    (λ kind. (outcome ≡ Err (kind_of kind)) × IsFaultOfBytes (kind_of kind))

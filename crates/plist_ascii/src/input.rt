@@ -279,7 +279,8 @@ impl<R: Bytes> Input<R> {
     pub fn must_take(&mut self) -> Result<u8, Error>
         ensures ok { IfOk result (λ c.
             Takes (unread R.remaining self.old) c (unread R.remaining self.new)) }
-        ensures place { OnOk result ((self.new.taken ≡ self.old.taken + 1) × (self.new.taken < 2 ^ 64)) }
+        ensures place { OnOk result ((self.new.taken ≡ self.old.taken + 1)
+            × (self.new.taken < 2 ^ 64)) }
         ensures stays { IfErr result (λ _. self.new.taken ≡ self.old.taken) }
         ensures err { IfErr result (λ e. IsAt (fault_of e) self.new.taken
             × (is_from_outside (kind_of (error_kind_of e)) ≡ false →

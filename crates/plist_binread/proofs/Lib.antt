@@ -14,3 +14,4 @@ pub mod Marks
 pub mod Children
 pub mod Known
 pub mod Failing
+pub mod Limiting

@@ -1,5 +1,5 @@
 -- What contracts see of a reader: the items that it has still to give, and how much it holds open.
-use Rattle.std.specs.Prelude.{◌≡◌, ℕ, ◌^◌, ◌<◌, ◌≤◌, Bool, true, false, List, [], ◌∷◌, length, reverse, Option, None, Some, Result, Ok, Err, MatchBool, MatchOption, MatchResult, OnErr, IfSome}
+use Rattle.std.specs.Prelude.{◌≡◌, ℕ, ◌^◌, ◌<◌, ◌≤◌, Bool, true, false, ◌&&◌, List, [], ◌∷◌, length, reverse, Option, None, Some, Result, Ok, Err, MatchBool, MatchOption, MatchResult, OnErr, IfSome}
 use Rattle.plist_base.specs.declared.error.Error.{Error}
 use Rattle.plist_base.specs.declared.event.Event.{Event}
 use Rattle.plist_base.specs.declared.event.Event.TheVariants.{EndCollection}
@@ -9,7 +9,10 @@ use Rattle.plist_base.specs.Events.{PlainEvent, Item, event_of}
 use Rattle.plist_base.specs.Events as plain
 use Rattle.plist_base.specs.Sources.{ItemCountsIo}
 use Rattle.plist_binread.specs.Container.{head_of}
-use Rattle.plist_binread.specs.Failures.{ItemWithin}
+use Rattle.std.specs.Option.{is_some}
+use Rattle.plist_base.specs.declared.limits.Limiter.{Limiter}
+use Rattle.plist_base.specs.Limits.{has_room, under_any}
+use Rattle.plist_binread.specs.Failures.{ItemGivenWithin}
 use Rattle.plist_binread.specs.declared.reader.BinaryReader.{BinaryReader}
 use Rattle.plist_binread.specs.declared.reader.State.TheVariants.{Ended}
 use Rattle.plist_binread.specs.declared.frames.Frame.{Frame}
@@ -21,9 +24,17 @@ use Rattle.plist_binread.specs.Debt.{IsOpen, still_owed, number_owed, cached_cou
 abbrev pub source_of : {R C : Type 0} {g : Ghosts R} {h : CounterGhosts C} → BinaryReader R C g h → R
 source_of reader = reader.source
 
+-- the items of the file that are still to come, were there no limits
+abbrev pub walk_to_come : {R C : Type 0} {g : Ghosts R} {h : CounterGhosts C} → List ℕ → BinaryReader R C g h → List Item
+walk_to_come bytes reader = still_owed bytes reader.state reader.bounds reader.frames.items
+
 -- the items still to come, where these are the file's bytes
 abbrev pub to_come : {R C : Type 0} {g : Ghosts R} {h : CounterGhosts C} → List ℕ → BinaryReader R C g h → List Item
-to_come bytes reader = still_owed bytes reader.state reader.bounds reader.frames.items
+to_come bytes reader = under_any reader.limiter (walk_to_come bytes reader)
+
+-- are there limits?
+abbrev pub is_limited : {R C : Type 0} {g : Ghosts R} {h : CounterGhosts C} → BinaryReader R C g h → Bool
+is_limited reader = is_some reader.limiter
 
 -- has no item been asked for?
 abbrev pub is_new : {R C : Type 0} {g : Ghosts R} {h : CounterGhosts C} → BinaryReader R C g h → Bool
@@ -37,9 +48,19 @@ HasEnded reader = reader.state ≡ Ended
 abbrev pub open_collections : {R C : Type 0} {g : Ghosts R} {h : CounterGhosts C} → BinaryReader R C g h → ℕ
 open_collections reader = length reader.frames.items
 
--- does the end of the innermost collection come next, none of whose children is left?
+-- does the end of the innermost collection come next, none of whose children is left, were there no
+-- limits?
+abbrev pub walk_closes : {R C : Type 0} {g : Ghosts R} {h : CounterGhosts C} → BinaryReader R C g h → Bool
+walk_closes reader = ends_next reader.state reader.frames.items
+
+-- may one more event come?
+abbrev pub has_room_in : Option Limiter → Bool
+has_room_in None = true
+has_room_in (Some limiter) = has_room limiter
+
+-- does that end come next?
 abbrev pub end_comes : {R C : Type 0} {g : Ghosts R} {h : CounterGhosts C} → BinaryReader R C g h → Bool
-end_comes reader = ends_next reader.state reader.frames.items
+end_comes reader = has_room_in reader.limiter && walk_closes reader
 
 -- how many objects the head of these bytes tells
 abbrev pub told_objects : List ℕ → ℕ
@@ -60,7 +81,7 @@ HoldsHead bytes reader = is_walking reader.state ≡ true → AreBoundsOf (head_
 -- What was to come begins with this item and goes on with what is to come then. Nothing comes only
 -- where nothing was to come. After a fault nothing is to come; a device's fault comes only where
 -- something was, and want of memory only there at the first call, and later only in the place of a
--- start, a text or the fault of a text.
+-- start, a text or the fault of a text or of a limit.
 abbrev pub GivesItem : (new : Bool) (before : List Item) → Option (Result Event Error) → (after : List Item) → Type 0
 GivesItem new before item after =
     MatchOption item ((before ≡ []) × (after ≡ [])) (λ answer. MatchResult answer
@@ -107,7 +128,7 @@ pub record Gives {R C : Type 0} {g : Ghosts R} {h : CounterGhosts C} (known : R 
   pub ended : HasEnded old → item ≡ None
   pub ends : EndsAfter item new
   pub begun : is_new new ≡ false
-  pub faults : ItemWithin 0 (2 ^ 64) item
+  pub faults : ItemGivenWithin 0 (2 ^ 64) (is_limited old) item
   pub closes : end_comes old ≡ true → item ≡ Some (Ok EndCollection)
   pub head : IfSome (known (source_of old)) (λ bytes. HoldsHead bytes new)
   pub nested : MatchOption (known (source_of old)) (open_collections new ≤ object_count new) (λ bytes. open_collections new ≤ told_objects bytes)
@@ -139,16 +160,17 @@ EndsTold item after = MatchOption item (HasEnded after) (λ answer. OnErr answer
 abbrev pub CachesTold : {A R C : Type 0} {g : Ghosts R} {h : CounterGhosts C} → Option ℕ → Option (Result A Error) → BinaryReader R C g h → Type 0
 CachesTold number item reader = IsKeptTold number item (event_told reader) reader.tags.items
 
--- one call of `advance`: as one of `next`, but that the event is told
-pub record Tells {A R C : Type 0} {g : Ghosts R} {h : CounterGhosts C} (known : R → Option (List ℕ)) (failed : R → ℕ) (counts : Type 0) (count : C → ℕ) (old : BinaryReader R C g h) (item : Option (Result A Error)) (new : BinaryReader R C g h) : Type 0 where
+-- one call of `advance`: as one of `next`, but that the event is told. What is to come, whether an
+-- end comes next and whether there are limits are words of the reader's.
+pub record TellsBy {A R C : Type 0} {g : Ghosts R} {h : CounterGhosts C} (coming : List ℕ → BinaryReader R C g h → List Item) (closing limited : BinaryReader R C g h → Bool) (known : R → Option (List ℕ)) (failed : R → ℕ) (counts : Type 0) (count : C → ℕ) (old : BinaryReader R C g h) (item : Option (Result A Error)) (new : BinaryReader R C g h) : Type 0 where
   pub unchanged : known (source_of new) ≡ known (source_of old)
-  pub items : IfSome (known (source_of old)) (λ bytes. TellsItem (is_new old) (to_come bytes old) item (event_told new) (to_come bytes new))
+  pub items : IfSome (known (source_of old)) (λ bytes. TellsItem (is_new old) (coming bytes old) item (event_told new) (coming bytes new))
   pub failures : ItemCountsIo item (failed (source_of old)) (failed (source_of new))
   pub ended : HasEnded old → item ≡ None
   pub ends : EndsTold item new
   pub begun : is_new new ≡ false
-  pub faults : ItemWithin 0 (2 ^ 64) item
-  pub closes : end_comes old ≡ true → IsToldEnd item (event_told new)
+  pub faults : ItemGivenWithin 0 (2 ^ 64) (limited old) item
+  pub closes : closing old ≡ true → IsToldEnd item (event_told new)
   pub head : IfSome (known (source_of old)) (λ bytes. HoldsHead bytes new)
   pub nested : MatchOption (known (source_of old)) (open_collections new ≤ object_count new) (λ bytes. open_collections new ≤ told_objects bytes)
   pub cached : IfSome (known (source_of old)) (λ bytes. CachesTold (number_to_come bytes old) item new)
@@ -156,3 +178,10 @@ pub record Tells {A R C : Type 0} {g : Ghosts R} {h : CounterGhosts C} (known : 
   pub counted : counts → count (counter_of new) ≡ cached_objects new
   pub lists : IfSome (known (source_of old)) (λ bytes. KeepsWithin (told_objects bytes) new)
   pub falls : IfSome item (λ _. steps_to_come new < steps_to_come old)
+
+abbrev pub Tells : {A R C : Type 0} {g : Ghosts R} {h : CounterGhosts C} (known : R → Option (List ℕ)) (failed : R → ℕ) (counts : Type 0) (count : C → ℕ) (old : BinaryReader R C g h) (item : Option (Result A Error)) (new : BinaryReader R C g h) → Type 0
+Tells known failed counts count old item new = TellsBy to_come end_comes is_limited known failed counts count old item new
+
+-- the same of the walk that knows no limits
+abbrev pub Walks : {A R C : Type 0} {g : Ghosts R} {h : CounterGhosts C} (known : R → Option (List ℕ)) (failed : R → ℕ) (counts : Type 0) (count : C → ℕ) (old : BinaryReader R C g h) (item : Option (Result A Error)) (new : BinaryReader R C g h) → Type 0
+Walks known failed counts count old item new = TellsBy walk_to_come walk_closes (λ _. false) known failed counts count old item new

@@ -3,7 +3,7 @@ use Rattle.std.specs.Prelude.{◌≡◌, ℕ, zero, suc, ◌+◌, ◌-◌, ◌*�
 use Rattle.std.specs.List.{list_any, flat_map, IsDistinct, AllByRecursion, slice_get}
 use Rattle.plist_base.specs.declared.error.Error.{Error}
 use Rattle.plist_base.specs.declared.event.Event.{Event}
-use Rattle.plist_base.specs.Faults.{Fault, FaultKind, IsIo, InvalidUtf8String, InvalidUtf16String, MatchFault, kind_of, error_kind_of, offset_of, fault_of}
+use Rattle.plist_base.specs.Faults.{Fault, FaultKind, IsIo, InvalidUtf8String, InvalidUtf16String, LimitReached, MatchFault, kind_of, error_kind_of, offset_of, fault_of}
 use Rattle.plist_base.specs.Events.{PlainEvent, StartArray, StartDictionary, EndCollection, Data, String, Item, event_of}
 use Rattle.plist_binread.specs.declared.frames.Frame.{Frame}
 use Rattle.plist_binread.specs.declared.frames.Turn.{Turn}
@@ -167,7 +167,8 @@ still_owed bytes Ended bounds frames = []
 abbrev pub IsOwed : List Item → Type 0
 IsOwed items = 0 < length items
 
--- the first item owed is one for which memory is wanted: a start, a text, or the fault of a text
+-- the first item owed is one for which memory is wanted: a start, a text, or the fault of a text or
+-- of a limit
 abbrev pub WantsMemory : List Item → Type 0
 WantsMemory [] = ⊥
 WantsMemory (Ok (StartArray length) ∷ items) = ⊤
@@ -175,12 +176,13 @@ WantsMemory (Ok (StartDictionary length) ∷ items) = ⊤
 WantsMemory (Ok (Data bytes) ∷ items) = ⊤
 WantsMemory (Ok (String text) ∷ items) = ⊤
 WantsMemory (Ok event ∷ items) = ⊥
-WantsMemory (Err fault ∷ items) = IsTextFault fault.kind
+WantsMemory (Err fault ∷ items) = IsTextOrLimitFault fault.kind
   where
-    IsTextFault : FaultKind → Type 0
-    IsTextFault InvalidUtf8String = ⊤
-    IsTextFault InvalidUtf16String = ⊤
-    IsTextFault kind = ⊥
+    IsTextOrLimitFault : FaultKind → Type 0
+    IsTextOrLimitFault InvalidUtf8String = ⊤
+    IsTextOrLimitFault InvalidUtf16String = ⊤
+    IsTextOrLimitFault (LimitReached limit) = ⊤
+    IsTextOrLimitFault kind = ⊥
 
 -- an error comes where something is owed: a device's fault anywhere, want of memory where it is wanted, every other fault where that is the one item owed
 abbrev pub Explains : List Item → Error → Type 0

@@ -1,7 +1,7 @@
 -- Where the faults of a reader are.
-use Rattle.std.specs.Prelude.{◌≡◌, ℕ, Option, None, Some, Result, IfErr, MatchOption, ⊤}
+use Rattle.std.specs.Prelude.{◌≡◌, ℕ, Bool, true, Option, None, Some, Result, IfErr, MatchOption, ⊤}
 use Rattle.plist_base.specs.declared.error.Error.{Error}
-use Rattle.plist_base.specs.Faults.{FaultKind, Fault, UnexpectedEof, InvalidMagic, InvalidTrailerObjectOffsetSize, InvalidTrailerObjectReferenceSize, ObjectOffsetTooLarge, ObjectReferenceTooLarge, RecursiveObject, NullObjectUnimplemented, FillObjectUnimplemented, UnknownObjectType, IntegerOutOfRange, OverflowOrNanDate, InvalidUtf8String, InvalidUtf16String, Io, OutOfMemory, fault_of}
+use Rattle.plist_base.specs.Faults.{FaultKind, Fault, LimitReached, UnexpectedEof, InvalidMagic, InvalidTrailerObjectOffsetSize, InvalidTrailerObjectReferenceSize, ObjectOffsetTooLarge, ObjectReferenceTooLarge, RecursiveObject, NullObjectUnimplemented, FillObjectUnimplemented, UnknownObjectType, IntegerOutOfRange, OverflowOrNanDate, InvalidUtf8String, InvalidUtf16String, Io, OutOfMemory, fault_of}
 use Rattle.plist_base.specs.Sources.{IsPlaceWithin}
 
 -- a fact for the fault of a read, one for want of memory, and one for every other fault of a reader of binary property lists, which has no further ones
@@ -40,3 +40,17 @@ ErrWithin start end answer = IfErr answer (λ e. FailsWithin start end (fault_of
 -- and of an item
 abbrev pub ItemWithin : {A : Type 0} → (start end : ℕ) → Option (Result A Error) → Type 0
 ItemWithin start end item = MatchOption item ⊤ (λ answer. ErrWithin start end answer)
+
+-- the same, and one fact more for the fault of a limit
+abbrev pub MatchGiven : FaultKind → (read memory other limit : Type 0) → Type 0
+MatchGiven (LimitReached reached) read memory other limit = limit
+MatchGiven kind read memory other limit = MatchReader kind read memory other
+
+-- A fault that a reader gives: as above; or that of a limit, which has no place, where there are limits.
+pub record IsGivenWithin (start end : ℕ) (limited : Bool) (fault : Fault) : Type 0 where
+  pub placed : MatchGiven fault.kind (IsPlaceWithin start end fault.offset) (fault.offset ≡ None) (HasPlace fault.offset) ((limited ≡ true) × (fault.offset ≡ None))
+
+-- the same of an item
+abbrev pub ItemGivenWithin : {A : Type 0} → (start end : ℕ) → (limited : Bool) → Option (Result A Error) → Type 0
+ItemGivenWithin start end limited item =
+    MatchOption item ⊤ (λ answer. IfErr answer (λ e. IsGivenWithin start end limited (fault_of e)))

@@ -18,7 +18,7 @@ use Rattle.plist_binread.specs.declared.reader.BinaryReader.{BinaryReader}
 use Rattle.plist_binread.specs.declared.counter.Uncounted.{Uncounted}
 use Rattle.plist_binread.specs.contracts.counter.UncountedDecodeCounter.TheImpl.{ghosts}
 use Rattle.plist_binread.specs.Coming as binary
-use Rattle.plist_binread.specs.Failures.{HasPlace, MatchReader, ItemWithin}
+use Rattle.plist_binread.specs.Failures.{HasPlace, MatchGiven, ItemGivenWithin}
 use Rattle.plist_binread.specs.Debt.{IsOwed, WantsMemory}
 use Rattle.plist_binread.specs.Unfolding.{items_of_file}
 use Rattle.plist_ascii.specs.declared.reader.AsciiReader.{AsciiReader}
@@ -94,12 +94,12 @@ same-count : (a b : ℕ) → Some b ≡ Some a → b ≡ a
 same-count a b e = cc
 
 -- where the readers' own faults are
-binary-placed : (item : Given) → ItemWithin 0 (2 ^ 64) item → HasItsPlace item
-binary-placed None h = tt
-binary-placed (Some (Ok event)) h = tt
-binary-placed (Some (Err error)) h = placed (kind_of (error_kind_of error)) (offset_of error) h.placed
+binary-placed : (limited : Bool) (item : Given) → ItemGivenWithin 0 (2 ^ 64) limited item → HasItsPlace item
+binary-placed limited None h = tt
+binary-placed limited (Some (Ok event)) h = tt
+binary-placed limited (Some (Err error)) h = placed (kind_of (error_kind_of error)) (offset_of error) h.placed
   where
-    placed : (kind : FaultKind) (offset : Option ℕ) → MatchReader kind (IsPlaceWithin 0 (2 ^ 64) offset) (offset ≡ None) (HasPlace offset) → MatchFault kind (HasPlace offset) (offset ≡ None) ⊤
+    placed : (kind : FaultKind) (offset : Option ℕ) → MatchGiven kind (IsPlaceWithin 0 (2 ^ 64) offset) (offset ≡ None) (HasPlace offset) ((limited ≡ true) × (offset ≡ None)) → MatchFault kind (HasPlace offset) (offset ≡ None) ⊤
     placed Io offset p = within-placed 0 (2 ^ 64) offset p
     placed OutOfMemory offset p = p
     placed kind offset p = tt
@@ -134,7 +134,7 @@ module _ {R : Type 0} {g : Ghosts R} (known : R → Option (List ℕ)) (failed :
   binary-gives old new item h = record {
     items = binary-goes (known (binary.source_of old)) (known (binary.source_of new)) (λ bytes. binary.to_come bytes old) (λ bytes. binary.to_come bytes new) (binary.is_new old) item h.unchanged h.items;
     failures = h.failures;
-    offset = binary-placed item h.faults;
+    offset = binary-placed (binary.is_limited old) item h.faults;
     ended = h.ended;
     ends = over-ends (binary.HasEnded new) item h.ends;
   }

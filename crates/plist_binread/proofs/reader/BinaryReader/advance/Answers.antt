@@ -1,123 +1,104 @@
-use Rattle.std.proofs.Common.{arith, ◌^◌, length, reverse, refl, true, false, None}
+use Rattle.std.proofs.Common.{◌≡◌, ◌^◌, refl, subst, arith}
+use Rattle.plist_base.specs.Faults.{fault_of}
+use Rattle.plist_base.specs.Limits.{AdmitsAny, RefusesAny}
+use Rattle.plist_base.specs.Sources.{Rises}
+use Rattle.plist_binread.specs.Coming.{is_limited, is_new, number_to_come, source_of, walk_closes, walk_to_come}
 use Rattle.plist_binread.specs.Told.{event_in}
-use Rattle.plist_binread.specs.Debt.{owed_by, entries_of, next_number, root_with}
-use Rattle.plist_binread.specs.Container.{head_of}
-use Rattle.plist_binread.specs.Unfolding.{items_of_file, until_fault}
-use Rattle.plist_binread.proofs.Steps.{fresh_falls}
-use Rattle.plist_binread.proofs.Taken.{closes-fresh, closes-ended, walking-ended, holds_head, holds_none, nested, lists, nothing_ended, first_fault, step_event, told_event, kept_told, kept_fault, kept_end, told_end, step_fault, step_nothing}
-use Rattle.plist_binread.proofs.Failing.{from_within}
+use Rattle.plist_binread.proofs.Limiting.{event-told, fault-told, limit-told, none-told, refused-closes, refused-given, refused-other, still-given, walk-closes}
+use Rattle.plist_binread.proofs.Taken.{holds_none, kept_fault}
 use Rattle.plist_binread.proofs.reader.BinaryReader.advance.Goals as goal
 
-pub returns-in-Ended : goal.returns-in-Ended
-returns-in-Ended g c = record {
-  unchanged = refl;
-  items = rw c.in-Ended.is (nothing_ended _ c.args.self.now.bounds c.args.self.now.frames.items);
-  failures = refl;
-  ended = λ _. refl;
-  ends = c.in-Ended.is;
-  begun = rw c.in-Ended.is refl;
-  faults = tt;
-  closes = λ e. (let f = c.in-Ended.is in absurd (closes-ended _ _ f e));
-  head = holds_none _ c.args.self.now.bounds c.args.self.now.tags.items _ (λ w. walking-ended _ c.in-Ended.is w);
-  nested = nested _ _ _ c.args.self.now.path c.args.self.now.bounded;
-  cached = rw c.in-Ended.is (kept_end _ (λ bytes. None) c.args.self.now.tags.items (event_in c.args.self.now.last));
-  marked = c.args.self.now.path;
-  counted = c.args.self.now.counted;
-  lists = lists _ _ _ _ c.args.self.now.path c.args.self.now.same c.args.self.now.bounded;
-  falls = tt;
-}
-
 pub returns-in-Ok : goal.returns-in-Ok
-returns-in-Ok g c = record {
-  unchanged = c.begin.ensures.unchanged;
-  items = rw c.in-Fresh.is (told_event _ true items_of_file (λ bytes. until_fault (owed_by (entries_of bytes c.begin.new.bounds) (reverse c.begin.new.frames.items))) c.in-Ok.event _ c.hold.ensures c.in-Ok.ensures.pays);
-  failures = c.in-Ok.ensures.failures;
-  ended = λ e. (let f = c.in-Fresh.is in absurd (cc));
-  ends = tt;
-  begun = refl;
-  faults = tt;
-  closes = λ e. absurd (closes-fresh _ _ c.in-Fresh.is e);
-  head = holds_head _ c.begin.new.bounds c.begin.new.tags.items c.begin.new.contents.items (reverse c.begin.new.frames.items) _ c.in-Ok.ensures.known;
-  nested = nested _ _ _ c.begin.ensures.path c.begin.ensures.bounded;
-  cached = rw c.in-Fresh.is (kept_told _ (λ bytes. root_with (head_of bytes)) c.begin.new.tags.items c.in-Ok.event _ c.hold.ensures c.in-Ok.ensures.kept);
-  marked = c.begin.ensures.path;
-  counted = c.begin.ensures.counted;
-  lists = lists _ _ _ _ c.begin.ensures.path c.begin.ensures.same c.begin.ensures.bounded;
-  falls = fresh_falls c.args.self.now.state (length c.begin.new.tags.items) (length c.args.self.now.tags.items) c.args.self.now.frames.items c.begin.new.frames.items c.in-Fresh.is c.in-Ok.ensures.falls (omega (arith, c.begin.new.tags.ok, c.begin.new.tags.small));
-}
+returns-in-Ok g c =
+    let old = c.args.self.now in
+    let mid = c.step.new.self in
+    let w = rw c.in-Some-Ok.field-0-is at c.in-Some-Ok.ensures.walks in
+    record {
+      unchanged = w.unchanged;
+      items = event-told (is_new old) (event_in mid.last) (g.R.Source.known (source_of old)) old.limiter c.admit.new.limiter (λ bytes. walk_to_come bytes old) (λ bytes. walk_to_come bytes mid) tt
+          (subst (λ l. AdmitsAny l (event_in mid.last) c.admit.new.limiter) c.step.ensures.limiter c.in-Ok.ensures.ok) w.items;
+      failures = w.failures;
+      ended = λ e. (let no = w.ended e in absurd (cc));
+      ends = tt;
+      begun = w.begun;
+      faults = tt;
+      closes = λ h. w.closes (walk-closes old.limiter (walk_closes old) h);
+      head = w.head;
+      nested = w.nested;
+      cached = w.cached;
+      marked = w.marked;
+      counted = w.counted;
+      lists = w.lists;
+      falls = w.falls;
+    }
 
 pub returns-in-Err : goal.returns-in-Err
-returns-in-Err g c = record {
-  unchanged = c.begin.ensures.unchanged;
-  items = rw c.in-Fresh.is (first_fault _ c.args.self.now.bounds c.begin.new.bounds c.args.self.now.frames.items c.begin.new.frames.items (λ bytes. owed_by (entries_of bytes c.begin.new.bounds) (reverse c.begin.new.frames.items)) _ c.in-Err.ensures.pays);
-  failures = c.in-Err.ensures.failures;
-  ended = λ e. (let f = c.in-Fresh.is in absurd (cc));
-  ends = refl;
-  begun = refl;
-  faults = c.in-Err.ensures.fault;
-  closes = λ e. absurd (closes-fresh _ _ c.in-Fresh.is e);
-  head = holds_none _ c.begin.new.bounds c.begin.new.tags.items _ (λ w. absurd (cc));
-  nested = nested _ _ _ c.begin.ensures.path c.begin.ensures.bounded;
-  cached = rw c.in-Fresh.is (kept_fault _ (λ bytes. root_with (head_of bytes)) c.begin.new.tags.items c.in-Err.error _);
-  marked = c.begin.ensures.path;
-  counted = c.begin.ensures.counted;
-  lists = lists _ _ _ _ c.begin.ensures.path c.begin.ensures.same c.begin.ensures.bounded;
-  falls = rw c.in-Fresh.is (omega (arith));
-}
-
-pub returns-in-Some-Ok : goal.returns-in-Some-Ok
-returns-in-Some-Ok g c = record {
-  unchanged = c.advance.ensures.unchanged;
-  items = rw c.in-Walking.is (told_event _ false (λ bytes. until_fault (owed_by (entries_of bytes c.args.self.now.bounds) (reverse c.args.self.now.frames.items))) (λ bytes. until_fault (owed_by (entries_of bytes c.args.self.now.bounds) (reverse c.advance.new.frames.items))) c.in-Some-Ok.event _ c.hold-in-Some-Ok.ensures (step_event _ c.args.self.now.bounds c.args.self.now.frames.items c.advance.new.frames.items _ (rw c.in-Some-Ok.field-0-is at c.in-Some-Ok.ensures.pays)));
-  failures = rw c.in-Some-Ok.field-0-is at c.in-Some-Ok.ensures.failures;
-  ended = λ e. (let f = c.in-Walking.is in absurd (cc));
-  ends = tt;
-  begun = rw c.in-Walking.is refl;
-  faults = tt;
-  closes = λ e. told_end c.in-Some-Ok.event _ c.hold-in-Some-Ok.ensures ((rw c.in-Some-Ok.field-0-is at c.in-Some-Ok.ensures.closes) (rw c.in-Walking.is at e));
-  head = holds_head _ c.args.self.now.bounds c.advance.new.tags.items c.advance.new.contents.items (reverse c.advance.new.frames.items) _ c.advance.ensures.known;
-  nested = nested _ _ _ c.advance.ensures.path (rw c.advance.ensures.size c.args.self.now.bounded);
-  cached = rw c.in-Walking.is (kept_told _ (λ bytes. next_number (entries_of bytes c.args.self.now.bounds) (reverse c.args.self.now.frames.items)) c.advance.new.tags.items c.in-Some-Ok.event _ c.hold-in-Some-Ok.ensures (rw c.in-Some-Ok.field-0-is at c.in-Some-Ok.ensures.kept));
-  marked = c.advance.ensures.path;
-  counted = c.advance.ensures.counted;
-  lists = lists _ _ _ _ c.advance.ensures.path c.advance.ensures.same (rw c.advance.ensures.size c.args.self.now.bounded);
-  falls = rw (c.in-Walking.is, c.advance.ensures.size) (rw c.in-Some-Ok.field-0-is at c.in-Some-Ok.ensures.falls).1;
-}
+returns-in-Err g c =
+    let old = c.args.self.now in
+    let mid = c.step.new.self in
+    let w = rw c.in-Some-Ok.field-0-is at c.in-Some-Ok.ensures.walks in
+    let fault = fault_of c.in-Err.reached in
+    let r = subst (λ l. RefusesAny l (event_in mid.last) fault) c.step.ensures.limiter c.in-Err.ensures.err in
+    record {
+      unchanged = w.unchanged;
+      items = limit-told (is_new old) (event_in mid.last) (g.R.Source.known (source_of old)) old.limiter c.admit.new.limiter (λ bytes. walk_to_come bytes old) (λ bytes. walk_to_come bytes mid) tt c.in-Err.reached r w.items;
+      failures = refused-other old.limiter (event_in mid.last) fault (Rises (g.R.Source.failures (source_of old)) (g.R.Source.failures (source_of mid))) (g.R.Source.failures (source_of mid) ≡ g.R.Source.failures (source_of old)) (g.R.Source.failures (source_of mid) ≡ g.R.Source.failures (source_of old)) r w.failures;
+      ended = λ e. (let no = w.ended e in absurd (cc));
+      ends = refl;
+      begun = refl;
+      faults = refused-given 0 (2 ^ 64) old.limiter (event_in mid.last) fault r;
+      closes = λ h. absurd (refused-closes old.limiter (walk_closes old) (event_in mid.last) fault r (λ e. w.closes e) h);
+      head = holds_none _ mid.bounds mid.tags.items _ (λ v. absurd (cc));
+      nested = w.nested;
+      cached = kept_fault _ (λ bytes. number_to_come bytes old) mid.tags.items c.in-Err.reached (event_in mid.last);
+      marked = w.marked;
+      counted = w.counted;
+      lists = w.lists;
+      falls = let falls = w.falls in omega (arith, falls);
+    }
 
 pub returns-in-Some-Err : goal.returns-in-Some-Err
-returns-in-Some-Err g c = record {
-  unchanged = c.advance.ensures.unchanged;
-  items = rw c.in-Walking.is (step_fault _ c.args.self.now.bounds c.args.self.now.frames.items c.advance.new.frames.items _ (rw c.in-Some-Err.field-0-is at c.in-Some-Err.ensures.pays));
-  failures = rw c.in-Some-Err.field-0-is at c.in-Some-Err.ensures.failures;
-  ended = λ e. (let f = c.in-Walking.is in absurd (cc));
-  ends = refl;
-  begun = refl;
-  faults = from_within _ 0 c.args.self.now.bounds.trailer 0 (2 ^ 64) (rw c.in-Some-Err.field-0-is at c.in-Some-Err.ensures.fault) (omega arith) (omega arith);
-  closes = λ e. (let no = (rw c.in-Some-Err.field-0-is at c.in-Some-Err.ensures.closes) (rw c.in-Walking.is at e) in absurd (cc));
-  head = holds_none _ c.args.self.now.bounds c.advance.new.tags.items _ (λ w. absurd (cc));
-  nested = nested _ _ _ c.advance.ensures.path (rw c.advance.ensures.size c.args.self.now.bounded);
-  cached = rw c.in-Walking.is (kept_fault _ (λ bytes. next_number (entries_of bytes c.args.self.now.bounds) (reverse c.args.self.now.frames.items)) c.advance.new.tags.items c.in-Some-Err.error _);
-  marked = c.advance.ensures.path;
-  counted = c.advance.ensures.counted;
-  lists = lists _ _ _ _ c.advance.ensures.path c.advance.ensures.same (rw c.advance.ensures.size c.args.self.now.bounded);
-  falls = rw c.in-Walking.is (rw c.in-Some-Err.field-0-is at c.in-Some-Err.ensures.falls).0;
-}
+returns-in-Some-Err g c =
+    let old = c.args.self.now in
+    let new = c.step.new.self in
+    let w = rw c.in-Some-Err.field-0-is at c.in-Some-Err.ensures.walks in
+    record {
+      unchanged = w.unchanged;
+      items = fault-told (is_new old) (event_in new.last) (g.R.Source.known (source_of old)) old.limiter new.limiter (λ bytes. walk_to_come bytes old) (λ bytes. walk_to_come bytes new) c.in-Some-Err.error w.items;
+      failures = w.failures;
+      ended = w.ended;
+      ends = w.ends;
+      begun = w.begun;
+      faults = still-given 0 (2 ^ 64) (is_limited old) (fault_of c.in-Some-Err.error) w.faults;
+      closes = λ h. w.closes (walk-closes old.limiter (walk_closes old) h);
+      head = w.head;
+      nested = w.nested;
+      cached = w.cached;
+      marked = w.marked;
+      counted = w.counted;
+      lists = w.lists;
+      falls = w.falls;
+    }
 
 pub returns-in-None : goal.returns-in-None
-returns-in-None g c = record {
-  unchanged = c.advance.ensures.unchanged;
-  items = rw c.in-Walking.is (step_nothing _ c.args.self.now.bounds c.args.self.now.frames.items c.advance.new.frames.items c.in-None.ensures.pays);
-  failures = c.in-None.ensures.failures;
-  ended = λ _. refl;
-  ends = refl;
-  begun = refl;
-  faults = tt;
-  closes = λ e. (let no = c.in-None.ensures.closes (rw c.in-Walking.is at e) in absurd (cc));
-  head = holds_none _ c.args.self.now.bounds c.advance.new.tags.items _ (λ w. absurd (cc));
-  nested = nested _ _ _ c.advance.ensures.path (rw c.advance.ensures.size c.args.self.now.bounded);
-  cached = rw c.in-Walking.is (kept_end _ (λ bytes. next_number (entries_of bytes c.args.self.now.bounds) (reverse c.args.self.now.frames.items)) c.advance.new.tags.items _);
-  marked = c.advance.ensures.path;
-  counted = c.advance.ensures.counted;
-  lists = lists _ _ _ _ c.advance.ensures.path c.advance.ensures.same (rw c.advance.ensures.size c.args.self.now.bounded);
-  falls = tt;
-}
+returns-in-None g c =
+    let old = c.args.self.now in
+    let new = c.step.new.self in
+    let w = c.in-None.ensures.walks in
+    record {
+      unchanged = w.unchanged;
+      items = none-told (is_new old) (event_in new.last) (g.R.Source.known (source_of old)) old.limiter new.limiter (λ bytes. walk_to_come bytes old) (λ bytes. walk_to_come bytes new) w.items;
+      failures = w.failures;
+      ended = w.ended;
+      ends = w.ends;
+      begun = w.begun;
+      faults = tt;
+      closes = λ h. w.closes (walk-closes old.limiter (walk_closes old) h);
+      head = w.head;
+      nested = w.nested;
+      cached = w.cached;
+      marked = w.marked;
+      counted = w.counted;
+      lists = w.lists;
+      falls = tt;
+    }

@@ -1,0 +1,46 @@
+-- What limits say of a value.
+use Rattle.std.specs.Prelude.{◌≡◌, ℕ, ◌-◌, ◌≤◌, List, length, Option, Result, ⊤}
+use Rattle.std.specs.Option.{option_map}
+use Rattle.plist_base.specs.declared.limited.Limited.{Limited}
+use Rattle.plist_base.specs.declared.limits.Limits.{Limits}
+use Rattle.plist_base.specs.Events.{event_of}
+use Rattle.plist_base.specs.Faults.{Fault}
+use Rattle.plist_base.specs.Limits.{GivesLimited, come_of, inner_of, limited_items}
+use Rattle.plist_base.specs.Trees.{Tree, Leaf, Array, Dictionary, Trees, NoTrees, TreeAnd, Members, NoMembers, MemberAnd}
+use Rattle.plist_base.specs.Bracketing.{bracketing}
+use Rattle.plist_reader.specs.declared.reader.Reader.{Reader}
+use Rattle.plist_reader.specs.Coming.{Gives, items_of_input, to_come}
+use Rattle.plist.specs.Collecting.{Collects}
+use Rattle.plist.specs.LastWins.{last_wins}
+
+-- at most so many collections of a tree stand within one another
+abbrev mutual
+  pub NestsWithin : Tree → (depth : ℕ) → Type 0
+  NestsWithin (Leaf scalar) depth = ⊤
+  NestsWithin (Array items) depth = (1 ≤ depth) × ItemsNestWithin items (depth - 1)
+  NestsWithin (Dictionary pairs) depth = (1 ≤ depth) × PairsNestWithin pairs (depth - 1)
+
+  pub ItemsNestWithin : Trees → (depth : ℕ) → Type 0
+  ItemsNestWithin NoTrees depth = ⊤
+  ItemsNestWithin (TreeAnd tree trees) depth = NestsWithin tree depth × ItemsNestWithin trees depth
+
+  pub PairsNestWithin : Members → (depth : ℕ) → Type 0
+  PairsNestWithin NoMembers depth = ⊤
+  PairsNestWithin (MemberAnd key tree members) depth =
+      NestsWithin tree depth × PairsNestWithin members depth
+
+-- a value's tree nests at most `depth` collections, and came of at most `items` events: those of a
+-- tree whose last-value form it is
+abbrev pub IsWithin : Limits → Tree → Type 0
+IsWithin limits tree =
+    NestsWithin tree limits.depth
+    × ((whole : Tree) × (tree ≡ last_wins whole) × (length (bracketing whole) ≤ limits.items))
+
+-- the answer comes of the run, under these limits, of a reader that has all items of this source to
+-- give
+abbrev pub IsReadUnder : {R : Type 0} → Limits → (known : R → Option (List ℕ)) (failed : R → ℕ) (source : R) → Result Tree Fault → Type 0
+IsReadUnder {R} limits known failed source answer =
+    (limited : Limited (Reader R (record { known = known; failures = failed })))
+    × (come_of limited ≡ limited_items limits)
+    × (to_come known (inner_of limited) ≡ option_map items_of_input (known source))
+    × Collects event_of (GivesLimited (Gives known failed)) limited answer

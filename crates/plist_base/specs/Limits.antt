@@ -1,0 +1,113 @@
+-- Items under limits: how many events come, and how many collections are open at once.
+use Rattle.std.specs.Prelude.{◌≡◌, ℕ, ◌+◌, ◌-◌, Bool, true, false, ◌&&◌, not, nat_le, cond, List, [], ◌∷◌, Option, None, Some, Result, Ok, Err, MatchBool, MatchOption, MatchResult}
+use Rattle.plist_base.specs.declared.error.Error.{Error}
+use Rattle.plist_base.specs.declared.event.Event.{Event}
+use Rattle.plist_base.specs.declared.limited.Limited.{Limited}
+use Rattle.plist_base.specs.declared.limits.Limits.{Limits}
+use Rattle.plist_base.specs.declared.limits.Limit.{Limit}
+use Rattle.plist_base.specs.declared.limits.Limit.TheVariants as limit
+use Rattle.plist_base.specs.declared.limits.Limiter.{Limiter}
+use Rattle.plist_base.specs.Faults.{Fault, LimitReached, fault_nowhere, fault_of}
+use Rattle.plist_base.specs.Events.{PlainEvent, StartArray, StartDictionary, EndCollection, Item, event_of}
+
+-- is it the start of a collection?
+abbrev pub opens : PlainEvent → Bool
+opens (StartArray length) = true
+opens (StartDictionary length) = true
+opens event = false
+
+-- how many collections are open behind an event, where so many were open before it
+abbrev pub level_behind : PlainEvent → (level : ℕ) → ℕ
+level_behind (StartArray length) level = level + 1
+level_behind (StartDictionary length) level = level + 1
+level_behind EndCollection level = level - 1
+level_behind event level = level
+
+-- why an event can't come where so many have come and so many collections are open: it is one too
+-- many, or else it would open one collection too many
+abbrev pub limit_at : Limits → (came level : ℕ) → PlainEvent → Option Limit
+limit_at limits came level event =
+    cond (nat_le limits.items came) (Some limit.Items)
+    (cond (opens event && nat_le limits.depth level) (Some limit.Depth) None)
+
+-- an event and what is behind it, or the fault of the limit that it reaches
+abbrev pub event_or_limit : Option Limit → PlainEvent → (behind : List Item) → List Item
+event_or_limit None event behind = Ok event ∷ behind
+event_or_limit (Some limit) event behind = Err (fault_nowhere (LimitReached limit)) ∷ []
+
+-- the items behind so many events, while so many collections are open
+abbrev pub limited_from : Limits → (came level : ℕ) → List Item → List Item
+limited_from limits came level [] = []
+limited_from limits came level (Ok event ∷ items) =
+    event_or_limit (limit_at limits came level event) event
+    (limited_from limits (came + 1) (level_behind event level) items)
+limited_from limits came level (Err fault ∷ items) = Err fault ∷ []
+
+-- The items up to their first fault, in which the first event that is one too many, or else opens
+-- one collection too many, is replaced by the fault of that limit, which ends them.
+abbrev pub limited_items : Limits → List Item → List Item
+limited_items limits items = limited_from limits 0 0 items
+
+-- ---- what a limiter makes of the items
+
+-- the items that are still to come, of these
+abbrev pub under : Limiter → List Item → List Item
+under limiter = limited_from limiter.limits limiter.came limiter.level
+
+-- an event comes, and then the others
+abbrev pub Admits : (old : Limiter) → PlainEvent → (new : Limiter) → Type 0
+Admits old event new =
+    (items : List Item) → under old (Ok event ∷ items) ≡ Ok event ∷ under new items
+
+-- a limit's fault comes in the place of an event, and nothing behind it
+abbrev pub Refuses : Limiter → PlainEvent → Fault → Type 0
+Refuses limiter event fault =
+    (limit : Limit) × (fault ≡ fault_nowhere (LimitReached limit))
+    × ((items : List Item) → under limiter (Ok event ∷ items) ≡ Err fault ∷ [])
+
+-- may one more event come?
+abbrev pub has_room : Limiter → Bool
+has_room limiter = not (nat_le limiter.limits.items limiter.came)
+
+-- the same three where there may be no limits, and with them no refusal
+abbrev pub under_any : Option Limiter → List Item → List Item
+under_any None items = items
+under_any (Some limiter) items = under limiter items
+
+abbrev pub AdmitsAny : (old : Option Limiter) → PlainEvent → (new : Option Limiter) → Type 0
+AdmitsAny old event new =
+    (items : List Item) → under_any old (Ok event ∷ items) ≡ Ok event ∷ under_any new items
+
+abbrev pub RefusesAny : Option Limiter → PlainEvent → Fault → Type 0
+RefusesAny None event fault = ⊥
+RefusesAny (Some limiter) event fault = Refuses limiter event fault
+
+-- what comes of an item of the iterator inside: an event that is admitted is given, a limit's fault
+-- comes in the place of another, and a fault stays; after a fault nothing more comes
+abbrev pub Passes : (old : Limiter) → (asked given : Result Event Error) → (new : Limiter) → (ended : Bool) → Type 0
+Passes old (Ok event) given new ended = MatchResult given
+    (λ passed. (passed ≡ event) × Admits old (event_of event) new × (ended ≡ false))
+    (λ error. Refuses old (event_of event) (fault_of error) × (ended ≡ true))
+Passes old (Err error) given new ended = (given ≡ Err error) × (ended ≡ true)
+
+-- the same, or nothing where nothing comes
+abbrev pub PassesNext : (old : Limiter) → (asked given : Option (Result Event Error)) → (new : Limiter) → (ended : Bool) → Type 0
+PassesNext old None given new ended = (given ≡ None) × (new ≡ old) × (ended ≡ false)
+PassesNext old (Some asked) given new ended =
+    MatchOption given ⊥ (λ item. Passes old asked item new ended)
+
+-- the iterator inside
+abbrev pub inner_of : {I : Type 0} → Limited I → I
+inner_of limited = limited.inner
+
+-- of the items that the iterator inside has to come, those that come
+abbrev pub come_of : {I : Type 0} → Limited I → List Item → List Item
+come_of limited items = cond limited.ended [] (under limited.limiter items)
+
+-- one call of `next`: what comes of the next item of the iterator inside, which is asked no more
+-- after a fault
+abbrev pub GivesLimited : {I : Type 0} → (I → Option (Result Event Error) → I → Type 0) → Limited I → Option (Result Event Error) → Limited I → Type 0
+GivesLimited inner_gives old item new = MatchBool old.ended
+    ((item ≡ None) × (new ≡ old))
+    ((asked : Option (Result Event Error)) × inner_gives old.inner asked new.inner
+    × PassesNext old.limiter asked item new.limiter new.ended)

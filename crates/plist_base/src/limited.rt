@@ -1,0 +1,76 @@
+//! Items under limits.
+
+ghost use Rattle.std.specs.Prelude.{◌≡◌, false};
+ghost use Rattle.plist_base.specs.Limits.{Passes, come_of, inner_of, limited_items};
+
+use crate::{Error, Limiter, Limits, OwnedEvent};
+
+/// The items of another iterator up to their first fault, under [`Limits`].
+///
+/// The first event that is one too many, or else a start that would open one collection too many,
+/// is replaced by `LimitReached`, without an offset. A fault stays that fault. After either nothing
+/// more comes, and the other iterator isn't asked again.
+#[derive(Drop)]
+pub struct Limited<I> {
+    inner: I,
+    limiter: Limiter,
+    // A fault has come.
+    ended: bool,
+}
+
+impl<I> Limited<I> {
+    /// Nothing has come.
+    pub fn new(inner: I, limits: Limits) -> Self
+        ensures inner { inner_of result ≡ inner }
+        ensures items { come_of result ≡ limited_items limits }
+    {
+        Limited {
+            inner,
+            limiter: Limiter::new(limits),
+            ended: false,
+        }
+    }
+
+    // What comes of an item of the iterator inside.
+    fn pass(&mut self, item: Result<OwnedEvent, Error>) -> Result<OwnedEvent, Error>
+        requires going { self.old.ended ≡ false }
+        ensures passes { Passes self.old.limiter item.entry result self.new.limiter self.new.ended }
+        ensures inner { self.new.inner ≡ self.old.inner }
+    {
+        match item {
+            Ok(event) => match self.limiter.admit(&event) {
+                Ok(()) => Ok(event),
+                Err(reached) => {
+                    self.ended = true;
+                    Err(reached)
+                }
+            },
+            Err(error) => {
+                self.ended = true;
+                Err(error)
+            }
+        }
+    }
+}
+
+impl<I: Iterator<Item = Result<OwnedEvent, Error>>> Iterator for Limited<I> {
+    type Item = Result<OwnedEvent, Error>;
+
+    ghost use Rattle.plist_base.specs.Limits.{GivesLimited};
+
+    ghost can_next = { λ s. I.can_next s.inner };
+
+    ghost next_gives = { GivesLimited I.next_gives };
+
+    ghost remaining = { λ s. I.remaining s.inner };
+
+    fn next(&mut self) -> Option<Result<OwnedEvent, Error>> {
+        if self.ended {
+            return None;
+        }
+        match self.inner.next() {
+            Some(item) => Some(self.pass(item)),
+            None => None,
+        }
+    }
+}
