@@ -1,5 +1,5 @@
 -- What lies in bytes that are lent, whatever follows them.
-use Rattle.std.proofs.Common.{◌≡◌, ℕ, zero, suc, false, ◌+◌, ◌-◌, ◌*◌, ◌/◌, ◌%◌, ◌^◌, ◌<◌, ◌≤◌, ◌⊎◌, inl, inr, nat_eq, cond, List, [], ◌∷◌, ◌++◌, length, take, drop, get_or, Option, None, Some, Ok, IfSome, refl, ap, sym, ◌∙◌, arith}
+use Rattle.std.proofs.Common.{◌≡◌, ℕ, zero, suc, false, ◌+◌, ◌-◌, ◌*◌, ◌%◌, ◌^◌, ◌<◌, ◌≤◌, inl, inr, nat_eq, List, [], ◌∷◌, ◌++◌, length, take, drop, get_or, Option, None, Some, Ok, IfSome, refl, ap, sym, ◌∙◌, arith}
 use Rattle.std.proofs.lemmas.Bool.{le-leb, lt-ltb, le-ltb, cases_lt}
 use Rattle.std.proofs.lemmas.Bool.Decides.{nat_tests}
 use Rattle.std.proofs.lemmas.List.{length-append, take-append-le, drop-append-le, length-drop, length-take-le, drop-drop, take-append-drop}
@@ -12,7 +12,7 @@ use Rattle.plist_binread.specs.declared.child.Asked.{Asked}
 use Rattle.plist_binread.specs.Container.{number_of, number_at, numbers_of}
 use Rattle.plist_binread.specs.Debt.{IsCollection, ReadsChild, children_in}
 use Rattle.plist_binread.specs.Lent.{IsSlots, IsAsked, slot_of}
-use Rattle.plist_binread.specs.Object.{Object, Array, Faulty, Layout, Counted, dictionary, layout_of, length_in, length_that_follows, meaning_of_front, meaning_counted, object_behind, object_in}
+use Rattle.plist_binread.specs.Object.{Object, Array, Faulty, dictionary, layout_of, length_in, meaning_of_front, meaning_counted, object_behind, object_in}
 use Rattle.plist_binread.proofs.Children.{length-numbers, get_or-numbers, length-dictionary, key, value, known_array, known_dictionary}
 use Rattle.plist_binread.proofs.Columns.{take-drop-take}
 use Rattle.plist_binread.proofs.Extents.{leb_short, number_at-take}

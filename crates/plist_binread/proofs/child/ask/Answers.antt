@@ -1,4 +1,4 @@
-use Rattle.std.proofs.Common.{◌≡◌, ◌-◌, length, drop, refl, ap, ◌∙◌, arith}
+use Rattle.std.proofs.Common.{refl, arith}
 use Rattle.plist_binread.proofs.Lending.{array_asked, dictionary_asked, drop-first}
 use Rattle.plist_binread.proofs.child.ask.Goals as goal
 

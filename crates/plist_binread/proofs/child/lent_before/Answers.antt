@@ -1,5 +1,4 @@
 use Rattle.std.proofs.Common.{◌-◌, length, sym, refl, arith}
-use Rattle.std.proofs.lemmas.List.{length-take-le}
 use Rattle.std.proofs.Math.Seq.{take-length}
 use Rattle.plist_binread.proofs.Lending.{known_front}
 use Rattle.plist_binread.proofs.child.lent_before.Goals as goal

@@ -1,5 +1,4 @@
 use Rattle.std.proofs.Common.{◌≡◌, ◌+◌, ◌*◌, arith}
-use Rattle.plist_binread.specs.Lent.{slot_of}
 use Rattle.plist_binread.proofs.Lending.{known_slot}
 use Rattle.plist_binread.proofs.child.near_number.Goals as goal
 

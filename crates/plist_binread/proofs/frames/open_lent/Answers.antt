@@ -1,4 +1,4 @@
-use Rattle.std.proofs.Common.{arith, sym, refl, ap, ◌∙◌, ◌+◌, ◌-◌, ℕ, cond, length, reverse, true, Some}
+use Rattle.std.proofs.Common.{arith, sym, refl, ap, ◌∙◌, ◌+◌, ◌-◌, ℕ, cond, length, reverse, true}
 use Rattle.std.proofs.lemmas.Bool.{false≢true}
 use Rattle.std.proofs.lemmas.List.{length-reverse}
 use Rattle.plist_binread.specs.Debt.{cached_count, entries_of, scalar_in, scalar_at}

@@ -1,4 +1,4 @@
-use Rattle.std.proofs.Common.{length, ◌++◌}
+use Rattle.std.proofs.Common.{◌++◌}
 use Rattle.plist_binread.specs.Object.{length_in}
 use Rattle.plist_binread.proofs.Lending.{array_lent}
 use Rattle.plist_binread.proofs.lent.lent_array.Goals as goal

@@ -1,4 +1,4 @@
-use Rattle.std.proofs.Common.{ap, sym, ◌∙◌, arith, ◌++◌}
+use Rattle.std.proofs.Common.{arith}
 use Rattle.plist_binread.proofs.Markers.{layout-data, layout-text, layout-uid, layout-array, layout-dictionary}
 use Rattle.plist_binread.proofs.lent.lent_behind.Goals as goal
 

@@ -1,4 +1,4 @@
-use Rattle.std.proofs.Common.{◌≡◌, ◌*◌, length, ◌++◌, arith}
+use Rattle.std.proofs.Common.{◌≡◌, ◌*◌, ◌++◌, arith}
 use Rattle.plist_binread.specs.Object.{length_in}
 use Rattle.plist_binread.proofs.Lending.{dictionary_lent}
 use Rattle.plist_binread.proofs.lent.lent_dictionary.Goals as goal

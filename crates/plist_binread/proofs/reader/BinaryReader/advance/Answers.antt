@@ -1,10 +1,10 @@
-use Rattle.std.proofs.Common.{arith, ◌^◌, length, reverse, refl, true, false, None}
+use Rattle.std.proofs.Common.{arith, ◌^◌, length, reverse, refl, true, None}
 use Rattle.plist_binread.specs.Told.{event_in}
-use Rattle.plist_binread.specs.Debt.{owed_by, entries_of, next_number, root_with}
+use Rattle.plist_binread.specs.Debt.{owed_by, entries_of, root_with}
 use Rattle.plist_binread.specs.Container.{head_of}
 use Rattle.plist_binread.specs.Unfolding.{items_of_file, until_fault}
 use Rattle.plist_binread.proofs.Steps.{fresh_falls}
-use Rattle.plist_binread.proofs.Taken.{closes-fresh, closes-ended, walking-ended, holds_head, holds_none, nested, lists, nothing_ended, first_fault, step_event, told_event, kept_told, kept_fault, kept_end, told_end, step_fault, step_nothing}
+use Rattle.plist_binread.proofs.Taken.{closes-fresh, closes-ended, walking-ended, holds_head, holds_none, nested, lists, nothing_ended, first_fault, told_event, kept_told, kept_fault, kept_end, step_fault, step_nothing}
 use Rattle.plist_binread.proofs.Lending.{known_asks_nothing}
 use Rattle.plist_binread.proofs.Failing.{from_within}
 use Rattle.plist_binread.proofs.reader.BinaryReader.advance.Goals as goal
