@@ -159,7 +159,7 @@ known_scalar (Some bytes) bounds tags contents fs n at number event depth o k h 
     (scalar_from (entry_of bytes bounds number).object (event_of event) (sym (ap scalar_at (entry_there bytes bounds tags contents fs k number h)) ∙ held_scalar bytes bounds tags contents fs k number (event_of event) h is.0 is.1))
 
 -- the place of an object that isn't cached
-place_is : (bytes : List ℕ) (bounds : Bounds) (tags contents : List ℕ) (fs : List Frame) (k : IsKnown bytes bounds tags contents fs) (number place : ℕ) → number < length tags → (unmarked (get_or tags number 0) ≡ 0) × (place ≡ get_or contents number 0) → place ≡ (entry_of bytes bounds number).place
+pub place_is : (bytes : List ℕ) (bounds : Bounds) (tags contents : List ℕ) (fs : List Frame) (k : IsKnown bytes bounds tags contents fs) (number place : ℕ) → number < length tags → (unmarked (get_or tags number 0) ≡ 0) × (place ≡ get_or contents number 0) → place ≡ (entry_of bytes bounds number).place
 place_is bytes bounds tags contents fs k number place h is =
     is.1 ∙ held_place bytes bounds tags contents fs k number h is.0 ∙ ap place_at (entry_there bytes bounds tags contents fs k number h)
 
@@ -220,7 +220,7 @@ known_closed None bounds tags contents fs gs turned = tt
 known_closed (Some bytes) bounds tags contents fs gs turned = ap until_fault turned.0
 
 -- the number that was read is that of the child
-child_is : (bytes : List ℕ) (bounds : Bounds) (tags contents : List ℕ) (fs gs : List Frame) (object index : ℕ) → object < length tags → unmarked (get_or tags object 0) ≡ 0 → Turned bytes bounds tags contents fs (Child object index) gs
+pub child_is : (bytes : List ℕ) (bounds : Bounds) (tags contents : List ℕ) (fs gs : List Frame) (object index : ℕ) → object < length tags → unmarked (get_or tags object 0) ≡ 0 → Turned bytes bounds tags contents fs (Child object index) gs
     → (answer : Result ℕ Error) → (bounds.trailer ≤ length bytes → ReadsChild (object_in bounds.reference_width (drop (get_or contents object 0) (take bounds.trailer bytes))) index answer)
     → MatchResult answer (λ number. number ≡ get_or (children_at (slice_get (entries_of bytes bounds) object)) index 0) (λ error. IsIo (kind_of (error_kind_of error)))
 child_is bytes bounds tags contents fs gs object index h none turned answer reads =

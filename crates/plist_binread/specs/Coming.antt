@@ -6,7 +6,6 @@ use Rattle.plist_base.specs.declared.event.Event.TheVariants.{EndCollection}
 use Rattle.plist_base.specs.declared.source.Source.{Ghosts}
 use Rattle.plist_base.specs.Faults.{MatchFault, kind_of, error_kind_of, fault_of}
 use Rattle.plist_base.specs.Events.{PlainEvent, Item, event_of}
-use Rattle.plist_base.specs.Events as plain
 use Rattle.plist_base.specs.Sources.{ItemCountsIo}
 use Rattle.plist_binread.specs.Container.{head_of}
 use Rattle.std.specs.Option.{is_some}
@@ -17,6 +16,7 @@ use Rattle.plist_binread.specs.declared.reader.BinaryReader.{BinaryReader}
 use Rattle.plist_binread.specs.declared.reader.State.TheVariants.{Ended}
 use Rattle.plist_binread.specs.declared.frames.Frame.{Frame}
 use Rattle.plist_binread.specs.declared.counter.DecodeCounter.{Ghosts as CounterGhosts}
+use Rattle.plist_binread.specs.Lent.{IsToldEnd}
 use Rattle.plist_binread.specs.Told.{event_in}
 use Rattle.plist_binread.specs.Debt.{IsOpen, still_owed, number_owed, cached_count, places_of, AreBoundsOf, IsKept, IsKeptTold, is_fresh, is_walking, ends_next, IsOwed, WantsMemory, steps_left}
 
@@ -115,10 +115,6 @@ AreWithin count tags contents frames = (length tags ≤ count) × (length conten
 -- the same of a reader
 abbrev pub KeepsWithin : {R C : Type 0} {g : Ghosts R} {h : CounterGhosts C} → (count : ℕ) → BinaryReader R C g h → Type 0
 KeepsWithin count reader = AreWithin count reader.tags.items reader.contents.items reader.frames.items
-
--- an end is told
-abbrev pub IsToldEnd : {A : Type 0} → Option (Result A Error) → (told : PlainEvent) → Type 0
-IsToldEnd item told = MatchOption item ⊥ (λ answer. MatchResult answer (λ _. told ≡ plain.EndCollection) (λ error. ⊥))
 
 -- one call of `next`: known bytes stay as they are, and the item is the first of those to come
 pub record Gives {R C : Type 0} {g : Ghosts R} {h : CounterGhosts C} (known : R → Option (List ℕ)) (failed : R → ℕ) (counts : Type 0) (count : C → ℕ) (old : BinaryReader R C g h) (item : Option (Result Event Error)) (new : BinaryReader R C g h) : Type 0 where

@@ -4,6 +4,7 @@ pub mod Container
 pub mod Debt
 pub mod Examples
 pub mod Failures
+pub mod Lent
 pub mod Object
 pub mod Packed
 pub mod Places

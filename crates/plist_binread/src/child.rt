@@ -1,15 +1,17 @@
 //! The reference of one child, read from the bytes of its collection.
 
-ghost use Rattle.std.specs.Prelude.{◌≡◌, ◌*◌, ◌<◌, ◌≤◌, length, take, drop, IfSome};
+ghost use Rattle.std.specs.Prelude.{◌≡◌, ℕ, ◌-◌, ◌*◌, ◌<◌, ◌≤◌, List, ◌++◌, length, take, drop, Ok, IfSome};
 ghost use Rattle.plist_base.specs.Sources.{AnswersIo};
 ghost use Rattle.plist_binread.specs.Container.{numbers_of};
 ghost use Rattle.plist_binread.specs.Object.{Array, dictionary, length_in, meaning_counted, layout_of, object_behind, object_in};
 ghost use Rattle.plist_binread.specs.Places.{bytes_behind};
 ghost use Rattle.plist_binread.specs.Debt.{ReadsChild};
+ghost use Rattle.plist_binread.specs.Lent.{IsSlots, IsAsked, slot_of};
 ghost use Rattle.plist_binread.specs.Failures.{ErrWithin};
 
 use crate::extent::find_content;
-use crate::numbers::read_number;
+use crate::lent::lent_length;
+use crate::numbers::{number_from, read_number};
 use crate::table::Bounds;
 use plist_base::{Error, ErrorKind, Source};
 
@@ -110,4 +112,127 @@ pub fn read_child<S: Source>(
     }
     let marker = read_number(source, place, 1)? as u8;
     read_child_marked(source, bounds, place, marker, index)
+}
+
+/// Where the references of the collection stand that was asked last.
+#[derive(Clone, Copy)]
+pub struct Asked {
+    /// The place of the collection, where one was asked.
+    pub place: u64,
+    /// How far behind that its references begin.
+    pub start: u64,
+    /// How many pairs it has; none if it is an array.
+    pub pairs: u64,
+}
+
+impl Asked {
+    ghost use Rattle.std.specs.Prelude.{◌≡◌, ◌-◌, ◌^◌};
+
+    /// None was asked: no object has this place.
+    pub fn nothing() -> Self
+        ensures { result.place ≡ 2 ^ 64 - 1 }
+    {
+        Asked {
+            place: u64::MAX,
+            start: 0,
+            pairs: 0,
+        }
+    }
+}
+
+// Finds the references of the collection at the front of lent bytes.
+fn ask(seen: &[u8], width: usize, place: u64) -> Option<Asked>
+    requires { 0 < width }
+    ensures place { IfSome result (λ asked. asked.place ≡ place) }
+    ensures slots { IfSome result (λ asked. (more : List ℕ) →
+        IsSlots width (seen.now ++ more) asked.start asked.pairs) }
+{
+    let (marker, rest) = seen.split_first()?;
+    let (count, behind) = lent_length(*marker, rest)?;
+    let start = (seen.len() - behind.len()) as u64;
+    match *marker {
+        0xa0..=0xaf => Some(Asked {
+            place,
+            start,
+            pairs: 0,
+        }),
+        0xd0..=0xdf => Some(Asked {
+            place,
+            start,
+            pairs: count,
+        }),
+        _ => None,
+    }
+}
+
+// The number of a child's reference among those of its collection.
+fn slot_of(pairs: u64, index: u64) -> Option<u64>
+    ensures { IfSome result (λ slot. slot ≡ slot_of pairs index) }
+{
+    if pairs == 0 {
+        Some(index)
+    } else if index % 2 == 0 {
+        Some(index / 2)
+    } else {
+        pairs.checked_add(index / 2)
+    }
+}
+
+// The bytes at hand from a place on that lie before the trailer.
+pub fn lent_before<'a, S: Source>(source: &'a S, bounds: &Bounds, place: u64) -> &'a [u8]
+    requires { place < bounds.now.trailer }
+    ensures room { length result.now ≤ bounds.now.trailer - place }
+    ensures bytes { IfSome (S.known source.now) (λ bytes. bounds.now.trailer ≤ length bytes →
+        (more : List ℕ) × (drop place (take bounds.now.trailer bytes) ≡ result.now ++ more)) }
+{
+    let seen = source.near(place);
+    let room = bounds.trailer - place;
+    if seen.len() as u64 <= room {
+        return seen;
+    }
+    &seen[..room as usize]
+}
+
+// The number of a child of the collection that was asked last, if it is at hand.
+fn near_number<S: Source>(source: &S, bounds: &Bounds, asked: &Asked, index: u64) -> Option<u64>
+    requires { IfSome (S.known source.now) (λ bytes. bounds.now.trailer ≤ length bytes →
+        IsAsked bytes bounds.now asked.now) }
+    ensures child { IfSome result (λ number. IfSome (S.known source.now) (λ bytes.
+        bounds.now.trailer ≤ length bytes → ReadsChild (object_in bounds.now.reference_width
+        (drop asked.now.place (take bounds.now.trailer bytes))) index (Ok number))) }
+{
+    let width = bounds.reference_width;
+    let behind = slot_of(asked.pairs, index)?.checked_mul(width as u64)?;
+    let place = asked.place.checked_add(asked.start.checked_add(behind)?)?;
+    let seen = source.near(place);
+    if seen.len() < width {
+        return None;
+    }
+    Some(number_from(&seen[..width]))
+}
+
+/// The number of a child of the collection at a place, if it is at hand.
+pub fn near_child<S: Source>(
+    source: &S,
+    bounds: &Bounds,
+    asked: &mut Asked,
+    place: u64,
+    index: u64,
+) -> Option<u64>
+    requires asked { IfSome (S.known source.now) (λ bytes. bounds.now.trailer ≤ length bytes →
+        IsAsked bytes bounds.now asked.old) }
+    ensures asked { IfSome (S.known source.now) (λ bytes. bounds.now.trailer ≤ length bytes →
+        IsAsked bytes bounds.now asked.new) }
+    ensures child { IfSome result (λ number. IfSome (S.known source.now) (λ bytes.
+        bounds.now.trailer ≤ length bytes → ReadsChild (object_in bounds.now.reference_width
+        (drop place (take bounds.now.trailer bytes))) index (Ok number))) }
+{
+    if asked.place != place {
+        if place >= bounds.trailer {
+            return None;
+        }
+        let seen = lent_before(source, bounds, place);
+        *asked = ask(seen, bounds.reference_width, place)?;
+    }
+    near_number(source, bounds, asked, index)
 }

@@ -1,6 +1,6 @@
 //! The collections that are open, and the walk from one item to the next.
 
-ghost use Rattle.std.specs.Prelude.{◌≡◌, ℕ, ◌+◌, ◌-◌, ◌^◌, ◌<◌, List, [], ◌∷◌, ◌++◌, length, get_or, reverse, true, false, Ok, Err, IfOk, IfErr, OnOk, OnErr, IfSome, Some, ⊤};
+ghost use Rattle.std.specs.Prelude.{◌≡◌, ℕ, ◌+◌, ◌-◌, ◌^◌, ◌<◌, ◌≤◌, List, [], ◌∷◌, ◌++◌, length, take, drop, get_or, reverse, true, false, Ok, Err, IfOk, IfErr, OnOk, OnErr, IfSome, Some, ⊤};
 ghost use Rattle.std.specs.List.{slice_get};
 ghost use Rattle.plist_base.specs.declared.event.Event.TheVariants.{EndCollection};
 ghost use Rattle.plist_base.specs.Events.{event_of};
@@ -8,16 +8,20 @@ ghost use Rattle.plist_base.specs.Faults.{OutOfMemory, MatchFault, kind_of, erro
 ghost use Rattle.plist_base.specs.Sources.{AnswersIo, ItemCountsIo};
 ghost use Rattle.plist_binread.specs.declared.frames.Turn.TheVariants.{Closed};
 ghost use Rattle.plist_binread.specs.Packed.{is_small, is_marked, unmarked};
-ghost use Rattle.plist_binread.specs.Object.{Object};
+ghost use Rattle.plist_binread.specs.Object.{Object, object_in};
 ghost use Rattle.plist_binread.specs.Unfolding.{Entry, unfolding_of, until_fault};
-ghost use Rattle.plist_binread.specs.Debt.{IsDecodedAs, small_in, path_of, IsOpen, IsKnown, IsFound, IsWithin, IsKept, cached_count, owed_by, entries_of, next_number, Explains, Pays, PaysNext, steps, weight, Turns, Lightens, closes};
+ghost use Rattle.plist_binread.specs.Debt.{IsDecodedAs, small_in, path_of, IsOpen, IsKnown, IsFound, IsWithin, IsKept, cached_count, owed_by, entries_of, next_number, Explains, Pays, IsKeptTold, steps, weight, Turns, Lightens, closes};
+ghost use Rattle.plist_binread.specs.Lent.{IsAsked, IsLentAs, IsToldAs, IsToldEnd, PaysTold, PaysNextTold, EntersChild, small_lent};
+ghost use Rattle.plist_binread.specs.Told.{event_in};
 ghost use Rattle.plist_binread.specs.Failures.{ErrWithin, ItemWithin};
 
-use crate::child::read_child;
+use crate::child::{Asked, lent_before, near_child, read_child};
 use crate::counter::DecodeCounter;
+use crate::lent::{Lent, decode_lent};
 use crate::object::{Decoded, decode};
 use crate::packed::{keep, mark, pack, unmark, unpack};
 use crate::table::Bounds;
+use crate::told::Last;
 use plist_base::{Error, ErrorKind, Event, OwnedEvent, Source};
 use std::alloc::Global;
 
@@ -234,7 +238,195 @@ pub fn enter<S: Source, C: DecodeCounter>(
     }
 }
 
-/// The next item of what the open collections owe.
+// Opens a collection of so many children, if there is room.
+fn push_near(frames: &mut Vec<Frame>, object: u64, count: u64) -> bool
+    ensures pushed { result ≡ true → frames.new.items
+        ≡ frames.old.items ++ record { object = object; next = 0; count = count } ∷ [] }
+    ensures unchanged { result ≡ false → frames.new.items ≡ frames.old.items }
+    ensures small { count < 2 ^ 64 }
+{
+    let frame = Frame {
+        object,
+        next: 0,
+        count,
+    };
+    frames.push(frame).is_ok()
+}
+
+// Keeps what was lent and told where it is a small scalar, and opens it where it is a collection. It
+// answers no, and nothing has changed, where room for that is wanted or nothing was lent.
+fn open_lent(
+    tags: &mut Vec<u8>,
+    contents: &mut Vec<u64>,
+    frames: &mut Vec<Frame>,
+    number: u64,
+    lent: Lent,
+    last: &Last,
+) -> bool
+    requires same { length contents.old.items ≡ length tags.old.items }
+    requires path { IsOpen tags.old.items (reverse frames.old.items) }
+    requires below { number < length tags.old.items }
+    requires new { get_or tags.old.items number 0 ≡ 0 }
+    ensures size { length tags.new.items ≡ length tags.old.items }
+    ensures same { length contents.new.items ≡ length tags.new.items }
+    ensures path { IsOpen tags.new.items (reverse frames.new.items) }
+    ensures counted { cached_count tags.new.items
+        ≡ cached_count tags.old.items + small_lent lent (event_in last.now) }
+    ensures kept { result ≡ true → (object : Object) → IsLentAs object (event_in last.now) lent →
+        is_small (event_in last.now) ≡ true → 0 < unmarked (get_or tags.new.items number 0) }
+    ensures falls { result ≡ true → weight (length tags.old.items) (reverse frames.new.items)
+        < weight (length tags.old.items) (reverse frames.old.items)
+        + steps (length tags.old.items - length frames.old.items) }
+    ensures pays { result ≡ true → (bytes : List ℕ) (bounds : Bounds) (entry : Entry) →
+        IsKnown bytes bounds tags.old.items contents.old.items (reverse frames.old.items) →
+        slice_get (entries_of bytes bounds) number ≡ Some entry →
+        IsLentAs entry.object (event_in last.now) lent →
+        ((at : ℕ) → PaysTold (unfolding_of (entries_of bytes bounds)
+        (length tags.old.items - length frames.old.items)
+        (path_of (reverse frames.old.items)) at number
+        ++ owed_by (entries_of bytes bounds) (reverse frames.old.items))
+        (event_in last.now) (owed_by (entries_of bytes bounds) (reverse frames.new.items)))
+        × IsKnown bytes bounds tags.new.items contents.new.items (reverse frames.new.items) }
+    ensures unchanged { result ≡ false → (tags.new.items ≡ tags.old.items)
+        × (contents.new.items ≡ contents.old.items) × (frames.new.items ≡ frames.old.items) }
+{
+    match lent {
+        Lent::Nothing => false,
+        Lent::Scalar => match pack(&last.lend()) {
+            Some((tag, content)) => {
+                keep(tags, contents, number as usize, tag, content);
+                true
+            }
+            None => true,
+        },
+        Lent::Collection(count) => {
+            if push_near(frames, number, count) {
+                mark(tags, number as usize);
+                return true;
+            }
+            false
+        }
+    }
+}
+
+// Tells the first item of an object where all that it needs is at hand and right. It answers no, and
+// nothing has changed, where it isn't.
+fn enter_near<S: Source, C: DecodeCounter>(
+    source: &S,
+    counter: &mut C,
+    bounds: &Bounds,
+    tags: &mut Vec<u8>,
+    contents: &mut Vec<u64>,
+    frames: &mut Vec<Frame>,
+    last: &mut Last,
+    number: u64,
+) -> bool
+    requires same { length contents.old.items ≡ length tags.old.items }
+    requires path { IsOpen tags.old.items (reverse frames.old.items) }
+    requires known { IfSome (S.known source.now) (λ bytes.
+        IsKnown bytes bounds.now tags.old.items contents.old.items (reverse frames.old.items)) }
+    requires counted { C.counts → C.count counter.old ≡ cached_count tags.old.items }
+    ensures size { length tags.new.items ≡ length tags.old.items }
+    ensures same { length contents.new.items ≡ length tags.new.items }
+    ensures path { IsOpen tags.new.items (reverse frames.new.items) }
+    ensures counted { C.counts → C.count counter.new ≡ cached_count tags.new.items }
+    ensures known { result ≡ true → IfSome (S.known source.now) (λ bytes.
+        IsKnown bytes bounds.now tags.new.items contents.new.items (reverse frames.new.items)) }
+    ensures kept { result ≡ true → IfSome (S.known source.now) (λ _.
+        is_small (event_in last.new) ≡ true → 0 < unmarked (get_or tags.new.items number 0)) }
+    ensures pays { result ≡ true → IfSome (S.known source.now) (λ bytes. (at : ℕ) →
+        PaysTold (unfolding_of (entries_of bytes bounds.now)
+        (length tags.old.items - length frames.old.items)
+        (path_of (reverse frames.old.items)) at number
+        ++ owed_by (entries_of bytes bounds.now) (reverse frames.old.items))
+        (event_in last.new) (owed_by (entries_of bytes bounds.now) (reverse frames.new.items))) }
+    ensures falls { result ≡ true → weight (length tags.old.items) (reverse frames.new.items)
+        < weight (length tags.old.items) (reverse frames.old.items)
+        + steps (length tags.old.items - length frames.old.items) }
+    ensures unchanged { result ≡ false → (tags.new.items ≡ tags.old.items)
+        × (contents.new.items ≡ contents.old.items) × (frames.new.items ≡ frames.old.items) }
+{
+    if number >= tags.len() as u64 {
+        return false;
+    }
+    let held = tags[number as usize];
+    let content = contents[number as usize];
+    if held >= 128 {
+        return false;
+    }
+    if held != 0 {
+        return last.recall(held, content);
+    }
+    if content >= bounds.trailer {
+        return false;
+    }
+    let seen = lent_before(source, bounds, content);
+    let room = bounds.trailer - content;
+    let lent = decode_lent(seen, room, bounds.reference_width, counter, last);
+    open_lent(tags, contents, frames, number, lent, last)
+}
+
+// The same of a child of the collection at this place.
+fn go_near<S: Source, C: DecodeCounter>(
+    source: &S,
+    counter: &mut C,
+    bounds: &Bounds,
+    tags: &mut Vec<u8>,
+    contents: &mut Vec<u64>,
+    frames: &mut Vec<Frame>,
+    asked: &mut Asked,
+    last: &mut Last,
+    at: u64,
+    index: u64,
+) -> bool
+    requires same { length contents.old.items ≡ length tags.old.items }
+    requires path { IsOpen tags.old.items (reverse frames.old.items) }
+    requires known { IfSome (S.known source.now) (λ bytes.
+        IsKnown bytes bounds.now tags.old.items contents.old.items (reverse frames.old.items)) }
+    requires counted { C.counts → C.count counter.old ≡ cached_count tags.old.items }
+    requires asked { IfSome (S.known source.now) (λ bytes. bounds.now.trailer ≤ length bytes →
+        IsAsked bytes bounds.now asked.old) }
+    ensures size { length tags.new.items ≡ length tags.old.items }
+    ensures same { length contents.new.items ≡ length tags.new.items }
+    ensures path { IsOpen tags.new.items (reverse frames.new.items) }
+    ensures counted { C.counts → C.count counter.new ≡ cached_count tags.new.items }
+    ensures asked { IfSome (S.known source.now) (λ bytes. bounds.now.trailer ≤ length bytes →
+        IsAsked bytes bounds.now asked.new) }
+    ensures known { result ≡ true → IfSome (S.known source.now) (λ bytes.
+        IsKnown bytes bounds.now tags.new.items contents.new.items (reverse frames.new.items)) }
+    ensures enters { result ≡ true → IfSome (S.known source.now) (λ bytes.
+        EntersChild (entries_of bytes bounds.now) (object_in bounds.now.reference_width
+        (drop at (take bounds.now.trailer bytes))) index (length tags.old.items)
+        (reverse frames.old.items) (event_in last.new) tags.new.items (reverse frames.new.items)) }
+    ensures falls { result ≡ true → weight (length tags.old.items) (reverse frames.new.items)
+        < weight (length tags.old.items) (reverse frames.old.items)
+        + steps (length tags.old.items - length frames.old.items) }
+    ensures unchanged { result ≡ false → (tags.new.items ≡ tags.old.items)
+        × (contents.new.items ≡ contents.old.items) × (frames.new.items ≡ frames.old.items) }
+{
+    match near_child(source, bounds, asked, at, index) {
+        Some(number) => enter_near(
+            source, counter, bounds, tags, contents, frames, last, number,
+        ),
+        None => false,
+    }
+}
+
+// Tells what a slow step gave.
+fn tell(answer: Result<OwnedEvent, Error>, last: &mut Last) -> Option<Result<(), Error>>
+    ensures { IsToldAs answer.entry result (event_in last.new) }
+{
+    match answer {
+        Ok(event) => {
+            last.hold(event);
+            Some(Ok(()))
+        }
+        Err(error) => Some(Err(error)),
+    }
+}
+
+/// Tells the next item of what the open collections owe. What is at hand and right is told at once,
+/// and everything else is read.
 pub fn advance<S: Source, C: DecodeCounter>(
     alloc: Global,
     source: &mut S,
@@ -243,25 +435,32 @@ pub fn advance<S: Source, C: DecodeCounter>(
     tags: &mut Vec<u8>,
     contents: &mut Vec<u64>,
     frames: &mut Vec<Frame>,
-) -> Option<Result<OwnedEvent, Error>>
+    asked: &mut Asked,
+    last: &mut Last,
+) -> Option<Result<(), Error>>
     requires same { length contents.old.items ≡ length tags.old.items }
     requires path { IsOpen tags.old.items (reverse frames.old.items) }
     requires known { IfSome (S.known source.old) (λ bytes.
         IsKnown bytes bounds.now tags.old.items contents.old.items (reverse frames.old.items)) }
     requires counted { C.counts → C.count counter.old ≡ cached_count tags.old.items }
+    requires asked { IfSome (S.known source.old) (λ bytes. bounds.now.trailer ≤ length bytes →
+        IsAsked bytes bounds.now asked.old) }
     ensures size { length tags.new.items ≡ length tags.old.items }
     ensures same { length contents.new.items ≡ length tags.new.items }
     ensures path { IsOpen tags.new.items (reverse frames.new.items) }
     ensures known { IfSome (S.known source.old) (λ bytes.
         IsKnown bytes bounds.now tags.new.items contents.new.items (reverse frames.new.items)) }
     ensures counted { C.counts → C.count counter.new ≡ cached_count tags.new.items }
+    ensures asked { IfSome (S.known source.old) (λ bytes. bounds.now.trailer ≤ length bytes →
+        IsAsked bytes bounds.now asked.new) }
     ensures kept { IfSome (S.known source.old) (λ bytes.
-        IsKept (next_number (entries_of bytes bounds.now) (reverse frames.old.items)) result
-        tags.new.items) }
-    ensures closes { closes (reverse frames.old.items) ≡ true → result ≡ Some (Ok EndCollection) }
+        IsKeptTold (next_number (entries_of bytes bounds.now) (reverse frames.old.items)) result
+        (event_in last.new) tags.new.items) }
+    ensures closes { closes (reverse frames.old.items) ≡ true →
+        IsToldEnd result (event_in last.new) }
     ensures pays { IfSome (S.known source.old) (λ bytes.
-        PaysNext (owed_by (entries_of bytes bounds.now) (reverse frames.old.items)) result
-        (owed_by (entries_of bytes bounds.now) (reverse frames.new.items))) }
+        PaysNextTold (owed_by (entries_of bytes bounds.now) (reverse frames.old.items)) result
+        (event_in last.new) (owed_by (entries_of bytes bounds.now) (reverse frames.new.items))) }
     ensures falls { IfSome result (λ answer.
         (0 < weight (length tags.old.items) (reverse frames.old.items))
         × OnOk answer (weight (length tags.old.items) (reverse frames.new.items)
@@ -272,13 +471,24 @@ pub fn advance<S: Source, C: DecodeCounter>(
 {
     match turn_of(tags, frames) {
         Turn::Done => None,
-        Turn::Closed => Some(Ok(Event::EndCollection)),
+        Turn::Closed => {
+            last.hold(Event::EndCollection);
+            Some(Ok(()))
+        }
         Turn::Child(object, index) => {
             let at = contents[object as usize];
+            if go_near(
+                source, counter, bounds, tags, contents, frames, asked, last, at, index,
+            ) {
+                return Some(Ok(()));
+            }
             match read_child(source, bounds, at, index) {
-                Ok(number) => Some(enter(
-                    alloc, source, counter, bounds, tags, contents, frames, at, number,
-                )),
+                Ok(number) => tell(
+                    enter(
+                        alloc, source, counter, bounds, tags, contents, frames, at, number,
+                    ),
+                    last,
+                ),
                 Err(error) => Some(Err(error)),
             }
         }

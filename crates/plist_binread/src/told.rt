@@ -1,10 +1,14 @@
 //! The event that was told last.
 
-ghost use Rattle.std.specs.Prelude.{◌≡◌};
-ghost use Rattle.plist_base.specs.Events.{event_of};
+ghost use Rattle.std.specs.Prelude.{◌≡◌, Some, true};
+ghost use Rattle.std.specs.Str.{IsUtf8};
+ghost use Rattle.plist_base.specs.Events.{Data as DataEvent, String as StringEvent, event_of};
+ghost use Rattle.plist_binread.specs.declared.lent.Lent.TheVariants.{Scalar as ScalarLent};
+ghost use Rattle.plist_binread.specs.Packed.{cached};
 ghost use Rattle.plist_binread.specs.Told.{event_in};
 
-use plist_base::{Event, OwnedEvent};
+use crate::lent::Lent;
+use plist_base::{Event, Integer, OwnedEvent, RealBits, Uid};
 use std::alloc::Global;
 use std::borrow::{CowSlice, CowStr};
 use std::mem;
@@ -96,5 +100,56 @@ impl Last {
     {
         self.held = event;
         self.told = Told::Held;
+    }
+
+    /// Tells this scalar.
+    pub fn hold_scalar(&mut self, event: OwnedEvent) -> Lent
+        ensures told { event_in self.new ≡ event_of event.entry }
+        ensures scalar { result ≡ ScalarLent }
+    {
+        self.hold(event);
+        Lent::Scalar
+    }
+
+    /// Tells the text in these bytes, if they are one and there is room for it.
+    pub fn tell_text(&mut self, bytes: &[u8]) -> bool
+        ensures { result ≡ true → IsUtf8 bytes.now × (event_in self.new ≡ StringEvent bytes.now) }
+    {
+        match str::from_utf8(bytes) {
+            Ok(text) => {
+                self.text.clear();
+                self.told = Told::Text;
+                self.text.push_str(text).is_ok()
+            }
+            Err(_) => false,
+        }
+    }
+
+    /// Tells this data, if there is room for it.
+    pub fn tell_data(&mut self, bytes: &[u8]) -> bool
+        ensures { result ≡ true → event_in self.new ≡ DataEvent bytes.now }
+    {
+        self.data.clear();
+        self.told = Told::Data;
+        self.data.extend_from_slice(bytes).is_ok()
+    }
+
+    /// Tells the scalar that a tag and a content hold, if they hold one and there is room for it.
+    pub fn recall(&mut self, tag: u8, content: u64) -> bool
+        ensures { result ≡ true → cached tag content ≡ Some (event_in self.new) }
+    {
+        let bytes = content.to_be_bytes();
+        match tag % 128 {
+            packed @ 8..=16 => return self.tell_data(&bytes[..usize::from(packed - 8)]),
+            packed @ 17..=25 => return self.tell_text(&bytes[..usize::from(packed - 17)]),
+            1 => self.hold(Event::Boolean(false)),
+            2 => self.hold(Event::Boolean(true)),
+            3 => self.hold(Event::Integer(Integer::from(content))),
+            4 => self.hold(Event::Integer(Integer::from(content.cast_signed()))),
+            5 => self.hold(Event::Real(RealBits::Eight(bytes))),
+            7 => self.hold(Event::Uid(Uid::new(content))),
+            _ => return false,
+        }
+        true
     }
 }

@@ -1,10 +1,11 @@
 use Rattle.std.proofs.Common.{arith, ◌^◌, length, reverse, refl, true, false, None}
 use Rattle.plist_binread.specs.Told.{event_in}
-use Rattle.plist_binread.specs.Debt.{owed_by, entries_of, next_number, root_with}
+use Rattle.plist_binread.specs.Debt.{owed_by, entries_of, root_with}
 use Rattle.plist_binread.specs.Container.{head_of}
 use Rattle.plist_binread.specs.Unfolding.{items_of_file, until_fault}
 use Rattle.plist_binread.proofs.Steps.{fresh_falls}
-use Rattle.plist_binread.proofs.Taken.{closes-fresh, closes-ended, walking-ended, holds_head, holds_none, nested, lists, nothing_ended, first_fault, step_event, told_event, kept_told, kept_fault, kept_end, told_end, step_fault, step_nothing}
+use Rattle.plist_binread.proofs.Taken.{closes-fresh, closes-ended, walking-ended, holds_head, holds_none, nested, lists, nothing_ended, first_fault, told_event, kept_told, kept_fault, kept_end, step_fault, step_nothing}
+use Rattle.plist_binread.proofs.Lending.{known_asks_nothing}
 use Rattle.plist_binread.proofs.Failing.{from_within}
 use Rattle.plist_binread.proofs.Limiting.{given-within}
 use Rattle.plist_binread.proofs.reader.BinaryReader.step.Goals as goal
@@ -69,16 +70,16 @@ returns-in-Err-clause-walks g c = record {
 pub returns-in-Some-Ok-clause-walks : goal.returns-in-Some-Ok-clause-walks
 returns-in-Some-Ok-clause-walks g c = record {
   unchanged = c.advance.ensures.unchanged;
-  items = rw c.in-Walking.is (told_event _ false (λ bytes. until_fault (owed_by (entries_of bytes c.args.self.now.bounds) (reverse c.args.self.now.frames.items))) (λ bytes. until_fault (owed_by (entries_of bytes c.args.self.now.bounds) (reverse c.advance.new.frames.items))) c.in-Some-Ok.event _ c.hold-in-Some-Ok.ensures (step_event _ c.args.self.now.bounds c.args.self.now.frames.items c.advance.new.frames.items _ (rw c.in-Some-Ok.field-0-is at c.in-Some-Ok.ensures.pays)));
+  items = rw c.in-Walking.is (rw c.in-Some-Ok.field-0-is at c.in-Some-Ok.ensures.pays);
   failures = rw c.in-Some-Ok.field-0-is at c.in-Some-Ok.ensures.failures;
   ended = λ e. (let f = c.in-Walking.is in absurd (cc));
   ends = tt;
   begun = rw c.in-Walking.is refl;
   faults = tt;
-  closes = λ e. told_end c.in-Some-Ok.event _ c.hold-in-Some-Ok.ensures ((rw c.in-Some-Ok.field-0-is at c.in-Some-Ok.ensures.closes) (rw c.in-Walking.is at e));
+  closes = λ e. (rw c.in-Some-Ok.field-0-is at c.in-Some-Ok.ensures.closes) (rw c.in-Walking.is at e);
   head = holds_head _ c.args.self.now.bounds c.advance.new.tags.items c.advance.new.contents.items (reverse c.advance.new.frames.items) _ c.advance.ensures.known;
   nested = nested _ _ _ c.advance.ensures.path (rw c.advance.ensures.size c.args.self.now.bounded);
-  cached = rw c.in-Walking.is (kept_told _ (λ bytes. next_number (entries_of bytes c.args.self.now.bounds) (reverse c.args.self.now.frames.items)) c.advance.new.tags.items c.in-Some-Ok.event _ c.hold-in-Some-Ok.ensures (rw c.in-Some-Ok.field-0-is at c.in-Some-Ok.ensures.kept));
+  cached = rw c.in-Walking.is (rw c.in-Some-Ok.field-0-is at c.in-Some-Ok.ensures.kept);
   marked = c.advance.ensures.path;
   counted = c.advance.ensures.counted;
   lists = lists _ _ _ _ c.advance.ensures.path c.advance.ensures.same (rw c.advance.ensures.size c.args.self.now.bounded);
@@ -94,10 +95,10 @@ returns-in-Some-Err-clause-walks g c = record {
   ends = refl;
   begun = refl;
   faults = given-within 0 (2 ^ 64) false _ (from_within _ 0 c.args.self.now.bounds.trailer 0 (2 ^ 64) (rw c.in-Some-Err.field-0-is at c.in-Some-Err.ensures.fault) (omega arith) (omega arith));
-  closes = λ e. (let no = (rw c.in-Some-Err.field-0-is at c.in-Some-Err.ensures.closes) (rw c.in-Walking.is at e) in absurd (cc));
+  closes = λ e. absurd ((rw c.in-Some-Err.field-0-is at c.in-Some-Err.ensures.closes) (rw c.in-Walking.is at e));
   head = holds_none _ c.args.self.now.bounds c.advance.new.tags.items _ (λ w. absurd (cc));
   nested = nested _ _ _ c.advance.ensures.path (rw c.advance.ensures.size c.args.self.now.bounded);
-  cached = rw c.in-Walking.is (kept_fault _ (λ bytes. next_number (entries_of bytes c.args.self.now.bounds) (reverse c.args.self.now.frames.items)) c.advance.new.tags.items c.in-Some-Err.error _);
+  cached = rw c.in-Walking.is (rw c.in-Some-Err.field-0-is at c.in-Some-Err.ensures.kept);
   marked = c.advance.ensures.path;
   counted = c.advance.ensures.counted;
   lists = lists _ _ _ _ c.advance.ensures.path c.advance.ensures.same (rw c.advance.ensures.size c.args.self.now.bounded);
@@ -113,12 +114,15 @@ returns-in-None-clause-walks g c = record {
   ends = refl;
   begun = refl;
   faults = tt;
-  closes = λ e. (let no = c.in-None.ensures.closes (rw c.in-Walking.is at e) in absurd (cc));
+  closes = λ e. absurd (c.in-None.ensures.closes (rw c.in-Walking.is at e));
   head = holds_none _ c.args.self.now.bounds c.advance.new.tags.items _ (λ w. absurd (cc));
   nested = nested _ _ _ c.advance.ensures.path (rw c.advance.ensures.size c.args.self.now.bounded);
-  cached = rw c.in-Walking.is (kept_end _ (λ bytes. next_number (entries_of bytes c.args.self.now.bounds) (reverse c.args.self.now.frames.items)) c.advance.new.tags.items _);
+  cached = rw c.in-Walking.is c.in-None.ensures.kept;
   marked = c.advance.ensures.path;
   counted = c.advance.ensures.counted;
   lists = lists _ _ _ _ c.advance.ensures.path c.advance.ensures.same (rw c.advance.ensures.size c.args.self.now.bounded);
   falls = tt;
 }
+
+pub invariant_of-self-clause-asks : goal.invariant_of-self-clause-asks
+invariant_of-self-clause-asks g c = λ _. known_asks_nothing (g.R.Source.known c.begin.new.source) c.begin.new.bounds c.nothing-self.result c.nothing-self.ensures

@@ -1,0 +1,7 @@
+use Rattle.std.proofs.Common.{ap, sym, ◌∙◌}
+use Rattle.plist_binread.specs.Object.{Scalar, date, date_if_any}
+use Rattle.plist_binread.proofs.lent.lent_date.Goals as goal
+
+pub returns-in-Ok : goal.returns-in-Ok
+returns-in-Ok c =
+    record { lent = λ more. c.in-Some.ensures.content more date ∙ ap date_if_any c.in-Ok.ensures.date ∙ ap Scalar (sym c.hold.ensures) }

@@ -1,0 +1,9 @@
+use Rattle.std.proofs.Common.{ap, sym, ◌∙◌}
+use Rattle.plist_base.specs.declared.real.RealBits.TheVariants.{Eight}
+use Rattle.plist_base.specs.Events.{Real}
+use Rattle.plist_binread.specs.Object.{Scalar}
+use Rattle.plist_binread.proofs.lent.lent_real.Goals as goal
+
+pub returns-in-Some : goal.returns-in-Some
+returns-in-Some c =
+    record { lent = λ more. c.in-Some.ensures.content more (λ content. Scalar (Real (Eight content))) ∙ ap Scalar (sym c.hold.ensures) }

@@ -1,0 +1,314 @@
+//! Objects that are decoded where they lie, in bytes that a source lends.
+//!
+//! What isn't whole there, or isn't right, is nothing here: it is read then, and its fault told.
+
+ghost use Rattle.std.specs.Prelude.{◌≡◌, ℕ, ◌+◌, ◌-◌, ◌*◌, ◌^◌, ◌<◌, ◌≤◌, List, ◌++◌, length, drop, Some, IfSome, cond};
+ghost use Rattle.plist_base.specs.declared.real.RealBits.TheVariants.{Eight};
+ghost use Rattle.plist_base.specs.Events.{Data, Real, Uid as uid_event};
+ghost use Rattle.plist_binread.specs.Container.{number_of, numbers_of};
+ghost use Rattle.plist_binread.specs.Lent.{IsLentAs, small_lent};
+ghost use Rattle.plist_binread.specs.Object.{Object, Scalar, Array, date, text, dictionary, unsigned_integer, signed_integer, length_in, layout_of, meaning_of_front, meaning_counted, object_behind, object_in};
+ghost use Rattle.plist_binread.specs.Told.{event_in};
+
+use crate::counter::DecodeCounter;
+use crate::extent::number_width;
+use crate::numbers::number_from;
+use crate::packed::is_small;
+use crate::told::Last;
+use plist_base::{Date, Event, Integer, RealBits, Uid};
+
+/// What lies whole in lent bytes.
+#[derive(Clone, Copy)]
+pub enum Lent {
+    /// Nothing that is right, or not all of it.
+    Nothing,
+    /// A scalar, which is told.
+    Scalar,
+    /// A collection of so many children, whose start is told.
+    Collection(u64),
+}
+
+// The number in so many bytes.
+fn lent_number(rest: &[u8], width: usize) -> Option<u64>
+    requires { width ≤ 8 }
+    ensures value { IfSome result (λ n. (more : List ℕ) (meaning : ℕ → Object) →
+        meaning_of_front width (λ content. meaning (number_of content)) (rest.now ++ more)
+        ≡ meaning n) }
+    ensures small { IfSome result (λ n. n < 256 ^ width) }
+{
+    if rest.len() < width {
+        return None;
+    }
+    Some(number_from(&rest[..width]))
+}
+
+// The content of an object of a fixed size.
+fn lent_content<const N: usize>(rest: &[u8]) -> Option<[u8; N]>
+    ensures content { IfSome result (λ content. (more : List ℕ) (meaning : List ℕ → Object) →
+        meaning_of_front N meaning (rest.now ++ more) ≡ meaning content) }
+{
+    match rest.first_chunk::<N>() {
+        Some(content) => Some(*content),
+        None => None,
+    }
+}
+
+// The length of an object, and the bytes behind it.
+pub fn lent_length(marker: u8, rest: &[u8]) -> Option<(u64, &[u8])>
+    ensures length { IfSome result (λ found. (more : List ℕ) →
+        length_in marker (rest.now ++ more) ≡ Some (found.0, found.1.now ++ more)) }
+    ensures short { IfSome result (λ found. length found.1.now ≤ length rest.now) }
+    ensures behind { IfSome result (λ found.
+        drop (length rest.now - length found.1.now) rest.now ≡ found.1.now) }
+{
+    let low = marker % 16;
+    if low < 15 {
+        return Some((u64::from(low), rest));
+    }
+    let (byte, behind) = rest.split_first()?;
+    let width = number_width(u64::from(*byte)) as usize;
+    if behind.len() < width {
+        return None;
+    }
+    Some((number_from(&behind[..width]), &behind[width..]))
+}
+
+// The content of a text or data, of as many bytes as its length says.
+fn lent_bytes(marker: u8, rest: &[u8]) -> Option<&[u8]>
+    ensures content { IfSome result (λ found. (more : List ℕ) (meaning : List ℕ → Object) →
+        meaning_counted 1 (λ _. meaning) (length_in marker (rest.now ++ more))
+        ≡ meaning found.now) }
+{
+    match lent_length(marker, rest) {
+        Some((count, behind)) => {
+            if count > behind.len() as u64 {
+                return None;
+            }
+            Some(&behind[..count as usize])
+        }
+        None => None,
+    }
+}
+
+fn lent_unsigned(rest: &[u8], width: usize, last: &mut Last) -> Lent
+    requires { width ≤ 8 }
+    ensures lent { (more : List ℕ) → IsLentAs
+        (meaning_of_front width unsigned_integer (rest.now ++ more)) (event_in last.new) result }
+{
+    match lent_number(rest, width) {
+        Some(number) => {
+            last.hold(Event::Integer(Integer::from(number)));
+            Lent::Scalar
+        }
+        None => Lent::Nothing,
+    }
+}
+
+fn lent_signed(rest: &[u8], last: &mut Last) -> Lent
+    ensures lent { (more : List ℕ) → IsLentAs
+        (meaning_of_front 8 signed_integer (rest.now ++ more)) (event_in last.new) result }
+{
+    match lent_number(rest, 8) {
+        Some(number) => {
+            last.hold(Event::Integer(Integer::from(number.cast_signed())));
+            Lent::Scalar
+        }
+        None => Lent::Nothing,
+    }
+}
+
+fn lent_uid(rest: &[u8], width: usize, last: &mut Last) -> Lent
+    requires { width ≤ 8 }
+    ensures lent { (more : List ℕ) → IsLentAs (meaning_of_front width
+        (λ content. Scalar (uid_event (number_of content))) (rest.now ++ more))
+        (event_in last.new) result }
+{
+    match lent_number(rest, width) {
+        Some(number) => {
+            last.hold(Event::Uid(Uid::new(number)));
+            Lent::Scalar
+        }
+        None => Lent::Nothing,
+    }
+}
+
+fn lent_real(rest: &[u8], last: &mut Last) -> Lent
+    ensures lent { (more : List ℕ) → IsLentAs (meaning_of_front 8
+        (λ content. Scalar (Real (Eight content))) (rest.now ++ more)) (event_in last.new) result }
+{
+    match lent_content(rest) {
+        Some(bytes) => {
+            last.hold(Event::Real(RealBits::Eight(bytes)));
+            Lent::Scalar
+        }
+        None => Lent::Nothing,
+    }
+}
+
+fn lent_date(rest: &[u8], last: &mut Last) -> Lent
+    ensures lent { (more : List ℕ) → IsLentAs
+        (meaning_of_front 8 date (rest.now ++ more)) (event_in last.new) result }
+{
+    match lent_content(rest) {
+        Some(bytes) => match Date::from_plist_real(bytes) {
+            Ok(date) => {
+                last.hold(Event::Date(date));
+                Lent::Scalar
+            }
+            Err(_) => Lent::Nothing,
+        },
+        None => Lent::Nothing,
+    }
+}
+
+fn lent_text(marker: u8, rest: &[u8], last: &mut Last) -> Lent
+    ensures lent { (more : List ℕ) → IsLentAs (meaning_counted 1 (λ _. text)
+        (length_in marker (rest.now ++ more))) (event_in last.new) result }
+{
+    match lent_bytes(marker, rest) {
+        Some(bytes) => {
+            if last.tell_text(bytes) {
+                Lent::Scalar
+            } else {
+                Lent::Nothing
+            }
+        }
+        None => Lent::Nothing,
+    }
+}
+
+fn lent_data(marker: u8, rest: &[u8], last: &mut Last) -> Lent
+    ensures lent { (more : List ℕ) → IsLentAs (meaning_counted 1
+        (λ _ content. Scalar (Data content)) (length_in marker (rest.now ++ more)))
+        (event_in last.new) result }
+{
+    match lent_bytes(marker, rest) {
+        Some(bytes) => {
+            if last.tell_data(bytes) {
+                Lent::Scalar
+            } else {
+                Lent::Nothing
+            }
+        }
+        None => Lent::Nothing,
+    }
+}
+
+// How many elements of this size a collection has that lies before the trailer, which is so far
+// away.
+fn lent_count(marker: u8, rest: &[u8], room: u64, size: u64) -> Option<u64>
+    requires { length rest.now ≤ room }
+    ensures count { IfSome result (λ count. (more : List ℕ) → length (rest.now ++ more) ≡ room →
+        (behind : List ℕ) × (length_in marker (rest.now ++ more) ≡ Some (count, behind))
+        × (count * size ≤ length behind)) }
+{
+    match lent_length(marker, rest) {
+        Some((count, behind)) => {
+            let left = room - (rest.len() - behind.len()) as u64;
+            match count.checked_mul(size) {
+                Some(all) if all <= left => Some(count),
+                _ => None,
+            }
+        }
+        None => None,
+    }
+}
+
+fn lent_array(marker: u8, rest: &[u8], room: u64, width: usize, last: &mut Last) -> Lent
+    requires room { length rest.now ≤ room }
+    requires width { 0 < width }
+    ensures lent { (more : List ℕ) → length (rest.now ++ more) ≡ room → IsLentAs
+        (meaning_counted width (λ _ content. Array (numbers_of width content))
+        (length_in marker (rest.now ++ more))) (event_in last.new) result }
+{
+    match lent_count(marker, rest, room, width as u64) {
+        Some(count) => {
+            last.hold(Event::StartArray(Some(count)));
+            Lent::Collection(count)
+        }
+        None => Lent::Nothing,
+    }
+}
+
+fn lent_dictionary(marker: u8, rest: &[u8], room: u64, width: usize, last: &mut Last) -> Lent
+    requires room { length rest.now ≤ room }
+    requires width { (0 < width) × (width ≤ 8) }
+    ensures lent { (more : List ℕ) → length (rest.now ++ more) ≡ room → IsLentAs
+        (meaning_counted (2 * width) (λ count content. dictionary count (numbers_of width content))
+        (length_in marker (rest.now ++ more))) (event_in last.new) result }
+{
+    match lent_count(marker, rest, room, 2 * width as u64) {
+        Some(count) => match count.checked_mul(2) {
+            Some(children) => {
+                last.hold(Event::StartDictionary(Some(count)));
+                Lent::Collection(children)
+            }
+            None => Lent::Nothing,
+        },
+        None => Lent::Nothing,
+    }
+}
+
+// The object behind a marker.
+fn lent_behind(marker: u8, rest: &[u8], room: u64, width: usize, last: &mut Last) -> Lent
+    requires room { length rest.now ≤ room }
+    requires width { (0 < width) × (width ≤ 8) }
+    ensures lent { (more : List ℕ) → length (rest.now ++ more) ≡ room → IsLentAs
+        (object_behind marker (layout_of width marker) (rest.now ++ more))
+        (event_in last.new) result }
+{
+    match marker {
+        0x08 => last.hold_scalar(Event::Boolean(false)),
+        0x09 => last.hold_scalar(Event::Boolean(true)),
+        0x10 => lent_unsigned(rest, 1, last),
+        0x11 => lent_unsigned(rest, 2, last),
+        0x12 => lent_unsigned(rest, 4, last),
+        0x13 => lent_signed(rest, last),
+        0x23 => lent_real(rest, last),
+        0x33 => lent_date(rest, last),
+        0x40..=0x4f => lent_data(marker, rest, last),
+        0x50..=0x5f => lent_text(marker, rest, last),
+        0x80..=0x87 => lent_uid(rest, usize::from(marker - 0x7f), last),
+        0xa0..=0xaf => lent_array(marker, rest, room, width, last),
+        0xd0..=0xdf => lent_dictionary(marker, rest, room, width, last),
+        _ => Lent::Nothing,
+    }
+}
+
+// Is it a scalar that can be cached?
+fn is_small_lent(lent: Lent, last: &Last) -> bool
+    ensures { cond result 1 0 ≡ small_lent lent (event_in last.now) }
+{
+    match lent {
+        Lent::Scalar => is_small(&last.lend()),
+        _ => false,
+    }
+}
+
+/// Decodes the object at the front of lent bytes, and counts it where it is small. The trailer is so
+/// far away.
+pub fn decode_lent<C: DecodeCounter>(
+    seen: &[u8],
+    room: u64,
+    width: usize,
+    counter: &mut C,
+    last: &mut Last,
+) -> Lent
+    requires room { length seen.now ≤ room }
+    requires width { (0 < width) × (width ≤ 8) }
+    ensures lent { (more : List ℕ) → length (seen.now ++ more) ≡ room → IsLentAs
+        (object_in width (seen.now ++ more)) (event_in last.new) result }
+    ensures counted { C.counts →
+        C.count counter.new ≡ C.count counter.old + small_lent result (event_in last.new) }
+{
+    match seen.split_first() {
+        Some((marker, rest)) => {
+            let lent = lent_behind(*marker, rest, room - 1, width, last);
+            if is_small_lent(lent, last) {
+                counter.raise();
+            }
+            lent
+        }
+        None => Lent::Nothing,
+    }
+}
