@@ -178,7 +178,7 @@ fn slot_of(pairs: u64, index: u64) -> Option<u64>
     }
 }
 
-// The bytes at hand from a place on that lie before the trailer.
+/// The bytes at hand from a place on that lie before the trailer.
 pub fn lent_before<'a, S: Source>(source: &'a S, bounds: &Bounds, place: u64) -> &'a [u8]
     requires { place < bounds.now.trailer }
     ensures room { length result.now ≤ bounds.now.trailer - place }

@@ -53,7 +53,7 @@ fn lent_content<const N: usize>(rest: &[u8]) -> Option<[u8; N]>
     }
 }
 
-// The length of an object, and the bytes behind it.
+/// The length of an object, and the bytes behind it.
 pub fn lent_length(marker: u8, rest: &[u8]) -> Option<(u64, &[u8])>
     ensures length { IfSome result (λ found. (more : List ℕ) →
         length_in marker (rest.now ++ more) ≡ Some (found.0, found.1.now ++ more)) }
