@@ -4,13 +4,12 @@
 The files and the programs are those of speed.py; the programs run in turn, and of each the run with
 the least processor time (user and system) counts, with its peak memory. Besides the shapes of
 speed.py there are wide ones: empty arrays, a dictionary of many keys, an array of equal texts.
-`plistlib` loads and dumps; `plistutil` turns the file into a binary one again.
+`plistlib` loads and dumps. `plistutil` isn't among them: it copies a file that is binary already.
 
 Usage: speed_writing.py [MEGABYTES ..]      1 and 10 where none are named.
 """
 import math
 import pathlib
-import shutil
 import sys
 import tempfile
 
@@ -37,23 +36,21 @@ WIDE = {"66,000 empty arrays": empty_arrays, "10^6 keys": many_keys, "10^6 equal
 
 
 def programs(folder):
-    yield "plist_tool", [speed.PROGRAM, "convert"], []
+    yield "plist_tool", [speed.PROGRAM, "convert"]
     crate = speed.peer(folder)
     if crate:
-        yield "the crate", [crate, "convert"], []
-    yield "plistlib", [sys.executable, "-c", DUMP], []
-    if shutil.which("plistutil"):
-        yield "plistutil", ["plistutil", "-f", "bin", "-i"], ["-o"]
+        yield "the crate", [crate, "convert"]
+    yield "plistlib", [sys.executable, "-c", DUMP]
 
 
 def row(name, source, known):
     """Prints a line of the table; the least processor seconds of plist_tool."""
     target = source.with_name("written.plist")
-    runs = {program: [] for program, _, _ in known}
+    runs = {program: [] for program, _ in known}
     for _ in range(speed.RUNS):
-        for program, words, flag in known:
+        for program, words in known:
             if None not in runs[program]:
-                runs[program].append(speed.measure([*words, source, *flag, target]))
+                runs[program].append(speed.measure([*words, source, target]))
     found = {program: None if None in list_ else min(list_) for program, list_ in runs.items()}
     ours, cells = found["plist_tool"], []
     for program, value in found.items():
@@ -72,7 +69,7 @@ def main(words):
     with tempfile.TemporaryDirectory() as name:
         folder = pathlib.Path(name)
         known = list(programs(folder))
-        print("| shape | bytes | " + " | ".join(program for program, _, _ in known) + " |")
+        print("| shape | bytes | " + " | ".join(program for program, _ in known) + " |")
         print("|" + "---|" * (2 + len(known)))
         path, grown = folder / "file.plist", {}
         for shape in speed.SHAPES:
