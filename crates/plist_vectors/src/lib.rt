@@ -17,6 +17,8 @@ mod numbers;
 #[cfg(test)]
 mod reading;
 #[cfg(test)]
+mod scalar_texts;
+#[cfg(test)]
 mod sources;
 #[cfg(test)]
 mod support;
