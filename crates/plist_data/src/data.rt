@@ -1,6 +1,6 @@
 //! Data, and its text.
 
-ghost use Rattle.std.specs.Prelude.{◌≡◌, ◌↔◌, codes, List, ℕ, length, Some, Ok, IfOk, IfErr, OnOk, ◌++◌, string_bytes};
+ghost use Rattle.std.specs.Prelude.{◌≡◌, ◌↔◌, List, ℕ, length, Some, Ok, IfOk, IfErr, OnOk, ◌++◌, string_bytes};
 ghost use Rattle.std.specs.Borrow.{Array, Lends, sem, u8};
 ghost use Rattle.base64.specs.Engines.{standard};
 ghost use Rattle.base64.specs.GeneralPurpose.{IsBytes, IsDecodeFailure, decode_of, encode_of};
@@ -68,7 +68,7 @@ impl Data {
     {
         let symbols = dark_bytes(alloc, text)?;
         let bytes = decoded(alloc, &symbols)?;
-        Ok(Data { bytes })
+        Ok(Data::new(bytes))
     }
 
     /// The text of this data: base64 in lines of 68 characters, which stand for 51 bytes, with LF
@@ -89,7 +89,7 @@ impl Data {
     pub fn as_ref(&self) -> &[u8]
         ensures { result.now ≡ self.now }
     {
-        self.bytes.as_slice()
+        &self.bytes
     }
 
     /// The bytes, to be changed.
@@ -112,7 +112,7 @@ impl Data {
         ensures memory { IfErr result (λ error. fault_of error ≡ fault_nowhere OutOfMemory) }
     {
         let bytes = self.bytes.clone()?;
-        Ok(Data { bytes })
+        Ok(Data::new(bytes))
     }
 }
 
@@ -167,7 +167,7 @@ impl From<Vec<u8>> for Data {
     ghost from_gives = { λ bytes made. made ≡ bytes.items };
 
     fn from(bytes: Vec<u8>) -> Data {
-        Data::new(bytes)
+        Self::new(bytes)
     }
 }
 

@@ -25,6 +25,8 @@ mod numbers;
 #[cfg(test)]
 mod reading;
 #[cfg(test)]
+mod scalar_texts;
+#[cfg(test)]
 mod sources;
 #[cfg(test)]
 mod support;
