@@ -15,6 +15,8 @@ mod events;
 #[cfg(test)]
 mod faults;
 #[cfg(test)]
+mod limits;
+#[cfg(test)]
 mod numbers;
 #[cfg(test)]
 mod reading;
