@@ -10,7 +10,7 @@ run takes long is run once.
 
 A second table is of reading from memory into events with texts of their own: `BinaryReader` over a
 slice (tests/outside/items, which is proved and built in a copy of its crates by the kit's `rt`)
-beside the crate's. Then system calls are counted, by `strace` where it is there.
+beside the crate's. Between them system calls are counted, by `strace` where it is there.
 
 Usage: speed.py [MEGABYTES ..]      1, 10 and 50 where none are named.
 """
@@ -31,8 +31,8 @@ PLIST_TOOL = HERE.parents[1] / "plist_tool"
 PROGRAM = HERE.parents[1] / "crates/plist_tool/out/plist_tool"
 RUNS = 5
 SECONDS = 60
-# a peer that takes so long isn't run again
-LONG = 10
+# a program that takes so many seconds isn't run again
+LONG = 2
 # of fewer objects the memory isn't told: what is the same for each file would count for them
 MANY = 50_000
 # what the windows over a file take
@@ -348,12 +348,13 @@ def main(words):
     with tempfile.TemporaryDirectory() as name:
         folder = pathlib.Path(name)
         path = folder / "file.plist"
-        crate, items = peer(folder), items_program(folder)
+        crate = peer(folder)
         known = dict(programs(crate))
         print_table(path, sizes, known)
+        print_calls(path, known["plist_tool"])
+        items = items_program(folder)
         if items:
             print_items(path, min(sizes, key=lambda size: abs(size - 10)), {"BinaryReader": [items], **({"the crate": [crate, "items"]} if crate else {})})
-        print_calls(path, known["plist_tool"])
 
 
 if __name__ == "__main__":
