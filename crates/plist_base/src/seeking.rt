@@ -183,7 +183,8 @@ impl<R: Read + Seek> Seeking<R> {
     fn read_into(&mut self, i: usize) -> Result<usize, io::Error>
         requires { i < 128 }
         ensures bound { IfOk result (λ count. count ≤ 8192) }
-        ensures kept { self.new.filled ≡ self.old.filled }
+        ensures starts { self.new.starts ≡ self.old.starts }
+        ensures filled { self.new.filled ≡ self.old.filled }
         ensures failures { failures_of self.new ≡ failures_of self.old }
     {
         if i < OWN_WINDOWS {
@@ -202,6 +203,7 @@ impl<R: Read + Seek> Seeking<R> {
     // Fills a window from its start on by one read. It is empty after a failure.
     fn fill_window(&mut self, i: usize, start: u64) -> Result<(), io::Error>
         requires { i < 128 }
+        ensures start { slice_index self.new.starts i ≡ start }
         ensures failed { OnErr result (slice_index self.new.filled i ≡ 0) }
         ensures failures { failures_of self.new ≡ failures_of self.old }
     {
