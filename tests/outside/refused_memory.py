@@ -1,0 +1,131 @@
+#!/usr/bin/env python3
+"""Refuses each request for memory of `plist_tool` in turn, until a run meets no refusal.
+
+The n-th call of malloc, realloc or aligned_alloc answers none. Then a command has to give the answer that
+it gives with ample memory, or to tell want of memory, with status 1, behind a beginning of its lines;
+`convert` leaves OUT as it was, whole or not there.
+
+Usage: refused_memory.py      Needs a C compiler. Ends with its counts, and status 1 where a run does otherwise.
+"""
+import collections
+import os
+import pathlib
+import subprocess
+import sys
+import tempfile
+
+REPOSITORY = pathlib.Path(__file__).resolve().parents[2]
+PROGRAM = REPOSITORY / "crates/plist_tool/out/plist_tool"
+SETTINGS, ARCHIVE = REPOSITORY / "examples/settings.plist", REPOSITORY / "examples/archive.plist"
+ASCII = b'{ name = "caf\\U00e9"; list = (1, two, { deep = "x y z, and a longer text"; }); }\n'
+SHIM = r"""
+#define _GNU_SOURCE
+#include <dlfcn.h>
+#include <errno.h>
+#include <stdio.h>
+#include <stdlib.h>
+static long wanted = -1, count = 0;
+static int refused(void) {
+    if (wanted < 0) { char *text = getenv("REFUSE"); wanted = text ? atol(text) : 0; }
+    return ++count == wanted;
+}
+#define NEXT(name) static __typeof__(&name) real; if (!real) real = dlsym(RTLD_NEXT, #name)
+void *malloc(size_t size) {
+    NEXT(malloc);
+    if (refused()) { errno = ENOMEM; return 0; }
+    return real(size);
+}
+void *realloc(void *old, size_t size) {
+    NEXT(realloc);
+    if (refused()) { errno = ENOMEM; return 0; }
+    return real(old, size);
+}
+void *aligned_alloc(size_t align, size_t size) {
+    NEXT(aligned_alloc);
+    if (refused()) { errno = ENOMEM; return 0; }
+    return real(align, size);
+}
+int posix_memalign(void **place, size_t align, size_t size) {
+    NEXT(posix_memalign);
+    return refused() ? ENOMEM : real(place, align, size);
+}
+__attribute__((destructor)) static void tell(void) {
+    FILE *file = fopen(getenv("COUNT"), "w");
+    if (file) { fprintf(file, "%ld", count); fclose(file); }
+}
+"""
+
+
+class Driver:
+    """Runs the program with one request refused."""
+
+    def __init__(self, folder):
+        self.folder, self.shim, self.count = folder, folder / "shim.so", folder / "count"
+        source = folder / "shim.c"
+        source.write_text(SHIM)
+        subprocess.run(["cc", "-shared", "-fPIC", "-o", self.shim, source, "-ldl"], check=True)
+
+    def run(self, refused, words):
+        """What came, and how many requests there were."""
+        environment = {**os.environ, "LD_PRELOAD": str(self.shim), "REFUSE": str(refused), "COUNT": str(self.count)}
+        done = subprocess.run([PROGRAM, *words], env=environment, capture_output=True, timeout=60)
+        return (done.returncode, done.stdout, done.stderr), int(self.count.read_text())
+
+
+def is_want_of_memory(found, ample):
+    status, out, error = found
+    return status == 1 and error == b"Error: OutOfMemory\n" and ample[1].startswith(out)
+
+
+def sweep(driver, name, words, output=None):
+    """Each request of a command refused in turn; `output` is the file that it makes."""
+    counts = collections.Counter()
+
+    def made():
+        return output.read_bytes() if output and output.exists() else None
+
+    if output:
+        output.write_bytes(b"an older file")
+    ample, _ = driver.run(0, words)
+    whole = made()
+    refused = 0
+    while True:
+        refused += 1
+        if output:
+            output.write_bytes(b"an older file")
+        found, requests = driver.run(refused, words)
+        if requests < refused and found == ample:
+            break
+        if found == ample and made() == whole:
+            counts["as with ample memory"] += 1
+        elif is_want_of_memory(found, ample) and made() == (b"an older file" if output else None):
+            counts["want of memory"] += 1
+        else:
+            counts["other"] += 1
+            print(f"{name}, request {refused}: {found!r}, {made()!r}")
+            if requests < refused:
+                break
+    print(f"{name}: {refused - 1} requests: " + ", ".join(f"{n} {what}" for what, n in sorted(counts.items())))
+    return counts["other"]
+
+
+def main():
+    with tempfile.TemporaryDirectory() as name:
+        folder = pathlib.Path(name)
+        driver, out = Driver(folder), folder / "out.plist"
+        text, cut = folder / "text.plist", folder / "cut.plist"
+        text.write_bytes(ASCII)
+        cut.write_bytes(SETTINGS.read_bytes()[:-5])
+        bad = sum([
+            sweep(driver, "print", ["print", SETTINGS]),
+            sweep(driver, "print of a cut file", ["print", cut]),
+            sweep(driver, "convert of a binary file", ["convert", SETTINGS, out], out),
+            sweep(driver, "convert of an ASCII file", ["convert", text, out], out),
+            sweep(driver, "keyed", ["keyed", ARCHIVE, "root"]),
+            sweep(driver, "keyed without such a key", ["keyed", ARCHIVE, "other"]),
+        ])
+    return 1 if bad else 0
+
+
+if __name__ == "__main__":
+    sys.exit(main())
