@@ -78,7 +78,10 @@ fn length(before: &[u8], place: u64, marker: u8) -> Option<(u64, u64)> {
 fn wide_text(rt: &(impl Abort + AllocGlobal), bytes: &[u8]) -> Option<String> {
     let mut units = Vec::new(rt.alloc());
     for pair in bytes.chunks_exact(2) {
-        must(rt, units.push(u16::from(pair[0]) * 256 + u16::from(pair[1])));
+        must(
+            rt,
+            units.push(u16::from(pair[0]) * 256 + u16::from(pair[1])),
+        );
     }
     let text: Result<Result<String, _>, _> = String::from_utf16(rt.alloc(), units.as_slice());
     must(rt, text).ok()
