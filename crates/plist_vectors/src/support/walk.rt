@@ -1,7 +1,7 @@
 //! A plain recursive walk over a small binary file, by the format's description alone: no cache, no
 //! marks, and every object decoded anew wherever it is referred to.
 
-use crate::support::{bytes_of, must};
+use crate::support::must;
 use std::process::Abort;
 
 // What lies at a place: a scalar's word; a collection's word and its children's numbers; or a fault.
