@@ -188,10 +188,12 @@ def items_program(folder):
         return None
     crates = HERE.parents[1] / "crates"
     root = folder / "items"
-    for crate in ("plist_base", "plist_binread"):
+    for crate in ("plist_dates", "plist_base", "plist_binread"):
         shutil.copytree(crates / crate, root / "crates" / crate)
-    shutil.copytree(HERE / "items", root / "crates/items")
-    (root / "crates.txt").write_text("plist_base:\nplist_binread: plist_base\nitems: plist_base plist_binread\n")
+    (root / "crates/items/src").mkdir(parents=True)
+    shutil.copy(HERE / "items/main.rt.in", root / "crates/items/src/main.rt")
+    (root / "crates.txt").write_text("plist_dates: jiff_core\nplist_base: plist_dates\nplist_binread: plist_base\n"
+                                     "items: plist_base plist_binread\n")
     subprocess.run(["rt", "run", "--", "no_such_file"], cwd=root / "crates/items", capture_output=True)
     built = root / "crates/items/out/items"
     return built if built.exists() else None
