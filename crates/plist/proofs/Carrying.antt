@@ -2,7 +2,7 @@
 use Rattle.std.proofs.Common.{◌≡◌, ℕ, List, [], ◌∷◌, ◌++◌, Some, option_map, map, refl, ap, ◌∙◌}
 use Rattle.std.specs.Str.{bytes_eq}
 use Rattle.indexmap.proofs.MapLemmas.{insert_all_push}
-use Rattle.plist_base.specs.Events.{PlainEvent, StartArray, StartDictionary, EndCollection, Boolean, Data, Date, Integer, Real, String, Uid}
+use Rattle.plist_base.specs.Events.{PlainEvent, StartArray, StartDictionary, EndCollection, Single}
 use Rattle.plist_base.specs.Trees as trees
 use Rattle.plist_base.specs.Trees.{Tree, Leaf, Array, Dictionary, trees_of, members_of}
 use Rattle.std.proofs.lemmas.List.{map-append}
@@ -11,13 +11,17 @@ use Rattle.plist.specs.Building.{OpenCollection, InArray, InDictionary, AfterKey
 use Rattle.plist.specs.Steps.{and_pair, and_tree, begun, in_array, in_dictionary, carried_on}
 use Rattle.plist.proofs.Keeping.{Settled, settled-inserts, last-values-once, once-inserts, last-wins-twice}
 
-pub map-snoc : {A B : Type 0} (f : A → B) (xs : List A) (x : A) → map f (xs ++ x ∷ []) ≡ map f xs ++ f x ∷ []
+pub map-snoc : {A B : Type 0} (f : A → B) (xs : List A) (x : A)
+    → map f (xs ++ x ∷ []) ≡ map f xs ++ f x ∷ []
 map-snoc f xs x = map-append f xs (x ∷ [])
 
 -- ---- the last value of each key
 
-rows-snoc : (ps : Rows) (k : List ℕ) (t : Tree) → last_wins_in_rows (ps ++ (k, t) ∷ []) ≡ with_pair (last_wins_in_rows ps) k (last_wins t)
-rows-snoc ps k t = ap last_values (map-snoc (λ p. (p.0, last_wins p.1)) ps (k, t)) ∙ insert_all_push bytes_eq [] (map (λ p. (p.0, last_wins p.1)) ps) (k, last_wins t)
+rows-snoc : (ps : Rows) (k : List ℕ) (t : Tree)
+    → last_wins_in_rows (ps ++ (k, t) ∷ []) ≡ with_pair (last_wins_in_rows ps) k (last_wins t)
+rows-snoc ps k t =
+    ap last_values (map-snoc (λ p. (p.0, last_wins p.1)) ps (k, t))
+    ∙ insert_all_push bytes_eq [] (map (λ p. (p.0, last_wins p.1)) ps) (k, last_wins t)
 
 items-last : (ts : List Tree) → last_wins_in_items (trees_of ts) ≡ map last_wins ts
 items-last [] = refl
@@ -27,51 +31,56 @@ pairs-last : (ps : Rows) → last_wins_in_pairs (members_of ps) ≡ map (λ p. (
 pairs-last [] = refl
 pairs-last (p ∷ ps) = ap (λ l. (p.0, last_wins p.1) ∷ l) (pairs-last ps)
 
-tree-last : (t : Tree) (outer : List OpenCollection) → last_wins_so_far (and_tree and_pair t outer) ≡ and_tree with_pair (last_wins t) (map last_wins_within outer)
+tree-last : (t : Tree) (outer : List OpenCollection)
+    → last_wins_so_far (and_tree and_pair t outer)
+    ≡ and_tree with_pair (last_wins t) (map last_wins_within outer)
 tree-last t [] = refl
-tree-last t (InArray ts ∷ outer) = ap (λ l. Within (InArray l) (map last_wins_within outer)) (map-snoc last_wins ts t)
+tree-last t (InArray ts ∷ outer) =
+    ap (λ l. Within (InArray l) (map last_wins_within outer)) (map-snoc last_wins ts t)
 tree-last t (InDictionary ps ∷ outer) = refl
-tree-last t (AfterKey ps k ∷ outer) = ap (λ l. Within (InDictionary l) (map last_wins_within outer)) (rows-snoc ps k t)
+tree-last t (AfterKey ps k ∷ outer) =
+    ap (λ l. Within (InDictionary l) (map last_wins_within outer)) (rows-snoc ps k t)
 
-begun-last : (outer : List OpenCollection) (e : PlainEvent) → option_map last_wins_so_far (begun and_pair outer e) ≡ begun with_pair (map last_wins_within outer) e
+begun-last : (outer : List OpenCollection) (e : PlainEvent)
+    → option_map last_wins_so_far (begun and_pair outer e)
+    ≡ begun with_pair (map last_wins_within outer) e
 begun-last outer (StartArray n) = refl
 begun-last outer (StartDictionary n) = refl
 begun-last outer EndCollection = refl
-begun-last outer (Boolean b) = ap Some (tree-last (Leaf (trees.Boolean b)) outer)
-begun-last outer (Data d) = ap Some (tree-last (Leaf (trees.Data d)) outer)
-begun-last outer (Date d) = ap Some (tree-last (Leaf (trees.Date d)) outer)
-begun-last outer (Integer z) = ap Some (tree-last (Leaf (trees.Integer z)) outer)
-begun-last outer (Real r) = ap Some (tree-last (Leaf (trees.Real r)) outer)
-begun-last outer (String s) = ap Some (tree-last (Leaf (trees.String s)) outer)
-begun-last outer (Uid u) = ap Some (tree-last (Leaf (trees.Uid u)) outer)
+begun-last outer (Single x) = ap Some (tree-last (Leaf x) outer)
 
-array-last : (ts : List Tree) (outer : List OpenCollection) (e : PlainEvent) → option_map last_wins_so_far (in_array and_pair ts outer e) ≡ in_array with_pair (map last_wins ts) (map last_wins_within outer) e
+array-last : (ts : List Tree) (outer : List OpenCollection) (e : PlainEvent)
+    → option_map last_wins_so_far (in_array and_pair ts outer e)
+    ≡ in_array with_pair (map last_wins ts) (map last_wins_within outer) e
 array-last ts outer (StartArray n) = refl
 array-last ts outer (StartDictionary n) = refl
-array-last ts outer EndCollection = ap Some (tree-last (Array (trees_of ts)) outer ∙ ap (λ l. and_tree with_pair (Array (trees_of l)) (map last_wins_within outer)) (items-last ts))
-array-last ts outer (Boolean b) = begun-last (InArray ts ∷ outer) (Boolean b)
-array-last ts outer (Data d) = begun-last (InArray ts ∷ outer) (Data d)
-array-last ts outer (Date d) = begun-last (InArray ts ∷ outer) (Date d)
-array-last ts outer (Integer z) = begun-last (InArray ts ∷ outer) (Integer z)
-array-last ts outer (Real r) = begun-last (InArray ts ∷ outer) (Real r)
-array-last ts outer (String s) = begun-last (InArray ts ∷ outer) (String s)
-array-last ts outer (Uid u) = begun-last (InArray ts ∷ outer) (Uid u)
+array-last ts outer EndCollection =
+    ap Some (tree-last (Array (trees_of ts)) outer
+    ∙ ap (λ l. and_tree with_pair (Array (trees_of l)) (map last_wins_within outer))
+    (items-last ts))
+array-last ts outer (Single x) = begun-last (InArray ts ∷ outer) (Single x)
 
-dictionary-last : (ps : Rows) (outer : List OpenCollection) (e : PlainEvent) → option_map last_wins_so_far (in_dictionary and_pair ps outer e) ≡ in_dictionary with_pair (last_wins_in_rows ps) (map last_wins_within outer) e
+dictionary-last : (ps : Rows) (outer : List OpenCollection) (e : PlainEvent)
+    → option_map last_wins_so_far (in_dictionary and_pair ps outer e)
+    ≡ in_dictionary with_pair (last_wins_in_rows ps) (map last_wins_within outer) e
 dictionary-last ps outer (StartArray n) = refl
 dictionary-last ps outer (StartDictionary n) = refl
 dictionary-last ps outer EndCollection =
-    ap Some (tree-last (Dictionary (members_of ps)) outer ∙ ap (λ l. and_tree with_pair (Dictionary (members_of l)) (map last_wins_within outer)) (ap last_values (pairs-last ps)))
-dictionary-last ps outer (Boolean b) = refl
-dictionary-last ps outer (Data d) = refl
-dictionary-last ps outer (Date d) = refl
-dictionary-last ps outer (Integer z) = refl
-dictionary-last ps outer (Real r) = refl
-dictionary-last ps outer (String s) = refl
-dictionary-last ps outer (Uid u) = refl
+    ap Some (tree-last (Dictionary (members_of ps)) outer
+    ∙ ap (λ l. and_tree with_pair (Dictionary (members_of l)) (map last_wins_within outer))
+    (ap last_values (pairs-last ps)))
+dictionary-last ps outer (Single (trees.Boolean b)) = refl
+dictionary-last ps outer (Single (trees.Data d)) = refl
+dictionary-last ps outer (Single (trees.Date d)) = refl
+dictionary-last ps outer (Single (trees.Integer z)) = refl
+dictionary-last ps outer (Single (trees.Real r)) = refl
+dictionary-last ps outer (Single (trees.String s)) = refl
+dictionary-last ps outer (Single (trees.Uid u)) = refl
 
 -- to add a pair in its place is to take the last values of what was added at the end
-pub carried-last : (u : Unfinished) (e : PlainEvent) → option_map last_wins_so_far (carried_on and_pair u e) ≡ carried_on with_pair (last_wins_so_far u) e
+pub carried-last : (u : Unfinished) (e : PlainEvent)
+    → option_map last_wins_so_far (carried_on and_pair u e)
+    ≡ carried_on with_pair (last_wins_so_far u) e
 carried-last NotBegun e = begun-last [] e
 carried-last (Within (InArray ts) outer) e = array-last ts outer e
 carried-last (Within (InDictionary ps) outer) e = dictionary-last ps outer e
@@ -80,7 +89,8 @@ carried-last (Complete t) e = refl
 
 pub map-fixed : (ps : Rows) → Settled ps → map (λ p. (p.0, last_wins p.1)) ps ≡ ps
 map-fixed [] d = refl
-map-fixed (p ∷ ps) d = ap (λ t. (p.0, t) ∷ map (λ q. (q.0, last_wins q.1)) ps) d.0 ∙ ap (λ l. p ∷ l) (map-fixed ps d.1)
+map-fixed (p ∷ ps) d =
+    ap (λ t. (p.0, t) ∷ map (λ q. (q.0, last_wins q.1)) ps) d.0 ∙ ap (λ l. p ∷ l) (map-fixed ps d.1)
 
 map-settled : (ps : Rows) → Settled (map (λ p. (p.0, last_wins p.1)) ps)
 map-settled [] = tt
@@ -89,22 +99,30 @@ map-settled (p ∷ ps) = (last-wins-twice p.1, map-settled ps)
 rows-twice : (ps : Rows) → last_wins_in_rows (last_wins_in_rows ps) ≡ last_wins_in_rows ps
 rows-twice ps =
     let r = map (λ p. (p.0, last_wins p.1)) ps in
-    ap last_values (map-fixed (last_values r) (settled-inserts [] r tt (map-settled ps))) ∙ last-values-once (last_values r) (once-inserts [] r tt)
+    ap last_values (map-fixed (last_values r) (settled-inserts [] r tt (map-settled ps)))
+    ∙ last-values-once (last_values r) (once-inserts [] r tt)
 
 items-twice : (ts : List Tree) → map last_wins (map last_wins ts) ≡ map last_wins ts
 items-twice [] = refl
-items-twice (t ∷ ts) = ap (λ u. u ∷ map last_wins (map last_wins ts)) (last-wins-twice t) ∙ ap (λ l. last_wins t ∷ l) (items-twice ts)
+items-twice (t ∷ ts) =
+    ap (λ u. u ∷ map last_wins (map last_wins ts)) (last-wins-twice t)
+    ∙ ap (λ l. last_wins t ∷ l) (items-twice ts)
 
 within-twice : (c : OpenCollection) → last_wins_within (last_wins_within c) ≡ last_wins_within c
 within-twice (InArray ts) = ap InArray (items-twice ts)
 within-twice (InDictionary ps) = ap InDictionary (rows-twice ps)
 within-twice (AfterKey ps k) = ap (λ l. AfterKey l k) (rows-twice ps)
 
-outer-twice : (outer : List OpenCollection) → map last_wins_within (map last_wins_within outer) ≡ map last_wins_within outer
+outer-twice : (outer : List OpenCollection)
+    → map last_wins_within (map last_wins_within outer) ≡ map last_wins_within outer
 outer-twice [] = refl
-outer-twice (c ∷ outer) = ap (λ d. d ∷ map last_wins_within (map last_wins_within outer)) (within-twice c) ∙ ap (λ l. last_wins_within c ∷ l) (outer-twice outer)
+outer-twice (c ∷ outer) =
+    ap (λ d. d ∷ map last_wins_within (map last_wins_within outer)) (within-twice c)
+    ∙ ap (λ l. last_wins_within c ∷ l) (outer-twice outer)
 
 pub so-far-twice : (u : Unfinished) → last_wins_so_far (last_wins_so_far u) ≡ last_wins_so_far u
 so-far-twice NotBegun = refl
-so-far-twice (Within c outer) = ap (λ d. Within d (map last_wins_within (map last_wins_within outer))) (within-twice c) ∙ ap (Within (last_wins_within c)) (outer-twice outer)
+so-far-twice (Within c outer) =
+    ap (λ d. Within d (map last_wins_within (map last_wins_within outer))) (within-twice c)
+    ∙ ap (Within (last_wins_within c)) (outer-twice outer)
 so-far-twice (Complete t) = ap Complete (last-wins-twice t)

@@ -22,13 +22,27 @@ use Rattle.plist.proofs.Carrying.{carried-last}
 -- what is held are the events of the items, with the last value of each key
 abbrev pub TookAll : List Item → Built → Type 0
 TookAll items built =
-    (events : List PlainEvent) × (held : Unfinished) × (items ≡ map Ok events) × IsNested held × AreAlike (events_so_far held) events × (built.unfinished ≡ last_wins_so_far held) × (built.failed ≡ false)
+    (events : List PlainEvent) × (held : Unfinished) × (items ≡ map Ok events) × IsNested held
+    × AreAlike (events_so_far held) events × (built.unfinished ≡ last_wins_so_far held)
+    × (built.failed ≡ false)
 
 pub took-none : (built : Built) → built ≡ nothing_built → TookAll [] built
-took-none built p = ([], NotBegun, refl, tt, refl, ap (λ (b : Built). b.unfinished) p, ap (λ (b : Built). b.failed) p)
+took-none built p = (
+  [],
+  NotBegun,
+  refl,
+  tt,
+  refl,
+  ap (λ (b : Built). b.unfinished) p,
+  ap (λ (b : Built). b.failed)
+      p,
+)
 
-pub alike-more : (left right : List PlainEvent) (e : PlainEvent) → AreAlike left right → AreAlike (left ++ e ∷ []) (right ++ e ∷ [])
-alike-more left right e p = map-append unhinted left (e ∷ []) ∙ ap (λ l. l ++ unhinted e ∷ []) p ∙ sym (map-append unhinted right (e ∷ []))
+pub alike-more : (left right : List PlainEvent) (e : PlainEvent) → AreAlike left right
+    → AreAlike (left ++ e ∷ []) (right ++ e ∷ [])
+alike-more left right e p =
+    map-append unhinted left (e ∷ []) ∙ ap (λ l. l ++ unhinted e ∷ []) p
+    ∙ sym (map-append unhinted right (e ∷ []))
 
 no_some : {A : Type 0} (w : Unfinished) → None ≡ Some w → A
 no_some w p = cc
@@ -36,14 +50,17 @@ no_some w p = cc
 the_same : (a b : Unfinished) → Some a ≡ Some b → b ≡ a
 the_same a b p = cc
 
-pub from_last : (o : Option Unfinished) (w : Unfinished) → option_map last_wins_so_far o ≡ Some w → (v : Unfinished) × (o ≡ Some v) × (w ≡ last_wins_so_far v)
+pub from_last : (o : Option Unfinished) (w : Unfinished) → option_map last_wins_so_far o ≡ Some w
+    → (v : Unfinished) × (o ≡ Some v) × (w ≡ last_wins_so_far v)
 from_last None w p = no_some w p
 from_last (Some v) w p = (v, refl, the_same (last_wins_so_far v) w p)
 
-pub took-more : (items : List Item) (item : Item) (before after : Built) → TookAll items before → Takes before item after → TookAll (items ++ item ∷ []) after
+pub took-more : (items : List Item) (item : Item) (before after : Built) → TookAll items before
+    → Takes before item after → TookAll (items ++ item ∷ []) after
 took-more items (Err fault) before after t k = absurd k
 took-more items (Ok e) before after (events, held, is, ok, alike, last, fine) k =
-    let w = from_last (carried_on and_pair held e) after.unfinished (carried-last held e ∙ sym (ap (λ u. carried_on with_pair u e) last) ∙ k.0) in (
+    let w = from_last (carried_on and_pair held e) after.unfinished
+    (carried-last held e ∙ sym (ap (λ u. carried_on with_pair u e) last) ∙ k.0) in (
       events ++ e ∷ [],
       w.0,
       ap (λ l. l ++ Ok e ∷ []) is ∙ sym (map-append Ok events (e ∷ [])),
@@ -53,10 +70,29 @@ took-more items (Ok e) before after (events, held, is, ok, alike, last, fine) k 
       k.1,
     )
 
-pub refused-last : (ends : Type 0) (items : List Item) (item : Item) (built : Built) (fault : Fault) → TookAll items built → Refuses built.unfinished item fault → IsBuiltFrom ends (items ++ item ∷ []) (Err fault)
-refused-last ends items (Err error) built fault (events, held, is, ok, alike, last, fine) r = (events, held, ok, alike, inl (ap (λ l. l ++ Err error ∷ []) is ∙ ap (λ d. map Ok events ++ d ∷ []) (ap Err (sym r))))
-refused-last ends items (Ok e) built fault (events, held, is, ok, alike, last, fine) r =
-    (events, held, ok, alike, inr (inl (e, ap (λ l. l ++ Ok e ∷ []) is, subst (λ o. IsRefusal o fault) (ap (λ u. refusal_of u e) last ∙ refusal-last held e) r)))
+pub refused-last : (ends : Type 0) (items : List Item) (item : Item) (built : Built) (fault : Fault)
+    → TookAll items built → Refuses built.unfinished item fault
+    → IsBuiltFrom ends (items ++ item ∷ []) (Err fault)
+refused-last ends items (Err error) built fault (events, held, is, ok, alike, last, fine) r = (
+  events,
+  held,
+  ok,
+  alike,
+  inl (ap (λ l. l ++ Err error ∷ []) is
+      ∙ ap (λ d. map Ok events ++ d ∷ []) (ap Err (sym r))),
+)
+refused-last ends items (Ok e) built fault (events, held, is, ok, alike, last, fine) r = (
+  events,
+  held,
+  ok,
+  alike,
+  inr (inl (
+    e,
+    ap (λ l. l ++ Ok e ∷ []) is,
+    subst (λ o. IsRefusal o fault)
+        (ap (λ u. refusal_of u e) last ∙ refusal-last held e) r,
+  )),
+)
 
 no_tree : {A : Type 0} (t : Tree) → None ≡ Some t → A
 no_tree t p = cc
@@ -64,38 +100,51 @@ no_tree t p = cc
 same_tree : (a b : Tree) → Some a ≡ Some b → b ≡ a
 same_tree a b p = cc
 
-pub complete_last : (u : Unfinished) (t : Tree) → complete_tree (last_wins_so_far u) ≡ Some t → (w : Tree) × (u ≡ Complete w) × (t ≡ last_wins w)
+pub complete_last : (u : Unfinished) (t : Tree) → complete_tree (last_wins_so_far u) ≡ Some t
+    → (w : Tree) × (u ≡ Complete w) × (t ≡ last_wins w)
 complete_last NotBegun t p = no_tree t p
 complete_last (Within c outer) t p = no_tree t p
 complete_last (Complete w) t p = (w, refl, same_tree (last_wins w) t p)
 
-built-tree : (ends : Type 0) (items : List Item) (built : Built) (t : Tree) → ends → TookAll items built → complete_tree built.unfinished ≡ Some t → IsBuiltFrom ends items (Ok t)
+built-tree : (ends : Type 0) (items : List Item) (built : Built) (t : Tree) → ends
+    → TookAll items built → complete_tree built.unfinished ≡ Some t → IsBuiltFrom ends items (Ok t)
 built-tree ends items built t end (events, held, is, ok, alike, last, fine) p =
     let w = complete_last held t (sym (ap complete_tree last) ∙ p) in
     (events, w.0, is, end, sym alike ∙ ap (λ u. map unhinted (events_so_far u)) w.1, w.2)
 
-ended : (ends : Type 0) (items : List Item) (built : Built) (fault : Fault) (kind : FaultKind) → fault.kind ≡ kind → ends → TookAll items built → fault.offset ≡ None → IsUnfinishedFor kind built → IsBuiltFrom ends items (Err fault)
-ended ends items built fault UnexpectedEndOfEventStream q end (events, held, is, ok, alike, last, fine) o k = (
-  events,
-  held,
-  ok,
-  alike,
-  inr (inr (
-    is,
-    end,
-    (λ i. record { kind = q i; offset = o i }),
-    λ t a. k.1 (last_wins t) (ap (λ u. map unhinted (events_so_far u)) (last ∙ ap last_wins_so_far (complete held t ok (alike ∙ a)))),
-  )),
-)
-ended ends items built fault faults.WriterFailed q end (events, held, is, ok, alike, last, fine) o k = absurd (true≢false (sym k ∙ fine))
+ended : (ends : Type 0) (items : List Item) (built : Built) (fault : Fault) (kind : FaultKind)
+    → fault.kind ≡ kind → ends → TookAll items built → fault.offset ≡ None
+    → IsUnfinishedFor kind built → IsBuiltFrom ends items (Err fault)
+ended ends items built fault UnexpectedEndOfEventStream q end
+    (events, held, is, ok, alike, last, fine) o k = (
+      events,
+      held,
+      ok,
+      alike,
+      inr (inr (
+        is,
+        end,
+        (λ i. record { kind = q i; offset = o i }),
+        λ t a. k.1 (last_wins t) (ap (λ u. map unhinted (events_so_far u))
+            (last ∙ ap last_wins_so_far (complete held t ok (alike ∙ a)))),
+      )),
+    )
+ended ends items built fault faults.WriterFailed q end (events, held, is, ok, alike, last, fine) o
+    k = absurd (true≢false (sym k ∙ fine))
 ended ends items built fault kind q end t o k = absurd k
 
 -- whatever `finish` answers
-pub finished : (ends : Type 0) (items : List Item) (built : Built) (result : Result Value Error) → ends → TookAll items built → IfOk result (λ value. complete_tree built.unfinished ≡ Some (tree_of value)) → IfErr result (λ error. IsUnfinished built (fault_of error))
+pub finished : (ends : Type 0) (items : List Item) (built : Built) (result : Result Value Error)
+    → ends → TookAll items built → IfOk result
+    (λ value. complete_tree built.unfinished ≡ Some (tree_of value))
+    → IfErr result (λ error. IsUnfinished built (fault_of error))
     → IsBuiltFrom ends items (built_tree result)
-finished ends items built (Ok value) end t ok err = built-tree ends items built (tree_of value) end t ok
-finished ends items built (Err error) end t ok err = ended ends items built (fault_of error) (fault_of error).kind refl end t err.0 err.1
+finished ends items built (Ok value) end t ok err =
+    built-tree ends items built (tree_of value) end t ok
+finished ends items built (Err error) end t ok err =
+    ended ends items built (fault_of error) (fault_of error).kind refl end t err.0 err.1
 
 -- one more of the items that are seen
-pub seen-more : {E : Type 0} (see : E → Item) (seen : List E) (item : E) (P : List Item → Type 0) → P (map see seen ++ see item ∷ []) → P (map see (seen ++ item ∷ []))
+pub seen-more : {E : Type 0} (see : E → Item) (seen : List E) (item : E) (P : List Item → Type 0)
+    → P (map see seen ++ see item ∷ []) → P (map see (seen ++ item ∷ []))
 seen-more see seen item P h = subst P (sym (map-append see seen (item ∷ []))) h

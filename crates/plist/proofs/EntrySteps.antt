@@ -9,29 +9,39 @@ use Rattle.std.specs.Str.{bytes_eq}
 use Rattle.indexmap.proofs.MapLemmas.{Found-position, insert_entry-first, some_index, swap_remove_entry-found, swap_remove_entry-missing}
 use Rattle.indexmap.specs.IndexMap.{set_value_at, insert_entry, swap_remove_entry}
 
-pub set_last : {K X : Type 0} (ps : List (K × X)) (k : K) (v w : X) → set_value_at (ps ++ (k, v) ∷ []) (length ps) w ≡ ps ++ (k, w) ∷ []
+pub set_last : {K X : Type 0} (ps : List (K × X)) (k : K) (v w : X)
+    → set_value_at (ps ++ (k, v) ∷ []) (length ps) w ≡ ps ++ (k, w) ∷ []
 set_last [] k v w = refl
 set_last (p ∷ ps) k v w = ap (λ l. p ∷ l) (set_last ps k v w)
 
-pub set_pushed : {K X : Type 0} (ps new : List (K × X)) (k : K) (v w : X) (n : ℕ) → new ≡ ps ++ (k, v) ∷ [] → n ≡ length ps → set_value_at new n w ≡ ps ++ (k, w) ∷ []
-set_pushed ps new k v w n e is = ap (λ l. set_value_at l n w) e ∙ ap (λ m. set_value_at (ps ++ (k, v) ∷ []) m w) is ∙ set_last ps k v w
+pub set_pushed : {K X : Type 0} (ps new : List (K × X)) (k : K) (v w : X) (n : ℕ)
+    → new ≡ ps ++ (k, v) ∷ [] → n ≡ length ps → set_value_at new n w ≡ ps ++ (k, w) ∷ []
+set_pushed ps new k v w n e is =
+    ap (λ l. set_value_at l n w) e ∙ ap (λ m. set_value_at (ps ++ (k, v) ∷ []) m w) is
+    ∙ set_last ps k v w
 
-pub length-set : {K X : Type 0} (ps : List (K × X)) (i : ℕ) (w : X) → length (set_value_at ps i w) ≡ length ps
+pub length-set : {K X : Type 0} (ps : List (K × X)) (i : ℕ) (w : X)
+    → length (set_value_at ps i w) ≡ length ps
 length-set [] i w = refl
 length-set (p ∷ ps) zero w = refl
 length-set (p ∷ ps) (suc i) w = ap suc (length-set ps i w)
 
-get_last : {K X : Type 0} (ps : List (K × X)) (k : K) (v : X) → slice_get (values_of (ps ++ (k, v) ∷ [])) (length ps) ≡ Some v
+get_last : {K X : Type 0} (ps : List (K × X)) (k : K) (v : X)
+    → slice_get (values_of (ps ++ (k, v) ∷ [])) (length ps) ≡ Some v
 get_last [] k v = refl
 get_last (p ∷ ps) k v = get_last ps k v
 
 some_same : {X : Type 0} (a b : X) → ◌≡◌ {A = Option X} (Some a) (Some b) → a ≡ b
 some_same a b e = cc
 
-pub read_pushed : {K X : Type 0} (ps new : List (K × X)) (k : K) (v r : X) (n : ℕ) → new ≡ ps ++ (k, v) ∷ [] → n ≡ length ps → Some r ≡ slice_get (values_of new) n → r ≡ v
-read_pushed ps new k v r n e is read = some_same r v (read ∙ ap (λ l. slice_get (values_of l) n) e ∙ ap (λ m. slice_get (values_of (ps ++ (k, v) ∷ [])) m) is ∙ get_last ps k v)
+pub read_pushed : {K X : Type 0} (ps new : List (K × X)) (k : K) (v r : X) (n : ℕ)
+    → new ≡ ps ++ (k, v) ∷ [] → n ≡ length ps → Some r ≡ slice_get (values_of new) n → r ≡ v
+read_pushed ps new k v r n e is read =
+    some_same r v (read ∙ ap (λ l. slice_get (values_of l) n) e
+    ∙ ap (λ m. slice_get (values_of (ps ++ (k, v) ∷ [])) m) is ∙ get_last ps k v)
 
-pub none_refused : {T E : Type 0} (A : Type 0) (r : Result T E) → OnErr r (◌≡◌ {A = Option A} None None)
+pub none_refused : {T E : Type 0} (A : Type 0) (r : Result T E)
+    → OnErr r (◌≡◌ {A = Option A} None None)
 none_refused A (Ok x) = tt
 none_refused A (Err e) = refl
 
@@ -39,20 +49,27 @@ some_none : {A B : Type 0} (x : A) → Some x ≡ None → B
 some_none x e = cc
 
 -- a key that isn't there comes last
-pub comes_last : {X : Type 0} (k : List ℕ) (v : X) (ps : List (List ℕ × X)) → lookup (bytes_eq k) ps ≡ None → insert_entry bytes_eq ps k v ≡ ps ++ (k, v) ∷ []
+pub comes_last : {X : Type 0} (k : List ℕ) (v : X) (ps : List (List ℕ × X))
+    → lookup (bytes_eq k) ps ≡ None → insert_entry bytes_eq ps k v ≡ ps ++ (k, v) ∷ []
 comes_last k v [] e = refl
 comes_last {X} k v (p ∷ ps) e = by (bytes_eq k p.0) e (comes_last k v ps)
   where
-    by : (b : Bool) → cond b (Some p.1) (lookup (bytes_eq k) ps) ≡ None → (lookup (bytes_eq k) ps ≡ None → insert_entry bytes_eq ps k v ≡ ps ++ (k, v) ∷ []) → (if b then (p.0, v) ∷ ps else p ∷ insert_entry bytes_eq ps k v) ≡ p ∷ (ps ++ (k, v) ∷ [])
+    by : (b : Bool) → cond b (Some p.1) (lookup (bytes_eq k) ps) ≡ None
+        → (lookup (bytes_eq k) ps ≡ None → insert_entry bytes_eq ps k v ≡ ps ++ (k, v) ∷ [])
+        → (if b then (p.0, v) ∷ ps else p ∷ insert_entry bytes_eq ps k v) ≡ p ∷ (ps ++ (k, v) ∷ [])
     by true h rest = some_none p.1 h
     by false h rest = ap (λ l. p ∷ l) (rest h)
 
 -- a key that is there keeps its place
-pub keeps_place : {X : Type 0} (k : List ℕ) (v : X) (ps : List (List ℕ × X)) (i : ℕ) → Some i ≡ position (bytes_eq k) (keys_of ps) → set_value_at ps i v ≡ insert_entry bytes_eq ps k v
-keeps_place k v ps i q = sym (insert_entry-first bytes_eq k v ps i (Found-position (bytes_eq k) ps i (sym q)).first)
+pub keeps_place : {X : Type 0} (k : List ℕ) (v : X) (ps : List (List ℕ × X)) (i : ℕ)
+    → Some i ≡ position (bytes_eq k) (keys_of ps)
+    → set_value_at ps i v ≡ insert_entry bytes_eq ps k v
+keeps_place k v ps i q =
+    sym (insert_entry-first bytes_eq k v ps i (Found-position (bytes_eq k) ps i (sym q)).first)
 
 -- the value of the pair at a place
-pub second_at : {K X : Type 0} (ps : List (K × X)) (i : ℕ) (k : K) (v : X) → slice_get ps i ≡ Some (k, v) → Some v ≡ slice_get (values_of ps) i
+pub second_at : {K X : Type 0} (ps : List (K × X)) (i : ℕ) (k : K) (v : X)
+    → slice_get ps i ≡ Some (k, v) → Some v ≡ slice_get (values_of ps) i
 second_at [] i k v e = some_none (k, v) (sym e)
 second_at (p ∷ ps) zero k v e = ap Some (ap (λ q. q.1) (some_same (k, v) p (sym e)))
 second_at (p ∷ ps) (suc i) k v e = second_at ps i k v e
@@ -63,21 +80,32 @@ none_of (Some x) e = absurd (cc)
 
 -- a key that is there: its bytes, its value, and what is left without it
 module _ {X : Type 0} (k : List ℕ) where
-  pub value-there : (ps : List (List ℕ × X)) (i : ℕ) → Some i ≡ position (bytes_eq k) (keys_of ps) → slice_get (values_of ps) i ≡ lookup (bytes_eq k) ps
+  pub value-there : (ps : List (List ℕ × X)) (i : ℕ) → Some i ≡ position (bytes_eq k) (keys_of ps)
+      → slice_get (values_of ps) i ≡ lookup (bytes_eq k) ps
   value-there ps i q = sym (Found-position (bytes_eq k) ps i (sym q)).value
 
-  pub key-there : (ps : List (List ℕ × X)) (i : ℕ) → Some i ≡ position (bytes_eq k) (keys_of ps) → slice_get (keys_of ps) i ≡ Some k
+  pub key-there : (ps : List (List ℕ × X)) (i : ℕ) → Some i ≡ position (bytes_eq k) (keys_of ps)
+      → slice_get (keys_of ps) i ≡ Some k
   key-there ps i q =
       let at = position-Some (bytes_eq k) (keys_of ps) i k (sym q) in
-      slice_get-get_or (keys_of ps) i k at.0 ∙ ap Some (sym ((bytes_eq-Decides k (get_or (keys_of ps) i k)).0 at.1))
+      slice_get-get_or (keys_of ps) i k at.0
+      ∙ ap Some (sym ((bytes_eq-Decides k (get_or (keys_of ps) i k)).0 at.1))
 
-  pub kept-there : {T : Type 0} (ps : List (List ℕ × X)) (i : ℕ) (t : T) → Some i ≡ position (bytes_eq k) (keys_of ps) → None ≡ cond (is_some (lookup (bytes_eq k) ps)) None (Some t)
+  pub kept-there : {T : Type 0} (ps : List (List ℕ × X)) (i : ℕ) (t : T)
+      → Some i ≡ position (bytes_eq k) (keys_of ps)
+      → None ≡ cond (is_some (lookup (bytes_eq k) ps)) None (Some t)
   kept-there ps i t q = ap (λ b. cond b None (Some t)) (ap is_some q ∙ some_index (bytes_eq k) ps)
 
-  pub taken-there : (ps : List (List ℕ × X)) (i : ℕ) (after : List (List ℕ × X)) → Some i ≡ position (bytes_eq k) (keys_of ps) → ((d : List ℕ × X) → after ≡ swap_remove ps i d) → after ≡ swap_remove_entry (bytes_eq k) ps
+  pub taken-there : (ps : List (List ℕ × X)) (i : ℕ) (after : List (List ℕ × X))
+      → Some i ≡ position (bytes_eq k) (keys_of ps)
+      → ((d : List ℕ × X) → after ≡ swap_remove ps i d) → after ≡ swap_remove_entry (bytes_eq k) ps
   taken-there [] i after q is = some_none i q
-  taken-there (p ∷ ps) i after q is = is p ∙ sym (swap_remove_entry-found (bytes_eq k) (p ∷ ps) i p (sym q))
+  taken-there (p ∷ ps) i after q is =
+      is p ∙ sym (swap_remove_entry-found (bytes_eq k) (p ∷ ps) i p (sym q))
 
   -- nothing is taken of pairs without the key
-  pub none-taken : (ps : List (List ℕ × X)) → lookup (bytes_eq k) ps ≡ None → swap_remove_entry (bytes_eq k) ps ≡ ps
-  none-taken ps e = swap_remove_entry-missing (bytes_eq k) ps (none_of (position (bytes_eq k) (keys_of ps)) (some_index (bytes_eq k) ps ∙ ap is_some e))
+  pub none-taken : (ps : List (List ℕ × X)) → lookup (bytes_eq k) ps ≡ None
+      → swap_remove_entry (bytes_eq k) ps ≡ ps
+  none-taken ps e =
+      swap_remove_entry-missing (bytes_eq k) ps
+      (none_of (position (bytes_eq k) (keys_of ps)) (some_index (bytes_eq k) ps ∙ ap is_some e))

@@ -7,16 +7,24 @@ use Rattle.indexmap.specs.IndexMap.{insert_all, insert_entry}
 use Rattle.plist.specs.Shown.{shown_owned_pair}
 
 module _ {V : Type 0} where
-  all-more : (done ps : List (List ℕ × V)) (p : List ℕ × V) → insert_all bytes_eq done (ps ++ p ∷ []) ≡ insert_entry bytes_eq (insert_all bytes_eq done ps) p.0 p.1
+  all-more : (done ps : List (List ℕ × V)) (p : List ℕ × V)
+      → insert_all bytes_eq done (ps ++ p ∷ [])
+      ≡ insert_entry bytes_eq (insert_all bytes_eq done ps) p.0 p.1
   all-more done [] p = refl
   all-more done (q ∷ ps) p = all-more (insert_entry bytes_eq done q.0 q.1) ps p
 
-  shown-more : (rows : List (String Global × V)) (row : String Global × V) → map shown_owned_pair (rows ++ row ∷ []) ≡ map shown_owned_pair rows ++ shown_owned_pair row ∷ []
+  shown-more : (rows : List (String Global × V)) (row : String Global × V)
+      → map shown_owned_pair (rows ++ row ∷ []) ≡ map shown_owned_pair rows ++ shown_owned_pair row
+      ∷ []
   shown-more [] row = refl
   shown-more (r ∷ rows) row = ap (λ l. shown_owned_pair r ∷ l) (shown-more rows row)
 
   -- one more pair is inserted
-  pub inserted-more : (old now new : List (List ℕ × V)) (rows : List (String Global × V)) (row : String Global × V) → now ≡ insert_all bytes_eq old (map shown_owned_pair rows)
-      → new ≡ insert_entry bytes_eq now (shown_owned_pair row).0 row.1 → new ≡ insert_all bytes_eq old (map shown_owned_pair (rows ++ row ∷ []))
+  pub inserted-more : (old now new : List (List ℕ × V)) (rows : List (String Global × V))
+      (row : String Global × V) → now ≡ insert_all bytes_eq old (map shown_owned_pair rows)
+      → new ≡ insert_entry bytes_eq now (shown_owned_pair row).0 row.1
+      → new ≡ insert_all bytes_eq old (map shown_owned_pair (rows ++ row ∷ []))
   inserted-more old now new rows row h e =
-      e ∙ ap (λ l. insert_entry bytes_eq l (shown_owned_pair row).0 row.1) h ∙ sym (ap (insert_all bytes_eq old) (shown-more rows row) ∙ all-more old (map shown_owned_pair rows) (shown_owned_pair row))
+      e ∙ ap (λ l. insert_entry bytes_eq l (shown_owned_pair row).0 row.1) h
+      ∙ sym (ap (insert_all bytes_eq old) (shown-more rows row)
+      ∙ all-more old (map shown_owned_pair rows) (shown_owned_pair row))

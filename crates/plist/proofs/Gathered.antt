@@ -3,12 +3,13 @@ use Rattle.std.proofs.Common.{◌≡◌, ℕ, List, [], ◌∷◌, ◌++◌, Opt
 use Rattle.std.proofs.lemmas.List.{map-append}
 use Rattle.plist_base.specs.declared.event.Event.{Event}
 use Rattle.plist_base.specs.Bracketing.{bracketing, unhinted, AreAlike, AreWhole}
-use Rattle.plist_base.specs.Events.{PlainEvent, StartArray, StartDictionary, EndCollection, Boolean, Data, Date, Integer, Real, String, Uid, event_of}
+use Rattle.plist_base.specs.Events.{PlainEvent, event_of}
 use Rattle.plist_base.specs.Faults.{FaultKind, Fault, Io, OutOfMemory, PlistTooLarge, fault_nowhere}
 use Rattle.plist_base.specs.Trees.{Tree}
 use Rattle.plist_base.specs.Writing.{Answer}
-use Rattle.plist_binwrite.specs.Pendings.{plain_events}
+use Rattle.plist_binwrite.specs.Held.{plain_events}
 use Rattle.plist_binwrite.specs.Sending.{Sends, FailsWith}
+use Rattle.plist_binwrite.proofs.Unhinted.{plain_is, plain_twice}
 use Rattle.plist.specs.declared.stream.events.Events.{Events}
 use Rattle.plist.specs.Remaining.{remaining_events, GivesEvent}
 use Rattle.plist.specs.Sent.{StopsSending, SendsTree}
@@ -17,49 +18,43 @@ use Rattle.plist.specs.Sent.{StopsSending, SendsTree}
 abbrev pub GatheredSoFar : List PlainEvent → List Event → Events → Type 0
 GatheredSoFar all gathered left = map event_of gathered ++ remaining_events left ≡ all
 
-pub one_gathered : (all : List PlainEvent) (old new : List Event) (before after : Events) (e : Event) → GatheredSoFar all old before → GivesEvent before (Some (Ok e)) after → new ≡ old ++ e ∷ [] → GatheredSoFar all new after
+pub one_gathered : (all : List PlainEvent) (old new : List Event) (before after : Events)
+    (e : Event) → GatheredSoFar all old before → GivesEvent before (Some (Ok e)) after
+    → new ≡ old ++ e ∷ [] → GatheredSoFar all new after
 one_gathered all old new before after e h g n =
-    ap (λ l. map event_of l ++ remaining_events after) n ∙ ap (λ l. l ++ remaining_events after) (map-append event_of old (e ∷ []))
-    ∙ append_assoc (map event_of old) (event_of e ∷ []) (remaining_events after) ∙ ap (λ l. map event_of old ++ l) (sym g.0) ∙ h
+    ap (λ l. map event_of l ++ remaining_events after) n
+    ∙ ap (λ l. l ++ remaining_events after) (map-append event_of old (e ∷ []))
+    ∙ append_assoc (map event_of old) (event_of e ∷ []) (remaining_events after)
+    ∙ ap (λ l. map event_of old ++ l) (sym g.0) ∙ h
 
-pub all_gathered : (all : List PlainEvent) (es : List Event) (before after : Events) → GatheredSoFar all es before → GivesEvent before None after → map event_of es ≡ all
-all_gathered all es before after h g = sym (append-nil (map event_of es)) ∙ ap (λ l. map event_of es ++ l) (sym g.0) ∙ h
+pub all_gathered : (all : List PlainEvent) (es : List Event) (before after : Events)
+    → GatheredSoFar all es before → GivesEvent before None after → map event_of es ≡ all
+all_gathered all es before after h g =
+    sym (append-nil (map event_of es)) ∙ ap (λ l. map event_of es ++ l) (sym g.0) ∙ h
 
 -- ---- sending them
 
-twice : (e : PlainEvent) → unhinted (unhinted e) ≡ unhinted e
-twice (StartArray n) = refl
-twice (StartDictionary n) = refl
-twice EndCollection = refl
-twice (Boolean b) = refl
-twice (Data d) = refl
-twice (Date d) = refl
-twice (Integer z) = refl
-twice (Real r) = refl
-twice (String s) = refl
-twice (Uid u) = refl
-
-all_twice : (es : List PlainEvent) → map unhinted (map unhinted es) ≡ map unhinted es
-all_twice [] = refl
-all_twice (e ∷ es) = ap (λ d. d ∷ map unhinted (map unhinted es)) (twice e) ∙ ap (λ l. unhinted e ∷ l) (all_twice es)
-
 module _ (tree : Tree) (es : List Event) (is : map event_of es ≡ bracketing tree) where
   alike : AreAlike (plain_events es) (bracketing tree)
-  alike = all_twice (map event_of es) ∙ ap (map unhinted) is
+  alike = plain_twice es ∙ plain_is es ∙ ap (map unhinted) is
 
   pub whole_tree : AreWhole (plain_events es)
   whole_tree = (tree, alike)
 
   module _ {W : Type 0} (contents : W → Option (List ℕ)) (old new : W) where
-    stops : (kind : FaultKind) → FailsWith contents kind (plain_events es) old new → StopsSending contents kind tree old new
+    stops : (kind : FaultKind) → FailsWith contents kind (plain_events es) old new
+        → StopsSending contents kind tree old new
     stops Io f = (f.0, f.1.1 tree alike, f.2)
     stops PlistTooLarge f = (f.0.1 tree alike, f.1)
     stops OutOfMemory f = (tt, f)
     stops kind f = absurd f
 
-    pub sends_tree : (answer : Answer) → Sends contents (plain_events es) answer old new → SendsTree contents tree answer old new
+    pub sends_tree : (answer : Answer) → Sends contents (plain_events es) answer old new
+        → SendsTree contents tree answer old new
     sends_tree (Ok done) s = (s.0, s.1.1 tree alike, s.2)
     sends_tree (Err fault) s = (s.0, stops fault.kind s.1)
 
-pub wants_memory : {W : Type 0} (contents : W → Option (List ℕ)) (tree : Tree) (fault : Fault) (w : W) → fault ≡ fault_nowhere OutOfMemory → SendsTree contents tree (Err fault) w w
-wants_memory contents tree fault w is = subst (λ f. SendsTree contents tree (Err f) w w) (sym is) (refl, (tt, refl))
+pub wants_memory : {W : Type 0} (contents : W → Option (List ℕ)) (tree : Tree) (fault : Fault)
+    (w : W) → fault ≡ fault_nowhere OutOfMemory → SendsTree contents tree (Err fault) w w
+wants_memory contents tree fault w is =
+    subst (λ f. SendsTree contents tree (Err f) w w) (sym is) (refl, (tt, refl))

@@ -9,34 +9,57 @@ use Rattle.plist.specs.declared.stream.events.Events.{Events}
 use Rattle.plist.specs.Handing.{Took, Hands, HandsItem}
 use Rattle.plist.specs.Remaining.{remaining_events, GivesEvent}
 
-no_answer : {A : Type 0} (done : Unit {0}) (fault : Fault) → ◌≡◌ {A = Answer} (Ok done) (Err fault) → A
+no_answer : {A : Type 0} (done : Unit {0}) (fault : Fault) → ◌≡◌ {A = Answer} (Ok done) (Err fault)
+    → A
 no_answer done fault p = cc
 
 same_fault : (a b : Fault) → ◌≡◌ {A = Answer} (Err a) (Err b) → a ≡ b
 same_fault a b p = cc
 
 module _ {S : Type 0} (Step : S → PlainEvent → Answer → S → Type 0) where
-  took-more : (taken : List PlainEvent) (before between after : S) (e : PlainEvent) → Took Step before taken between → Step between e (Ok tt) after → Took Step before (taken ++ e ∷ []) after
-  took-more [] before between after e p s = (after, subst (λ w. Step w e (Ok tt) after) (sym p) s, refl)
-  took-more (d ∷ taken) before between after e (w, s, t) r = (w, s, took-more taken w between after e t r)
+  took-more : (taken : List PlainEvent) (before between after : S) (e : PlainEvent)
+      → Took Step before taken between → Step between e (Ok tt) after
+      → Took Step before (taken ++ e ∷ []) after
+  took-more [] before between after e p s =
+      (after, subst (λ w. Step w e (Ok tt) after) (sym p) s, refl)
+  took-more (d ∷ taken) before between after e (w, s, t) r =
+      (w, s, took-more taken w between after e t r)
 
   -- what has been handed so far
   abbrev pub HandedSoFar : (before : S) → List PlainEvent → Events → (now : S) → Type 0
-  HandedSoFar before all events now = (taken : List PlainEvent) × (all ≡ taken ++ remaining_events events) × Took Step before taken now
+  HandedSoFar before all events now =
+      (taken : List PlainEvent) × (all ≡ taken ++ remaining_events events)
+      × Took Step before taken now
 
-  pub one-more : (before now after : S) (all : List PlainEvent) (events left : Events) (item : Result Event Error) → HandedSoFar before all events now → GivesEvent events (Some item) left
+  pub one-more : (before now after : S) (all : List PlainEvent) (events left : Events)
+      (item : Result Event Error) → HandedSoFar before all events now
+      → GivesEvent events (Some item) left
       → HandsItem Step now (item_of item) (Ok tt) after → HandedSoFar before all left after
-  one-more before now after all events left (Ok e) (taken, is, took) g s =
-      (taken ++ event_of e ∷ [], is ∙ ap (λ l. taken ++ l) g.0 ∙ sym (append_assoc taken (event_of e ∷ []) (remaining_events left)), took-more taken before now after (event_of e) took s)
+  one-more before now after all events left (Ok e) (taken, is, took) g s = (
+    taken ++ event_of e ∷ [],
+    is ∙ ap (λ l. taken ++ l) g.0
+        ∙ sym (append_assoc taken (event_of e ∷ []) (remaining_events left)),
+    took-more taken
+        before now after (event_of e) took s,
+  )
   one-more before now after all events left (Err error) h g s = no_answer tt (fault_of error) s.0
 
-  pub refused : (before now after : S) (all : List PlainEvent) (events left : Events) (item : Result Event Error) (fault : Fault) → HandedSoFar before all events now → GivesEvent events (Some item) left
-      → HandsItem Step now (item_of item) (Err fault) after → Hands Step before all (Err fault) after
+  pub refused : (before now after : S) (all : List PlainEvent) (events left : Events)
+      (item : Result Event Error) (fault : Fault) → HandedSoFar before all events now
+      → GivesEvent events (Some item) left
+      → HandsItem Step now (item_of item) (Err fault) after
+      → Hands Step before all (Err fault) after
   refused before now after all events left (Ok e) fault (taken, is, took) g s =
       (taken, event_of e ∷ remaining_events left, is ∙ ap (λ l. taken ++ l) g.0, (now, took, inl s))
-  refused before now after all events left (Err error) fault (taken, is, took) g s =
-      (taken, remaining_events events, is, (now, took, inr (same_fault fault (fault_of error) s.0 ∙ g.0, g.1, s.1)))
+  refused before now after all events left (Err error) fault (taken, is, took) g s = (
+    taken,
+    remaining_events events,
+    is,
+    (now, took, inr (same_fault fault (fault_of error) s.0 ∙ g.0, g.1, s.1)),
+  )
 
-  pub all-handed : (before now : S) (all : List PlainEvent) (events left : Events) → HandedSoFar before all events now → GivesEvent events None left → Took Step before all now
+  pub all-handed : (before now : S) (all : List PlainEvent) (events left : Events)
+      → HandedSoFar before all events now → GivesEvent events None left → Took Step before all now
   all-handed before now all events left (taken, is, took) g =
-      subst (λ l. Took Step before l now) (sym (is ∙ ap (λ l. taken ++ l) g.0 ∙ append-nil taken)) took
+      subst (λ l. Took Step before l now) (sym (is ∙ ap (λ l. taken ++ l) g.0 ∙ append-nil taken))
+      took

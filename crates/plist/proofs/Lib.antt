@@ -7,7 +7,6 @@ pub mod Tops
 pub mod Itself
 pub mod Starts
 pub mod Collected
-pub mod MatchFaults
 pub mod Inputs
 pub mod Shown
 pub mod Limiting

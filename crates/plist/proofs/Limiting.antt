@@ -17,14 +17,13 @@ use Rattle.plist_base.specs.Events as event
 use Rattle.plist_base.specs.Events.{Item, PlainEvent, event_of}
 use Rattle.plist_base.specs.Faults.{Fault, fault_of, kind_of, error_kind_of}
 use Rattle.plist_base.specs.Limits.{GivesLimited, PassesNext, come_of, event_or_limit, inner_of, level_behind, limit_at, limited_from, limited_items, opens, under}
-use Rattle.plist_base.specs.Trees as trees
-use Rattle.plist_base.specs.Trees.{Scalar, Tree, Leaf, Array, Dictionary, Trees, NoTrees, TreeAnd, Members, NoMembers, MemberAnd, trees_of, members_of}
-use Rattle.plist_base.specs.Bracketing.{AreAlike, bracketing, bracketing_of_items, bracketing_of_pairs, event_of_scalar, unhinted}
+use Rattle.plist_base.specs.Trees.{Tree, Leaf, Array, Dictionary, Trees, NoTrees, TreeAnd, Members, NoMembers, MemberAnd, trees_of, members_of}
+use Rattle.plist_base.specs.Bracketing.{AreAlike, bracketing, bracketing_of_items, bracketing_of_pairs, unhinted}
 use Rattle.plist.specs.Collecting.{Collects, item_by}
 use Rattle.plist.specs.Inputs.{Answers, BeginsWith, GoesOn, IsReadFrom, Shows}
 use Rattle.plist.specs.LastWins.{Rows, last_values, last_wins, last_wins_in_items, last_wins_in_pairs}
 use Rattle.plist.specs.Limiting.{IsWithin, NestsWithin, ItemsNestWithin, PairsNestWithin}
-use Rattle.plist.proofs.MatchFaults.{MatchFault-all, MatchFault-weaker}
+use Rattle.plist_base.proofs.Refusals.{MatchFault-all, MatchFault-weaker}
 
 abbrev Given : Type 0
 Given = Option (Result Event Error)
@@ -34,62 +33,100 @@ come ended limiter items = cond ended [] (under limiter items)
 
 -- ---- what is seen to come
 
-begins : (was : Bool) (old new : Limiter) (now : Bool) (asked item : Given) (all left : List Item) → was ≡ false → BeginsWith all (option_map (item_by event_of) asked) left → PassesNext old asked item new now
+begins : (was : Bool) (old new : Limiter) (now : Bool) (asked item : Given) (all left : List Item)
+    → was ≡ false → BeginsWith all (option_map (item_by event_of) asked) left
+    → PassesNext old asked item new now
     → BeginsWith (come was old all) (option_map (item_by event_of) item) (come now new left)
 begins was old new now None item all left w b p =
-    subst (λ i. BeginsWith (come was old all) (option_map (item_by event_of) i) (come now new left)) (sym p.0) (rw (w, b) refl)
+    subst (λ i. BeginsWith (come was old all) (option_map (item_by event_of) i) (come now new left))
+    (sym p.0) (rw (w, b) refl)
 begins was old new now (Some (Ok asked)) None all left w b p = absurd p
 begins was old new now (Some (Ok asked)) (Some (Ok passed)) all left w b p =
     rw (w, p.2) (ap (under old) b ∙ p.1 left ∙ ap (λ v. Ok (event_of v) ∷ under new left) (sym p.0))
 begins was old new now (Some (Ok asked)) (Some (Err error)) all left w b p =
-    MatchFault-all (kind_of (error_kind_of error)) tt tt (rw (w, p.1) (ap (under old) b ∙ p.0.2 left))
+    MatchFault-all (kind_of (error_kind_of error)) tt tt
+    (rw (w, p.1) (ap (under old) b ∙ p.0.2 left))
 begins was old new now (Some (Err fault)) None all left w b p = absurd p
 begins was old new now (Some (Err fault)) (Some given) all left w b p =
-    subst (λ g. BeginsWith (come was old all) (Some (item_by event_of g)) (come now new left)) (sym p.0)
-    (MatchFault-weaker (kind_of (error_kind_of fault)) (λ _. tt) (λ _. tt) (λ c. rw (w, p.1) (ap (under old) c)) b)
+    subst (λ g. BeginsWith (come was old all) (Some (item_by event_of g)) (come now new left))
+    (sym p.0)
+    (MatchFault-weaker (kind_of (error_kind_of fault)) (λ _. tt) (λ _. tt)
+    (λ c. rw (w, p.1) (ap (under old) c)) b)
 
-goes : (was : Bool) (old new : Limiter) (now : Bool) (k l : Option (List Item)) (asked item : Given) → was ≡ false → GoesOn k (option_map (item_by event_of) asked) l → PassesNext old asked item new now
-    → GoesOn (option_map (come was old) k) (option_map (item_by event_of) item) (option_map (come now new) l)
+goes : (was : Bool) (old new : Limiter) (now : Bool) (k l : Option (List Item)) (asked item : Given)
+    → was ≡ false → GoesOn k (option_map (item_by event_of) asked) l
+    → PassesNext old asked item new now
+    → GoesOn (option_map (come was old) k) (option_map (item_by event_of) item)
+    (option_map (come now new) l)
 goes was old new now None l asked item w g p = tt
-goes was old new now (Some all) l asked item w g p = (come now new g.0, ap (option_map (come now new)) g.1, begins was old new now asked item all g.0 w g.2 p)
+goes was old new now (Some all) l asked item w g p = (
+  come now new g.0,
+  ap (option_map (come now new)) g.1,
+  begins was old new now asked item all g.0
+      w g.2 p,
+)
 
 module _ {I : Type 0} (inner_gives : I → Given → I → Type 0) where
   -- nothing more comes
-  over : (coming : I → Option (List Item)) (old new : Limited I) (item : Given) → old.ended ≡ true → item ≡ None → new ≡ old
-      → GoesOn (option_map (come_of old) (coming (inner_of old))) (option_map (item_by event_of) item) (option_map (come_of new) (coming (inner_of new)))
+  over : (coming : I → Option (List Item)) (old new : Limited I) (item : Given) → old.ended ≡ true
+      → item ≡ None → new ≡ old
+      → GoesOn (option_map (come_of old) (coming (inner_of old)))
+      (option_map (item_by event_of) item) (option_map (come_of new) (coming (inner_of new)))
   over coming old new item e none same =
-      subst (λ n. GoesOn (option_map (come_of old) (coming (inner_of old))) (option_map (item_by event_of) item) (option_map (come_of n) (coming (inner_of n)))) (sym same)
-      (subst (λ i. GoesOn (option_map (come_of old) (coming (inner_of old))) (option_map (item_by event_of) i) (option_map (come_of old) (coming (inner_of old)))) (sym none) (stays (coming (inner_of old))))
+      subst (λ n. GoesOn (option_map (come_of old) (coming (inner_of old)))
+      (option_map (item_by event_of) item) (option_map (come_of n) (coming (inner_of n))))
+      (sym same)
+      (subst (λ i. GoesOn (option_map (come_of old) (coming (inner_of old)))
+      (option_map (item_by event_of) i) (option_map (come_of old) (coming (inner_of old))))
+      (sym none) (stays (coming (inner_of old))))
     where
-      stays : (k : Option (List Item)) → GoesOn (option_map (come_of old) k) None (option_map (come_of old) k)
+      stays : (k : Option (List Item))
+          → GoesOn (option_map (come_of old) k) None (option_map (come_of old) k)
       stays None = tt
       stays (Some all) = (come_of old all, refl, rw e refl)
 
   -- whatever shows the items of an iterator, shows these items under limits
-  pub limited-shows : (coming : I → Option (List Item)) → Shows event_of inner_gives coming → Shows event_of (GivesLimited inner_gives) (λ l. option_map (come_of l) (coming (inner_of l)))
+  pub limited-shows : (coming : I → Option (List Item)) → Shows event_of inner_gives coming
+      → Shows event_of (GivesLimited inner_gives)
+      (λ l. option_map (come_of l) (coming (inner_of l)))
   limited-shows coming shows old item new h = by old.ended refl h
     where
-      by : (b : Bool) → old.ended ≡ b → MatchBool b ((item ≡ None) × (new ≡ old)) ((asked : Given) × inner_gives old.inner asked new.inner × PassesNext old.limiter asked item new.limiter new.ended)
-          → GoesOn (option_map (come_of old) (coming (inner_of old))) (option_map (item_by event_of) item) (option_map (come_of new) (coming (inner_of new)))
+      by : (b : Bool) → old.ended ≡ b
+          → MatchBool b ((item ≡ None) × (new ≡ old))
+          ((asked : Given) × inner_gives old.inner asked new.inner
+          × PassesNext old.limiter asked item new.limiter new.ended)
+          → GoesOn (option_map (come_of old) (coming (inner_of old)))
+          (option_map (item_by event_of) item)
+          (option_map (come_of new) (coming (inner_of new)))
       by true e (none, same) = over coming old new item e none same
-      by false e (asked, gave, passes) = goes old.ended old.limiter new.limiter new.ended (coming old.inner) (coming new.inner) asked item e (shows old.inner asked new.inner gave) passes
+      by false e (asked, gave, passes) =
+          goes old.ended old.limiter new.limiter new.ended (coming old.inner) (coming new.inner)
+          asked item e (shows old.inner asked new.inner gave) passes
 
 -- ---- the events that came
 
-events-pass : (old new : Limiter) (was now : Bool) (asked : Given) (x : Result Event Error) (e : PlainEvent) (items : List Item) → was ≡ false → item_by event_of x ≡ Ok e → PassesNext old asked (Some x) new now
+events-pass : (old new : Limiter) (was now : Bool) (asked : Given) (x : Result Event Error)
+    (e : PlainEvent) (items : List Item) → was ≡ false → item_by event_of x ≡ Ok e
+    → PassesNext old asked (Some x) new now
     → come was old (Ok e ∷ items) ≡ Ok e ∷ come now new items
-events-pass old new was now None x e items w is p = let no : ◌≡◌ {A = Given} (Some x) None → come was old (Ok e ∷ items) ≡ Ok e ∷ come now new items = λ q. cc in no p.0
+events-pass old new was now None x e items w is p =
+    let no : ◌≡◌ {A = Given} (Some x) None
+    → come was old (Ok e ∷ items) ≡ Ok e ∷ come now new items = λ q. cc in no p.0
 events-pass old new was now (Some (Ok event)) (Ok passed) e items w is p =
-    rw (w, p.2) (ap (λ v. under old (Ok v ∷ items)) (sym same) ∙ p.1 items ∙ ap (λ v. Ok v ∷ under new items) same)
+    rw (w, p.2) (ap (λ v. under old (Ok v ∷ items)) (sym same) ∙ p.1 items
+    ∙ ap (λ v. Ok v ∷ under new items) same)
   where
     inside : (a b : PlainEvent) → ◌≡◌ {A = Item} (Ok a) (Ok b) → a ≡ b
     inside a b q = cc
 
     same : event_of event ≡ e
     same = ap event_of (sym p.0) ∙ inside (event_of passed) e is
-events-pass old new was now (Some (Ok event)) (Err error) e items w is p = let no : ◌≡◌ {A = Item} (Err (fault_of error)) (Ok e) → come was old (Ok e ∷ items) ≡ Ok e ∷ come now new items = λ q. cc in no is
+events-pass old new was now (Some (Ok event)) (Err error) e items w is p =
+    let no : ◌≡◌ {A = Item} (Err (fault_of error)) (Ok e)
+    → come was old (Ok e ∷ items) ≡ Ok e ∷ come now new items = λ q. cc in no is
 events-pass old new was now (Some (Err error)) x e items w is p =
-    let no : ◌≡◌ {A = Item} (Err (fault_of error)) (Ok e) → come was old (Ok e ∷ items) ≡ Ok e ∷ come now new items = λ q. cc in
+    let no : ◌≡◌ {A = Item} (Err (fault_of error)) (Ok e)
+    → come was old (Ok e ∷ items) ≡ Ok e ∷ come now new items = λ q. cc in
     no (ap (item_by event_of) (sym p.0) ∙ is)
 
 asked-by : (was : Bool) {A B : Type 0} → MatchBool was A B → (A → ⊥) → (was ≡ false) × B
@@ -97,20 +134,29 @@ asked-by true h never = absurd (never h)
 asked-by false h never = (refl, h)
 
 -- events that came pass the limits
-run-passes : {I : Type 0} (inner_gives : I → Given → I → Type 0) (old rest : Limited I) (taken : List (Result Event Error)) (events : List PlainEvent) → Yields (GivesLimited inner_gives) old taken rest
+run-passes : {I : Type 0} (inner_gives : I → Given → I → Type 0) (old rest : Limited I)
+    (taken : List (Result Event Error)) (events : List PlainEvent)
+    → Yields (GivesLimited inner_gives) old taken rest
     → map (item_by event_of) taken ≡ map Ok events → come_of old (map Ok events) ≡ map Ok events
 run-passes inner_gives old rest [] [] y e = none old.ended
   where
     none : (b : Bool) → come b old.limiter [] ≡ []
     none true = refl
     none false = refl
-run-passes inner_gives old rest [] (event ∷ events) y e = let no : ◌≡◌ {A = List Item} [] (Ok event ∷ map Ok events) → come_of old (map Ok (event ∷ events)) ≡ map Ok (event ∷ events) = λ q. cc in no e
-run-passes inner_gives old rest (x ∷ taken) [] y e = let no : ◌≡◌ {A = List Item} (item_by event_of x ∷ map (item_by event_of) taken) [] → come_of old [] ≡ [] = λ q. cc in no e
+run-passes inner_gives old rest [] (event ∷ events) y e =
+    let no : ◌≡◌ {A = List Item} [] (Ok event ∷ map Ok events)
+    → come_of old (map Ok (event ∷ events)) ≡ map Ok (event ∷ events) = λ q. cc in no e
+run-passes inner_gives old rest (x ∷ taken) [] y e =
+    let no : ◌≡◌ {A = List Item} (item_by event_of x ∷ map (item_by event_of) taken) []
+    → come_of old [] ≡ [] = λ q. cc in no e
 run-passes inner_gives old rest (x ∷ taken) (event ∷ events) (mid, step, more) e =
     let no : Some x ≡ None → ⊥ = λ q. cc in
     let asked = asked-by old.ended step (λ a. no a.0) in
-    events-pass old.limiter mid.limiter old.ended mid.ended asked.1.0 x event (map Ok events) asked.0 (head (item_by event_of x) (Ok event) (map (item_by event_of) taken) (map Ok events) e) asked.1.2
-    ∙ ap (λ l. Ok event ∷ l) (run-passes inner_gives mid rest taken events more (tail (item_by event_of x) (Ok event) (map (item_by event_of) taken) (map Ok events) e))
+    events-pass old.limiter mid.limiter old.ended mid.ended asked.1.0 x event (map Ok events)
+    asked.0 (head (item_by event_of x) (Ok event) (map (item_by event_of) taken) (map Ok events)
+    e) asked.1.2
+    ∙ ap (λ l. Ok event ∷ l) (run-passes inner_gives mid rest taken events more
+    (tail (item_by event_of x) (Ok event) (map (item_by event_of) taken) (map Ok events) e))
   where
     head : (a b : Item) (xs ys : List Item) → a ∷ xs ≡ b ∷ ys → a ≡ b
     head a b xs ys q = cc
@@ -124,98 +170,151 @@ module _ (limits : Limits) where
   -- no event of these reaches a limit
   abbrev Pass : (came level : ℕ) → List PlainEvent → Type 0
   Pass came level [] = ⊤
-  Pass came level (e ∷ es) = (limit_at limits came level e ≡ None) × Pass (came + 1) (level_behind e level) es
+  Pass came level (e ∷ es) =
+      (limit_at limits came level e ≡ None) × Pass (came + 1) (level_behind e level) es
 
-  pass-choice : (o : Option Limit) (e : PlainEvent) (behind es : List Item) → event_or_limit o e behind ≡ Ok e ∷ es → (o ≡ None) × (behind ≡ es)
+  pass-choice : (o : Option Limit) (e : PlainEvent) (behind es : List Item)
+      → event_or_limit o e behind ≡ Ok e ∷ es → (o ≡ None) × (behind ≡ es)
   pass-choice None e behind es h = (refl, tail behind es h)
     where
       tail : (xs ys : List Item) → Ok e ∷ xs ≡ Ok e ∷ ys → xs ≡ ys
       tail xs ys q = cc
-  pass-choice (Some limit) e behind es h = let no : ◌≡◌ {A = List Item} (event_or_limit (Some limit) e behind) (Ok e ∷ es) → (Some limit ≡ None) × (behind ≡ es) = λ q. cc in no h
+  pass-choice (Some limit) e behind es h =
+      let no : ◌≡◌ {A = List Item} (event_or_limit (Some limit) e behind) (Ok e ∷ es)
+      → (Some limit ≡ None) × (behind ≡ es) = λ q. cc in no h
 
-  passes : (came level : ℕ) (es : List PlainEvent) → limited_from limits came level (map Ok es) ≡ map Ok es → Pass came level es
+  passes : (came level : ℕ) (es : List PlainEvent)
+      → limited_from limits came level (map Ok es) ≡ map Ok es → Pass came level es
   passes came level [] h = tt
   passes came level (e ∷ es) h =
-      let c = pass-choice (limit_at limits came level e) e (limited_from limits (came + 1) (level_behind e level) (map Ok es)) (map Ok es) h in
+      let c = pass-choice (limit_at limits came level e) e
+      (limited_from limits (came + 1) (level_behind e level) (map Ok es)) (map Ok es) h in
       (c.0, passes (came + 1) (level_behind e level) es c.1)
 
   -- lengths decide nothing
-  limit-unhinted : (came level : ℕ) (e : PlainEvent) → limit_at limits came level (unhinted e) ≡ limit_at limits came level e
+  limit-unhinted : (came level : ℕ) (e : PlainEvent)
+      → limit_at limits came level (unhinted e) ≡ limit_at limits came level e
   limit-unhinted came level (event.StartArray length) = refl
   limit-unhinted came level (event.StartDictionary length) = refl
   limit-unhinted came level e = refl
 
-  level-unhinted : (level : ℕ) (e : PlainEvent) → level_behind (unhinted e) level ≡ level_behind e level
+  level-unhinted : (level : ℕ) (e : PlainEvent)
+      → level_behind (unhinted e) level ≡ level_behind e level
   level-unhinted level (event.StartArray length) = refl
   level-unhinted level (event.StartDictionary length) = refl
   level-unhinted level e = refl
 
-  unhinted-passes : (came level : ℕ) (es : List PlainEvent) → Pass came level es → Pass came level (map unhinted es)
+  unhinted-passes : (came level : ℕ) (es : List PlainEvent) → Pass came level es
+      → Pass came level (map unhinted es)
   unhinted-passes came level [] h = tt
-  unhinted-passes came level (e ∷ es) h =
-      (limit-unhinted came level e ∙ h.0, subst (λ n. Pass (came + 1) n (map unhinted es)) (sym (level-unhinted level e)) (unhinted-passes (came + 1) (level_behind e level) es h.1))
+  unhinted-passes came level (e ∷ es) h = (
+    limit-unhinted came level e ∙ h.0,
+    subst (λ n. Pass (came + 1) n (map unhinted es))
+        (sym (level-unhinted level e)) (unhinted-passes (came + 1) (level_behind e level) es h.1),
+  )
 
-  passes-unhinted : (came level : ℕ) (es : List PlainEvent) → Pass came level (map unhinted es) → Pass came level es
+  passes-unhinted : (came level : ℕ) (es : List PlainEvent) → Pass came level (map unhinted es)
+      → Pass came level es
   passes-unhinted came level [] h = tt
-  passes-unhinted came level (e ∷ es) h =
-      (sym (limit-unhinted came level e) ∙ h.0, passes-unhinted (came + 1) (level_behind e level) es (subst (λ n. Pass (came + 1) n (map unhinted es)) (level-unhinted level e) h.1))
+  passes-unhinted came level (e ∷ es) h = (
+    sym (limit-unhinted came level e)
+        ∙ h.0,
+    passes-unhinted (came + 1) (level_behind e level) es
+        (subst (λ n. Pass (came + 1) n (map unhinted es)) (level-unhinted level e) h.1),
+  )
 
-  alike-passes : (left right : List PlainEvent) → AreAlike left right → Pass 0 0 left → Pass 0 0 right
-  alike-passes left right alike h = passes-unhinted 0 0 right (subst (λ l. Pass 0 0 l) alike (unhinted-passes 0 0 left h))
+  alike-passes : (left right : List PlainEvent) → AreAlike left right → Pass 0 0 left
+      → Pass 0 0 right
+  alike-passes left right alike h =
+      passes-unhinted 0 0 right (subst (λ l. Pass 0 0 l) alike (unhinted-passes 0 0 left h))
 
   -- an event that passes is within both limits
-  allowed : (a b : Bool) → cond a (Some limit.Items) (cond b (Some limit.Depth) None) ≡ None → (a ≡ false) × (b ≡ false)
-  allowed true b h = let no : Some limit.Items ≡ None → (true ≡ false) × (b ≡ false) = λ q. cc in no h
-  allowed false true h = let no : Some limit.Depth ≡ None → (false ≡ false) × (true ≡ false) = λ q. cc in no h
+  allowed : (a b : Bool) → cond a (Some limit.Items) (cond b (Some limit.Depth) None) ≡ None
+      → (a ≡ false) × (b ≡ false)
+  allowed true b h =
+      let no : Some limit.Items ≡ None → (true ≡ false) × (b ≡ false) = λ q. cc in no h
+  allowed false true h =
+      let no : Some limit.Depth ≡ None → (false ≡ false) × (true ≡ false) = λ q. cc in no h
   allowed false false h = (refl, refl)
 
   below : (m n : ℕ) → nat_le m n ≡ false → n < m
   below m n h = grind (arith, nat_tests)
 
   -- not more events than may come
-  few : (came level : ℕ) (es : List PlainEvent) → came ≤ limits.items → Pass came level es → came + length es ≤ limits.items
+  few : (came level : ℕ) (es : List PlainEvent) → came ≤ limits.items → Pass came level es
+      → came + length es ≤ limits.items
   few came level [] l h = omega arith
   few came level (e ∷ es) l h =
-      let less : came < limits.items = below limits.items came (allowed (nat_le limits.items came) (opens e && nat_le limits.depth level) h.0).0 in
-      let more : came + 1 + length es ≤ limits.items = few (came + 1) (level_behind e level) es (omega arith) h.1 in
+      let less : came < limits.items = below limits.items came
+      (allowed (nat_le limits.items came) (opens e && nat_le limits.depth level) h.0).0 in
+      let more : came + 1 + length es
+      ≤ limits.items = few (came + 1) (level_behind e level) es (omega arith) h.1 in
       omega arith
 
-  scalar-level : (s : Scalar) (level : ℕ) → level_behind (event_of_scalar s) level ≡ level
-  scalar-level (trees.Boolean value) level = refl
-  scalar-level (trees.Data bytes) level = refl
-  scalar-level (trees.Date bytes) level = refl
-  scalar-level (trees.Integer value) level = refl
-  scalar-level (trees.Real bits) level = refl
-  scalar-level (trees.String text) level = refl
-  scalar-level (trees.Uid uid) level = refl
-
   -- behind the end of a collection as many are open as before its start
-  closed : (came level : ℕ) (rest : List PlainEvent) → (n : ℕ) × Pass n (level + 1) (event.EndCollection ∷ rest) → (n : ℕ) × Pass n level rest
-  closed came level rest (n, h) = (n + 1, subst (λ k. Pass (n + 1) k rest) (let same : level + 1 - 1 ≡ level = omega arith in same) h.1)
+  closed : (came level : ℕ) (rest : List PlainEvent) → (n : ℕ)
+      × Pass n (level + 1) (event.EndCollection ∷ rest) → (n : ℕ) × Pass n level rest
+  closed came level rest (n, h) = (
+    n + 1,
+    subst (λ k. Pass (n + 1) k rest)
+        (let same : level + 1 - 1 ≡ level = omega arith in same) h.1,
+  )
 
   mutual
-    tree-nests : (t : Tree) (came level : ℕ) (rest : List PlainEvent) → level ≤ limits.depth → Pass came level (bracketing t ++ rest) → NestsWithin t (limits.depth - level) × ((n : ℕ) × Pass n level rest)
-    tree-nests (Leaf s) came level rest l h = (tt, (came + 1, subst (λ n. Pass (came + 1) n rest) (scalar-level s level) h.1))
+    tree-nests : (t : Tree) (came level : ℕ) (rest : List PlainEvent) → level ≤ limits.depth
+        → Pass came level (bracketing t ++ rest) → NestsWithin t (limits.depth - level)
+        × ((n : ℕ) × Pass n level rest)
+    tree-nests (Leaf s) came level rest l h = (tt, (came + 1, h.1))
     tree-nests (Array items) came level rest l h =
-        let less : level < limits.depth = below limits.depth level (allowed (nat_le limits.items came) (nat_le limits.depth level) h.0).1 in
-        let inside = items-nest items (came + 1) (level + 1) (event.EndCollection ∷ rest) (omega arith) (subst (λ es. Pass (came + 1) (level + 1) es) (append_assoc (bracketing_of_items items) (event.EndCollection ∷ []) rest) h.1) in
-        ((omega arith, subst (λ d. ItemsNestWithin items d) (let same : limits.depth - (level + 1) ≡ limits.depth - level - 1 = omega arith in same) inside.0), closed came level rest inside.1)
+        let less : level < limits.depth = below limits.depth level
+        (allowed (nat_le limits.items came) (nat_le limits.depth level) h.0).1 in
+        let inside = items-nest items (came + 1) (level + 1) (event.EndCollection ∷ rest)
+        (omega arith) (subst (λ es. Pass (came + 1) (level + 1) es)
+        (append_assoc (bracketing_of_items items) (event.EndCollection ∷ []) rest) h.1) in (
+          (
+            omega arith,
+            subst (λ d. ItemsNestWithin items d)
+                (let same : limits.depth - (level + 1)
+                ≡ limits.depth - level - 1 = omega arith in same)
+                inside.0,
+          ),
+          closed came level rest inside.1,
+        )
     tree-nests (Dictionary pairs) came level rest l h =
-        let less : level < limits.depth = below limits.depth level (allowed (nat_le limits.items came) (nat_le limits.depth level) h.0).1 in
-        let inside = pairs-nest pairs (came + 1) (level + 1) (event.EndCollection ∷ rest) (omega arith) (subst (λ es. Pass (came + 1) (level + 1) es) (append_assoc (bracketing_of_pairs pairs) (event.EndCollection ∷ []) rest) h.1) in
-        ((omega arith, subst (λ d. PairsNestWithin pairs d) (let same : limits.depth - (level + 1) ≡ limits.depth - level - 1 = omega arith in same) inside.0), closed came level rest inside.1)
+        let less : level < limits.depth = below limits.depth level
+        (allowed (nat_le limits.items came) (nat_le limits.depth level) h.0).1 in
+        let inside = pairs-nest pairs (came + 1) (level + 1) (event.EndCollection ∷ rest)
+        (omega arith) (subst (λ es. Pass (came + 1) (level + 1) es)
+        (append_assoc (bracketing_of_pairs pairs) (event.EndCollection ∷ []) rest) h.1) in (
+          (
+            omega arith,
+            subst (λ d. PairsNestWithin pairs d)
+                (let same : limits.depth - (level + 1)
+                ≡ limits.depth - level - 1 = omega arith in same)
+                inside.0,
+          ),
+          closed came level rest inside.1,
+        )
 
-    items-nest : (items : Trees) (came level : ℕ) (rest : List PlainEvent) → level ≤ limits.depth → Pass came level (bracketing_of_items items ++ rest) → ItemsNestWithin items (limits.depth - level) × ((n : ℕ) × Pass n level rest)
+    items-nest : (items : Trees) (came level : ℕ) (rest : List PlainEvent) → level ≤ limits.depth
+        → Pass came level (bracketing_of_items items ++ rest)
+        → ItemsNestWithin items (limits.depth - level) × ((n : ℕ) × Pass n level rest)
     items-nest NoTrees came level rest l h = (tt, (came, h))
     items-nest (TreeAnd tree trees) came level rest l h =
-        let first = tree-nests tree came level (bracketing_of_items trees ++ rest) l (subst (λ es. Pass came level es) (append_assoc (bracketing tree) (bracketing_of_items trees) rest) h) in
+        let first = tree-nests tree came level (bracketing_of_items trees ++ rest) l
+        (subst (λ es. Pass came level es)
+        (append_assoc (bracketing tree) (bracketing_of_items trees) rest) h) in
         let others = items-nest trees first.1.0 level rest l first.1.1 in
         ((first.0, others.0), others.1)
 
-    pairs-nest : (pairs : Members) (came level : ℕ) (rest : List PlainEvent) → level ≤ limits.depth → Pass came level (bracketing_of_pairs pairs ++ rest) → PairsNestWithin pairs (limits.depth - level) × ((n : ℕ) × Pass n level rest)
+    pairs-nest : (pairs : Members) (came level : ℕ) (rest : List PlainEvent) → level ≤ limits.depth
+        → Pass came level (bracketing_of_pairs pairs ++ rest)
+        → PairsNestWithin pairs (limits.depth - level) × ((n : ℕ) × Pass n level rest)
     pairs-nest NoMembers came level rest l h = (tt, (came, h))
     pairs-nest (MemberAnd key tree members) came level rest l h =
-        let first = tree-nests tree (came + 1) level (bracketing_of_pairs members ++ rest) l (subst (λ es. Pass (came + 1) level es) (append_assoc (bracketing tree) (bracketing_of_pairs members) rest) h.1) in
+        let first = tree-nests tree (came + 1) level (bracketing_of_pairs members ++ rest) l
+        (subst (λ es. Pass (came + 1) level es)
+        (append_assoc (bracketing tree) (bracketing_of_pairs members) rest) h.1) in
         let others = pairs-nest members first.1.0 level rest l first.1.1 in
         ((first.0, others.0), others.1)
 
@@ -225,19 +324,28 @@ abbrev AllNest : Rows → ℕ → Type 0
 AllNest [] depth = ⊤
 AllNest (row ∷ rows) depth = NestsWithin row.1 depth × AllNest rows depth
 
-insert-choice : (b : Bool) (k : List ℕ) (v : Tree) (e : List ℕ × Tree) (es more : Rows) (depth : ℕ) → AllNest (e ∷ es) depth → NestsWithin v depth → AllNest more depth → AllNest (if b then (e.0, v) ∷ es else e ∷ more) depth
+insert-choice : (b : Bool) (k : List ℕ) (v : Tree) (e : List ℕ × Tree) (es more : Rows) (depth : ℕ)
+    → AllNest (e ∷ es) depth → NestsWithin v depth → AllNest more depth
+    → AllNest (if b then (e.0, v) ∷ es else e ∷ more) depth
 insert-choice true k v e es more depth h n m = (n, h.1)
 insert-choice false k v e es more depth h n m = (h.0, m)
 
-insert-nests : (rows : Rows) (k : List ℕ) (v : Tree) (depth : ℕ) → AllNest rows depth → NestsWithin v depth → AllNest (insert_entry bytes_eq rows k v) depth
+insert-nests : (rows : Rows) (k : List ℕ) (v : Tree) (depth : ℕ) → AllNest rows depth
+    → NestsWithin v depth → AllNest (insert_entry bytes_eq rows k v) depth
 insert-nests [] k v depth h n = (n, tt)
-insert-nests (e ∷ es) k v depth h n = insert-choice (bytes_eq k e.0) k v e es (insert_entry bytes_eq es k v) depth h n (insert-nests es k v depth h.1 n)
+insert-nests (e ∷ es) k v depth h n =
+    insert-choice (bytes_eq k e.0) k v e es (insert_entry bytes_eq es k v) depth h n
+    (insert-nests es k v depth h.1 n)
 
-all-nest : (done rows : Rows) (depth : ℕ) → AllNest done depth → AllNest rows depth → AllNest (insert_all bytes_eq done rows) depth
+all-nest : (done rows : Rows) (depth : ℕ) → AllNest done depth → AllNest rows depth
+    → AllNest (insert_all bytes_eq done rows) depth
 all-nest done [] depth h n = h
-all-nest done (row ∷ rows) depth h n = all-nest (insert_entry bytes_eq done row.0 row.1) rows depth (insert-nests done row.0 row.1 depth h n.0) n.1
+all-nest done (row ∷ rows) depth h n =
+    all-nest (insert_entry bytes_eq done row.0 row.1) rows depth
+    (insert-nests done row.0 row.1 depth h n.0) n.1
 
-members-nest : (rows : Rows) (depth : ℕ) → AllNest rows depth → PairsNestWithin (members_of rows) depth
+members-nest : (rows : Rows) (depth : ℕ) → AllNest rows depth
+    → PairsNestWithin (members_of rows) depth
 members-nest [] depth h = tt
 members-nest (row ∷ rows) depth h = (h.0, members-nest rows depth h.1)
 
@@ -245,29 +353,52 @@ mutual
   last-nests : (t : Tree) (depth : ℕ) → NestsWithin t depth → NestsWithin (last_wins t) depth
   last-nests (Leaf s) depth h = tt
   last-nests (Array items) depth h = (h.0, last-items items (depth - 1) h.1)
-  last-nests (Dictionary pairs) depth h = (h.0, members-nest (last_values (last_wins_in_pairs pairs)) (depth - 1) (all-nest [] (last_wins_in_pairs pairs) (depth - 1) tt (last-pairs pairs (depth - 1) h.1)))
+  last-nests (Dictionary pairs) depth h = (
+    h.0,
+    members-nest (last_values (last_wins_in_pairs pairs)) (depth - 1)
+        (all-nest [] (last_wins_in_pairs pairs) (depth - 1) tt (last-pairs pairs (depth - 1) h.1)),
+  )
 
-  last-items : (items : Trees) (depth : ℕ) → ItemsNestWithin items depth → ItemsNestWithin (trees_of (last_wins_in_items items)) depth
+  last-items : (items : Trees) (depth : ℕ) → ItemsNestWithin items depth
+      → ItemsNestWithin (trees_of (last_wins_in_items items)) depth
   last-items NoTrees depth h = tt
   last-items (TreeAnd tree trees) depth h = (last-nests tree depth h.0, last-items trees depth h.1)
 
-  last-pairs : (pairs : Members) (depth : ℕ) → PairsNestWithin pairs depth → AllNest (last_wins_in_pairs pairs) depth
+  last-pairs : (pairs : Members) (depth : ℕ) → PairsNestWithin pairs depth
+      → AllNest (last_wins_in_pairs pairs) depth
   last-pairs NoMembers depth h = tt
-  last-pairs (MemberAnd key tree members) depth h = (last-nests tree depth h.0, last-pairs members depth h.1)
+  last-pairs (MemberAnd key tree members) depth h =
+      (last-nests tree depth h.0, last-pairs members depth h.1)
 
 -- ---- the value
 
-pub built-within : {I : Type 0} (inner_gives : I → Given → I → Type 0) (limits : Limits) (limited : Limited I) (answer : Result Tree Fault) → come_of limited ≡ limited_items limits → Collects event_of (GivesLimited inner_gives) limited answer → IfOk answer (IsWithin limits)
+pub built-within : {I : Type 0} (inner_gives : I → Given → I → Type 0) (limits : Limits)
+    (limited : Limited I) (answer : Result Tree Fault) → come_of limited ≡ limited_items limits
+    → Collects event_of (GivesLimited inner_gives) limited answer → IfOk answer (IsWithin limits)
 built-within inner_gives limits limited (Err fault) fresh c = tt
-built-within inner_gives limits limited (Ok tree) fresh (taken, (rest, yields), (events, whole, same, ends, alike, last)) =
-    let came : limited_items limits (map Ok events) ≡ map Ok events = ap (λ f. f (map Ok events)) (sym fresh) ∙ run-passes inner_gives limited rest taken events yields same in
-    let pass = alike-passes limits events (bracketing whole) alike (passes limits 0 0 events came) in
-    let nests = (tree-nests limits whole 0 0 [] (omega arith) (subst (λ es. Pass limits 0 0 es) (sym (append-nil (bracketing whole))) pass)).0 in
-    let deep : NestsWithin whole limits.depth = subst (λ d. NestsWithin whole d) (let same : limits.depth - 0 ≡ limits.depth = omega arith in same) nests in
-    let long : 0 + length (bracketing whole) ≤ limits.items = few limits 0 0 (bracketing whole) (omega arith) pass in
-    (subst (λ t. NestsWithin t limits.depth) (sym last) (last-nests whole limits.depth deep), (whole, last, omega arith))
+built-within inner_gives limits limited (Ok tree) fresh
+    (taken, (rest, yields), (events, whole, same, ends, alike, last)) =
+    let came : limited_items limits (map Ok events)
+    ≡ map Ok events = ap (λ f. f (map Ok events)) (sym fresh)
+    ∙ run-passes inner_gives limited rest taken events yields same in
+    let pass = alike-passes limits events (bracketing whole) alike (passes limits 0 0 events came)
+    in
+    let nests = (tree-nests limits whole 0 0 [] (omega arith)
+    (subst (λ es. Pass limits 0 0 es) (sym (append-nil (bracketing whole))) pass)).0 in
+    let deep : NestsWithin whole limits.depth = subst (λ d. NestsWithin whole d)
+    (let same : limits.depth - 0 ≡ limits.depth = omega arith in same) nests in
+    let long : 0 + length (bracketing whole)
+    ≤ limits.items = few limits 0 0 (bracketing whole) (omega arith) pass in (
+      subst (λ t. NestsWithin t limits.depth) (sym last) (last-nests whole limits.depth deep),
+      (whole, last, omega arith),
+    )
 
-pub of-limited : (limits : Limits) (items : Option (List Item)) (bytes : Option (List ℕ)) (read : List ℕ → List Item) (come_now : List Item → List Item) (answer : Result Tree Fault) → come_now ≡ limited_items limits → items ≡ option_map read bytes
-    → Answers (option_map come_now items) answer → IfSome bytes (λ b. IsReadFrom (limited_items limits (read b)) answer)
+pub of-limited : (limits : Limits) (items : Option (List Item)) (bytes : Option (List ℕ))
+    (read : List ℕ → List Item) (come_now : List Item → List Item) (answer : Result Tree Fault)
+    → come_now ≡ limited_items limits → items ≡ option_map read bytes
+    → Answers (option_map come_now items) answer
+    → IfSome bytes (λ b. IsReadFrom (limited_items limits (read b)) answer)
 of-limited limits items None read come_now answer f e h = tt
-of-limited limits items (Some b) read come_now answer f e h = subst (λ c. IsReadFrom (c (read b)) answer) f (subst (λ o. Answers (option_map come_now o) answer) e h)
+of-limited limits items (Some b) read come_now answer f e h =
+    subst (λ c. IsReadFrom (c (read b)) answer) f
+    (subst (λ o. Answers (option_map come_now o) answer) e h)

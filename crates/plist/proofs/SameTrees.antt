@@ -16,63 +16,88 @@ use Rattle.plist.specs.Views.{tree_of, tree_pairs, item_trees, pair_trees}
 use Rattle.plist.proofs.Keeping.{Lacks, EachOnce, last-values-once}
 
 -- pairs with distinct keys, once more
-lacks-pairs : (k : List ℕ) (ps : List (List ℕ × Value)) → AllByRecursion (λ y. bytes_eq k y ≡ false) (keys_of ps) → Lacks k (tree_pairs ps)
+lacks-pairs : (k : List ℕ) (ps : List (List ℕ × Value))
+    → AllByRecursion (λ y. bytes_eq k y ≡ false) (keys_of ps) → Lacks k (tree_pairs ps)
 lacks-pairs k [] a = tt
 lacks-pairs k (p ∷ ps) a = (a.0, lacks-pairs k ps a.1)
 
-pub once-pairs : (ps : List (List ℕ × Value)) → IsDistinct bytes_eq (keys_of ps) → EachOnce (tree_pairs ps)
+pub once-pairs : (ps : List (List ℕ × Value)) → IsDistinct bytes_eq (keys_of ps)
+    → EachOnce (tree_pairs ps)
 unfolding IsDistinct
 once-pairs [] d = tt
 once-pairs (p ∷ ps) d = (lacks-pairs p.0 ps d.0, once-pairs ps d.1)
 
-first-choice : (b : Bool) (v : Value) (o : Option Value) (q : Option Tree) → q ≡ option_map tree_of o → cond b (Some (tree_of v)) q ≡ option_map tree_of (cond b (Some v) o)
+first-choice : (b : Bool) (v : Value) (o : Option Value) (q : Option Tree)
+    → q ≡ option_map tree_of o → cond b (Some (tree_of v)) q
+    ≡ option_map tree_of (cond b (Some v) o)
 first-choice true v o q e = refl
 first-choice false v o q e = e
 
-first-pairs : (k : List ℕ) (ps : List (List ℕ × Value)) → first_value k (members_of (tree_pairs ps)) ≡ option_map tree_of (lookup (bytes_eq k) ps)
+first-pairs : (k : List ℕ) (ps : List (List ℕ × Value))
+    → first_value k (members_of (tree_pairs ps)) ≡ option_map tree_of (lookup (bytes_eq k) ps)
 first-pairs k [] = refl
-first-pairs k (p ∷ ps) = first-choice (bytes_eq k p.0) p.1 (lookup (bytes_eq k) ps) (first_value k (members_of (tree_pairs ps))) (first-pairs k ps)
+first-pairs k (p ∷ ps) =
+    first-choice (bytes_eq k p.0) p.1 (lookup (bytes_eq k) ps)
+    (first_value k (members_of (tree_pairs ps))) (first-pairs k ps)
 
 -- what a dictionary has at a key
-pub first-at : (k : List ℕ) (ps : List (List ℕ × Value)) → IsDistinct bytes_eq (keys_of ps) → first_value k (pair_trees ps) ≡ option_map tree_of (lookup (bytes_eq k) ps)
-first-at k ps d = ap (λ l. first_value k (members_of l)) (last-values-once (tree_pairs ps) (once-pairs ps d)) ∙ first-pairs k ps
+pub first-at : (k : List ℕ) (ps : List (List ℕ × Value)) → IsDistinct bytes_eq (keys_of ps)
+    → first_value k (pair_trees ps) ≡ option_map tree_of (lookup (bytes_eq k) ps)
+first-at k ps d =
+    ap (λ l. first_value k (members_of l)) (last-values-once (tree_pairs ps) (once-pairs ps d))
+    ∙ first-pairs k ps
 
-at-values : (p q : Option Value) → option_eq (same_by tree_of) p q ≡ true → AreSameAt (option_map tree_of p) (option_map tree_of q)
+at-values : (p q : Option Value) → option_eq (same_by tree_of) p q ≡ true
+    → AreSameAt (option_map tree_of p) (option_map tree_of q)
 at-values None None h = tt
 at-values None (Some w) h = absurd (cc)
 at-values (Some v) None h = absurd (cc)
 at-values (Some v) (Some w) h = h
 
-values-at : (p q : Option Value) → AreSameAt (option_map tree_of p) (option_map tree_of q) → option_eq (same_by tree_of) p q ≡ true
+values-at : (p q : Option Value) → AreSameAt (option_map tree_of p) (option_map tree_of q)
+    → option_eq (same_by tree_of) p q ≡ true
 values-at None None h = refl
 values-at None (Some w) h = absurd h
 values-at (Some v) None h = absurd h
 values-at (Some v) (Some w) h = h
 
 -- dictionaries are the same where their values are so key by key
-pub same-dictionaries : (ps qs : List (List ℕ × Value)) → IsDistinct bytes_eq (keys_of ps) → IsDistinct bytes_eq (keys_of qs) → same_pairs (same_by tree_of) ps qs ≡ same (Dictionary (pair_trees ps)) (Dictionary (pair_trees qs))
+pub same-dictionaries : (ps qs : List (List ℕ × Value)) → IsDistinct bytes_eq (keys_of ps)
+    → IsDistinct bytes_eq (keys_of qs)
+    → same_pairs (same_by tree_of) ps qs
+    ≡ same (Dictionary (pair_trees ps)) (Dictionary (pair_trees qs))
 same-dictionaries ps qs d e =
-    both_ways (same_pairs (same_by tree_of) ps qs) (same (Dictionary (pair_trees ps)) (Dictionary (pair_trees qs)))
+    both_ways (same_pairs (same_by tree_of) ps qs)
+    (same (Dictionary (pair_trees ps)) (Dictionary (pair_trees qs)))
     (λ h. dict_from (pair_trees ps) (pair_trees qs) (λ k.
-    subst (λ o. AreSameAt o (first_value k (pair_trees qs))) (sym (first-at k ps d)) (subst (AreSameAt (option_map tree_of (lookup (bytes_eq k) ps))) (sym (first-at k qs e))
-    (at-values (lookup (bytes_eq k) ps) (lookup (bytes_eq k) qs) (get_from_hash_map_eq bytes_eq (same_by tree_of) nat_list_eq_equiv (as_map ps) (as_map qs) h k)))))
+    subst (λ o. AreSameAt o (first_value k (pair_trees qs))) (sym (first-at k ps d))
+    (subst (AreSameAt (option_map tree_of (lookup (bytes_eq k) ps))) (sym (first-at k qs e))
+    (at-values (lookup (bytes_eq k) ps) (lookup (bytes_eq k) qs)
+    (get_from_hash_map_eq bytes_eq (same_by tree_of) nat_list_eq_equiv (as_map ps) (as_map qs) h
+    k)))))
     (λ h. hash_map_eq_from_get bytes_eq (same_by tree_of) (as_map ps) (as_map qs) (λ k.
     values-at (lookup (bytes_eq k) ps) (lookup (bytes_eq k) qs)
-    (subst (λ o. AreSameAt o (option_map tree_of (lookup (bytes_eq k) qs))) (first-at k ps d) (subst (AreSameAt (first_value k (pair_trees ps))) (first-at k qs e) (dict_to (pair_trees ps) (pair_trees qs) h k)))))
+    (subst (λ o. AreSameAt o (option_map tree_of (lookup (bytes_eq k) qs))) (first-at k ps d)
+    (subst (AreSameAt (first_value k (pair_trees ps))) (first-at k qs e)
+    (dict_to (pair_trees ps) (pair_trees qs) h k)))))
 
 -- arrays by place
-pub same-lengths : (vs ws : List Value) → same_items (item_trees vs) (item_trees ws) ≡ true → length vs ≡ length ws
+pub same-lengths : (vs ws : List Value) → same_items (item_trees vs) (item_trees ws) ≡ true
+    → length vs ≡ length ws
 same-lengths [] [] h = refl
 same-lengths [] (w ∷ ws) h = absurd (cc)
 same-lengths (v ∷ vs) [] h = absurd (cc)
 same-lengths (v ∷ vs) (w ∷ ws) h = ap suc (same-lengths vs ws (later (same_by tree_of v w) h))
   where
-    later : (b : Bool) → b && same_items (item_trees vs) (item_trees ws) ≡ true → same_items (item_trees vs) (item_trees ws) ≡ true
+    later : (b : Bool) → b && same_items (item_trees vs) (item_trees ws) ≡ true
+        → same_items (item_trees vs) (item_trees ws) ≡ true
     later true p = p
     later false p = absurd (cc)
 
-pub unequal-lengths : (vs ws : List Value) → (length vs ≡ length ws → ⊥) → false ≡ same_items (item_trees vs) (item_trees ws)
-unequal-lengths vs ws n = by (same_items (item_trees vs) (item_trees ws)) (λ h. n (same-lengths vs ws h))
+pub unequal-lengths : (vs ws : List Value) → (length vs ≡ length ws → ⊥)
+    → false ≡ same_items (item_trees vs) (item_trees ws)
+unequal-lengths vs ws n =
+    by (same_items (item_trees vs) (item_trees ws)) (λ h. n (same-lengths vs ws h))
   where
     by : (b : Bool) → (b ≡ true → ⊥) → false ≡ b
     by true f = absurd (f refl)
@@ -82,22 +107,32 @@ fails : (b c : Bool) → c ≡ false → false ≡ b && c
 fails true c h = sym h
 fails false c h = refl
 
-pub unequal-at : (vs ws : List Value) (i : ℕ) (v w : Value) → i < length vs → i < length ws → v ≡ get_or vs i v → w ≡ get_or ws i w → same_by tree_of v w ≡ false → false ≡ same_items (item_trees vs) (item_trees ws)
+pub unequal-at : (vs ws : List Value) (i : ℕ) (v w : Value) → i < length vs → i < length ws
+    → v ≡ get_or vs i v → w ≡ get_or ws i w → same_by tree_of v w ≡ false
+    → false ≡ same_items (item_trees vs) (item_trees ws)
 unequal-at [] ws i v w p q a b h = absurd (omega (arith, p))
 unequal-at (x ∷ vs) [] i v w p q a b h = absurd (omega (arith, q))
-unequal-at (x ∷ vs) (y ∷ ws) zero v w p q a b h = ap (λ c. c && same_items (item_trees vs) (item_trees ws)) (sym (ap (λ u. same_by tree_of u y) (sym a) ∙ ap (same_by tree_of v) (sym b) ∙ h))
+unequal-at (x ∷ vs) (y ∷ ws) zero v w p q a b h =
+    ap (λ c. c && same_items (item_trees vs) (item_trees ws))
+    (sym (ap (λ u. same_by tree_of u y) (sym a) ∙ ap (same_by tree_of v) (sym b) ∙ h))
 unequal-at (x ∷ vs) (y ∷ ws) (suc i) v w p q a b h =
-    fails (same_by tree_of x y) (same_items (item_trees vs) (item_trees ws)) (sym (unequal-at vs ws i v w (omega (arith, p)) (omega (arith, q)) a b h))
+    fails (same_by tree_of x y) (same_items (item_trees vs) (item_trees ws))
+    (sym (unequal-at vs ws i v w (omega (arith, p)) (omega (arith, q)) a b h))
 
-pub equal-at-all : (vs ws : List Value) → length vs ≡ length ws → ((i : ℕ) → i < length vs → (d e : Value) → same_by tree_of (get_or vs i d) (get_or ws i e) ≡ true) → true ≡ same_items (item_trees vs) (item_trees ws)
+pub equal-at-all : (vs ws : List Value) → length vs ≡ length ws
+    → ((i : ℕ) → i < length vs → (d e : Value)
+    → same_by tree_of (get_or vs i d) (get_or ws i e) ≡ true)
+    → true ≡ same_items (item_trees vs) (item_trees ws)
 equal-at-all [] [] e f = refl
 equal-at-all [] (w ∷ ws) e f = absurd (omega (arith, e))
 equal-at-all (v ∷ vs) [] e f = absurd (omega (arith, e))
 equal-at-all (v ∷ vs) (w ∷ ws) e f =
-    equal-at-all vs ws (omega (arith, e)) (λ i p. f (suc i) (omega (arith, p))) ∙ ap (λ c. c && same_items (item_trees vs) (item_trees ws)) (sym (f 0 (omega arith) v w))
+    equal-at-all vs ws (omega (arith, e)) (λ i p. f (suc i) (omega (arith, p)))
+    ∙ ap (λ c. c && same_items (item_trees vs) (item_trees ws)) (sym (f 0 (omega arith) v w))
 
 -- a place that is there has one value
-pub read-any : {X : Type 0} (xs : List X) (i : ℕ) (d x : X) → i < length xs → x ≡ get_or xs i x → get_or xs i d ≡ x
+pub read-any : {X : Type 0} (xs : List X) (i : ℕ) (d x : X) → i < length xs → x ≡ get_or xs i x
+    → get_or xs i d ≡ x
 read-any [] i d x p e = absurd (omega (arith, p))
 read-any (y ∷ xs) zero d x p e = sym e
 read-any (y ∷ xs) (suc i) d x p e = read-any xs i d x (omega (arith, p)) e

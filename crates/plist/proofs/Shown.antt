@@ -8,7 +8,7 @@ use Rattle.plist_base.specs.Faults.{Fault, OutOfMemory, fault_of, kind_of, error
 use Rattle.plist_base.specs.Trees.{Tree}
 use Rattle.plist_ascii.specs.declared.reader.AsciiReader.{AsciiReader}
 use Rattle.plist_ascii.specs.Ascii.{items_of_ascii}
-use Rattle.plist_ascii.specs.Coming as ascii
+use Rattle.plist_ascii.specs.AsciiReader as ascii
 use Rattle.plist_ascii.specs.declared.dialect.Dialect.{Dialect}
 use Rattle.plist_ascii.specs.Texts.{ends_bare}
 use Rattle.plist_ascii.specs.Unread.{Known}
@@ -17,30 +17,35 @@ use Rattle.plist_binread.specs.declared.counter.DecodeCounter.{Ghosts as Counter
 use Rattle.plist_binread.specs.declared.reader.BinaryReader.{BinaryReader}
 use Rattle.plist_binread.specs.Coming as binary
 use Rattle.plist_binread.specs.Unfolding.{items_of_file}
-use Rattle.plist_reader.specs.Coming as reader
-use Rattle.plist_reader.specs.Coming.{items_of_input}
+use Rattle.plist_reader.specs.Reader as reader
+use Rattle.plist_reader.specs.Reader.{items_of_input}
 use Rattle.plist_reader.specs.Formats.{front}
 use Rattle.plist.specs.declared.stream.events.Events.{Events}
 use Rattle.plist.specs.Collecting.{item_by}
 use Rattle.plist.specs.Inputs.{IsReadFrom, Answers, BeginsWith, GoesOn}
 use Rattle.plist.specs.Remaining.{GivesEvent, remaining_events}
-use Rattle.plist.proofs.MatchFaults.{MatchFault-weaker, MatchFault-at}
+use Rattle.plist_base.proofs.Refusals.{MatchFault-weaker, MatchFault-at}
 
 abbrev Given : Type 0
 Given = Option (Result Event Error)
 
 -- ---- a reader of either format
 
-reader-item : (before after : List Item) (item : Given) → reader.GivesItem before item after → BeginsWith before (option_map (item_by event_of) item) after
+reader-item : (before after : List Item) (item : Given) → reader.GivesItem before item after
+    → BeginsWith before (option_map (item_by event_of) item) after
 reader-item before after None h = h.0
 reader-item before after (Some (Ok event)) h = h
-reader-item before after (Some (Err error)) h = MatchFault-weaker (kind_of (error_kind_of error)) (λ _. tt) (λ _. tt) (λ b. b) h
+reader-item before after (Some (Err error)) h =
+    MatchFault-weaker (kind_of (error_kind_of error)) (λ _. tt) (λ _. tt) (λ b. b) h
 
-pub reader-shows : (before after : Option (List Item)) (item : Given) → reader.GoesOn before item after → GoesOn before (option_map (item_by event_of) item) after
+pub reader-shows : (before after : Option (List Item)) (item : Given)
+    → reader.GoesOn before item after → GoesOn before (option_map (item_by event_of) item) after
 reader-shows None after item h = tt
 reader-shows (Some all) after item h = (h.0, h.1, reader-item all h.0 item h.2)
 
-pub of-input : (k : Option (List ℕ)) (items : Option (List Item)) (answer : Result Tree Fault) → items ≡ option_map items_of_input k → Answers items answer → IfSome k (λ bytes. IsReadFrom (items_of_input bytes) answer)
+pub of-input : (k : Option (List ℕ)) (items : Option (List Item)) (answer : Result Tree Fault)
+    → items ≡ option_map items_of_input k → Answers items answer
+    → IfSome k (λ bytes. IsReadFrom (items_of_input bytes) answer)
 of-input None items answer e h = tt
 of-input (Some bytes) items answer e h = subst (λ o. Answers o answer) e h
 
@@ -48,85 +53,145 @@ of-input (Some bytes) items answer e h = subst (λ o. Answers o answer) e h
 
 -- the items that it has to come
 abbrev pub ascii_coming : {R : Type 0} → (R → Option (List ℕ)) → AsciiReader R → Option (List Item)
-ascii_coming known reader = option_map (λ bytes. items_of_ascii (ascii.stops_of reader) bytes (ascii.place_of reader)) (ascii.bytes_left known reader)
+ascii_coming known reader =
+    option_map (λ bytes. items_of_ascii (ascii.stops_of reader) bytes (ascii.place_of reader))
+    (ascii.bytes_left known reader)
 
-ascii-item : (stops : ℕ → Bool) (bytes rest : List ℕ) (p q : ℕ) (item : Given) → ascii.GivesItem stops bytes p item rest q → BeginsWith (items_of_ascii stops bytes p) (option_map (item_by event_of) item) (items_of_ascii stops rest q)
+ascii-item : (stops : ℕ → Bool) (bytes rest : List ℕ) (p q : ℕ) (item : Given)
+    → ascii.GivesItem stops bytes p item rest q
+    → BeginsWith (items_of_ascii stops bytes p) (option_map (item_by event_of) item)
+    (items_of_ascii stops rest q)
 ascii-item stops bytes rest p q None h = h.0
 ascii-item stops bytes rest p q (Some (Ok event)) h = h.items
-ascii-item stops bytes rest p q (Some (Err error)) h = MatchFault-weaker (kind_of (error_kind_of error)) (λ _. tt) (λ _. tt) (λ b. b.items) h
+ascii-item stops bytes rest p q (Some (Err error)) h =
+    MatchFault-weaker (kind_of (error_kind_of error)) (λ _. tt) (λ _. tt) (λ b. b.items) h
 
 -- the items go on under the same stops
-ascii-goes : (stops : ℕ → Bool) (k l : Option (List ℕ)) (p q : ℕ) (item : Given) → Known k (λ bytes. (rest : List ℕ) × (l ≡ Some rest) × ascii.GivesItem stops bytes p item rest q)
-    → GoesOn (option_map (λ bytes. items_of_ascii stops bytes p) k) (option_map (item_by event_of) item) (option_map (λ bytes. items_of_ascii stops bytes q) l)
+ascii-goes : (stops : ℕ → Bool) (k l : Option (List ℕ)) (p q : ℕ) (item : Given)
+    → Known k (λ bytes. (rest : List ℕ) × (l ≡ Some rest)
+    × ascii.GivesItem stops bytes p item rest q)
+    → GoesOn (option_map (λ bytes. items_of_ascii stops bytes p) k)
+    (option_map (item_by event_of) item) (option_map (λ bytes. items_of_ascii stops bytes q) l)
 ascii-goes stops None l p q item h = tt
-ascii-goes stops (Some bytes) l p q item h = let r = h bytes refl in (items_of_ascii stops r.0 q, ap (option_map (λ b. items_of_ascii stops b q)) r.1, ascii-item stops bytes r.0 p q item r.2)
+ascii-goes stops (Some bytes) l p q item h =
+    let r = h bytes refl in (
+      items_of_ascii stops r.0 q,
+      ap
+          (option_map (λ b. items_of_ascii stops b q)) r.1,
+      ascii-item stops bytes r.0 p q item r.2,
+    )
 
-pub ascii-shows : (now then : Dialect) (k l : Option (List ℕ)) (p q : ℕ) (item : Given) → then ≡ now → Known k (λ bytes. (rest : List ℕ) × (l ≡ Some rest) × ascii.GivesItem (ends_bare now) bytes p item rest q)
-    → GoesOn (option_map (λ bytes. items_of_ascii (ends_bare now) bytes p) k) (option_map (item_by event_of) item) (option_map (λ bytes. items_of_ascii (ends_bare then) bytes q) l)
+pub ascii-shows : (now then : Dialect) (k l : Option (List ℕ)) (p q : ℕ) (item : Given) → then ≡ now
+    → Known k (λ bytes. (rest : List ℕ) × (l ≡ Some rest)
+    × ascii.GivesItem (ends_bare now) bytes p item rest q)
+    → GoesOn (option_map (λ bytes. items_of_ascii (ends_bare now) bytes p) k)
+    (option_map (item_by event_of) item)
+    (option_map (λ bytes. items_of_ascii (ends_bare then) bytes q) l)
 ascii-shows now then k l p q item same h =
-    subst (λ d. GoesOn (option_map (λ bytes. items_of_ascii (ends_bare now) bytes p) k) (option_map (item_by event_of) item) (option_map (λ bytes. items_of_ascii (ends_bare d) bytes q) l)) (sym same) (ascii-goes (ends_bare now) k l p q item h)
+    subst (λ d. GoesOn (option_map (λ bytes. items_of_ascii (ends_bare now) bytes p) k)
+    (option_map (item_by event_of) item)
+    (option_map (λ bytes. items_of_ascii (ends_bare d) bytes q) l)) (sym same)
+    (ascii-goes (ends_bare now) k l p q item h)
 
-pub of-ascii : (stops : ℕ → Bool) (k : Option (List ℕ)) (items : Option (List Item)) (answer : Result Tree Fault) → items ≡ option_map (λ bytes. items_of_ascii stops (front bytes) 0) k → Answers items answer → IfSome k (λ bytes. IsReadFrom (items_of_ascii stops (front bytes) 0) answer)
+pub of-ascii : (stops : ℕ → Bool) (k : Option (List ℕ)) (items : Option (List Item))
+    (answer : Result Tree Fault) → items
+    ≡ option_map (λ bytes. items_of_ascii stops (front bytes) 0) k → Answers items answer
+    → IfSome k (λ bytes. IsReadFrom (items_of_ascii stops (front bytes) 0) answer)
 of-ascii stops None items answer e h = tt
 of-ascii stops (Some bytes) items answer e h = subst (λ o. Answers o answer) e h
 
-pub ascii-start : (now given : Dialect) (k left : Option (List ℕ)) (place : ℕ) → now ≡ given → left ≡ option_map front k → place ≡ 0
-    → option_map (λ bytes. items_of_ascii (ends_bare now) bytes place) left ≡ option_map (λ bytes. items_of_ascii (ends_bare given) (front bytes) 0) k
-ascii-start now given k left place d e z = (λ i. option_map (λ bytes. items_of_ascii (ends_bare (d i)) bytes (z i)) (e i)) ∙ joined k
+pub ascii-start : (now given : Dialect) (k left : Option (List ℕ)) (place : ℕ) → now ≡ given
+    → left ≡ option_map front k → place ≡ 0
+    → option_map (λ bytes. items_of_ascii (ends_bare now) bytes place) left
+    ≡ option_map (λ bytes. items_of_ascii (ends_bare given) (front bytes) 0) k
+ascii-start now given k left place d e z =
+    (λ i. option_map (λ bytes. items_of_ascii (ends_bare (d i)) bytes (z i)) (e i)) ∙ joined k
   where
-    joined : (k : Option (List ℕ)) → option_map (λ bytes. items_of_ascii (ends_bare given) bytes 0) (option_map front k) ≡ option_map (λ bytes. items_of_ascii (ends_bare given) (front bytes) 0) k
+    joined : (k : Option (List ℕ))
+        → option_map (λ bytes. items_of_ascii (ends_bare given) bytes 0) (option_map front k)
+        ≡ option_map (λ bytes. items_of_ascii (ends_bare given) (front bytes) 0) k
     joined None = refl
     joined (Some bytes) = refl
 
 -- ---- a reader of binary property lists
 
 -- the items that it has to come
-abbrev pub binary_coming : {R C : Type 0} {g : Ghosts R} {h : CounterGhosts C} → (R → Option (List ℕ)) → BinaryReader R C g h → Option (List Item)
-binary_coming known reader = option_map (λ bytes. binary.to_come bytes reader) (known (binary.source_of reader))
+abbrev pub binary_coming : {R C : Type 0} {g : Ghosts R} {h : CounterGhosts C}
+    → (R → Option (List ℕ)) → BinaryReader R C g h → Option (List Item)
+binary_coming known reader =
+    option_map (λ bytes. binary.to_come bytes reader) (known (binary.source_of reader))
 
-one-item : (before after : List Item) (fault : Fault) → after ≡ [] → before ≡ Err fault ∷ [] → before ≡ Err fault ∷ after
+one-item : (before after : List Item) (fault : Fault) → after ≡ [] → before ≡ Err fault ∷ []
+    → before ≡ Err fault ∷ after
 one-item before after fault none is = is ∙ ap (λ l. Err fault ∷ l) (sym none)
 
-binary-item : (new : Bool) (before after : List Item) (item : Given) → binary.GivesItem new before item after → BeginsWith before (option_map (item_by event_of) item) after
+binary-item : (new : Bool) (before after : List Item) (item : Given)
+    → binary.GivesItem new before item after
+    → BeginsWith before (option_map (item_by event_of) item) after
 binary-item new before after None h = h.0
 binary-item new before after (Some (Ok event)) h = h
-binary-item new before after (Some (Err error)) h = MatchFault-weaker (kind_of (error_kind_of error)) (λ _. tt) (λ _. tt) (λ b. one-item before after (fault_of error) h.0 b) h.1
+binary-item new before after (Some (Err error)) h =
+    MatchFault-weaker (kind_of (error_kind_of error)) (λ _. tt) (λ _. tt)
+    (λ b. one-item before after (fault_of error) h.0 b) h.1
 
-binary-goes : (new : Bool) (k l : Option (List ℕ)) (f h : List ℕ → List Item) (item : Given) → l ≡ k → IfSome k (λ bytes. binary.GivesItem new (f bytes) item (h bytes))
+binary-goes : (new : Bool) (k l : Option (List ℕ)) (f h : List ℕ → List Item) (item : Given) → l ≡ k
+    → IfSome k (λ bytes. binary.GivesItem new (f bytes) item (h bytes))
     → GoesOn (option_map f k) (option_map (item_by event_of) item) (option_map h l)
 binary-goes new None l f h item e x = tt
-binary-goes new (Some bytes) l f h item e x = (h bytes, ap (option_map h) e, binary-item new (f bytes) (h bytes) item x)
+binary-goes new (Some bytes) l f h item e x =
+    (h bytes, ap (option_map h) e, binary-item new (f bytes) (h bytes) item x)
 
-pub binary-shows : {R C : Type 0} {g : Ghosts R} {h : CounterGhosts C} (known : R → Option (List ℕ)) (old new : BinaryReader R C g h) (item : Given) → known (binary.source_of new) ≡ known (binary.source_of old)
-    → IfSome (known (binary.source_of old)) (λ bytes. binary.GivesItem (binary.is_new old) (binary.to_come bytes old) item (binary.to_come bytes new))
-    → GoesOn (binary_coming known old) (option_map (item_by event_of) item) (binary_coming known new)
+pub binary-shows : {R C : Type 0} {g : Ghosts R} {h : CounterGhosts C} (known : R → Option (List ℕ))
+    (old new : BinaryReader R C g h) (item : Given)
+    → known (binary.source_of new) ≡ known (binary.source_of old)
+    → IfSome (known (binary.source_of old))
+    (λ bytes. binary.GivesItem (binary.is_new old) (binary.to_come bytes old) item
+    (binary.to_come bytes new))
+    → GoesOn (binary_coming known old) (option_map (item_by event_of) item)
+    (binary_coming known new)
 binary-shows known old new item same gives =
-    binary-goes (binary.is_new old) (known (binary.source_of old)) (known (binary.source_of new)) (λ bytes. binary.to_come bytes old) (λ bytes. binary.to_come bytes new) item same gives
+    binary-goes (binary.is_new old) (known (binary.source_of old)) (known (binary.source_of new))
+    (λ bytes. binary.to_come bytes old) (λ bytes. binary.to_come bytes new) item same gives
 
-file-items : (k : Option (List ℕ)) (coming : List ℕ → List Item) → IfSome k (λ bytes. coming bytes ≡ items_of_file bytes) → option_map coming k ≡ option_map items_of_file k
+file-items : (k : Option (List ℕ)) (coming : List ℕ → List Item)
+    → IfSome k (λ bytes. coming bytes ≡ items_of_file bytes)
+    → option_map coming k ≡ option_map items_of_file k
 file-items None coming h = refl
 file-items (Some bytes) coming h = ap Some h
 
-of-file : (k : Option (List ℕ)) (items : Option (List Item)) (answer : Result Tree Fault) → items ≡ option_map items_of_file k → Answers items answer → IfSome k (λ bytes. IsReadFrom (items_of_file bytes) answer)
+of-file : (k : Option (List ℕ)) (items : Option (List Item)) (answer : Result Tree Fault)
+    → items ≡ option_map items_of_file k → Answers items answer
+    → IfSome k (λ bytes. IsReadFrom (items_of_file bytes) answer)
 of-file None items answer e h = tt
 of-file (Some bytes) items answer e h = subst (λ o. Answers o answer) e h
 
-pub of-binary : {R C : Type 0} {g : Ghosts R} {h : CounterGhosts C} (known : R → Option (List ℕ)) (source : R) (iter new : BinaryReader R C g h) (answer : Result Tree Fault) → iter ≡ new → binary.source_of new ≡ source
-    → IfSome (known source) (λ bytes. binary.to_come bytes new ≡ items_of_file bytes) → Answers (binary_coming known iter) answer → IfSome (known source) (λ bytes. IsReadFrom (items_of_file bytes) answer)
+pub of-binary : {R C : Type 0} {g : Ghosts R} {h : CounterGhosts C} (known : R → Option (List ℕ))
+    (source : R) (iter new : BinaryReader R C g h) (answer : Result Tree Fault) → iter ≡ new
+    → binary.source_of new ≡ source
+    → IfSome (known source) (λ bytes. binary.to_come bytes new ≡ items_of_file bytes)
+    → Answers (binary_coming known iter) answer
+    → IfSome (known source) (λ bytes. IsReadFrom (items_of_file bytes) answer)
 of-binary known source iter new answer is holds items seen =
     of-file (known source) (binary_coming known iter) answer
-    (ap (binary_coming known) is ∙ ap (λ s. option_map (λ bytes. binary.to_come bytes new) (known s)) holds ∙ file-items (known source) (λ bytes. binary.to_come bytes new) items) seen
+    (ap (binary_coming known) is ∙ ap
+    (λ s. option_map (λ bytes. binary.to_come bytes new) (known s)) holds
+    ∙ file-items (known source) (λ bytes. binary.to_come bytes new) items) seen
 
 -- ---- the events of a value
 
-event-item : (before after : Events) (item : Given) → GivesEvent before item after → BeginsWith (map Ok (remaining_events before)) (option_map (item_by event_of) item) (map Ok (remaining_events after))
+event-item : (before after : Events) (item : Given) → GivesEvent before item after
+    → BeginsWith (map Ok (remaining_events before)) (option_map (item_by event_of) item)
+    (map Ok (remaining_events after))
 event-item before after None h = ap (map Ok) h.0
 event-item before after (Some (Ok event)) h = ap (map Ok) h.0
-event-item before after (Some (Err error)) h = MatchFault-at (fault_of error).kind OutOfMemory _ _ _ (ap (λ (f : Fault). f.kind) h.0) tt
+event-item before after (Some (Err error)) h =
+    MatchFault-at (fault_of error).kind OutOfMemory _ _ _ (ap (λ (f : Fault). f.kind) h.0) tt
 
 -- the items that are left of a value's events
 abbrev pub events_coming : Events → Option (List Item)
 events_coming events = Some (map Ok (remaining_events events))
 
-pub events-show : (before after : Events) (item : Given) → GivesEvent before item after → GoesOn (events_coming before) (option_map (item_by event_of) item) (events_coming after)
-events-show before after item h = (map Ok (remaining_events after), refl, event-item before after item h)
+pub events-show : (before after : Events) (item : Given) → GivesEvent before item after
+    → GoesOn (events_coming before) (option_map (item_by event_of) item) (events_coming after)
+events-show before after item h =
+    (map Ok (remaining_events after), refl, event-item before after item h)

@@ -18,26 +18,43 @@ trees-length : (vs : List Value) → number_of_trees (trees_of (map tree_of vs))
 trees-length [] = refl
 trees-length (v ∷ vs) = omega (arith, trees-length vs)
 
-members-length : (ps : List (List ℕ × Value)) → number_of_members (members_of (tree_pairs ps)) ≡ length ps
+members-length : (ps : List (List ℕ × Value))
+    → number_of_members (members_of (tree_pairs ps)) ≡ length ps
 members-length [] = refl
 members-length (p ∷ ps) = omega (arith, members-length ps)
 
 -- an array begins
-pub array_begins : (v : Value) (items : Vec Value Global) (slice : List Value) (n : ℕ) (rest after : List PlainEvent)
-    → v ≡ value.Array items → slice ≡ items.items → n ≡ length items.items → after ≡ bracketing_of_items (trees_of (map tree_of slice)) ++ EndCollection ∷ rest
+pub array_begins : (v : Value) (items : Vec Value Global) (slice : List Value) (n : ℕ)
+    (rest after : List PlainEvent)
+    → v ≡ value.Array items → slice ≡ items.items → n ≡ length items.items
+    → after ≡ bracketing_of_items (trees_of (map tree_of slice)) ++ EndCollection ∷ rest
     → bracketing (tree_of v) ++ rest ≡ StartArray (Some n) ∷ after
 array_begins v items slice n rest after p s l q =
     let inner = bracketing_of_items (trees_of (map tree_of items.items)) in
     ap (λ t. bracketing t ++ rest) (ap tree_of p ∙ tree_of-Array items)
-    ∙ ap (λ k. StartArray (Some k) ∷ ((inner ++ EndCollection ∷ []) ++ rest)) (trees-length items.items ∙ sym l)
-    ∙ ap (λ l. StartArray (Some n) ∷ l) (append_assoc inner (EndCollection ∷ []) rest ∙ ap (λ xs. bracketing_of_items (trees_of (map tree_of xs)) ++ EndCollection ∷ rest) (sym s) ∙ sym q)
+    ∙ ap (λ k. StartArray (Some k) ∷ ((inner ++ EndCollection ∷ []) ++ rest))
+    (trees-length items.items ∙ sym l)
+    ∙ ap (λ l. StartArray (Some n) ∷ l)
+    (append_assoc inner (EndCollection ∷ []) rest
+    ∙ ap (λ xs. bracketing_of_items (trees_of (map tree_of xs)) ++ EndCollection ∷ rest) (sym s)
+    ∙ sym q)
 
 -- a dictionary begins
-pub dictionary_begins : (v : Value) (pairs slice : List (List ℕ × Value)) (n : ℕ) (rest after : List PlainEvent)
-    → v ≡ value.Dictionary pairs → slice ≡ pairs → IsDistinct bytes_eq (keys_of pairs) → n ≡ length pairs → after ≡ bracketing_of_pairs (members_of (tree_pairs slice)) ++ EndCollection ∷ rest
+pub dictionary_begins : (v : Value) (pairs slice : List (List ℕ × Value)) (n : ℕ)
+    (rest after : List PlainEvent)
+    → v ≡ value.Dictionary pairs → slice ≡ pairs → IsDistinct bytes_eq (keys_of pairs)
+    → n ≡ length pairs → after ≡ bracketing_of_pairs (members_of (tree_pairs slice))
+    ++ EndCollection ∷ rest
     → bracketing (tree_of v) ++ rest ≡ StartDictionary (Some n) ∷ after
 dictionary_begins v pairs slice n rest after p s d l q =
     let inner = bracketing_of_pairs (members_of (tree_pairs pairs)) in
-    ap (λ t. bracketing t ++ rest) (ap tree_of p ∙ tree_of-Dictionary pairs ∙ ap (λ (r : Rows). Dictionary (members_of r)) (last-values-once (tree_pairs pairs) (once_trees pairs (once_from pairs d))))
-    ∙ ap (λ k. StartDictionary (Some k) ∷ ((inner ++ EndCollection ∷ []) ++ rest)) (members-length pairs ∙ sym l)
-    ∙ ap (λ l. StartDictionary (Some n) ∷ l) (append_assoc inner (EndCollection ∷ []) rest ∙ ap (λ xs. bracketing_of_pairs (members_of (tree_pairs xs)) ++ EndCollection ∷ rest) (sym s) ∙ sym q)
+    ap (λ t. bracketing t ++ rest)
+    (ap tree_of p ∙ tree_of-Dictionary pairs
+    ∙ ap (λ (r : Rows). Dictionary (members_of r))
+    (last-values-once (tree_pairs pairs) (once_trees pairs (once_from pairs d))))
+    ∙ ap (λ k. StartDictionary (Some k) ∷ ((inner ++ EndCollection ∷ []) ++ rest))
+    (members-length pairs ∙ sym l)
+    ∙ ap (λ l. StartDictionary (Some n) ∷ l)
+    (append_assoc inner (EndCollection ∷ []) rest
+    ∙ ap (λ xs. bracketing_of_pairs (members_of (tree_pairs xs)) ++ EndCollection ∷ rest)
+    (sym s) ∙ sym q)

@@ -2,20 +2,22 @@
 use Rattle.std.specs.Prelude.{◌≡◌, ℕ, Bool, true, false, List, [], ◌∷◌, ◌++◌, Option, Some, None, Ok, Err, map, ⊤}
 use mathlib.Core.HLevel.{×_prop, Unit-prop, ⊥_prop}
 use Rattle.plist_base.specs.declared.error.EventKind.TheVariants as event_kind
-use Rattle.plist_base.specs.Events.{PlainEvent, StartArray, StartDictionary, EndCollection, String, kind_of_event}
+use Rattle.plist_base.specs.Events.{PlainEvent, StartArray, StartDictionary, EndCollection, Single, kind_of_event}
 use Rattle.plist_base.specs.Faults.{FaultKind, Fault, UnexpectedEventType, ExpectedEndOfEventStream, UnexpectedEndOfEventStream, OutOfMemory, WriterFailed}
-use Rattle.plist_base.specs.Trees.{Tree, trees_of, members_of}
+use Rattle.plist_base.specs.Trees.{Tree, String, trees_of, members_of}
 use Rattle.plist_base.specs.Bracketing.{bracketing, bracketing_of_items, bracketing_of_pairs, AreAlike}
 use Rattle.plist_base.specs.Writing.{Answer}
 use Rattle.plist.specs.LastWins.{Rows, last_values, last_wins}
 
--- an open collection: an array with its items so far; a dictionary with its pairs so far; a dictionary with these and a key whose value is to come
+-- an open collection: an array with its items so far; a dictionary with its pairs so far; a
+-- dictionary with these and a key whose value is to come
 pub data OpenCollection : Type 0 where
   InArray : (items : List Tree) → OpenCollection
   InDictionary : (pairs : Rows) → OpenCollection
   AfterKey : (pairs : Rows) → (key : List ℕ) → OpenCollection
 
--- no event yet; within an open collection, and those round it, innermost first; or the complete tree
+-- no event yet; within an open collection, and those round it, innermost first; or the complete
+-- tree
 pub data Unfinished : Type 0 where
   NotBegun : Unfinished
   Within : OpenCollection → (outer : List OpenCollection) → Unfinished
@@ -44,7 +46,8 @@ TakesValue-prop (AfterKey pairs key) = Unit-prop
 
 pub AllTakeValue-prop : (outer : List OpenCollection) → IsProp (AllTakeValue outer)
 AllTakeValue-prop [] = Unit-prop
-AllTakeValue-prop (collection ∷ outer) = ×_prop (TakesValue-prop collection) (AllTakeValue-prop outer)
+AllTakeValue-prop (collection ∷ outer) =
+    ×_prop (TakesValue-prop collection) (AllTakeValue-prop outer)
 
 pub IsNested-prop : (unfinished : Unfinished) → IsProp (IsNested unfinished)
 IsNested-prop NotBegun = Unit-prop
@@ -55,7 +58,8 @@ IsNested-prop (Complete tree) = Unit-prop
 abbrev pub events_within : OpenCollection → List PlainEvent
 events_within (InArray items) = StartArray None ∷ bracketing_of_items (trees_of items)
 events_within (InDictionary pairs) = StartDictionary None ∷ bracketing_of_pairs (members_of pairs)
-events_within (AfterKey pairs key) = StartDictionary None ∷ (bracketing_of_pairs (members_of pairs) ++ String key ∷ [])
+events_within (AfterKey pairs key) =
+    StartDictionary None ∷ (bracketing_of_pairs (members_of pairs) ++ Single (String key) ∷ [])
 
 abbrev pub events_round : (outer : List OpenCollection) → List PlainEvent
 events_round [] = []
@@ -78,13 +82,17 @@ last_wins_within (AfterKey pairs key) = AfterKey (last_wins_in_rows pairs) key
 
 abbrev pub last_wins_so_far : Unfinished → Unfinished
 last_wins_so_far NotBegun = NotBegun
-last_wins_so_far (Within collection outer) = Within (last_wins_within collection) (map last_wins_within outer)
+last_wins_so_far (Within collection outer) =
+    Within (last_wins_within collection) (map last_wins_within outer)
 last_wins_so_far (Complete tree) = Complete (last_wins tree)
 
 -- After the event, what is held are the events held before it, followed by it, up to lengths, with
 -- each key in its first place with its last value.
 abbrev pub IsCarriedOn : (before : Unfinished) → PlainEvent → (after : Unfinished) → Type 0
-IsCarriedOn before event after = (taken : Unfinished) × IsNested taken × AreAlike (events_so_far taken) (events_so_far before ++ event ∷ []) × (after ≡ last_wins_so_far taken)
+IsCarriedOn before event after =
+    (taken : Unfinished) × IsNested taken
+    × AreAlike (events_so_far taken) (events_so_far before ++ event ∷ [])
+    × (after ≡ last_wins_so_far taken)
 
 -- the tree, if it is complete
 abbrev pub complete_tree : Unfinished → Option Tree
@@ -94,13 +102,15 @@ complete_tree (Complete tree) = Some tree
 
 -- why the event can't come next, if it can't
 abbrev pub refusal_of_value : PlainEvent → Option FaultKind
-refusal_of_value EndCollection = Some (UnexpectedEventType event_kind.ValueOrStartCollection event_kind.EndCollection)
+refusal_of_value EndCollection =
+    Some (UnexpectedEventType event_kind.ValueOrStartCollection event_kind.EndCollection)
 refusal_of_value event = None
 
 abbrev pub refusal_of_key : PlainEvent → Option FaultKind
 refusal_of_key EndCollection = None
-refusal_of_key (String key) = None
-refusal_of_key event = Some (UnexpectedEventType event_kind.DictionaryKeyOrEndCollection (kind_of_event event))
+refusal_of_key (Single (String key)) = None
+refusal_of_key event =
+    Some (UnexpectedEventType event_kind.DictionaryKeyOrEndCollection (kind_of_event event))
 
 abbrev pub refusal_within : OpenCollection → PlainEvent → Option FaultKind
 refusal_within (InArray items) event = None
@@ -122,21 +132,29 @@ abbrev pub nothing_built : Built
 nothing_built = record { unfinished = NotBegun; failed = false }
 
 -- what a builder's step is where it answers a fault of this kind
-abbrev pub IsRefused : (before : Built) → PlainEvent → FaultKind → (after : Built) → (unchanged : Type 0) → Type 0
-IsRefused before event OutOfMemory after unchanged = (before.failed ≡ false) × (refusal_of before.unfinished event ≡ None) × (after.failed ≡ true)
+abbrev pub IsRefused : (before : Built) → PlainEvent → FaultKind → (after : Built)
+    → (unchanged : Type 0) → Type 0
+IsRefused before event OutOfMemory after unchanged =
+    (before.failed ≡ false) × (refusal_of before.unfinished event ≡ None) × (after.failed ≡ true)
 IsRefused before event WriterFailed after unchanged = (before.failed ≡ true) × unchanged
-IsRefused before event kind after unchanged = (before.failed ≡ false) × (refusal_of before.unfinished event ≡ Some kind) × unchanged
+IsRefused before event kind after unchanged =
+    (before.failed ≡ false) × (refusal_of before.unfinished event ≡ Some kind) × unchanged
 
 -- what a builder's step is where it gives this answer
-abbrev pub IsAnswered : (before : Built) → PlainEvent → Answer → (after : Built) → (unchanged : Type 0) → Type 0
+abbrev pub IsAnswered : (before : Built) → PlainEvent → Answer → (after : Built)
+    → (unchanged : Type 0) → Type 0
 IsAnswered before event (Ok done) after unchanged =
-    (before.failed ≡ false) × (refusal_of before.unfinished event ≡ None) × (after.failed ≡ false) × IsCarriedOn before.unfinished event after.unfinished
-IsAnswered before event (Err fault) after unchanged = (fault.offset ≡ None) × IsRefused before event fault.kind after unchanged
+    (before.failed ≡ false) × (refusal_of before.unfinished event ≡ None) × (after.failed ≡ false)
+    × IsCarriedOn before.unfinished event after.unfinished
+IsAnswered before event (Err fault) after unchanged =
+    (fault.offset ≡ None) × IsRefused before event fault.kind after unchanged
 
 -- why a value can't be had: the builder has failed, or the events are no tree's yet
 abbrev pub IsUnfinishedFor : FaultKind → Built → Type 0
 IsUnfinishedFor WriterFailed built = built.failed ≡ true
-IsUnfinishedFor UnexpectedEndOfEventStream built = (built.failed ≡ false) × ((tree : Tree) → AreAlike (events_so_far built.unfinished) (bracketing tree) → ⊥)
+IsUnfinishedFor UnexpectedEndOfEventStream built =
+    (built.failed ≡ false)
+    × ((tree : Tree) → AreAlike (events_so_far built.unfinished) (bracketing tree) → ⊥)
 IsUnfinishedFor kind built = ⊥
 
 abbrev pub IsUnfinished : Built → Fault → Type 0

@@ -23,17 +23,23 @@ module _ {F V : Type 0} (g : Shared F (Bor (String Global) × (Bor V × Unit {0}
 
   -- the pairs for which the closure answered `true`, in their order
   abbrev pub Retains : Rows V → Rows V → Type 0
-  Retains old new = (answers : List Bool) × AllZip Answers old answers × (new ≡ items_where_true answers old)
+  Retains old new =
+      (answers : List Bool) × AllZip Answers old answers × (new ≡ items_where_true answers old)
 
 module _ {I V : Type 0} (next_gives : I → Option (String Global × V) → I → Type 0) (iter : I) where
   -- All pairs of the iterator are inserted in turn. After an error these are the pairs before one
   -- that was taken, too.
   abbrev pub ExtendsBy : Rows V → Result (Unit {0}) Error → Rows V → Type 0
-  ExtendsBy old (Ok _) new = (taken : List (String Global × V)) × Drains next_gives iter taken × (new ≡ insert_all bytes_eq old (map shown_owned_pair taken))
+  ExtendsBy old (Ok _) new =
+      (taken : List (String Global × V)) × Drains next_gives iter taken
+      × (new ≡ insert_all bytes_eq old (map shown_owned_pair taken))
   ExtendsBy old (Err _) new =
-      (taken : List (String Global × V)) × (refused : String Global × V) × ((rest : I) × Yields next_gives iter (taken ++ refused ∷ []) rest)
+      (taken : List (String Global × V)) × (refused : String Global × V)
+      × ((rest : I) × Yields next_gives iter (taken ++ refused ∷ []) rest)
       × (new ≡ insert_all bytes_eq old (map shown_owned_pair taken))
 
   -- all pairs of the iterator, inserted in turn
   abbrev pub IsMadeOf : Rows V → Type 0
-  IsMadeOf made = (taken : List (String Global × V)) × Drains next_gives iter taken × (made ≡ insert_all bytes_eq [] (map shown_owned_pair taken))
+  IsMadeOf made =
+      (taken : List (String Global × V)) × Drains next_gives iter taken
+      × (made ≡ insert_all bytes_eq [] (map shown_owned_pair taken))

@@ -33,30 +33,40 @@ EndsInError events items fault = items ≡ map Ok events ++ Err fault ∷ []
 
 -- an event can't come behind what is held, or memory runs out at it
 abbrev pub EndsInRefusal : Unfinished → (events : List PlainEvent) → List Item → Fault → Type 0
-EndsInRefusal held events items fault = (event : PlainEvent) × (items ≡ map Ok events ++ Ok event ∷ []) × IsRefusal (refusal_of held event) fault
+EndsInRefusal held events items fault =
+    (event : PlainEvent) × (items ≡ map Ok events ++ Ok event ∷ [])
+    × IsRefusal (refusal_of held event) fault
 
 -- the events end, no item comes behind them, and they are no tree's
 abbrev pub EndsTooEarly : (ends : Type 0) → (events : List PlainEvent) → List Item → Fault → Type 0
 EndsTooEarly ends events items fault =
-    (items ≡ map Ok events) × ends × (fault ≡ fault_nowhere UnexpectedEndOfEventStream) × ((tree : Tree) → AreAlike events (bracketing tree) → ⊥)
+    (items ≡ map Ok events) × ends × (fault ≡ fault_nowhere UnexpectedEndOfEventStream)
+    × ((tree : Tree) → AreAlike events (bracketing tree) → ⊥)
 
 -- What comes of the items that were taken: the tree whose events they are up to lengths, with the
--- last value of each key, where no item comes behind them; or the fault that ends them, behind events
--- that could follow one another. `ends` is that no item comes behind them.
+-- last value of each key, where no item comes behind them; or the fault that ends them, behind
+-- events that could follow one another. `ends` is that no item comes behind them.
 abbrev pub IsBuiltFrom : (ends : Type 0) → List Item → Result Tree Fault → Type 0
-IsBuiltFrom ends items (Ok tree) = (events : List PlainEvent) × (whole : Tree) × (items ≡ map Ok events) × ends × AreAlike events (bracketing whole) × (tree ≡ last_wins whole)
+IsBuiltFrom ends items (Ok tree) =
+    (events : List PlainEvent) × (whole : Tree) × (items ≡ map Ok events) × ends
+    × AreAlike events (bracketing whole) × (tree ≡ last_wins whole)
 IsBuiltFrom ends items (Err fault) =
-    (events : List PlainEvent) × (held : Unfinished) × IsNested held × AreAlike (events_so_far held) events
-    × (EndsInError events items fault ⊎ (EndsInRefusal held events items fault ⊎ EndsTooEarly ends events items fault))
+    (events : List PlainEvent) × (held : Unfinished) × IsNested held
+    × AreAlike (events_so_far held) events
+    × (EndsInError events items fault
+    ⊎ (EndsInRefusal held events items fault ⊎ EndsTooEarly ends events items fault))
 
 -- the items that were taken of an iterator, in order, and what came of them
-abbrev pub Collects : {E I : Type 0} → (plain : E → PlainEvent) → (I → Option (Result E Error) → I → Type 0) → I → Result Tree Fault → Type 0
+abbrev pub Collects : {E I : Type 0} → (plain : E → PlainEvent)
+    → (I → Option (Result E Error) → I → Type 0) → I → Result Tree Fault → Type 0
 Collects {E} {I} plain next_gives iter answer =
-    (taken : List (Result E Error)) × ((rest : I) × Yields next_gives iter taken rest) × IsBuiltFrom (Drains next_gives iter taken) (map (item_by plain) taken) answer
+    (taken : List (Result E Error)) × ((rest : I) × Yields next_gives iter taken rest)
+    × IsBuiltFrom (Drains next_gives iter taken) (map (item_by plain) taken) answer
 
 -- an item's event is taken
 abbrev pub Takes : Built → Item → Built → Type 0
-Takes before (Ok event) after = (carried_on with_pair before.unfinished event ≡ Some after.unfinished) × (after.failed ≡ false)
+Takes before (Ok event) after =
+    (carried_on with_pair before.unfinished event ≡ Some after.unfinished) × (after.failed ≡ false)
 Takes before (Err fault) after = ⊥
 
 -- an item is an error, or its event is refused

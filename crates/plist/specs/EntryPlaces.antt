@@ -73,8 +73,13 @@ module _ (V : RattleType) where
 
   -- the same if r is a reference, and else the pairs stay
   abbrev pub entry_lends_ok : {E : Type 0} → Entry V.Denot → Result (MutBor V.Denot) E → Fml
-  entry_lends_ok e r = follows_if (the_row V) V (entry_ref e).ghost_name (name_if_ok (λ x. x.ghost_name) r) (with_value e) (entry_pairs e)
+  entry_lends_ok e r =
+      follows_if (the_row V) V (entry_ref e).ghost_name (name_if_ok (λ x. x.ghost_name) r)
+      (with_value e) (entry_pairs e)
 
-  -- once the borrow r ends, the entry behind o has the last value written through r. Its lifetime is the second of the signature
+  -- once the borrow r ends, the entry behind o has the last value written through r. Its lifetime
+  -- is the second of the signature
   abbrev pub occupied_lends : MutBor (OccupiedEntry V.Denot) → MutBor V.Denot → Fml
-  occupied_lends o r = follows (occupied.the_row (record { mir = named 1; lft = [] }) V) V o.ghost_name r.ghost_name (with_entry_value o.now)
+  occupied_lends o r =
+      follows (occupied.the_row (record { mir = named 1; lft = [] }) V) V o.ghost_name r.ghost_name
+      (with_entry_value o.now)

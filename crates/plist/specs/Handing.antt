@@ -9,7 +9,8 @@ module _ {S : Type 0} (Step : S → PlainEvent → Answer → S → Type 0) wher
   -- the writer took these events, one step for each
   abbrev pub Took : (before : S) → List PlainEvent → (after : S) → Type 0
   Took before [] after = before ≡ after
-  Took before (event ∷ events) after = (between : S) × Step before event (Ok tt) between × Took between events after
+  Took before (event ∷ events) after =
+      (between : S) × Step before event (Ok tt) between × Took between events after
 
   -- the writer refused an event
   abbrev pub RefusesNext : (before : S) → List PlainEvent → Fault → (after : S) → Type 0
@@ -18,14 +19,17 @@ module _ {S : Type 0} (Step : S → PlainEvent → Answer → S → Type 0) wher
 
   -- memory ran out at a start, which the writer wasn't handed
   abbrev pub WantsMemory : (before : S) → List PlainEvent → Fault → (after : S) → Type 0
-  WantsMemory before events fault after = (fault ≡ fault_nowhere OutOfMemory) × BeginsWithStart events × (after ≡ before)
+  WantsMemory before events fault after =
+      (fault ≡ fault_nowhere OutOfMemory) × BeginsWithStart events × (after ≡ before)
 
-  -- The writer took all events; or the first of them, and then refused the next, or memory ran out at it.
+  -- The writer took all events; or the first of them, and then refused the next, or memory ran out
+  -- at it.
   abbrev pub Hands : (before : S) → List PlainEvent → Answer → (after : S) → Type 0
   Hands before events (Ok done) after = Took before events after
   Hands before events (Err fault) after =
       (taken : List PlainEvent) × (left : List PlainEvent) × (events ≡ taken ++ left)
-      × ((between : S) × Took before taken between × (RefusesNext between left fault after ⊎ WantsMemory between left fault after))
+      × ((between : S) × Took before taken between
+      × (RefusesNext between left fault after ⊎ WantsMemory between left fault after))
 
   -- one item
   abbrev pub HandsItem : (before : S) → Item → Answer → (after : S) → Type 0

@@ -12,23 +12,29 @@ use Rattle.plist.specs.LastWins.{last_wins}
 
 -- What stands behind events that can follow one another decides: a fault is the answer, an event
 -- that can't come next is refused, and where nothing stands there the events are no tree's.
-abbrev pub Decides : (held : Unfinished) (events : List PlainEvent) → (next : List Item) → Fault → Type 0
-Decides held events [] fault = (fault ≡ fault_nowhere UnexpectedEndOfEventStream) × ((tree : Tree) → AreAlike events (bracketing tree) → ⊥)
+abbrev pub Decides : (held : Unfinished) (events : List PlainEvent) → (next : List Item) → Fault
+    → Type 0
+Decides held events [] fault =
+    (fault ≡ fault_nowhere UnexpectedEndOfEventStream)
+    × ((tree : Tree) → AreAlike events (bracketing tree) → ⊥)
 Decides held events (Ok event ∷ more) fault = IsRefusal (refusal_of held event) fault
 Decides held events (Err error ∷ more) fault = fault ≡ error
 
 -- the items are a tree's events, up to lengths
 abbrev pub AreOf : List Item → Tree → Type 0
-AreOf items tree = (events : List PlainEvent) × (items ≡ map Ok events) × AreAlike events (bracketing tree)
+AreOf items tree =
+    (events : List PlainEvent) × (items ≡ map Ok events) × AreAlike events (bracketing tree)
 
 -- the first fault or refusal, and then the items are no tree's
 abbrev pub StopsAt : List Item → Fault → Type 0
 StopsAt items fault =
-    ((events : List PlainEvent) × (next : List Item) × (held : Unfinished) × (items ≡ map Ok events ++ next) × IsNested held × AreAlike (events_so_far held) events × Decides held events next fault)
+    ((events : List PlainEvent) × (next : List Item) × (held : Unfinished)
+    × (items ≡ map Ok events ++ next) × IsNested held × AreAlike (events_so_far held) events
+    × Decides held events next fault)
     × ((tree : Tree) → AreOf items tree → ⊥)
 
--- The tree whose events the items are, with the last value of each key; or, but for a device's fault
--- and want of memory, the first fault or refusal.
+-- The tree whose events the items are, with the last value of each key; or, but for a device's
+-- fault and want of memory, the first fault or refusal.
 abbrev pub IsReadFrom : List Item → Result Tree Fault → Type 0
 IsReadFrom items (Ok tree) = (whole : Tree) × AreOf items whole × (tree ≡ last_wins whole)
 IsReadFrom items (Err fault) = MatchFault fault.kind ⊤ ⊤ (StopsAt items fault)
@@ -45,16 +51,23 @@ BeginsWith before (Some (Ok event)) after = before ≡ Ok event ∷ after
 BeginsWith before (Some (Err fault)) after = MatchFault fault.kind ⊤ ⊤ (before ≡ Err fault ∷ after)
 
 -- the same, and what comes next is seen too, where what is to come is seen
-abbrev pub GoesOn : (before : Option (List Item)) → Option Item → (after : Option (List Item)) → Type 0
-GoesOn before item after = IfSome before (λ all. (left : List Item) × (after ≡ Some left) × BeginsWith all item left)
+abbrev pub GoesOn : (before : Option (List Item)) → Option Item → (after : Option (List Item))
+    → Type 0
+GoesOn before item after =
+    IfSome before (λ all. (left : List Item) × (after ≡ Some left) × BeginsWith all item left)
 
 -- an iterator's calls give the items that are seen to come, one after the other
-abbrev pub Shows : {E I : Type 0} → (plain : E → PlainEvent) → (I → Option (Result E Error) → I → Type 0) → (coming : I → Option (List Item)) → Type 0
-Shows {E} {I} plain next_gives coming = (old : I) (item : Option (Result E Error)) (new : I) → next_gives old item new → GoesOn (coming old) (option_map (item_by plain) item) (coming new)
+abbrev pub Shows : {E I : Type 0} → (plain : E → PlainEvent)
+    → (I → Option (Result E Error) → I → Type 0) → (coming : I → Option (List Item)) → Type 0
+Shows {E} {I} plain next_gives coming =
+    (old : I) (item : Option (Result E Error)) (new : I) → next_gives old item new
+    → GoesOn (coming old) (option_map (item_by plain) item) (coming new)
 
 -- whatever shows the items of an iterator, the answer is that of these items
-abbrev pub AnswersAsSeen : {E I : Type 0} → (plain : E → PlainEvent) → (I → Option (Result E Error) → I → Type 0) → I → Result Tree Fault → Type 0
-AnswersAsSeen {E} {I} plain next_gives iter answer = (coming : I → Option (List Item)) → Shows plain next_gives coming → Answers (coming iter) answer
+abbrev pub AnswersAsSeen : {E I : Type 0} → (plain : E → PlainEvent)
+    → (I → Option (Result E Error) → I → Type 0) → I → Result Tree Fault → Type 0
+AnswersAsSeen {E} {I} plain next_gives iter answer =
+    (coming : I → Option (List Item)) → Shows plain next_gives coming → Answers (coming iter) answer
 
 -- the answer is this tree, but for a device's fault and want of memory
 abbrev pub GivesBack : Tree → Result Tree Fault → Type 0

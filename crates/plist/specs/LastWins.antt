@@ -11,7 +11,8 @@ use Rattle.plist_base.specs.Trees.{Tree, Leaf, Array, Dictionary, Trees, NoTrees
 abbrev pub Rows : Type 0
 Rows = List (List ℕ × Tree)
 
--- the pairs once this one has come: a key that is there keeps its place and takes the value, a new one goes last
+-- the pairs once this one has come: a key that is there keeps its place and takes the value, a new
+-- one goes last
 abbrev pub with_pair : Rows → (key : List ℕ) → Tree → Rows
 with_pair rows key tree = insert_entry bytes_eq rows key tree
 
@@ -34,11 +35,14 @@ first_keys keys = first_keys_behind [] keys
 -- the value of the last pair with the key
 abbrev pub last_value : (key : List ℕ) → Rows → Option Tree
 last_value key [] = None
-last_value key (row ∷ rows) = option_or (last_value key rows) (cond (bytes_eq key row.0) (Some row.1) None)
+last_value key (row ∷ rows) =
+    option_or (last_value key rows) (cond (bytes_eq key row.0) (Some row.1) None)
 
 -- the keys in the order in which they came first, each with its last value
 abbrev pub AreLastValues : (rows result : Rows) → Type 0
-AreLastValues rows result = (keys_of result ≡ first_keys (keys_of rows)) × ((key : List ℕ) → lookup (bytes_eq key) result ≡ last_value key rows)
+AreLastValues rows result =
+    (keys_of result ≡ first_keys (keys_of rows))
+    × ((key : List ℕ) → lookup (bytes_eq key) result ≡ last_value key rows)
 
 -- the tree in which that is so of each dictionary
 abbrev mutual
@@ -53,4 +57,5 @@ abbrev mutual
 
   pub last_wins_in_pairs : Members → Rows
   last_wins_in_pairs NoMembers = []
-  last_wins_in_pairs (MemberAnd key tree members) = (key, last_wins tree) ∷ last_wins_in_pairs members
+  last_wins_in_pairs (MemberAnd key tree members) =
+      (key, last_wins tree) ∷ last_wins_in_pairs members

@@ -2,10 +2,12 @@
 use Rattle.std.specs.Prelude.{◌≡◌, ◌++◌, ◌∷◌, [], true, false, Option, Some, None, Ok, Err}
 use Rattle.std.proofs.Common.{inr}
 use Rattle.std.proofs.Common.{refl, sym, ◌∙◌, subst, true≢false}
+use Rattle.plist_base.specs.declared.error.EventKind.{EventKind}
 use Rattle.plist_base.specs.declared.error.EventKind.TheVariants as event_kind
-use Rattle.plist_base.specs.Events.{PlainEvent, StartArray, StartDictionary, EndCollection, Boolean, Data, Date, Integer, Real, String, Uid, kind_of_event}
+use Rattle.plist_base.specs.Events.{PlainEvent, StartArray, StartDictionary, EndCollection, Single, kind_of_event}
 use Rattle.plist_base.specs.Faults as faults
 use Rattle.plist_base.specs.Faults.{FaultKind, fault_nowhere, WriterFailed}
+use Rattle.plist_base.specs.Trees as trees
 use Rattle.plist_base.specs.Bracketing.{CanContinue, ContinueAlike}
 use Rattle.plist_base.specs.Writing.{Answer, MatchKind, AnswersByPlace}
 use Rattle.plist.specs.declared.stream.builder.Builder.{Builder}
@@ -29,77 +31,99 @@ of_place kind other p x = subst IsOfPlace (same_kind other kind p) x
 value-place : (e : PlainEvent) (kind : FaultKind) → refusal_of_value e ≡ Some kind → IsOfPlace kind
 value-place (StartArray n) kind p = some_kind kind p
 value-place (StartDictionary n) kind p = some_kind kind p
-value-place EndCollection kind p = of_place kind (faults.UnexpectedEventType event_kind.ValueOrStartCollection event_kind.EndCollection) p tt
-value-place (Boolean b) kind p = some_kind kind p
-value-place (Data d) kind p = some_kind kind p
-value-place (Date d) kind p = some_kind kind p
-value-place (Integer z) kind p = some_kind kind p
-value-place (Real r) kind p = some_kind kind p
-value-place (String s) kind p = some_kind kind p
-value-place (Uid v) kind p = some_kind kind p
+value-place EndCollection kind p = of_place kind _ p tt
+value-place (Single x) kind p = some_kind kind p
+
+no-key : (found : EventKind) (kind : FaultKind)
+    → Some (faults.UnexpectedEventType event_kind.DictionaryKeyOrEndCollection found) ≡ Some kind
+    → IsOfPlace kind
+no-key found kind p = of_place kind _ p tt
 
 key-place : (e : PlainEvent) (kind : FaultKind) → refusal_of_key e ≡ Some kind → IsOfPlace kind
-key-place (StartArray n) kind p = of_place kind (faults.UnexpectedEventType event_kind.DictionaryKeyOrEndCollection event_kind.StartArray) p tt
-key-place (StartDictionary n) kind p = of_place kind (faults.UnexpectedEventType event_kind.DictionaryKeyOrEndCollection event_kind.StartDictionary) p tt
+key-place (StartArray n) kind p = no-key event_kind.StartArray kind p
+key-place (StartDictionary n) kind p = no-key event_kind.StartDictionary kind p
 key-place EndCollection kind p = some_kind kind p
-key-place (Boolean b) kind p = of_place kind (faults.UnexpectedEventType event_kind.DictionaryKeyOrEndCollection event_kind.Boolean) p tt
-key-place (Data d) kind p = of_place kind (faults.UnexpectedEventType event_kind.DictionaryKeyOrEndCollection event_kind.Data) p tt
-key-place (Date d) kind p = of_place kind (faults.UnexpectedEventType event_kind.DictionaryKeyOrEndCollection event_kind.Date) p tt
-key-place (Integer z) kind p = of_place kind (faults.UnexpectedEventType event_kind.DictionaryKeyOrEndCollection event_kind.Integer) p tt
-key-place (Real r) kind p = of_place kind (faults.UnexpectedEventType event_kind.DictionaryKeyOrEndCollection event_kind.Real) p tt
-key-place (String s) kind p = some_kind kind p
-key-place (Uid v) kind p = of_place kind (faults.UnexpectedEventType event_kind.DictionaryKeyOrEndCollection event_kind.Uid) p tt
+key-place (Single (trees.Boolean b)) kind p = no-key event_kind.Boolean kind p
+key-place (Single (trees.Data d)) kind p = no-key event_kind.Data kind p
+key-place (Single (trees.Date d)) kind p = no-key event_kind.Date kind p
+key-place (Single (trees.Integer z)) kind p = no-key event_kind.Integer kind p
+key-place (Single (trees.Real r)) kind p = no-key event_kind.Real kind p
+key-place (Single (trees.String s)) kind p = some_kind kind p
+key-place (Single (trees.Uid v)) kind p = no-key event_kind.Uid kind p
 
 -- what is refused is refused for its place
-pub refusal-place : (u : Unfinished) (e : PlainEvent) (kind : FaultKind) → refusal_of u e ≡ Some kind → IsOfPlace kind
+pub refusal-place : (u : Unfinished) (e : PlainEvent) (kind : FaultKind)
+    → refusal_of u e ≡ Some kind → IsOfPlace kind
 refusal-place NotBegun e kind p = value-place e kind p
 refusal-place (Within (InArray items) outer) e kind p = some_kind kind p
 refusal-place (Within (InDictionary pairs) outer) e kind p = key-place e kind p
 refusal-place (Within (AfterKey pairs key) outer) e kind p = value-place e kind p
-refusal-place (Complete tree) e kind p = of_place kind (faults.ExpectedEndOfEventStream (kind_of_event e)) p tt
+refusal-place (Complete tree) e kind p =
+    of_place kind (faults.ExpectedEndOfEventStream (kind_of_event e)) p tt
 
 not_none : {A : Type 0} (o : Option A) (x : A) → o ≡ Some x → o ≡ None → ⊥
 not_none o x p q = cc
 
 -- what a refusal says of the event, and of what is held after it
-module _ (before after : Built) (event : PlainEvent) (unchanged : Type 0) (ok : IsNested before.unfinished) (f : before.failed ≡ false) where
+module _ (before after : Built) (event : PlainEvent) (unchanged : Type 0)
+    (ok : IsNested before.unfinished) (f : before.failed ≡ false) where
   abbrev Refused : Type 0
   Refused = (CanContinue (events_so_far before.unfinished) event → ⊥) × unchanged
 
-  in_place : (kind : FaultKind) → refusal_of before.unfinished event ≡ Some kind → unchanged → Refused
-  in_place kind r s = (refused-ends before.unfinished event ok (not_none (refusal_of before.unfinished event) kind r), s)
+  in_place : (kind : FaultKind) → refusal_of before.unfinished event ≡ Some kind → unchanged
+      → Refused
+  in_place kind r s = (
+    refused-ends before.unfinished event ok
+        (not_none (refusal_of before.unfinished event) kind r),
+    s,
+  )
 
-  wanting : refusal_of before.unfinished event ≡ None → after.failed ≡ true → CanContinue (events_so_far before.unfinished) event × (after.failed ≡ true)
+  wanting : refusal_of before.unfinished event ≡ None → after.failed ≡ true
+      → CanContinue (events_so_far before.unfinished) event × (after.failed ≡ true)
   wanting r failed = (accepted-continues before.unfinished event ok r, failed)
 
   never : (kind : FaultKind) → refusal_of before.unfinished event ≡ Some kind → IsOfPlace kind
   never kind r = refusal-place before.unfinished event kind r
 
-  refusal_law : (kind : FaultKind) → IsRefused before event kind after unchanged → MatchKind kind Refused (CanContinue (events_so_far before.unfinished) event × (after.failed ≡ true)) ⊥
+  refusal_law : (kind : FaultKind) → IsRefused before event kind after unchanged
+      → MatchKind kind Refused (CanContinue (events_so_far before.unfinished) event
+      × (after.failed ≡ true)) ⊥
   refusal_law (faults.UnexpectedEventType expected found) r = in_place _ r.1 r.2
   refusal_law (faults.ExpectedEndOfEventStream found) r = in_place _ r.1 r.2
   refusal_law faults.OutOfMemory r = wanting r.1 r.2
   refusal_law faults.WriterFailed r = absurd (true≢false (sym r.0 ∙ f))
   refusal_law kind r = absurd (never kind r.1)
 
-pub building_law : (before : Builder) (event : PlainEvent) (answer : Answer) (after : Builder) → IsBuildingStep before event answer after → before.failed ≡ false
-    → AnswersByPlace (events_so_far (built_of before).unfinished) event answer (events_so_far (built_of after).unfinished) after.failed (after ≡ before)
+pub building_law : (before : Builder) (event : PlainEvent) (answer : Answer) (after : Builder)
+    → IsBuildingStep before event answer after → before.failed ≡ false
+    → AnswersByPlace (events_so_far (built_of before).unfinished) event answer
+    (events_so_far (built_of after).unfinished) after.failed (after ≡ before)
 building_law before event (Ok done) after s f =
     let (taken, nested, alike, last) = s.1.3 in
     let held = events_so_far (built_of before).unfinished in (
       taken-continues (built_of before).unfinished taken event nested alike,
       s.1.2,
-      inr (subst (λ u. ContinueAlike (events_so_far u) (held ++ event ∷ [])) (sym last) (last-continues taken (held ++ event ∷ []) nested alike)),
+      inr (subst (λ u. ContinueAlike (events_so_far u) (held ++ event ∷ [])) (sym last)
+          (last-continues taken (held ++ event ∷ []) nested alike)),
     )
-building_law before event (Err fault) after s f = (s.1.0, refusal_law (built_of before) (built_of after) event (after ≡ before) s.0 f fault.kind s.1.1)
+building_law before event (Err fault) after s f = (
+  s.1.0,
+  refusal_law (built_of before) (built_of after) event (after ≡ before) s.0 f fault.kind
+      s.1.1,
+)
 
 -- a failed builder's refusal
-failed_kind : (before after : Built) (event : PlainEvent) (unchanged : Type 0) (kind : FaultKind) → IsRefused before event kind after unchanged → before.failed ≡ true → (kind ≡ WriterFailed) × unchanged
+failed_kind : (before after : Built) (event : PlainEvent) (unchanged : Type 0) (kind : FaultKind)
+    → IsRefused before event kind after unchanged → before.failed ≡ true → (kind ≡ WriterFailed)
+    × unchanged
 failed_kind before after event unchanged faults.WriterFailed r f = (refl, r.1)
 failed_kind before after event unchanged kind r f = absurd (true≢false (sym f ∙ r.0))
 
-pub failed_law : (before : Builder) (event : PlainEvent) (answer : Answer) (after : Builder) → IsBuildingStep before event answer after → before.failed ≡ true → (answer ≡ Err (fault_nowhere WriterFailed)) × (after ≡ before)
+pub failed_law : (before : Builder) (event : PlainEvent) (answer : Answer) (after : Builder)
+    → IsBuildingStep before event answer after → before.failed ≡ true
+    → (answer ≡ Err (fault_nowhere WriterFailed)) × (after ≡ before)
 failed_law before event (Ok done) after s f = absurd (true≢false (sym f ∙ s.1.0))
 failed_law before event (Err fault) after s f =
-    let k = failed_kind (built_of before) (built_of after) event (after ≡ before) fault.kind s.1.1 f in
+    let k = failed_kind (built_of before) (built_of after) event (after ≡ before) fault.kind s.1.1
+    f in
     ((λ i. Err (record { kind = k.0 i; offset = s.1.0 i })), k.1)

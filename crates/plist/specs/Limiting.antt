@@ -9,7 +9,7 @@ use Rattle.plist_base.specs.Limits.{GivesLimited, come_of, inner_of, limited_ite
 use Rattle.plist_base.specs.Trees.{Tree, Leaf, Array, Dictionary, Trees, NoTrees, TreeAnd, Members, NoMembers, MemberAnd}
 use Rattle.plist_base.specs.Bracketing.{bracketing}
 use Rattle.plist_reader.specs.declared.reader.Reader.{Reader}
-use Rattle.plist_reader.specs.Coming.{Gives, items_of_input, to_come}
+use Rattle.plist_reader.specs.Reader.{Gives, items_of_input, to_come}
 use Rattle.plist.specs.Collecting.{Collects}
 use Rattle.plist.specs.LastWins.{last_wins}
 
@@ -38,7 +38,8 @@ IsWithin limits tree =
 
 -- the answer comes of the run, under these limits, of a reader that has all items of this source to
 -- give
-abbrev pub IsReadUnder : {R : Type 0} → Limits → (known : R → Option (List ℕ)) (failed : R → ℕ) (source : R) → Result Tree Fault → Type 0
+abbrev pub IsReadUnder : {R : Type 0} → Limits
+    → (known : R → Option (List ℕ)) (failed : R → ℕ) (source : R) → Result Tree Fault → Type 0
 IsReadUnder {R} limits known failed source answer =
     (limited : Limited (Reader R (record { known = known; failures = failed })))
     × (come_of limited ≡ limited_items limits)

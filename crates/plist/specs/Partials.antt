@@ -1,14 +1,17 @@
 -- What the run-time state of a builder holds.
-use Rattle.std.specs.Prelude.{List, [], ◌∷◌, Option, Some, None, map, reverse, string_bytes}
+use Rattle.std.specs.Prelude.{◌≡◌, List, [], ◌∷◌, Option, Some, None, map, reverse, string_bytes}
+use Rattle.plist_base.specs.Events.{PlainEvent}
 use Rattle.plist.specs.declared.partial.Open.{Open}
 use Rattle.plist.specs.declared.partial.Open.TheVariants as run
 use Rattle.plist.specs.declared.partial.Partial.{Partial}
 use Rattle.plist.specs.declared.value.Value.{Value}
 use Rattle.plist.specs.Building.{OpenCollection, InArray, InDictionary, AfterKey, Unfinished, NotBegun, Within, Complete}
-use Rattle.plist.specs.LastWins.{last_values}
+use Rattle.plist.specs.LastWins.{last_values, with_pair}
+use Rattle.plist.specs.Steps.{carried_on}
 use Rattle.plist.specs.Views.{tree_of, tree_pairs}
 
--- an open collection with its trees; a dictionary's keys stand once each, so its last values are its pairs
+-- an open collection with its trees; a dictionary's keys stand once each, so its last values are
+-- its pairs
 abbrev pub open_of : Open → OpenCollection
 open_of (run.Array items) = InArray (map tree_of items.items)
 open_of (run.Dictionary pairs) = InDictionary (last_values (tree_pairs pairs))
@@ -27,3 +30,8 @@ collections_of partial = map open_of (reverse partial.collections.items)
 -- what is held
 abbrev pub unfinished_of : Partial → Unfinished
 unfinished_of partial = held_by partial.root (reverse partial.collections.items)
+
+-- the event carries on what is held
+abbrev pub CarriesOn : (before : Partial) → PlainEvent → (after : Partial) → Type 0
+CarriesOn before event after =
+    carried_on with_pair (unfinished_of before) event ≡ Some (unfinished_of after)

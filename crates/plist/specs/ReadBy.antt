@@ -4,12 +4,26 @@ use Rattle.std.specs.Option.{option_map}
 use Rattle.plist_base.specs.Events.{event_of}
 use Rattle.plist_base.specs.Faults.{Fault}
 use Rattle.plist_base.specs.Trees.{Tree}
+use Rattle.plist_ascii.specs.AsciiReader as ascii
+use Rattle.plist_ascii.specs.AsciiReader.{dialect_of, inner_of}
+use Rattle.plist_ascii.specs.declared.reader.AsciiReader.{AsciiReader}
+use Rattle.plist_ascii.specs.declared.dialect.Dialect.{Dialect}
 use Rattle.plist_reader.specs.declared.reader.Reader.{Reader}
-use Rattle.plist_reader.specs.Coming.{Gives, items_of_input, source_of, to_come}
+use Rattle.plist_reader.specs.Reader.{Gives, items_of_input, source_of, to_come}
 use Rattle.plist.specs.Collecting.{Collects}
 
 -- the answer comes of the run of a reader that holds this very source and has all its items to give
-abbrev pub IsReadBy : {R : Type 0} (known : R → Option (List ℕ)) (failed : R → ℕ) (source : R) → Result Tree Fault → Type 0
+abbrev pub IsReadBy : {R : Type 0} (known : R → Option (List ℕ)) (failed : R → ℕ) (source : R)
+    → Result Tree Fault → Type 0
 IsReadBy {R} known failed source answer =
-    (reader : Reader R (record { known = known; failures = failed })) × (source_of reader ≡ Some source) × (to_come known reader ≡ option_map items_of_input (known source))
+    (reader : Reader R (record { known = known; failures = failed }))
+    × (source_of reader ≡ Some source)
+    × (to_come known reader ≡ option_map items_of_input (known source))
     × Collects event_of (Gives known failed) reader answer
+
+-- the same of a reader of ASCII in this dialect
+abbrev pub IsReadAsAscii : {R : Type 0} (known : R → Option (List ℕ)) (failed : R → Option ℕ)
+    (source : R) → Dialect → Result Tree Fault → Type 0
+IsReadAsAscii {R} known failed source dialect answer =
+    (reader : AsciiReader R) × (inner_of reader ≡ source) × (dialect_of reader ≡ dialect)
+    × Collects event_of (ascii.Gives known failed) reader answer

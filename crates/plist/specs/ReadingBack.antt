@@ -9,4 +9,5 @@ use Rattle.plist.specs.Views.{tree_of}
 
 -- a file of a value gives that value
 abbrev pub ReadsBack : List ℕ → Result Tree Fault → Type 0
-ReadsBack file answer = (value : Value) → IsWrittenAs (tree_of value) file → GivesBack (tree_of value) answer
+ReadsBack file answer =
+    (value : Value) → IsWrittenAs (tree_of value) file → GivesBack (tree_of value) answer

@@ -6,9 +6,9 @@ use Rattle.plist_base.specs.declared.event.Event.{Event}
 use Rattle.plist_base.specs.declared.event.Event.TheVariants as event
 use Rattle.std.specs.declared.borrow.CowStr.TheVariants as text
 use Rattle.std.specs.declared.borrow.CowSlice.TheVariants as slice
-use Rattle.plist_base.specs.Events.{PlainEvent, StartArray, StartDictionary, EndCollection, String, event_of}
+use Rattle.plist_base.specs.Events.{PlainEvent, StartArray, StartDictionary, EndCollection, Single, event_of}
 use Rattle.plist_base.specs.Faults.{fault_of, fault_nowhere, OutOfMemory}
-use Rattle.plist_base.specs.Trees.{Tree, trees_of, members_of}
+use Rattle.plist_base.specs.Trees.{Tree, String, trees_of, members_of}
 use Rattle.plist_base.specs.Bracketing.{bracketing, bracketing_of_items, bracketing_of_pairs}
 use Rattle.plist.specs.declared.value.Value.{Value}
 use Rattle.plist.specs.declared.stream.events.Events.{Events}
@@ -49,22 +49,32 @@ BeginsWithStart (StartArray length ∷ events) = ⊤
 BeginsWithStart (StartDictionary length ∷ events) = ⊤
 BeginsWithStart events = ⊥
 
--- The first event left is given, its text or data borrowed, and the others are left; nothing is given
--- where nothing is left; for want of memory a start isn't given, and then nothing is left.
+-- The first event left is given, its text or data borrowed, and the others are left; nothing is
+-- given where nothing is left; for want of memory a start isn't given, and then nothing is left.
 abbrev pub GivesEvent : Events → Option (Result Event Error) → Events → Type 0
 GivesEvent before None after = (remaining_events before ≡ []) × (remaining_events after ≡ [])
-GivesEvent before (Some (Ok given)) after = (remaining_events before ≡ event_of given ∷ remaining_events after) × IsBorrowed given
+GivesEvent before (Some (Ok given)) after =
+    (remaining_events before ≡ event_of given ∷ remaining_events after) × IsBorrowed given
 GivesEvent before (Some (Err error)) after =
-    (fault_of error ≡ fault_nowhere OutOfMemory) × BeginsWithStart (remaining_events before) × (remaining_events after ≡ [])
+    (fault_of error ≡ fault_nowhere OutOfMemory) × BeginsWithStart (remaining_events before)
+    × (remaining_events after ≡ [])
 
 -- what comes next, and what is left behind it
 abbrev pub ComesNext : Events → Next → Events → Type 0
 ComesNext before next.Nothing after = (remaining_events before ≡ []) × (remaining_events after ≡ [])
 ComesNext before next.End after = remaining_events before ≡ EndCollection ∷ remaining_events after
-ComesNext before (next.Key key) after = remaining_events before ≡ String (string_bytes key.now) ∷ remaining_events after
-ComesNext before (next.Value value) after = (remaining_events before ≡ bracketing (tree_of value.now) ++ left_of_levels (reverse after.levels.items)) × (after.value ≡ None)
+ComesNext before (next.Key key) after =
+    remaining_events before ≡ Single (String (string_bytes key.now)) ∷ remaining_events after
+ComesNext before (next.Value value) after =
+    (remaining_events before
+    ≡ bracketing (tree_of value.now) ++ left_of_levels (reverse after.levels.items))
+    × (after.value ≡ None)
 
 -- the first event of a tree is given, and its others are left before those left
 abbrev pub BeginsValue : Tree → Events → Result Event Error → Events → Type 0
-BeginsValue tree before (Ok given) after = (bracketing tree ++ remaining_events before ≡ event_of given ∷ remaining_events after) × IsBorrowed given
-BeginsValue tree before (Err error) after = (fault_of error ≡ fault_nowhere OutOfMemory) × BeginsWithStart (bracketing tree ++ remaining_events before) × (remaining_events after ≡ [])
+BeginsValue tree before (Ok given) after =
+    (bracketing tree ++ remaining_events before ≡ event_of given ∷ remaining_events after)
+    × IsBorrowed given
+BeginsValue tree before (Err error) after =
+    (fault_of error ≡ fault_nowhere OutOfMemory)
+    × BeginsWithStart (bracketing tree ++ remaining_events before) × (remaining_events after ≡ [])

@@ -1,4 +1,5 @@
--- Property lists that are the same, whatever the order of a dictionary's pairs. Of a key that stands more than once the first counts.
+-- Property lists that are the same, whatever the order of a dictionary's pairs. Of a key that
+-- stands more than once the first counts.
 use Rattle.std.specs.Prelude.{◌≡◌, ℕ, ◌==◌, Bool, true, false, not, ◌&&◌, ◌||◌, cond, Option, Some, None, is_some, List, [], ◌∷◌}
 use Rattle.std.specs.Str.{bytes_eq}
 use Rattle.std.specs.List.{list_any}
@@ -28,7 +29,8 @@ same_scalar _ _ = false
 -- the first value of a key
 abbrev pub first_value : List ℕ → Members → Option Tree
 first_value key NoMembers = None
-first_value key (MemberAnd other tree members) = cond (bytes_eq key other) (Some tree) (first_value key members)
+first_value key (MemberAnd other tree members) =
+    cond (bytes_eq key other) (Some tree) (first_value key members)
 
 abbrev pub is_among : List ℕ → List (List ℕ) → Bool
 is_among key seen = list_any (bytes_eq key) seen
@@ -40,26 +42,30 @@ if_found (Some tree) test = test tree
 -- each key of the first stands in the second
 abbrev pub has_keys : Members → Members → Bool
 has_keys NoMembers others = true
-has_keys (MemberAnd key tree members) others = is_some (first_value key others) && has_keys members others
+has_keys (MemberAnd key tree members) others =
+    is_some (first_value key others) && has_keys members others
 
 abbrev mutual
   -- equal kinds; arrays by place; dictionaries with the same keys and the same values
   pub same : Tree → Tree → Bool
   same (Leaf a) (Leaf b) = same_scalar a b
   same (Array items) (Array others) = same_items items others
-  same (Dictionary members) (Dictionary others) = is_covered [] members others && has_keys others members
+  same (Dictionary members) (Dictionary others) =
+      is_covered [] members others && has_keys others members
   same _ _ = false
 
   pub same_items : Trees → Trees → Bool
   same_items NoTrees NoTrees = true
-  same_items (TreeAnd tree trees) (TreeAnd other others) = same tree other && same_items trees others
+  same_items (TreeAnd tree trees) (TreeAnd other others) =
+      same tree other && same_items trees others
   same_items _ _ = false
 
   -- each key of the first that wasn't seen has the same value in the second
   pub is_covered : (seen : List (List ℕ)) → Members → Members → Bool
   is_covered seen NoMembers others = true
   is_covered seen (MemberAnd key tree members) others =
-      (is_among key seen || if_found (first_value key others) (λ other. same tree other)) && is_covered (key ∷ seen) members others
+      (is_among key seen || if_found (first_value key others) (λ other. same tree other))
+      && is_covered (key ∷ seen) members others
 
 -- what two dictionaries have at a key
 abbrev pub AreSameAt : Option Tree → Option Tree → Type 0
@@ -67,6 +73,11 @@ AreSameAt None None = Unit {0}
 AreSameAt None (Some u) = ⊥
 AreSameAt (Some t) None = ⊥
 AreSameAt (Some t) (Some u) = same t u ≡ true
+
+-- at each key both have nothing, or values that are the same
+abbrev pub AreSameEverywhere : (left right : Members) → Type 0
+AreSameEverywhere left right =
+    (key : List ℕ) → AreSameAt (first_value key left) (first_value key right)
 
 -- at each key of either list both have a value, and the two are equal by E
 abbrev pub same_pairs : {V : Type 0} → (V → V → Bool) → List (List ℕ × V) → List (List ℕ × V) → Bool

@@ -89,62 +89,92 @@ some_eq : (t u : Tree) → ◌≡◌ {A = Option Tree} (Some t) (Some u) → t �
 some_eq t u e = cc
 
 -- what is found in the first is found in the second
-covered_key : (b : Bool) (seen : List (List ℕ)) (l : List ℕ) (u : Tree) (ms ns : Members) (k : List ℕ) (t : Tree) → bytes_eq k l ≡ b → is_among l seen || if_found (first_value l ns) (λ v. same u v) ≡ true → is_among k seen ≡ false → cond (bytes_eq k l) (Some u) (first_value k ms) ≡ Some t
-    → (is_among k (l ∷ seen) ≡ false → first_value k ms ≡ Some t → AreSameAt (Some t) (first_value k ns)) → AreSameAt (Some t) (first_value k ns)
+covered_key : (b : Bool) (seen : List (List ℕ)) (l : List ℕ) (u : Tree) (ms ns : Members)
+    (k : List ℕ) (t : Tree) → bytes_eq k l ≡ b
+    → is_among l seen || if_found (first_value l ns) (λ v. same u v) ≡ true
+    → is_among k seen ≡ false → cond (bytes_eq k l) (Some u) (first_value k ms) ≡ Some t
+    → (is_among k (l ∷ seen) ≡ false → first_value k ms ≡ Some t
+    → AreSameAt (Some t) (first_value k ns)) → AreSameAt (Some t) (first_value k ns)
 covered_key true seen l u ms ns k t is h fresh e later =
     let k_is : k ≡ l = key_eq k l is in
     let t_is : u ≡ t = some_eq u t (rw is at e) in
-    let here = or_later (is_among l seen) (if_found (first_value l ns) (λ v. same u v)) (rw k_is at fresh) h in
+    let here = or_later (is_among l seen) (if_found (first_value l ns) (λ v. same u v))
+    (rw k_is at fresh) h in
     rw (k_is, ← t_is) (found_at (first_value l ns) u here)
-covered_key false seen l u ms ns k t is h fresh e later = later (or_none (bytes_eq k l) (is_among k seen) is fresh) (rw is at e)
+covered_key false seen l u ms ns k t is h fresh e later =
+    later (or_none (bytes_eq k l) (is_among k seen) is fresh) (rw is at e)
 
-covered_at : (seen : List (List ℕ)) (ms ns : Members) (k : List ℕ) (t : Tree) → is_covered seen ms ns ≡ true → is_among k seen ≡ false → first_value k ms ≡ Some t → AreSameAt (Some t) (first_value k ns)
+covered_at : (seen : List (List ℕ)) (ms ns : Members) (k : List ℕ) (t : Tree)
+    → is_covered seen ms ns ≡ true → is_among k seen ≡ false → first_value k ms ≡ Some t
+    → AreSameAt (Some t) (first_value k ns)
 covered_at seen NoMembers ns k t h fresh e = absurd (cc)
 covered_at seen (MemberAnd l u ms) ns k t h fresh e =
-    let parts = both (is_among l seen || if_found (first_value l ns) (λ v. same u v)) (is_covered (l ∷ seen) ms ns) h in
-    covered_key (bytes_eq k l) seen l u ms ns k t refl parts.0 fresh e (λ new rest. covered_at (l ∷ seen) ms ns k t parts.1 new rest)
+    let parts = both (is_among l seen || if_found (first_value l ns) (λ v. same u v))
+    (is_covered (l ∷ seen) ms ns) h in
+    covered_key (bytes_eq k l) seen l u ms ns k t refl parts.0 fresh e
+    (λ new rest. covered_at (l ∷ seen) ms ns k t parts.1 new rest)
 
-key_there : (b : Bool) (ms : Members) (l : List ℕ) (u : Tree) (ns : Members) (k : List ℕ) → bytes_eq k l ≡ b → is_some (first_value l ms) ≡ true → is_some (cond (bytes_eq k l) (Some u) (first_value k ns)) ≡ true → (is_some (first_value k ns) ≡ true → is_some (first_value k ms) ≡ true) → is_some (first_value k ms) ≡ true
+key_there : (b : Bool) (ms : Members) (l : List ℕ) (u : Tree) (ns : Members) (k : List ℕ)
+    → bytes_eq k l ≡ b → is_some (first_value l ms) ≡ true
+    → is_some (cond (bytes_eq k l) (Some u) (first_value k ns)) ≡ true
+    → (is_some (first_value k ns) ≡ true → is_some (first_value k ms) ≡ true)
+    → is_some (first_value k ms) ≡ true
 key_there true ms l u ns k is h e later = rw (key_eq k l is) h
 key_there false ms l u ns k is h e later = later (rw is at e)
 
-keys_there : (ms ns : Members) (k : List ℕ) → has_keys ns ms ≡ true → is_some (first_value k ns) ≡ true → is_some (first_value k ms) ≡ true
+keys_there : (ms ns : Members) (k : List ℕ) → has_keys ns ms ≡ true
+    → is_some (first_value k ns) ≡ true → is_some (first_value k ms) ≡ true
 keys_there ms NoMembers k h e = absurd (cc)
 keys_there ms (MemberAnd l u ns) k h e =
     let parts = both (is_some (first_value l ms)) (has_keys ns ms) h in
     key_there (bytes_eq k l) ms l u ns k refl parts.0 e (λ rest. keys_there ms ns k parts.1 rest)
 
-at_each : (a b : Option Tree) → ((t : Tree) → a ≡ Some t → AreSameAt (Some t) b) → (is_some b ≡ true → is_some a ≡ true) → AreSameAt a b
+at_each : (a b : Option Tree) → ((t : Tree) → a ≡ Some t → AreSameAt (Some t) b)
+    → (is_some b ≡ true → is_some a ≡ true) → AreSameAt a b
 at_each None None f g = tt
 at_each None (Some u) f g = let h = g refl in absurd (cc)
 at_each (Some t) b f g = f t refl
 
 -- the same at every key
-pub dict_to : (ms ns : Members) → same (Dictionary ms) (Dictionary ns) ≡ true → (k : List ℕ) → AreSameAt (first_value k ms) (first_value k ns)
+pub dict_to : (ms ns : Members) → same (Dictionary ms) (Dictionary ns) ≡ true → (k : List ℕ)
+    → AreSameAt (first_value k ms) (first_value k ns)
 dict_to ms ns h k =
     let parts = both (is_covered [] ms ns) (has_keys ns ms) h in
-    at_each (first_value k ms) (first_value k ns) (λ t e. covered_at [] ms ns k t parts.0 refl e) (λ e. keys_there ms ns k parts.1 e)
+    at_each (first_value k ms) (first_value k ns) (λ t e. covered_at [] ms ns k t parts.0 refl e)
+    (λ e. keys_there ms ns k parts.1 e)
 
 -- and back
-covered_here : (b : Bool) (seen : List (List ℕ)) (l : List ℕ) (u : Tree) (ns : Members) → is_among l seen ≡ b → (is_among l seen ≡ false → AreSameAt (Some u) (first_value l ns)) → is_among l seen || if_found (first_value l ns) (λ v. same u v) ≡ true
+covered_here : (b : Bool) (seen : List (List ℕ)) (l : List ℕ) (u : Tree) (ns : Members)
+    → is_among l seen ≡ b → (is_among l seen ≡ false → AreSameAt (Some u) (first_value l ns))
+    → is_among l seen || if_found (first_value l ns) (λ v. same u v) ≡ true
 covered_here true seen l u ns is f = rw is refl
-covered_here false seen l u ns is f = or_second (is_among l seen) (if_found (first_value l ns) (λ v. same u v)) (at_found (first_value l ns) u (f is))
+covered_here false seen l u ns is f =
+    or_second (is_among l seen) (if_found (first_value l ns) (λ v. same u v))
+    (at_found (first_value l ns) u (f is))
 
-covered_from : (seen : List (List ℕ)) (ms ns : Members) → ((k : List ℕ) (t : Tree) → is_among k seen ≡ false → first_value k ms ≡ Some t → AreSameAt (Some t) (first_value k ns)) → is_covered seen ms ns ≡ true
+covered_from : (seen : List (List ℕ)) (ms ns : Members)
+    → ((k : List ℕ) (t : Tree) → is_among k seen ≡ false → first_value k ms ≡ Some t
+    → AreSameAt (Some t) (first_value k ns)) → is_covered seen ms ns ≡ true
 covered_from seen NoMembers ns f = refl
 covered_from seen (MemberAnd l u ms) ns f =
-    and_true (is_among l seen || if_found (first_value l ns) (λ v. same u v)) (is_covered (l ∷ seen) ms ns)
+    and_true (is_among l seen || if_found (first_value l ns) (λ v. same u v))
+    (is_covered (l ∷ seen) ms ns)
     (covered_here (is_among l seen) seen l u ns refl (λ fresh. f l u fresh (rw (key_self l) refl)))
-    (covered_from (l ∷ seen) ms ns (λ k t fresh e. let n = neither (bytes_eq k l) (is_among k seen) fresh in f k t n.1 (rw n.0 e)))
+    (covered_from (l ∷ seen) ms ns
+    (λ k t fresh e. let n = neither (bytes_eq k l) (is_among k seen) fresh in f k t n.1 (rw n.0 e)))
 
-key_more : (b : Bool) (u : Tree) (o : Option Tree) → is_some o ≡ true → is_some (cond b (Some u) o) ≡ true
+key_more : (b : Bool) (u : Tree) (o : Option Tree) → is_some o ≡ true
+    → is_some (cond b (Some u) o) ≡ true
 key_more true u o e = refl
 key_more false u o e = e
 
-keys_from : (ms ns : Members) → ((k : List ℕ) → is_some (first_value k ns) ≡ true → is_some (first_value k ms) ≡ true) → has_keys ns ms ≡ true
+keys_from : (ms ns : Members)
+    → ((k : List ℕ) → is_some (first_value k ns) ≡ true → is_some (first_value k ms) ≡ true)
+    → has_keys ns ms ≡ true
 keys_from ms NoMembers f = refl
 keys_from ms (MemberAnd l u ns) f =
-    and_true (is_some (first_value l ms)) (has_keys ns ms) (f l (rw (key_self l) refl)) (keys_from ms ns (λ k e. f k (key_more (bytes_eq k l) u (first_value k ns) e)))
+    and_true (is_some (first_value l ms)) (has_keys ns ms) (f l (rw (key_self l) refl))
+    (keys_from ms ns (λ k e. f k (key_more (bytes_eq k l) u (first_value k ns) e)))
 
 at_some : (a b : Option Tree) (t : Tree) → AreSameAt a b → a ≡ Some t → AreSameAt (Some t) b
 at_some None b t h e = absurd (cc)
@@ -156,12 +186,16 @@ at_is_some None None h e = e
 at_is_some None (Some u) h e = absurd h
 at_is_some (Some t) b h e = refl
 
-pub dict_from : (ms ns : Members) → ((k : List ℕ) → AreSameAt (first_value k ms) (first_value k ns)) → same (Dictionary ms) (Dictionary ns) ≡ true
+pub dict_from : (ms ns : Members) → ((k : List ℕ) → AreSameAt (first_value k ms) (first_value k ns))
+    → same (Dictionary ms) (Dictionary ns) ≡ true
 dict_from ms ns f =
-    and_true (is_covered [] ms ns) (has_keys ns ms) (covered_from [] ms ns (λ k t fresh e. at_some (first_value k ms) (first_value k ns) t (f k) e)) (keys_from ms ns (λ k e. at_is_some (first_value k ms) (first_value k ns) (f k) e))
+    and_true (is_covered [] ms ns) (has_keys ns ms)
+    (covered_from [] ms ns (λ k t fresh e. at_some (first_value k ms) (first_value k ns) t (f k) e))
+    (keys_from ms ns (λ k e. at_is_some (first_value k ms) (first_value k ns) (f k) e))
 
 -- a first value found is one of the values
-found_go : (b : Bool) (l : List ℕ) (u : Tree) (o : Option Tree) (t : Tree) (P : Tree → Type 0) → cond b (Some u) o ≡ Some t → P u → (o ≡ Some t → P t) → P t
+found_go : (b : Bool) (l : List ℕ) (u : Tree) (o : Option Tree) (t : Tree) (P : Tree → Type 0)
+    → cond b (Some u) o ≡ Some t → P u → (o ≡ Some t → P t) → P t
 found_go true l u o t P e here later = rw (← some_eq u t e) here
 found_go false l u o t P e here later = later e
 
@@ -173,7 +207,8 @@ mutual
   pub refl_tree : (t : Tree) → same t t ≡ true
   refl_tree (Leaf x) = scalar_refl x
   refl_tree (Array ts) = refl_items ts
-  refl_tree (Dictionary ms) = dict_from ms ms (λ k. refl_at (first_value k ms) (λ t e. refl_found ms k t e))
+  refl_tree (Dictionary ms) =
+      dict_from ms ms (λ k. refl_at (first_value k ms) (λ t e. refl_found ms k t e))
 
   refl_items : (ts : Trees) → same_items ts ts ≡ true
   refl_items NoTrees = refl
@@ -181,9 +216,12 @@ mutual
 
   refl_found : (ms : Members) (k : List ℕ) (t : Tree) → first_value k ms ≡ Some t → same t t ≡ true
   refl_found NoMembers k t e = absurd (cc)
-  refl_found (MemberAnd l u ms) k t e = found_go (bytes_eq k l) l u (first_value k ms) t (λ v. same v v ≡ true) e (refl_tree u) (λ rest. refl_found ms k t rest)
+  refl_found (MemberAnd l u ms) k t e =
+      found_go (bytes_eq k l) l u (first_value k ms) t (λ v. same v v ≡ true) e (refl_tree u)
+      (λ rest. refl_found ms k t rest)
 
-sym_at : (a b : Option Tree) → AreSameAt a b → ((t u : Tree) → a ≡ Some t → same t u ≡ true → same u t ≡ true) → AreSameAt b a
+sym_at : (a b : Option Tree) → AreSameAt a b
+    → ((t u : Tree) → a ≡ Some t → same t u ≡ true → same u t ≡ true) → AreSameAt b a
 sym_at None None h f = tt
 sym_at None (Some u) h f = absurd h
 sym_at (Some t) None h f = absurd h
@@ -193,7 +231,9 @@ mutual
   pub sym_tree : (t u : Tree) → same t u ≡ true → same u t ≡ true
   sym_tree (Leaf x) (Leaf y) h = rw (scalar_is x y h) (scalar_refl y)
   sym_tree (Array ts) (Array us) h = sym_items ts us h
-  sym_tree (Dictionary ms) (Dictionary ns) h = dict_from ns ms (λ k. sym_at (first_value k ms) (first_value k ns) (dict_to ms ns h k) (λ t u e. sym_found ms k t u e))
+  sym_tree (Dictionary ms) (Dictionary ns) h =
+      dict_from ns ms (λ k. sym_at (first_value k ms) (first_value k ns) (dict_to ms ns h k)
+      (λ t u e. sym_found ms k t u e))
   sym_tree (Leaf x) (Array us) h = absurd (cc)
   sym_tree (Leaf x) (Dictionary ns) h = absurd (cc)
   sym_tree (Array ts) (Leaf y) h = absurd (cc)
@@ -205,13 +245,20 @@ mutual
   sym_items NoTrees NoTrees h = refl
   sym_items NoTrees (TreeAnd u us) h = absurd (cc)
   sym_items (TreeAnd t ts) NoTrees h = absurd (cc)
-  sym_items (TreeAnd t ts) (TreeAnd u us) h = let p = both (same t u) (same_items ts us) h in and_true (same u t) (same_items us ts) (sym_tree t u p.0) (sym_items ts us p.1)
+  sym_items (TreeAnd t ts) (TreeAnd u us) h =
+      let p = both (same t u) (same_items ts us) h in
+      and_true (same u t) (same_items us ts) (sym_tree t u p.0) (sym_items ts us p.1)
 
-  sym_found : (ms : Members) (k : List ℕ) (t u : Tree) → first_value k ms ≡ Some t → same t u ≡ true → same u t ≡ true
+  sym_found : (ms : Members) (k : List ℕ) (t u : Tree) → first_value k ms ≡ Some t → same t u ≡ true
+      → same u t ≡ true
   sym_found NoMembers k t u e h = absurd (cc)
-  sym_found (MemberAnd l v ms) k t u e h = found_go (bytes_eq k l) l v (first_value k ms) t (λ w. same w u ≡ true → same u w ≡ true) e (λ g. sym_tree v u g) (λ rest g. sym_found ms k t u rest g) h
+  sym_found (MemberAnd l v ms) k t u e h =
+      found_go (bytes_eq k l) l v (first_value k ms) t (λ w. same w u ≡ true → same u w ≡ true) e
+      (λ g. sym_tree v u g) (λ rest g. sym_found ms k t u rest g) h
 
-trans_at : (a b c : Option Tree) → AreSameAt a b → AreSameAt b c → ((t u v : Tree) → a ≡ Some t → same t u ≡ true → same u v ≡ true → same t v ≡ true) → AreSameAt a c
+trans_at : (a b c : Option Tree) → AreSameAt a b → AreSameAt b c
+    → ((t u v : Tree) → a ≡ Some t → same t u ≡ true → same u v ≡ true → same t v ≡ true)
+    → AreSameAt a c
 trans_at None None c h g f = g
 trans_at None (Some u) c h g f = absurd h
 trans_at (Some t) None c h g f = absurd h
@@ -222,10 +269,13 @@ mutual
   pub trans_tree : (t u v : Tree) → same t u ≡ true → same u v ≡ true → same t v ≡ true
   trans_tree (Leaf x) (Leaf y) (Leaf z) h g = rw (scalar_is x y h) g
   trans_tree (Array ts) (Array us) (Array vs) h g = trans_items ts us vs h g
-  trans_tree (Dictionary ms) (Dictionary ns) (Dictionary os) h g = dict_from ms os (λ k. trans_at (first_value k ms) (first_value k ns) (first_value k os) (dict_to ms ns h k) (dict_to ns os g k) (λ t u v e. trans_found ms k t u v e))
+  trans_tree (Dictionary ms) (Dictionary ns) (Dictionary os) h g =
+      dict_from ms os (λ k. trans_at (first_value k ms) (first_value k ns) (first_value k os)
+      (dict_to ms ns h k) (dict_to ns os g k) (λ t u v e. trans_found ms k t u v e))
   trans_tree t u v h g = absurd (cc)
 
-  trans_items : (ts us vs : Trees) → same_items ts us ≡ true → same_items us vs ≡ true → same_items ts vs ≡ true
+  trans_items : (ts us vs : Trees) → same_items ts us ≡ true → same_items us vs ≡ true
+      → same_items ts vs ≡ true
   trans_items NoTrees NoTrees vs h g = g
   trans_items NoTrees (TreeAnd u us) vs h g = absurd (cc)
   trans_items (TreeAnd t ts) NoTrees vs h g = absurd (cc)
@@ -233,11 +283,15 @@ mutual
   trans_items (TreeAnd t ts) (TreeAnd u us) (TreeAnd v vs) h g =
       let p = both (same t u) (same_items ts us) h in
       let q = both (same u v) (same_items us vs) g in
-      and_true (same t v) (same_items ts vs) (trans_tree t u v p.0 q.0) (trans_items ts us vs p.1 q.1)
+      and_true (same t v) (same_items ts vs) (trans_tree t u v p.0 q.0)
+      (trans_items ts us vs p.1 q.1)
 
-  trans_found : (ms : Members) (k : List ℕ) (t u v : Tree) → first_value k ms ≡ Some t → same t u ≡ true → same u v ≡ true → same t v ≡ true
+  trans_found : (ms : Members) (k : List ℕ) (t u v : Tree) → first_value k ms ≡ Some t
+      → same t u ≡ true → same u v ≡ true → same t v ≡ true
   trans_found NoMembers k t u v e h g = absurd (cc)
-  trans_found (MemberAnd l w ms) k t u v e h g = found_go (bytes_eq k l) l w (first_value k ms) t (λ x. same x u ≡ true → same x v ≡ true) e (λ p. trans_tree w u v p g) (λ rest p. trans_found ms k t u v rest p g) h
+  trans_found (MemberAnd l w ms) k t u v e h g =
+      found_go (bytes_eq k l) l w (first_value k ms) t (λ x. same x u ≡ true → same x v ≡ true) e
+      (λ p. trans_tree w u v p g) (λ rest p. trans_found ms k t u v rest p g) h
 
 -- the laws of `==`, through a view
 module _ {V : Type 0} (tree : V → Tree) where
@@ -248,7 +302,13 @@ module _ {V : Type 0} (tree : V → Tree) where
   same_by_refl v = refl_tree (tree v)
 
   pub same_by_equiv : IsEquivalence same_by
-  same_by_equiv = equiv (record { symm = λ v w. both_ways (same_by v w) (same_by w v) (sym_tree (tree v) (tree w)) (sym_tree (tree w) (tree v)); trans = λ u v w. trans_tree (tree u) (tree v) (tree w) }) same_by_refl
+  same_by_equiv =
+      equiv (record {
+        symm = λ v w. both_ways (same_by v w) (same_by w v)
+            (sym_tree (tree v) (tree w)) (sym_tree (tree w) (tree v));
+        trans = λ u v w. trans_tree
+            (tree u) (tree v) (tree w);
+      }) same_by_refl
 
 -- the laws as a caller is told them
 pub symmetric : (t u : Tree) → same t u ≡ same u t
@@ -257,5 +317,6 @@ symmetric t u = both_ways (same t u) (same u t) (sym_tree t u) (sym_tree u t)
 pub scalars_alike : (x y : Scalar) → (same (Leaf x) (Leaf y) ≡ true) ↔ (x ≡ y)
 scalars_alike x y = (scalar_is x y, λ e. rw (sym e) (scalar_refl x))
 
-pub dictionaries_alike : (ms ns : Members) → (same (Dictionary ms) (Dictionary ns) ≡ true) ↔ ((k : List ℕ) → AreSameAt (first_value k ms) (first_value k ns))
+pub dictionaries_alike : (ms ns : Members) → (same (Dictionary ms) (Dictionary ns) ≡ true)
+    ↔ ((k : List ℕ) → AreSameAt (first_value k ms) (first_value k ns))
 dictionaries_alike ms ns = (dict_to ms ns, dict_from ms ns)

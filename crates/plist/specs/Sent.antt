@@ -5,7 +5,7 @@ use Rattle.plist_base.specs.Faults.{FaultKind, Io, OutOfMemory, PlistTooLarge}
 use Rattle.plist_base.specs.Trees.{Tree}
 use Rattle.plist_base.specs.Writing.{Answer}
 use Rattle.plist_binwrite.specs.Files.{IsFileOf}
-use Rattle.plist_binwrite.specs.Fronts.{AppendsFront}
+use Rattle.plist_base.specs.Fronts.{AppendsFront}
 use Rattle.plist_binwrite.specs.Sizes.{file_size}
 
 -- why no file of the tree is made: its size, which is 2^64 or more, or want of memory
@@ -15,12 +15,15 @@ StopsFile OutOfMemory tree = ⊤
 StopsFile kind tree = ⊥
 
 module _ {W : Type 0} (contents : W → Option (List ℕ)) where
-  -- the only refusals: of a device, after a beginning of a file of the tree; and where no file is made, and what takes the bytes is the same
+  -- the only refusals: of a device, after a beginning of a file of the tree; and where no file is
+  -- made, and what takes the bytes is the same
   abbrev pub StopsSending : FaultKind → Tree → (old new : W) → Type 0
-  StopsSending Io tree old new = (file : List ℕ) × IsFileOf tree file × AppendsFront (contents old) (contents new) file
+  StopsSending Io tree old new =
+      (file : List ℕ) × IsFileOf tree file × AppendsFront (contents old) (contents new) file
   StopsSending kind tree old new = StopsFile kind tree × (new ≡ old)
 
   -- a file of the tree goes out, or sending stops
   abbrev pub SendsTree : Tree → Answer → (old new : W) → Type 0
-  SendsTree tree (Ok done) old new = (file : List ℕ) × IsFileOf tree file × Appends (contents old) (contents new) file
+  SendsTree tree (Ok done) old new =
+      (file : List ℕ) × IsFileOf tree file × Appends (contents old) (contents new) file
   SendsTree tree (Err fault) old new = (fault.offset ≡ None) × StopsSending fault.kind tree old new

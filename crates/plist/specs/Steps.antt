@@ -1,8 +1,7 @@
 -- How an event carries on what a builder holds, one collection at a time.
 use Rattle.std.specs.Prelude.{ℕ, List, [], ◌∷◌, ◌++◌, Option, Some, None, option_and_then}
-use Rattle.plist_base.specs.Events.{PlainEvent, StartArray, StartDictionary, EndCollection, Boolean, Data, Date, Integer, Real, String, Uid}
-use Rattle.plist_base.specs.Trees as trees
-use Rattle.plist_base.specs.Trees.{Tree, Leaf, Array, Dictionary, trees_of, members_of}
+use Rattle.plist_base.specs.Events.{PlainEvent, StartArray, StartDictionary, EndCollection, Single}
+use Rattle.plist_base.specs.Trees.{Tree, Leaf, Array, Dictionary, String, trees_of, members_of}
 use Rattle.plist.specs.LastWins.{Rows}
 use Rattle.plist.specs.Building.{OpenCollection, InArray, InDictionary, AfterKey, Unfinished, NotBegun, Within, Complete}
 
@@ -24,23 +23,19 @@ module _ (add : Rows → List ℕ → Tree → Rows) where
   begun outer (StartArray length) = Some (Within (InArray []) outer)
   begun outer (StartDictionary length) = Some (Within (InDictionary []) outer)
   begun outer EndCollection = None
-  begun outer (Boolean value) = Some (and_tree (Leaf (trees.Boolean value)) outer)
-  begun outer (Data bytes) = Some (and_tree (Leaf (trees.Data bytes)) outer)
-  begun outer (Date bytes) = Some (and_tree (Leaf (trees.Date bytes)) outer)
-  begun outer (Integer value) = Some (and_tree (Leaf (trees.Integer value)) outer)
-  begun outer (Real bits) = Some (and_tree (Leaf (trees.Real bits)) outer)
-  begun outer (String text) = Some (and_tree (Leaf (trees.String text)) outer)
-  begun outer (Uid uid) = Some (and_tree (Leaf (trees.Uid uid)) outer)
+  begun outer (Single scalar) = Some (and_tree (Leaf scalar) outer)
 
   -- where an item or an array's end is to come
-  abbrev pub in_array : (items : List Tree) → (outer : List OpenCollection) → PlainEvent → Option Unfinished
+  abbrev pub in_array : (items : List Tree) → (outer : List OpenCollection) → PlainEvent
+      → Option Unfinished
   in_array items outer EndCollection = Some (and_tree (Array (trees_of items)) outer)
   in_array items outer event = begun (InArray items ∷ outer) event
 
   -- where a key or a dictionary's end is to come
-  abbrev pub in_dictionary : (pairs : Rows) → (outer : List OpenCollection) → PlainEvent → Option Unfinished
+  abbrev pub in_dictionary : (pairs : Rows) → (outer : List OpenCollection) → PlainEvent
+      → Option Unfinished
   in_dictionary pairs outer EndCollection = Some (and_tree (Dictionary (members_of pairs)) outer)
-  in_dictionary pairs outer (String key) = Some (Within (AfterKey pairs key) outer)
+  in_dictionary pairs outer (Single (String key)) = Some (Within (AfterKey pairs key) outer)
   in_dictionary pairs outer event = None
 
   -- what is held after the event, unless it can't come
@@ -54,7 +49,8 @@ module _ (add : Rows → List ℕ → Tree → Rows) where
   -- what is held after these events, unless one can't come
   abbrev pub carried_through : Unfinished → List PlainEvent → Option Unfinished
   carried_through unfinished [] = Some unfinished
-  carried_through unfinished (event ∷ events) = option_and_then (λ after. carried_through after events) (carried_on unfinished event)
+  carried_through unfinished (event ∷ events) =
+      option_and_then (λ after. carried_through after events) (carried_on unfinished event)
 
   -- what is held after a tree
   abbrev pub and_value : Tree → Unfinished → Unfinished

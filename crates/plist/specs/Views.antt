@@ -2,15 +2,15 @@
 use Rattle.std.specs.Prelude.{ℕ, List, map, string_bytes}
 use Rattle.plist_base.specs.declared.error.EventKind.{EventKind}
 use Rattle.plist_base.specs.declared.error.EventKind.TheVariants as kind
-use Rattle.plist_base.specs.Events.{kind_of_event}
-use Rattle.plist_base.specs.Bracketing.{event_of_scalar}
+use Rattle.plist_base.specs.Events.{kind_of_scalar}
 use Rattle.plist_base.specs.Trees.{Tree, Leaf, Array, Dictionary, Trees, Members, trees_of, members_of}
 use Rattle.plist_base.specs.Trees as tree
 use Rattle.plist.specs.LastWins.{last_values}
 use Rattle.plist.specs.declared.value.Value.{Value, fold-Value}
 use Rattle.plist.specs.declared.value.Value.TheOpen.{Value-F}
 
--- the tree of a value whose items and values are trees already; a dictionary's keys stand once each, so its last values are its pairs
+-- the tree of a value whose items and values are trees already; a dictionary's keys stand once
+-- each, so its last values are its pairs
 abbrev pub tree_step : Value-F Tree → Tree
 tree_step (Value-F.Array items) = Array (trees_of items.items)
 tree_step (Value-F.Dictionary pairs) = Dictionary (members_of (last_values pairs))
@@ -40,6 +40,6 @@ pair_trees pairs = members_of (last_values (tree_pairs pairs))
 
 -- the kind of a tree's first event
 abbrev pub kind_of_tree : Tree → EventKind
-kind_of_tree (Leaf scalar) = kind_of_event (event_of_scalar scalar)
+kind_of_tree (Leaf scalar) = kind_of_scalar scalar
 kind_of_tree (Array items) = kind.StartArray
 kind_of_tree (Dictionary pairs) = kind.StartDictionary

@@ -1,7 +1,7 @@
 //! Proved callers of what the crate offers: `Value::from_events` over owned and borrowed events,
 //! entries of dictionaries, and `==` with its laws.
 
-ghost use Rattle.std.specs.Prelude.{◌≡◌, ◌↔◌, IfErr, IfSome, OnErr, OnOk, OnSome, List, ℕ, string_bytes, true};
+ghost use Rattle.std.specs.Prelude.{◌≡◌, ◌↔◌, IfErr, IfSome, OnErr, OnOk, OnSome, string_bytes, true};
 ghost use Rattle.std.specs.Map.{lookup};
 ghost use Rattle.std.specs.Str.{bytes_eq};
 ghost use Rattle.indexmap.specs.IndexMap.{insert_entry, swap_remove_entry};
@@ -9,7 +9,7 @@ ghost use Rattle.plist_base.specs.Trees.{Dictionary, Leaf, Members, Scalar, Tree
 ghost use Rattle.plist_binread.specs.Unfolding.{items_of_file};
 ghost use Rattle.plist.specs.Collecting.{built_tree};
 ghost use Rattle.plist.specs.Inputs.{GivesBack, IsReadFrom};
-ghost use Rattle.plist.specs.Same.{AreSameAt, first_value, same, same_pairs};
+ghost use Rattle.plist.specs.Same.{AreSameEverywhere, same, same_pairs};
 ghost use Rattle.plist.specs.Views.{pair_trees, tree_of};
 
 use crate::dictionary::Entry;
@@ -45,8 +45,7 @@ pub fn are_equal(value: &Value, other: &Value) -> bool
     ensures scalars { (left right : Scalar)
         → (same (Leaf left) (Leaf right) ≡ true) ↔ (left ≡ right) }
     ensures dictionaries { (left right : Members)
-        → (same (Dictionary left) (Dictionary right) ≡ true)
-        ↔ ((key : List ℕ) → AreSameAt (first_value key left) (first_value key right)) }
+        → (same (Dictionary left) (Dictionary right) ≡ true) ↔ AreSameEverywhere left right }
 {
     value == other
 }
@@ -76,6 +75,24 @@ pub fn set_by_entry<V: Drop>(
     ensures handed_back { IfErr result (λ back. back ≡ (key, first)) }
 {
     let place = pairs.entry(key).or_insert(first)?;
+    *place = value;
+    Ok(())
+}
+
+/// Sets a key's value through its entry, for which a first one is made where the key isn't there.
+pub fn set_by_made_entry<V: Drop, F: FnOnce() -> V>(
+    pairs: &mut Pairs<V>,
+    key: String,
+    first: F,
+    value: V,
+) -> Result<(), (String, V)>
+    requires { F.pre first }
+    ensures done { OnOk result
+        (pairs.new ≡ insert_entry bytes_eq pairs.old (string_bytes key) value) }
+    ensures refused { OnErr result (pairs.new ≡ pairs.old) }
+    ensures handed_back { IfErr result (λ back. (back.0 ≡ key) × F.post first back.1) }
+{
+    let place = pairs.entry(key).or_insert_with(first)?;
     *place = value;
     Ok(())
 }

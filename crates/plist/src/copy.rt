@@ -1,7 +1,7 @@
 //! Copies of values.
 
-ghost use Rattle.std.specs.Prelude.{◌≡◌, IfOk, IfErr, map};
-ghost use Rattle.plist_base.specs.Faults.{OutOfMemory, fault_nowhere, fault_of};
+ghost use Rattle.std.specs.Prelude.{◌≡◌, IfOk, map};
+ghost use Rattle.plist_base.specs.Outcomes.{OnlyMemory};
 ghost use Rattle.plist.specs.Views.{tree_of, tree_pairs};
 
 use crate::{Dictionary, Value};
@@ -61,7 +61,7 @@ impl Dictionary {
     /// `OutOfMemory`.
     pub fn clone(&self) -> Result<Dictionary, Error>
         ensures copy { IfOk result (λ copy. tree_pairs copy ≡ tree_pairs self.now) }
-        ensures memory { IfErr result (λ error. fault_of error ≡ fault_nowhere OutOfMemory) }
+        ensures memory { OnlyMemory result }
     {
         Ok(copy_pairs(self.allocator(), self)?)
     }

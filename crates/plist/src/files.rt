@@ -3,7 +3,8 @@
 ghost use Rattle.std.specs.Prelude.{◌≡◌, None, IfErr, IsSome, OnOk};
 ghost use Rattle.std.specs.Io.{WritesAtMost};
 ghost use Rattle.std.specs.Io.KnownBytes.{WriteAppends};
-ghost use Rattle.plist_base.specs.Faults.{Io, fault_of, fault_nowhere};
+ghost use Rattle.plist_base.specs.Faults.{fault_of};
+ghost use Rattle.plist_base.specs.Outcomes.{OnlyDevice};
 ghost use Rattle.plist_base.specs.Writing.{answer_of};
 ghost use Rattle.plist.specs.Sent.{SendsTree};
 ghost use Rattle.plist.specs.Stored.{IsUnstored};
@@ -66,7 +67,7 @@ impl<'a, R: Files> Output<'a, R> {
 
     // Has the system store what was written.
     fn sync(&self) -> Result<(), Error>
-        ensures { IfErr result (λ error. fault_of error ≡ fault_nowhere Io) }
+        ensures { OnlyDevice result }
     {
         let Some(file) = &self.file else {
             return Ok(());
@@ -88,8 +89,8 @@ impl<'a, R: Files> Output<'a, R> {
 }
 
 impl Value {
-    /// The value of the file of this name, binary or in ASCII as [`Value::from_reader`] chooses. Each
-    /// read of the file fills a window of 8 KiB, from which most bytes are taken.
+    /// The value of the file of this name, binary or in ASCII as [`Value::from_reader`] chooses.
+    /// Each read of the file fills a window of 8 KiB, from which most bytes are taken.
     ///
     /// # Errors
     ///

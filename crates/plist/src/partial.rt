@@ -2,12 +2,13 @@
 
 ghost use Rattle.std.specs.Prelude.{◌≡◌, None, Some, MatchOption, OnOk, option_map, string_bytes};
 ghost use Rattle.plist_base.specs.Events as events;
-ghost use Rattle.plist_base.specs.Events.{event_of};
+ghost use Rattle.plist_base.specs.Events.{Single, event_of};
 ghost use Rattle.plist_base.specs.Faults.{kind_of};
+ghost use Rattle.plist_base.specs.Trees as scalar;
 ghost use Rattle.plist.specs.Building.{NotBegun, Within, complete_tree, refusal_of, refusal_of_key, refusal_of_value};
 ghost use Rattle.plist.specs.LastWins.{with_pair};
-ghost use Rattle.plist.specs.Partials.{collections_of, open_of, unfinished_of};
-ghost use Rattle.plist.specs.Steps.{and_tree, carried_on};
+ghost use Rattle.plist.specs.Partials.{CarriesOn, collections_of, open_of, unfinished_of};
+ghost use Rattle.plist.specs.Steps.{and_tree};
 ghost use Rattle.plist.specs.Views.{tree_of};
 
 use crate::{Dictionary, Value};
@@ -134,8 +135,7 @@ impl Partial {
     fn end(&mut self) -> Result<(), AllocError>
         requires place { refusal_of (unfinished_of self.old) events.EndCollection ≡ None }
         requires root { self.old.root ≡ None }
-        ensures { OnOk result (carried_on with_pair (unfinished_of self.old) events.EndCollection
-            ≡ Some (unfinished_of self.new)) }
+        ensures { OnOk result (CarriesOn self.old events.EndCollection self.new) }
     {
         match self.collections.pop() {
             Some(Open::Array(items)) => self.add(Value::Array(items)),
@@ -147,8 +147,8 @@ impl Partial {
     // Puts a text where it belongs, as a key or as a value.
     fn add_text(&mut self, text: String) -> Result<(), AllocError>
         requires { self.old.root ≡ None }
-        ensures { OnOk result (carried_on with_pair (unfinished_of self.old)
-            (events.String (string_bytes text)) ≡ Some (unfinished_of self.new)) }
+        ensures { OnOk result
+            (CarriesOn self.old (Single (scalar.String (string_bytes text))) self.new) }
     {
         match self.collections.pop() {
             Some(Open::Dictionary(pairs)) => {
@@ -168,8 +168,7 @@ impl Partial {
     /// After a failure what is held isn't known.
     pub(crate) fn take(&mut self, alloc: Global, event: Event<'_>) -> Result<(), AllocError>
         requires { refusal_of (unfinished_of self.old) (event_of event) ≡ None }
-        ensures { OnOk result (carried_on with_pair (unfinished_of self.old) (event_of event.entry)
-            ≡ Some (unfinished_of self.new)) }
+        ensures { OnOk result (CarriesOn self.old (event_of event.entry) self.new) }
     {
         match event {
             Event::StartArray(_) => self.begin(Open::Array(Vec::new(alloc))),

@@ -1,22 +1,20 @@
 //! Values of property lists.
 
-ghost use Rattle.std.specs.Prelude.{◌≡◌, IfErr, IfOk, IfSome};
+ghost use Rattle.std.specs.Prelude.{◌≡◌, IfOk, IfSome};
 ghost use Rattle.std.specs.Iterator.{IsFinite};
 ghost use Rattle.plist_base.specs.Bracketing.{AreAlike, bracketing};
 ghost use Rattle.plist_base.specs.Writing.{answer_of};
 ghost use Rattle.plist.specs.Sent.{SendsTree};
 ghost use Rattle.plist.specs.Collecting.{Collects, built_tree};
 ghost use Rattle.plist.specs.Inputs.{AnswersAsSeen, IsReadFrom};
-ghost use Rattle.plist.specs.ReadBy.{IsReadBy};
+ghost use Rattle.plist.specs.ReadBy.{IsReadAsAscii, IsReadBy};
 ghost use Rattle.plist.specs.ReadingBack.{ReadsBack};
-ghost use Rattle.plist_base.specs.Events.{event_of};
 ghost use Rattle.plist_base.specs.Limits.{limited_items};
 ghost use Rattle.plist_ascii.specs.Ascii.{items_of_ascii};
-ghost use Rattle.plist_ascii.specs.Coming.{Gives as ascii_gives, dialect_of, inner_of};
 ghost use Rattle.plist_ascii.specs.Texts.{ends_bare, lax};
-ghost use Rattle.plist_reader.specs.Coming.{items_of_input};
+ghost use Rattle.plist_reader.specs.Reader.{items_of_input};
 ghost use Rattle.plist_reader.specs.Formats.{front};
-ghost use Rattle.plist_base.specs.Faults.{OutOfMemory, fault_nowhere, fault_of};
+ghost use Rattle.plist_base.specs.Outcomes.{OnlyMemory};
 ghost use Rattle.plist_base.specs.Trees.{Leaf, String, Tree};
 ghost use Rattle.plist.specs.LastWins.{AreLastValues, Rows, last_values, last_wins};
 ghost use Rattle.plist.specs.Limiting.{IsReadUnder, IsWithin};
@@ -100,9 +98,9 @@ impl Value {
         collect(alloc, events.into_iter())
     }
 
-    /// The value of a source, binary or in ASCII as [`Reader`] chooses. A key that comes again keeps
-    /// its first place and takes its last value. A binary file that is written of a value gives that
-    /// value, in order.
+    /// The value of a source, binary or in ASCII as [`Reader`] chooses. A key that comes again
+    /// keeps its first place and takes its last value. A binary file that is written of a value
+    /// gives that value, in order.
     ///
     /// # Errors
     ///
@@ -127,8 +125,8 @@ impl Value {
     ///
     /// # Errors
     ///
-    /// - `LimitReached` in the place of the first event that is one too many, or else of a start that
-    ///   would open one collection too many, unless an earlier item was refused.
+    /// - `LimitReached` in the place of the first event that is one too many, or else of a start
+    ///   that would open one collection too many, unless an earlier item was refused.
     /// - Those of [`Value::from_reader`].
     pub fn from_reader_with_limits<R: Source>(
         alloc: Global,
@@ -154,8 +152,8 @@ impl Value {
     pub fn from_reader_ascii<R: Bytes + Drop>(alloc: Global, reader: R) -> Result<Value, Error>
         ensures value { IfSome (R.remaining reader) (λ bytes.
             IsReadFrom (items_of_ascii lax (front bytes) 0) (built_tree result)) }
-        ensures read { (ascii : AsciiReader R) × (inner_of ascii ≡ reader)
-            × Collects event_of (ascii_gives R.remaining R.failures) ascii (built_tree result) }
+        ensures read { IsReadAsAscii R.remaining R.failures reader Dialect.Lax
+            (built_tree result) }
     {
         Value::from_reader_ascii_with_dialect(alloc, reader, Dialect::Lax)
     }
@@ -173,9 +171,7 @@ impl Value {
     ) -> Result<Value, Error>
         ensures value { IfSome (R.remaining reader) (λ bytes.
             IsReadFrom (items_of_ascii (ends_bare dialect) (front bytes) 0) (built_tree result)) }
-        ensures read { (ascii : AsciiReader R) × (inner_of ascii ≡ reader)
-            × (dialect_of ascii ≡ dialect)
-            × Collects event_of (ascii_gives R.remaining R.failures) ascii (built_tree result) }
+        ensures read { IsReadAsAscii R.remaining R.failures reader dialect (built_tree result) }
     {
         collect(alloc, AsciiReader::with_dialect(alloc, reader, dialect))
     }
@@ -187,7 +183,7 @@ impl Value {
     /// `OutOfMemory`.
     pub fn clone(&self, alloc: Global) -> Result<Value, Error>
         ensures copy { IfOk result (λ copy. tree_of copy ≡ tree_of self.now) }
-        ensures memory { IfErr result (λ error. fault_of error ≡ fault_nowhere OutOfMemory) }
+        ensures memory { OnlyMemory result }
     {
         Ok(copy(alloc, self)?)
     }
@@ -199,7 +195,7 @@ impl Value {
     /// `OutOfMemory`.
     pub fn try_from_str(alloc: Global, text: &str) -> Result<Value, Error>
         ensures value { IfOk result (λ value. tree_of value ≡ Leaf (String text.now)) }
-        ensures memory { IfErr result (λ error. fault_of error ≡ fault_nowhere OutOfMemory) }
+        ensures memory { OnlyMemory result }
     {
         Ok(Value::String(String::from_str(alloc, text)?))
     }

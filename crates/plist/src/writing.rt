@@ -1,9 +1,9 @@
 //! Values as the events that a writer takes.
 
-ghost use Rattle.std.specs.Prelude.{◌≡◌, map, IfOk, IfErr};
+ghost use Rattle.std.specs.Prelude.{◌≡◌, map, IfOk};
 ghost use Rattle.plist_base.specs.Bracketing.{bracketing};
 ghost use Rattle.plist_base.specs.Events.{event_of, item_of};
-ghost use Rattle.plist_base.specs.Faults.{OutOfMemory, fault_of, fault_nowhere};
+ghost use Rattle.plist_base.specs.Outcomes.{OnlyMemory};
 ghost use Rattle.plist_base.specs.Writing.{answer_of};
 ghost use Rattle.plist.specs.Handing.{Hands, HandsItem};
 ghost use Rattle.plist.specs.Views.{tree_of};
@@ -46,8 +46,9 @@ pub fn write_value<W: Writer>(alloc: Global, value: &Value, writer: &mut W) -> R
 ///
 /// `OutOfMemory`, without an offset.
 pub fn collect_events<'a>(alloc: Global, value: &'a Value) -> Result<Vec<Event<'a>>, Error>
-    ensures events { IfOk result (λ events. map event_of events.items ≡ bracketing (tree_of value.now)) }
-    ensures memory { IfErr result (λ error. fault_of error ≡ fault_nowhere OutOfMemory) }
+    ensures events { IfOk result (λ events.
+        map event_of events.items ≡ bracketing (tree_of value.now)) }
+    ensures memory { OnlyMemory result }
 {
     let mut events = Vec::new(alloc);
     let mut left = value.events(alloc);

@@ -12,16 +12,31 @@ differ : {b : Bool} → b ≡ true → b ≡ false → ⊥
 differ e h = cc
 
 module _ {X A : Type 0} (view : X → A) where
-  pub answers_same : (front back : List ℕ → Taken A) (old : Option (List ℕ)) (p : ℕ) (new : Option (List ℕ)) (q : ℕ) (r : Result X Error)
-      → ((xs : List ℕ) → front xs ≡ back xs) → Answers view back old p new q r → Answers view front old p new q r
-  answers_same front back old p new q (Ok x) same a = (a.0, λ xs e. let P : Taken A → Type 0 = λ t. TakesFront t (Ok (view x)) new p q xs in subst P (sym (same xs)) (a.1 xs e))
-  answers_same front back old p new q (Err f) same a =
-      (a.0, a.1, λ d xs e. let P : Taken A → Type 0 = λ t. TakesFront t (Err (kind_of (error_kind_of f))) new p q xs in subst P (sym (same xs)) (a.2 d xs e))
+  pub answers_same : (front back : List ℕ → Taken A) (old : Option (List ℕ)) (p : ℕ)
+      (new : Option (List ℕ)) (q : ℕ) (r : Result X Error)
+      → ((xs : List ℕ) → front xs ≡ back xs) → Answers view back old p new q r
+      → Answers view front old p new q r
+  answers_same front back old p new q (Ok x) same a = (
+    a.0,
+    λ xs e. let P : Taken A → Type 0 = λ t. TakesFront t (Ok (view x)) new p q xs in subst P
+        (sym (same xs)) (a.1 xs e),
+  )
+  answers_same front back old p new q (Err f) same a = (
+    a.0,
+    a.1,
+    λ d xs e. let P : Taken A
+        → Type 0 = λ t. TakesFront t (Err (kind_of (error_kind_of f))) new p q xs in subst P
+        (sym (same xs)) (a.2 d xs e),
+  )
 
-  front_past : (t : Taken A) (g : Result A FaultKind) (new : Option (List ℕ)) (p m q c : ℕ) (ys : List ℕ) → m ≡ p + 1 → TakesFront t g new m q ys → TakesFront (past_one t) g new p q (c ∷ ys)
+  front_past : (t : Taken A) (g : Result A FaultKind) (new : Option (List ℕ)) (p m q c : ℕ)
+      (ys : List ℕ) → m ≡ p + 1 → TakesFront t g new m q ys
+      → TakesFront (past_one t) g new p q (c ∷ ys)
   front_past t g new p m q c ys e f = let place : q ≡ m + t.bytes = f.2 in (f.0, f.1, omega arith)
 
-  front_at : (front : List ℕ → Taken A) (back : Taken A) (g : Result A FaultKind) (new : Option (List ℕ)) (p m q c : ℕ) (xs ys : List ℕ) → xs ≡ c ∷ ys → front (c ∷ ys) ≡ past_one back → m ≡ p + 1
+  front_at : (front : List ℕ → Taken A) (back : Taken A) (g : Result A FaultKind)
+      (new : Option (List ℕ)) (p m q c : ℕ) (xs ys : List ℕ) → xs ≡ c ∷ ys
+      → front (c ∷ ys) ≡ past_one back → m ≡ p + 1
       → TakesFront back g new m q ys → TakesFront (front xs) g new p q xs
   front_at front back g new p m q c xs ys e h s f =
       let P : Taken A → Type 0 = λ t. TakesFront t g new p q (c ∷ ys) in
@@ -29,18 +44,34 @@ module _ {X A : Type 0} (view : X → A) where
       subst Q (sym e) (subst P (sym h) (front_past back g new p m q c ys s f))
 
   -- a byte was taken, and then what is behind it
-  pub answers_past : (front back : List ℕ → Taken A) (old mid : Option (List ℕ)) (c p m : ℕ) (new : Option (List ℕ)) (q : ℕ) (r : Result X Error)
-      → Takes old c mid → m ≡ p + 1 → ((ys : List ℕ) → front (c ∷ ys) ≡ past_one (back ys)) → Answers view back mid m new q r → Answers view front old p new q r
-  answers_past front back old mid c p m new q (Ok x) t s h a =
-      (let le : m ≤ q = a.0 in omega arith, λ xs e. let k = t xs e in front_at front (back k.0) _ new p m q c xs k.0 k.1 (h k.0) s (a.1 k.0 k.2))
-  answers_past front back old mid c p m new q (Err f) t s h a =
-      (a.0, let le : m ≤ q = a.1 in omega arith, λ d xs e. let k = t xs e in front_at front (back k.0) _ new p m q c xs k.0 k.1 (h k.0) s (a.2 d k.0 k.2))
+  pub answers_past : (front back : List ℕ → Taken A) (old mid : Option (List ℕ)) (c p m : ℕ)
+      (new : Option (List ℕ)) (q : ℕ) (r : Result X Error)
+      → Takes old c mid → m ≡ p + 1 → ((ys : List ℕ) → front (c ∷ ys) ≡ past_one (back ys))
+      → Answers view back mid m new q r → Answers view front old p new q r
+  answers_past front back old mid c p m new q (Ok x) t s h a = (
+    let le : m ≤ q = a.0 in omega arith,
+    λ xs e. let k = t xs e in front_at front (back k.0) _
+        new p m q c xs k.0 k.1 (h k.0) s (a.1 k.0 k.2),
+  )
+  answers_past front back old mid c p m new q (Err f) t s h a = (
+    a.0,
+    let le : m ≤ q = a.1 in omega arith,
+    λ d xs e. let k = t xs e in front_at front
+        (back k.0) _ new p m q c xs k.0 k.1 (h k.0) s (a.2 d k.0 k.2),
+  )
 
   -- nothing was taken
-  pub answers_here : (front : List ℕ → Taken A) (old : Option (List ℕ)) (p : ℕ) (x : X) → ((xs : List ℕ) → front xs ≡ taken 0 (Ok (view x))) → Answers view front old p old p (Ok x)
-  answers_here front old p x h = (omega arith, λ xs e. let P : Taken A → Type 0 = λ t. TakesFront t (Ok (view x)) old p p xs in subst P (sym (h xs)) (refl, e, omega arith))
+  pub answers_here : (front : List ℕ → Taken A) (old : Option (List ℕ)) (p : ℕ) (x : X)
+      → ((xs : List ℕ) → front xs ≡ taken 0 (Ok (view x))) → Answers view front old p old p (Ok x)
+  answers_here front old p x h = (
+    omega arith,
+    λ xs e. let P : Taken A
+        → Type 0 = λ t. TakesFront t (Ok (view x)) old p p xs in subst P (sym (h xs))
+        (refl, e, omega arith),
+  )
 
-  pub answers_fault : (front : List ℕ → Taken A) (old : Option (List ℕ)) (p : ℕ) (f : Error) (k : FaultKind) → fault_of f ≡ fault_at k p → IsFaultOfBytes k
+  pub answers_fault : (front : List ℕ → Taken A) (old : Option (List ℕ)) (p : ℕ) (f : Error)
+      (k : FaultKind) → fault_of f ≡ fault_at k p → IsFaultOfBytes k
       → ((xs : List ℕ) → front xs ≡ taken 0 (Err k)) → Answers view front old p old p (Err f)
   answers_fault front old p f k s i h = (
     is_at_inside f k p s i,
@@ -51,8 +82,11 @@ module _ {X A : Type 0} (view : X → A) where
   )
 
   -- the input ended where a byte had to be taken
-  pub answers_unclosed : (front : List ℕ → Taken A) (old : Option (List ℕ)) (p : ℕ) (new : Option (List ℕ)) (q : ℕ) (f : Error)
-      → IsAt (fault_of f) q × (is_from_outside (kind_of (error_kind_of f)) ≡ false → (fault_of f ≡ fault_at UnclosedString q) × Known old (λ xs. (new ≡ Some xs) × (xs ≡ [])))
+  pub answers_unclosed : (front : List ℕ → Taken A) (old : Option (List ℕ)) (p : ℕ)
+      (new : Option (List ℕ)) (q : ℕ) (f : Error)
+      → IsAt (fault_of f) q × (is_from_outside (kind_of (error_kind_of f)) ≡ false
+      → (fault_of f ≡ fault_at UnclosedString q)
+      × Known old (λ xs. (new ≡ Some xs) × (xs ≡ [])))
       → q ≡ p → front [] ≡ taken 0 (Err UnclosedString) → Answers view front old p new q (Err f)
   answers_unclosed front old p new q f a same h = (
     a.0,
@@ -61,72 +95,107 @@ module _ {X A : Type 0} (view : X → A) where
         let b = a.1 d in
         let k = b.1 xs e in
         let P : Taken A → Type 0 = λ t. TakesFront t (Err (kind_of (error_kind_of f))) new p q [] in
-        let Q : List ℕ → Type 0 = λ zs. TakesFront (front zs) (Err (kind_of (error_kind_of f))) new p q zs in
-        subst Q (sym k.1) (subst P (sym h) (ap Err (kind_said f UnclosedString q b.0), k.0 ∙ ap Some k.1, omega arith)),
+        let Q : List ℕ → Type 0 = λ zs. TakesFront (front zs) (Err (kind_of (error_kind_of f))) new
+        p q zs in
+        subst Q (sym k.1) (subst P (sym h)
+        (ap Err (kind_said f UnclosedString q b.0), k.0 ∙ ap Some k.1, omega arith)),
   )
 
   -- a fault from outside
-  pub answers_outside : (front : List ℕ → Taken A) (old : Option (List ℕ)) (p : ℕ) (new : Option (List ℕ)) (q : ℕ) (f : Error)
-      → IsAt (fault_of f) q × (is_from_outside (kind_of (error_kind_of f)) ≡ true) → p ≤ q → Answers view front old p new q (Err f)
+  pub answers_outside : (front : List ℕ → Taken A) (old : Option (List ℕ)) (p : ℕ)
+      (new : Option (List ℕ)) (q : ℕ) (f : Error)
+      → IsAt (fault_of f) q × (is_from_outside (kind_of (error_kind_of f)) ≡ true) → p ≤ q
+      → Answers view front old p new q (Err f)
   answers_outside front old p new q f h le = (h.0, le, λ d. absurd (differ h.1 d))
 
-  pub answers_io : (front : List ℕ → Taken A) (old : Option (List ℕ)) (p : ℕ) (new : Option (List ℕ)) (q : ℕ) (f : Error)
+  pub answers_io : (front : List ℕ → Taken A) (old : Option (List ℕ)) (p : ℕ)
+      (new : Option (List ℕ)) (q : ℕ) (f : Error)
       → fault_of f ≡ fault_at Io q → p ≤ q → Answers view front old p new q (Err f)
-  answers_io front old p new q f h le = answers_outside front old p new q f (is_at_io f q h, outside_io f q h) le
+  answers_io front old p new q f h le =
+      answers_outside front old p new q f (is_at_io f q h, outside_io f q h) le
 
-  pub answers_memory : (front : List ℕ → Taken A) (old : Option (List ℕ)) (p : ℕ) (new : Option (List ℕ)) (q : ℕ) (f : Error)
+  pub answers_memory : (front : List ℕ → Taken A) (old : Option (List ℕ)) (p : ℕ)
+      (new : Option (List ℕ)) (q : ℕ) (f : Error)
       → fault_of f ≡ fault_nowhere OutOfMemory → p ≤ q → Answers view front old p new q (Err f)
-  answers_memory front old p new q f h le = answers_outside front old p new q f (is_at_memory f q h, outside_memory f h) le
+  answers_memory front old p new q f h le =
+      answers_outside front old p new q f (is_at_memory f q h, outside_memory f h) le
 
-pub front_from : {A : Type 0} (t : Taken A) (g : Result A FaultKind) (new : Option (List ℕ)) (p q n : ℕ) (xs : List ℕ) → t ≡ taken n g → new ≡ Some (drop n xs) → q ≡ p + n → TakesFront t g new p q xs
-front_from {A} t g new p q n xs e u s = let P : Taken A → Type 0 = λ t. TakesFront t g new p q xs in subst P (sym e) (refl, u, s)
+pub front_from : {A : Type 0} (t : Taken A) (g : Result A FaultKind) (new : Option (List ℕ))
+    (p q n : ℕ) (xs : List ℕ) → t ≡ taken n g → new ≡ Some (drop n xs) → q ≡ p + n
+    → TakesFront t g new p q xs
+front_from {A} t g new p q n xs e u s =
+    let P : Taken A → Type 0 = λ t. TakesFront t g new p q xs in subst P (sym e) (refl, u, s)
 
 -- the next byte was only looked at
-pub answers_looked : {X A : Type 0} (view : X → A) (front back : List ℕ → Taken A) (old mid : Option (List ℕ)) (p m : ℕ) (new : Option (List ℕ)) (q : ℕ) (r : Result X Error)
-    → Known old (λ xs. (mid ≡ Some xs) × (front xs ≡ back xs)) → m ≡ p → Answers view back mid m new q r → Answers view front old p new q r
+pub answers_looked : {X A : Type 0} (view : X → A) (front back : List ℕ → Taken A)
+    (old mid : Option (List ℕ)) (p m : ℕ) (new : Option (List ℕ)) (q : ℕ) (r : Result X Error)
+    → Known old (λ xs. (mid ≡ Some xs) × (front xs ≡ back xs)) → m ≡ p
+    → Answers view back mid m new q r → Answers view front old p new q r
 answers_looked {X} {A} view front back old mid p m new q (Ok x) h s a = (
   let le : m ≤ q = a.0 in omega arith,
   λ xs e. let k = h xs e in let b = a.1 xs k.0 in
-      let P : Taken A → Type 0 = λ t. TakesFront t (Ok (view x)) new p q xs in subst P (sym k.1) (b.0, b.1, let place : q ≡ m + (back xs).bytes = b.2 in omega arith),
+      let P : Taken A → Type 0 = λ t. TakesFront t (Ok (view x)) new p q xs in subst P (sym k.1)
+      (b.0, b.1, let place : q ≡ m + (back xs).bytes = b.2 in omega arith),
 )
 answers_looked {X} {A} view front back old mid p m new q (Err f) h s a = (
   a.0,
   let le : m ≤ q = a.1 in omega arith,
   λ d xs e. let k = h xs e in let b = a.2 d xs k.0 in
-      let P : Taken A → Type 0 = λ t. TakesFront t (Err (kind_of (error_kind_of f))) new p q xs in subst P (sym k.1) (b.0, b.1, let place : q ≡ m + (back xs).bytes = b.2 in omega arith),
+      let P : Taken A → Type 0 = λ t. TakesFront t (Err (kind_of (error_kind_of f))) new p q xs in
+      subst P (sym k.1) (b.0, b.1, let place : q ≡ m + (back xs).bytes = b.2 in omega arith),
 )
 
 -- one part, and then what follows it
 
 module _ {A B : Type 0} (front : List ℕ → Taken A) (next : A → List ℕ → Taken B) where
-  followed_ok : (xs : List ℕ) (t : Taken A) (a : A) → t.gives ≡ Ok a → followed xs t next ≡ past t.bytes (next a (drop t.bytes xs))
+  followed_ok : (xs : List ℕ) (t : Taken A) (a : A) → t.gives ≡ Ok a
+      → followed xs t next ≡ past t.bytes (next a (drop t.bytes xs))
   followed_ok xs t a e = ap (λ g. past_outcome xs t.bytes g next) e
 
-  followed_err : (xs : List ℕ) (t : Taken A) (k : FaultKind) → t.gives ≡ Err k → followed xs t next ≡ taken t.bytes (Err k)
+  followed_err : (xs : List ℕ) (t : Taken A) (k : FaultKind) → t.gives ≡ Err k
+      → followed xs t next ≡ taken t.bytes (Err k)
   followed_err xs t k e = ap (λ g. past_outcome xs t.bytes g next) e
 
-  front_then : (xs : List ℕ) (t : Taken A) (a : A) (mid : Option (List ℕ)) (p m : ℕ) (g : Result B FaultKind) (new : Option (List ℕ)) (q : ℕ)
-      → TakesFront t (Ok a) mid p m xs → TakesFront (next a (drop t.bytes xs)) g new m q (drop t.bytes xs) → TakesFront (followed xs t next) g new p q xs
+  front_then : (xs : List ℕ) (t : Taken A) (a : A) (mid : Option (List ℕ)) (p m : ℕ)
+      (g : Result B FaultKind) (new : Option (List ℕ)) (q : ℕ)
+      → TakesFront t (Ok a) mid p m xs
+      → TakesFront (next a (drop t.bytes xs)) g new m q (drop t.bytes xs)
+      → TakesFront (followed xs t next) g new p q xs
   front_then xs t a mid p m g new q f h =
       let P : Taken B → Type 0 = λ z. TakesFront z g new p q xs in
       let n = (next a (drop t.bytes xs)).bytes in
       let place : m ≡ p + t.bytes = f.2 in
       let end : q ≡ m + n = h.2 in
-      subst P (sym (followed_ok xs t a f.0)) (h.0, h.1 ∙ ap Some (drop-drop n t.bytes xs), omega arith)
+      subst P (sym (followed_ok xs t a f.0))
+      (h.0, h.1 ∙ ap Some (drop-drop n t.bytes xs), omega arith)
 
-  pub answers_then : {X Y : Type 0} (view : X → A) (show : Y → B) (old : Option (List ℕ)) (p : ℕ) (mid : Option (List ℕ)) (m : ℕ) (x : X) (new : Option (List ℕ)) (q : ℕ) (r : Result Y Error)
-      → Answers view front old p mid m (Ok x) → Answers show (next (view x)) mid m new q r → Answers show (λ xs. followed xs (front xs) next) old p new q r
-  answers_then {X} {Y} view show old p mid m x new q (Ok y) a b =
-      (let low : p ≤ m = a.0 in let high : m ≤ q = b.0 in omega arith, λ xs e. let f = a.1 xs e in front_then xs (front xs) (view x) mid p m _ new q f (b.1 (drop (front xs).bytes xs) f.1))
-  answers_then {X} {Y} view show old p mid m x new q (Err f) a b =
-      (b.0, let low : p ≤ m = a.0 in let high : m ≤ q = b.1 in omega arith, λ d xs e. let f = a.1 xs e in front_then xs (front xs) (view x) mid p m _ new q f (b.2 d (drop (front xs).bytes xs) f.1))
+  pub answers_then : {X Y : Type 0} (view : X → A) (show : Y → B) (old : Option (List ℕ)) (p : ℕ)
+      (mid : Option (List ℕ)) (m : ℕ) (x : X) (new : Option (List ℕ)) (q : ℕ) (r : Result Y Error)
+      → Answers view front old p mid m (Ok x) → Answers show (next (view x)) mid m new q r
+      → Answers show (λ xs. followed xs (front xs) next) old p new q r
+  answers_then {X} {Y} view show old p mid m x new q (Ok y) a b = (
+    let low : p ≤ m = a.0 in let high : m
+        ≤ q = b.0 in omega arith,
+    λ xs e. let f = a.1 xs e in front_then xs (front xs) (view x)
+        mid p m _ new q f (b.1 (drop (front xs).bytes xs) f.1),
+  )
+  answers_then {X} {Y} view show old p mid m x new q (Err f) a b = (
+    b.0,
+    let low : p ≤ m = a.0 in let high : m
+        ≤ q = b.1 in omega arith,
+    λ d xs e. let f = a.1 xs e in front_then xs (front xs) (view x)
+        mid p m _ new q f (b.2 d (drop (front xs).bytes xs) f.1),
+  )
 
-  pub answers_then_fails : {X Y : Type 0} (view : X → A) (show : Y → B) (old : Option (List ℕ)) (p : ℕ) (new : Option (List ℕ)) (q : ℕ) (f : Error)
-      → Answers view front old p new q (Err f) → Answers show (λ xs. followed xs (front xs) next) old p new q (Err f)
+  pub answers_then_fails : {X Y : Type 0} (view : X → A) (show : Y → B) (old : Option (List ℕ))
+      (p : ℕ) (new : Option (List ℕ)) (q : ℕ) (f : Error)
+      → Answers view front old p new q (Err f)
+      → Answers show (λ xs. followed xs (front xs) next) old p new q (Err f)
   answers_then_fails {X} {Y} view show old p new q f a = (
     a.0,
     a.1,
     λ d xs e.
         let b = a.2 d xs e in
-        front_from (followed xs (front xs) next) (Err (kind_of (error_kind_of f))) new p q (front xs).bytes xs (followed_err xs (front xs) _ b.0) b.1 b.2,
+        front_from (followed xs (front xs) next) (Err (kind_of (error_kind_of f))) new p q
+        (front xs).bytes xs (followed_err xs (front xs) _ b.0) b.1 b.2,
   )

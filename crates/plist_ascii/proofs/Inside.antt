@@ -6,24 +6,28 @@ use Rattle.plist_ascii.specs.Kinds.{IsFaultOfBytes, IsAsciiFault}
 use Rattle.plist_ascii.specs.Unread.{IsAt, is_from_outside}
 
 -- the fact that a fault in the bytes has
-pub inside_has : (kind : FaultKind) (A B C : Type 0) → is_from_outside kind ≡ false → MatchFault kind A B C → C
+pub inside_has : (kind : FaultKind) (A B C : Type 0) → is_from_outside kind ≡ false
+    → MatchFault kind A B C → C
 inside_has Io A B C e h = absurd (cc)
 inside_has OutOfMemory A B C e h = absurd (cc)
 inside_has kind A B C e h = h
 
 -- and what is enough for it
-pub inside_gets : (kind : FaultKind) (A B C : Type 0) → is_from_outside kind ≡ false → C → MatchFault kind A B C
+pub inside_gets : (kind : FaultKind) (A B C : Type 0) → is_from_outside kind ≡ false → C
+    → MatchFault kind A B C
 inside_gets Io A B C e h = absurd (cc)
 inside_gets OutOfMemory A B C e h = absurd (cc)
 inside_gets kind A B C e h = h
 
 -- what is enough for a fault from outside
-pub outside_gets : (kind : FaultKind) (A B C : Type 0) → is_from_outside kind ≡ true → A → (kind ≡ OutOfMemory → B) → MatchFault kind A B C
+pub outside_gets : (kind : FaultKind) (A B C : Type 0) → is_from_outside kind ≡ true → A
+    → (kind ≡ OutOfMemory → B) → MatchFault kind A B C
 outside_gets Io A B C e a b = a
 outside_gets OutOfMemory A B C e a b = b refl
 outside_gets kind A B C e a b = absurd (cc)
 
-pub kind_said : (f : Error) (kind : FaultKind) (place : ℕ) → fault_of f ≡ fault_at kind place → kind ≡ kind_of (error_kind_of f)
+pub kind_said : (f : Error) (kind : FaultKind) (place : ℕ) → fault_of f ≡ fault_at kind place
+    → kind ≡ kind_of (error_kind_of f)
 kind_said f kind place e = sym (ap (λ fault. fault.kind) e)
 
 -- a fault that the bytes can have isn't from outside
@@ -32,11 +36,15 @@ bytes_inside Io h = absurd h
 bytes_inside OutOfMemory h = absurd h
 bytes_inside kind h = refl
 
-pub is_at_inside : (f : Error) (kind : FaultKind) (place : ℕ) → fault_of f ≡ fault_at kind place → IsFaultOfBytes kind → IsAt (fault_of f) place
-is_at_inside f kind place e i = let P : Fault → Type 0 = λ fault. IsAt fault place in subst P (sym e) (inside_gets kind _ _ _ (bytes_inside kind i) (i, refl))
+pub is_at_inside : (f : Error) (kind : FaultKind) (place : ℕ) → fault_of f ≡ fault_at kind place
+    → IsFaultOfBytes kind → IsAt (fault_of f) place
+is_at_inside f kind place e i =
+    let P : Fault → Type 0 = λ fault. IsAt fault place in subst P (sym e)
+    (inside_gets kind _ _ _ (bytes_inside kind i) (i, refl))
 
 -- where a fault stands says which kinds it can have
-pub kind_at : (kind : FaultKind) (A B C : Type 0) → MatchFault kind A B (IsFaultOfBytes kind × C) → IsAsciiFault kind
+pub kind_at : (kind : FaultKind) (A B C : Type 0) → MatchFault kind A B (IsFaultOfBytes kind × C)
+    → IsAsciiFault kind
 kind_at Io A B C h = tt
 kind_at OutOfMemory A B C h = tt
 kind_at kind A B C h = h.0
@@ -44,18 +52,24 @@ kind_at kind A B C h = h.0
 pub is_at_io : (f : Error) (place : ℕ) → fault_of f ≡ fault_at Io place → IsAt (fault_of f) place
 is_at_io f place e = let P : Fault → Type 0 = λ fault. IsAt fault place in subst P (sym e) refl
 
-pub is_at_memory : (f : Error) (place : ℕ) → fault_of f ≡ fault_nowhere OutOfMemory → IsAt (fault_of f) place
+pub is_at_memory : (f : Error) (place : ℕ) → fault_of f ≡ fault_nowhere OutOfMemory
+    → IsAt (fault_of f) place
 is_at_memory f place e = let P : Fault → Type 0 = λ fault. IsAt fault place in subst P (sym e) refl
 
-pub outside_io : (f : Error) (place : ℕ) → fault_of f ≡ fault_at Io place → is_from_outside (kind_of (error_kind_of f)) ≡ true
+pub outside_io : (f : Error) (place : ℕ) → fault_of f ≡ fault_at Io place
+    → is_from_outside (kind_of (error_kind_of f)) ≡ true
 outside_io f place e = ap (λ fault. is_from_outside fault.kind) e
 
-pub outside_memory : (f : Error) → fault_of f ≡ fault_nowhere OutOfMemory → is_from_outside (kind_of (error_kind_of f)) ≡ true
+pub outside_memory : (f : Error) → fault_of f ≡ fault_nowhere OutOfMemory
+    → is_from_outside (kind_of (error_kind_of f)) ≡ true
 outside_memory f e = ap (λ fault. is_from_outside fault.kind) e
 
 -- the place of a fault in the bytes
-fault_by : (fault : Fault) (place : ℕ) → fault.offset ≡ Some place → fault ≡ fault_at fault.kind place
+fault_by : (fault : Fault) (place : ℕ) → fault.offset ≡ Some place
+    → fault ≡ fault_at fault.kind place
 fault_by fault place e = ap (λ o. record { kind = fault.kind; offset = o }) e
 
-pub inside_is : (f : Error) (place : ℕ) → is_from_outside (kind_of (error_kind_of f)) ≡ false → IsAt (fault_of f) place → fault_of f ≡ fault_at (kind_of (error_kind_of f)) place
-inside_is f place i h = fault_by (fault_of f) place (inside_has (kind_of (error_kind_of f)) _ _ _ i h).1
+pub inside_is : (f : Error) (place : ℕ) → is_from_outside (kind_of (error_kind_of f)) ≡ false
+    → IsAt (fault_of f) place → fault_of f ≡ fault_at (kind_of (error_kind_of f)) place
+inside_is f place i h =
+    fault_by (fault_of f) place (inside_has (kind_of (error_kind_of f)) _ _ _ i h).1

@@ -5,7 +5,8 @@ use lib.Utf8.{low_scalar}
 use Rattle.std.specs.Char.{IsScalar}
 use Rattle.plist_ascii.specs.Escapes.{octal_char, nextstep}
 
-pub octal_table : (n : ℕ) → (nat_le 128 n && nat_lt n 256) ≡ true → octal_char n ≡ slice_index nextstep (n - 128)
+pub octal_table : (n : ℕ) → (nat_le 128 n && nat_lt n 256) ≡ true
+    → octal_char n ≡ slice_index nextstep (n - 128)
 unfolding octal_char
 octal_table n h = rw h refl
 

@@ -10,45 +10,60 @@ use Rattle.plist_ascii.specs.Quoted.{behind, with_front, ends_run, run_end, quot
 
 -- behind a run
 
-end_on : (quote c : ℕ) (ys part : List ℕ) → (c == quote) ≡ false → (escape ys).gives ≡ Ok part → (more : List ℕ → Taken (List ℕ))
-    → run_end quote more (c ∷ ys) ≡ behind (suc (escape ys).bytes) part (more (drop (escape ys).bytes ys))
+end_on : (quote c : ℕ) (ys part : List ℕ) → (c == quote) ≡ false → (escape ys).gives ≡ Ok part
+    → (more : List ℕ → Taken (List ℕ))
+    → run_end quote more (c ∷ ys) ≡ behind (suc (escape ys).bytes) part
+    (more (drop (escape ys).bytes ys))
 end_on quote c ys part e g more =
     let t = more (drop (escape ys).bytes ys) in
-    rw (e, g) (ap (λ n. taken n (with_front part t.gives)) (let n : suc ((escape ys).bytes + t.bytes) ≡ suc (escape ys).bytes + t.bytes = omega arith in n))
+    rw (e, g) (ap (λ n. taken n (with_front part t.gives))
+    (let n : suc ((escape ys).bytes + t.bytes) ≡ suc (escape ys).bytes
+    + t.bytes = omega arith in n))
 
-pub end_goes_on : (quote c : ℕ) (xs ys part : List ℕ) → xs ≡ c ∷ ys → (c == quote) ≡ false → (escape ys).gives ≡ Ok part → (more : List ℕ → Taken (List ℕ))
-    → run_end quote more xs ≡ behind (suc (escape ys).bytes) part (more (drop (suc (escape ys).bytes) xs))
+pub end_goes_on : (quote c : ℕ) (xs ys part : List ℕ) → xs ≡ c ∷ ys → (c == quote) ≡ false
+    → (escape ys).gives ≡ Ok part → (more : List ℕ → Taken (List ℕ))
+    → run_end quote more xs ≡ behind (suc (escape ys).bytes) part
+    (more (drop (suc (escape ys).bytes) xs))
 end_goes_on quote c xs ys part s e g more = rw s (end_on quote c ys part e g more)
 
-pub end_fails : (quote c : ℕ) (xs ys : List ℕ) (k : FaultKind) → xs ≡ c ∷ ys → (c == quote) ≡ false → (escape ys).gives ≡ Err k → (more : List ℕ → Taken (List ℕ))
+pub end_fails : (quote c : ℕ) (xs ys : List ℕ) (k : FaultKind) → xs ≡ c ∷ ys → (c == quote) ≡ false
+    → (escape ys).gives ≡ Err k → (more : List ℕ → Taken (List ℕ))
     → run_end quote more xs ≡ taken (suc (escape ys).bytes) (Err k)
 end_fails quote c xs ys k s e g more = rw (s, e, g) refl
 
-pub drop_past : (now : Option (List ℕ)) (c n : ℕ) (xs ys : List ℕ) → xs ≡ c ∷ ys → now ≡ Some (drop n ys) → now ≡ Some (drop (suc n) xs)
+pub drop_past : (now : Option (List ℕ)) (c n : ℕ) (xs ys : List ℕ) → xs ≡ c ∷ ys
+    → now ≡ Some (drop n ys) → now ≡ Some (drop (suc n) xs)
 drop_past now c n xs ys s h = rw s h
 
-pub drop_past_run : (now : Option (List ℕ)) (m n : ℕ) (xs : List ℕ) → now ≡ Some (drop n (drop m xs)) → now ≡ Some (drop (m + n) xs)
+pub drop_past_run : (now : Option (List ℕ)) (m n : ℕ) (xs : List ℕ)
+    → now ≡ Some (drop n (drop m xs)) → now ≡ Some (drop (m + n) xs)
 drop_past_run now m n xs h = h ∙ ap Some (drop-drop n m xs)
 
 -- a run and what is behind it
 
 pub part_closes : (quote n : ℕ) (xs : List ℕ) → let m = run (ends_run quote) xs in
     ((more : List ℕ → Taken (List ℕ)) → run_end quote more (drop m xs) ≡ taken n (Ok []))
-    → (more : List ℕ → Taken (List ℕ)) → quoted_by quote more xs ≡ taken (m + n) (Ok (take m xs ++ []))
+    → (more : List ℕ → Taken (List ℕ))
+    → quoted_by quote more xs ≡ taken (m + n) (Ok (take m xs ++ []))
 part_closes quote n xs h more = rw (h more) refl
 
-with_with : (a b : List ℕ) (r : Result (List ℕ) FaultKind) → with_front a (with_front b r) ≡ with_front (a ++ b) r
+with_with : (a b : List ℕ) (r : Result (List ℕ) FaultKind)
+    → with_front a (with_front b r) ≡ with_front (a ++ b) r
 with_with a b (Ok c) = ap Ok (sym (append_assoc a b c))
 with_with a b (Err k) = refl
 
-pub behind_behind : (m n : ℕ) (a b : List ℕ) (t : Taken (List ℕ)) → behind m a (behind n b t) ≡ behind (m + n) (a ++ b) t
+pub behind_behind : (m n : ℕ) (a b : List ℕ) (t : Taken (List ℕ))
+    → behind m a (behind n b t) ≡ behind (m + n) (a ++ b) t
 behind_behind m n a b t =
     let place : m + (n + t.bytes) ≡ m + n + t.bytes = omega arith in
-    ap (λ k. taken k (with_front a (with_front b t.gives))) place ∙ ap (taken (m + n + t.bytes)) (with_with a b t.gives)
+    ap (λ k. taken k (with_front a (with_front b t.gives))) place
+    ∙ ap (taken (m + n + t.bytes)) (with_with a b t.gives)
 
 pub part_goes_on : (quote n : ℕ) (xs part : List ℕ) → let m = run (ends_run quote) xs in
-    ((more : List ℕ → Taken (List ℕ)) → run_end quote more (drop m xs) ≡ behind n part (more (drop n (drop m xs))))
-    → (more : List ℕ → Taken (List ℕ)) → quoted_by quote more xs ≡ behind (m + n) (take m xs ++ part) (more (drop (m + n) xs))
+    ((more : List ℕ → Taken (List ℕ))
+    → run_end quote more (drop m xs) ≡ behind n part (more (drop n (drop m xs))))
+    → (more : List ℕ → Taken (List ℕ))
+    → quoted_by quote more xs ≡ behind (m + n) (take m xs ++ part) (more (drop (m + n) xs))
 part_goes_on quote n xs part h more =
     let m = run (ends_run quote) xs in
     ap (behind m (take m xs)) (h more)
@@ -58,37 +73,55 @@ part_goes_on quote n xs part h more =
 pub part_fails : (quote n : ℕ) (xs : List ℕ) (k : FaultKind) → let m = run (ends_run quote) xs in
     ((more : List ℕ → Taken (List ℕ)) → run_end quote more (drop m xs) ≡ taken n (Err k))
     → (more : List ℕ → Taken (List ℕ)) → quoted_by quote more xs ≡ taken (m + n) (Err k)
-part_fails quote n xs k h more = ap (behind (run (ends_run quote) xs) (take (run (ends_run quote) xs) xs)) (h more)
+part_fails quote n xs k h more =
+    ap (behind (run (ends_run quote) xs) (take (run (ends_run quote) xs) xs)) (h more)
 
 -- room
 
-then_same : (n : ℕ) (r : Result (List ℕ) FaultKind) (f g : ℕ → Taken (List ℕ)) → f n ≡ g n → escape_then n r f ≡ escape_then n r g
+then_same : (n : ℕ) (r : Result (List ℕ) FaultKind) (f g : ℕ → Taken (List ℕ)) → f n ≡ g n
+    → escape_then n r f ≡ escape_then n r g
 then_same n (Ok text) f g h = ap (behind n text) h
 then_same n (Err k) f g h = refl
 
-end_same : (quote : ℕ) (f g : List ℕ → Taken (List ℕ)) (xs : List ℕ) → ((ys : List ℕ) → length ys < length xs → f ys ≡ g ys) → run_end quote f xs ≡ run_end quote g xs
+end_same : (quote : ℕ) (f g : List ℕ → Taken (List ℕ)) (xs : List ℕ)
+    → ((ys : List ℕ) → length ys < length xs → f ys ≡ g ys)
+    → run_end quote f xs ≡ run_end quote g xs
 end_same quote f g [] h = refl
 end_same quote f g (c ∷ xs) h =
     let e = escape xs in
     let less : length (drop e.bytes xs) < suc (length xs) = rw length-drop (omega arith) in
-    ap (λ t. past_one (cond (c == quote) (taken 0 (Ok [])) t)) (then_same e.bytes e.gives (λ k. f (drop k xs)) (λ k. g (drop k xs)) (h _ less))
+    ap (λ t. past_one (cond (c == quote) (taken 0 (Ok [])) t))
+    (then_same e.bytes e.gives (λ k. f (drop k xs)) (λ k. g (drop k xs)) (h _ less))
 
-by_same : (quote : ℕ) (f g : List ℕ → Taken (List ℕ)) (xs : List ℕ) → ((ys : List ℕ) → length ys < length xs → f ys ≡ g ys) → quoted_by quote f xs ≡ quoted_by quote g xs
+by_same : (quote : ℕ) (f g : List ℕ → Taken (List ℕ)) (xs : List ℕ)
+    → ((ys : List ℕ) → length ys < length xs → f ys ≡ g ys)
+    → quoted_by quote f xs ≡ quoted_by quote g xs
 by_same quote f g xs h =
     let m = run (ends_run quote) xs in
-    ap (behind m (take m xs)) (end_same quote f g (drop m xs) (λ ys l. let short : length (drop m xs) ≤ length xs = rw length-drop (omega arith) in h ys (omega arith)))
+    ap (behind m (take m xs)) (end_same quote f g (drop m xs)
+    (λ ys l. let short : length (drop m xs)
+    ≤ length xs = rw length-drop (omega arith) in h ys (omega arith)))
 
-quoted_room : (quote r s : ℕ) (xs : List ℕ) → length xs ≤ r → length xs ≤ s → quoted_in quote r xs ≡ quoted_in quote s xs
+quoted_room : (quote r s : ℕ) (xs : List ℕ) → length xs ≤ r → length xs ≤ s
+    → quoted_in quote r xs ≡ quoted_in quote s xs
 unfolding quoted_in
 quoted_room quote zero zero xs l m = refl
-quoted_room quote zero (suc s) xs l m = by_same quote (λ _. taken 0 (Err UnclosedString)) (quoted_in quote s) xs (λ ys h. let none : ⊥ = omega arith in absurd none)
-quoted_room quote (suc r) zero xs l m = by_same quote (quoted_in quote r) (λ _. taken 0 (Err UnclosedString)) xs (λ ys h. let none : ⊥ = omega arith in absurd none)
-quoted_room quote (suc r) (suc s) xs l m = by_same quote (quoted_in quote r) (quoted_in quote s) xs (λ ys h. quoted_room quote r s ys (omega arith) (omega arith))
+quoted_room quote zero (suc s) xs l m =
+    by_same quote (λ _. taken 0 (Err UnclosedString)) (quoted_in quote s) xs
+    (λ ys h. let none : ⊥ = omega arith in absurd none)
+quoted_room quote (suc r) zero xs l m =
+    by_same quote (quoted_in quote r) (λ _. taken 0 (Err UnclosedString)) xs
+    (λ ys h. let none : ⊥ = omega arith in absurd none)
+quoted_room quote (suc r) (suc s) xs l m =
+    by_same quote (quoted_in quote r) (quoted_in quote s) xs
+    (λ ys h. quoted_room quote r s ys (omega arith) (omega arith))
 
 pub quoted_opens : (quote : ℕ) (xs : List ℕ) → quoted quote xs ≡ quoted_by quote (quoted quote) xs
 unfolding quoted_in
 quoted_opens quote [] = refl
-quoted_opens quote (c ∷ xs) = by_same quote (quoted_in quote (length xs)) (quoted quote) (c ∷ xs) (λ ys h. quoted_room quote (length xs) (length ys) ys (omega arith) (omega arith))
+quoted_opens quote (c ∷ xs) =
+    by_same quote (quoted_in quote (length xs)) (quoted quote) (c ∷ xs)
+    (λ ys h. quoted_room quote (length xs) (length ys) ys (omega arith) (omega arith))
 
 -- The text so far, where `k` bytes were taken.
 pub record Quoting (quote : ℕ) (xs text : List ℕ) (k : ℕ) (ys : List ℕ) : Type 0 where
@@ -100,32 +133,47 @@ front_none (Ok text) = refl
 front_none (Err k) = refl
 
 behind_none : (t : Taken (List ℕ)) → t ≡ behind 0 [] t
-behind_none t = let n : t.bytes ≡ 0 + t.bytes = omega arith in ap (λ n. taken n t.gives) n ∙ ap (taken (0 + t.bytes)) (front_none t.gives)
+behind_none t =
+    let n : t.bytes ≡ 0 + t.bytes = omega arith in ap (λ n. taken n t.gives) n
+    ∙ ap (taken (0 + t.bytes)) (front_none t.gives)
 
 pub quoting_start : (quote : ℕ) (xs text : List ℕ) → text ≡ [] → Quoting quote xs text 0 xs
 quoting_start quote xs text e = record { all = rw e (behind_none (quoted quote xs)); rest = refl }
 
-pub quoting_more : (quote : ℕ) (xs text : List ℕ) (k n : ℕ) (ys part longer : List ℕ) → Quoting quote xs text k ys
-    → ((more : List ℕ → Taken (List ℕ)) → quoted_by quote more ys ≡ behind n part (more (drop n ys))) → longer ≡ text ++ part → Quoting quote xs longer (k + n) (drop n ys)
+pub quoting_more : (quote : ℕ) (xs text : List ℕ) (k n : ℕ) (ys part longer : List ℕ)
+    → Quoting quote xs text k ys
+    → ((more : List ℕ → Taken (List ℕ))
+    → quoted_by quote more ys ≡ behind n part (more (drop n ys))) → longer ≡ text ++ part
+    → Quoting quote xs longer (k + n) (drop n ys)
 quoting_more quote xs text k n ys part longer q h e = record {
-  all = q.all ∙ ap (behind k text) (quoted_opens quote ys ∙ h (quoted quote)) ∙ behind_behind k n text part (quoted quote (drop n ys)) ∙ ap (λ z. behind (k + n) z (quoted quote (drop n ys))) (sym e);
+  all = q.all ∙ ap (behind k text) (quoted_opens quote ys ∙ h (quoted quote))
+      ∙ behind_behind k n text part (quoted quote (drop n ys))
+      ∙ ap (λ z. behind (k + n) z (quoted quote (drop n ys))) (sym e);
   rest = ap (drop n) q.rest ∙ drop-drop n k xs;
 }
 
-pub quoting_closed : (quote : ℕ) (xs text : List ℕ) (k n : ℕ) (ys part longer : List ℕ) → Quoting quote xs text k ys
-    → ((more : List ℕ → Taken (List ℕ)) → quoted_by quote more ys ≡ taken n (Ok part)) → longer ≡ text ++ part → quoted quote xs ≡ taken (k + n) (Ok longer)
+pub quoting_closed : (quote : ℕ) (xs text : List ℕ) (k n : ℕ) (ys part longer : List ℕ)
+    → Quoting quote xs text k ys
+    → ((more : List ℕ → Taken (List ℕ)) → quoted_by quote more ys ≡ taken n (Ok part))
+    → longer ≡ text ++ part → quoted quote xs ≡ taken (k + n) (Ok longer)
 quoting_closed quote xs text k n ys part longer q h e =
-    q.all ∙ ap (behind k text) (quoted_opens quote ys ∙ h (quoted quote)) ∙ ap (λ z. taken (k + n) (Ok z)) (sym e)
+    q.all ∙ ap (behind k text) (quoted_opens quote ys ∙ h (quoted quote))
+    ∙ ap (λ z. taken (k + n) (Ok z)) (sym e)
 
-pub quoting_fails : (quote : ℕ) (xs text : List ℕ) (k n : ℕ) (ys : List ℕ) (f : FaultKind) → Quoting quote xs text k ys
-    → ((more : List ℕ → Taken (List ℕ)) → quoted_by quote more ys ≡ taken n (Err f)) → quoted quote xs ≡ taken (k + n) (Err f)
-quoting_fails quote xs text k n ys f q h = q.all ∙ ap (behind k text) (quoted_opens quote ys ∙ h (quoted quote))
+pub quoting_fails : (quote : ℕ) (xs text : List ℕ) (k n : ℕ) (ys : List ℕ) (f : FaultKind)
+    → Quoting quote xs text k ys
+    → ((more : List ℕ → Taken (List ℕ)) → quoted_by quote more ys ≡ taken n (Err f))
+    → quoted quote xs ≡ taken (k + n) (Err f)
+quoting_fails quote xs text k n ys f q h =
+    q.all ∙ ap (behind k text) (quoted_opens quote ys ∙ h (quoted quote))
 
-pub quoting_rest : (quote : ℕ) (xs text : List ℕ) (k n : ℕ) (ys : List ℕ) → Quoting quote xs text k ys → drop n ys ≡ drop (k + n) xs
+pub quoting_rest : (quote : ℕ) (xs text : List ℕ) (k n : ℕ) (ys : List ℕ)
+    → Quoting quote xs text k ys → drop n ys ≡ drop (k + n) xs
 quoting_rest quote xs text k n ys q = ap (drop n) q.rest ∙ drop-drop n k xs
 
 pub text_closes : (text old more : List ℕ) → text ≡ old ++ more → text ≡ old ++ (more ++ [])
 text_closes text old more e = e ∙ ap (λ z. old ++ z) (sym (append-nil more))
 
-pub text_goes_on : (text mid old more piece : List ℕ) → mid ≡ old ++ more → text ≡ mid ++ piece → text ≡ old ++ (more ++ piece)
+pub text_goes_on : (text mid old more piece : List ℕ) → mid ≡ old ++ more → text ≡ mid ++ piece
+    → text ≡ old ++ (more ++ piece)
 text_goes_on text mid old more piece e h = h ∙ ap (λ z. z ++ piece) e ∙ append_assoc old more piece

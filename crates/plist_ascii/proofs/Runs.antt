@@ -6,49 +6,69 @@ use Rattle.std.proofs.Math.Seq.{take-append-add, drop-append-add}
 use Rattle.plist_ascii.specs.Taken.{run}
 
 -- from xs, text and place p on the run goes on as from ys, more and q on
-pub record RunsOn (stop : ℕ → Bool) (xs old : List ℕ) (p : ℕ) (ys more : List ℕ) (q : ℕ) : Type 0 where
-  pub text : more ++ take (run stop ys) ys ≡ old ++ take (run stop xs) xs
-  pub rest : drop (run stop ys) ys ≡ drop (run stop xs) xs
-  pub place : q + run stop ys ≡ p + run stop xs
+pub record RunsOn (stop : ℕ → Bool) (xs old : List ℕ) (p : ℕ) (ys more : List ℕ) (q : ℕ) : Type 0
+  where
+    pub text : more ++ take (run stop ys) ys ≡ old ++ take (run stop xs) xs
+    pub rest : drop (run stop ys) ys ≡ drop (run stop xs) xs
+    pub place : q + run stop ys ≡ p + run stop xs
 
-pub run_more : (stop : ℕ → Bool) (c : ℕ) (ys : List ℕ) → stop c ≡ false → run stop (c ∷ ys) ≡ suc (run stop ys)
+pub run_more : (stop : ℕ → Bool) (c : ℕ) (ys : List ℕ) → stop c ≡ false
+    → run stop (c ∷ ys) ≡ suc (run stop ys)
 run_more stop c ys h = rw h (omega arith)
 
 pub runs_start : (stop : ℕ → Bool) (xs text : List ℕ) (p : ℕ) → RunsOn stop xs text p xs text p
 runs_start stop xs text p = record { text = refl; rest = refl; place = refl }
 
-pub runs_step : (stop : ℕ → Bool) (xs text : List ℕ) (p : ℕ) (ys zs more longer : List ℕ) (q r c : ℕ) → RunsOn stop xs text p ys more q
-    → ys ≡ c ∷ zs → stop c ≡ false → longer ≡ more ++ c ∷ [] → r ≡ q + 1 → RunsOn stop xs text p zs longer r
+pub runs_step : (stop : ℕ → Bool) (xs text : List ℕ) (p : ℕ) (ys zs more longer : List ℕ)
+    (q r c : ℕ) → RunsOn stop xs text p ys more q
+    → ys ≡ c ∷ zs → stop c ≡ false → longer ≡ more ++ c ∷ [] → r ≡ q + 1
+    → RunsOn stop xs text p zs longer r
 runs_step stop xs text p ys zs more longer q r c on e h l s =
     let n : run stop ys ≡ suc (run stop zs) = rw e (run_more stop c zs h) in
     let front : take (run stop ys) ys ≡ c ∷ take (run stop zs) zs = rw n (rw e refl) in
     let back : drop (run stop ys) ys ≡ drop (run stop zs) zs = rw n (rw e refl) in
     record {
-      text = ap (λ z. z ++ take (run stop zs) zs) l ∙ append_assoc more (c ∷ []) (take (run stop zs) zs) ∙ ap (λ z. more ++ z) (sym front) ∙ on.text;
+      text = ap (λ z. z ++ take (run stop zs) zs) l
+          ∙ append_assoc more (c ∷ []) (take (run stop zs) zs) ∙ ap (λ z. more ++ z) (sym front)
+          ∙ on.text;
       rest = sym back ∙ on.rest;
       place = let place : q + run stop ys ≡ p + run stop xs = on.place in omega arith;
     }
 
 -- no stop is among the first bytes
-run_behind : (stop : ℕ → Bool) (part zs : List ℕ) → run stop part ≡ length part → run stop (part ++ zs) ≡ length part + run stop zs
-run_behind stop part zs h = prefix_len-append _ part zs ∙ ap (λ b. cond b (length part + run stop zs) (run stop part)) (eq-eqb (run stop part) (length part) h)
+run_behind : (stop : ℕ → Bool) (part zs : List ℕ) → run stop part ≡ length part
+    → run stop (part ++ zs) ≡ length part + run stop zs
+run_behind stop part zs h =
+    prefix_len-append _ part zs ∙ ap (λ b. cond b (length part + run stop zs) (run stop part))
+    (eq-eqb (run stop part) (length part) h)
 
-pub runs_part : (stop : ℕ → Bool) (xs text : List ℕ) (p : ℕ) (ys part zs more longer : List ℕ) (q r : ℕ) → RunsOn stop xs text p ys more q
-    → ys ≡ part ++ zs → run stop part ≡ length part → longer ≡ more ++ part → r ≡ q + length part → RunsOn stop xs text p zs longer r
+pub runs_part : (stop : ℕ → Bool) (xs text : List ℕ) (p : ℕ) (ys part zs more longer : List ℕ)
+    (q r : ℕ) → RunsOn stop xs text p ys more q
+    → ys ≡ part ++ zs → run stop part ≡ length part → longer ≡ more ++ part → r ≡ q + length part
+    → RunsOn stop xs text p zs longer r
 runs_part stop xs text p ys part zs more longer q r on e h l s =
     let n : run stop ys ≡ length part + run stop zs = rw e (run_behind stop part zs h) in
-    let front : take (run stop ys) ys ≡ part ++ take (run stop zs) zs = rw n (rw e (take-append-add part zs (run stop zs))) in
-    let back : drop (run stop ys) ys ≡ drop (run stop zs) zs = rw n (rw e (drop-append-add part zs (run stop zs))) in
+    let front : take (run stop ys) ys ≡ part
+    ++ take (run stop zs) zs = rw n (rw e (take-append-add part zs (run stop zs))) in
+    let back : drop (run stop ys) ys
+    ≡ drop (run stop zs) zs = rw n (rw e (drop-append-add part zs (run stop zs))) in
     record {
-      text = ap (λ z. z ++ take (run stop zs) zs) l ∙ append_assoc more part (take (run stop zs) zs) ∙ ap (λ z. more ++ z) (sym front) ∙ on.text;
+      text = ap (λ z. z ++ take (run stop zs) zs) l ∙ append_assoc more part (take (run stop zs) zs)
+          ∙ ap (λ z. more ++ z) (sym front) ∙ on.text;
       rest = sym back ∙ on.rest;
-      place = let place : q + run stop ys ≡ p + run stop xs = on.place in omega (arith, n, s, place);
+      place = let place : q + run stop ys ≡ p + run stop xs =
+          on.place in omega (arith, n, s, place);
     }
 
 -- at a stop
-pub runs_end : (stop : ℕ → Bool) (xs text : List ℕ) (p : ℕ) (ys more : List ℕ) (q : ℕ) → RunsOn stop xs text p ys more q → run stop ys ≡ 0
+pub runs_end : (stop : ℕ → Bool) (xs text : List ℕ) (p : ℕ) (ys more : List ℕ) (q : ℕ)
+    → RunsOn stop xs text p ys more q → run stop ys ≡ 0
     → (more ≡ text ++ take (run stop xs) xs) × (ys ≡ drop (run stop xs) xs) × (q ≡ p + run stop xs)
 runs_end stop xs text p ys more q on z =
     let none : take (run stop ys) ys ≡ [] = rw z refl in
-    let all : drop (run stop ys) ys ≡ ys = rw z refl in
-    (sym (append-nil more) ∙ ap (λ z. more ++ z) (sym none) ∙ on.text, sym all ∙ on.rest, let place : q + run stop ys ≡ p + run stop xs = on.place in omega arith)
+    let all : drop (run stop ys) ys ≡ ys = rw z refl in (
+      sym (append-nil more) ∙ ap (λ z. more ++ z) (sym none) ∙ on.text,
+      sym all
+          ∙ on.rest,
+      let place : q + run stop ys ≡ p + run stop xs = on.place in omega arith,
+    )

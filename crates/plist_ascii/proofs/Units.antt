@@ -7,20 +7,25 @@ use Rattle.plist_ascii.specs.Taken.{past_one, front, front_gives, needs}
 use Rattle.plist_ascii.specs.Escapes.{second_letter, second_digits, bad_unit}
 
 module _ {A : Type 0} (meaning : List ℕ → Result A FaultKind) where
-  needs_past_by : (n l c : ℕ) (o : Option (List ℕ)) → front_gives (suc n) (suc l) (option_map (λ cs. c ∷ cs) o) meaning ≡ past_one (front_gives n l o (λ ds. meaning (c ∷ ds)))
+  needs_past_by : (n l c : ℕ) (o : Option (List ℕ))
+      → front_gives (suc n) (suc l) (option_map (λ cs. c ∷ cs) o) meaning
+      ≡ past_one (front_gives n l o (λ ds. meaning (c ∷ ds)))
   needs_past_by n l c None = refl
   needs_past_by n l c (Some ds) = refl
 
   -- one of them was taken
-  pub needs_past : (n c : ℕ) (xs : List ℕ) → needs (suc n) (c ∷ xs) meaning ≡ past_one (needs n xs (λ ds. meaning (c ∷ ds)))
+  pub needs_past : (n c : ℕ) (xs : List ℕ)
+      → needs (suc n) (c ∷ xs) meaning ≡ past_one (needs n xs (λ ds. meaning (c ∷ ds)))
   needs_past n c xs = needs_past_by n (length xs) c (front n xs)
 
 -- the letter of the second unit
 
-pub letter_taken : (high c : ℕ) (xs : List ℕ) → ((c == 117) || (c == 85)) ≡ true → second_letter high (c ∷ xs) ≡ past_one (second_digits high xs)
+pub letter_taken : (high c : ℕ) (xs : List ℕ) → ((c == 117) || (c == 85)) ≡ true
+    → second_letter high (c ∷ xs) ≡ past_one (second_digits high xs)
 letter_taken high c xs e = rw e refl
 
-pub letter_bad : (high c : ℕ) (xs ys : List ℕ) → xs ≡ c ∷ ys → ((c == 117) || (c == 85)) ≡ false → second_letter high xs ≡ bad_unit 0
+pub letter_bad : (high c : ℕ) (xs ys : List ℕ) → xs ≡ c ∷ ys → ((c == 117) || (c == 85)) ≡ false
+    → second_letter high xs ≡ bad_unit 0
 letter_bad high c xs ys s e = rw (s, e) refl
 
 pub letter_none : (high : ℕ) (xs : List ℕ) → xs ≡ [] → second_letter high xs ≡ bad_unit 0

@@ -8,12 +8,14 @@ use Rattle.plist_ascii.specs.Incoming.{GivesByte}
 use Rattle.plist_ascii.specs.Taken.{run}
 use Rattle.plist_ascii.specs.Unread.{unread_of, first, within}
 
-pub ended_unread : (k : Option (List ℕ)) (e : Bool) (p : Option ℕ) (t : ℕ) (xs : List ℕ) → e ≡ true → unread_of k e p t ≡ Some xs → xs ≡ []
+pub ended_unread : (k : Option (List ℕ)) (e : Bool) (p : Option ℕ) (t : ℕ) (xs : List ℕ) → e ≡ true
+    → unread_of k e p t ≡ Some xs → xs ≡ []
 unfolding unread_of
 ended_unread k true p t xs e h = cc
 ended_unread k false p t xs e h = cc
 
-pub full_unread : (k : Option (List ℕ)) (e : Bool) (p : Option ℕ) (t : ℕ) (xs : List ℕ) → t ≡ 2 ^ 64 - 1 → unread_of k e p t ≡ Some xs → xs ≡ []
+pub full_unread : (k : Option (List ℕ)) (e : Bool) (p : Option ℕ) (t : ℕ) (xs : List ℕ)
+    → t ≡ 2 ^ 64 - 1 → unread_of k e p t ≡ Some xs → xs ≡ []
 unfolding unread_of
 full_unread k true p t xs e h = cc
 full_unread None false p t xs e h = cc
@@ -26,7 +28,8 @@ take_nil (suc n) = refl
 left_suc : (t : ℕ) → t < 2 ^ 64 - 1 → 2 ^ 64 - 1 - t ≡ suc (2 ^ 64 - 1 - (t + 1))
 left_suc t h = omega arith
 
-pub held_unread : (k : Option (List ℕ)) (c t : ℕ) (xs : List ℕ) → t < 2 ^ 64 - 1 → unread_of k false (Some c) t ≡ Some xs
+pub held_unread : (k : Option (List ℕ)) (c t : ℕ) (xs : List ℕ) → t < 2 ^ 64 - 1
+    → unread_of k false (Some c) t ≡ Some xs
     → (ys : List ℕ) × (xs ≡ c ∷ ys) × (unread_of k false None (t + 1) ≡ Some ys)
 unfolding unread_of
 held_unread None c t xs l h = cc
@@ -35,7 +38,8 @@ held_unread (Some a) c t xs l h =
     let same : within (Some c) t a ≡ xs = cc in
     (within None (t + 1) a, sym same ∙ e, refl)
 
-pub end_unread : (k now : Option (List ℕ)) (t : ℕ) (xs : List ℕ) → GivesByte k None now → unread_of k false None t ≡ Some xs → xs ≡ []
+pub end_unread : (k now : Option (List ℕ)) (t : ℕ) (xs : List ℕ) → GivesByte k None now
+    → unread_of k false None t ≡ Some xs → xs ≡ []
 unfolding unread_of
 end_unread None now t xs h e = cc
 end_unread (Some a) None t xs h e = absurd h.0
@@ -44,7 +48,8 @@ end_unread (Some a) (Some b) t xs h e =
     let cut : within None t a ≡ [] = rw none (take_nil (2 ^ 64 - 1 - t)) in
     cc
 
-pub one_unread : (k now : Option (List ℕ)) (c t : ℕ) (xs : List ℕ) → GivesByte k (Some c) now → unread_of k false None t ≡ Some xs → unread_of now false (Some c) t ≡ Some xs
+pub one_unread : (k now : Option (List ℕ)) (c t : ℕ) (xs : List ℕ) → GivesByte k (Some c) now
+    → unread_of k false None t ≡ Some xs → unread_of now false (Some c) t ≡ Some xs
 unfolding unread_of
 one_unread None now c t xs h g = cc
 one_unread (Some a) None c t xs h g = absurd h
@@ -59,13 +64,17 @@ none_looks : (now : Option (List ℕ)) (xs : List ℕ) → xs ≡ [] → now ≡
 none_looks now [] e h = (h, refl)
 none_looks now (c ∷ xs) e h = cc
 
-pub ended_looks : (k : Option (List ℕ)) (e : Bool) (p : Option ℕ) (t : ℕ) (xs : List ℕ) → e ≡ true → unread_of k e p t ≡ Some xs → Looks (unread_of k e p t) None xs
+pub ended_looks : (k : Option (List ℕ)) (e : Bool) (p : Option ℕ) (t : ℕ) (xs : List ℕ) → e ≡ true
+    → unread_of k e p t ≡ Some xs → Looks (unread_of k e p t) None xs
 ended_looks k e p t xs h g = none_looks _ xs (ended_unread k e p t xs h g) g
 
-pub full_looks : (k : Option (List ℕ)) (e : Bool) (p : Option ℕ) (t : ℕ) (xs : List ℕ) → t ≡ 2 ^ 64 - 1 → unread_of k e p t ≡ Some xs → Looks (unread_of k e p t) None xs
+pub full_looks : (k : Option (List ℕ)) (e : Bool) (p : Option ℕ) (t : ℕ) (xs : List ℕ)
+    → t ≡ 2 ^ 64 - 1 → unread_of k e p t ≡ Some xs → Looks (unread_of k e p t) None xs
 full_looks k e p t xs h g = none_looks _ xs (full_unread k e p t xs h g) g
 
-pub held_looks : (k : Option (List ℕ)) (e : Bool) (p : Option ℕ) (c t : ℕ) (xs : List ℕ) → e ≡ false → p ≡ Some c → t < 2 ^ 64 - 1 → unread_of k e p t ≡ Some xs → Looks (unread_of k e p t) (Some c) xs
+pub held_looks : (k : Option (List ℕ)) (e : Bool) (p : Option ℕ) (c t : ℕ) (xs : List ℕ) → e ≡ false
+    → p ≡ Some c → t < 2 ^ 64 - 1 → unread_of k e p t ≡ Some xs
+    → Looks (unread_of k e p t) (Some c) xs
 held_looks k e p c t xs h q l g =
     let known : unread_of k false (Some c) t ≡ Some xs = rw (← h, ← q) g in
     let split = held_unread k c t xs l known in
@@ -75,21 +84,25 @@ pub nothing_unread : (k : Option (List ℕ)) (p : Option ℕ) (t : ℕ) → unre
 unfolding unread_of
 nothing_unread k p t = refl
 
-pub end_looks : (k now : Option (List ℕ)) (e : Bool) (p : Option ℕ) (t : ℕ) (xs : List ℕ) → e ≡ false → p ≡ None → GivesByte k None now
+pub end_looks : (k now : Option (List ℕ)) (e : Bool) (p : Option ℕ) (t : ℕ) (xs : List ℕ)
+    → e ≡ false → p ≡ None → GivesByte k None now
     → unread_of k e p t ≡ Some xs → Looks (unread_of now true p t) None xs
 end_looks k now e p t xs h q r g =
     let known : unread_of k false None t ≡ Some xs = rw (← h, ← q) g in
     let none : xs ≡ [] = end_unread k now t xs r known in
     none_looks _ xs none (nothing_unread now p t ∙ ap Some (sym none))
 
-pub one_looks : (k now : Option (List ℕ)) (e : Bool) (p : Option ℕ) (c t : ℕ) (xs : List ℕ) → e ≡ false → p ≡ None → t < 2 ^ 64 - 1 → GivesByte k (Some c) now
+pub one_looks : (k now : Option (List ℕ)) (e : Bool) (p : Option ℕ) (c t : ℕ) (xs : List ℕ)
+    → e ≡ false → p ≡ None → t < 2 ^ 64 - 1 → GivesByte k (Some c) now
     → unread_of k e p t ≡ Some xs → Looks (unread_of now e (Some c) t) (Some c) xs
 one_looks k now e p c t xs h q room r g =
     let known : unread_of k false None t ≡ Some xs = rw (← h, ← q) g in
     let read : unread_of now false (Some c) t ≡ Some xs = one_unread k now c t xs r known in
     held_looks now e (Some c) c t xs h refl room (rw h read)
 
-pub taken_next : (k : Option (List ℕ)) (e : Bool) (p : Option ℕ) (t : ℕ) (xs : List ℕ) → e ≡ false → is_some p ≡ true → t < 2 ^ 64 - 1 → unread_of k e p t ≡ Some xs → unread_of k e None (t + 1) ≡ Some (drop 1 xs)
+pub taken_next : (k : Option (List ℕ)) (e : Bool) (p : Option ℕ) (t : ℕ) (xs : List ℕ) → e ≡ false
+    → is_some p ≡ true → t < 2 ^ 64 - 1 → unread_of k e p t ≡ Some xs
+    → unread_of k e None (t + 1) ≡ Some (drop 1 xs)
 taken_next k e None t xs h q l g = cc
 taken_next k e (Some c) t xs h q l g =
     let known : unread_of k false (Some c) t ≡ Some xs = rw (← h) g in
@@ -98,17 +111,21 @@ taken_next k e (Some c) t xs h q l g =
 
 -- runs
 
-pub first_splits : (o : Option ℕ) (b : ℕ) (xs : List ℕ) → o ≡ Some b → o ≡ first xs → xs ≡ b ∷ drop 1 xs
+pub first_splits : (o : Option ℕ) (b : ℕ) (xs : List ℕ) → o ≡ Some b → o ≡ first xs
+    → xs ≡ b ∷ drop 1 xs
 first_splits o b [] e h = cc
 first_splits o b (c ∷ xs) e h = cc
 
-pub run_none : (stop : ℕ → Bool) (o : Option ℕ) (xs : List ℕ) → o ≡ None → o ≡ first xs → run stop xs ≡ 0
+pub run_none : (stop : ℕ → Bool) (o : Option ℕ) (xs : List ℕ) → o ≡ None → o ≡ first xs
+    → run stop xs ≡ 0
 run_none stop o [] e h = refl
 run_none stop o (c ∷ xs) e h = cc
 
-pub run_stop : (stop : ℕ → Bool) (o : Option ℕ) (b : ℕ) (xs : List ℕ) → o ≡ Some b → o ≡ first xs → stop b ≡ true → run stop xs ≡ 0
+pub run_stop : (stop : ℕ → Bool) (o : Option ℕ) (b : ℕ) (xs : List ℕ) → o ≡ Some b → o ≡ first xs
+    → stop b ≡ true → run stop xs ≡ 0
 run_stop stop o b [] e h t = refl
-run_stop stop o b (c ∷ xs) e h t = let same : b ≡ c = cc in let stops : stop c ≡ true = rw (← same) t in rw stops refl
+run_stop stop o b (c ∷ xs) e h t =
+    let same : b ≡ c = cc in let stops : stop c ≡ true = rw (← same) t in rw stops refl
 
 pub first_none : (o : Option ℕ) (xs : List ℕ) → o ≡ None → o ≡ first xs → xs ≡ []
 first_none o [] e h = refl
@@ -116,31 +133,37 @@ first_none o (c ∷ xs) e h = cc
 
 -- several bytes at once
 
-known_behind : (k now : Option (List ℕ)) (t n : ℕ) (part xs : List ℕ) → length part ≡ n → t + n ≤ 2 ^ 64 - 1 → Consumes k now part → unread_of k false None t ≡ Some xs
+known_behind : (k now : Option (List ℕ)) (t n : ℕ) (part xs : List ℕ) → length part ≡ n
+    → t + n ≤ 2 ^ 64 - 1 → Consumes k now part → unread_of k false None t ≡ Some xs
     → (ys : List ℕ) × (xs ≡ part ++ ys) × (unread_of now false None (t + n) ≡ Some ys)
 unfolding unread_of
 known_behind None now t n part xs l room c g = cc
 known_behind (Some a) None t n part xs l room c g = absurd c
 known_behind (Some a) (Some b) t n part xs l room c g =
     let left : 2 ^ 64 - 1 - t ≡ length part + (2 ^ 64 - 1 - (t + n)) = omega (arith, l, room) in
-    let e : within None t a ≡ part ++ within None (t + n) b = rw c (rw left (take-append-add part b (2 ^ 64 - 1 - (t + n)))) in
+    let e : within None t a ≡ part
+    ++ within None (t + n) b = rw c (rw left (take-append-add part b (2 ^ 64 - 1 - (t + n)))) in
     let same : within None t a ≡ xs = cc in
     (within None (t + n) b, sym same ∙ e, refl)
 
-pub part_unread : (k now : Option (List ℕ)) (e : Bool) (p : Option ℕ) (t n : ℕ) (part xs : List ℕ) → e ≡ false → is_some p ≡ false → length part ≡ n → t + n ≤ 2 ^ 64 - 1 → Consumes k now part
-    → unread_of k e p t ≡ Some xs → (ys : List ℕ) × (xs ≡ part ++ ys) × (unread_of now e p (t + n) ≡ Some ys)
+pub part_unread : (k now : Option (List ℕ)) (e : Bool) (p : Option ℕ) (t n : ℕ) (part xs : List ℕ)
+    → e ≡ false → is_some p ≡ false → length part ≡ n → t + n ≤ 2 ^ 64 - 1 → Consumes k now part
+    → unread_of k e p t ≡ Some xs → (ys : List ℕ) × (xs ≡ part ++ ys)
+    × (unread_of now e p (t + n) ≡ Some ys)
 part_unread k now e (Some b) t n part xs h q l room c g = cc
 part_unread k now true None t n part xs h q l room c g = cc
 part_unread k now false None t n part xs h q l room c g = known_behind k now t n part xs l room c g
 
 -- what a reader has before its first byte
-pub new_unread : {R : Type 0} (known : R → Option (List ℕ)) (r inner : R) (e : Bool) (p : Option ℕ) (t : ℕ) → r ≡ inner → p ≡ None → t ≡ 0 → e ≡ false
+pub new_unread : {R : Type 0} (known : R → Option (List ℕ)) (r inner : R) (e : Bool) (p : Option ℕ)
+    (t : ℕ) → r ≡ inner → p ≡ None → t ≡ 0 → e ≡ false
     → unread_of (known r) e p t ≡ option_map (λ xs. take (2 ^ 64 - 1) xs) (known inner)
 unfolding unread_of
 new_unread known r inner e p t i n z g = rw (i, n, z, g) refl
 
 -- and where it goes on
-pub going_unread : (k : Option (List ℕ)) (e : Bool) (p : Option ℕ) (t : ℕ) → (e ≡ true → ⊥) → IfSome k (λ xs. unread_of k e p t ≡ Some (within p t xs))
+pub going_unread : (k : Option (List ℕ)) (e : Bool) (p : Option ℕ) (t : ℕ) → (e ≡ true → ⊥)
+    → IfSome k (λ xs. unread_of k e p t ≡ Some (within p t xs))
 unfolding unread_of
 going_unread k true p t h = absurd (h refl)
 going_unread None false p t h = tt

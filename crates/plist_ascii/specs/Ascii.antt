@@ -2,7 +2,8 @@
 use Rattle.std.specs.Prelude.{◌≡◌, ◌⊎◌, ℕ, zero, suc, ◌+◌, Bool, cond, ◌||◌, ◌==◌, List, [], ◌∷◌, length, drop, map, Option, None, Some, Result, Ok, Err, ⊤}
 use Rattle.std.specs.List.{list_any}
 use Rattle.plist_base.specs.Faults.{FaultKind, UnclosedString, InvalidUtf8AsciiStream, InvalidOctalString, InvalidUtf16String, fault_at}
-use Rattle.plist_base.specs.Events.{PlainEvent, StartArray, StartDictionary, EndCollection, Integer, String, Item}
+use Rattle.plist_base.specs.Events.{PlainEvent, StartArray, StartDictionary, EndCollection, Single, Item}
+use Rattle.plist_base.specs.Trees.{Integer, String}
 use Rattle.plist_ascii.specs.declared.token.Lead.{Lead}
 use Rattle.plist_ascii.specs.declared.token.Lead.TheVariants as lead
 use Rattle.plist_ascii.specs.Taken.{taken, past_one}
@@ -86,14 +87,14 @@ IsTextFault kind = ⊥
 
 -- a token is a bare or a quoted text
 abbrev pub WantsMemory : Result (Option PlainEvent) FaultKind → Type 0
-WantsMemory (Ok (Some (String text))) = ⊤
-WantsMemory (Ok (Some (Integer number))) = ⊤
+WantsMemory (Ok (Some (Single (String text)))) = ⊤
+WantsMemory (Ok (Some (Single (Integer number)))) = ⊤
 WantsMemory (Err kind) = IsTextFault kind
 WantsMemory outcome = ⊥
 
 -- the first item is a text, a number or a text's fault
 abbrev pub BeginsWithText : List Item → Type 0
-BeginsWithText (Ok (String text) ∷ items) = ⊤
-BeginsWithText (Ok (Integer number) ∷ items) = ⊤
+BeginsWithText (Ok (Single (String text)) ∷ items) = ⊤
+BeginsWithText (Ok (Single (Integer number)) ∷ items) = ⊤
 BeginsWithText (Err fault ∷ items) = IsTextFault fault.kind
 BeginsWithText items = ⊥

@@ -2,7 +2,8 @@
 use Rattle.std.specs.Prelude.{Option, None, Result, MatchOption, MatchResult, ⊤}
 use Rattle.plist_base.specs.declared.error.Error.{Error}
 use Rattle.plist_base.specs.declared.event.Event.{Event}
-use Rattle.plist_base.specs.Events.{PlainEvent, StartArray, StartDictionary, EndCollection, Integer, String, event_of}
+use Rattle.plist_base.specs.Events.{PlainEvent, StartArray, StartDictionary, EndCollection, Single, event_of}
+use Rattle.plist_base.specs.Trees.{Integer, String}
 use Rattle.plist_base.specs.Faults.{FaultKind, UnclosedString, IncompleteComment, InvalidUtf8AsciiStream, InvalidOctalString, InvalidUtf16String, MatchFault, kind_of, error_kind_of}
 
 -- a fault that the bytes can have
@@ -20,8 +21,8 @@ IsAsciiFault kind = MatchFault kind ⊤ ⊤ (IsFaultOfBytes kind)
 
 -- a text, or a number
 abbrev pub IsTextEvent : PlainEvent → Type 0
-IsTextEvent (String text) = ⊤
-IsTextEvent (Integer number) = ⊤
+IsTextEvent (Single (String text)) = ⊤
+IsTextEvent (Single (Integer number)) = ⊤
 IsTextEvent event = ⊥
 
 -- a text, a number, an end, or a start without a length
@@ -42,7 +43,7 @@ abbrev pub BehindBracket : PlainEvent → (behind : Type 0) → Type 0
 BehindBracket (StartArray length) behind = behind
 BehindBracket (StartDictionary length) behind = behind
 BehindBracket EndCollection behind = behind
-BehindBracket event behind = ⊤
+BehindBracket (Single scalar) behind = ⊤
 
 -- the same of an item
 abbrev pub ItemBehindBracket : Option (Result Event Error) → (behind : Type 0) → Type 0

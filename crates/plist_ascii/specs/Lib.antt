@@ -4,9 +4,9 @@ pub mod Escapes
 pub mod Quoted
 pub mod Comments
 pub mod Ascii
-pub mod Parts
 pub mod Kinds
 pub mod Incoming
 pub mod Unread
-pub mod Coming
+pub mod AsciiReader
 pub mod Examples
+pub mod inner

@@ -3,7 +3,8 @@ use Rattle.std.specs.Prelude.{ℕ, ℤ, Bool, cond, ◌==◌, List, [], ◌∷�
 use Rattle.std.specs.List.{list_any}
 use Rattle.std.specs.Str.{is_utf8}
 use Rattle.plist_base.specs.Faults.{FaultKind, InvalidUtf8AsciiStream}
-use Rattle.plist_base.specs.Events.{PlainEvent, Integer, String}
+use Rattle.plist_base.specs.Events.{PlainEvent, Single}
+use Rattle.plist_base.specs.Trees.{Scalar, Integer, String}
 use Rattle.plist_base.specs.IntegerText.{integer_of_text}
 use Rattle.plist_ascii.specs.declared.dialect.Dialect.{Dialect}
 use Rattle.plist_ascii.specs.declared.dialect.Dialect.TheVariants as dialect
@@ -27,13 +28,14 @@ ends_bare dialect.Lax c = lax c
 ends_bare dialect.Tight c = tight c
 
 -- a number where the text spells one, else the text
-abbrev pub number_or_text : List ℕ → Option ℤ → PlainEvent
+abbrev pub number_or_text : List ℕ → Option ℤ → Scalar
 number_or_text text (Some number) = Integer number
 number_or_text text None = String text
 
--- the event of a text, which must be UTF-8
-abbrev pub utf8_or_fault : List ℕ → PlainEvent → Result (Option PlainEvent) FaultKind
-utf8_or_fault text event = cond (is_utf8 text) (Ok (Some event)) (Err InvalidUtf8AsciiStream)
+-- what a text gives, which must be UTF-8
+abbrev pub utf8_or_fault : List ℕ → Scalar → Result (Option PlainEvent) FaultKind
+utf8_or_fault text scalar =
+    cond (is_utf8 text) (Ok (Some (Single scalar))) (Err InvalidUtf8AsciiStream)
 
 -- what a bare text means
 unfoldable pub bare_event : List ℕ → Result (Option PlainEvent) FaultKind

@@ -2,7 +2,8 @@
 
 ghost use Rattle.std.specs.Prelude.{◌≡◌, ◌≢◌, ◌+◌, ◌≤◌, ◌==◌, ◌&&◌, drop, Some, None, Ok, Err, IfOk, IfErr, OnOk};
 ghost use Rattle.std.specs.Option.{option_map};
-ghost use Rattle.plist_base.specs.Faults.{Io, OutOfMemory, fault_of, fault_at, kind_of, error_kind_of};
+ghost use Rattle.plist_base.specs.Faults.{Io, OutOfMemory, fault_at, kind_of, error_kind_of};
+ghost use Rattle.plist_base.specs.Outcomes.{OnlyFault};
 ghost use Rattle.plist_base.specs.Events.{event_of};
 ghost use Rattle.plist_ascii.specs.Taken.{run};
 ghost use Rattle.plist_ascii.specs.Comments.{line_comment, block_comment};
@@ -30,10 +31,10 @@ fn is_star(byte: u8) -> bool
 impl<R: Bytes> Input<R> {
     // Takes the bytes up to a stop.
     fn skip_run(&mut self, stop: Stop) -> Result<(), Error>
-        ensures ok { OnOk result (Known (unread R.remaining self.old) (λ xs.
+        ensures value { OnOk result (Known (unread R.remaining self.old) (λ xs.
             (unread R.remaining self.new ≡ Some (drop (run (stops stop) xs) xs))
             × (self.new.taken ≡ self.old.taken + run (stops stop) xs))) }
-        ensures err { IfErr result (λ e. fault_of e ≡ fault_at Io self.new.taken) }
+        ensures fault { OnlyFault result (fault_at Io self.new.taken) }
         ensures place { self.old.taken ≤ self.new.taken }
         ensures failures { AnswersIo result
             (R.failures self.old.inner) (R.failures self.new.inner) }
@@ -49,7 +50,7 @@ impl<R: Bytes> Input<R> {
         ensures answers { Answers (option_map event_of) line_comment
             (unread R.remaining self.old) self.old.taken
             (unread R.remaining self.new) self.new.taken result }
-        ensures memory { IfErr result (λ e. kind_of (error_kind_of e) ≢ OutOfMemory) }
+        ensures memory { IfErr result (λ error. kind_of (error_kind_of error) ≢ OutOfMemory) }
         ensures nothing { IfOk result (λ event. event ≡ None) }
         ensures failures { AnswersIo result
             (R.failures self.old.inner) (R.failures self.new.inner) }
@@ -63,7 +64,7 @@ impl<R: Bytes> Input<R> {
         ensures answers { Answers (option_map event_of) block_comment
             (unread R.remaining self.old) self.old.taken
             (unread R.remaining self.new) self.new.taken result }
-        ensures memory { IfErr result (λ e. kind_of (error_kind_of e) ≢ OutOfMemory) }
+        ensures memory { IfErr result (λ error. kind_of (error_kind_of error) ≢ OutOfMemory) }
         ensures nothing { IfOk result (λ event. event ≡ None) }
         ensures failures { AnswersIo result
             (R.failures self.old.inner) (R.failures self.new.inner) }

@@ -8,7 +8,7 @@ ghost use Rattle.plist_ascii.specs.Taken.{taken};
 ghost use Rattle.plist_ascii.specs.Escapes.{simple_escape, octal, octal_char, octal_text, unit, unit_of, is_surrogate, pair_text, first_unit, second_unit, second_letter, second_digits, unicode, escape, escape_by};
 ghost use Rattle.plist_ascii.specs.Incoming.{AnswersIo};
 ghost use Rattle.plist_ascii.specs.Unread.{unread, Answers};
-ghost use Rattle.plist_ascii.specs.Parts.{piece_bytes};
+ghost use Rattle.plist_ascii.specs.inner.Parts.{piece_bytes};
 
 use crate::bytes::Bytes;
 use crate::input::Input;

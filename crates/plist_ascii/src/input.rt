@@ -2,7 +2,8 @@
 //! hand.
 
 ghost use Rattle.std.specs.Prelude.{◌≡◌, ◌⊎◌, ℕ, ◌+◌, ◌-◌, ◌^◌, ◌<◌, ◌≤◌, List, [], ◌∷◌, length, take, drop, None, Some, Ok, true, false, IfOk, IfSome, IfErr, OnOk, IsSome, MatchOption};
-ghost use Rattle.plist_base.specs.Faults.{Io, OutOfMemory, UnclosedString, fault_of, fault_at, fault_nowhere, kind_of, error_kind_of};
+ghost use Rattle.plist_base.specs.Faults.{Io, UnclosedString, fault_of, fault_at, kind_of, error_kind_of};
+ghost use Rattle.plist_base.specs.Outcomes.{OnlyFault, OnlyMemory};
 ghost use Rattle.plist_ascii.specs.Taken.{run};
 ghost use Rattle.plist_ascii.specs.Texts.{ends_bare};
 ghost use Rattle.plist_ascii.specs.Incoming.{AnswersIo};
@@ -124,7 +125,7 @@ impl<R: Bytes> Input<R> {
         ensures held { IfOk result (λ byte. IfSome byte (λ _.
             (self.new.peeked ≡ byte) × (self.new.ended ≡ false) × (self.new.taken < 2 ^ 64 - 1))) }
         ensures end { IfOk result (λ byte. byte ≡ None → self.new.ended ≡ true) }
-        ensures err { IfErr result (λ e. fault_of e ≡ fault_at Io self.new.taken) }
+        ensures fault { OnlyFault result (fault_at Io self.new.taken) }
         ensures place { self.new.taken ≡ self.old.taken }
         ensures failures { AnswersIo result
             (R.failures self.old.inner) (R.failures self.new.inner) }
@@ -152,7 +153,7 @@ impl<R: Bytes> Input<R> {
             (self.new.ended ≡ true) ⊎ (self.new.taken ≡ 2 ^ 64 - 1)) }
         ensures unasked { (self.old.ended ≡ true) ⊎ (self.old.taken ≡ 2 ^ 64 - 1)
             → (result ≡ Ok None) × (self.new ≡ self.old) }
-        ensures err { IfErr result (λ e. fault_of e ≡ fault_at Io self.new.taken) }
+        ensures fault { OnlyFault result (fault_at Io self.new.taken) }
         ensures place { self.new.taken ≡ self.old.taken }
         ensures failures { AnswersIo result
             (R.failures self.old.inner) (R.failures self.new.inner) }
@@ -191,10 +192,10 @@ impl<R: Bytes> Input<R> {
             × (stops stop c ≡ false)))) }
         ensures none { IfOk result (λ o. o ≡ None → Known (unread R.remaining self.old) (λ xs.
             (unread R.remaining self.new ≡ Some xs) × (run (stops stop) xs ≡ 0))) }
-        ensures err { IfErr result (λ e. fault_of e ≡ fault_at Io self.new.taken) }
+        ensures fault { OnlyFault result (fault_at Io self.new.taken) }
         ensures place { IfOk result (λ o. MatchOption o (self.new.taken ≡ self.old.taken)
             (λ _. (self.new.taken ≡ self.old.taken + 1) × (self.new.taken < 2 ^ 64))) }
-        ensures stays { IfErr result (λ _. self.new.taken ≡ self.old.taken) }
+        ensures unchanged { IfErr result (λ _. self.new.taken ≡ self.old.taken) }
         ensures failures { AnswersIo result
             (R.failures self.old.inner) (R.failures self.new.inner) }
     {
@@ -231,10 +232,10 @@ impl<R: Bytes> Input<R> {
 
     /// Takes bytes that are at hand, up to a stop, and appends them.
     pub fn take_at_hand(&mut self, stop: Stop, text: &mut Vec<u8>) -> Result<(), Error>
-        ensures ok { OnOk result (Known (unread R.remaining self.old)
+        ensures value { OnOk result (Known (unread R.remaining self.old)
             (TakesPart (stops stop) self.old.taken text.old.items
             (unread R.remaining self.new) self.new.taken text.new.items)) }
-        ensures err { IfErr result (λ e. fault_of e ≡ fault_nowhere OutOfMemory) }
+        ensures fault { OnlyMemory result }
         ensures place { self.old.taken ≤ self.new.taken }
         ensures failures { R.failures self.new.inner ≡ R.failures self.old.inner }
     {
@@ -259,10 +260,10 @@ impl<R: Bytes> Input<R> {
         ensures looked { IfOk result (λ o. IfSome o (λ _. self.new.peeked ≡ None)) }
         ensures none { IfOk result (λ o. o ≡ None → Known (unread R.remaining self.old) (λ xs.
             (unread R.remaining self.new ≡ Some xs) × (xs ≡ []))) }
-        ensures err { IfErr result (λ e. fault_of e ≡ fault_at Io self.new.taken) }
+        ensures fault { OnlyFault result (fault_at Io self.new.taken) }
         ensures place { IfOk result (λ o. MatchOption o (self.new.taken ≡ self.old.taken)
             (λ _. (self.new.taken ≡ self.old.taken + 1) × (self.new.taken < 2 ^ 64))) }
-        ensures stays { IfErr result (λ _. self.new.taken ≡ self.old.taken) }
+        ensures unchanged { IfErr result (λ _. self.new.taken ≡ self.old.taken) }
         ensures failures { AnswersIo result
             (R.failures self.old.inner) (R.failures self.new.inner) }
     {
@@ -277,14 +278,14 @@ impl<R: Bytes> Input<R> {
 
     /// Takes the next byte of a quoted text, which must be there.
     pub fn must_take(&mut self) -> Result<u8, Error>
-        ensures ok { IfOk result (λ c.
+        ensures value { IfOk result (λ c.
             Takes (unread R.remaining self.old) c (unread R.remaining self.new)) }
         ensures place { OnOk result ((self.new.taken ≡ self.old.taken + 1)
             × (self.new.taken < 2 ^ 64)) }
-        ensures stays { IfErr result (λ _. self.new.taken ≡ self.old.taken) }
-        ensures err { IfErr result (λ e. IsAt (fault_of e) self.new.taken
-            × (is_from_outside (kind_of (error_kind_of e)) ≡ false →
-            (fault_of e ≡ fault_at UnclosedString self.new.taken)
+        ensures unchanged { IfErr result (λ _. self.new.taken ≡ self.old.taken) }
+        ensures fault { IfErr result (λ error. IsAt (fault_of error) self.new.taken
+            × (is_from_outside (kind_of (error_kind_of error)) ≡ false →
+            (fault_of error ≡ fault_at UnclosedString self.new.taken)
             × Known (unread R.remaining self.old) (λ xs.
             (unread R.remaining self.new ≡ Some xs) × (xs ≡ [])))) }
         ensures failures { AnswersIo result

@@ -1,10 +1,11 @@
 //! Quoted texts.
 
 ghost use Rattle.std.specs.Prelude.{◌≡◌, ℕ, List, ◌+◌, ◌^◌, ◌<◌, ◌≤◌, ◌++◌, drop, Some, Ok, Err, true, false, IfOk, IfErr, OnOk, vec_items};
-ghost use Rattle.plist_base.specs.Faults.{OutOfMemory, fault_of, fault_nowhere, kind_of, error_kind_of};
+ghost use Rattle.plist_base.specs.Faults.{fault_of, kind_of, error_kind_of};
+ghost use Rattle.plist_base.specs.Outcomes.{OnlyMemory};
 ghost use Rattle.plist_base.specs.Events.{event_of};
 ghost use Rattle.plist_ascii.specs.Quoted.{quoted, quoted_token};
-ghost use Rattle.plist_ascii.specs.Parts.{piece_bytes, Parts, PartFails, Ends, EndFails};
+ghost use Rattle.plist_ascii.specs.inner.Parts.{piece_bytes, Parts, PartFails, Ends, EndFails};
 ghost use Rattle.plist_ascii.specs.Kinds.{IsTextEvent};
 ghost use Rattle.plist_ascii.specs.Incoming.{AnswersIo};
 ghost use Rattle.plist_ascii.specs.Unread.{unread, Known, IsAt, is_from_outside, Answers};
@@ -18,8 +19,8 @@ use std::alloc::Global;
 
 // Appends what an escape stands for.
 fn push_piece(text: &mut Vec<u8>, piece: Piece) -> Result<(), Error>
-    ensures ok { OnOk result (text.new.items ≡ text.old.items ++ piece_bytes piece) }
-    ensures err { IfErr result (λ e. fault_of e ≡ fault_nowhere OutOfMemory) }
+    ensures value { OnOk result (text.new.items ≡ text.old.items ++ piece_bytes piece) }
+    ensures fault { OnlyMemory result }
 {
     match piece {
         Piece::Byte(byte) => push_byte(text, byte),
@@ -35,16 +36,16 @@ fn push_piece(text: &mut Vec<u8>, piece: Piece) -> Result<(), Error>
 impl<R: Bytes> Input<R> {
     // Takes what stands behind a run of plain bytes: the closing quote, or an escape.
     fn run_end(&mut self, quote: u8) -> Result<Option<Piece>, Error>
-        ensures ok { IfOk result (λ piece. Known (unread R.remaining self.old) (λ xs. (n : ℕ)
+        ensures value { IfOk result (λ piece. Known (unread R.remaining self.old) (λ xs. (n : ℕ)
             × Ends quote xs piece n × (unread R.remaining self.new ≡ Some (drop n xs))
             × (self.new.taken ≡ self.old.taken + n))) }
         ensures rises { OnOk result ((self.old.taken < self.new.taken)
             × (self.old.taken < 2 ^ 64)) }
-        ensures err { IfErr result (λ e. IsAt (fault_of e) self.new.taken
+        ensures fault { IfErr result (λ error. IsAt (fault_of error) self.new.taken
             × (self.old.taken ≤ self.new.taken)
-            × (is_from_outside (kind_of (error_kind_of e)) ≡ false →
+            × (is_from_outside (kind_of (error_kind_of error)) ≡ false →
             Known (unread R.remaining self.old) (λ xs. (n : ℕ)
-            × EndFails quote xs (kind_of (error_kind_of e)) n
+            × EndFails quote xs (kind_of (error_kind_of error)) n
             × (unread R.remaining self.new ≡ Some (drop n xs))
             × (self.new.taken ≡ self.old.taken + n)))) }
         ensures failures { AnswersIo result
@@ -59,18 +60,18 @@ impl<R: Bytes> Input<R> {
 
     // Takes a run of plain bytes and what stands behind it. Says whether the text is closed.
     fn part(&mut self, quote: u8, text: &mut Vec<u8>) -> Result<bool, Error>
-        ensures ok { IfOk result (λ closed. Known (unread R.remaining self.old) (λ xs. (n : ℕ)
+        ensures value { IfOk result (λ closed. Known (unread R.remaining self.old) (λ xs. (n : ℕ)
             × (part : List ℕ) × Parts quote xs closed n part
             × (text.new.items ≡ text.old.items ++ part)
             × (unread R.remaining self.new ≡ Some (drop n xs))
             × (self.new.taken ≡ self.old.taken + n))) }
         ensures rises { OnOk result ((self.old.taken < self.new.taken)
             × (self.old.taken < 2 ^ 64)) }
-        ensures err { IfErr result (λ e. IsAt (fault_of e) self.new.taken
+        ensures fault { IfErr result (λ error. IsAt (fault_of error) self.new.taken
             × (self.old.taken ≤ self.new.taken)
-            × (is_from_outside (kind_of (error_kind_of e)) ≡ false →
+            × (is_from_outside (kind_of (error_kind_of error)) ≡ false →
             Known (unread R.remaining self.old) (λ xs. (n : ℕ)
-            × PartFails quote xs (kind_of (error_kind_of e)) n
+            × PartFails quote xs (kind_of (error_kind_of error)) n
             × (unread R.remaining self.new ≡ Some (drop n xs))
             × (self.new.taken ≡ self.old.taken + n)))) }
         ensures failures { AnswersIo result

@@ -5,7 +5,7 @@ ghost use Rattle.plist_base.specs.Faults.{kind_of, error_kind_of};
 ghost use Rattle.plist_ascii.specs.Kinds.{IsAsciiItem, ItemBehindBracket};
 ghost use Rattle.plist_ascii.specs.Incoming.{ItemCountsIo};
 ghost use Rattle.plist_ascii.specs.Unread.{unread, Known, stops, is_from_outside};
-ghost use Rattle.plist_ascii.specs.Coming.{GivesItem, Rises, FaultIsAt, EndsAfter, bytes_to_come};
+ghost use Rattle.plist_ascii.specs.AsciiReader.{GivesItem, Rises, FaultIsAt, EndsAfter, bytes_to_come};
 
 use crate::bytes::Bytes;
 use crate::dialect::Dialect;
@@ -95,7 +95,7 @@ impl<R: Bytes> AsciiReader<R> {
     ghost use Rattle.std.specs.Option.{option_map};
     ghost use Rattle.plist_ascii.specs.Unread.{within};
     ghost use Rattle.plist_ascii.specs.Ascii.{OnlyBareTextsDiffer};
-    ghost use Rattle.plist_ascii.specs.Coming.{bytes_left, dialect_of, inner_of, looked_at, place_of, HasEnded};
+    ghost use Rattle.plist_ascii.specs.AsciiReader.{bytes_left, dialect_of, inner_of, looked_at, place_of, HasEnded};
 
     /// A lax reader over a device's bytes. It reads nothing before its first item is asked for.
     pub fn new(alloc: Global, inner: R) -> Self
@@ -145,7 +145,7 @@ impl<R: Bytes + Drop> Iterator for AsciiReader<R> {
     type Item = Result<OwnedEvent, Error>;
 
     ghost use Rattle.std.specs.Iterator.{at_most};
-    ghost use Rattle.plist_ascii.specs.Coming.{Gives, steps_to_come};
+    ghost use Rattle.plist_ascii.specs.AsciiReader.{Gives, steps_to_come};
 
     ghost next_gives = { Gives R.remaining R.failures };
 

@@ -2,8 +2,9 @@
 
 ghost use Rattle.std.specs.Prelude.{◌≡◌, ◌+◌, ◌≤◌, [], ◌∷◌, ◌++◌, take, drop, Some, Ok, Err, true, false, IfOk, IfErr, OnOk, string_bytes};
 ghost use Rattle.std.specs.Str.{is_utf8};
-ghost use Rattle.plist_base.specs.Faults.{OutOfMemory, InvalidUtf8AsciiStream, fault_of, fault_nowhere, kind_of, error_kind_of};
-ghost use Rattle.plist_base.specs.Events.{event_of};
+ghost use Rattle.plist_base.specs.Faults.{InvalidUtf8AsciiStream, fault_of, kind_of, error_kind_of};
+ghost use Rattle.plist_base.specs.Outcomes.{OnlyMemory};
+ghost use Rattle.plist_base.specs.Events.{Single, event_of};
 ghost use Rattle.plist_base.specs.IntegerText.{integer_of_text};
 ghost use Rattle.plist_ascii.specs.Taken.{run};
 ghost use Rattle.plist_ascii.specs.Texts.{bare, bare_event, quoted_event, number_or_text};
@@ -20,8 +21,8 @@ use std::str::FromStr;
 
 /// Appends a byte.
 pub fn push_byte(text: &mut Vec<u8>, byte: u8) -> Result<(), Error>
-    ensures ok { OnOk result (text.new.items ≡ text.old.items ++ byte ∷ []) }
-    ensures err { IfErr result (λ e. fault_of e ≡ fault_nowhere OutOfMemory) }
+    ensures value { OnOk result (text.new.items ≡ text.old.items ++ byte ∷ []) }
+    ensures fault { OnlyMemory result }
 {
     text.push(byte)?;
     Ok(())
@@ -29,9 +30,9 @@ pub fn push_byte(text: &mut Vec<u8>, byte: u8) -> Result<(), Error>
 
 // The text of these bytes.
 fn text_of(bytes: Vec<u8>) -> Result<String, ErrorKind>
-    ensures ok { IfOk result (λ text.
+    ensures value { IfOk result (λ text.
         (is_utf8 bytes.items ≡ true) × (string_bytes text ≡ bytes.items)) }
-    ensures err { IfErr result (λ kind.
+    ensures fault { IfErr result (λ kind.
         (is_utf8 bytes.items ≡ false) × (kind_of kind ≡ InvalidUtf8AsciiStream)) }
 {
     match String::from_utf8(bytes) {
@@ -42,8 +43,8 @@ fn text_of(bytes: Vec<u8>) -> Result<String, ErrorKind>
 
 // The number that a text spells, or the text.
 fn number_or_text(text: String) -> OwnedEvent
-    ensures { event_of result ≡ number_or_text (string_bytes text)
-        (integer_of_text (string_bytes text)) }
+    ensures { event_of result ≡ Single (number_or_text (string_bytes text)
+        (integer_of_text (string_bytes text))) }
 {
     match Integer::from_str(text.as_str()) {
         Ok(number) => Event::Integer(number),
@@ -70,12 +71,12 @@ pub fn quoted_event(bytes: Vec<u8>) -> Result<OwnedEvent, ErrorKind>
 impl<R: Bytes> Input<R> {
     /// Takes the bytes up to a stop, and appends them.
     pub fn take_run(&mut self, stop: Stop, text: &mut Vec<u8>) -> Result<(), Error>
-        ensures ok { OnOk result (Known (unread R.remaining self.old) (λ xs.
+        ensures value { OnOk result (Known (unread R.remaining self.old) (λ xs.
             (text.new.items ≡ text.old.items ++ take (run (stops stop) xs) xs)
             × (unread R.remaining self.new ≡ Some (drop (run (stops stop) xs) xs))
             × (self.new.taken ≡ self.old.taken + run (stops stop) xs))) }
-        ensures err { IfErr result (λ e. IsAt (fault_of e) self.new.taken
-            × (is_from_outside (kind_of (error_kind_of e)) ≡ true)) }
+        ensures fault { IfErr result (λ error. IsAt (fault_of error) self.new.taken
+            × (is_from_outside (kind_of (error_kind_of error)) ≡ true)) }
         ensures place { self.old.taken ≤ self.new.taken }
         ensures failures { AnswersIo result
             (R.failures self.old.inner) (R.failures self.new.inner) }

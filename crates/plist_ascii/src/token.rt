@@ -55,7 +55,7 @@ impl<R: Bytes> Input<R> {
         ensures answers { Answers (option_map event_of) (slash (stops stop))
             (unread R.remaining self.old) self.old.taken
             (unread R.remaining self.new) self.new.taken result }
-        ensures memory { IfErr result (λ e. kind_of (error_kind_of e) ≡ OutOfMemory →
+        ensures memory { IfErr result (λ error. kind_of (error_kind_of error) ≡ OutOfMemory →
             Known (unread R.remaining self.old) (λ xs. WantsMemory (slash (stops stop) xs).gives)) }
         ensures kinds { IfOk result (λ event. IfSome event (λ e. IsTextEvent (event_of e))) }
         ensures failures { AnswersIo result
@@ -88,7 +88,7 @@ impl<R: Bytes> Input<R> {
         ensures answers { Answers (option_map event_of) (token_by (stops stop) (lead_of byte) byte)
             (unread R.remaining self.old) self.old.taken
             (unread R.remaining self.new) self.new.taken result }
-        ensures memory { IfErr result (λ e. kind_of (error_kind_of e) ≡ OutOfMemory →
+        ensures memory { IfErr result (λ error. kind_of (error_kind_of error) ≡ OutOfMemory →
             Known (unread R.remaining self.old) (λ xs.
             WantsMemory (token_by (stops stop) (lead_of byte) byte xs).gives)) }
         ensures kinds { IfOk result (λ event. IfSome event (λ e. IsAsciiEvent (event_of e))) }

@@ -9,7 +9,7 @@ use Rattle.std.specs.Prelude.{unsigned_abs, is_none, ◌*ℤ◌}
 use Rattle.std.specs.Int.Signed.{lt_z}
 use Rattle.std.proofs.lemmas.Int.{ints}
 use Rattle.plist_base.specs.Date.{real_exponent, real_mantissa, real_scale, parts_in_second, parts_of, whole_seconds, parts_left, real_second, rounded_down, is_second_of_date, if_second_of_date, is_negative, second_of_bits, has_fraction, real_bits, real_parts, date_if}
-use Rattle.plist_base.specs.DateBits.{whole_bits, second_bits}
+use Rattle.plist_base.specs.inner.DateBits.{whole_bits, second_bits}
 
 pub record Encoded (n : ℕ) : Type 0 where
   pub j : ℕ
@@ -25,7 +25,8 @@ powers a b e = sym (pow-add 2 a b) ∙ ap (λ k. 2 ^ k) e
 not_far : (n j : ℕ) → n < 2 ^ 53 → 2 ^ j ≤ n → j ≤ 52
 not_far n j big lo =
     elim (leb_tells 53 j) [
-      | inl e ↦ (let far = e.1 in let p : 2 ^ 53 ≤ 2 ^ j = pow-le-pow_right {n = 2} (omega arith) far in absurd (omega arith))
+      | inl e ↦ (let far = e.1 in let p : 2 ^ 53
+          ≤ 2 ^ j = pow-le-pow_right {n = 2} (omega arith) far in absurd (omega arith))
       | inr e ↦ (let near = e.1 in omega arith)
     ]
 
@@ -66,7 +67,8 @@ whole_parts : (n j : ℕ) → j ≤ 52 → parts_of (n * 2 ^ (52 - j)) (1023 + j
 unfolding parts_of parts_in_second
 whole_parts n j near =
     let s : (52 - j) + (1023 + j) ≡ 1075 = omega arith in
-    let p : 2 ^ (52 - j) * 2 ^ (1023 + j) ≡ 2 ^ 1075 = sym (pow-add 2 (52 - j) (1023 + j)) ∙ ap (λ k. 2 ^ k) s in
+    let p : 2 ^ (52 - j) * 2 ^ (1023 + j) ≡ 2 ^ 1075 = sym (pow-add 2 (52 - j) (1023 + j))
+    ∙ ap (λ k. 2 ^ k) s in
     let a : n * 2 ^ (52 - j) * 2 ^ (1023 + j) ≡ n * (2 ^ (52 - j) * 2 ^ (1023 + j)) = omega arith in
     a ∙ ap (λ k. n * k) p
 
@@ -74,13 +76,15 @@ second_pos : 0 < parts_in_second
 unfolding parts_in_second
 second_pos = let p : 1 ≤ 2 ^ 1075 = one-le-pow 1075 2 (omega arith) in omega arith
 
-module _ (n s : ℕ) (k : Encoded n) (bits : ℕ) (sign : s ≤ 1) (are : bits ≡ s * 2 ^ 63 + whole_bits n) where
+module _ (n s : ℕ) (k : Encoded n) (bits : ℕ) (sign : s ≤ 1)
+    (are : bits ≡ s * 2 ^ 63 + whole_bits n) where
   sum : bits ≡ s * 2 ^ 63 + ((1022 + k.j) * 2 ^ 52 + n * 2 ^ (52 - k.j))
   sum = are ∙ ap (λ b. s * 2 ^ 63 + b) k.is
 
   exponent_is : real_exponent bits ≡ 1023 + k.j
   unfolding real_exponent
-  exponent_is = let e = sum in let lo = k.low in let hi = k.high in let near = k.small in omega arith
+  exponent_is =
+      let e = sum in let lo = k.low in let hi = k.high in let near = k.small in omega arith
 
   mantissa_is : real_mantissa bits ≡ n * 2 ^ (52 - k.j)
   unfolding real_mantissa
@@ -116,13 +120,16 @@ module _ (n s : ℕ) (k : Encoded n) (bits : ℕ) (sign : s ≤ 1) (are : bits �
   unfolding has_fraction
   no_fraction = rw left_is refl
 
-pub shifted : (n z : ℕ) → Encoded n → z ≡ count_leading_zeros 64 n → n * 2 ^ (z - 11) % 18446744073709551616 ≡ n * 2 ^ (z - 11)
+pub shifted : (n z : ℕ) → Encoded n → z ≡ count_leading_zeros 64 n
+    → n * 2 ^ (z - 11) % 18446744073709551616 ≡ n * 2 ^ (z - 11)
 shifted n z k e =
     let near = k.small in let zs = k.zeros in let hi = k.high in
     let b : z - 11 ≡ 52 - k.j = omega arith in
     rw b (mod-eq_of_lt {n = n * 2 ^ (52 - k.j)} {m = 18446744073709551616} (omega arith))
 
-pub sum_is : (n z : ℕ) → Encoded n → z ≡ count_leading_zeros 64 n → ((1085 - z) * 4503599627370496 + n * 2 ^ (z - 11) % 18446744073709551616 ≡ whole_bits n) × (whole_bits n < 2 ^ 63)
+pub sum_is : (n z : ℕ) → Encoded n → z ≡ count_leading_zeros 64 n
+    → ((1085 - z) * 4503599627370496 + n * 2 ^ (z - 11) % 18446744073709551616 ≡ whole_bits n)
+    × (whole_bits n < 2 ^ 63)
 sum_is n z k e =
     let near = k.small in let zs = k.zeros in let hi = k.high in let is = k.is in
     let b : z - 11 ≡ 52 - k.j = omega arith in
@@ -131,7 +138,8 @@ sum_is n z k e =
     (rw (m, a, b) (sym is), omega arith)
 
 zero_back : (second_of_bits (whole_bits 0) ≡ Some (pos 0)) × (has_fraction (whole_bits 0) ≡ false)
-unfolding second_of_bits real_second real_exponent real_mantissa real_scale whole_seconds parts_left parts_of parts_in_second has_fraction whole_bits
+unfolding second_of_bits real_second real_exponent real_mantissa real_scale whole_seconds parts_left
+    parts_of parts_in_second has_fraction whole_bits
 zero_back = (refl, refl)
 
 whole_small : (n : ℕ) → Encoded n → whole_bits n < 2 ^ 63
@@ -142,7 +150,8 @@ value_zero : real_parts (whole_bits 0) ≡ (pos 0 *ℤ pos parts_in_second)
 unfolding real_parts real_exponent real_mantissa real_scale parts_of parts_in_second whole_bits
 value_zero = refl
 
-value_pos : (n : ℕ) → is_second_of_date (pos n) ≡ true → real_parts (whole_bits n) ≡ (pos n *ℤ pos parts_in_second)
+value_pos : (n : ℕ) → is_second_of_date (pos n) ≡ true
+    → real_parts (whole_bits n) ≡ (pos n *ℤ pos parts_in_second)
 unfolding real_parts
 value_pos zero h = value_zero
 value_pos (suc n) h =
@@ -152,38 +161,53 @@ value_pos (suc n) h =
     let plus : is_negative (whole_bits (suc n)) ≡ false = grind (arith, nat_tests) in
     rw plus (ap pos (parts_are (suc n) 0 k (whole_bits (suc n)) (omega arith) (omega arith)))
 
-value_neg : (n : ℕ) → is_second_of_date (negsuc n) ≡ true → real_parts (2 ^ 63 + whole_bits (suc n)) ≡ (negsuc n *ℤ pos parts_in_second)
+value_neg : (n : ℕ) → is_second_of_date (negsuc n) ≡ true
+    → real_parts (2 ^ 63 + whole_bits (suc n)) ≡ (negsuc n *ℤ pos parts_in_second)
 unfolding real_parts
 value_neg n h =
     let small : suc n < 2 ^ 53 = grind (arith, nat_tests) in
     let k = encoded (suc n) (omega arith) small in
     let minus : is_negative (2 ^ 63 + whole_bits (suc n)) ≡ true = grind (arith, nat_tests) in
-    rw minus (ap (λ p. neg_ℤ (pos p)) (parts_are (suc n) 1 k (2 ^ 63 + whole_bits (suc n)) (omega arith) (omega arith)))
+    rw minus (ap (λ p. neg_ℤ (pos p))
+    (parts_are (suc n) 1 k (2 ^ 63 + whole_bits (suc n)) (omega arith) (omega arith)))
 
-pub exact_neg : (z : ℤ) (b : ℕ) → is_second_of_date z ≡ true → lt_z z (pos 0) ≡ true → b ≡ whole_bits (unsigned_abs z) → real_parts (2 ^ 63 + b) ≡ (z *ℤ pos parts_in_second)
+pub exact_neg : (z : ℤ) (b : ℕ) → is_second_of_date z ≡ true → lt_z z (pos 0) ≡ true
+    → b ≡ whole_bits (unsigned_abs z) → real_parts (2 ^ 63 + b) ≡ (z *ℤ pos parts_in_second)
 exact_neg (pos n) b h lt e = absurd (grind (arith, ints))
 exact_neg (negsuc n) b h lt e = rw e (value_neg n h)
 
-pub exact_pos : (z : ℤ) (b : ℕ) → is_second_of_date z ≡ true → lt_z z (pos 0) ≡ false → b ≡ whole_bits (unsigned_abs z) → real_parts b ≡ (z *ℤ pos parts_in_second)
+pub exact_pos : (z : ℤ) (b : ℕ) → is_second_of_date z ≡ true → lt_z z (pos 0) ≡ false
+    → b ≡ whole_bits (unsigned_abs z) → real_parts b ≡ (z *ℤ pos parts_in_second)
 exact_pos (pos n) b h le e = rw e (value_pos n h)
 exact_pos (negsuc n) b h le e = absurd (cc)
 
 -- the law: the bits of a second give it back
-back_pos : (n : ℕ) → is_second_of_date (pos n) ≡ true → (second_of_bits (whole_bits n) ≡ Some (pos n)) × (has_fraction (whole_bits n) ≡ false)
+back_pos : (n : ℕ) → is_second_of_date (pos n) ≡ true
+    → (second_of_bits (whole_bits n) ≡ Some (pos n)) × (has_fraction (whole_bits n) ≡ false)
 back_pos zero h = zero_back
 back_pos (suc n) h =
     let small : suc n < 2 ^ 53 = grind (arith, nat_tests) in
     let k = encoded (suc n) (omega arith) small in
     let low = whole_small (suc n) k in
-    let plus : is_negative (whole_bits (suc n)) ≡ false = grind (arith, nat_tests) in
-    (second_is (suc n) 0 k (whole_bits (suc n)) (omega arith) (omega arith) ∙ rw (plus, h) refl, no_fraction (suc n) 0 k (whole_bits (suc n)) (omega arith) (omega arith))
+    let plus : is_negative (whole_bits (suc n)) ≡ false = grind (arith, nat_tests) in (
+      second_is (suc n) 0 k (whole_bits (suc n)) (omega arith) (omega arith)
+          ∙ rw (plus, h) refl,
+      no_fraction (suc n) 0 k (whole_bits (suc n)) (omega arith)
+          (omega arith),
+    )
 
-back_neg : (n : ℕ) → is_second_of_date (negsuc n) ≡ true → (second_of_bits (2 ^ 63 + whole_bits (suc n)) ≡ Some (negsuc n)) × (has_fraction (2 ^ 63 + whole_bits (suc n)) ≡ false)
+back_neg : (n : ℕ) → is_second_of_date (negsuc n) ≡ true
+    → (second_of_bits (2 ^ 63 + whole_bits (suc n)) ≡ Some (negsuc n))
+    × (has_fraction (2 ^ 63 + whole_bits (suc n)) ≡ false)
 back_neg n h =
     let small : suc n < 2 ^ 53 = grind (arith, nat_tests) in
     let k = encoded (suc n) (omega arith) small in
-    let minus : is_negative (2 ^ 63 + whole_bits (suc n)) ≡ true = grind (arith, nat_tests) in
-    (second_is (suc n) 1 k (2 ^ 63 + whole_bits (suc n)) (omega arith) (omega arith) ∙ rw (minus, h) refl, no_fraction (suc n) 1 k (2 ^ 63 + whole_bits (suc n)) (omega arith) (omega arith))
+    let minus : is_negative (2 ^ 63 + whole_bits (suc n)) ≡ true = grind (arith, nat_tests) in (
+      second_is (suc n) 1 k (2 ^ 63 + whole_bits (suc n)) (omega arith) (omega arith)
+          ∙ rw (minus, h) refl,
+      no_fraction (suc n) 1 k (2 ^ 63 + whole_bits (suc n)) (omega arith)
+          (omega arith),
+    )
 
 some_same : (a b : ℤ) → ◌≡◌ {A = Option ℤ} (Some a) (Some b) → a ≡ b
 some_same a b e = cc
@@ -191,19 +215,24 @@ some_same a b e = cc
 none_not : (a : ℤ) → ◌≡◌ {A = Option ℤ} (Some a) None → ⊥
 none_not a e = absurd (cc)
 
-ranged_go : (b : Bool) (z y : ℤ) → is_second_of_date z ≡ b → Some y ≡ if_second_of_date z → (is_second_of_date z ≡ true) × (y ≡ z)
+ranged_go : (b : Bool) (z y : ℤ) → is_second_of_date z ≡ b → Some y ≡ if_second_of_date z
+    → (is_second_of_date z ≡ true) × (y ≡ z)
 ranged_go true z y is e = (is, some_same y z (e ∙ rw is refl))
 ranged_go false z y is e = absurd (none_not y (e ∙ rw is refl))
 
 pub ranged : (z y : ℤ) → Some y ≡ if_second_of_date z → (is_second_of_date z ≡ true) × (y ≡ z)
 ranged z y e = ranged_go (is_second_of_date z) z y refl e
 
-pub written_neg : (z : ℤ) (b : ℕ) → is_second_of_date z ≡ true → lt_z z (pos 0) ≡ true → b ≡ whole_bits (unsigned_abs z) → (2 ^ 63 + b ≡ second_bits z) × (second_of_bits (2 ^ 63 + b) ≡ Some z) × (has_fraction (2 ^ 63 + b) ≡ false)
+pub written_neg : (z : ℤ) (b : ℕ) → is_second_of_date z ≡ true → lt_z z (pos 0) ≡ true
+    → b ≡ whole_bits (unsigned_abs z) → (2 ^ 63 + b ≡ second_bits z)
+    × (second_of_bits (2 ^ 63 + b) ≡ Some z) × (has_fraction (2 ^ 63 + b) ≡ false)
 unfolding second_bits
 written_neg (pos n) b h lt e = absurd (grind (arith, ints))
 written_neg (negsuc n) b h lt e = rw (e, add-one) (refl, (back_neg n h).0, (back_neg n h).1)
 
-pub written_pos : (z : ℤ) (b : ℕ) → is_second_of_date z ≡ true → lt_z z (pos 0) ≡ false → b ≡ whole_bits (unsigned_abs z) → (b ≡ second_bits z) × (second_of_bits b ≡ Some z) × (has_fraction b ≡ false)
+pub written_pos : (z : ℤ) (b : ℕ) → is_second_of_date z ≡ true → lt_z z (pos 0) ≡ false
+    → b ≡ whole_bits (unsigned_abs z) → (b ≡ second_bits z) × (second_of_bits b ≡ Some z)
+    × (has_fraction b ≡ false)
 unfolding second_bits
 written_pos (pos n) b h le e = rw e (refl, (back_pos n h).0, (back_pos n h).1)
 written_pos (negsuc n) b h le e = absurd (cc)
@@ -232,6 +261,7 @@ pub bytes_are : (bs : List ℕ) (b : ℕ) → bs ≡ to_be_bytes w64 b → b < 2
 bytes_are bs b e h = ap real_bits e ∙ from_be_bytes-to_be_bytes_8 b h
 
 -- bytes that stand for a second, and not for a zero with a sign, are a date's
-pub date_of_second : (second : Option ℤ) (bs : List ℕ) → is_none second ≡ false → eqb (real_bits bs) (2 ^ 63) ≡ false → date_if second bs ≡ Some bs
+pub date_of_second : (second : Option ℤ) (bs : List ℕ) → is_none second ≡ false
+    → eqb (real_bits bs) (2 ^ 63) ≡ false → date_if second bs ≡ Some bs
 date_of_second None bs some plain = absurd (cc)
 date_of_second (Some second) bs some plain = rw plain refl

@@ -1,5 +1,5 @@
 -- The second of a value is the greatest that isn't above it.
-use Rattle.std.proofs.Common.{◌≡◌, ℕ, zero, suc, ◌+◌, ◌*◌, ◌/◌, ◌%◌, ◌^◌, ◌<◌, ◌≤◌, Bool, true, false, cond, eqb, ℤ, pos, negsuc, neg_ℤ, ◌<ℤ◌, ◌≤ℤ◌, Option, None, Some, List, subst, refl, ap, sym, ◌∙◌, arith, ◌⊎◌, inl, inr}
+use Rattle.std.proofs.Common.{◌≡◌, ℕ, zero, suc, ◌+◌, ◌*◌, ◌/◌, ◌%◌, ◌^◌, ◌<◌, ◌≤◌, Bool, true, false, cond, eqb, ℤ, pos, negsuc, neg_ℤ, ◌<ℤ◌, ◌≤ℤ◌, Option, None, Some, List, slice_index, replicate, subst, refl, ap, sym, ◌∙◌, arith, ◌⊎◌, inl, inr}
 use Rattle.std.specs.Prelude.{◌+ℤ◌, ◌*ℤ◌, is_some, not}
 use Rattle.std.proofs.Math.Nat.{div-add-mod, mod-lt, one-le-pow, mul-le-mul_right}
 use Rattle.std.specs.Int.Signed.{le_z}
@@ -26,7 +26,7 @@ lt_neg a b h = omega (arith, ints)
 neg_next : (w : ℕ) → neg_ℤ (pos (suc w)) +ℤ pos 1 ≡ neg_ℤ (pos w)
 neg_next w = omega (arith, ints)
 
-neg_times : (w d : ℕ) → neg_ℤ (pos w) *ℤ pos d ≡ neg_ℤ (pos (w * d))
+pub neg_times : (w d : ℕ) → neg_ℤ (pos w) *ℤ pos d ≡ neg_ℤ (pos (w * d))
 neg_times zero d = let z : 0 * d ≡ 0 = omega arith in rw z refl
 neg_times (suc w) d = refl
 
@@ -34,7 +34,8 @@ bounds_pos : (w l d v : ℕ) → d * w + l ≡ v → l < d → Bounds (pos w) (p
 bounds_pos w l d v e h = (le_pos (w * d) v (omega arith), lt_pos v ((w + 1) * d) (omega arith))
 
 -- where parts are left
-bounds_up : (w l d v : ℕ) → d * w + l ≡ v → 0 < l → l < d → Bounds (neg_ℤ (pos (suc w))) (neg_ℤ (pos v)) d
+bounds_up : (w l d v : ℕ) → d * w + l ≡ v → 0 < l → l < d
+    → Bounds (neg_ℤ (pos (suc w))) (neg_ℤ (pos v)) d
 bounds_up w l d v e some h = (
   rw (neg_times (suc w) d) (le_neg (suc w * d) v (omega arith)),
   rw (neg_next w, neg_times w d) (lt_neg v (w * d) (omega arith)),
@@ -42,7 +43,8 @@ bounds_up w l d v e some h = (
 
 -- where none are
 bounds_even : (w d : ℕ) → 0 < d → Bounds (neg_ℤ (pos w)) (neg_ℤ (pos (w * d))) d
-bounds_even zero d h = let z : 0 * d ≡ 0 = omega arith in rw z (le_pos 0 0 (omega arith), lt_zero d h)
+bounds_even zero d h =
+    let z : 0 * d ≡ 0 = omega arith in rw z (le_pos 0 0 (omega arith), lt_zero d h)
   where
     lt_zero : (d : ℕ) → 0 < d → pos 0 <ℤ ((pos 0 +ℤ pos 1) *ℤ pos d)
     lt_zero d h = lt_pos 0 ((0 + 1) * d) (omega arith)
@@ -51,10 +53,15 @@ bounds_even (suc w) d h = (
   rw (neg_next w, neg_times w d) (lt_neg (suc w * d) (w * d) (omega arith)),
 )
 
-bounds : (negative : Bool) (w l d v : ℕ) → d * w + l ≡ v → l < d → Bounds (rounded_down negative w l) (cond negative (neg_ℤ (pos v)) (pos v)) d
+bounds : (negative : Bool) (w l d v : ℕ) → d * w + l ≡ v → l < d
+    → Bounds (rounded_down negative w l) (cond negative (neg_ℤ (pos v)) (pos v)) d
 bounds false w l d v e h = bounds_pos w l d v e h
-bounds true w zero d v e h = let is : v ≡ w * d = omega arith in rw is (bounds_even w d (omega arith))
-bounds true w (suc l) d v e h = let next : w + 1 ≡ suc w = omega arith in let some : eqb (suc l) 0 ≡ false = grind (arith, nat_tests) in rw (some, next) (bounds_up w (suc l) d v e (omega arith) h)
+bounds true w zero d v e h =
+    let is : v ≡ w * d = omega arith in rw is (bounds_even w d (omega arith))
+bounds true w (suc l) d v e h =
+    let next : w + 1 ≡ suc w = omega arith in let some : eqb (suc l) 0
+    ≡ false = grind (arith, nat_tests) in rw (some, next)
+    (bounds_up w (suc l) d v e (omega arith) h)
 
 second_pos : 0 < parts_in_second
 unfolding parts_in_second
@@ -64,7 +71,8 @@ pub second_is_greatest : (bits : ℕ) → IsSecondOf (real_second bits) bits
 unfolding real_second real_parts whole_seconds parts_left
 second_is_greatest bits =
     let v : ℕ = parts_of (real_mantissa bits) (real_scale bits) in
-    bounds (is_negative bits) (v / parts_in_second) (v % parts_in_second) parts_in_second v (div-add-mod v parts_in_second) (mod-lt v second_pos)
+    bounds (is_negative bits) (v / parts_in_second) (v % parts_in_second) parts_in_second v
+    (div-add-mod v parts_in_second) (mod-lt v second_pos)
 
 -- ---- a date's second
 
@@ -74,50 +82,66 @@ some_same a b e = cc
 none_not : (a : ℤ) → ◌≡◌ {A = Option ℤ} None (Some a) → ⊥
 none_not a e = absurd (cc)
 
-second_kept : (b : Bool) (y z : ℤ) → cond b None (if_second_of_date y) ≡ Some z → (y ≡ z) × (is_second_of_date z ≡ true)
+pub second_kept : (b : Bool) (y z : ℤ) → cond b None (if_second_of_date y) ≡ Some z → (y ≡ z)
+    × (is_second_of_date z ≡ true)
 second_kept true y z e = absurd (cc)
 second_kept false y z e = second_in_range (is_second_of_date y) y z refl (e)
   where
-    second_in_range : (b : Bool) (y z : ℤ) → is_second_of_date y ≡ b → cond (is_second_of_date y) (Some y) None ≡ Some z → (y ≡ z) × (is_second_of_date z ≡ true)
-    second_in_range true y z is e = let same : y ≡ z = some_same y z (sym (rw is refl) ∙ e) in (same, ap is_second_of_date (sym same) ∙ is)
+    second_in_range : (b : Bool) (y z : ℤ) → is_second_of_date y ≡ b
+        → cond (is_second_of_date y) (Some y) None ≡ Some z → (y ≡ z) × (is_second_of_date z ≡ true)
+    second_in_range true y z is e =
+        let same : y ≡ z = some_same y z (sym (rw is refl) ∙ e) in
+        (same, ap is_second_of_date (sym same) ∙ is)
     second_in_range false y z is e = absurd (none_not z (sym (rw is refl) ∙ e))
 
 pub in_bounds : (z : ℤ) → is_second_of_date z ≡ true → IsSecondOfDate z
-in_bounds (pos n) h = let le : n ≤ 252423993599 = grind (arith, nat_tests) in (omega (arith, ints), omega (arith, ints))
-in_bounds (negsuc n) h = let le : n ≤ 378683423999 = grind (arith, nat_tests) in (omega (arith, ints), omega (arith, ints))
+in_bounds (pos n) h =
+    let le : n ≤ 252423993599 = grind (arith, nat_tests) in
+    (omega (arith, ints), omega (arith, ints))
+in_bounds (negsuc n) h =
+    let le : n ≤ 378683423999 = grind (arith, nat_tests) in
+    (omega (arith, ints), omega (arith, ints))
 
 -- and the other way round
 pub out_of_bounds : (z : ℤ) → is_second_of_date z ≡ false → IsSecondOfDate z → ⊥
-out_of_bounds (pos n) h k = let lt : 252423993599 < n = grind (arith, nat_tests) in let le = k.1 in omega (arith, ints)
-out_of_bounds (negsuc n) h k = let lt : 378683423999 < n = grind (arith, nat_tests) in let le = k.0 in omega (arith, ints)
+out_of_bounds (pos n) h k =
+    let lt : 252423993599 < n = grind (arith, nat_tests) in let le = k.1 in omega (arith, ints)
+out_of_bounds (negsuc n) h k =
+    let lt : 378683423999 < n = grind (arith, nat_tests) in let le = k.0 in omega (arith, ints)
 
-pub second_facts : (bits : ℕ) (z : ℤ) → second_of_bits bits ≡ Some z → IsSecondOf z bits × IsSecondOfDate z
+pub second_facts : (bits : ℕ) (z : ℤ) → second_of_bits bits ≡ Some z → IsSecondOf z bits
+    × IsSecondOfDate z
 unfolding second_of_bits
 second_facts bits z e =
     let kept = second_kept (eqb (real_exponent bits) 2047) (real_second bits) z e in
     (subst (λ s. IsSecondOf s bits) kept.0 (second_is_greatest bits), in_bounds z kept.1)
 
 -- a date has a second
-pub date_has_second : (second : Option ℤ) (bs : List ℕ) → date_if second bs ≡ Some bs → second ≡ None → ⊥
+pub date_has_second : (second : Option ℤ) (bs : List ℕ) → date_if second bs ≡ Some bs
+    → second ≡ None → ⊥
 date_has_second None bs e none = absurd (cc)
 date_has_second (Some s) bs e none = absurd (cc)
 
 -- ---- no other second is the value's
 
 times_le : (a b : ℤ) (d : ℕ) → a ≤ℤ b → (a *ℤ pos d) ≤ℤ (b *ℤ pos d)
-times_le (pos a) (pos b) d h = let le : a ≤ b = omega (arith, ints) in le_pos (a * d) (b * d) (mul-le-mul_right d le)
+times_le (pos a) (pos b) d h =
+    let le : a ≤ b = omega (arith, ints) in le_pos (a * d) (b * d) (mul-le-mul_right d le)
 times_le (pos a) (negsuc b) d h = absurd (omega (arith, ints))
 times_le (negsuc a) (pos b) d h = neg_le_pos (suc a * d) (b * d)
   where
     neg_le_pos : (a b : ℕ) → neg_ℤ (pos a) ≤ℤ pos b
     neg_le_pos a b = omega (arith, ints)
-times_le (negsuc a) (negsuc b) d h = let le : suc b ≤ suc a = omega (arith, ints) in le_neg (suc a * d) (suc b * d) (mul-le-mul_right d le)
+times_le (negsuc a) (negsuc b) d h =
+    let le : suc b ≤ suc a = omega (arith, ints) in le_neg (suc a * d) (suc b * d)
+    (mul-le-mul_right d le)
 
 below_next : (s t v : ℤ) (d : ℕ) → (s *ℤ pos d) ≤ℤ v → v <ℤ ((t +ℤ pos 1) *ℤ pos d) → s ≤ℤ t
 below_next s t v d le lt =
     elim (at_most s t) [
       | inl h ↦ h
-      | inr h ↦ absurd (no_cycle (s *ℤ pos d) v ((t +ℤ pos 1) *ℤ pos d) le lt (times_le (t +ℤ pos 1) s d h))
+      | inr h ↦ absurd (no_cycle (s *ℤ pos d) v ((t +ℤ pos 1) *ℤ pos d) le lt
+          (times_le (t +ℤ pos 1) s d h))
     ]
   where
     by_test : (b : Bool) (s t : ℤ) → le_z s t ≡ b → (s ≤ℤ t) ⊎ ((t +ℤ pos 1) ≤ℤ s)
@@ -137,21 +161,33 @@ second_is_unique bits s t h k =
     omega (arith, ints)
 
 -- a real that is refused, though it is a number, has no second in the range of dates
-pub no_second : (bits : ℕ) → second_of_bits bits ≡ None → is_no_number bits ≡ false → (second : ℤ) → IsSecondOf second bits → IsSecondOfDate second → ⊥
+pub no_second : (bits : ℕ) → second_of_bits bits ≡ None → is_no_number bits ≡ false → (second : ℤ)
+    → IsSecondOf second bits → IsSecondOfDate second → ⊥
 unfolding second_of_bits
 no_second bits e number second is within =
-    let same : real_second bits ≡ second = second_is_unique bits (real_second bits) second (second_is_greatest bits) is in
-    out_of_bounds second (none_out (is_no_number bits) (real_second bits) second number same e) within
+    let same : real_second bits ≡ second = second_is_unique bits (real_second bits) second
+    (second_is_greatest bits) is in
+    out_of_bounds second (none_out (is_no_number bits) (real_second bits) second number same e)
+    within
   where
-    by_range : (b : Bool) (y : ℤ) → is_second_of_date y ≡ b → cond (is_second_of_date y) (Some y) None ≡ None → is_second_of_date y ≡ false
+    by_range : (b : Bool) (y : ℤ) → is_second_of_date y ≡ b
+        → cond (is_second_of_date y) (Some y) None ≡ None → is_second_of_date y ≡ false
     by_range true y is e = absurd (none_not y (sym e ∙ rw is refl))
     by_range false y is e = is
 
-    none_out : (b : Bool) (y z : ℤ) → b ≡ false → y ≡ z → cond b None (if_second_of_date y) ≡ None → is_second_of_date z ≡ false
+    none_out : (b : Bool) (y z : ℤ) → b ≡ false → y ≡ z → cond b None (if_second_of_date y) ≡ None
+        → is_second_of_date z ≡ false
     none_out true y z number same e = absurd (cc)
-    none_out false y z number same e = subst (λ s. is_second_of_date s ≡ false) same (by_range (is_second_of_date y) y refl e)
+    none_out false y z number same e =
+        subst (λ s. is_second_of_date s ≡ false) same (by_range (is_second_of_date y) y refl e)
 
 pub none_by_test : (s t : Option ℤ) (b : Bool) → t ≡ s → is_some t ≡ not b → b ≡ true → s ≡ None
 none_by_test s None b same test is = sym same
 none_by_test s (Some x) true same test is = absurd (cc)
 none_by_test s (Some x) false same test is = absurd (cc)
+
+-- zeros are bytes
+pub zeros_small : (count place : ℕ) → slice_index (replicate count 0) place < 256
+zeros_small zero place = omega arith
+zeros_small (suc count) zero = omega arith
+zeros_small (suc count) (suc place) = zeros_small count place

@@ -8,7 +8,8 @@ use Rattle.plist_base.specs.Date.{real_exponent, real_mantissa, real_scale, part
 -- a second's parts, by a shift that is part of them
 split : (e : ℕ) → e < 1075 → parts_in_second ≡ 2 ^ (1075 - e) * 2 ^ e
 unfolding parts_in_second
-split e h = let s : 1075 ≡ (1075 - e) + e = omega arith in ap (λ k. 2 ^ k) s ∙ pow-add 2 (1075 - e) e
+split e h = let s : 1075 ≡ (1075 - e) + e =
+    omega arith in ap (λ k. 2 ^ k) s ∙ pow-add 2 (1075 - e) e
 
 -- a quotient and its remainder, where both numbers have a factor
 factored : (m q c : ℕ) → 0 < q → 0 < c → (m * c / (q * c) ≡ m / q) × (m * c % (q * c) ≡ m % q * c)
@@ -27,15 +28,20 @@ power_pos k = let p : 1 ≤ 2 ^ k = one-le-pow k 2 (omega arith) in omega arith
 
 pub whole_shifted : (m e : ℕ) → e < 1075 → whole_seconds m e ≡ m / 2 ^ (1075 - e)
 unfolding whole_seconds parts_of
-whole_shifted m e h = rw (split e h) ((factored m (2 ^ (1075 - e)) (2 ^ e) (power_pos (1075 - e)) (power_pos e)).0)
+whole_shifted m e h =
+    rw (split e h) ((factored m (2 ^ (1075 - e)) (2 ^ e) (power_pos (1075 - e)) (power_pos e)).0)
 
 left_scaled : (m e : ℕ) → e < 1075 → parts_left m e ≡ m % 2 ^ (1075 - e) * 2 ^ e
 unfolding parts_left parts_of
-left_scaled m e h = rw (split e h) ((factored m (2 ^ (1075 - e)) (2 ^ e) (power_pos (1075 - e)) (power_pos e)).1)
+left_scaled m e h =
+    rw (split e h) ((factored m (2 ^ (1075 - e)) (2 ^ e) (power_pos (1075 - e)) (power_pos e)).1)
 
 zero_scaled : (a c : ℕ) → 0 < c → eqb (a * c) 0 ≡ eqb a 0
 zero_scaled zero c h = let z : 0 * c ≡ 0 = omega arith in rw z refl
-zero_scaled (suc a) c h = let p : 1 * c ≤ suc a * c = mul-le-mul_right c (omega arith) in let q : eqb (suc a * c) 0 ≡ false = grind (arith, nat_tests) in let r : eqb (suc a) 0 ≡ false = grind (arith, nat_tests) in q ∙ sym r
+zero_scaled (suc a) c h =
+    let p : 1 * c ≤ suc a * c = mul-le-mul_right c (omega arith) in let q : eqb (suc a * c) 0
+    ≡ false = grind (arith, nat_tests) in let r : eqb (suc a) 0
+    ≡ false = grind (arith, nat_tests) in q ∙ sym r
 
 -- whether anything is left does not depend on the scale
 pub left_shifted : (m e : ℕ) → e < 1075 → eqb (parts_left m e) 0 ≡ eqb (m % 2 ^ (1075 - e)) 0
@@ -51,7 +57,8 @@ left_far : (m e : ℕ) → 1075 ≤ e → parts_left m e ≡ 0
 unfolding parts_left parts_of parts_in_second
 left_far m e h =
     let s : e ≡ (e - 1075) + 1075 = omega arith in
-    multiple m (2 ^ (e - 1075)) (2 ^ 1075) (2 ^ e) (power_pos 1075) (ap (λ k. 2 ^ k) s ∙ pow-add 2 (e - 1075) 1075)
+    multiple m (2 ^ (e - 1075)) (2 ^ 1075) (2 ^ e) (power_pos 1075)
+    (ap (λ k. 2 ^ k) s ∙ pow-add 2 (e - 1075) 1075)
 
 above : (m k : ℕ) → m < 2 ^ 53 → 53 ≤ k → m < 2 ^ k
 above m k h big = let p : 2 ^ 53 ≤ 2 ^ k = pow-le-pow_right {n = 2} (omega arith) big in omega arith
@@ -61,7 +68,8 @@ pub whole_none : (m e : ℕ) → m < 2 ^ 53 → e < 1075 → 64 ≤ 1075 - e →
 whole_none m e h lt far = whole_shifted m e lt ∙ div-eq_of_lt (above m (1075 - e) h (omega arith))
 
 pub left_all : (m e : ℕ) → m < 2 ^ 53 → e < 1075 → 64 ≤ 1075 - e → eqb (parts_left m e) 0 ≡ eqb m 0
-left_all m e h lt far = left_shifted m e lt ∙ ap (λ k. eqb k 0) (mod-eq_of_lt (above m (1075 - e) h (omega arith)))
+left_all m e h lt far =
+    left_shifted m e lt ∙ ap (λ k. eqb k 0) (mod-eq_of_lt (above m (1075 - e) h (omega arith)))
 
 far_pos : (w : ℕ) → 2 ^ 52 ≤ w → is_second_of_date (pos w) ≡ false
 far_pos w h = grind (arith, nat_tests)
@@ -70,11 +78,13 @@ far_neg : (w : ℕ) → 2 ^ 52 ≤ w → is_second_of_date (neg_ℤ (pos w)) ≡
 far_neg zero h = absurd (omega arith)
 far_neg (suc w) h = grind (arith, nat_tests)
 
-far_second : (negative : Bool) (w left : ℕ) → 2 ^ 52 ≤ w → is_second_of_date (rounded_down negative w left) ≡ false
+far_second : (negative : Bool) (w left : ℕ) → 2 ^ 52 ≤ w
+    → is_second_of_date (rounded_down negative w left) ≡ false
 far_second false w left h = far_pos w h
 far_second true w left h = far_up (eqb left 0) w h
   where
-    far_up : (b : Bool) (w : ℕ) → 2 ^ 52 ≤ w → is_second_of_date (neg_ℤ (pos (cond b w (w + 1)))) ≡ false
+    far_up : (b : Bool) (w : ℕ) → 2 ^ 52 ≤ w
+        → is_second_of_date (neg_ℤ (pos (cond b w (w + 1)))) ≡ false
     far_up true w h = far_neg w h
     far_up false w h = far_neg (w + 1) (omega arith)
 
@@ -93,7 +103,8 @@ whole_far m e h big =
 
 mantissa_far : (bits : ℕ) → 1075 ≤ real_exponent bits → 2 ^ 52 ≤ real_mantissa bits
 unfolding real_mantissa
-mantissa_far bits h = let n : eqb (real_exponent bits) 0 ≡ false = grind (arith, nat_tests) in rw n (omega arith)
+mantissa_far bits h =
+    let n : eqb (real_exponent bits) 0 ≡ false = grind (arith, nat_tests) in rw n (omega arith)
 
 scale_far : (bits : ℕ) → 1075 ≤ real_exponent bits → 1075 ≤ real_scale bits
 unfolding real_scale
@@ -103,21 +114,32 @@ pub fraction_far : (bits : ℕ) → 1075 ≤ real_exponent bits → false ≡ ha
 unfolding has_fraction
 fraction_far bits h = rw (left_far (real_mantissa bits) (real_scale bits) (scale_far bits h)) refl
 
-pub fraction_is : (bits m e : ℕ) (is_left : Bool) → m ≡ real_mantissa bits → e ≡ real_scale bits → is_left ≡ not (eqb (parts_left m e) 0) → is_left ≡ has_fraction bits
+pub fraction_is : (bits m e : ℕ) (is_left : Bool) → m ≡ real_mantissa bits → e ≡ real_scale bits
+    → is_left ≡ not (eqb (parts_left m e) 0) → is_left ≡ has_fraction bits
 unfolding has_fraction
 fraction_is bits m e is_left is_m is_e is = rw (is, is_m, is_e) refl
 
-none_of : (b : Bool) (z : ℤ) → is_second_of_date z ≡ false → ◌≡◌ {A = Option ℤ} (cond b None (if_second_of_date z)) None
+none_of : (b : Bool) (z : ℤ) → is_second_of_date z ≡ false
+    → ◌≡◌ {A = Option ℤ} (cond b None (if_second_of_date z)) None
 none_of true z h = refl
 none_of false z h = rw h refl
 
-pub second_far : (bits : ℕ) → 1075 ≤ real_exponent bits → ◌≡◌ {A = Option ℤ} None (second_of_bits bits)
+pub second_far : (bits : ℕ) → 1075 ≤ real_exponent bits
+    → ◌≡◌ {A = Option ℤ} None (second_of_bits bits)
 unfolding second_of_bits real_second
-second_far bits h = sym (none_of (eqb (real_exponent bits) 2047) (real_second bits) (far_second (is_negative bits) (whole_seconds (real_mantissa bits) (real_scale bits)) (parts_left (real_mantissa bits) (real_scale bits)) (whole_far (real_mantissa bits) (real_scale bits) (mantissa_far bits h) (scale_far bits h))))
+second_far bits h =
+    sym (none_of (eqb (real_exponent bits) 2047) (real_second bits)
+    (far_second (is_negative bits) (whole_seconds (real_mantissa bits) (real_scale bits))
+    (parts_left (real_mantissa bits) (real_scale bits))
+    (whole_far (real_mantissa bits) (real_scale bits) (mantissa_far bits h) (scale_far bits h))))
 
-second_near : (bits : ℕ) → real_exponent bits < 1075 → if_second_of_date (rounded_down (is_negative bits) (whole_seconds (real_mantissa bits) (real_scale bits)) (parts_left (real_mantissa bits) (real_scale bits))) ≡ second_of_bits bits
+second_near : (bits : ℕ) → real_exponent bits < 1075
+    → if_second_of_date (rounded_down (is_negative bits)
+    (whole_seconds (real_mantissa bits) (real_scale bits))
+    (parts_left (real_mantissa bits) (real_scale bits))) ≡ second_of_bits bits
 unfolding second_of_bits real_second
-second_near bits h = let n : eqb (real_exponent bits) 2047 ≡ false = grind (arith, nat_tests) in rw n refl
+second_near bits h =
+    let n : eqb (real_exponent bits) 2047 ≡ false = grind (arith, nat_tests) in rw n refl
 
 pub whole_small : (m e : ℕ) → m < 2 ^ 53 → e < 1075 → m / 2 ^ (1075 - e) < 2 ^ 52
 whole_small m e h lt =
@@ -137,5 +159,7 @@ pub scale_is : (bits e : ℕ) → e ≡ real_exponent bits → max e 1 ≡ real_
 unfolding real_scale
 scale_is bits e is = omega arith
 
-pub second_is : (bits m e w : ℕ) → m ≡ real_mantissa bits → e ≡ real_scale bits → w ≡ whole_seconds m e → real_exponent bits < 1075 → if_second_of_date (rounded_down (is_negative bits) w (parts_left m e)) ≡ second_of_bits bits
+pub second_is : (bits m e w : ℕ) → m ≡ real_mantissa bits → e ≡ real_scale bits
+    → w ≡ whole_seconds m e → real_exponent bits < 1075
+    → if_second_of_date (rounded_down (is_negative bits) w (parts_left m e)) ≡ second_of_bits bits
 second_is bits m e w is_m is_e is_w lt = rw (is_w, is_m, is_e) (second_near bits lt)

@@ -3,7 +3,8 @@ use Rattle.plist_base.specs.Faults.{FaultKind, UnexpectedEventType, ExpectedEndO
 use Rattle.plist_base.specs.Writing.{MatchKind}
 
 -- what holds of a failure by its kind, where no event was refused for its place
-pub failed_kind : (P Q : FaultKind → Type 0) (kind : FaultKind) (refused : Type 0) → (refused → ⊥) → (Q Io → P Io) → (Q OutOfMemory → P OutOfMemory) → (Q PlistTooLarge → P PlistTooLarge)
+pub failed_kind : (P Q : FaultKind → Type 0) (kind : FaultKind) (refused : Type 0) → (refused → ⊥)
+    → (Q Io → P Io) → (Q OutOfMemory → P OutOfMemory) → (Q PlistTooLarge → P PlistTooLarge)
     → MatchKind kind refused (Q kind) ⊥ → P kind
 failed_kind P Q (UnexpectedEventType x y) r never io memory size h = absurd (never h)
 failed_kind P Q (ExpectedEndOfEventStream x) r never io memory size h = absurd (never h)

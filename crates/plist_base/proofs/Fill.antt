@@ -8,7 +8,9 @@ use borrow.Rule.Slice.PartMut.{put_mid, post_of}
 take_seam : (a b : List ℕ) (n m : ℕ) → length a ≡ n → take (n + m) (a ++ b) ≡ a ++ take m b
 take_seam a b n m e = rw (← e) (take-append-add a b m)
 
-pub fill_more : (xs buf part : List ℕ) (place at c k : ℕ) → at ≤ length buf → c ≤ length part → take at buf ≡ take at (drop place xs) → take c part ≡ take c (drop (place + at) xs) → take (at + c) (put_mid at k buf part) ≡ take (at + c) (drop place xs)
+pub fill_more : (xs buf part : List ℕ) (place at c k : ℕ) → at ≤ length buf → c ≤ length part
+    → take at buf ≡ take at (drop place xs) → take c part ≡ take c (drop (place + at) xs)
+    → take (at + c) (put_mid at k buf part) ≡ take (at + c) (drop place xs)
 fill_more xs buf part place at c k h g front new =
     take_seam (take at buf) (part ++ post_of at k buf) at c (length-take-le at buf h)
     ∙ ap (λ z. take at buf ++ z) (take-append-le c part (post_of at k buf) g)
@@ -18,6 +20,12 @@ fill_more xs buf part place at c k h g front new =
     ∙ sym (take-add at c (drop place xs))
 
 -- the same, where the bytes may not be known
-pub fill_more_known : (now start : Option (List ℕ)) (buf part : List ℕ) (place at c k : ℕ) → now ≡ start → at ≤ length buf → c ≤ length part → IfSome start (λ xs. take at buf ≡ take at (drop place xs)) → IfSome now (λ xs. GivesAt xs (place + at) c part) → IfSome start (λ xs. take (at + c) (put_mid at k buf part) ≡ take (at + c) (drop place xs))
+pub fill_more_known : (now start : Option (List ℕ)) (buf part : List ℕ) (place at c k : ℕ)
+    → now ≡ start → at ≤ length buf → c ≤ length part
+    → IfSome start (λ xs. take at buf ≡ take at (drop place xs))
+    → IfSome now (λ xs. GivesAt xs (place + at) c part)
+    → IfSome start (λ xs. take (at + c) (put_mid at k buf part) ≡ take (at + c) (drop place xs))
 fill_more_known now None buf part place at c k e h g front new = tt
-fill_more_known now (Some xs) buf part place at c k e h g front new = let given : GivesAt xs (place + at) c part = rw e at new in fill_more xs buf part place at c k h g front given.0
+fill_more_known now (Some xs) buf part place at c k e h g front new =
+    let given : GivesAt xs (place + at) c part = rw e at new in fill_more xs buf part place at c k h
+    g front given.0

@@ -1,79 +1,69 @@
 -- The stack of what is wanted takes exactly the events that can go on to a tree's.
 use Rattle.std.proofs.Common.{◌≡◌, ◌⊎◌, inl, inr, ℕ, true, List, [], ◌∷◌, ◌++◌, Option, Some, None, map, refl, sym, ap, ◌∙◌, append_assoc, append-nil, subst, option_and_then}
-use Rattle.plist_base.specs.Events.{PlainEvent, StartArray, StartDictionary, EndCollection, Boolean, Data, Date, Integer, Real, String, Uid}
+use Rattle.plist_base.specs.Events.{PlainEvent, StartArray, StartDictionary, EndCollection, Single}
 use Rattle.plist_base.specs.Trees as trees
 use Rattle.plist_base.specs.Trees.{Scalar, Tree, Leaf, Array, Dictionary, Trees, NoTrees, TreeAnd, Members, NoMembers, MemberAnd}
-use Rattle.plist_base.specs.Bracketing.{event_of_scalar, bracketing, bracketing_of_items, bracketing_of_pairs, unhinted, AreAlike, AreWhole, AreComplete, CanContinue, ContinueAlike}
-use Rattle.plist_base.specs.Wants.{Want, OneValue, Items, Pairs, change_of, changed, step, steps, wanted_after}
+use Rattle.plist_base.specs.Bracketing.{shape, shape_of_items, shape_of_pairs, bracketing, bracketing_of_items, bracketing_of_pairs, unhinted, AreAlike, AreWhole, AreComplete, CanContinue, ContinueAlike}
+use Rattle.plist_base.specs.inner.Wants.{Want, OneValue, Items, Pairs, change_of, changed, step, steps, wanted_after}
 
 abbrev pub Stack : Type 0
 Stack = List Want
 
--- the events of a tree without lengths
-abbrev mutual
-  pub shape : Tree → List PlainEvent
-  shape (Leaf scalar) = event_of_scalar scalar ∷ []
-  shape (Array items) = StartArray None ∷ (shape_of_items items ++ EndCollection ∷ [])
-  shape (Dictionary pairs) = StartDictionary None ∷ (shape_of_pairs pairs ++ EndCollection ∷ [])
-
-  pub shape_of_items : Trees → List PlainEvent
-  shape_of_items NoTrees = []
-  shape_of_items (TreeAnd tree trees) = shape tree ++ shape_of_items trees
-
-  pub shape_of_pairs : Members → List PlainEvent
-  shape_of_pairs NoMembers = []
-  shape_of_pairs (MemberAnd key tree members) = String key ∷ (shape tree ++ shape_of_pairs members)
-
-pub map-append : {A B : Type 0} (f : A → B) (xs ys : List A) → map f (xs ++ ys) ≡ map f xs ++ map f ys
+pub map-append : {A B : Type 0} (f : A → B) (xs ys : List A)
+    → map f (xs ++ ys) ≡ map f xs ++ map f ys
 map-append f [] ys = refl
 map-append f (x ∷ xs) ys = ap (λ l. f x ∷ l) (map-append f xs ys)
-
-scalar-unhinted : (s : Scalar) → unhinted (event_of_scalar s) ≡ event_of_scalar s
-scalar-unhinted (trees.Boolean b) = refl
-scalar-unhinted (trees.Data d) = refl
-scalar-unhinted (trees.Date d) = refl
-scalar-unhinted (trees.Integer z) = refl
-scalar-unhinted (trees.Real r) = refl
-scalar-unhinted (trees.String s) = refl
-scalar-unhinted (trees.Uid u) = refl
 
 unhinted-twice : (e : PlainEvent) → unhinted (unhinted e) ≡ unhinted e
 unhinted-twice (StartArray n) = refl
 unhinted-twice (StartDictionary n) = refl
 unhinted-twice EndCollection = refl
-unhinted-twice (Boolean b) = refl
-unhinted-twice (Data d) = refl
-unhinted-twice (Date d) = refl
-unhinted-twice (Integer z) = refl
-unhinted-twice (Real r) = refl
-unhinted-twice (String s) = refl
-unhinted-twice (Uid u) = refl
+unhinted-twice (Single x) = refl
 
 pub all-unhinted-twice : (es : List PlainEvent) → map unhinted (map unhinted es) ≡ map unhinted es
 all-unhinted-twice [] = refl
-all-unhinted-twice (e ∷ es) = ap (λ d. d ∷ map unhinted (map unhinted es)) (unhinted-twice e) ∙ ap (λ l. unhinted e ∷ l) (all-unhinted-twice es)
+all-unhinted-twice (e ∷ es) =
+    ap (λ d. d ∷ map unhinted (map unhinted es)) (unhinted-twice e)
+    ∙ ap (λ l. unhinted e ∷ l) (all-unhinted-twice es)
 
 mutual
   -- a tree's events without their lengths
   pub shape-is : (t : Tree) → map unhinted (bracketing t) ≡ shape t
-  shape-is (Leaf s) = ap (λ e. e ∷ []) (scalar-unhinted s)
-  shape-is (Array ts) = ap (λ l. StartArray None ∷ l) (map-append unhinted (bracketing_of_items ts) (EndCollection ∷ []) ∙ ap (λ l. l ++ EndCollection ∷ []) (shape-of-items-is ts))
-  shape-is (Dictionary ms) = ap (λ l. StartDictionary None ∷ l) (map-append unhinted (bracketing_of_pairs ms) (EndCollection ∷ []) ∙ ap (λ l. l ++ EndCollection ∷ []) (shape-of-pairs-is ms))
+  shape-is (Leaf s) = refl
+  shape-is (Array ts) =
+      ap (λ l. StartArray None ∷ l) (map-append unhinted (bracketing_of_items ts)
+      (EndCollection ∷ []) ∙ ap (λ l. l ++ EndCollection ∷ []) (shape-of-items-is ts))
+  shape-is (Dictionary ms) =
+      ap (λ l. StartDictionary None ∷ l)
+      (map-append unhinted (bracketing_of_pairs ms) (EndCollection ∷ [])
+      ∙ ap (λ l. l ++ EndCollection ∷ []) (shape-of-pairs-is ms))
 
   pub shape-of-items-is : (ts : Trees) → map unhinted (bracketing_of_items ts) ≡ shape_of_items ts
   shape-of-items-is NoTrees = refl
-  shape-of-items-is (TreeAnd t ts) = map-append unhinted (bracketing t) (bracketing_of_items ts) ∙ ap (λ l. l ++ map unhinted (bracketing_of_items ts)) (shape-is t) ∙ ap (λ l. shape t ++ l) (shape-of-items-is ts)
+  shape-of-items-is (TreeAnd t ts) =
+      map-append unhinted (bracketing t) (bracketing_of_items ts)
+      ∙ ap (λ l. l ++ map unhinted (bracketing_of_items ts)) (shape-is t)
+      ∙ ap (λ l. shape t ++ l) (shape-of-items-is ts)
 
   pub shape-of-pairs-is : (ms : Members) → map unhinted (bracketing_of_pairs ms) ≡ shape_of_pairs ms
   shape-of-pairs-is NoMembers = refl
-  shape-of-pairs-is (MemberAnd k t ms) = ap (λ l. String k ∷ l) (map-append unhinted (bracketing t) (bracketing_of_pairs ms) ∙ ap (λ l. l ++ map unhinted (bracketing_of_pairs ms)) (shape-is t) ∙ ap (λ l. shape t ++ l) (shape-of-pairs-is ms))
+  shape-of-pairs-is (MemberAnd k t ms) =
+      ap (λ l. Single (trees.String k) ∷ l)
+      (map-append unhinted (bracketing t) (bracketing_of_pairs ms)
+      ∙ ap (λ l. l ++ map unhinted (bracketing_of_pairs ms)) (shape-is t)
+      ∙ ap (λ l. shape t ++ l) (shape-of-pairs-is ms))
 
 -- the events give what is wanted, and nothing more
 abbrev Fills : Stack → List PlainEvent → Type 0
 Fills [] es = es ≡ []
-Fills (OneValue ∷ rest) es = (t : Tree) × (left : List PlainEvent) × (es ≡ shape t ++ left) × Fills rest left
-Fills (Items ∷ rest) es = (ts : Trees) × (left : List PlainEvent) × (es ≡ shape_of_items ts ++ EndCollection ∷ left) × Fills rest left
-Fills (Pairs ∷ rest) es = (ms : Members) × (left : List PlainEvent) × (es ≡ shape_of_pairs ms ++ EndCollection ∷ left) × Fills rest left
+Fills (OneValue ∷ rest) es =
+    (t : Tree) × (left : List PlainEvent) × (es ≡ shape t ++ left) × Fills rest left
+Fills (Items ∷ rest) es =
+    (ts : Trees) × (left : List PlainEvent) × (es ≡ shape_of_items ts ++ EndCollection ∷ left)
+    × Fills rest left
+Fills (Pairs ∷ rest) es =
+    (ms : Members) × (left : List PlainEvent) × (es ≡ shape_of_pairs ms ++ EndCollection ∷ left)
+    × Fills rest left
 
 same_stack : (a b : Stack) → Some a ≡ Some b → b ≡ a
 same_stack a b e = cc
@@ -84,89 +74,112 @@ no_stack b e = cc
 -- each stack can be filled
 filling : (s : Stack) → (es : List PlainEvent) × Fills s es
 filling [] = ([], refl)
-filling (OneValue ∷ s) = let f = filling s in (Boolean true ∷ f.0, (Leaf (trees.Boolean true), f.0, refl, f.1))
+filling (OneValue ∷ s) =
+    let f = filling s in (
+      Single (trees.Boolean true)
+          ∷ f.0,
+      (Leaf (trees.Boolean true), f.0, refl, f.1),
+    )
 filling (Items ∷ s) = let f = filling s in (EndCollection ∷ f.0, (NoTrees, f.0, refl, f.1))
 filling (Pairs ∷ s) = let f = filling s in (EndCollection ∷ f.0, (NoMembers, f.0, refl, f.1))
 
-on_array : (s : Stack) (m : List PlainEvent) → Fills (Items ∷ s) m → Fills (OneValue ∷ s) (StartArray None ∷ m)
-on_array s m f = (Array f.0, f.1, ap (λ l. StartArray None ∷ l) (f.2 ∙ sym (append_assoc (shape_of_items f.0) (EndCollection ∷ []) f.1)), f.3)
+on_array : (s : Stack) (m : List PlainEvent) → Fills (Items ∷ s) m
+    → Fills (OneValue ∷ s) (StartArray None ∷ m)
+on_array s m f = (
+  Array f.0,
+  f.1,
+  ap (λ l. StartArray None ∷ l)
+      (f.2 ∙ sym (append_assoc (shape_of_items f.0) (EndCollection ∷ []) f.1)),
+  f.3,
+)
 
-on_dictionary : (s : Stack) (m : List PlainEvent) → Fills (Pairs ∷ s) m → Fills (OneValue ∷ s) (StartDictionary None ∷ m)
-on_dictionary s m f = (Dictionary f.0, f.1, ap (λ l. StartDictionary None ∷ l) (f.2 ∙ sym (append_assoc (shape_of_pairs f.0) (EndCollection ∷ []) f.1)), f.3)
+on_dictionary : (s : Stack) (m : List PlainEvent) → Fills (Pairs ∷ s) m
+    → Fills (OneValue ∷ s) (StartDictionary None ∷ m)
+on_dictionary s m f = (
+  Dictionary f.0,
+  f.1,
+  ap (λ l. StartDictionary None ∷ l)
+      (f.2 ∙ sym (append_assoc (shape_of_pairs f.0) (EndCollection ∷ []) f.1)),
+  f.3,
+)
 
 -- a value before the other items
 on_item : (s : Stack) (m : List PlainEvent) → Fills (OneValue ∷ Items ∷ s) m → Fills (Items ∷ s) m
 on_item s m f =
-    let g = f.3 in
-    (TreeAnd f.0 g.0, g.1, f.2 ∙ ap (λ l. shape f.0 ++ l) g.2 ∙ sym (append_assoc (shape f.0) (shape_of_items g.0) (EndCollection ∷ g.1)), g.3)
+    let g = f.3 in (
+      TreeAnd f.0 g.0,
+      g.1,
+      f.2 ∙ ap (λ l. shape f.0 ++ l) g.2
+          ∙ sym (append_assoc (shape f.0) (shape_of_items g.0) (EndCollection ∷ g.1)),
+      g.3,
+    )
 
 -- a key and a value before the other pairs
-on_pair : (k : List ℕ) (s : Stack) (m : List PlainEvent) → Fills (OneValue ∷ Pairs ∷ s) m → Fills (Pairs ∷ s) (String k ∷ m)
+on_pair : (k : List ℕ) (s : Stack) (m : List PlainEvent) → Fills (OneValue ∷ Pairs ∷ s) m
+    → Fills (Pairs ∷ s) (Single (trees.String k) ∷ m)
 on_pair k s m f =
-    let g = f.3 in
-    (MemberAnd k f.0 g.0, g.1, ap (λ l. String k ∷ l) (f.2 ∙ ap (λ l. shape f.0 ++ l) g.2 ∙ sym (append_assoc (shape f.0) (shape_of_pairs g.0) (EndCollection ∷ g.1))), g.3)
+    let g = f.3 in (
+      MemberAnd k f.0 g.0,
+      g.1,
+      ap (λ l. Single (trees.String k) ∷ l)
+          (f.2 ∙ ap (λ l. shape f.0 ++ l) g.2
+          ∙ sym (append_assoc (shape f.0) (shape_of_pairs g.0) (EndCollection ∷ g.1))),
+      g.3,
+    )
 
 -- a scalar is a value
-on_scalar : (s : Stack) (x : Scalar) (m : List PlainEvent) → Fills s m → Fills (OneValue ∷ s) (event_of_scalar x ∷ m)
+on_scalar : (s : Stack) (x : Scalar) (m : List PlainEvent) → Fills s m
+    → Fills (OneValue ∷ s) (Single x ∷ m)
 on_scalar s x m f = (Leaf x, m, refl, f)
 
-on_value : (s : Stack) (e : PlainEvent) (t : Stack) (m : List PlainEvent) → step (OneValue ∷ s) e ≡ Some t → Fills t m → Fills (OneValue ∷ s) (unhinted e ∷ m)
+on_value : (s : Stack) (e : PlainEvent) (t : Stack) (m : List PlainEvent)
+    → step (OneValue ∷ s) e ≡ Some t → Fills t m → Fills (OneValue ∷ s) (unhinted e ∷ m)
 on_value s (StartArray n) t m p f = on_array s m (subst (λ u. Fills u m) (same_stack _ _ p) f)
-on_value s (StartDictionary n) t m p f = on_dictionary s m (subst (λ u. Fills u m) (same_stack _ _ p) f)
+on_value s (StartDictionary n) t m p f =
+    on_dictionary s m (subst (λ u. Fills u m) (same_stack _ _ p) f)
 on_value s EndCollection t m p f = no_stack t p
-on_value s (Boolean b) t m p f = on_scalar s (trees.Boolean b) m (subst (λ u. Fills u m) (same_stack _ _ p) f)
-on_value s (Data d) t m p f = on_scalar s (trees.Data d) m (subst (λ u. Fills u m) (same_stack _ _ p) f)
-on_value s (Date d) t m p f = on_scalar s (trees.Date d) m (subst (λ u. Fills u m) (same_stack _ _ p) f)
-on_value s (Integer z) t m p f = on_scalar s (trees.Integer z) m (subst (λ u. Fills u m) (same_stack _ _ p) f)
-on_value s (Real r) t m p f = on_scalar s (trees.Real r) m (subst (λ u. Fills u m) (same_stack _ _ p) f)
-on_value s (String k) t m p f = on_scalar s (trees.String k) m (subst (λ u. Fills u m) (same_stack _ _ p) f)
-on_value s (Uid u) t m p f = on_scalar s (trees.Uid u) m (subst (λ u. Fills u m) (same_stack _ _ p) f)
+on_value s (Single x) t m p f = on_scalar s x m (subst (λ u. Fills u m) (same_stack _ _ p) f)
 
 -- what an array's items accept besides its end, a value accepts
-as_value : (s : Stack) (e : PlainEvent) (t : Stack) → (e ≡ EndCollection → ⊥) → step (Items ∷ s) e ≡ Some t → step (OneValue ∷ Items ∷ s) e ≡ Some t
+as_value : (s : Stack) (e : PlainEvent) (t : Stack) → (e ≡ EndCollection → ⊥)
+    → step (Items ∷ s) e ≡ Some t → step (OneValue ∷ Items ∷ s) e ≡ Some t
 as_value s (StartArray n) t differs p = p
 as_value s (StartDictionary n) t differs p = p
 as_value s EndCollection t differs p = absurd (differs refl)
-as_value s (Boolean b) t differs p = p
-as_value s (Data d) t differs p = p
-as_value s (Date d) t differs p = p
-as_value s (Integer z) t differs p = p
-as_value s (Real r) t differs p = p
-as_value s (String k) t differs p = p
-as_value s (Uid u) t differs p = p
+as_value s (Single x) t differs p = p
 
 is_end : (e : PlainEvent) → (e ≡ EndCollection) ⊎ (e ≡ EndCollection → ⊥)
 is_end (StartArray n) = inr (λ p. cc)
 is_end (StartDictionary n) = inr (λ p. cc)
 is_end EndCollection = inl refl
-is_end (Boolean b) = inr (λ p. cc)
-is_end (Data d) = inr (λ p. cc)
-is_end (Date d) = inr (λ p. cc)
-is_end (Integer z) = inr (λ p. cc)
-is_end (Real r) = inr (λ p. cc)
-is_end (String k) = inr (λ p. cc)
-is_end (Uid u) = inr (λ p. cc)
+is_end (Single x) = inr (λ p. cc)
 
-on_items : (s : Stack) (e : PlainEvent) (t : Stack) (m : List PlainEvent) → (e ≡ EndCollection) ⊎ (e ≡ EndCollection → ⊥) → step (Items ∷ s) e ≡ Some t → Fills t m → Fills (Items ∷ s) (unhinted e ∷ m)
+on_items : (s : Stack) (e : PlainEvent) (t : Stack) (m : List PlainEvent) → (e ≡ EndCollection)
+    ⊎ (e ≡ EndCollection → ⊥) → step (Items ∷ s) e ≡ Some t → Fills t m
+    → Fills (Items ∷ s) (unhinted e ∷ m)
 on_items s e t m (inl p) q f =
     let r : step (Items ∷ s) EndCollection ≡ Some t = sym (ap (step (Items ∷ s)) p) ∙ q in
     (NoTrees, m, ap (λ d. unhinted d ∷ m) p, subst (λ u. Fills u m) (same_stack _ _ r) f)
-on_items s e t m (inr differs) q f = on_item s (unhinted e ∷ m) (on_value (Items ∷ s) e t m (as_value s e t differs q) f)
+on_items s e t m (inr differs) q f =
+    on_item s (unhinted e ∷ m) (on_value (Items ∷ s) e t m (as_value s e t differs q) f)
 
-on_pairs : (s : Stack) (e : PlainEvent) (t : Stack) (m : List PlainEvent) → step (Pairs ∷ s) e ≡ Some t → Fills t m → Fills (Pairs ∷ s) (unhinted e ∷ m)
+on_pairs : (s : Stack) (e : PlainEvent) (t : Stack) (m : List PlainEvent)
+    → step (Pairs ∷ s) e ≡ Some t → Fills t m → Fills (Pairs ∷ s) (unhinted e ∷ m)
 on_pairs s (StartArray n) t m p f = no_stack t p
 on_pairs s (StartDictionary n) t m p f = no_stack t p
 on_pairs s EndCollection t m p f = (NoMembers, m, refl, subst (λ u. Fills u m) (same_stack _ _ p) f)
-on_pairs s (Boolean b) t m p f = no_stack t p
-on_pairs s (Data d) t m p f = no_stack t p
-on_pairs s (Date d) t m p f = no_stack t p
-on_pairs s (Integer z) t m p f = no_stack t p
-on_pairs s (Real r) t m p f = no_stack t p
-on_pairs s (String k) t m p f = on_pair k s m (subst (λ u. Fills u m) (same_stack _ _ p) f)
-on_pairs s (Uid u) t m p f = no_stack t p
+on_pairs s (Single (trees.Boolean b)) t m p f = no_stack t p
+on_pairs s (Single (trees.Data d)) t m p f = no_stack t p
+on_pairs s (Single (trees.Date d)) t m p f = no_stack t p
+on_pairs s (Single (trees.Integer z)) t m p f = no_stack t p
+on_pairs s (Single (trees.Real r)) t m p f = no_stack t p
+on_pairs s (Single (trees.String k)) t m p f =
+    on_pair k s m (subst (λ u. Fills u m) (same_stack _ _ p) f)
+on_pairs s (Single (trees.Uid u)) t m p f = no_stack t p
 
 -- what fills the stack after a step fills, with the event in front, the stack before it
-fill_back : (s : Stack) (e : PlainEvent) (t : Stack) (m : List PlainEvent) → step s e ≡ Some t → Fills t m → Fills s (unhinted e ∷ m)
+fill_back : (s : Stack) (e : PlainEvent) (t : Stack) (m : List PlainEvent) → step s e ≡ Some t
+    → Fills t m → Fills s (unhinted e ∷ m)
 fill_back [] e t m p f = no_stack t p
 fill_back (OneValue ∷ s) e t m p f = on_value s e t m p f
 fill_back (Items ∷ s) e t m p f = on_items s e t m (is_end e) p f
@@ -182,41 +195,37 @@ head_is e d m l p = cc
 tail_is : (e d : PlainEvent) (m l : List PlainEvent) → e ∷ m ≡ d ∷ l → l ≡ m
 tail_is e d m l p = cc
 
-moved : (s : Stack) (e d : PlainEvent) (m l : List PlainEvent) → e ∷ m ≡ d ∷ l → GoesOn s d l → GoesOn s e m
-moved s e d m l p g = let h : GoesOn s e l = subst (λ x. GoesOn s x l) (head_is e d m l p) g in subst (λ x. GoesOn s e x) (tail_is e d m l p) h
-
--- a scalar is taken where a value or an item is wanted, and leaves the stack
-scalar_taken : (s : Stack) (x : Scalar) → step (OneValue ∷ s) (event_of_scalar x) ≡ Some s
-scalar_taken s (trees.Boolean b) = refl
-scalar_taken s (trees.Data d) = refl
-scalar_taken s (trees.Date d) = refl
-scalar_taken s (trees.Integer z) = refl
-scalar_taken s (trees.Real r) = refl
-scalar_taken s (trees.String k) = refl
-scalar_taken s (trees.Uid u) = refl
+moved : (s : Stack) (e d : PlainEvent) (m l : List PlainEvent) → e ∷ m ≡ d ∷ l → GoesOn s d l
+    → GoesOn s e m
+moved s e d m l p g =
+    let h : GoesOn s e l = subst (λ x. GoesOn s x l) (head_is e d m l p) g in subst
+    (λ x. GoesOn s e x) (tail_is e d m l p) h
 
 -- a value's first event: `after` is what is wanted behind the value
-value_goes : (w after : Stack) (t : Tree) (left : List PlainEvent) (e : PlainEvent) (m : List PlainEvent)
-    → ((d : PlainEvent) (u : Stack) → step (OneValue ∷ after) d ≡ Some u → step w d ≡ Some u) → e ∷ m ≡ shape t ++ left → Fills after left → GoesOn w e m
-value_goes w s (Leaf x) left e m to p f = moved w e (event_of_scalar x) m left p (s, to (event_of_scalar x) s (scalar_taken s x), f)
+value_goes : (w after : Stack) (t : Tree) (left : List PlainEvent) (e : PlainEvent)
+    (m : List PlainEvent)
+    → ((d : PlainEvent) (u : Stack) → step (OneValue ∷ after) d ≡ Some u → step w d ≡ Some u)
+    → e ∷ m ≡ shape t ++ left → Fills after left → GoesOn w e m
+value_goes w s (Leaf x) left e m to p f = moved w e (Single x) m left p (s, to (Single x) s refl, f)
 value_goes w s (Array ts) left e m to p f =
-    moved w e (StartArray None) m ((shape_of_items ts ++ EndCollection ∷ []) ++ left) p
-    (Items ∷ s, to (StartArray None) (Items ∷ s) refl, (ts, left, append_assoc (shape_of_items ts) (EndCollection ∷ []) left, f))
+    moved w e (StartArray None) m ((shape_of_items ts ++ EndCollection ∷ []) ++ left) p (
+      Items ∷ s,
+      to (StartArray None) (Items ∷ s) refl,
+      (ts, left, append_assoc (shape_of_items ts) (EndCollection ∷ []) left, f),
+    )
 value_goes w s (Dictionary ms) left e m to p f =
-    moved w e (StartDictionary None) m ((shape_of_pairs ms ++ EndCollection ∷ []) ++ left) p
-    (Pairs ∷ s, to (StartDictionary None) (Pairs ∷ s) refl, (ms, left, append_assoc (shape_of_pairs ms) (EndCollection ∷ []) left, f))
+    moved w e (StartDictionary None) m ((shape_of_pairs ms ++ EndCollection ∷ []) ++ left) p (
+      Pairs ∷ s,
+      to (StartDictionary None) (Pairs ∷ s) refl,
+      (ms, left, append_assoc (shape_of_pairs ms) (EndCollection ∷ []) left, f),
+    )
 
-item_begins : (s : Stack) (d : PlainEvent) (u : Stack) → step (OneValue ∷ Items ∷ s) d ≡ Some u → step (Items ∷ s) d ≡ Some u
+item_begins : (s : Stack) (d : PlainEvent) (u : Stack) → step (OneValue ∷ Items ∷ s) d ≡ Some u
+    → step (Items ∷ s) d ≡ Some u
 item_begins s (StartArray n) u p = p
 item_begins s (StartDictionary n) u p = p
 item_begins s EndCollection u p = no_stack u p
-item_begins s (Boolean b) u p = p
-item_begins s (Data d) u p = p
-item_begins s (Date d) u p = p
-item_begins s (Integer z) u p = p
-item_begins s (Real r) u p = p
-item_begins s (String k) u p = p
-item_begins s (Uid v) u p = p
+item_begins s (Single x) u p = p
 
 not_nil : {A : Type 0} (e : PlainEvent) (m : List PlainEvent) → e ∷ m ≡ [] → A
 not_nil e m p = cc
@@ -225,37 +234,61 @@ not_nil e m p = cc
 fill_on : (s : Stack) (e : PlainEvent) (m : List PlainEvent) → Fills s (e ∷ m) → GoesOn s e m
 fill_on [] e m f = not_nil e m f
 fill_on (OneValue ∷ s) e m (t, left, p, f) = value_goes (OneValue ∷ s) s t left e m (λ d u q. q) p f
-fill_on (Items ∷ s) e m (NoTrees, left, p, f) = moved (Items ∷ s) e EndCollection m left p (s, refl, f)
+fill_on (Items ∷ s) e m (NoTrees, left, p, f) =
+    moved (Items ∷ s) e EndCollection m left p (s, refl, f)
 fill_on (Items ∷ s) e m (TreeAnd t ts, left, p, f) =
-    value_goes (Items ∷ s) (Items ∷ s) t (shape_of_items ts ++ EndCollection ∷ left) e m (item_begins s) (p ∙ append_assoc (shape t) (shape_of_items ts) (EndCollection ∷ left)) (ts, left, refl, f)
-fill_on (Pairs ∷ s) e m (NoMembers, left, p, f) = moved (Pairs ∷ s) e EndCollection m left p (s, refl, f)
+    value_goes (Items ∷ s) (Items ∷ s) t (shape_of_items ts ++ EndCollection ∷ left) e m
+    (item_begins s) (p ∙ append_assoc (shape t) (shape_of_items ts) (EndCollection ∷ left))
+    (ts, left, refl, f)
+fill_on (Pairs ∷ s) e m (NoMembers, left, p, f) =
+    moved (Pairs ∷ s) e EndCollection m left p (s, refl, f)
 fill_on (Pairs ∷ s) e m (MemberAnd k t ms, left, p, f) =
-    moved (Pairs ∷ s) e (String k) m (shape t ++ (shape_of_pairs ms ++ EndCollection ∷ left)) (p ∙ ap (λ l. String k ∷ l) (append_assoc (shape t) (shape_of_pairs ms) (EndCollection ∷ left)))
-    (OneValue ∷ Pairs ∷ s, refl, (t, shape_of_pairs ms ++ EndCollection ∷ left, refl, (ms, left, refl, f)))
+    moved (Pairs ∷ s) e (Single (trees.String k)) m
+    (shape t ++ (shape_of_pairs ms ++ EndCollection ∷ left))
+    (p ∙ ap (λ l. Single (trees.String k) ∷ l)
+    (append_assoc (shape t) (shape_of_pairs ms) (EndCollection ∷ left))) (
+      OneValue ∷ Pairs ∷ s,
+      refl,
+      (
+        t,
+        shape_of_pairs ms ++ EndCollection
+            ∷ left,
+        refl,
+        (ms, left, refl, f),
+      ),
+    )
 
-begun : {A : Type 0} (a : List PlainEvent) (e : PlainEvent) (b : List PlainEvent) → [] ≡ a ++ e ∷ b → A
+begun : {A : Type 0} (a : List PlainEvent) (e : PlainEvent) (b : List PlainEvent) → [] ≡ a ++ e ∷ b
+    → A
 begun [] e b p = not_nil e b (sym p)
 begun (d ∷ a) e b p = not_nil d (a ++ e ∷ b) (sym p)
 
 fills_nothing : (s : Stack) → Fills s [] → s ≡ []
 fills_nothing [] f = refl
-fills_nothing (OneValue ∷ s) (Leaf x, left, p, f) = begun [] (event_of_scalar x) left p
-fills_nothing (OneValue ∷ s) (Array ts, left, p, f) = begun [] (StartArray None) ((shape_of_items ts ++ EndCollection ∷ []) ++ left) p
-fills_nothing (OneValue ∷ s) (Dictionary ms, left, p, f) = begun [] (StartDictionary None) ((shape_of_pairs ms ++ EndCollection ∷ []) ++ left) p
+fills_nothing (OneValue ∷ s) (Leaf x, left, p, f) = begun [] (Single x) left p
+fills_nothing (OneValue ∷ s) (Array ts, left, p, f) =
+    begun [] (StartArray None) ((shape_of_items ts ++ EndCollection ∷ []) ++ left) p
+fills_nothing (OneValue ∷ s) (Dictionary ms, left, p, f) =
+    begun [] (StartDictionary None) ((shape_of_pairs ms ++ EndCollection ∷ []) ++ left) p
 fills_nothing (Items ∷ s) (ts, left, p, f) = begun (shape_of_items ts) EndCollection left p
 fills_nothing (Pairs ∷ s) (ms, left, p, f) = begun (shape_of_pairs ms) EndCollection left p
 
-run_along : (es : List PlainEvent) (o : Option Stack) (s : Stack) (e : PlainEvent) (t : Stack) (m : List PlainEvent) → step s e ≡ o → option_and_then (λ u. steps u es) o ≡ Some t → Fills t m
-    → ((u : Stack) → steps u es ≡ Some t → Fills u (map unhinted es ++ m)) → Fills s (unhinted e ∷ (map unhinted es ++ m))
+run_along : (es : List PlainEvent) (o : Option Stack) (s : Stack) (e : PlainEvent) (t : Stack)
+    (m : List PlainEvent) → step s e ≡ o → option_and_then (λ u. steps u es) o ≡ Some t → Fills t m
+    → ((u : Stack) → steps u es ≡ Some t → Fills u (map unhinted es ++ m))
+    → Fills s (unhinted e ∷ (map unhinted es ++ m))
 run_along es None s e t m q p f next = no_stack t p
 run_along es (Some u) s e t m q p f next = fill_back s e u (map unhinted es ++ m) q (next u p)
 
 -- over a list of events
-run_back : (es : List PlainEvent) (s t : Stack) (m : List PlainEvent) → steps s es ≡ Some t → Fills t m → Fills s (map unhinted es ++ m)
+run_back : (es : List PlainEvent) (s t : Stack) (m : List PlainEvent) → steps s es ≡ Some t
+    → Fills t m → Fills s (map unhinted es ++ m)
 run_back [] s t m p f = subst (λ u. Fills u m) (same_stack s t p) f
-run_back (e ∷ es) s t m p f = run_along es (step s e) s e t m refl p f (λ u q. run_back es u t m q f)
+run_back (e ∷ es) s t m p f =
+    run_along es (step s e) s e t m refl p f (λ u q. run_back es u t m q f)
 
-run_on : (es : List PlainEvent) (s : Stack) (m : List PlainEvent) → Fills s (es ++ m) → (t : Stack) × (steps s es ≡ Some t) × Fills t m
+run_on : (es : List PlainEvent) (s : Stack) (m : List PlainEvent) → Fills s (es ++ m) → (t : Stack)
+    × (steps s es ≡ Some t) × Fills t m
 run_on [] s m f = (s, refl, f)
 run_on (e ∷ es) s m f =
     let g = fill_on s e (es ++ m) f in
@@ -267,59 +300,51 @@ change_unhinted : (w : Want) (e : PlainEvent) → change_of w (unhinted e) ≡ c
 change_unhinted OneValue (StartArray n) = refl
 change_unhinted OneValue (StartDictionary n) = refl
 change_unhinted OneValue EndCollection = refl
-change_unhinted OneValue (Boolean b) = refl
-change_unhinted OneValue (Data d) = refl
-change_unhinted OneValue (Date d) = refl
-change_unhinted OneValue (Integer z) = refl
-change_unhinted OneValue (Real r) = refl
-change_unhinted OneValue (String k) = refl
-change_unhinted OneValue (Uid u) = refl
+change_unhinted OneValue (Single x) = refl
 change_unhinted Items (StartArray n) = refl
 change_unhinted Items (StartDictionary n) = refl
 change_unhinted Items EndCollection = refl
-change_unhinted Items (Boolean b) = refl
-change_unhinted Items (Data d) = refl
-change_unhinted Items (Date d) = refl
-change_unhinted Items (Integer z) = refl
-change_unhinted Items (Real r) = refl
-change_unhinted Items (String k) = refl
-change_unhinted Items (Uid u) = refl
+change_unhinted Items (Single x) = refl
 change_unhinted Pairs (StartArray n) = refl
 change_unhinted Pairs (StartDictionary n) = refl
 change_unhinted Pairs EndCollection = refl
-change_unhinted Pairs (Boolean b) = refl
-change_unhinted Pairs (Data d) = refl
-change_unhinted Pairs (Date d) = refl
-change_unhinted Pairs (Integer z) = refl
-change_unhinted Pairs (Real r) = refl
-change_unhinted Pairs (String k) = refl
-change_unhinted Pairs (Uid u) = refl
+change_unhinted Pairs (Single x) = refl
 
 step_unhinted : (s : Stack) (e : PlainEvent) → step s (unhinted e) ≡ step s e
 step_unhinted [] e = refl
 step_unhinted (w ∷ s) e = ap (λ c. changed c w s) (change_unhinted w e)
 
-also_then : {A B : Type 0} (f g : A → Option B) (o : Option A) → ((x : A) → f x ≡ g x) → option_and_then f o ≡ option_and_then g o
+also_then : {A B : Type 0} (f g : A → Option B) (o : Option A) → ((x : A) → f x ≡ g x)
+    → option_and_then f o ≡ option_and_then g o
 also_then f g None h = refl
 also_then f g (Some x) h = h x
 
 pub steps_unhinted : (es : List PlainEvent) (s : Stack) → steps s (map unhinted es) ≡ steps s es
 steps_unhinted [] s = refl
-steps_unhinted (e ∷ es) s = ap (option_and_then (λ u. steps u (map unhinted es))) (step_unhinted s e) ∙ also_then (λ u. steps u (map unhinted es)) (λ u. steps u es) (step s e) (λ u. steps_unhinted es u)
+steps_unhinted (e ∷ es) s =
+    ap (option_and_then (λ u. steps u (map unhinted es))) (step_unhinted s e)
+    ∙ also_then (λ u. steps u (map unhinted es)) (λ u. steps u es) (step s e)
+    (λ u. steps_unhinted es u)
 
 -- the same events up to lengths want the same
-pub wanted_alike : (left right : List PlainEvent) → AreAlike left right → wanted_after left ≡ wanted_after right
-wanted_alike left right p = sym (steps_unhinted left (OneValue ∷ [])) ∙ ap (steps (OneValue ∷ [])) p ∙ steps_unhinted right (OneValue ∷ [])
+pub wanted_alike : (left right : List PlainEvent) → AreAlike left right
+    → wanted_after left ≡ wanted_after right
+wanted_alike left right p =
+    sym (steps_unhinted left (OneValue ∷ [])) ∙ ap (steps (OneValue ∷ [])) p
+    ∙ steps_unhinted right (OneValue ∷ [])
 
-alike_shape : (es : List PlainEvent) (t : Tree) → es ≡ shape t → map unhinted es ≡ map unhinted (bracketing t)
+alike_shape : (es : List PlainEvent) (t : Tree) → es ≡ shape t
+    → map unhinted es ≡ map unhinted (bracketing t)
 alike_shape es t p = ap (map unhinted) (p ∙ sym (shape-is t)) ∙ all-unhinted-twice (bracketing t)
 
 -- where the stack takes the event, it can go on to a tree
-pub can_continue : (held : List PlainEvent) (e : PlainEvent) (t : Stack) → wanted_after (held ++ e ∷ []) ≡ Some t → CanContinue held e
+pub can_continue : (held : List PlainEvent) (e : PlainEvent) (t : Stack)
+    → wanted_after (held ++ e ∷ []) ≡ Some t → CanContinue held e
 can_continue held e t p =
     let g = filling t in
     let f = run_back (held ++ e ∷ []) (OneValue ∷ []) t g.0 p g.1 in
-    let all : map unhinted (held ++ e ∷ []) ++ g.0 ≡ shape f.0 = f.2 ∙ ap (λ l. shape f.0 ++ l) f.3 ∙ append-nil (shape f.0) in (
+    let all : map unhinted (held ++ e ∷ []) ++ g.0 ≡ shape f.0 = f.2 ∙ ap (λ l. shape f.0 ++ l) f.3
+    ∙ append-nil (shape f.0) in (
       g.0,
       f.0,
       map-append unhinted held (e ∷ g.0)
@@ -331,24 +356,38 @@ can_continue held e t p =
     )
 
 -- the events begin those of a tree
-on_the_way : (es more : List PlainEvent) (tree : Tree) → AreAlike (es ++ more) (bracketing tree) → (t : Stack) × (wanted_after es ≡ Some t) × Fills t (map unhinted more)
+on_the_way : (es more : List PlainEvent) (tree : Tree) → AreAlike (es ++ more) (bracketing tree)
+    → (t : Stack) × (wanted_after es ≡ Some t) × Fills t (map unhinted more)
 on_the_way es more tree p =
-    let g = run_on (map unhinted es) (OneValue ∷ []) (map unhinted more) (tree, [], sym (map-append unhinted es more) ∙ p ∙ shape-is tree ∙ sym (append-nil (shape tree)), refl) in
+    let g = run_on (map unhinted es) (OneValue ∷ []) (map unhinted more) (
+      tree,
+      [],
+      sym (map-append unhinted es more) ∙ p ∙ shape-is tree
+          ∙ sym (append-nil (shape tree)),
+      refl,
+    ) in
     (g.0, sym (steps_unhinted es (OneValue ∷ [])) ∙ g.1, g.2)
 
 -- where it can go on to a tree, the stack takes the event
-pub continues : (held : List PlainEvent) (e : PlainEvent) → CanContinue held e → (t : Stack) × (wanted_after (held ++ e ∷ []) ≡ Some t)
+pub continues : (held : List PlainEvent) (e : PlainEvent) → CanContinue held e → (t : Stack)
+    × (wanted_after (held ++ e ∷ []) ≡ Some t)
 continues held e (more, tree, p) =
-    let g = on_the_way (held ++ e ∷ []) more tree (ap (map unhinted) (append_assoc held (e ∷ []) more) ∙ p) in
+    let g = on_the_way (held ++ e ∷ []) more tree
+    (ap (map unhinted) (append_assoc held (e ∷ []) more) ∙ p) in
     (g.0, g.1)
 
 -- the events are those of a tree exactly where nothing more is wanted after them
-pub bracketed : (held : List PlainEvent) → wanted_after held ≡ Some [] → (t : Tree) × AreAlike held (bracketing t)
+pub bracketed : (held : List PlainEvent) → wanted_after held ≡ Some [] → (t : Tree)
+    × AreAlike held (bracketing t)
 bracketed held p =
-    let f = run_back held (OneValue ∷ []) [] [] p refl in
-    (f.0, sym (append-nil (map unhinted held)) ∙ f.2 ∙ ap (λ l. shape f.0 ++ l) f.3 ∙ append-nil (shape f.0) ∙ sym (shape-is f.0))
+    let f = run_back held (OneValue ∷ []) [] [] p refl in (
+      f.0,
+      sym (append-nil (map unhinted held)) ∙ f.2 ∙ ap (λ l. shape f.0 ++ l) f.3
+          ∙ append-nil (shape f.0) ∙ sym (shape-is f.0),
+    )
 
-pub all_taken : (held : List PlainEvent) (t : Tree) → AreAlike held (bracketing t) → wanted_after held ≡ Some []
+pub all_taken : (held : List PlainEvent) (t : Tree) → AreAlike held (bracketing t)
+    → wanted_after held ≡ Some []
 all_taken held t p =
     let g = on_the_way held [] t (ap (map unhinted) (append-nil held) ∙ p) in
     g.1 ∙ ap Some (fills_nothing g.0 g.2)
@@ -360,21 +399,28 @@ only : {A : Type 0} (o : Option A) → option_and_then Some o ≡ o
 only None = refl
 only (Some t) = refl
 
-steps-then : (es : List PlainEvent) (e : PlainEvent) → ((t : Stack) → steps t (es ++ e ∷ []) ≡ option_and_then (λ u. step u e) (steps t es)) → (o : Option Stack)
-    → option_and_then (λ t. steps t (es ++ e ∷ [])) o ≡ option_and_then (λ t. step t e) (option_and_then (λ t. steps t es) o)
+steps-then : (es : List PlainEvent) (e : PlainEvent)
+    → ((t : Stack) → steps t (es ++ e ∷ []) ≡ option_and_then (λ u. step u e) (steps t es))
+    → (o : Option Stack)
+    → option_and_then (λ t. steps t (es ++ e ∷ [])) o
+    ≡ option_and_then (λ t. step t e) (option_and_then (λ t. steps t es) o)
 steps-then es e h None = refl
 steps-then es e h (Some t) = h t
 
 -- one more event
-pub steps_snoc : (es : List PlainEvent) (s : Stack) (e : PlainEvent) → steps s (es ++ e ∷ []) ≡ option_and_then (λ t. step t e) (steps s es)
+pub steps_snoc : (es : List PlainEvent) (s : Stack) (e : PlainEvent)
+    → steps s (es ++ e ∷ []) ≡ option_and_then (λ t. step t e) (steps s es)
 steps_snoc [] s e = only (step s e)
 steps_snoc (d ∷ es) s e = steps-then es e (λ t. steps_snoc es t e) (step s d)
 
 -- behind a tree's events none can come
-none_behind : (events : List PlainEvent) → AreWhole events → (e : PlainEvent) → CanContinue events e → ⊥
+none_behind : (events : List PlainEvent) → AreWhole events → (e : PlainEvent) → CanContinue events e
+    → ⊥
 none_behind events (t, alike) e c =
     let g = continues events e c in
-    none_is (wanted_after (events ++ e ∷ [])) g.0 (steps_snoc events (OneValue ∷ []) e ∙ ap (option_and_then (λ s. step s e)) (all_taken events t alike)) g.1
+    none_is (wanted_after (events ++ e ∷ [])) g.0
+    (steps_snoc events (OneValue ∷ []) e
+    ∙ ap (option_and_then (λ s. step s e)) (all_taken events t alike)) g.1
 
 pub complete_of_whole : (events : List PlainEvent) → AreWhole events → AreComplete events
 complete_of_whole events whole = (whole, none_behind events whole)
@@ -382,14 +428,20 @@ complete_of_whole events whole = (whole, none_behind events whole)
 -- ---- lengths decide nothing
 
 -- the same events behind events that are alike
-pub alike_with : (left right more : List PlainEvent) → AreAlike left right → AreAlike (left ++ more) (right ++ more)
-alike_with left right more p = map-append unhinted left more ∙ ap (λ l. l ++ map unhinted more) p ∙ sym (map-append unhinted right more)
+pub alike_with : (left right more : List PlainEvent) → AreAlike left right
+    → AreAlike (left ++ more) (right ++ more)
+alike_with left right more p =
+    map-append unhinted left more ∙ ap (λ l. l ++ map unhinted more) p
+    ∙ sym (map-append unhinted right more)
 
-pub whole_alike : (left right : List PlainEvent) → AreAlike left right → AreWhole left → AreWhole right
+pub whole_alike : (left right : List PlainEvent) → AreAlike left right → AreWhole left
+    → AreWhole right
 whole_alike left right p (t, alike) = (t, sym p ∙ alike)
 
-continue_with : (left right : List PlainEvent) → AreAlike left right → (e : PlainEvent) → CanContinue left e → CanContinue right e
-continue_with left right p e (more, t, alike) = (more, t, sym (alike_with left right (e ∷ more) p) ∙ alike)
+continue_with : (left right : List PlainEvent) → AreAlike left right → (e : PlainEvent)
+    → CanContinue left e → CanContinue right e
+continue_with left right p e (more, t, alike) =
+    (more, t, sym (alike_with left right (e ∷ more) p) ∙ alike)
 
 pub continue_alike : (left right : List PlainEvent) → AreAlike left right → ContinueAlike left right
 continue_alike left right p e = (continue_with left right p e, continue_with right left (sym p) e)
@@ -397,5 +449,9 @@ continue_alike left right p e = (continue_with left right p e, continue_with rig
 pub alike_unhinted : (events : List PlainEvent) → AreAlike (map unhinted events) events
 alike_unhinted events = all-unhinted-twice events
 
-pub alike_last : (events : List PlainEvent) (e : PlainEvent) → AreAlike (events ++ unhinted e ∷ []) (events ++ e ∷ [])
-alike_last events e = map-append unhinted events (unhinted e ∷ []) ∙ ap (λ l. map unhinted events ++ l) (all-unhinted-twice (e ∷ [])) ∙ sym (map-append unhinted events (e ∷ []))
+pub alike_last : (events : List PlainEvent) (e : PlainEvent)
+    → AreAlike (events ++ unhinted e ∷ []) (events ++ e ∷ [])
+alike_last events e =
+    map-append unhinted events (unhinted e ∷ [])
+    ∙ ap (λ l. map unhinted events ++ l) (all-unhinted-twice (e ∷ []))
+    ∙ sym (map-append unhinted events (e ∷ []))

@@ -23,13 +23,16 @@ split_true : (a b : Bool) → (a && b) ≡ true → (a ≡ true) × (b ≡ true)
 split_true true b e = (refl, e)
 split_true false b e = cc
 
-all_digits : (radix : ℕ) (ds : List ℕ) → AllDigits radix ds → list_all (λ c. is_digit c radix) ds ≡ true
+all_digits : (radix : ℕ) (ds : List ℕ) → AllDigits radix ds
+    → list_all (λ c. is_digit c radix) ds ≡ true
 all_digits radix [] h = refl
 all_digits radix (c ∷ cs) h = both_true _ _ (lt_true _ _ h.0) (all_digits radix cs h.1)
 
-digits_all : (radix : ℕ) (ds : List ℕ) → list_all (λ c. is_digit c radix) ds ≡ true → AllDigits radix ds
+digits_all : (radix : ℕ) (ds : List ℕ) → list_all (λ c. is_digit c radix) ds ≡ true
+    → AllDigits radix ds
 digits_all radix [] h = tt
-digits_all radix (c ∷ cs) h = let s = split_true (is_digit c radix) _ h in (lt_from _ _ s.0, digits_all radix cs s.1)
+digits_all radix (c ∷ cs) h =
+    let s = split_true (is_digit c radix) _ h in (lt_from _ _ s.0, digits_all radix cs s.1)
 
 pub numeral_true : (radix : ℕ) (ds : List ℕ) → IsNumeral radix ds → is_numeral radix ds ≡ true
 numeral_true radix ds h = both_true _ _ (lt_true _ _ h.0) (all_digits radix ds h.1)
@@ -41,14 +44,23 @@ decide : {A : Type 0} (b : Bool) (x : A) → (b ≡ true → ⊥) → None ≡ c
 decide true x h = absurd (h refl)
 decide false x h = refl
 
-pub unsigned_ok : (radix n : ℕ) (text : List ℕ) → (IsNumeral radix (without_leading_plus text) × (digits_value radix (without_leading_plus text) < 2 ^ 64)) × (n ≡ digits_value radix (without_leading_plus text)) → Some (pos n) ≡ unsigned_of_text radix text
+pub unsigned_ok : (radix n : ℕ) (text : List ℕ)
+    → (IsNumeral radix (without_leading_plus text)
+    × (digits_value radix (without_leading_plus text) < 2 ^ 64))
+    × (n ≡ digits_value radix (without_leading_plus text))
+    → Some (pos n) ≡ unsigned_of_text radix text
 unsigned_ok radix n text h =
     let ds = without_leading_plus text in
     let t = both_true _ _ (numeral_true radix ds h.0.0) (lt_true _ _ h.0.1) in
     rw t (ap (λ n. Some (pos n)) h.1)
 
-pub unsigned_err : (radix : ℕ) (text : List ℕ) → (IsNumeral radix (without_leading_plus text) × (digits_value radix (without_leading_plus text) < 2 ^ 64) → ⊥) → None ≡ unsigned_of_text radix text
-unsigned_err radix text h = decide _ _ (λ t. let s = split_true _ _ t in h (numeral_from radix (without_leading_plus text) s.0, lt_from _ _ s.1))
+pub unsigned_err : (radix : ℕ) (text : List ℕ)
+    → (IsNumeral radix (without_leading_plus text)
+    × (digits_value radix (without_leading_plus text) < 2 ^ 64) → ⊥)
+    → None ≡ unsigned_of_text radix text
+unsigned_err radix text h =
+    decide _ _ (λ t. let s = split_true _ _ t in h
+    (numeral_from radix (without_leading_plus text) s.0, lt_from _ _ s.1))
 
 fits_true : (z : ℤ) → FitsSigned w64 z → fits_signed z ≡ true
 fits_true (pos n) h = let l : n < 2 ^ 63 = grind (arith, ints) in lt_true _ _ l
@@ -58,20 +70,28 @@ fits_from : (z : ℤ) → fits_signed z ≡ true → FitsSigned w64 z
 fits_from (pos n) h = let l : n < 2 ^ 63 = lt_from _ _ h in grind (arith, ints)
 fits_from (negsuc n) h = let l : n < 2 ^ 63 = lt_from _ _ h in grind (arith, ints)
 
-pub signed_ok : (z : ℤ) (text : List ℕ) → (IsNumeral 10 (without_leading_sign text) × FitsSigned w64 (signed_digits_value 10 text)) × (z ≡ signed_digits_value 10 text) → Some z ≡ signed_of_text text
+pub signed_ok : (z : ℤ) (text : List ℕ)
+    → (IsNumeral 10 (without_leading_sign text) × FitsSigned w64 (signed_digits_value 10 text))
+    × (z ≡ signed_digits_value 10 text) → Some z ≡ signed_of_text text
 signed_ok z text h =
     let t = both_true _ _ (numeral_true 10 (without_leading_sign text) h.0.0) (fits_true _ h.0.1) in
     rw t (ap Some h.1)
 
-pub signed_err : (text : List ℕ) → (IsNumeral 10 (without_leading_sign text) × FitsSigned w64 (signed_digits_value 10 text) → ⊥) → None ≡ signed_of_text text
-signed_err text h = decide _ _ (λ t. let s = split_true _ _ t in h (numeral_from 10 (without_leading_sign text) s.0, fits_from _ s.1))
+pub signed_err : (text : List ℕ)
+    → (IsNumeral 10 (without_leading_sign text) × FitsSigned w64 (signed_digits_value 10 text) → ⊥)
+    → None ≡ signed_of_text text
+signed_err text h =
+    decide _ _ (λ t. let s = split_true _ _ t in h
+    (numeral_from 10 (without_leading_sign text) s.0, fits_from _ s.1))
 
-pub signed_back : (x z : ℤ) (text : List ℕ) → x ≡ to_z w64 (of_z w64 z) → FitsSigned w64 (signed_digits_value 10 text) → z ≡ signed_digits_value 10 text → x ≡ z
+pub signed_back : (x z : ℤ) (text : List ℕ) → x ≡ to_z w64 (of_z w64 z)
+    → FitsSigned w64 (signed_digits_value 10 text) → z ≡ signed_digits_value 10 text → x ≡ z
 signed_back x z text e f h = let g : FitsSigned w64 z = rw h f in e ∙ to_z-of_z w64 z g
 
 -- prefixes
 
-pub integer_prefixed : (text rest : List ℕ) (n : ℕ) → text ≡ 48 ∷ 120 ∷ drop n text → rest ≡ drop n text → integer_of_text text ≡ unsigned_of_text 16 (without_prefixes rest)
+pub integer_prefixed : (text rest : List ℕ) (n : ℕ) → text ≡ 48 ∷ 120 ∷ drop n text
+    → rest ≡ drop n text → integer_of_text text ≡ unsigned_of_text 16 (without_prefixes rest)
 unfolding integer_of_text
 integer_prefixed text rest n e h = let same : text ≡ 48 ∷ 120 ∷ rest = cc in ap integer_of_text same
 
@@ -85,17 +105,27 @@ not_true false h = refl
 cons_same : (a b : ℕ) (rest : List ℕ) → a ≡ 48 → b ≡ 120 → a ∷ b ∷ rest ≡ 48 ∷ 120 ∷ rest
 cons_same a b rest e h = cc
 
-unprefixed : (text : List ℕ) → ((rest : List ℕ) → text ≡ 48 ∷ 120 ∷ rest → ⊥) → has_prefix text ≡ false
+unprefixed : (text : List ℕ) → ((rest : List ℕ) → text ≡ 48 ∷ 120 ∷ rest → ⊥)
+    → has_prefix text ≡ false
 unprefixed [] h = refl
 unprefixed (a ∷ []) h = refl
-unprefixed (a ∷ b ∷ rest) h = not_true _ (λ t. let s = split_true _ _ t in h rest (cons_same a b rest (eq_from a 48 s.0) (eq_from b 120 s.1)))
+unprefixed (a ∷ b ∷ rest) h =
+    not_true _ (λ t. let s = split_true _ _ t in h rest
+    (cons_same a b rest (eq_from a 48 s.0) (eq_from b 120 s.1)))
 
-pub integer_plain : (text : List ℕ) → ((rest : List ℕ) → text ≡ 48 ∷ 120 ∷ rest → ⊥) → integer_of_text text ≡ or_else (signed_of_text text) (unsigned_of_text 10 text)
+pub integer_plain : (text : List ℕ) → ((rest : List ℕ) → text ≡ 48 ∷ 120 ∷ rest → ⊥)
+    → integer_of_text text ≡ or_else (signed_of_text text) (unsigned_of_text 10 text)
 unfolding integer_of_text
 integer_plain text h = rw (unprefixed text h) refl
 
-pub integer_signed : (text : List ℕ) (o : Option ℤ) (z : ℤ) → ((rest : List ℕ) → text ≡ 48 ∷ 120 ∷ rest → ⊥) → o ≡ signed_of_text text → o ≡ Some z → Some z ≡ integer_of_text text
-integer_signed text o z h e i = sym (integer_plain text h ∙ ap (λ o. or_else o (unsigned_of_text 10 text)) (sym e ∙ i))
+pub integer_signed : (text : List ℕ) (o : Option ℤ) (z : ℤ)
+    → ((rest : List ℕ) → text ≡ 48 ∷ 120 ∷ rest → ⊥) → o ≡ signed_of_text text → o ≡ Some z
+    → Some z ≡ integer_of_text text
+integer_signed text o z h e i =
+    sym (integer_plain text h ∙ ap (λ o. or_else o (unsigned_of_text 10 text)) (sym e ∙ i))
 
-pub integer_unsigned : (text : List ℕ) (o r : Option ℤ) → ((rest : List ℕ) → text ≡ 48 ∷ 120 ∷ rest → ⊥) → o ≡ signed_of_text text → o ≡ None → r ≡ unsigned_of_text 10 text → r ≡ integer_of_text text
-integer_unsigned text o r h e i u = u ∙ sym (integer_plain text h ∙ ap (λ o. or_else o (unsigned_of_text 10 text)) (sym e ∙ i))
+pub integer_unsigned : (text : List ℕ) (o r : Option ℤ)
+    → ((rest : List ℕ) → text ≡ 48 ∷ 120 ∷ rest → ⊥) → o ≡ signed_of_text text → o ≡ None
+    → r ≡ unsigned_of_text 10 text → r ≡ integer_of_text text
+integer_unsigned text o r h e i u =
+    u ∙ sym (integer_plain text h ∙ ap (λ o. or_else o (unsigned_of_text 10 text)) (sym e ∙ i))

@@ -3,7 +3,8 @@ use Rattle.std.proofs.Common.{◌≡◌, subst, sym}
 use Rattle.std.specs.Prelude.{⊤}
 use Rattle.plist_base.specs.Faults.{FaultKind, Io, OutOfMemory, MatchFault, IsIo, IsFromOutside}
 
-pub MatchFault-weaker : (kind : FaultKind) {A B C A' B' C' : Type 0} → (A → A') → (B → B') → (C → C') → MatchFault kind A B C → MatchFault kind A' B' C'
+pub MatchFault-weaker : (kind : FaultKind) {A B C A' B' C' : Type 0} → (A → A') → (B → B')
+    → (C → C') → MatchFault kind A B C → MatchFault kind A' B' C'
 MatchFault-weaker Io f g h x = f x
 MatchFault-weaker OutOfMemory f g h x = g x
 MatchFault-weaker kind f g h x = h x
@@ -14,16 +15,20 @@ MatchFault-all OutOfMemory a b c = b
 MatchFault-all kind a b c = c
 
 -- the fact for a kind that is known
-pub MatchFault-at : (kind known : FaultKind) (A B C : Type 0) → kind ≡ known → MatchFault known A B C → MatchFault kind A B C
+pub MatchFault-at : (kind known : FaultKind) (A B C : Type 0) → kind ≡ known
+    → MatchFault known A B C → MatchFault kind A B C
 MatchFault-at kind known A B C is h = subst (λ k. MatchFault k A B C) (sym is) h
 
 -- a device's fault is no other
 pub MatchFault-from_io : (kind : FaultKind) (A B C : Type 0) → IsIo kind → A → MatchFault kind A B C
-MatchFault-from_io kind A B C h a = MatchFault-weaker kind (λ _. a) (λ none. absurd none) (λ none. absurd none) h
+MatchFault-from_io kind A B C h a =
+    MatchFault-weaker kind (λ _. a) (λ none. absurd none) (λ none. absurd none) h
 
 -- nor is a fault from outside
-pub MatchFault-from_outside : (kind : FaultKind) (A B C : Type 0) → IsFromOutside kind → A → B → MatchFault kind A B C
-MatchFault-from_outside kind A B C h a b = MatchFault-weaker kind (λ _. a) (λ _. b) (λ none. absurd none) h
+pub MatchFault-from_outside : (kind : FaultKind) (A B C : Type 0) → IsFromOutside kind → A → B
+    → MatchFault kind A B C
+MatchFault-from_outside kind A B C h a b =
+    MatchFault-weaker kind (λ _. a) (λ _. b) (λ none. absurd none) h
 
 pub IsFromOutside-from_io : (kind : FaultKind) → IsIo kind → IsFromOutside kind
 IsFromOutside-from_io kind h = MatchFault-from_io kind ⊤ ⊤ ⊥ h tt

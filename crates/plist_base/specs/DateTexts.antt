@@ -1,7 +1,7 @@
 -- The texts of dates.
-use Rattle.std.specs.Prelude.{◌≡◌, ℕ, false, List, ℤ, ◌+ℤ◌, ◌-ℤ◌, Option, None, Some, Result, Ok, Err}
+use Rattle.std.specs.Prelude.{◌≡◌, ℕ, List, ℤ, ◌+ℤ◌, ◌-ℤ◌, Option, None, Some, Result, Ok, Err, slice_index}
 use Rattle.plist_base.specs.declared.error.Error.{Error}
-use Rattle.plist_base.specs.Date.{has_fraction, if_second_of_date, plist_epoch, real_bits, second_of_bytes}
+use Rattle.plist_base.specs.Date.{IsDate, IsWhole, if_second_of_date, plist_epoch, second_of_bytes}
 use Rattle.plist_base.specs.Faults.{FaultKind, fault_nowhere, fault_of}
 use Rattle.plist_dates.specs.DateText.{HasFourDigitYear, IsTextOfSecond, unix_second_of_text}
 
@@ -14,17 +14,25 @@ second_at (Some unix) = if_second_of_date (unix -ℤ plist_epoch)
 abbrev pub second_of_text : List ℕ → Option ℤ
 second_of_text text = second_at (unix_second_of_text text)
 
--- a date that doesn't lie between two seconds
-abbrev pub IsWhole : List ℕ → Type 0
-IsWhole date = has_fraction (real_bits date) ≡ false
-
 -- the year of a date's second is one from 0 to 9999
 abbrev pub HasTextYear : List ℕ → Type 0
-HasTextYear date = (second : ℤ) → second_of_bytes date ≡ Some second → HasFourDigitYear (second +ℤ plist_epoch)
+HasTextYear date =
+    (second : ℤ) → second_of_bytes date ≡ Some second → HasFourDigitYear (second +ℤ plist_epoch)
 
 -- the text of a date: it is whole, and the text is that of its second
 abbrev pub IsDateText : (date text : List ℕ) → Type 0
-IsDateText date text = IsWhole date × ((second : ℤ) → second_of_bytes date ≡ Some second → IsTextOfSecond (second +ℤ plist_epoch) text)
+IsDateText date text =
+    IsDate date × IsWhole date × ((second : ℤ) → second_of_bytes date ≡ Some second
+    → IsTextOfSecond (second +ℤ plist_epoch) text)
+
+-- with `T`, and with `Z` in the zone's place
+abbrev pub IsInUtc : List ℕ → Type 0
+IsInUtc text = (slice_index text 10 ≡ 84) × (slice_index text 19 ≡ 90)
+
+-- the answer of reading a text that a date prints: just this date
+abbrev pub ReadsAs : {E : Type 0} → List ℕ → Result (List ℕ) E → Type 0
+ReadsAs date (Ok read) = read ≡ date
+ReadsAs date (Err error) = ⊥
 
 -- the answer is this fault, without an offset
 abbrev pub IsRefused : {A : Type 0} → FaultKind → Result A Error → Type 0

@@ -13,7 +13,8 @@ has_prefix _ = false
 abbrev pub without_prefixes : List ℕ → List ℕ
 without_prefixes [] = []
 without_prefixes (a ∷ []) = a ∷ []
-without_prefixes (a ∷ b ∷ rest) = cond ((a == 48) && (b == 120)) (without_prefixes rest) (a ∷ b ∷ rest)
+without_prefixes (a ∷ b ∷ rest) =
+    cond ((a == 48) && (b == 120)) (without_prefixes rest) (a ∷ b ∷ rest)
 
 -- one digit or more, and nothing else
 abbrev pub is_numeral : (radix : ℕ) → List ℕ → Bool
@@ -23,7 +24,8 @@ is_numeral radix digits = nat_lt 0 (length digits) && list_all (λ c. is_digit c
 abbrev pub unsigned_of_text : (radix : ℕ) → List ℕ → Option ℤ
 unsigned_of_text radix text =
     let digits = without_leading_plus text in
-    cond (is_numeral radix digits && nat_lt (digits_value radix digits) (2 ^ 64)) (Some (pos (digits_value radix digits))) None
+    cond (is_numeral radix digits && nat_lt (digits_value radix digits) (2 ^ 64))
+    (Some (pos (digits_value radix digits))) None
 
 -- does the number fit 64 signed bits?
 abbrev pub fits_signed : ℤ → Bool
@@ -33,7 +35,8 @@ fits_signed (negsuc n) = nat_lt n (2 ^ 63)
 -- a signed decimal number of 64 bits, with an optional sign
 abbrev pub signed_of_text : List ℕ → Option ℤ
 signed_of_text text =
-    cond (is_numeral 10 (without_leading_sign text) && fits_signed (signed_digits_value 10 text)) (Some (signed_digits_value 10 text)) None
+    cond (is_numeral 10 (without_leading_sign text) && fits_signed (signed_digits_value 10 text))
+    (Some (signed_digits_value 10 text)) None
 
 -- the first, or where there is none the second
 abbrev pub or_else : {A : Type 0} → Option A → Option A → Option A
@@ -43,11 +46,14 @@ or_else None other = other
 -- hexadecimal behind every leading `0x`; else signed decimal, else unsigned decimal
 unfoldable pub integer_of_text : List ℕ → Option ℤ
 integer_of_text text =
-    cond (has_prefix text) (unsigned_of_text 16 (without_prefixes text)) (or_else (signed_of_text text) (unsigned_of_text 10 text))
+    cond (has_prefix text) (unsigned_of_text 16 (without_prefixes text))
+    (or_else (signed_of_text text) (unsigned_of_text 10 text))
 
 -- the answer is the number that the text spells, and `Err` where it spells none
 abbrev pub SpellsInteger : {E : Type 0} → List ℕ → Result ℤ E → Type 0
-SpellsInteger text answer = MatchResult answer (λ number. integer_of_text text ≡ Some number) (λ _. integer_of_text text ≡ None)
+SpellsInteger text answer =
+    MatchResult answer (λ number. integer_of_text text ≡ Some number)
+    (λ _. integer_of_text text ≡ None)
 
 -- ---- worked examples
 

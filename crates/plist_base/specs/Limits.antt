@@ -84,14 +84,16 @@ RefusesAny (Some limiter) event fault = Refuses limiter event fault
 
 -- what comes of an item of the iterator inside: an event that is admitted is given, a limit's fault
 -- comes in the place of another, and a fault stays; after a fault nothing more comes
-abbrev pub Passes : (old : Limiter) → (asked given : Result Event Error) → (new : Limiter) → (ended : Bool) → Type 0
+abbrev pub Passes : (old : Limiter) → (asked given : Result Event Error) → (new : Limiter)
+    → (ended : Bool) → Type 0
 Passes old (Ok event) given new ended = MatchResult given
     (λ passed. (passed ≡ event) × Admits old (event_of event) new × (ended ≡ false))
     (λ error. Refuses old (event_of event) (fault_of error) × (ended ≡ true))
 Passes old (Err error) given new ended = (given ≡ Err error) × (ended ≡ true)
 
 -- the same, or nothing where nothing comes
-abbrev pub PassesNext : (old : Limiter) → (asked given : Option (Result Event Error)) → (new : Limiter) → (ended : Bool) → Type 0
+abbrev pub PassesNext : (old : Limiter) → (asked given : Option (Result Event Error))
+    → (new : Limiter) → (ended : Bool) → Type 0
 PassesNext old None given new ended = (given ≡ None) × (new ≡ old) × (ended ≡ false)
 PassesNext old (Some asked) given new ended =
     MatchOption given ⊥ (λ item. Passes old asked item new ended)
@@ -106,7 +108,8 @@ come_of limited items = cond limited.ended [] (under limited.limiter items)
 
 -- one call of `next`: what comes of the next item of the iterator inside, which is asked no more
 -- after a fault
-abbrev pub GivesLimited : {I : Type 0} → (I → Option (Result Event Error) → I → Type 0) → Limited I → Option (Result Event Error) → Limited I → Type 0
+abbrev pub GivesLimited : {I : Type 0} → (I → Option (Result Event Error) → I → Type 0) → Limited I
+    → Option (Result Event Error) → Limited I → Type 0
 GivesLimited inner_gives old item new = MatchBool old.ended
     ((item ≡ None) × (new ≡ old))
     ((asked : Option (Result Event Error)) × inner_gives old.inner asked new.inner

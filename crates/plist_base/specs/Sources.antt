@@ -11,9 +11,12 @@ Rises old new = (new ≡ old + 1) ⊎ ((old ≡ 2 ^ 64 - 1) × (new ≡ 2 ^ 64 -
 abbrev pub CountsFailure : {A E : Type 0} → Result A E → ℕ → ℕ → Type 0
 CountsFailure answer old new = MatchResult answer (λ _. new ≡ old) (λ _. Rises old new)
 
--- `read_at` gave the first `count` of the bytes from this place on, none only where there is no room or no byte
+-- `read_at` gave the first `count` of the bytes from this place on, none only where there is no
+-- room or no byte
 abbrev pub GivesAt : List ℕ → ℕ → ℕ → List ℕ → Type 0
-GivesAt bytes place count buffer = (take count buffer ≡ take count (drop place bytes)) × (count ≡ 0 → (length buffer ≡ 0) ⊎ (length bytes ≤ place))
+GivesAt bytes place count buffer =
+    (take count buffer ≡ take count (drop place bytes))
+    × (count ≡ 0 → (length buffer ≡ 0) ⊎ (length bytes ≤ place))
 
 -- these are the bytes from this place on, as many as there are of them
 abbrev pub LiesAt : (bytes : List ℕ) (place : ℕ) (lent : List ℕ) → Type 0
@@ -21,7 +24,8 @@ LiesAt bytes place lent = lent ≡ take (length lent) (drop place bytes)
 
 -- `Io` only where the count of failures rose; whatever else came, it is as it was
 abbrev pub CountsIo : Error → ℕ → ℕ → Type 0
-CountsIo error old new = MatchFault (kind_of (error_kind_of error)) (Rises old new) (new ≡ old) (new ≡ old)
+CountsIo error old new =
+    MatchFault (kind_of (error_kind_of error)) (Rises old new) (new ≡ old) (new ≡ old)
 
 -- the same of a call's answer
 abbrev pub AnswersIo : {A : Type 0} → Result A Error → ℕ → ℕ → Type 0
@@ -42,11 +46,13 @@ abbrev pub IsPlaceWithin : (start end : ℕ) → Option ℕ → Type 0
 IsPlaceWithin start end None = ⊥
 IsPlaceWithin start end (Some place) = (start ≤ place) × (place < end)
 
--- one of the reads of `size` bytes from a place on failed or gave nothing, and the fault has the place of that read
+-- one of the reads of `size` bytes from a place on failed or gave nothing, and the fault has the
+-- place of that read
 pub record FailsReading (place size : ℕ) (fault : Fault) : Type 0 where
   pub kind : IsReadFault fault.kind
   pub at : IsPlaceWithin place (place + size) fault.offset
 
 -- where the fault is that the bytes end too early, they end at or before its place
 abbrev pub EndsTooEarly : List ℕ → Fault → Type 0
-EndsTooEarly bytes fault = fault.kind ≡ UnexpectedEof → IfSome fault.offset (λ place. length bytes ≤ place)
+EndsTooEarly bytes fault =
+    fault.kind ≡ UnexpectedEof → IfSome fault.offset (λ place. length bytes ≤ place)

@@ -14,7 +14,8 @@ abbrev pub answer_of : Result (Unit {0}) Error → Answer
 answer_of (Ok done) = Ok done
 answer_of (Err error) = Err (fault_of error)
 
--- a fact for an event that is accepted, one for an event refused for its place, one for a failure in the call, and one for every other answer
+-- a fact for an event that is accepted, one for an event refused for its place, one for a failure
+-- in the call, and one for every other answer
 abbrev pub MatchKind : FaultKind → (refused failed other : Type 0) → Type 0
 MatchKind (UnexpectedEventType expected found) refused failed other = refused
 MatchKind (ExpectedEndOfEventStream found) refused failed other = refused
@@ -25,17 +26,20 @@ MatchKind kind refused failed other = other
 
 abbrev pub MatchAnswer : Answer → (accepted refused failed other : Type 0) → Type 0
 MatchAnswer (Ok done) accepted refused failed other = accepted
-MatchAnswer (Err fault) accepted refused failed other = (fault.offset ≡ None) × MatchKind fault.kind refused failed other
+MatchAnswer (Err fault) accepted refused failed other =
+    (fault.offset ≡ None) × MatchKind fault.kind refused failed other
 
 -- what is held after an event that was accepted: the events were a tree's, or what can come next is
 -- what could come behind the events held before it and itself
 abbrev pub GoesOn : (before : List PlainEvent) → PlainEvent → (after : List PlainEvent) → Type 0
-GoesOn before event after = AreWhole (before ++ event ∷ []) ⊎ ContinueAlike after (before ++ event ∷ [])
+GoesOn before event after =
+    AreWhole (before ++ event ∷ []) ⊎ ContinueAlike after (before ++ event ∷ [])
 
 -- While a writer hasn't failed, an event is accepted where what is held can go on with it, and one
 -- that is refused for its place can't, and changes nothing; any other refusal fails the writer, and
 -- comes only where what is held can go on with the event.
-abbrev pub AnswersByPlace : (before : List PlainEvent) → PlainEvent → Answer → (after : List PlainEvent) → (failed : Bool) → (unchanged : Type 0) → Type 0
+abbrev pub AnswersByPlace : (before : List PlainEvent) → PlainEvent → Answer
+    → (after : List PlainEvent) → (failed : Bool) → (unchanged : Type 0) → Type 0
 AnswersByPlace before event answer after failed unchanged = MatchAnswer answer
     (CanContinue before event × (failed ≡ false) × GoesOn before event after)
     ((CanContinue before event → ⊥) × unchanged)

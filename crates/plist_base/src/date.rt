@@ -1,8 +1,8 @@
 //! Dates.
 
-ghost use Rattle.std.specs.Prelude.{◌≡◌, ℕ, ◌^◌, ◌<◌, ◌≤◌, ◌↔◌, not, ◌==◌, true, false, pos, ℤ, ◌*ℤ◌, ◌-ℤ◌, Some, None, IsSome, IfSome, IsErr, IfOk, IfErr, MatchOption};
-ghost use Rattle.plist_base.specs.Date.{IsSecondOf, IsSecondOfDate, date_bytes, date_of_bytes, has_fraction, if_second_of_date, is_no_number, is_second_of_date, parts_in_second, parts_left, plist_epoch, real_bits, real_exponent, real_mantissa, real_parts, real_scale, rounded_down, second_of_bits, second_of_bytes, whole_seconds};
-ghost use Rattle.plist_base.specs.DateBits.{second_bits, whole_bits};
+ghost use Rattle.std.specs.Prelude.{◌≡◌, ℕ, ◌^◌, ◌<◌, ◌≤◌, ◌↔◌, not, ◌==◌, true, false, pos, ℤ, ◌*ℤ◌, ◌-ℤ◌, Some, None, IsSome, IfSome, IsErr, IfOk, IfErr, List, MatchOption};
+ghost use Rattle.plist_base.specs.Date.{IsDate, IsSecondOf, IsSecondOfDate, IsWhole, date_bytes, date_of_bytes, has_fraction, if_second_of_date, is_no_number, is_second_of_date, parts_in_second, parts_left, plist_epoch, real_bits, real_exponent, real_mantissa, real_parts, real_scale, rounded_down, second_of_bits, second_of_bytes, whole_seconds};
+ghost use Rattle.plist_base.specs.inner.DateBits.{second_bits, whole_bits};
 
 use crate::ErrorKind;
 use std::marker::Model;
@@ -64,6 +64,7 @@ impl Date {
     pub fn to_plist_real(&self) -> [u8; 8]
         ensures bytes { result ≡ self.now }
         ensures back { date_of_bytes result ≡ Some self.now }
+        ensures date { IsDate self.now }
     {
         self.bytes
     }
@@ -73,9 +74,12 @@ impl Date {
     pub fn from_plist_secs(second: i64) -> Option<Date>
         ensures in_range { IsSome result ↔ IsSecondOfDate second }
         ensures second { IfSome result (λ date. second_of_bytes date ≡ Some second) }
-        ensures whole { IfSome result (λ date. has_fraction (real_bits date) ≡ false) }
+        ensures whole { IfSome result (λ date. IsWhole date) }
         ensures exact { IfSome result (λ date.
             real_parts (real_bits date) ≡ (second *ℤ pos parts_in_second)) }
+        ensures date { IfSome result (λ date. IsDate date) }
+        ensures only { IfSome result (λ date. (other : List ℕ) → IsDate other → IsWhole other →
+            second_of_bytes other ≡ Some second → other ≡ date) }
     {
         match bits_of_second(second) {
             None => None,
@@ -91,9 +95,12 @@ impl Date {
         ensures in_range { IsSome result ↔ IsSecondOfDate (second -ℤ plist_epoch) }
         ensures second { IfSome result (λ date.
             second_of_bytes date ≡ Some (second -ℤ plist_epoch)) }
-        ensures whole { IfSome result (λ date. has_fraction (real_bits date) ≡ false) }
+        ensures whole { IfSome result (λ date. IsWhole date) }
         ensures exact { IfSome result (λ date.
             real_parts (real_bits date) ≡ ((second -ℤ plist_epoch) *ℤ pos parts_in_second)) }
+        ensures date { IfSome result (λ date. IsDate date) }
+        ensures only { IfSome result (λ date. (other : List ℕ) → IsDate other → IsWhole other →
+            second_of_bytes other ≡ Some (second -ℤ plist_epoch) → other ≡ date) }
     {
         match second.checked_sub(PLIST_EPOCH) {
             None => None,
@@ -106,6 +113,7 @@ impl Date {
         ensures second { second_of_bytes self.now ≡ Some result }
         ensures greatest { IsSecondOf result (real_bits self.now) }
         ensures in_range { IsSecondOfDate result }
+        ensures date { IsDate self.now }
     {
         match second_of_bits(u64::from_be_bytes(self.bytes)) {
             Some(second) => second,
@@ -117,6 +125,7 @@ impl Date {
     pub fn unix_secs(&self) -> i64
         ensures second { second_of_bytes self.now ≡ Some (result -ℤ plist_epoch) }
         ensures greatest { IsSecondOf (result -ℤ plist_epoch) (real_bits self.now) }
+        ensures date { IsDate self.now }
     {
         self.plist_secs() + PLIST_EPOCH
     }

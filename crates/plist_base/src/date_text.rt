@@ -1,8 +1,9 @@
 //! The texts of dates.
 
-ghost use Rattle.std.specs.Prelude.{◌≡◌, ◌↔◌, codes, true, Some, None, Ok, IsErr, IfOk, MatchResult, string_bytes};
-ghost use Rattle.plist_base.specs.Date.{has_fraction, real_bits, second_of_bytes};
-ghost use Rattle.plist_base.specs.DateTexts.{HasTextYear, IsDateText, IsRefused, IsWhole, second_of_text};
+ghost use Rattle.std.specs.Prelude.{◌≡◌, ◌↔◌, ℕ, List, codes, true, Some, None, Ok, IsErr, IfOk, MatchResult, string_bytes};
+ghost use Rattle.plist_base.specs.Outcomes.{OnlyMemory};
+ghost use Rattle.plist_base.specs.Date.{IsWhole, has_fraction, real_bits, second_of_bytes};
+ghost use Rattle.plist_base.specs.DateTexts.{HasTextYear, IsDateText, IsInUtc, IsRefused, ReadsAs, second_of_text};
 ghost use Rattle.plist_base.specs.Faults.{FractionalDate, InvalidDateString, OutOfMemory, YearOutOfRange, fault_nowhere, fault_of};
 
 use crate::{Date, Error, ErrorKind};
@@ -28,6 +29,8 @@ impl Date {
         ensures second { IfOk result (λ date. second_of_bytes date ≡ second_of_text text.now) }
         ensures whole { IfOk result (λ date. IsWhole date) }
         ensures refused { IsErr result ↔ (second_of_text text.now ≡ None) }
+        ensures printed { (date : List ℕ) → IsDateText date text.now → ReadsAs date result }
+        ensures prints { IfOk result (λ date. IsInUtc text.now → IsDateText date text.now) }
     {
         match plist_dates::second_of_text(text) {
             None => Err(InvalidXmlDate),
@@ -50,8 +53,11 @@ impl Date {
             IsRefused FractionalDate result }
         ensures year { IsWhole self.now → (HasTextYear self.now → ⊥) →
             IsRefused YearOutOfRange result }
-        ensures text { IsWhole self.now → HasTextYear self.now → MatchResult result
-            (λ text. IsDateText self.now (string_bytes text))
+        ensures text { IfOk result (λ text. IsDateText self.now (string_bytes text)) }
+        ensures memory { IsWhole self.now → HasTextYear self.now →
+            OnlyMemory result }
+        ensures only { (text : List ℕ) → IsDateText self.now text → MatchResult result
+            (λ printed. string_bytes printed ≡ text)
             (λ error. fault_of error ≡ fault_nowhere OutOfMemory) }
     {
         if self.has_fraction() {

@@ -1,8 +1,8 @@
 //! The events of a property list.
 
-ghost use Rattle.std.specs.Prelude.{◌≡◌, IfOk, IfErr};
+ghost use Rattle.std.specs.Prelude.{◌≡◌, IfOk};
 ghost use Rattle.plist_base.specs.Events.{event_of};
-ghost use Rattle.plist_base.specs.Faults.{OutOfMemory, fault_nowhere, fault_of};
+ghost use Rattle.plist_base.specs.Outcomes.{OnlyMemory};
 
 use crate::{Date, Error, Integer, RealBits, Uid};
 use std::alloc::Global;
@@ -47,7 +47,7 @@ impl<'a> Event<'a> {
     /// `OutOfMemory`, without an offset, where a copy was refused; the event is dropped.
     pub fn into_owned(self, alloc: Global) -> Result<OwnedEvent, Error>
         ensures event { IfOk result (λ owned. event_of owned ≡ event_of self.entry) }
-        ensures memory { IfErr result (λ error. fault_of error ≡ fault_nowhere OutOfMemory) }
+        ensures memory { OnlyMemory result }
     {
         Ok(match self {
             Event::StartArray(length) => Event::StartArray(length),
@@ -70,7 +70,7 @@ impl<'a> Event<'a> {
     /// `OutOfMemory`, without an offset, where a copy was refused.
     pub fn clone(&self, alloc: Global) -> Result<OwnedEvent, Error>
         ensures event { IfOk result (λ copy. event_of copy ≡ event_of self.now) }
-        ensures memory { IfErr result (λ error. fault_of error ≡ fault_nowhere OutOfMemory) }
+        ensures memory { OnlyMemory result }
     {
         Ok(match self {
             Event::StartArray(length) => Event::StartArray(*length),

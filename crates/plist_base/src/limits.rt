@@ -39,9 +39,9 @@ impl Limit {
 
 // How many collections are open behind an event, where so many were open before it.
 fn level_behind(depth: u64, level: u64, event: &Event<'_>) -> Result<u64, Limit>
-    ensures ok { IfOk result (λ behind. (behind ≡ level_behind (event_of event.now) level)
+    ensures value { IfOk result (λ behind. (behind ≡ level_behind (event_of event.now) level)
         × ((opens (event_of event.now) && nat_le depth level) ≡ false)) }
-    ensures err { IfErr result (λ limit. (limit ≡ Limit.Depth)
+    ensures refused { IfErr result (λ limit. (limit ≡ Limit.Depth)
         × ((opens (event_of event.now) && nat_le depth level) ≡ true)) }
 {
     match event {
@@ -80,8 +80,8 @@ impl Limiter {
 
     // Why an event can't come, if it can't: one that is too many is told first.
     fn count(&mut self, event: &Event<'_>) -> Result<(), Limit>
-        ensures ok { OnOk result (Admits self.old (event_of event.now) self.new) }
-        ensures err { IfErr result (λ limit.
+        ensures admitted { OnOk result (Admits self.old (event_of event.now) self.new) }
+        ensures refused { IfErr result (λ limit.
             Refuses self.old (event_of event.now) (fault_nowhere (LimitReached limit))) }
     {
         if self.came >= self.limits.items {
@@ -97,8 +97,8 @@ impl Limiter {
     /// # Errors
     /// `LimitReached`, without an offset.
     pub fn admit(&mut self, event: &Event<'_>) -> Result<(), Error>
-        ensures ok { OnOk result (Admits self.old (event_of event.now) self.new) }
-        ensures err { IfErr result (λ error.
+        ensures admitted { OnOk result (Admits self.old (event_of event.now) self.new) }
+        ensures refused { IfErr result (λ error.
             Refuses self.old (event_of event.now) (fault_of error)) }
     {
         match self.count(event) {

@@ -2,7 +2,7 @@
 
 ghost use Rattle.std.specs.Prelude.{◌≡◌, ℕ, ◌+◌, ◌≤◌, ◌<◌, length, take, drop, slice_index, IfOk, OnErr};
 ghost use Rattle.plist_base.specs.Sources.{CountsFailure};
-ghost use Rattle.plist_base.specs.Windows.{bytes_of_window, failures_of, inner_of, LendsFrom};
+ghost use Rattle.plist_base.specs.Seeking.{bytes_of_window, failures_of, inner_of, LendsFrom};
 
 use crate::source::{Source, copy_at, rest_from};
 use std::alloc::Global;
@@ -281,7 +281,7 @@ impl<R: Read + Seek> Seeking<R> {
 
 impl<R: Read + Seek + Drop> Source for Seeking<R> {
     ghost use Rattle.std.specs.Prelude.{None};
-    ghost use Rattle.plist_base.specs.Windows.{failures_of};
+    ghost use Rattle.plist_base.specs.Seeking.{failures_of};
 
     ghost known = { λ _. None };
 

@@ -123,11 +123,11 @@ pub fn read_exact_at<S: Source>(source: &mut S, place: u64, buf: &mut [u8]) -> R
     requires { place + length buf.old < 2 ^ 64 }
     ensures bytes { OnOk result (IfSome (S.known source.old) (λ bytes.
         buf.new ≡ take (length buf.new) (drop place bytes))) }
-    ensures fault { IfErr result (λ e. FailsReading place (length buf.old) (fault_of e)) }
-    ensures short { IfErr result (λ e. IfSome (S.known source.old) (λ bytes.
-        EndsTooEarly bytes (fault_of e))) }
-    ensures refused { IfErr result (λ e. IfSome (S.known source.old) (λ bytes.
-        place + length buf.old ≤ length bytes → IsIo (kind_of (error_kind_of e)))) }
+    ensures fault { IfErr result (λ error. FailsReading place (length buf.old) (fault_of error)) }
+    ensures short { IfErr result (λ error. IfSome (S.known source.old) (λ bytes.
+        EndsTooEarly bytes (fault_of error))) }
+    ensures refused { IfErr result (λ error. IfSome (S.known source.old) (λ bytes.
+        place + length buf.old ≤ length bytes → IsIo (kind_of (error_kind_of error)))) }
     ensures unchanged { S.known source.new ≡ S.known source.old }
     ensures failures { AnswersIo result (S.failures source.old) (S.failures source.new) }
 {

@@ -20,7 +20,8 @@ pub trait Sealed {}
 /// a writer has an offset. Lengths of starts are hints, which decide nothing.
 pub trait Writer: Sealed {
     ghost use Rattle.plist_base.specs.Events as events;
-    ghost use Rattle.plist_base.specs.Events.{PlainEvent, event_of};
+    ghost use Rattle.plist_base.specs.Events.{PlainEvent, Single, event_of};
+    ghost use Rattle.plist_base.specs.Trees as scalar;
     ghost use Rattle.plist_base.specs.Writing.{Answer, AnswersByPlace, answer_of};
 
     ghost held: { Self → List PlainEvent };
@@ -43,31 +44,33 @@ pub trait Writer: Sealed {
 
     /// Writes a truth value.
     fn write_boolean(&mut self, value: bool) -> Result<(), Error>
-        ensures { Step self.old (events.Boolean value) (answer_of result) self.new };
+        ensures { Step self.old (Single (scalar.Boolean value)) (answer_of result) self.new };
 
     /// Writes bytes.
     fn write_data(&mut self, bytes: CowSlice<'_, u8>) -> Result<(), Error>
-        ensures { Step self.old (events.Data (cow_slice_items bytes.entry)) (answer_of result) self.new };
+        ensures { Step self.old (Single (scalar.Data (cow_slice_items bytes.entry)))
+            (answer_of result) self.new };
 
     /// Writes a moment.
     fn write_date(&mut self, date: Date) -> Result<(), Error>
-        ensures { Step self.old (events.Date date) (answer_of result) self.new };
+        ensures { Step self.old (Single (scalar.Date date)) (answer_of result) self.new };
 
     /// Writes a whole number.
     fn write_integer(&mut self, value: Integer) -> Result<(), Error>
-        ensures { Step self.old (events.Integer value) (answer_of result) self.new };
+        ensures { Step self.old (Single (scalar.Integer value)) (answer_of result) self.new };
 
     /// Writes the bytes of a real.
     fn write_real(&mut self, bits: RealBits) -> Result<(), Error>
-        ensures { Step self.old (events.Real bits) (answer_of result) self.new };
+        ensures { Step self.old (Single (scalar.Real bits)) (answer_of result) self.new };
 
     /// Writes a text, or a key.
     fn write_string(&mut self, text: CowStr<'_>) -> Result<(), Error>
-        ensures { Step self.old (events.String (cow_str_bytes text.entry)) (answer_of result) self.new };
+        ensures { Step self.old (Single (scalar.String (cow_str_bytes text.entry)))
+            (answer_of result) self.new };
 
     /// Writes the number of an object in a keyed archive.
     fn write_uid(&mut self, uid: Uid) -> Result<(), Error>
-        ensures { Step self.old (events.Uid uid) (answer_of result) self.new };
+        ensures { Step self.old (Single (scalar.Uid uid)) (answer_of result) self.new };
 
     /// Writes an event.
     fn write(&mut self, event: Event<'_>) -> Result<(), Error>
@@ -88,9 +91,12 @@ pub trait Writer: Sealed {
     }
 
     // While it hasn't failed, its answer is decided by what it holds and the event.
-    ghost law: { (before : Self) (event : PlainEvent) (answer : Answer) (after : Self) → Step before event answer after → failed before ≡ false
+    ghost law: { (before : Self) (event : PlainEvent) (answer : Answer) (after : Self)
+        → Step before event answer after → failed before ≡ false
         → AnswersByPlace (held before) event answer (held after) (failed after) (after ≡ before) };
 
     // Once failed, each call says so, and changes nothing.
-    ghost law_of_failed: { (before : Self) (event : PlainEvent) (answer : Answer) (after : Self) → Step before event answer after → failed before ≡ true → (answer ≡ Err (fault_nowhere WriterFailed)) × (after ≡ before) };
+    ghost law_of_failed: { (before : Self) (event : PlainEvent) (answer : Answer) (after : Self)
+        → Step before event answer after → failed before ≡ true
+        → (answer ≡ Err (fault_nowhere WriterFailed)) × (after ≡ before) };
 }

@@ -9,7 +9,7 @@ use Rattle.plist_base.specs.declared.event.Event.{Event}
 use Rattle.plist_base.specs.Faults.{Fault, OutOfMemory, MatchFault, fault_nowhere, kind_of, error_kind_of, fault_of}
 use Rattle.plist_base.specs.Events.{Item, event_of}
 use Rattle.plist_base.proofs.Refusals.{MatchFault-at, MatchFault-weaker}
-use Rattle.plist_binread.specs.declared.frames.Frame.{Frame}
+use Rattle.plist_binread.specs.declared.walk.Frame.{Frame}
 use Rattle.plist_binread.specs.declared.table.Table.{Table}
 use Rattle.plist_binread.specs.Container.{Head, head_of}
 use Rattle.plist_binread.specs.Object.{Object}
@@ -26,47 +26,64 @@ owed_if_wanted : (items : List Item) → WantsMemory items → IsOwed items
 owed_if_wanted [] h = absurd h
 owed_if_wanted (item ∷ items) h = omega arith
 
-owed_alone : (object : Object) (place : ℕ) (child : ℕ → List Item) → IsOwed (until_fault (items_of place object child))
-owed_alone object place child = rw (← append-nil (items_of place object child)) (owed_at object place child [])
+owed_alone : (object : Object) (place : ℕ) (child : ℕ → List Item)
+    → IsOwed (until_fault (items_of place object child))
+owed_alone object place child =
+    rw (← append-nil (items_of place object child)) (owed_at object place child [])
 
 -- what a reference finds begins with an item
-unfolding_owed : (before places : List ℕ) (width at i : ℕ) → IsOwed (until_fault (unfolding_of (table_of before width places) (length places) [] at i))
-unfolding_owed before [] width at i = rw (items_beyond (table_of before width []) 0 [] at i (slice_get-beyond before [] width i (omega arith))) (omega arith)
+unfolding_owed : (before places : List ℕ) (width at i : ℕ)
+    → IsOwed (until_fault (unfolding_of (table_of before width places) (length places) [] at i))
+unfolding_owed before [] width at i =
+    rw (items_beyond (table_of before width []) 0 [] at i
+    (slice_get-beyond before [] width i (omega arith))) (omega arith)
 unfolding_owed before (p ∷ places) width at i = elim (cases_lt i (length (p ∷ places))) [
-  | inl low ↦ rw (items_step (table_of before width (p ∷ places)) (length places) [] at i _ (slice_get-within before (p ∷ places) width i low) refl) (owed_alone _ _ _)
-  | inr high ↦ rw (items_beyond (table_of before width (p ∷ places)) (suc (length places)) [] at i (slice_get-beyond before (p ∷ places) width i high)) (omega arith)
+  | inl low ↦ rw (items_step (table_of before width (p ∷ places)) (length places) [] at i _
+      (slice_get-within before (p ∷ places) width i low) refl) (owed_alone _ _ _)
+  | inr high ↦ rw (items_beyond (table_of before width (p ∷ places)) (suc (length places)) [] at i
+      (slice_get-beyond before (p ∷ places) width i high)) (omega arith)
 ]
 
 -- and so does a file
 owed_with : (bytes : List ℕ) (head : Result Head Fault) → IsOwed (items_with bytes head)
 owed_with bytes (Err fault) = omega arith
-owed_with bytes (Ok head) = unfolding_owed (take head.trailer bytes) head.places head.reference_width head.trailer head.root
+owed_with bytes (Ok head) =
+    unfolding_owed (take head.trailer bytes) head.places head.reference_width head.trailer head.root
 
 owed_file : (bytes : List ℕ) → IsOwed (items_of_file bytes)
 unfolding items_of_file
 owed_file bytes = owed_with bytes (head_of bytes)
 
 -- the fault of a head is the file's one item
-file_refused : (bytes : List ℕ) (fault : Fault) → head_of bytes ≡ Err fault → items_of_file bytes ≡ Err fault ∷ []
+file_refused : (bytes : List ℕ) (fault : Fault) → head_of bytes ≡ Err fault
+    → items_of_file bytes ≡ Err fault ∷ []
 unfolding items_of_file
 file_refused bytes fault is = rw is refl
 
-module _ (bytes : List ℕ) (table : Table) (bounds : Bounds) (is : head_of bytes ≡ Ok (head_seen table)) (trailer : bounds.trailer ≡ table.trailer) (width : bounds.reference_width ≡ table.reference_width) where
-  file_walked : items_of_file bytes ≡ until_fault (unfolding_of (entries_of bytes bounds) (length table.places.items) [] table.trailer table.root)
+module _ (bytes : List ℕ) (table : Table) (bounds : Bounds)
+    (is : head_of bytes ≡ Ok (head_seen table)) (trailer : bounds.trailer ≡ table.trailer)
+    (width : bounds.reference_width ≡ table.reference_width) where
+  file_walked : items_of_file bytes
+      ≡ until_fault (unfolding_of (entries_of bytes bounds) (length table.places.items) []
+      table.trailer table.root)
   unfolding items_of_file
   file_walked = rw (is, trailer, width) refl
 
   -- what is known once the table was read
-  known_first : (tags : List ℕ) (n : ℕ) → tags ≡ replicate n 0 → n ≡ length table.places.items → table.trailer ≤ length bytes → IsKnown bytes bounds tags table.places.items []
+  known_first : (tags : List ℕ) (n : ℕ) → tags ≡ replicate n 0 → n ≡ length table.places.items
+      → table.trailer ≤ length bytes → IsKnown bytes bounds tags table.places.items []
   known_first tags n zeros count within = record {
     head = rw is (trailer, width);
     within = rw trailer within;
-    size = ap (λ head. length (places_with head)) is ∙ sym (ap length zeros ∙ length-replicate n 0 ∙ count);
+    size = ap (λ head. length (places_with head)) is
+        ∙ sym (ap length zeros ∙ length-replicate n 0 ∙ count);
     held = λ number less. held number (rw (zeros, length-replicate, count) at less);
     counts = tt;
   }
     where
-      held : (number : ℕ) → number < length table.places.items → IsHeld (slice_get (entries_of bytes bounds) number) (get_or tags number 0) (get_or table.places.items number 0)
+      held : (number : ℕ) → number < length table.places.items
+          → IsHeld (slice_get (entries_of bytes bounds) number) (get_or tags number 0)
+          (get_or table.places.items number 0)
       held number less =
           let there = found bytes bounds number (rw is less) in
           rw (zeros, get_or-zeros n number, there, is) refl
@@ -75,41 +92,70 @@ module _ (bytes : List ℕ) (table : Table) (bounds : Bounds) (is : head_of byte
 abbrev pub Begins : List ℕ → Result Event Error → List Item → Type 0
 Begins bytes answer after = MatchResult answer
     (λ event. items_of_file bytes ≡ Ok (event_of event) ∷ until_fault after)
-    (λ e. MatchFault (kind_of (error_kind_of e)) (IsOwed (items_of_file bytes)) (IsOwed (items_of_file bytes)) (items_of_file bytes ≡ Err (fault_of e) ∷ []))
+    (λ e. MatchFault (kind_of (error_kind_of e)) (IsOwed (items_of_file bytes))
+    (IsOwed (items_of_file bytes)) (items_of_file bytes ≡ Err (fault_of e) ∷ []))
 
-pub known_unread : (known : Option (List ℕ)) (e : Error) (after : List ℕ → List Item) → IfSome known (λ bytes. MatchFault (kind_of (error_kind_of e)) ⊤ ⊤ (head_of bytes ≡ Err (fault_of e))) → IfSome known (λ bytes. Begins bytes (Err e) (after bytes))
+pub known_unread : (known : Option (List ℕ)) (e : Error) (after : List ℕ → List Item)
+    → IfSome known (λ bytes. MatchFault (kind_of (error_kind_of e)) ⊤ ⊤
+    (head_of bytes ≡ Err (fault_of e))) → IfSome known (λ bytes. Begins bytes (Err e) (after bytes))
 known_unread None e after refused = tt
 known_unread (Some bytes) e after refused =
-    MatchFault-weaker (kind_of (error_kind_of e)) (λ _. owed_file bytes) (λ _. owed_file bytes) (λ is. file_refused bytes (fault_of e) is) refused
+    MatchFault-weaker (kind_of (error_kind_of e)) (λ _. owed_file bytes) (λ _. owed_file bytes)
+    (λ is. file_refused bytes (fault_of e) is) refused
 
-begins_with : (bytes : List ℕ) (before after : List Item) (answer : Result Event Error) → items_of_file bytes ≡ until_fault before → Pays before answer after → Begins bytes answer after
+begins_with : (bytes : List ℕ) (before after : List Item) (answer : Result Event Error)
+    → items_of_file bytes ≡ until_fault before → Pays before answer after
+    → Begins bytes answer after
 begins_with bytes before after (Ok event) is pays = is ∙ pays
 begins_with bytes before after (Err e) is pays =
-    MatchFault-weaker (kind_of (error_kind_of e)) (λ owed. rw is owed) (λ wanted. rw is (owed_if_wanted (until_fault before) wanted)) (λ only. is ∙ only) pays
+    MatchFault-weaker (kind_of (error_kind_of e)) (λ owed. rw is owed)
+    (λ wanted. rw is (owed_if_wanted (until_fault before) wanted)) (λ only. is ∙ only) pays
 
 none : (fs : List Frame) → length fs ≡ 0 → fs ≡ []
 none [] h = refl
 none (f ∷ fs) h = absurd (omega arith)
 
-pub known_wanted : (known : Option (List ℕ)) (e : Error) (after : List ℕ → List Item) → fault_of e ≡ fault_nowhere OutOfMemory → IfSome known (λ bytes. Begins bytes (Err e) (after bytes))
+pub known_wanted : (known : Option (List ℕ)) (e : Error) (after : List ℕ → List Item)
+    → fault_of e ≡ fault_nowhere OutOfMemory
+    → IfSome known (λ bytes. Begins bytes (Err e) (after bytes))
 known_wanted None e after memory = tt
-known_wanted (Some bytes) e after memory = MatchFault-at (kind_of (error_kind_of e)) OutOfMemory _ _ _ (ap (λ (f : Fault). f.kind) memory) (owed_file bytes)
+known_wanted (Some bytes) e after memory =
+    MatchFault-at (kind_of (error_kind_of e)) OutOfMemory _ _ _ (ap (λ (f : Fault). f.kind) memory)
+    (owed_file bytes)
 
-pub known_opens : (known now : Option (List ℕ)) (table : Table) (bounds : Bounds) (tags : List ℕ) (n : ℕ) (fs : List Frame) → now ≡ known → IfSome known (λ bytes. head_of bytes ≡ Ok (head_seen table)) → IfSome known (λ bytes. table.trailer ≤ length bytes) → bounds.trailer ≡ table.trailer → bounds.reference_width ≡ table.reference_width
-    → tags ≡ replicate n 0 → n ≡ length table.places.items → length fs ≡ 0 → IfSome now (λ bytes. IsKnown bytes bounds tags table.places.items (reverse fs))
-known_opens None now table bounds tags n fs same value within trailer width zeros count len = rw same tt
-known_opens (Some bytes) now table bounds tags n fs same value within trailer width zeros count len = rw (same, none fs len) (known_first bytes table bounds value trailer width tags n zeros count within)
-
-pub known_begun : (known now : Option (List ℕ)) (table : Table) (bounds : Bounds) (tags : List ℕ) (fs gs : List Frame) (answer : Result Event Error) → now ≡ known → length fs ≡ 0 → length tags ≡ length table.places.items → bounds.trailer ≡ table.trailer → bounds.reference_width ≡ table.reference_width
+pub known_opens : (known now : Option (List ℕ)) (table : Table) (bounds : Bounds) (tags : List ℕ)
+    (n : ℕ) (fs : List Frame) → now ≡ known
     → IfSome known (λ bytes. head_of bytes ≡ Ok (head_seen table))
-    → IfSome now (λ bytes. Pays (unfolding_of (entries_of bytes bounds) (length tags - length fs) (path_of (reverse fs)) table.trailer table.root ++ owed_by (entries_of bytes bounds) (reverse fs)) answer (owed_by (entries_of bytes bounds) (reverse gs)))
+    → IfSome known (λ bytes. table.trailer ≤ length bytes) → bounds.trailer ≡ table.trailer
+    → bounds.reference_width ≡ table.reference_width
+    → tags ≡ replicate n 0 → n ≡ length table.places.items → length fs ≡ 0
+    → IfSome now (λ bytes. IsKnown bytes bounds tags table.places.items (reverse fs))
+known_opens None now table bounds tags n fs same value within trailer width zeros count len =
+    rw same tt
+known_opens (Some bytes) now table bounds tags n fs same value within trailer width zeros count
+    len = rw (same, none fs len) (known_first bytes table bounds value trailer width tags n zeros
+    count within)
+
+pub known_begun : (known now : Option (List ℕ)) (table : Table) (bounds : Bounds) (tags : List ℕ)
+    (fs gs : List Frame) (answer : Result Event Error) → now ≡ known → length fs ≡ 0
+    → length tags ≡ length table.places.items → bounds.trailer ≡ table.trailer
+    → bounds.reference_width ≡ table.reference_width
+    → IfSome known (λ bytes. head_of bytes ≡ Ok (head_seen table))
+    → IfSome now (λ bytes. Pays (unfolding_of (entries_of bytes bounds) (length tags - length fs)
+    (path_of (reverse fs)) table.trailer table.root
+    ++ owed_by (entries_of bytes bounds) (reverse fs)) answer
+    (owed_by (entries_of bytes bounds) (reverse gs)))
     → IfSome known (λ bytes. Begins bytes answer (owed_by (entries_of bytes bounds) (reverse gs)))
 known_begun None now table bounds tags fs gs answer same len count trailer width value pays = tt
-known_begun (Some bytes) now table bounds tags fs gs answer same len count trailer width value pays =
+known_begun (Some bytes) now table bounds tags fs gs answer same len count trailer width value pays
+    =
     let whole : length tags - 0 ≡ length table.places.items = omega arith in
     let pays' = rw (same, none fs len, whole) at pays in
     begins_with bytes _ _ answer
-    (file_walked bytes table bounds value trailer width ∙ ap until_fault (sym (append-nil (unfolding_of (entries_of bytes bounds) (length table.places.items) [] table.trailer table.root))))
+    (file_walked bytes table bounds value trailer width
+    ∙ ap until_fault (sym (append-nil
+    (unfolding_of (entries_of bytes bounds) (length table.places.items) [] table.trailer
+    table.root))))
     pays'
 
 -- a fault keeps nothing
@@ -117,6 +163,7 @@ kept_fault : (number : Option ℕ) (e : Error) (tags : List ℕ) → IsKept numb
 kept_fault None e tags = tt
 kept_fault (Some number) e tags = tt
 
-pub known_few : (known : Option (List ℕ)) (tags : List ℕ) → length tags ≡ 0 → IfSome known (λ bytes. length tags ≤ length (places_of bytes))
+pub known_few : (known : Option (List ℕ)) (tags : List ℕ) → length tags ≡ 0
+    → IfSome known (λ bytes. length tags ≤ length (places_of bytes))
 known_few None tags count = tt
 known_few (Some bytes) tags count = omega arith

@@ -7,31 +7,45 @@ use Rattle.std.proofs.lemmas.List.{get_or-set_same, get_or-set_other}
 use Rattle.plist_base.specs.declared.error.Error.{Error}
 use Rattle.plist_base.specs.declared.event.Event.{Event}
 use Rattle.plist_base.specs.Faults.{Fault, FaultKind, IsIo, OutOfMemory, ObjectReferenceTooLarge, RecursiveObject, MatchFault, kind_of, error_kind_of, fault_of, fault_at, fault_nowhere}
-use Rattle.plist_base.specs.Events.{PlainEvent, EndCollection, Item, event_of}
+use Rattle.plist_base.specs.Events.{PlainEvent, EndCollection, Single, Item, event_of}
+use Rattle.plist_base.specs.Trees.{Scalar}
 use Rattle.plist_base.proofs.Refusals.{MatchFault-at, MatchFault-weaker}
-use Rattle.plist_binread.specs.declared.frames.Frame.{Frame}
-use Rattle.plist_binread.specs.declared.frames.Turn.{Turn}
-use Rattle.plist_binread.specs.declared.frames.Turn.TheVariants.{Done, Closed, Child}
+use Rattle.plist_binread.specs.declared.walk.Frame.{Frame}
+use Rattle.plist_binread.specs.declared.walk.Turn.{Turn}
+use Rattle.plist_binread.specs.declared.walk.Turn.TheVariants.{Done, Closed, Child}
 use Rattle.plist_binread.specs.declared.object.Decoded.{Decoded}
 use Rattle.plist_binread.specs.declared.table.Bounds.{Bounds}
 use Rattle.plist_binread.specs.Object.{Object, object_in}
-use Rattle.plist_binread.specs.Packed.{is_marked, unmarked, scalar_of, cached, IsTextOrData, Retagged, Remarked}
+use Rattle.plist_binread.specs.Packed.{is_marked, unmarked, scalar_of, cached, single, IsTextOrData, Retagged, Remarked}
 use Rattle.plist_binread.specs.Unfolding.{Entry, unfolding_of, until_fault}
 use Rattle.plist_binread.specs.Debt.{IsCollection, IsDecodedAs, IsRefusedAs, IsKept, ReadsChild, Turns, next_number, place_at, scalar_at, scalar_in, children_at, path_of, IsOpen, HoldsPlaceOr, IsHeld, IsKnown, places_of, entries_of, owed_by, Explains, Pays}
-use Rattle.plist_binread.proofs.Steps.{slice_get-within, slice_get-beyond, length-table_of, collection_count, items_beyond, items_open, pays_scalar, pays_refused, refused_cached, scalar_from}
+use Rattle.plist_binread.proofs.Steps.{slice_get-within, slice_get-beyond, length-table_of, collection_count, items_beyond, items_open, pays_scalar, pays_refused, refused_cached}
 
 not_zero : (t : ℕ) → 0 < t → nat_eq t 0 ≡ false
 not_zero t h = grind (arith, nat_tests)
 
-to_scalar : (b : Bool) (scalar : Option PlainEvent) (content : ℕ) (entry : Option Entry) (event : PlainEvent) → b ≡ false → scalar ≡ Some event → HoldsPlaceOr b scalar content entry → scalar_at entry ≡ Some event
-to_scalar true scalar content entry event b is h = absurd (cc)
-to_scalar false None content entry event b is h = absurd h
-to_scalar false (Some e) content entry event b is h = h ∙ is
+to_scalar : (b : Bool) (scalar : Option Scalar) (content : ℕ) (entry : Option Entry) → b ≡ false
+    → HoldsPlaceOr b scalar content entry → scalar_at entry ≡ scalar
+to_scalar true scalar content entry b h = absurd (cc)
+to_scalar false None content entry b h = absurd h
+to_scalar false (Some s) content entry b h = h
 
-from_scalar : (b : Bool) (scalar : Option PlainEvent) (content : ℕ) (entry : Option Entry) (event : PlainEvent) → b ≡ false → scalar ≡ Some event → scalar_at entry ≡ Some event → HoldsPlaceOr b scalar content entry
+-- the scalar of this event
+abbrev unsingle : Option PlainEvent → Option Scalar
+unsingle (Some (Single scalar)) = Some scalar
+unsingle event = None
+
+unsingle-single : (scalar : Option Scalar) → unsingle (single scalar) ≡ scalar
+unsingle-single None = refl
+unsingle-single (Some scalar) = refl
+
+from_scalar : (b : Bool) (scalar : Option Scalar) (content : ℕ) (entry : Option Entry)
+    (event : PlainEvent) → b ≡ false → single scalar ≡ Some event
+    → single (scalar_at entry) ≡ Some event → HoldsPlaceOr b scalar content entry
 from_scalar true scalar content entry event b is h = absurd (cc)
 from_scalar false None content entry event b is h = absurd (cc)
-from_scalar false (Some e) content entry event b is h = h ∙ sym is
+from_scalar false (Some s) content entry event b is h =
+    sym (unsingle-single (scalar_at entry)) ∙ ap unsingle (h ∙ sym is)
 
 module _ (bytes : List ℕ) (bounds : Bounds) where
   abbrev table : List Entry
@@ -39,222 +53,382 @@ module _ (bytes : List ℕ) (bounds : Bounds) where
 
   -- the object of a number below the count
   abbrev pub entry_of : ℕ → Entry
-  entry_of number = record { place = get_or (places_of bytes) number 0; object = object_in bounds.reference_width (drop (get_or (places_of bytes) number 0) (take bounds.trailer bytes)) }
+  entry_of number =
+      record {
+        place = get_or (places_of bytes) number 0;
+        object = object_in bounds.reference_width
+            (drop (get_or (places_of bytes) number 0) (take bounds.trailer bytes));
+      }
 
   pub length-entries : length table ≡ length (places_of bytes)
-  length-entries = length-table_of (take bounds.trailer bytes) (places_of bytes) bounds.reference_width
+  length-entries =
+      length-table_of (take bounds.trailer bytes) (places_of bytes) bounds.reference_width
 
-  pub found : (number : ℕ) → number < length (places_of bytes) → slice_get table number ≡ Some (entry_of number)
-  found number h = slice_get-within (take bounds.trailer bytes) (places_of bytes) bounds.reference_width number h
+  pub found : (number : ℕ) → number < length (places_of bytes)
+      → slice_get table number ≡ Some (entry_of number)
+  found number h =
+      slice_get-within (take bounds.trailer bytes) (places_of bytes) bounds.reference_width number h
 
-  module _ (tags contents : List ℕ) (fs : List Frame) (k : IsKnown bytes bounds tags contents fs) where
-    pub as_many : length table ≡ length tags
-    as_many = length-entries ∙ k.size
+  module _ (tags contents : List ℕ) (fs : List Frame) (k : IsKnown bytes bounds tags contents fs)
+    where
+      pub as_many : length table ≡ length tags
+      as_many = length-entries ∙ k.size
 
-    pub entry_there : (number : ℕ) → number < length tags → slice_get table number ≡ Some (entry_of number)
-    entry_there number h = found number (rw k.size h)
+      pub entry_there : (number : ℕ) → number < length tags
+          → slice_get table number ≡ Some (entry_of number)
+      entry_there number h = found number (rw k.size h)
 
-    -- an object that isn't cached is at the place that is held
-    pub held_place : (number : ℕ) → number < length tags → unmarked (get_or tags number 0) ≡ 0 → get_or contents number 0 ≡ place_at (slice_get table number)
-    held_place number h none = rw none at (k.held number h)
+      -- an object that isn't cached is at the place that is held
+      pub held_place : (number : ℕ) → number < length tags → unmarked (get_or tags number 0) ≡ 0
+          → get_or contents number 0 ≡ place_at (slice_get table number)
+      held_place number h none = rw none at (k.held number h)
 
-    -- and one that is cached is the scalar that is held
-    pub held_scalar : (number : ℕ) (event : PlainEvent) → number < length tags → 0 < unmarked (get_or tags number 0) → cached (get_or tags number 0) (get_or contents number 0) ≡ Some event → scalar_at (slice_get table number) ≡ Some event
-    held_scalar number event h some is = to_scalar _ _ (get_or contents number 0) _ event (not_zero (unmarked (get_or tags number 0)) some) is (k.held number h)
+      -- and one that is cached is the scalar that is held
+      pub held_scalar : (number : ℕ) → number < length tags → 0 < unmarked (get_or tags number 0)
+          → scalar_in (entry_of number).object
+          ≡ cached (get_or tags number 0) (get_or contents number 0)
+      held_scalar number h some =
+          sym (ap scalar_at (entry_there number h))
+          ∙ to_scalar _ _ (get_or contents number 0) _
+          (not_zero (unmarked (get_or tags number 0)) some) (k.held number h)
 
-    -- one more object is open
-    pub known_opened : (new : List ℕ) (f : Frame) (start : PlainEvent) (entry : Entry) → Remarked f.object true tags new → slice_get table f.object ≡ Some entry → IsCollection entry.object start f.count → IsKnown bytes bounds new contents (f ∷ fs)
-    known_opened new f start entry m is collection = record {
-      head = k.head;
-      within = k.within;
-      size = k.size ∙ sym m.size;
-      held = λ q less. rw (m.tags q) (k.held q (rw m.size at less));
-      counts = (rw is (collection_count entry.object start f.count collection), k.counts);
-    }
+      -- one more object is open
+      pub known_opened : (new : List ℕ) (f : Frame) (start : PlainEvent) (entry : Entry)
+          → Remarked f.object true tags new → slice_get table f.object ≡ Some entry
+          → IsCollection entry.object start f.count → IsKnown bytes bounds new contents (f ∷ fs)
+      known_opened new f start entry m is collection = record {
+        head = k.head;
+        within = k.within;
+        size = k.size ∙ sym m.size;
+        held = λ q less. rw (m.tags q) (k.held q (rw m.size at less));
+        counts = (rw is (collection_count entry.object start f.count collection), k.counts);
+      }
 
-    -- one more object is cached
-    pub known_kept : (number tag content : ℕ) (new : List ℕ) (event : PlainEvent) → number < length tags → length contents ≡ length tags → 0 < tag → Retagged number tag tags new → scalar_of tag content ≡ Some event → scalar_at (slice_get table number) ≡ Some event → IsKnown bytes bounds new (slice_set contents number content) fs
-    known_kept number tag content new event h same some m packs is = record {
-      head = k.head;
-      within = k.within;
-      size = k.size ∙ sym m.size;
-      held = λ q less. held q (rw m.size at less);
-      counts = k.counts;
-    }
-      where
-        apart : (q : ℕ) → nat_eq q number ≡ false → (q ≡ number → ⊥)
-        apart q e = grind (arith, nat_tests)
-
-        here : IsHeld (slice_get table number) (get_or new number 0) (get_or (slice_set contents number content) number 0)
-        here = from_scalar _ _ (get_or (slice_set contents number content) number 0) _ event
-            (ap (λ t. nat_eq t 0) m.here ∙ not_zero tag some)
-            (ap (λ t. scalar_of t (get_or (slice_set contents number content) number 0)) m.here ∙ ap (scalar_of tag) (get_or-set_same contents number content 0 (rw same h)) ∙ packs)
-            is
-
-        held : (q : ℕ) → q < length tags → IsHeld (slice_get table q) (get_or new q 0) (get_or (slice_set contents number content) q 0)
-        held q less = elim (eqb_tells q number) [
-          | inl e ↦ rw e.1 here
-          | inr e ↦ rw (m.others q e.0, get_or-set_other contents number q content 0 (apart q e.0)) (k.held q less)
-        ]
-
-    -- ---- a number that isn't entered
-
-    module _ (o : IsOpen tags fs) (at number : ℕ) where
-      abbrev before : List Item
-      before = unfolding_of table (length tags - length fs) (path_of fs) at number ++ owed_by table fs
-
-      explained : (kind : FaultKind) (offset : Option ℕ) (e : Error) → fault_of e ≡ record { kind = kind; offset = offset } → MatchFault kind ⊥ ⊥ ⊤ → unfolding_of table (length tags - length fs) (path_of fs) at number ≡ Err (record { kind = kind; offset = offset }) ∷ [] → Explains (until_fault before) e
-      explained kind offset e is inside only =
-          MatchFault-at (kind_of (error_kind_of e)) kind _ _ _ (ap (λ (f : Fault). f.kind) is)
-          (MatchFault-weaker kind (λ none. absurd none) (λ none. absurd none) (λ _. ap (λ items. until_fault (items ++ owed_by table fs)) (only ∙ ap (λ f. Err f ∷ []) (sym is))) inside)
-
-      -- it has no tag
-      pub unfound_beyond : (e : Error) → length tags ≤ number → fault_of e ≡ fault_at ObjectReferenceTooLarge at → Explains (until_fault before) e
-      unfound_beyond e h is =
-          explained ObjectReferenceTooLarge (Some at) e is tt (items_beyond table (length tags - length fs) (path_of fs) at number (slice_get-beyond (take bounds.trailer bytes) (places_of bytes) bounds.reference_width number (rw k.size h)))
-
-      -- it is open
-      pub unfound_open : (e : Error) → number < length tags → is_marked (get_or tags number 0) ≡ true → fault_of e ≡ fault_at RecursiveObject (get_or contents number 0) → Explains (until_fault before) e
-      unfound_open e h marked is =
-          explained RecursiveObject (Some (get_or contents number 0)) e is tt
-          (items_open table (length tags - length fs) (path_of fs) at number (entry_of number) (entry_there number h) (sym (o.marks number h) ∙ marked)
-          ∙ ap (λ p. Err (fault_at RecursiveObject p) ∷ []) (sym (held_place number h (o.uncached number marked) ∙ ap place_at (entry_there number h))))
-
-      -- memory was wanted for the scalar that is held
-      pub unfound_memory : (e : Error) → number < length tags → is_marked (get_or tags number 0) ≡ false → 0 < unmarked (get_or tags number 0) → fault_of e ≡ fault_nowhere OutOfMemory → IsTextOrData (cached (get_or tags number 0) (get_or contents number 0)) → Explains (until_fault before) e
-      unfound_memory e h free some memory wanted =
-          pays_refused table tags as_many (length fs) fs at number (entry_of number) refl o h (entry_there number h) (sym (o.marks number h) ∙ free) e
-          (refused_cached (entry_of number).object (entry_of number).place e _ memory (scalar_held (cached (get_or tags number 0) (get_or contents number 0)) refl wanted) wanted)
+      -- one more object is cached
+      pub known_kept : (number tag content : ℕ) (new : List ℕ) (event : PlainEvent)
+          → number < length tags → length contents ≡ length tags → 0 < tag
+          → Retagged number tag tags new → single (scalar_of tag content) ≡ Some event
+          → single (scalar_at (slice_get table number)) ≡ Some event
+          → IsKnown bytes bounds new (slice_set contents number content) fs
+      known_kept number tag content new event h same some m packs is = record {
+        head = k.head;
+        within = k.within;
+        size = k.size ∙ sym m.size;
+        held = λ q less. held q (rw m.size at less);
+        counts = k.counts;
+      }
         where
-          scalar_held : (scalar : Option PlainEvent) → cached (get_or tags number 0) (get_or contents number 0) ≡ scalar → IsTextOrData scalar → scalar_in (entry_of number).object ≡ scalar
-          scalar_held None is wanted = absurd wanted
-          scalar_held (Some event) is wanted = sym (ap scalar_at (entry_there number h)) ∙ held_scalar number event h some is
+          apart : (q : ℕ) → nat_eq q number ≡ false → (q ≡ number → ⊥)
+          apart q e = grind (arith, nat_tests)
+
+          here : IsHeld (slice_get table number) (get_or new number 0)
+              (get_or (slice_set contents number content) number 0)
+          here = from_scalar _ _ (get_or (slice_set contents number content) number 0) _ event
+              (ap (λ t. nat_eq t 0) m.here ∙ not_zero tag some)
+              (ap (λ t. single (scalar_of t (get_or (slice_set contents number content) number 0)))
+              m.here ∙ ap (λ c. single (scalar_of tag c))
+              (get_or-set_same contents number content 0 (rw same h)) ∙ packs)
+              is
+
+          held : (q : ℕ) → q < length tags
+              → IsHeld (slice_get table q) (get_or new q 0)
+              (get_or (slice_set contents number content) q 0)
+          held q less = elim (eqb_tells q number) [
+            | inl e ↦ rw e.1 here
+            | inr e ↦ rw (
+              m.others q e.0,
+              get_or-set_other contents number q content 0
+                  (apart q e.0),
+            )
+                (k.held q less)
+          ]
+
+      -- ---- a number that isn't entered
+
+      module _ (o : IsOpen tags fs) (at number : ℕ) where
+        abbrev before : List Item
+        before = unfolding_of table (length tags - length fs) (path_of fs) at number
+            ++ owed_by table fs
+
+        explained : (kind : FaultKind) (offset : Option ℕ) (e : Error)
+            → fault_of e ≡ record { kind = kind; offset = offset } → MatchFault kind ⊥ ⊥ ⊤
+            → unfolding_of table (length tags - length fs) (path_of fs) at number
+            ≡ Err (record { kind = kind; offset = offset }) ∷ [] → Explains (until_fault before) e
+        explained kind offset e is inside only =
+            MatchFault-at (kind_of (error_kind_of e)) kind _ _ _ (ap (λ (f : Fault). f.kind) is)
+            (MatchFault-weaker kind (λ none. absurd none) (λ none. absurd none)
+            (λ _. ap (λ items. until_fault (items ++ owed_by table fs))
+            (only ∙ ap (λ f. Err f ∷ []) (sym is))) inside)
+
+        -- it has no tag
+        pub unfound_beyond : (e : Error) → length tags ≤ number
+            → fault_of e ≡ fault_at ObjectReferenceTooLarge at → Explains (until_fault before) e
+        unfound_beyond e h is =
+            explained ObjectReferenceTooLarge (Some at) e is tt
+            (items_beyond table (length tags - length fs) (path_of fs) at number
+            (slice_get-beyond (take bounds.trailer bytes) (places_of bytes) bounds.reference_width
+            number (rw k.size h)))
+
+        -- it is open
+        pub unfound_open : (e : Error) → number < length tags
+            → is_marked (get_or tags number 0) ≡ true
+            → fault_of e ≡ fault_at RecursiveObject (get_or contents number 0)
+            → Explains (until_fault before) e
+        unfound_open e h marked is =
+            explained RecursiveObject (Some (get_or contents number 0)) e is tt
+            (items_open table (length tags - length fs) (path_of fs) at number (entry_of number)
+            (entry_there number h) (sym (o.marks number h) ∙ marked)
+            ∙ ap (λ p. Err (fault_at RecursiveObject p) ∷ [])
+            (sym (held_place number h (o.uncached number marked)
+            ∙ ap place_at (entry_there number h))))
+
+        -- memory was wanted for the scalar that is held
+        pub unfound_memory : (e : Error) → number < length tags
+            → is_marked (get_or tags number 0) ≡ false → 0 < unmarked (get_or tags number 0)
+            → fault_of e ≡ fault_nowhere OutOfMemory
+            → IsTextOrData (cached (get_or tags number 0) (get_or contents number 0))
+            → Explains (until_fault before) e
+        unfound_memory e h free some memory wanted =
+            pays_refused table tags as_many (length fs) fs at number (entry_of number) refl o h
+            (entry_there number h) (sym (o.marks number h) ∙ free) e
+            (refused_cached (entry_of number).object (entry_of number).place e _ memory
+            (held_scalar number h some) wanted)
 
 -- ---- over bytes that may be unknown
 
-pub first : (known : Option (List ℕ)) (P Q : List ℕ → Type 0) → IfSome known (λ bytes. P bytes × Q bytes) → IfSome known P
+pub first : (known : Option (List ℕ)) (P Q : List ℕ → Type 0)
+    → IfSome known (λ bytes. P bytes × Q bytes) → IfSome known P
 first None P Q h = tt
 first (Some bytes) P Q h = h.0
 
-pub second : (known : Option (List ℕ)) (P Q : List ℕ → Type 0) → IfSome known (λ bytes. P bytes × Q bytes) → IfSome known Q
+pub second : (known : Option (List ℕ)) (P Q : List ℕ → Type 0)
+    → IfSome known (λ bytes. P bytes × Q bytes) → IfSome known Q
 second None P Q h = tt
 second (Some bytes) P Q h = h.1
 
 -- what is owed where an object is to be entered
-abbrev pub Entered : (bytes : List ℕ) (bounds : Bounds) (tags : List ℕ) (n : ℕ) (fs : List Frame) (at number : ℕ) → Result Event Error → (after : List Frame) → Type 0
-Entered bytes bounds tags n fs at number answer after = Pays (unfolding_of (entries_of bytes bounds) (length tags - n) (path_of fs) at number ++ owed_by (entries_of bytes bounds) fs) answer (owed_by (entries_of bytes bounds) after)
+abbrev pub Entered : (bytes : List ℕ) (bounds : Bounds) (tags : List ℕ) (n : ℕ) (fs : List Frame)
+    (at number : ℕ) → Result Event Error → (after : List Frame) → Type 0
+Entered bytes bounds tags n fs at number answer after =
+    Pays (unfolding_of (entries_of bytes bounds) (length tags - n) (path_of fs) at number
+    ++ owed_by (entries_of bytes bounds) fs) answer (owed_by (entries_of bytes bounds) after)
 
-pub known_unfound : (known : Option (List ℕ)) (bounds : Bounds) (tags contents : List ℕ) (fs after : List Frame) (n at number : ℕ) (e : Error) → n ≡ length fs → IsOpen tags fs → IfSome known (λ bytes. IsKnown bytes bounds tags contents fs)
-    → ((bytes : List ℕ) (bounds : Bounds) (frames : List Frame) → IsOpen tags frames → IsKnown bytes bounds tags contents frames → Explains (until_fault (unfolding_of (entries_of bytes bounds) (length tags - length frames) (path_of frames) at number ++ owed_by (entries_of bytes bounds) frames)) e)
+pub known_unfound : (known : Option (List ℕ)) (bounds : Bounds) (tags contents : List ℕ)
+    (fs after : List Frame) (n at number : ℕ) (e : Error) → n ≡ length fs → IsOpen tags fs
+    → IfSome known (λ bytes. IsKnown bytes bounds tags contents fs)
+    → ((bytes : List ℕ) (bounds : Bounds) (frames : List Frame) → IsOpen tags frames
+    → IsKnown bytes bounds tags contents frames
+    → Explains (until_fault (unfolding_of (entries_of bytes bounds)
+    (length tags - length frames) (path_of frames) at number
+    ++ owed_by (entries_of bytes bounds) frames)) e)
     → IfSome known (λ bytes. Entered bytes bounds tags n fs at number (Err e) after)
 known_unfound None bounds tags contents fs after n at number e depth o k refused = tt
-known_unfound (Some bytes) bounds tags contents fs after n at number e depth o k refused = rw depth (refused bytes bounds fs o k)
+known_unfound (Some bytes) bounds tags contents fs after n at number e depth o k refused =
+    rw depth (refused bytes bounds fs o k)
 
-pub known_scalar : (known : Option (List ℕ)) (bounds : Bounds) (tags contents : List ℕ) (fs : List Frame) (n at number : ℕ) (event : Event) → n ≡ length fs → IsOpen tags fs → IfSome known (λ bytes. IsKnown bytes bounds tags contents fs) → number < length tags → is_marked (get_or tags number 0) ≡ false
-    → (0 < unmarked (get_or tags number 0)) × (cached (get_or tags number 0) (get_or contents number 0) ≡ Some (event_of event))
+pub known_scalar : (known : Option (List ℕ)) (bounds : Bounds) (tags contents : List ℕ)
+    (fs : List Frame) (n at number : ℕ) (event : Event) → n ≡ length fs → IsOpen tags fs
+    → IfSome known (λ bytes. IsKnown bytes bounds tags contents fs) → number < length tags
+    → is_marked (get_or tags number 0) ≡ false
+    → (0 < unmarked (get_or tags number 0))
+    × (single (cached (get_or tags number 0) (get_or contents number 0))
+    ≡ Some (event_of event))
     → IfSome known (λ bytes. Entered bytes bounds tags n fs at number (Ok event) fs)
 known_scalar None bounds tags contents fs n at number event depth o k h free is = tt
 known_scalar (Some bytes) bounds tags contents fs n at number event depth o k h free is =
-    pays_scalar (entries_of bytes bounds) tags (as_many bytes bounds tags contents fs k) n fs at number (entry_of bytes bounds number) depth o h (entry_there bytes bounds tags contents fs k number h) (sym (o.marks number h) ∙ free) (event_of event)
-    (scalar_from (entry_of bytes bounds number).object (event_of event) (sym (ap scalar_at (entry_there bytes bounds tags contents fs k number h)) ∙ held_scalar bytes bounds tags contents fs k number (event_of event) h is.0 is.1))
+    pays_scalar (entries_of bytes bounds) tags (as_many bytes bounds tags contents fs k) n fs at
+    number (entry_of bytes bounds number) depth o h
+    (entry_there bytes bounds tags contents fs k number h) (sym (o.marks number h) ∙ free)
+    (event_of event)
+    (ap single (held_scalar bytes bounds tags contents fs k number h is.0) ∙ is.1)
 
 -- the place of an object that isn't cached
-pub place_is : (bytes : List ℕ) (bounds : Bounds) (tags contents : List ℕ) (fs : List Frame) (k : IsKnown bytes bounds tags contents fs) (number place : ℕ) → number < length tags → (unmarked (get_or tags number 0) ≡ 0) × (place ≡ get_or contents number 0) → place ≡ (entry_of bytes bounds number).place
-place_is bytes bounds tags contents fs k number place h is =
-    is.1 ∙ held_place bytes bounds tags contents fs k number h is.0 ∙ ap place_at (entry_there bytes bounds tags contents fs k number h)
-
-pub known_refused : (known : Option (List ℕ)) (bounds : Bounds) (tags contents : List ℕ) (fs after : List Frame) (n at number place : ℕ) (e : Error) → n ≡ length fs → IsOpen tags fs → IfSome known (λ bytes. IsKnown bytes bounds tags contents fs) → number < length tags → is_marked (get_or tags number 0) ≡ false
+pub place_is : (bytes : List ℕ) (bounds : Bounds) (tags contents : List ℕ) (fs : List Frame)
+    (k : IsKnown bytes bounds tags contents fs) (number place : ℕ) → number < length tags
     → (unmarked (get_or tags number 0) ≡ 0) × (place ≡ get_or contents number 0)
-    → IfSome known (λ bytes. bounds.trailer ≤ length bytes → IsRefusedAs (object_in bounds.reference_width (drop place (take bounds.trailer bytes))) place e)
+    → place ≡ (entry_of bytes bounds number).place
+place_is bytes bounds tags contents fs k number place h is =
+    is.1 ∙ held_place bytes bounds tags contents fs k number h is.0
+    ∙ ap place_at (entry_there bytes bounds tags contents fs k number h)
+
+pub known_refused : (known : Option (List ℕ)) (bounds : Bounds) (tags contents : List ℕ)
+    (fs after : List Frame) (n at number place : ℕ) (e : Error) → n ≡ length fs → IsOpen tags fs
+    → IfSome known (λ bytes. IsKnown bytes bounds tags contents fs) → number < length tags
+    → is_marked (get_or tags number 0) ≡ false
+    → (unmarked (get_or tags number 0) ≡ 0) × (place ≡ get_or contents number 0)
+    → IfSome known (λ bytes. bounds.trailer ≤ length bytes
+    → IsRefusedAs (object_in bounds.reference_width (drop place (take bounds.trailer bytes)))
+    place e)
     → IfSome known (λ bytes. Entered bytes bounds tags n fs at number (Err e) after)
-known_refused None bounds tags contents fs after n at number place e depth o k h free is refused = tt
-known_refused (Some bytes) bounds tags contents fs after n at number place e depth o k h free is refused =
-    pays_refused (entries_of bytes bounds) tags (as_many bytes bounds tags contents fs k) n fs at number (entry_of bytes bounds number) depth o h (entry_there bytes bounds tags contents fs k number h) (sym (o.marks number h) ∙ free) e
+known_refused None bounds tags contents fs after n at number place e depth o k h free is refused =
+    tt
+known_refused (Some bytes) bounds tags contents fs after n at number place e depth o k h free is
+    refused =
+    pays_refused (entries_of bytes bounds) tags (as_many bytes bounds tags contents fs k) n fs at
+    number (entry_of bytes bounds number) depth o h
+    (entry_there bytes bounds tags contents fs k number h) (sym (o.marks number h) ∙ free) e
     (rw (place_is bytes bounds tags contents fs k number place h is) at (refused k.within))
 
-module _ (known : Option (List ℕ)) (bounds : Bounds) (tags contents new others : List ℕ) (fs after : List Frame) (n at number place : ℕ) (d : Decoded) (answer : Result Event Error) (k : IfSome known (λ bytes. IsKnown bytes bounds tags contents fs)) (h : number < length tags)
+module _ (known : Option (List ℕ)) (bounds : Bounds) (tags contents new others : List ℕ)
+    (fs after : List Frame) (n at number place : ℕ) (d : Decoded) (answer : Result Event Error)
+    (k : IfSome known (λ bytes. IsKnown bytes bounds tags contents fs)) (h : number < length tags)
     (is : (unmarked (get_or tags number 0) ≡ 0) × (place ≡ get_or contents number 0))
-    (decoded : IfSome known (λ bytes. bounds.trailer ≤ length bytes → IsDecodedAs (object_in bounds.reference_width (drop place (take bounds.trailer bytes))) d))
-    (pays : (bytes : List ℕ) (bounds : Bounds) (entry : Entry) (at : ℕ) → IsKnown bytes bounds tags contents fs → slice_get (entries_of bytes bounds) number ≡ Some entry → IsDecodedAs entry.object d → Entered bytes bounds tags n fs at number answer after × IsKnown bytes bounds new others after) where
-  both : IfSome known (λ bytes. Entered bytes bounds tags n fs at number answer after × IsKnown bytes bounds new others after)
+    (decoded : IfSome known (λ bytes. bounds.trailer ≤ length bytes
+    → IsDecodedAs (object_in bounds.reference_width (drop place (take bounds.trailer bytes)))
+    d))
+    (pays : (bytes : List ℕ) (bounds : Bounds) (entry : Entry) (at : ℕ)
+    → IsKnown bytes bounds tags contents fs
+    → slice_get (entries_of bytes bounds) number ≡ Some entry → IsDecodedAs entry.object d
+    → Entered bytes bounds tags n fs at number answer after
+    × IsKnown bytes bounds new others after) where
+  both : IfSome known (λ bytes. Entered bytes bounds tags n fs at number answer after
+      × IsKnown bytes bounds new others after)
   both = go known k decoded
     where
-      go : (known : Option (List ℕ)) → IfSome known (λ bytes. IsKnown bytes bounds tags contents fs) → IfSome known (λ bytes. bounds.trailer ≤ length bytes → IsDecodedAs (object_in bounds.reference_width (drop place (take bounds.trailer bytes))) d)
-          → IfSome known (λ bytes. Entered bytes bounds tags n fs at number answer after × IsKnown bytes bounds new others after)
+      go : (known : Option (List ℕ)) → IfSome known (λ bytes. IsKnown bytes bounds tags contents fs)
+          → IfSome known (λ bytes. bounds.trailer ≤ length bytes
+          → IsDecodedAs (object_in bounds.reference_width (drop place (take bounds.trailer bytes)))
+          d)
+          → IfSome known (λ bytes. Entered bytes bounds tags n fs at number answer after
+          × IsKnown bytes bounds new others after)
       go None k decoded = tt
-      go (Some bytes) k decoded = pays bytes bounds (entry_of bytes bounds number) at k (entry_there bytes bounds tags contents fs k number h) (rw (place_is bytes bounds tags contents fs k number place h is) at (decoded k.within))
+      go (Some bytes) k decoded =
+          pays bytes bounds (entry_of bytes bounds number) at k
+          (entry_there bytes bounds tags contents fs k number h)
+          (rw (place_is bytes bounds tags contents fs k number place h is) at (decoded k.within))
 
-  pub known_entered_pays : IfSome known (λ bytes. Entered bytes bounds tags n fs at number answer after)
-  known_entered_pays = first known (λ bytes. Entered bytes bounds tags n fs at number answer after) (λ bytes. IsKnown bytes bounds new others after) both
+  pub known_entered_pays : IfSome known
+      (λ bytes. Entered bytes bounds tags n fs at number answer after)
+  known_entered_pays =
+      first known (λ bytes. Entered bytes bounds tags n fs at number answer after)
+      (λ bytes. IsKnown bytes bounds new others after) both
 
   pub known_entered : IfSome known (λ bytes. IsKnown bytes bounds new others after)
-  known_entered = second known (λ bytes. Entered bytes bounds tags n fs at number answer after) (λ bytes. IsKnown bytes bounds new others after) both
+  known_entered =
+      second known (λ bytes. Entered bytes bounds tags n fs at number answer after)
+      (λ bytes. IsKnown bytes bounds new others after) both
 
-pub known_kept_by : (known : Option (List ℕ)) (bounds : Bounds) (tags contents : List ℕ) (fs : List Frame) (place : ℕ) (d : Decoded) (X : Type 0) → IfSome known (λ bytes. IsKnown bytes bounds tags contents fs)
-    → IfSome known (λ bytes. bounds.trailer ≤ length bytes → IsDecodedAs (object_in bounds.reference_width (drop place (take bounds.trailer bytes))) d) → ((object : Object) → IsDecodedAs object d → X) → IfSome known (λ bytes. X)
+pub known_kept_by : (known : Option (List ℕ)) (bounds : Bounds) (tags contents : List ℕ)
+    (fs : List Frame) (place : ℕ) (d : Decoded) (X : Type 0)
+    → IfSome known (λ bytes. IsKnown bytes bounds tags contents fs)
+    → IfSome known (λ bytes. bounds.trailer ≤ length bytes
+    → IsDecodedAs (object_in bounds.reference_width (drop place (take bounds.trailer bytes))) d)
+    → ((object : Object) → IsDecodedAs object d → X) → IfSome known (λ bytes. X)
 known_kept_by None bounds tags contents fs place d X k decoded kept = tt
-known_kept_by (Some bytes) bounds tags contents fs place d X k decoded kept = kept _ (decoded k.within)
+known_kept_by (Some bytes) bounds tags contents fs place d X k decoded kept =
+    kept _ (decoded k.within)
 
 -- ---- one turn of the walk
 
-abbrev pub Turned : (bytes : List ℕ) (bounds : Bounds) (tags contents : List ℕ) (old : List Frame) → Turn → (new : List Frame) → Type 0
-Turned bytes bounds tags contents old turn new = Turns (entries_of bytes bounds) old turn new × IsKnown bytes bounds tags contents new
+abbrev pub Turned : (bytes : List ℕ) (bounds : Bounds) (tags contents : List ℕ) (old : List Frame)
+    → Turn → (new : List Frame) → Type 0
+Turned bytes bounds tags contents old turn new =
+    Turns (entries_of bytes bounds) old turn new × IsKnown bytes bounds tags contents new
 
-pub known_turned : (known : Option (List ℕ)) (bounds : Bounds) (tags new contents : List ℕ) (fs gs : List Frame) (turn : Turn) → IfSome known (λ bytes. IsKnown bytes bounds tags contents fs)
-    → ((bytes contents : List ℕ) (bounds : Bounds) → IsKnown bytes bounds tags contents fs → Turned bytes bounds new contents fs turn gs)
-    → IfSome known (λ bytes. Turned bytes bounds new contents fs turn gs)
-known_turned None bounds tags new contents fs gs turn k turns = tt
-known_turned (Some bytes) bounds tags new contents fs gs turn k turns = turns bytes contents bounds k
+pub known_turned : (known : Option (List ℕ)) (bounds : Bounds) (tags new contents others : List ℕ)
+    (fs gs : List Frame) (turn : Turn)
+    → IfSome known (λ bytes. IsKnown bytes bounds tags contents fs)
+    → ((bytes : List ℕ) (bounds : Bounds) → IsKnown bytes bounds tags contents fs
+    → Turned bytes bounds new others fs turn gs)
+    → IfSome known (λ bytes. Turned bytes bounds new others fs turn gs)
+known_turned None bounds tags new contents others fs gs turn k turns = tt
+known_turned (Some bytes) bounds tags new contents others fs gs turn k turns = turns bytes bounds k
 
-pub known_after : (known : Option (List ℕ)) (bounds : Bounds) (tags contents : List ℕ) (fs gs : List Frame) (turn : Turn) → IfSome known (λ bytes. Turned bytes bounds tags contents fs turn gs) → IfSome known (λ bytes. IsKnown bytes bounds tags contents gs)
-known_after known bounds tags contents fs gs turn = second known (λ bytes. Turns (entries_of bytes bounds) fs turn gs) (λ bytes. IsKnown bytes bounds tags contents gs)
+pub known_after : (known : Option (List ℕ)) (bounds : Bounds) (tags contents : List ℕ)
+    (fs gs : List Frame) (turn : Turn)
+    → IfSome known (λ bytes. Turned bytes bounds tags contents fs turn gs)
+    → IfSome known (λ bytes. IsKnown bytes bounds tags contents gs)
+known_after known bounds tags contents fs gs turn =
+    second known (λ bytes. Turns (entries_of bytes bounds) fs turn gs)
+    (λ bytes. IsKnown bytes bounds tags contents gs)
 
-pub known_done : (known : Option (List ℕ)) (bounds : Bounds) (tags contents : List ℕ) (fs gs : List Frame) → IfSome known (λ bytes. Turned bytes bounds tags contents fs Done gs)
-    → IfSome known (λ bytes. (owed_by (entries_of bytes bounds) fs ≡ []) × (owed_by (entries_of bytes bounds) gs ≡ []))
+pub known_done : (known : Option (List ℕ)) (bounds : Bounds) (tags contents : List ℕ)
+    (fs gs : List Frame) → IfSome known (λ bytes. Turned bytes bounds tags contents fs Done gs)
+    → IfSome known (λ bytes. (owed_by (entries_of bytes bounds) fs ≡ [])
+    × (owed_by (entries_of bytes bounds) gs ≡ []))
 known_done None bounds tags contents fs gs turned = tt
-known_done (Some bytes) bounds tags contents fs gs turned = (ap (owed_by (entries_of bytes bounds)) turned.0.0, ap (owed_by (entries_of bytes bounds)) turned.0.1)
+known_done (Some bytes) bounds tags contents fs gs turned = (
+  ap (owed_by (entries_of bytes bounds)) turned.0.0,
+  ap (owed_by (entries_of bytes bounds))
+      turned.0.1,
+)
 
-pub known_closed : (known : Option (List ℕ)) (bounds : Bounds) (tags contents : List ℕ) (fs gs : List Frame) → IfSome known (λ bytes. Turned bytes bounds tags contents fs Closed gs)
-    → IfSome known (λ bytes. until_fault (owed_by (entries_of bytes bounds) fs) ≡ Ok EndCollection ∷ until_fault (owed_by (entries_of bytes bounds) gs))
+pub known_closed : (known : Option (List ℕ)) (bounds : Bounds) (tags contents : List ℕ)
+    (fs gs : List Frame) → IfSome known (λ bytes. Turned bytes bounds tags contents fs Closed gs)
+    → IfSome known (λ bytes. until_fault (owed_by (entries_of bytes bounds) fs) ≡ Ok EndCollection
+    ∷ until_fault (owed_by (entries_of bytes bounds) gs))
 known_closed None bounds tags contents fs gs turned = tt
 known_closed (Some bytes) bounds tags contents fs gs turned = ap until_fault turned.0
 
 -- the number that was read is that of the child
-pub child_is : (bytes : List ℕ) (bounds : Bounds) (tags contents : List ℕ) (fs gs : List Frame) (object index : ℕ) → object < length tags → unmarked (get_or tags object 0) ≡ 0 → Turned bytes bounds tags contents fs (Child object index) gs
-    → (answer : Result ℕ Error) → (bounds.trailer ≤ length bytes → ReadsChild (object_in bounds.reference_width (drop (get_or contents object 0) (take bounds.trailer bytes))) index answer)
-    → MatchResult answer (λ number. number ≡ get_or (children_at (slice_get (entries_of bytes bounds) object)) index 0) (λ error. IsIo (kind_of (error_kind_of error)))
+pub child_is : (bytes : List ℕ) (bounds : Bounds) (tags contents : List ℕ) (fs gs : List Frame)
+    (object index : ℕ) → object < length tags → unmarked (get_or tags object 0) ≡ 0
+    → Turned bytes bounds tags contents fs (Child object index) gs
+    → (answer : Result ℕ Error) → (bounds.trailer ≤ length bytes
+    → ReadsChild (object_in bounds.reference_width
+    (drop (get_or contents object 0) (take bounds.trailer bytes))) index answer)
+    → MatchResult answer (λ number. number
+    ≡ get_or (children_at (slice_get (entries_of bytes bounds) object)) index 0)
+    (λ error. IsIo (kind_of (error_kind_of error)))
 child_is bytes bounds tags contents fs gs object index h none turned answer reads =
     let k = turned.1 in
     let there = entry_there bytes bounds tags contents gs k object h in
-    let place : get_or contents object 0 ≡ (entry_of bytes bounds object).place = held_place bytes bounds tags contents gs k object h none ∙ ap place_at there in
+    let place : get_or contents object 0
+    ≡ (entry_of bytes bounds object).place = held_place bytes bounds tags contents gs k object h
+    none ∙ ap place_at there in
     rw there ((rw place at (reads k.within)) (rw there at turned.0.1))
 
 -- what is owed goes on with what the child owes
-pub known_child_entered : (known now : Option (List ℕ)) (bounds : Bounds) (tags contents : List ℕ) (fs gs after : List Frame) (n object index number : ℕ) (answer : Result Event Error) → now ≡ known → n ≡ length gs → object < length tags → unmarked (get_or tags object 0) ≡ 0 → IfSome known (λ bytes. Turned bytes bounds tags contents fs (Child object index) gs)
-    → IfSome known (λ bytes. bounds.trailer ≤ length bytes → ReadsChild (object_in bounds.reference_width (drop (get_or contents object 0) (take bounds.trailer bytes))) index (Ok number))
-    → IfSome now (λ bytes. Entered bytes bounds tags n gs (get_or contents object 0) number answer after)
-    → IfSome known (λ bytes. Pays (owed_by (entries_of bytes bounds) fs) answer (owed_by (entries_of bytes bounds) after))
-known_child_entered None now bounds tags contents fs gs after n object index number answer same depth h none turned reads entered = tt
-known_child_entered (Some bytes) now bounds tags contents fs gs after n object index number answer same depth h none turned reads entered =
-    let is : number ≡ get_or (children_at (slice_get (entries_of bytes bounds) object)) index 0 = child_is bytes bounds tags contents fs gs object index h none turned (Ok number) reads in
+pub known_child_entered : (known now : Option (List ℕ)) (bounds : Bounds) (tags contents : List ℕ)
+    (fs gs after : List Frame) (n object index number : ℕ) (answer : Result Event Error)
+    → now ≡ known → n ≡ length gs → object < length tags → unmarked (get_or tags object 0) ≡ 0
+    → IfSome known (λ bytes. Turned bytes bounds tags contents fs (Child object index) gs)
+    → IfSome known (λ bytes. bounds.trailer ≤ length bytes
+    → ReadsChild (object_in bounds.reference_width
+    (drop (get_or contents object 0) (take bounds.trailer bytes))) index (Ok number))
+    → IfSome now (λ bytes. Entered bytes bounds tags n gs (get_or contents object 0) number answer
+    after)
+    → IfSome known (λ bytes. Pays (owed_by (entries_of bytes bounds) fs) answer
+    (owed_by (entries_of bytes bounds) after))
+known_child_entered None now bounds tags contents fs gs after n object index number answer same
+    depth h none turned reads entered = tt
+known_child_entered (Some bytes) now bounds tags contents fs gs after n object index number answer
+    same depth h none turned reads entered =
+    let is : number ≡ get_or (children_at (slice_get (entries_of bytes bounds) object)) index 0 =
+    child_is bytes bounds tags contents fs gs object index h none turned (Ok number) reads in
     let place = held_place bytes bounds tags contents gs turned.1 object h none in
     let entered' = rw same at entered in
     rw (turned.0.0, as_many bytes bounds tags contents gs turned.1, ← depth, ← place, ← is) entered'
 
-pub known_child_kept : (known now : Option (List ℕ)) (bounds : Bounds) (tags contents new : List ℕ) (fs gs : List Frame) (object index number : ℕ) (item : Option (Result Event Error)) → now ≡ known → object < length tags → unmarked (get_or tags object 0) ≡ 0 → IfSome known (λ bytes. Turned bytes bounds tags contents fs (Child object index) gs)
-    → IfSome known (λ bytes. bounds.trailer ≤ length bytes → ReadsChild (object_in bounds.reference_width (drop (get_or contents object 0) (take bounds.trailer bytes))) index (Ok number))
+pub known_child_kept : (known now : Option (List ℕ)) (bounds : Bounds) (tags contents new : List ℕ)
+    (fs gs : List Frame) (object index number : ℕ) (item : Option (Result Event Error))
+    → now ≡ known → object < length tags → unmarked (get_or tags object 0) ≡ 0
+    → IfSome known (λ bytes. Turned bytes bounds tags contents fs (Child object index) gs)
+    → IfSome known (λ bytes. bounds.trailer ≤ length bytes
+    → ReadsChild (object_in bounds.reference_width
+    (drop (get_or contents object 0) (take bounds.trailer bytes))) index (Ok number))
     → IfSome now (λ bytes. IsKept (Some number) item new)
     → IfSome known (λ bytes. IsKept (next_number (entries_of bytes bounds) fs) item new)
-known_child_kept None now bounds tags contents new fs gs object index number item same h none turned reads kept = tt
-known_child_kept (Some bytes) now bounds tags contents new fs gs object index number item same h none turned reads kept =
-    let is : number ≡ get_or (children_at (slice_get (entries_of bytes bounds) object)) index 0 = child_is bytes bounds tags contents fs gs object index h none turned (Ok number) reads in
+known_child_kept None now bounds tags contents new fs gs object index number item same h none turned
+    reads kept = tt
+known_child_kept (Some bytes) now bounds tags contents new fs gs object index number item same h
+    none turned reads kept =
+    let is : number ≡ get_or (children_at (slice_get (entries_of bytes bounds) object)) index 0 =
+    child_is bytes bounds tags contents fs gs object index h none turned (Ok number) reads in
     let kept' = rw same at kept in
     rw (turned.0.3, ← is) kept'
 
 -- a read of the reference failed
-pub known_child_failed : (known : Option (List ℕ)) (bounds : Bounds) (tags contents : List ℕ) (fs gs : List Frame) (object index : ℕ) (e : Error) → object < length tags → unmarked (get_or tags object 0) ≡ 0 → IfSome known (λ bytes. Turned bytes bounds tags contents fs (Child object index) gs)
-    → IfSome known (λ bytes. bounds.trailer ≤ length bytes → ReadsChild (object_in bounds.reference_width (drop (get_or contents object 0) (take bounds.trailer bytes))) index (Err e))
+pub known_child_failed : (known : Option (List ℕ)) (bounds : Bounds) (tags contents : List ℕ)
+    (fs gs : List Frame) (object index : ℕ) (e : Error) → object < length tags
+    → unmarked (get_or tags object 0) ≡ 0
+    → IfSome known (λ bytes. Turned bytes bounds tags contents fs (Child object index) gs)
+    → IfSome known (λ bytes. bounds.trailer ≤ length bytes
+    → ReadsChild (object_in bounds.reference_width
+    (drop (get_or contents object 0) (take bounds.trailer bytes))) index (Err e))
     → IfSome known (λ bytes. Explains (until_fault (owed_by (entries_of bytes bounds) fs)) e)
 known_child_failed None bounds tags contents fs gs object index e h none turned reads = tt
 known_child_failed (Some bytes) bounds tags contents fs gs object index e h none turned reads =
-    MatchFault-weaker (kind_of (error_kind_of e)) (λ _. turned.0.2) (λ none. absurd none) (λ none. absurd none) (child_is bytes bounds tags contents fs gs object index h none turned (Err e) reads)
+    MatchFault-weaker (kind_of (error_kind_of e)) (λ _. turned.0.2) (λ none. absurd none)
+    (λ none. absurd none) (child_is bytes bounds tags contents fs gs object index h none turned
+    (Err e) reads)

@@ -1,5 +1,5 @@
 -- What lies in bytes that are lent, whatever follows them.
-use Rattle.std.proofs.Common.{◌≡◌, ℕ, zero, suc, false, ◌+◌, ◌-◌, ◌*◌, ◌%◌, ◌^◌, ◌<◌, ◌≤◌, inl, inr, nat_eq, List, [], ◌∷◌, ◌++◌, length, take, drop, get_or, Option, None, Some, Ok, IfSome, refl, ap, sym, ◌∙◌, arith}
+use Rattle.std.proofs.Common.{◌≡◌, ℕ, suc, false, ◌+◌, ◌-◌, ◌*◌, ◌%◌, ◌^◌, ◌<◌, ◌≤◌, inl, inr, nat_eq, List, ◌∷◌, ◌++◌, length, take, drop, get_or, Option, None, Some, Ok, IfSome, refl, ap, sym, ◌∙◌, arith}
 use Rattle.std.proofs.lemmas.Bool.{le-leb, lt-ltb, le-ltb, cases_lt}
 use Rattle.std.proofs.lemmas.Bool.Decides.{nat_tests}
 use Rattle.std.proofs.lemmas.List.{length-append, take-append-le, drop-append-le, length-drop, length-take-le, drop-drop, take-append-drop}
@@ -14,18 +14,13 @@ use Rattle.plist_binread.specs.Debt.{IsCollection, ReadsChild, children_in}
 use Rattle.plist_binread.specs.Lent.{IsSlots, IsAsked, slot_of}
 use Rattle.plist_binread.specs.Object.{Object, Array, Faulty, dictionary, layout_of, length_in, meaning_of_front, meaning_counted, object_behind, object_in}
 use Rattle.plist_binread.proofs.Children.{length-numbers, get_or-numbers, length-dictionary, key, value, known_array, known_dictionary}
-use Rattle.plist_binread.proofs.Columns.{take-drop-take}
+use Rattle.plist_binread.proofs.Columns.{take-drop-take, take-take-le}
 use Rattle.plist_binread.proofs.Extents.{leb_short, number_at-take}
 use Rattle.plist_binread.proofs.Markers.{layout-array, layout-dictionary, object_in-beyond}
 
-take-take-le : (w n : ℕ) (xs : List ℕ) → w ≤ n → take w (take n xs) ≡ take w xs
-take-take-le zero n xs h = refl
-take-take-le (suc w) zero xs h = absurd (omega arith)
-take-take-le (suc w) (suc n) [] h = refl
-take-take-le (suc w) (suc n) (x ∷ xs) h = ap (λ ys. x ∷ ys) (take-take-le w n xs (omega arith))
-
 -- the content of a fixed size
-pub front_lent : (xs more : List ℕ) (w : ℕ) (meaning : List ℕ → Object) → w ≤ length xs → meaning_of_front w meaning (xs ++ more) ≡ meaning (take w xs)
+pub front_lent : (xs more : List ℕ) (w : ℕ) (meaning : List ℕ → Object) → w ≤ length xs
+    → meaning_of_front w meaning (xs ++ more) ≡ meaning (take w xs)
 front_lent xs more w meaning h =
     let enough : w ≤ length (xs ++ more) = omega (arith, length-append xs more) in
     rw (le-leb w (length (xs ++ more)) enough) (ap meaning (take-append-le w xs more h))
@@ -35,40 +30,69 @@ pub length_short : (m : ℕ) (ys : List ℕ) → m % 16 < 15 → length_in m ys 
 length_short m ys h = rw (lt-ltb (m % 16) 15 h) refl
 
 -- and one that follows it
-pub length_long : (m byte w : ℕ) (xs more : List ℕ) → 15 ≤ m % 16 → w ≡ 2 ^ (byte % 4) → w ≤ length xs → length_in m ((byte ∷ xs) ++ more) ≡ Some (number_of (take w xs), drop w xs ++ more)
+pub length_long : (m byte w : ℕ) (xs more : List ℕ) → 15 ≤ m % 16 → w ≡ 2 ^ (byte % 4)
+    → w ≤ length xs → length_in m ((byte ∷ xs) ++ more)
+    ≡ Some (number_of (take w xs), drop w xs ++ more)
 length_long m byte w xs more high width h =
     let enough : w ≤ length (xs ++ more) = omega (arith, length-append xs more) in
-    rw (le-ltb (m % 16) 15 high, ← width, le-leb w (length (xs ++ more)) enough, take-append-le w xs more h, drop-append-le w xs more h) refl
+    rw (
+      le-ltb (m % 16) 15 high,
+      ← width,
+      le-leb w (length (xs ++ more)) enough,
+      take-append-le w xs
+          more h,
+      drop-append-le w xs more h,
+    ) refl
 
 -- the content of a text or data
-pub bytes_lent : (count : ℕ) (behind more : List ℕ) (found : Option (ℕ × List ℕ)) (meaning : List ℕ → Object) → found ≡ Some (count, behind ++ more) → count ≤ length behind → meaning_counted 1 (λ _. meaning) found ≡ meaning (take count behind)
+pub bytes_lent : (count : ℕ) (behind more : List ℕ) (found : Option (ℕ × List ℕ))
+    (meaning : List ℕ → Object) → found ≡ Some (count, behind ++ more) → count ≤ length behind
+    → meaning_counted 1 (λ _. meaning) found ≡ meaning (take count behind)
 bytes_lent count behind more found meaning is h =
     let one : count * 1 ≡ count = omega arith in
     rw (is, one) (front_lent behind more count meaning h)
 
 -- the object behind a marker
-pub object_lent : (w m : ℕ) (xs ys : List ℕ) → xs ≡ m ∷ ys → object_in w xs ≡ object_behind m (layout_of w m) ys
+pub object_lent : (w m : ℕ) (xs ys : List ℕ) → xs ≡ m ∷ ys
+    → object_in w xs ≡ object_behind m (layout_of w m) ys
 unfolding object_in
 object_lent w m xs ys is = rw is refl
 
 -- ---- collections
 
-content_is : (size count : ℕ) (behind : List ℕ) (found : Option (ℕ × List ℕ)) → found ≡ Some (count, behind) → count * size ≤ length behind → (meaning : ℕ → List ℕ → Object) → meaning_counted size meaning found ≡ meaning count (take (count * size) behind)
-content_is size count behind found is h meaning = rw (is, le-leb (count * size) (length behind) h) refl
+content_is : (size count : ℕ) (behind : List ℕ) (found : Option (ℕ × List ℕ))
+    → found ≡ Some (count, behind) → count * size ≤ length behind → (meaning : ℕ → List ℕ → Object)
+    → meaning_counted size meaning found ≡ meaning count (take (count * size) behind)
+content_is size count behind found is h meaning =
+    rw (is, le-leb (count * size) (length behind) h) refl
 
-pub array_lent : (w count : ℕ) (behind : List ℕ) (found : Option (ℕ × List ℕ)) → 0 < w → found ≡ Some (count, behind) → count * w ≤ length behind → IsCollection (meaning_counted w (λ _ content. Array (numbers_of w content)) found) (StartArray (Some count)) count
+pub array_lent : (w count : ℕ) (behind : List ℕ) (found : Option (ℕ × List ℕ)) → 0 < w
+    → found ≡ Some (count, behind) → count * w ≤ length behind
+    → IsCollection (meaning_counted w (λ _ content. Array (numbers_of w content)) found)
+    (StartArray (Some count)) count
 array_lent w count behind found some is h =
-    known_array (Some behind) (length behind) w 0 count (λ bytes meaning. meaning_counted w meaning found) some (omega (arith, h)) (λ fits. content_is w count behind found is h) (omega arith)
+    known_array (Some behind) (length behind) w 0 count
+    (λ bytes meaning. meaning_counted w meaning found) some (omega (arith, h))
+    (λ fits. content_is w count behind found is h) (omega arith)
 
-pub dictionary_lent : (w count : ℕ) (behind : List ℕ) (found : Option (ℕ × List ℕ)) → 0 < w → found ≡ Some (count, behind) → count * (2 * w) ≤ length behind → IsCollection (meaning_counted (2 * w) (λ count content. dictionary count (numbers_of w content)) found) (StartDictionary (Some count)) (2 * count)
+pub dictionary_lent : (w count : ℕ) (behind : List ℕ) (found : Option (ℕ × List ℕ)) → 0 < w
+    → found ≡ Some (count, behind) → count * (2 * w) ≤ length behind
+    → IsCollection (meaning_counted (2 * w)
+    (λ count content. dictionary count (numbers_of w content)) found) (StartDictionary (Some count))
+    (2 * count)
 dictionary_lent w count behind found some is h =
-    known_dictionary (Some behind) (length behind) w 0 count (λ bytes meaning. meaning_counted (2 * w) meaning found) some (omega (arith, h)) (λ fits. content_is (2 * w) count behind found is h) (omega arith)
+    known_dictionary (Some behind) (length behind) w 0 count
+    (λ bytes meaning. meaning_counted (2 * w) meaning found) some (omega (arith, h))
+    (λ fits. content_is (2 * w) count behind found is h) (omega arith)
 
 -- ---- where references stand
 
 -- what doesn't fit is refused
-unfit : (size count : ℕ) (behind : List ℕ) (found : Option (ℕ × List ℕ)) (meaning : ℕ → List ℕ → Object) → found ≡ Some (count, behind) → length behind < count * size → meaning_counted size meaning found ≡ Faulty ObjectOffsetTooLarge
-unfit size count behind found meaning is h = rw (is, leb_short (count * size) (length behind) h) refl
+unfit : (size count : ℕ) (behind : List ℕ) (found : Option (ℕ × List ℕ))
+    (meaning : ℕ → List ℕ → Object) → found ≡ Some (count, behind) → length behind < count * size
+    → meaning_counted size meaning found ≡ Faulty ObjectOffsetTooLarge
+unfit size count behind found meaning is h =
+    rw (is, leb_short (count * size) (length behind) h) refl
 
 inside : (start i n w l : ℕ) → i < n → start + n * w ≤ l → start + i * w + w ≤ l
 inside start i n w l h whole =
@@ -76,21 +100,40 @@ inside start i n w l h whole =
     let e : suc i * w ≡ i * w + w = omega arith in
     omega arith
 
-pub array_slots : (w count start : ℕ) (xs : List ℕ) → 0 < w → start ≤ length xs → object_in w xs ≡ meaning_counted w (λ _ content. Array (numbers_of w content)) (Some (count, drop start xs)) → IsSlots w xs start 0
-array_slots w count start xs some there is = λ index. rw is (elim (cases_lt (length (drop start xs)) (count * w)) [
-  | inl short ↦ rw (unfit w count (drop start xs) (Some (count, drop start xs)) (λ _ content. Array (numbers_of w content)) refl short) (λ h. absurd (omega arith))
-  | inr fits ↦
-      let whole : start + count * w ≤ length xs = omega (arith, length-drop start xs, fits) in
-      rw (content_is w count (drop start xs) (Some (count, drop start xs)) refl fits (λ _ content. Array (numbers_of w content)))
-      (λ h. let less : index < count = rw (length-numbers xs start w count some whole) at h in
-      (inside start index count w (length xs) less whole, sym (get_or-numbers xs start w count index some whole less)))
-])
+pub array_slots : (w count start : ℕ) (xs : List ℕ) → 0 < w → start ≤ length xs
+    → object_in w xs ≡ meaning_counted w (λ _ content. Array (numbers_of w content))
+    (Some (count, drop start xs)) → IsSlots w xs start 0
+array_slots w count start xs some there is =
+    λ index. rw is (elim (cases_lt (length (drop start xs)) (count * w)) [
+      | inl short ↦ rw (unfit w count (drop start xs) (Some (count, drop start xs))
+          (λ _ content. Array (numbers_of w content)) refl short) (λ h. absurd (omega arith))
+      | inr fits ↦
+          let whole : start + count * w ≤ length xs = omega (arith, length-drop start xs, fits) in
+          rw (content_is w count (drop start xs) (Some (count, drop start xs)) refl fits
+          (λ _ content. Array (numbers_of w content)))
+          (λ h. let less : index < count = rw (length-numbers xs start w count some whole) at h in (
+            inside start index count w (length xs) less whole,
+            sym
+                (get_or-numbers xs start w count index some whole less),
+          ))
+    ])
 
-pub dictionary_slots : (w count start : ℕ) (xs : List ℕ) → 0 < w → start ≤ length xs → object_in w xs ≡ meaning_counted (2 * w) (λ count content. dictionary count (numbers_of w content)) (Some (count, drop start xs)) → IsSlots w xs start count
-dictionary_slots w count start xs some there is = λ index. rw is (elim (cases_lt (length (drop start xs)) (count * (2 * w))) [
-  | inl short ↦ rw (unfit (2 * w) count (drop start xs) (Some (count, drop start xs)) (λ count content. dictionary count (numbers_of w content)) refl short) (λ h. absurd (omega arith))
-  | inr fits ↦ rw (content_is (2 * w) count (drop start xs) (Some (count, drop start xs)) refl fits (λ count content. dictionary count (numbers_of w content)), twice) (slots index (omega (arith, length-drop start xs, fits)))
-])
+pub dictionary_slots : (w count start : ℕ) (xs : List ℕ) → 0 < w → start ≤ length xs
+    → object_in w xs ≡ meaning_counted (2 * w)
+    (λ count content. dictionary count (numbers_of w content)) (Some (count, drop start xs))
+    → IsSlots w xs start count
+dictionary_slots w count start xs some there is =
+    λ index. rw is (elim (cases_lt (length (drop start xs)) (count * (2 * w))) [
+      | inl short ↦ rw (unfit (2 * w) count (drop start xs) (Some (count, drop start xs))
+          (λ count content. dictionary count (numbers_of w content)) refl short)
+          (λ h. absurd (omega arith))
+      | inr fits ↦ rw (
+        content_is (2 * w) count (drop start xs) (Some (count, drop start xs)) refl fits
+            (λ count content. dictionary count (numbers_of w content)),
+        twice,
+      )
+          (slots index (omega (arith, length-drop start xs, fits)))
+    ])
   where
     twice : count * (2 * w) ≡ 2 * count * w
     twice = grind arith
@@ -98,82 +141,144 @@ dictionary_slots w count start xs some there is = λ index. rw is (elim (cases_l
     references : List ℕ
     references = numbers_of w (take (2 * count * w) (drop start xs))
 
-    at_slot : (index : ℕ) → index < 2 * count → length references ≡ 2 * count → (slot_of count index < 2 * count) × (get_or references (slot_of count index) 0 ≡ get_or (children_in (dictionary count references)) index 0)
+    at_slot : (index : ℕ) → index < 2 * count → length references ≡ 2 * count
+        → (slot_of count index < 2 * count)
+        × (get_or references (slot_of count index) 0
+        ≡ get_or (children_in (dictionary count references)) index 0)
     at_slot index h len =
         let pairs : nat_eq count 0 ≡ false = grind (arith, nat_tests) in
         elim (cases_lt (index % 2) 1) [
-          | inl even ↦ let none : index % 2 ≡ 0 = omega arith in rw (pairs, none) (omega arith, sym (key count references len index (omega arith) none))
-          | inr odd ↦ let one : index % 2 ≡ 1 = omega arith in rw (pairs, one) (omega arith, sym (value count references len index (omega arith) one))
+          | inl even ↦ let none : index % 2 ≡ 0 =
+              omega arith in rw (pairs, none)
+              (omega arith, sym (key count references len index (omega arith) none))
+          | inr odd ↦ let one : index % 2 ≡ 1 =
+              omega arith in rw (pairs, one)
+              (omega arith, sym (value count references len index (omega arith) one))
         ]
 
-    slots : (index : ℕ) → start + 2 * count * w ≤ length xs → index < length (children_in (dictionary count references)) → (start + slot_of count index * w + w ≤ length xs) × (number_at xs (start + slot_of count index * w) w ≡ get_or (children_in (dictionary count references)) index 0)
+    slots : (index : ℕ) → start + 2 * count * w ≤ length xs
+        → index < length (children_in (dictionary count references))
+        → (start + slot_of count index * w + w ≤ length xs)
+        × (number_at xs (start + slot_of count index * w) w
+        ≡ get_or (children_in (dictionary count references)) index 0)
     slots index whole h =
-        let len : length references ≡ 2 * count = length-numbers xs start w (2 * count) some whole in
+        let len : length references ≡ 2 * count = length-numbers xs start w (2 * count) some whole
+        in
         let less : index < 2 * count = rw (length-dictionary count references len) at h in
-        let slot = at_slot index less len in
-        (inside start (slot_of count index) (2 * count) w (length xs) slot.0 whole, sym (get_or-numbers xs start w (2 * count) (slot_of count index) some whole slot.0) ∙ slot.1)
+        let slot = at_slot index less len in (
+          inside start (slot_of count index) (2 * count) w (length xs) slot.0 whole,
+          sym
+              (get_or-numbers xs start w (2 * count) (slot_of count index) some whole slot.0)
+              ∙ slot.1,
+        )
 
 -- a number that is lent
-pub slot_read : (bytes : List ℕ) (bounds : Bounds) (asked : Asked) (index place n : ℕ) (lent : List ℕ) → bounds.trailer ≤ length bytes → IsAsked bytes bounds asked → place ≡ asked.place + (asked.start + slot_of asked.pairs index * bounds.reference_width)
-    → lent ≡ take (length lent) (drop place bytes) → bounds.reference_width ≤ length lent → n ≡ number_of (take bounds.reference_width lent)
-    → ReadsChild (object_in bounds.reference_width (drop asked.place (take bounds.trailer bytes))) index (Ok n)
-slot_read bytes bounds asked index place n lent fits asks at is enough number = λ there.
+pub slot_read : (bytes : List ℕ) (bounds : Bounds) (asked : Asked) (index place n : ℕ)
+    → bounds.trailer ≤ length bytes → IsAsked bytes bounds asked
+    → place ≡ asked.place + (asked.start + slot_of asked.pairs index * bounds.reference_width)
+    → n ≡ number_at bytes place bounds.reference_width
+    → ReadsChild (object_in bounds.reference_width (drop asked.place (take bounds.trailer bytes)))
+    index (Ok n)
+slot_read bytes bounds asked index place n fits asks at number = λ there.
     let w = bounds.reference_width in
     let q = asked.start + slot_of asked.pairs index * w in
     let slot = asks index there in
-    let before : length (take bounds.trailer bytes) ≡ bounds.trailer = length-take-le bounds.trailer bytes fits in
-    let behind : length (drop asked.place (take bounds.trailer bytes)) ≡ length (take bounds.trailer bytes) - asked.place = length-drop asked.place (take bounds.trailer bytes) in
-    let whole : place + w ≤ bounds.trailer = omega (arith, slot.0, before, behind, at, bounds.width.0) in
+    let before : length (take bounds.trailer bytes)
+    ≡ bounds.trailer = length-take-le bounds.trailer bytes fits in
+    let behind : length (drop asked.place (take bounds.trailer bytes))
+    ≡ length (take bounds.trailer bytes) - asked.place = length-drop asked.place
+    (take bounds.trailer bytes) in
+    let whole : place + w ≤ bounds.trailer = omega
+    (arith, slot.0, before, behind, at, bounds.width.0) in
     let sum : asked.place + q ≡ place = sym at in
-    let cut : take w lent ≡ take w (drop place bytes) = ap (take w) is ∙ take-take-le w (length lent) (drop place bytes) enough in
-    number ∙ ap number_of cut ∙ sym (number_at-take bytes place w bounds.trailer whole)
-    ∙ ap (λ k. number_of (take w (drop k (take bounds.trailer bytes)))) (sym sum) ∙ ap (λ ys. number_of (take w ys)) (sym (drop-drop q asked.place (take bounds.trailer bytes)))
+    number ∙ sym (number_at-take bytes place w bounds.trailer whole)
+    ∙ ap (λ k. number_of (take w (drop k (take bounds.trailer bytes)))) (sym sum)
+    ∙ ap (λ ys. number_of (take w ys))
+    (sym (drop-drop q asked.place (take bounds.trailer bytes)))
     ∙ slot.1
 
-pub known_slot : (known : Option (List ℕ)) (bounds : Bounds) (asked : Asked) (index place n : ℕ) (lent : List ℕ) → IfSome known (λ bytes. bounds.trailer ≤ length bytes → IsAsked bytes bounds asked) → place ≡ asked.place + (asked.start + slot_of asked.pairs index * bounds.reference_width)
-    → IfSome known (λ bytes. LiesAt bytes place lent) → bounds.reference_width ≤ length lent → n ≡ number_of (take bounds.reference_width lent)
-    → IfSome known (λ bytes. bounds.trailer ≤ length bytes → ReadsChild (object_in bounds.reference_width (drop asked.place (take bounds.trailer bytes))) index (Ok n))
-known_slot None bounds asked index place n lent asks at is enough number = tt
-known_slot (Some bytes) bounds asked index place n lent asks at is enough number = λ fits. slot_read bytes bounds asked index place n lent fits (asks fits) at is enough number
+pub known_slot : (known : Option (List ℕ)) (bounds : Bounds) (asked : Asked) (index place n : ℕ)
+    → IfSome known (λ bytes. bounds.trailer ≤ length bytes → IsAsked bytes bounds asked)
+    → place ≡ asked.place + (asked.start + slot_of asked.pairs index * bounds.reference_width)
+    → IfSome known (λ bytes. n ≡ number_at bytes place bounds.reference_width)
+    → IfSome known (λ bytes. bounds.trailer ≤ length bytes
+    → ReadsChild (object_in bounds.reference_width
+    (drop asked.place (take bounds.trailer bytes))) index (Ok n))
+known_slot None bounds asked index place n asks at number = tt
+known_slot (Some bytes) bounds asked index place n asks at number =
+    λ fits. slot_read bytes bounds asked index place n fits (asks fits) at number
 
 -- bytes that are lent before the trailer
-pub lent_front : (bytes lent : List ℕ) (t p w : ℕ) → p + w ≤ t → lent ≡ take (length lent) (drop p bytes) → w ≤ length lent → drop p (take t bytes) ≡ take w lent ++ drop w (drop p (take t bytes))
+pub lent_front : (bytes lent : List ℕ) (t p w : ℕ) → p + w ≤ t
+    → lent ≡ take (length lent) (drop p bytes) → w ≤ length lent
+    → drop p (take t bytes) ≡ take w lent ++ drop w (drop p (take t bytes))
 lent_front bytes lent t p w near is h =
     sym (take-append-drop w (drop p (take t bytes)))
-    ∙ ap (λ ys. ys ++ drop w (drop p (take t bytes))) (take-drop-take p w t bytes near ∙ sym (take-take-le w (length lent) (drop p bytes) h) ∙ ap (take w) (sym is))
+    ∙ ap (λ ys. ys ++ drop w (drop p (take t bytes)))
+    (take-drop-take p w t bytes near ∙ sym (take-take-le w (length lent) (drop p bytes) h)
+    ∙ ap (take w) (sym is))
 
-pub known_front : (known : Option (List ℕ)) (lent found : List ℕ) (t p w : ℕ) → p + w ≤ t → w ≤ length lent → found ≡ take w lent → IfSome known (λ bytes. LiesAt bytes p lent)
-    → IfSome known (λ bytes. t ≤ length bytes → (more : List ℕ) × (drop p (take t bytes) ≡ found ++ more))
+pub known_front : (known : Option (List ℕ)) (lent found : List ℕ) (t p w : ℕ) → p + w ≤ t
+    → w ≤ length lent → found ≡ take w lent → IfSome known (λ bytes. LiesAt bytes p lent)
+    → IfSome known (λ bytes. t ≤ length bytes → (more : List ℕ)
+    × (drop p (take t bytes) ≡ found ++ more))
 known_front None lent found t p w near h cut is = tt
-known_front (Some bytes) lent found t p w near h cut is = λ fits. (drop w (drop p (take t bytes)), lent_front bytes lent t p w near is h ∙ ap (λ ys. ys ++ drop w (drop p (take t bytes))) (sym cut))
+known_front (Some bytes) lent found t p w near h cut is =
+    λ fits. (
+      drop w (drop p (take t bytes)),
+      lent_front bytes lent t p w near is h
+          ∙ ap (λ ys. ys ++ drop w (drop p (take t bytes))) (sym cut),
+    )
 
 -- what was found in bytes that are lent is there
-pub known_asks : (known : Option (List ℕ)) (bounds : Bounds) (asked : Asked) (place : ℕ) (lent : List ℕ) → asked.place ≡ place → IfSome known (λ bytes. bounds.trailer ≤ length bytes → (more : List ℕ) × (drop place (take bounds.trailer bytes) ≡ lent ++ more))
-    → ((more : List ℕ) → IsSlots bounds.reference_width (lent ++ more) asked.start asked.pairs) → IfSome known (λ bytes. bounds.trailer ≤ length bytes → IsAsked bytes bounds asked)
+pub known_asks : (known : Option (List ℕ)) (bounds : Bounds) (asked : Asked) (place : ℕ)
+    (lent : List ℕ) → asked.place ≡ place
+    → IfSome known (λ bytes. bounds.trailer ≤ length bytes → (more : List ℕ)
+    × (drop place (take bounds.trailer bytes) ≡ lent ++ more))
+    → ((more : List ℕ) → IsSlots bounds.reference_width (lent ++ more) asked.start asked.pairs)
+    → IfSome known (λ bytes. bounds.trailer ≤ length bytes → IsAsked bytes bounds asked)
 known_asks None bounds asked place lent same is slots = tt
-known_asks (Some bytes) bounds asked place lent same is slots = λ fits. (let front = is fits in rw (same, front.1) (slots front.0))
+known_asks (Some bytes) bounds asked place lent same is slots =
+    λ fits. (let front = is fits in rw (same, front.1) (slots front.0))
 
-pub known_asks_nothing : (known : Option (List ℕ)) (bounds : Bounds) (asked : Asked) → asked.place ≡ 2 ^ 64 - 1 → IfSome known (λ bytes. bounds.trailer ≤ length bytes → IsAsked bytes bounds asked)
+pub known_asks_nothing : (known : Option (List ℕ)) (bounds : Bounds) (asked : Asked)
+    → asked.place ≡ 2 ^ 64 - 1 → IfSome known
+    (λ bytes. bounds.trailer ≤ length bytes → IsAsked bytes bounds asked)
 known_asks_nothing None bounds asked is = tt
-known_asks_nothing (Some bytes) bounds asked is = λ fits index. rw (object_in-beyond bytes bounds.reference_width bounds.trailer asked.place fits (omega (arith, is, bounds.small))) (λ h. absurd (omega arith))
+known_asks_nothing (Some bytes) bounds asked is =
+    λ fits index. rw (object_in-beyond bytes bounds.reference_width bounds.trailer asked.place fits
+    (omega (arith, is, bounds.small))) (λ h. absurd (omega arith))
 
 -- where an array's references stand that is lent
-pub array_asked : (w m count start : ℕ) (seen rest behind more : List ℕ) → 0 < w → 160 ≤ m → m ≤ 175 → seen ≡ m ∷ rest → length behind ≤ length rest → start ≡ length seen - length behind
-    → length_in m (rest ++ more) ≡ Some (count, behind ++ more) → drop start seen ≡ behind → IsSlots w (seen ++ more) start 0
+pub array_asked : (w m count start : ℕ) (seen rest behind more : List ℕ) → 0 < w → 160 ≤ m → m ≤ 175
+    → seen ≡ m ∷ rest → length behind ≤ length rest → start ≡ length seen - length behind
+    → length_in m (rest ++ more) ≡ Some (count, behind ++ more) → drop start seen ≡ behind
+    → IsSlots w (seen ++ more) start 0
 array_asked w m count start seen rest behind more some low high is short at length cut =
     array_slots w count start (seen ++ more) some (omega (arith, at, length-append seen more))
-    (object_lent w m (seen ++ more) (rest ++ more) (ap (λ xs. xs ++ more) is) ∙ ap (λ l. object_behind m l (rest ++ more)) (layout-array w m low high)
-    ∙ ap (meaning_counted w (λ _ content. Array (numbers_of w content))) (length ∙ ap (λ ys. Some (count, ys)) (sym (drop-append-le start seen more (omega (arith, at)) ∙ ap (λ ys. ys ++ more) cut))))
+    (object_lent w m (seen ++ more) (rest ++ more) (ap (λ xs. xs ++ more) is)
+    ∙ ap (λ l. object_behind m l (rest ++ more)) (layout-array w m low high)
+    ∙ ap (meaning_counted w (λ _ content. Array (numbers_of w content)))
+    (length ∙ ap (λ ys. Some (count, ys))
+    (sym (drop-append-le start seen more (omega (arith, at)) ∙ ap (λ ys. ys ++ more) cut))))
 
-pub dictionary_asked : (w m count start : ℕ) (seen rest behind more : List ℕ) → 0 < w → 208 ≤ m → m ≤ 223 → seen ≡ m ∷ rest → length behind ≤ length rest → start ≡ length seen - length behind
-    → length_in m (rest ++ more) ≡ Some (count, behind ++ more) → drop start seen ≡ behind → IsSlots w (seen ++ more) start count
+pub dictionary_asked : (w m count start : ℕ) (seen rest behind more : List ℕ) → 0 < w → 208 ≤ m
+    → m ≤ 223 → seen ≡ m ∷ rest → length behind ≤ length rest → start ≡ length seen - length behind
+    → length_in m (rest ++ more) ≡ Some (count, behind ++ more) → drop start seen ≡ behind
+    → IsSlots w (seen ++ more) start count
 dictionary_asked w m count start seen rest behind more some low high is short at length cut =
     dictionary_slots w count start (seen ++ more) some (omega (arith, at, length-append seen more))
-    (object_lent w m (seen ++ more) (rest ++ more) (ap (λ xs. xs ++ more) is) ∙ ap (λ l. object_behind m l (rest ++ more)) (layout-dictionary w m low high)
-    ∙ ap (meaning_counted (2 * w) (λ count content. dictionary count (numbers_of w content))) (length ∙ ap (λ ys. Some (count, ys)) (sym (drop-append-le start seen more (omega (arith, at)) ∙ ap (λ ys. ys ++ more) cut))))
+    (object_lent w m (seen ++ more) (rest ++ more) (ap (λ xs. xs ++ more) is)
+    ∙ ap (λ l. object_behind m l (rest ++ more)) (layout-dictionary w m low high)
+    ∙ ap (meaning_counted (2 * w) (λ count content. dictionary count (numbers_of w content)))
+    (length ∙ ap (λ ys. Some (count, ys))
+    (sym (drop-append-le start seen more (omega (arith, at)) ∙ ap (λ ys. ys ++ more) cut))))
 
 -- what lies behind the first byte
-pub drop-first : (m : ℕ) (seen rest behind : List ℕ) → seen ≡ m ∷ rest → length behind ≤ length rest → drop (length rest - length behind) rest ≡ behind → drop (length seen - length behind) seen ≡ behind
+pub drop-first : (m : ℕ) (seen rest behind : List ℕ) → seen ≡ m ∷ rest → length behind ≤ length rest
+    → drop (length rest - length behind) rest ≡ behind
+    → drop (length seen - length behind) seen ≡ behind
 drop-first m seen rest behind is short cut =
-    let e : suc (length rest) - length behind ≡ suc (length rest - length behind) = omega (arith, short) in
+    let e : suc (length rest) - length behind
+    ≡ suc (length rest - length behind) = omega (arith, short) in
     rw (is, e) cut

@@ -6,7 +6,8 @@ use Rattle.plist_base.specs.declared.error.Error.{Error}
 use Rattle.plist_base.specs.declared.limits.Limit.{Limit}
 use Rattle.plist_base.specs.declared.limits.Limit.TheVariants as limit
 use Rattle.plist_base.specs.declared.limits.Limiter.{Limiter}
-use Rattle.plist_base.specs.Events.{PlainEvent, Item, StartArray, StartDictionary, EndCollection, Data, String}
+use Rattle.plist_base.specs.Events.{PlainEvent, Item, StartArray, StartDictionary, EndCollection, Single}
+use Rattle.plist_base.specs.Trees.{Data, String}
 use Rattle.plist_base.specs.Faults.{FaultKind, Fault, Io, OutOfMemory, LimitReached, MatchFault, fault_of, fault_nowhere, kind_of, error_kind_of}
 use Rattle.plist_base.specs.Limits.{AdmitsAny, RefusesAny, event_or_limit, has_room, level_behind, limit_at, limited_from, under, under_any}
 use Rattle.plist_base.specs.Sources.{IsPlaceWithin}
@@ -16,29 +17,42 @@ use Rattle.plist_binread.specs.Failures.{FailsWithin, HasPlace, IsGivenWithin, M
 
 -- ---- where a fault is
 
-pub given-within : (start end : ℕ) (limited : Bool) (fault : Fault) → FailsWithin start end fault → IsGivenWithin start end limited fault
+pub given-within : (start end : ℕ) (limited : Bool) (fault : Fault) → FailsWithin start end fault
+    → IsGivenWithin start end limited fault
 given-within start end limited fault h = record { placed = by fault.kind h.placed }
   where
-    by : (kind : FaultKind) → MatchReader kind (IsPlaceWithin start end fault.offset) (fault.offset ≡ None) (HasPlace fault.offset) → MatchGiven kind (IsPlaceWithin start end fault.offset) (fault.offset ≡ None) (HasPlace fault.offset) ((limited ≡ true) × (fault.offset ≡ None))
+    by : (kind : FaultKind) → MatchReader kind (IsPlaceWithin start end fault.offset)
+        (fault.offset ≡ None) (HasPlace fault.offset)
+        → MatchGiven kind (IsPlaceWithin start end fault.offset) (fault.offset ≡ None)
+        (HasPlace fault.offset) ((limited ≡ true) × (fault.offset ≡ None))
     by (LimitReached limit) h = absurd h
     by kind h = h
 
 -- the fault of a limit is neither a device's nor want of memory
-pub refused-other : (limiter : Option Limiter) (event : PlainEvent) (fault : Fault) (X Y Z : Type 0) → RefusesAny limiter event fault → Z → MatchFault fault.kind X Y Z
+pub refused-other : (limiter : Option Limiter) (event : PlainEvent) (fault : Fault) (X Y Z : Type 0)
+    → RefusesAny limiter event fault → Z → MatchFault fault.kind X Y Z
 refused-other None event fault X Y Z r z = absurd r
-refused-other (Some limiter) event fault X Y Z r z = subst (λ (f : Fault). MatchFault f.kind X Y Z) (sym r.1) z
+refused-other (Some limiter) event fault X Y Z r z =
+    subst (λ (f : Fault). MatchFault f.kind X Y Z) (sym r.1) z
 
-limit-given : (start end : ℕ) (limited : Bool) (fault : Fault) (limit : Limit) → limited ≡ true → fault ≡ fault_nowhere (LimitReached limit) → IsGivenWithin start end limited fault
-limit-given start end limited fault limit e is = subst (λ f. IsGivenWithin start end limited f) (sym is) (record { placed = (e, refl) })
+limit-given : (start end : ℕ) (limited : Bool) (fault : Fault) (limit : Limit) → limited ≡ true
+    → fault ≡ fault_nowhere (LimitReached limit) → IsGivenWithin start end limited fault
+limit-given start end limited fault limit e is =
+    subst (λ f. IsGivenWithin start end limited f) (sym is) (record { placed = (e, refl) })
 
-pub refused-given : (start end : ℕ) (limiter : Option Limiter) (event : PlainEvent) (fault : Fault) → RefusesAny limiter event fault → IsGivenWithin start end (is_some limiter) fault
+pub refused-given : (start end : ℕ) (limiter : Option Limiter) (event : PlainEvent) (fault : Fault)
+    → RefusesAny limiter event fault → IsGivenWithin start end (is_some limiter) fault
 refused-given start end None event fault h = absurd h
 refused-given start end (Some limiter) event fault h = limit-given start end true fault h.0 refl h.1
 
-pub still-given : (start end : ℕ) (limited : Bool) (fault : Fault) → IsGivenWithin start end false fault → IsGivenWithin start end limited fault
+pub still-given : (start end : ℕ) (limited : Bool) (fault : Fault)
+    → IsGivenWithin start end false fault → IsGivenWithin start end limited fault
 still-given start end limited fault h = record { placed = by fault.kind h.placed }
   where
-    by : (kind : FaultKind) → MatchGiven kind (IsPlaceWithin start end fault.offset) (fault.offset ≡ None) (HasPlace fault.offset) ((false ≡ true) × (fault.offset ≡ None)) → MatchGiven kind (IsPlaceWithin start end fault.offset) (fault.offset ≡ None) (HasPlace fault.offset) ((limited ≡ true) × (fault.offset ≡ None))
+    by : (kind : FaultKind) → MatchGiven kind (IsPlaceWithin start end fault.offset)
+        (fault.offset ≡ None) (HasPlace fault.offset) ((false ≡ true) × (fault.offset ≡ None))
+        → MatchGiven kind (IsPlaceWithin start end fault.offset) (fault.offset ≡ None)
+        (HasPlace fault.offset) ((limited ≡ true) × (fault.offset ≡ None))
     by (LimitReached limit) h = let no : false ≡ true → ⊥ = λ q. cc in absurd (no h.0)
     by kind h = h
 
@@ -48,83 +62,122 @@ none-under : (limiter : Option Limiter) → under_any limiter [] ≡ []
 none-under None = refl
 none-under (Some limiter) = refl
 
-fault-under : (limiter : Option Limiter) (fault : Fault) → under_any limiter (Err fault ∷ []) ≡ Err fault ∷ []
+fault-under : (limiter : Option Limiter) (fault : Fault)
+    → under_any limiter (Err fault ∷ []) ≡ Err fault ∷ []
 fault-under None fault = refl
 fault-under (Some limiter) fault = refl
 
 one-owed : (x : Item) (xs : List Item) → IsOwed (x ∷ xs)
 one-owed x xs = omega arith
 
-choice-owed : (o : Option Limit) (event : PlainEvent) (behind : List Item) → IsOwed (event_or_limit o event behind)
+choice-owed : (o : Option Limit) (event : PlainEvent) (behind : List Item)
+    → IsOwed (event_or_limit o event behind)
 choice-owed None event behind = one-owed (Ok event) behind
 choice-owed (Some limit) event behind = one-owed (Err (fault_nowhere (LimitReached limit))) []
 
-owed-under : (limiter : Option Limiter) (items : List Item) → IsOwed items → IsOwed (under_any limiter items)
+owed-under : (limiter : Option Limiter) (items : List Item) → IsOwed items
+    → IsOwed (under_any limiter items)
 owed-under None items h = h
 owed-under (Some limiter) [] h = h
 owed-under (Some limiter) (Ok event ∷ items) h =
-    choice-owed (limit_at limiter.limits limiter.came limiter.level event) event (limited_from limiter.limits (limiter.came + 1) (level_behind event limiter.level) items)
+    choice-owed (limit_at limiter.limits limiter.came limiter.level event) event
+    (limited_from limiter.limits (limiter.came + 1) (level_behind event limiter.level) items)
 owed-under (Some limiter) (Err fault ∷ items) h = one-owed (Err fault) []
 
-event-wants : (event : PlainEvent) (items others : List Item) → WantsMemory (Ok event ∷ items) → WantsMemory (Ok event ∷ others)
+event-wants : (event : PlainEvent) (items others : List Item) → WantsMemory (Ok event ∷ items)
+    → WantsMemory (Ok event ∷ others)
 event-wants (StartArray length) items others h = tt
 event-wants (StartDictionary length) items others h = tt
-event-wants (Data bytes) items others h = tt
-event-wants (String text) items others h = tt
+event-wants (Single (Data bytes)) items others h = tt
+event-wants (Single (String text)) items others h = tt
 event-wants event items others h = h
 
-choice-wants : (o : Option Limit) (event : PlainEvent) (items behind : List Item) → WantsMemory (Ok event ∷ items) → WantsMemory (event_or_limit o event behind)
+choice-wants : (o : Option Limit) (event : PlainEvent) (items behind : List Item)
+    → WantsMemory (Ok event ∷ items) → WantsMemory (event_or_limit o event behind)
 choice-wants None event items behind h = event-wants event items behind h
 choice-wants (Some limit) event items behind h = tt
 
-wants-under : (limiter : Option Limiter) (items : List Item) → WantsMemory items → WantsMemory (under_any limiter items)
+wants-under : (limiter : Option Limiter) (items : List Item) → WantsMemory items
+    → WantsMemory (under_any limiter items)
 wants-under None items h = h
 wants-under (Some limiter) [] h = h
 wants-under (Some limiter) (Ok event ∷ items) h =
-    choice-wants (limit_at limiter.limits limiter.came limiter.level event) event items (limited_from limiter.limits (limiter.came + 1) (level_behind event limiter.level) items) h
+    choice-wants (limit_at limiter.limits limiter.came limiter.level event) event items
+    (limited_from limiter.limits (limiter.came + 1) (level_behind event limiter.level) items) h
 wants-under (Some limiter) (Err fault ∷ items) h = h
 
-either-under : (new : Bool) (limiter : Option Limiter) (items : List Item) → MatchBool new (IsOwed items) (WantsMemory items) → MatchBool new (IsOwed (under_any limiter items)) (WantsMemory (under_any limiter items))
+either-under : (new : Bool) (limiter : Option Limiter) (items : List Item)
+    → MatchBool new (IsOwed items) (WantsMemory items)
+    → MatchBool new (IsOwed (under_any limiter items)) (WantsMemory (under_any limiter items))
 either-under true limiter items h = owed-under limiter items h
 either-under false limiter items h = wants-under limiter items h
 
-weaker : (kind : FaultKind) {A B C A' B' C' : Type 0} → (A → A') → (B → B') → (C → C') → MatchFault kind A B C → MatchFault kind A' B' C'
+weaker : (kind : FaultKind) {A B C A' B' C' : Type 0} → (A → A') → (B → B') → (C → C')
+    → MatchFault kind A B C → MatchFault kind A' B' C'
 weaker Io f g h x = f x
 weaker OutOfMemory f g h x = g x
 weaker kind f g h x = h x
 
 module _ (new : Bool) (told : PlainEvent) where
-  pub none-told : (known : Option (List ℕ)) (old now : Option Limiter) (before after : List ℕ → List Item) → IfSome known (λ bytes. TellsItem {A = Unit {0}} new (before bytes) None told (after bytes))
-      → IfSome known (λ bytes. TellsItem {A = Unit {0}} new (under_any old (before bytes)) None told (under_any now (after bytes)))
+  pub none-told : (known : Option (List ℕ)) (old now : Option Limiter)
+      (before after : List ℕ → List Item)
+      → IfSome known (λ bytes. TellsItem {A = Unit {0}} new (before bytes) None told (after bytes))
+      → IfSome known (λ bytes. TellsItem {A = Unit {0}} new (under_any old (before bytes)) None told
+      (under_any now (after bytes)))
   none-told None old now before after h = tt
-  none-told (Some bytes) old now before after h = (ap (under_any old) h.0 ∙ none-under old, ap (under_any now) h.1 ∙ none-under now)
+  none-told (Some bytes) old now before after h =
+      (ap (under_any old) h.0 ∙ none-under old, ap (under_any now) h.1 ∙ none-under now)
 
-  pub fault-told : (known : Option (List ℕ)) (old now : Option Limiter) (before after : List ℕ → List Item) (error : Error) → IfSome known (λ bytes. TellsItem {A = Unit {0}} new (before bytes) (Some (Err error)) told (after bytes))
-      → IfSome known (λ bytes. TellsItem {A = Unit {0}} new (under_any old (before bytes)) (Some (Err error)) told (under_any now (after bytes)))
+  pub fault-told : (known : Option (List ℕ)) (old now : Option Limiter)
+      (before after : List ℕ → List Item) (error : Error)
+      → IfSome known (λ bytes. TellsItem {A = Unit {0}} new (before bytes) (Some (Err error)) told
+      (after bytes))
+      → IfSome known (λ bytes. TellsItem {A = Unit {0}} new (under_any old (before bytes))
+      (Some (Err error)) told (under_any now (after bytes)))
   fault-told None old now before after error h = tt
-  fault-told (Some bytes) old now before after error h =
-      (ap (under_any now) h.0 ∙ none-under now, weaker (kind_of (error_kind_of error)) (owed-under old (before bytes)) (either-under new old (before bytes)) (λ b. ap (under_any old) b ∙ fault-under old (fault_of error)) h.1)
+  fault-told (Some bytes) old now before after error h = (
+    ap (under_any now) h.0 ∙ none-under now,
+    weaker (kind_of (error_kind_of error))
+        (owed-under old (before bytes)) (either-under new old (before bytes))
+        (λ b. ap (under_any old) b ∙ fault-under old (fault_of error)) h.1,
+  )
 
-  pub event-told : (known : Option (List ℕ)) (old now : Option Limiter) (before after : List ℕ → List Item) (x : Unit {0}) → AdmitsAny old told now → IfSome known (λ bytes. TellsItem {A = Unit {0}} new (before bytes) (Some (Ok x)) told (after bytes))
-      → IfSome known (λ bytes. TellsItem {A = Unit {0}} new (under_any old (before bytes)) (Some (Ok x)) told (under_any now (after bytes)))
+  pub event-told : (known : Option (List ℕ)) (old now : Option Limiter)
+      (before after : List ℕ → List Item) (x : Unit {0}) → AdmitsAny old told now
+      → IfSome known (λ bytes. TellsItem {A = Unit {0}} new (before bytes) (Some (Ok x)) told
+      (after bytes))
+      → IfSome known (λ bytes. TellsItem {A = Unit {0}} new (under_any old (before bytes))
+      (Some (Ok x)) told (under_any now (after bytes)))
   event-told None old now before after x a h = tt
   event-told (Some bytes) old now before after x a h = ap (under_any old) h ∙ a (after bytes)
 
-  limit-refused : (kind : FaultKind) (limit : Limit) (X Y Z : Type 0) → kind ≡ LimitReached limit → Z → MatchFault kind X Y Z
+  limit-refused : (kind : FaultKind) (limit : Limit) (X Y Z : Type 0) → kind ≡ LimitReached limit
+      → Z → MatchFault kind X Y Z
   limit-refused kind limit X Y Z e z = subst (λ k. MatchFault k X Y Z) (sym e) z
 
-  limit-item : (old now : Option Limiter) (before after : List Item) (error : Error) → RefusesAny old told (fault_of error) → before ≡ Ok told ∷ after → TellsItem {A = Unit {0}} new (under_any old before) (Some (Err error)) told (under_any now [])
+  limit-item : (old now : Option Limiter) (before after : List Item) (error : Error)
+      → RefusesAny old told (fault_of error) → before ≡ Ok told ∷ after
+      → TellsItem {A = Unit {0}} new (under_any old before) (Some (Err error)) told
+      (under_any now [])
   limit-item None now before after error r h = absurd r
   limit-item (Some limiter) now before after error r h = (
     none-under now,
-    limit-refused (kind_of (error_kind_of error)) r.0 (IsOwed (under limiter before)) (MatchBool new (IsOwed (under limiter before)) (WantsMemory (under limiter before))) (under limiter before ≡ Err (fault_of error) ∷ [])
+    limit-refused (kind_of (error_kind_of error)) r.0 (IsOwed (under limiter before))
+        (MatchBool new (IsOwed (under limiter before)) (WantsMemory (under limiter before)))
+        (under limiter before ≡ Err (fault_of error) ∷ [])
         (ap (λ (f : Fault). f.kind) r.1) (ap (under limiter) h ∙ r.2 after),
   )
 
-  pub limit-told : (known : Option (List ℕ)) (old now : Option Limiter) (before after : List ℕ → List Item) (x : Unit {0}) (error : Error) → RefusesAny old told (fault_of error) → IfSome known (λ bytes. TellsItem {A = Unit {0}} new (before bytes) (Some (Ok x)) told (after bytes))
-      → IfSome known (λ bytes. TellsItem {A = Unit {0}} new (under_any old (before bytes)) (Some (Err error)) told (under_any now []))
+  pub limit-told : (known : Option (List ℕ)) (old now : Option Limiter)
+      (before after : List ℕ → List Item) (x : Unit {0}) (error : Error)
+      → RefusesAny old told (fault_of error)
+      → IfSome known (λ bytes. TellsItem {A = Unit {0}} new (before bytes) (Some (Ok x)) told
+      (after bytes))
+      → IfSome known (λ bytes. TellsItem {A = Unit {0}} new (under_any old (before bytes))
+      (Some (Err error)) told (under_any now []))
   limit-told None old now before after x error r h = tt
-  limit-told (Some bytes) old now before after x error r h = limit-item old now (before bytes) (after bytes) error r h
+  limit-told (Some bytes) old now before after x error r h =
+      limit-item old now (before bytes) (after bytes) error r h
 
 -- ---- an end that comes
 
@@ -133,17 +186,23 @@ both true true h = (refl, refl)
 both true false h = let no : false ≡ true → (true ≡ true) × (false ≡ true) = λ q. cc in no h
 both false b h = let no : false ≡ true → (false ≡ true) × (b ≡ true) = λ q. cc in no h
 
-end-passes : (b : Bool) (behind : List Item) (fault : Fault) → not b ≡ true → event_or_limit (cond b (Some limit.Items) None) EndCollection behind ≡ Err fault ∷ [] → ⊥
+end-passes : (b : Bool) (behind : List Item) (fault : Fault) → not b ≡ true
+    → event_or_limit (cond b (Some limit.Items) None) EndCollection behind ≡ Err fault ∷ [] → ⊥
 end-passes true behind fault h e = let no : false ≡ true → ⊥ = λ q. cc in no h
-end-passes false behind fault h e = let no : ◌≡◌ {A = List Item} (Ok EndCollection ∷ behind) (Err fault ∷ []) → ⊥ = λ q. cc in no e
+end-passes false behind fault h e =
+    let no : ◌≡◌ {A = List Item} (Ok EndCollection ∷ behind) (Err fault ∷ []) → ⊥ = λ q. cc in no e
 
 -- an end is refused only where no event may come
-pub refused-closes : (limiter : Option Limiter) (closing : Bool) (told : PlainEvent) (fault : Fault) → RefusesAny limiter told fault → (closing ≡ true → told ≡ EndCollection) → (has_room_in limiter && closing) ≡ true → ⊥
+pub refused-closes : (limiter : Option Limiter) (closing : Bool) (told : PlainEvent) (fault : Fault)
+    → RefusesAny limiter told fault → (closing ≡ true → told ≡ EndCollection)
+    → (has_room_in limiter && closing) ≡ true → ⊥
 refused-closes None closing told fault r w h = absurd r
 refused-closes (Some limiter) closing told fault r w h =
     let two = both (has_room limiter) closing h in
-    end-passes (nat_le limiter.limits.items limiter.came) [] fault two.0 (ap (λ e. under limiter (Ok e ∷ [])) (sym (w two.1)) ∙ r.2 [])
+    end-passes (nat_le limiter.limits.items limiter.came) [] fault two.0
+    (ap (λ e. under limiter (Ok e ∷ [])) (sym (w two.1)) ∙ r.2 [])
 
 -- the end comes where the walk's comes
-pub walk-closes : (limiter : Option Limiter) (closing : Bool) → (has_room_in limiter && closing) ≡ true → closing ≡ true
+pub walk-closes : (limiter : Option Limiter) (closing : Bool)
+    → (has_room_in limiter && closing) ≡ true → closing ≡ true
 walk-closes limiter closing h = (both (has_room_in limiter) closing h).1

@@ -5,7 +5,7 @@ use Rattle.plist_base.specs.declared.error.Error.{Error}
 use Rattle.plist_base.specs.declared.event.Event.{Event}
 use Rattle.plist_base.specs.declared.event.Event.TheVariants as variant
 use Rattle.plist_base.specs.Events.{PlainEvent, EndCollection, Item, event_of}
-use Rattle.plist_binread.specs.declared.frames.Frame.{Frame}
+use Rattle.plist_binread.specs.declared.walk.Frame.{Frame}
 use Rattle.plist_binread.specs.Unfolding.{until_fault}
 use Rattle.plist_binread.specs.declared.reader.State.{State}
 use Rattle.plist_binread.specs.declared.reader.State.TheVariants.{Fresh, Walking, Ended}
@@ -21,86 +21,125 @@ open_below : (tags : List ℕ) (fs : List Frame) → IsOpen tags (reverse fs) �
 open_below tags fs path = rw (← length-reverse fs) (IsOpen-length tags (reverse fs) path)
 
 -- nor than the head of the file tells
-pub nested : (known : Option (List ℕ)) (tags : List ℕ) (fs : List Frame) → IsOpen tags (reverse fs) → IfSome known (λ bytes. length tags ≤ length (places_of bytes)) → MatchOption known (length fs ≤ length tags) (λ bytes. length fs ≤ length (places_of bytes))
+pub nested : (known : Option (List ℕ)) (tags : List ℕ) (fs : List Frame) → IsOpen tags (reverse fs)
+    → IfSome known (λ bytes. length tags ≤ length (places_of bytes))
+    → MatchOption known (length fs ≤ length tags) (λ bytes. length fs ≤ length (places_of bytes))
 nested None tags fs path bounded = open_below tags fs path
 nested (Some bytes) tags fs path bounded = omega (arith, open_below tags fs path)
 
 -- what is known of a file is known with its head
-pub holds_head : (known : Option (List ℕ)) (bounds : Bounds) (tags contents : List ℕ) (fs : List Frame) (walking : Type 0) → IfSome known (λ bytes. IsKnown bytes bounds tags contents fs) → IfSome known (λ bytes. walking → AreBoundsOf (head_of bytes) bounds × (length tags ≡ length (places_of bytes)))
+pub holds_head : (known : Option (List ℕ)) (bounds : Bounds) (tags contents : List ℕ)
+    (fs : List Frame) (walking : Type 0)
+    → IfSome known (λ bytes. IsKnown bytes bounds tags contents fs)
+    → IfSome known (λ bytes. walking → AreBoundsOf (head_of bytes) bounds
+    × (length tags ≡ length (places_of bytes)))
 holds_head None bounds tags contents fs walking k = tt
 holds_head (Some bytes) bounds tags contents fs walking k = λ w. (k.head, sym k.size)
 
 -- and nothing where no file is held
-pub holds_none : (known : Option (List ℕ)) (bounds : Bounds) (tags : List ℕ) (walking : Type 0) → (walking → ⊥) → IfSome known (λ bytes. walking → AreBoundsOf (head_of bytes) bounds × (length tags ≡ length (places_of bytes)))
+pub holds_none : (known : Option (List ℕ)) (bounds : Bounds) (tags : List ℕ) (walking : Type 0)
+    → (walking → ⊥) → IfSome known
+    (λ bytes. walking → AreBoundsOf (head_of bytes) bounds
+    × (length tags ≡ length (places_of bytes)))
 holds_none None bounds tags walking never = tt
 holds_none (Some bytes) bounds tags walking never = λ w. absurd (never w)
 
 -- and none of the lists is longer
-pub lists : (known : Option (List ℕ)) (tags contents : List ℕ) (fs : List Frame) → IsOpen tags (reverse fs) → length contents ≡ length tags → IfSome known (λ bytes. length tags ≤ length (places_of bytes)) → IfSome known (λ bytes. AreWithin (length (places_of bytes)) tags contents fs)
+pub lists : (known : Option (List ℕ)) (tags contents : List ℕ) (fs : List Frame)
+    → IsOpen tags (reverse fs) → length contents ≡ length tags
+    → IfSome known (λ bytes. length tags ≤ length (places_of bytes))
+    → IfSome known (λ bytes. AreWithin (length (places_of bytes)) tags contents fs)
 lists None tags contents fs path same bounded = tt
-lists (Some bytes) tags contents fs path same bounded = (bounded, omega arith, omega (arith, open_below tags fs path))
+lists (Some bytes) tags contents fs path same bounded =
+    (bounded, omega arith, omega (arith, open_below tags fs path))
 
 -- where nothing comes next, nothing is kept
-pub kept_nothing : (known : Option (List ℕ)) (tags : List ℕ) → IfSome known (λ bytes. IsKept None None tags)
+pub kept_nothing : (known : Option (List ℕ)) (tags : List ℕ)
+    → IfSome known (λ bytes. IsKept None None tags)
 kept_nothing None tags = tt
 kept_nothing (Some bytes) tags = tt
 
 -- what was to come and what is to come, over known bytes, by the item that was taken
 
-pub nothing_ended : (known : Option (List ℕ)) (bounds : Bounds) (fs : List Frame) → IfSome known (λ bytes. GivesItem (is_fresh Ended) (still_owed bytes Ended bounds fs) None (still_owed bytes Ended bounds fs))
+pub nothing_ended : (known : Option (List ℕ)) (bounds : Bounds) (fs : List Frame)
+    → IfSome known (λ bytes. GivesItem (is_fresh Ended) (still_owed bytes Ended bounds fs) None
+    (still_owed bytes Ended bounds fs))
 nothing_ended None bounds fs = tt
 nothing_ended (Some bytes) bounds fs = (refl, refl)
 
-pub first_fault : (known : Option (List ℕ)) (bounds after_bounds : Bounds) (fs gs : List Frame) (after : List ℕ → List Item) (e : Error) → IfSome known (λ bytes. Begins bytes (Err e) (after bytes)) → IfSome known (λ bytes. GivesItem (is_fresh Fresh) (still_owed bytes Fresh bounds fs) (Some (Err e)) (still_owed bytes Ended after_bounds gs))
+pub first_fault : (known : Option (List ℕ)) (bounds after_bounds : Bounds) (fs gs : List Frame)
+    (after : List ℕ → List Item) (e : Error)
+    → IfSome known (λ bytes. Begins bytes (Err e) (after bytes))
+    → IfSome known (λ bytes. GivesItem (is_fresh Fresh) (still_owed bytes Fresh bounds fs)
+    (Some (Err e)) (still_owed bytes Ended after_bounds gs))
 first_fault None bounds after_bounds fs gs after e begins = tt
 first_fault (Some bytes) bounds after_bounds fs gs after e begins = (refl, begins)
 
 module _ (known : Option (List ℕ)) (bounds : Bounds) (fs gs : List Frame) where
   -- what a step of the walk pays
   abbrev pub StepPays : Option (Result Event Error) → Type 0
-  StepPays item = IfSome known (λ bytes. PaysNext (owed_by (entries_of bytes bounds) (reverse fs)) item (owed_by (entries_of bytes bounds) (reverse gs)))
+  StepPays item =
+      IfSome known (λ bytes. PaysNext (owed_by (entries_of bytes bounds) (reverse fs)) item
+      (owed_by (entries_of bytes bounds) (reverse gs)))
 
   -- what the reader gives then, in this state
   abbrev pub StepGives : Option (Result Event Error) → State → Type 0
-  StepGives item state = IfSome known (λ bytes. GivesItem (is_fresh Walking) (still_owed bytes Walking bounds fs) item (still_owed bytes state bounds gs))
+  StepGives item state =
+      IfSome known (λ bytes. GivesItem (is_fresh Walking) (still_owed bytes Walking bounds fs) item
+      (still_owed bytes state bounds gs))
 
-pub step_event : (known : Option (List ℕ)) (bounds : Bounds) (fs gs : List Frame) (event : Event) → StepPays known bounds fs gs (Some (Ok event)) → StepGives known bounds fs gs (Some (Ok event)) Walking
+pub step_event : (known : Option (List ℕ)) (bounds : Bounds) (fs gs : List Frame) (event : Event)
+    → StepPays known bounds fs gs (Some (Ok event))
+    → StepGives known bounds fs gs (Some (Ok event)) Walking
 step_event None bounds fs gs event pays = tt
 step_event (Some bytes) bounds fs gs event pays = pays
 
-pub step_fault : (known : Option (List ℕ)) (bounds : Bounds) (fs gs : List Frame) (e : Error) → StepPays known bounds fs gs (Some (Err e)) → StepGives known bounds fs gs (Some (Err e)) Ended
+pub step_fault : (known : Option (List ℕ)) (bounds : Bounds) (fs gs : List Frame) (e : Error)
+    → StepPays known bounds fs gs (Some (Err e)) → StepGives known bounds fs gs (Some (Err e)) Ended
 step_fault None bounds fs gs e pays = tt
 step_fault (Some bytes) bounds fs gs e pays = (refl, pays)
 
-pub step_nothing : (known : Option (List ℕ)) (bounds : Bounds) (fs gs : List Frame) → StepPays known bounds fs gs None → StepGives known bounds fs gs None Ended
+pub step_nothing : (known : Option (List ℕ)) (bounds : Bounds) (fs gs : List Frame)
+    → StepPays known bounds fs gs None → StepGives known bounds fs gs None Ended
 step_nothing None bounds fs gs pays = tt
 step_nothing (Some bytes) bounds fs gs pays = let nothing = pays in (ap until_fault nothing.0, refl)
 
 -- no end comes first, or after the last item
 pub closes-fresh : (state : State) (fs : List Frame) → state ≡ Fresh → ends_next state fs ≡ true → ⊥
-closes-fresh state fs is e = let no : ends_next state fs ≡ false = ap (λ s. ends_next s fs) is in absurd (cc)
+closes-fresh state fs is e =
+    let no : ends_next state fs ≡ false = ap (λ s. ends_next s fs) is in absurd (cc)
 
 pub closes-ended : (state : State) (fs : List Frame) → state ≡ Ended → ends_next state fs ≡ true → ⊥
-closes-ended state fs is e = let no : ends_next state fs ≡ false = ap (λ s. ends_next s fs) is in absurd (cc)
+closes-ended state fs is e =
+    let no : ends_next state fs ≡ false = ap (λ s. ends_next s fs) is in absurd (cc)
 
 pub walking-ended : (state : State) → state ≡ Ended → is_walking state ≡ true → ⊥
 walking-ended state is e = let no : is_walking state ≡ false = ap is_walking is in absurd (cc)
 
 -- ---- an item that is told
 
-pub told_event : (known : Option (List ℕ)) (new : Bool) (before after : List ℕ → List Item) (event : Event) (told : PlainEvent) → told ≡ event_of event → IfSome known (λ bytes. GivesItem new (before bytes) (Some (Ok event)) (after bytes)) → IfSome known (λ bytes. TellsItem new (before bytes) (Some (Ok (tt {0}))) told (after bytes))
+pub told_event : (known : Option (List ℕ)) (new : Bool) (before after : List ℕ → List Item)
+    (event : Event) (told : PlainEvent) → told ≡ event_of event
+    → IfSome known (λ bytes. GivesItem new (before bytes) (Some (Ok event)) (after bytes))
+    → IfSome known (λ bytes. TellsItem new (before bytes) (Some (Ok (tt {0}))) told (after bytes))
 told_event None new before after event told is gives = tt
 told_event (Some bytes) new before after event told is gives = rw is gives
 
-pub kept_told : (known : Option (List ℕ)) (number : List ℕ → Option ℕ) (tags : List ℕ) (event : Event) (told : PlainEvent) → told ≡ event_of event → IfSome known (λ bytes. IsKept (number bytes) (Some (Ok event)) tags) → IfSome known (λ bytes. IsKeptTold (number bytes) (Some (Ok (tt {0}))) told tags)
+pub kept_told : (known : Option (List ℕ)) (number : List ℕ → Option ℕ) (tags : List ℕ)
+    (event : Event) (told : PlainEvent) → told ≡ event_of event
+    → IfSome known (λ bytes. IsKept (number bytes) (Some (Ok event)) tags)
+    → IfSome known (λ bytes. IsKeptTold (number bytes) (Some (Ok (tt {0}))) told tags)
 kept_told None number tags event told is kept = tt
 kept_told (Some bytes) number tags event told is kept = by_number (number bytes) kept
   where
-    by_number : (n : Option ℕ) → IsKept n (Some (Ok event)) tags → IsKeptTold n (Some (Ok (tt {0}))) told tags
+    by_number : (n : Option ℕ) → IsKept n (Some (Ok event)) tags
+        → IsKeptTold n (Some (Ok (tt {0}))) told tags
     by_number None h = tt
     by_number (Some n) h = rw is h
 
-pub kept_fault : (known : Option (List ℕ)) (number : List ℕ → Option ℕ) (tags : List ℕ) (e : Error) (told : PlainEvent) → IfSome known (λ bytes. IsKeptTold {A = Unit {0}} (number bytes) (Some (Err e)) told tags)
+pub kept_fault : (known : Option (List ℕ)) (number : List ℕ → Option ℕ) (tags : List ℕ) (e : Error)
+    (told : PlainEvent) → IfSome known
+    (λ bytes. IsKeptTold {A = Unit {0}} (number bytes) (Some (Err e)) told tags)
 kept_fault None number tags e told = tt
 kept_fault (Some bytes) number tags e told = by_number (number bytes)
   where
@@ -108,7 +147,9 @@ kept_fault (Some bytes) number tags e told = by_number (number bytes)
     by_number None = tt
     by_number (Some n) = tt
 
-pub kept_end : (known : Option (List ℕ)) (number : List ℕ → Option ℕ) (tags : List ℕ) (told : PlainEvent) → IfSome known (λ bytes. IsKeptTold {A = Unit {0}} (number bytes) None told tags)
+pub kept_end : (known : Option (List ℕ)) (number : List ℕ → Option ℕ) (tags : List ℕ)
+    (told : PlainEvent) → IfSome known
+    (λ bytes. IsKeptTold {A = Unit {0}} (number bytes) None told tags)
 kept_end None number tags told = tt
 kept_end (Some bytes) number tags told = by_number (number bytes)
   where
@@ -122,5 +163,7 @@ event_at None = EndCollection
 event_at (Some (Ok event)) = event_of event
 event_at (Some (Err e)) = EndCollection
 
-pub told_end : (event : Event) (told : PlainEvent) → told ≡ event_of event → ◌≡◌ {A = Option (Result Event Error)} (Some (Ok event)) (Some (Ok variant.EndCollection)) → told ≡ EndCollection
+pub told_end : (event : Event) (told : PlainEvent) → told ≡ event_of event
+    → ◌≡◌ {A = Option (Result Event Error)} (Some (Ok event)) (Some (Ok variant.EndCollection))
+    → told ≡ EndCollection
 told_end event told is h = is ∙ ap event_at h

@@ -6,7 +6,7 @@ use Rattle.std.proofs.lemmas.List.{reverse-append, length-reverse}
 use Rattle.std.proofs.Math.Seq.{drop-cons, get_or-append_seam, set-append_seam, take-append_seam}
 use mathlib.Core.List.{reverse-reverse}
 use Rattle.plist_base.specs.Events.{PlainEvent, EndCollection, Item}
-use Rattle.plist_binread.specs.declared.frames.Frame.{Frame}
+use Rattle.plist_binread.specs.declared.walk.Frame.{Frame}
 use Rattle.plist_binread.specs.Packed.{Remarked}
 use Rattle.plist_binread.specs.Unfolding.{Entry, unfolding_of, until_fault}
 use Rattle.plist_binread.specs.declared.table.Bounds.{Bounds}
@@ -19,35 +19,51 @@ pub record Splits (xs : List Frame) (n : ℕ) (f g : Frame) : Type 0 where
   pub changed : reverse (set xs (n - 1) g) ≡ g ∷ below
   pub closed : reverse (take (n - 1) (set xs (n - 1) g)) ≡ below
 
-splits_from : (xs r : List Frame) (n : ℕ) (f g : Frame) → reverse xs ≡ r → 0 < n → n ≡ length xs → f ≡ get_or xs (n - 1) f → Splits xs n f g
+splits_from : (xs r : List Frame) (n : ℕ) (f g : Frame) → reverse xs ≡ r → 0 < n → n ≡ length xs
+    → f ≡ get_or xs (n - 1) f → Splits xs n f g
 splits_from xs [] n f g e pos len is =
     let none : length xs ≡ 0 = sym (length-reverse xs) ∙ ap length e in
     absurd (omega arith)
 splits_from xs (y ∷ ys) n f g e pos len is =
-    let seam : xs ≡ reverse ys ++ y ∷ [] = sym (reverse-reverse xs) ∙ ap reverse e ∙ reverse-append (y ∷ []) ys in
-    let size : length xs ≡ suc (length (reverse ys)) = sym (length-reverse xs) ∙ ap length e ∙ ap suc (sym (length-reverse ys)) in
+    let seam : xs ≡ reverse ys ++ y ∷ [] = sym (reverse-reverse xs) ∙ ap reverse e
+    ∙ reverse-append (y ∷ []) ys in
+    let size : length xs ≡ suc (length (reverse ys)) = sym (length-reverse xs) ∙ ap length e
+    ∙ ap suc (sym (length-reverse ys)) in
     let last : n - 1 ≡ length (reverse ys) = omega arith in
-    let same : f ≡ y = is ∙ ap (λ i. get_or xs i f) last ∙ ap (λ zs. get_or zs (length (reverse ys)) f) seam ∙ get_or-append_seam (reverse ys) y [] f in
+    let same : f ≡ y = is ∙ ap (λ i. get_or xs i f) last
+    ∙ ap (λ zs. get_or zs (length (reverse ys)) f) seam
+    ∙ get_or-append_seam (reverse ys) y [] f in
     record {
       below = ys;
       whole = e ∙ ap (λ z. z ∷ ys) (sym same);
-      changed = ap reverse (ap (λ i. set xs i g) last ∙ ap (λ zs. set zs (length (reverse ys)) g) seam ∙ set-append_seam (reverse ys) y [] g) ∙ reverse-append (reverse ys) (g ∷ []) ∙ ap (λ zs. g ∷ zs) (reverse-reverse ys);
-      closed = ap reverse (ap (λ i. take i (set xs i g)) last ∙ ap (λ zs. take (length (reverse ys)) (set zs (length (reverse ys)) g)) seam ∙ ap (λ zs. take (length (reverse ys)) zs) (set-append_seam (reverse ys) y [] g) ∙ take-append_seam (reverse ys) (g ∷ [])) ∙ reverse-reverse ys;
+      changed = ap reverse (ap (λ i. set xs i g) last
+          ∙ ap (λ zs. set zs (length (reverse ys)) g) seam ∙ set-append_seam (reverse ys) y [] g)
+          ∙ reverse-append (reverse ys) (g ∷ []) ∙ ap (λ zs. g ∷ zs) (reverse-reverse ys);
+      closed = ap reverse (ap (λ i. take i (set xs i g)) last
+          ∙ ap (λ zs. take (length (reverse ys)) (set zs (length (reverse ys)) g)) seam
+          ∙ ap (λ zs. take (length (reverse ys)) zs) (set-append_seam (reverse ys) y [] g)
+          ∙ take-append_seam (reverse ys) (g ∷ [])) ∙ reverse-reverse ys;
     }
 
-pub splits : (xs : List Frame) (n : ℕ) (f g : Frame) → 0 < n → n ≡ length xs → f ≡ get_or xs (n - 1) f → Splits xs n f g
+pub splits : (xs : List Frame) (n : ℕ) (f g : Frame) → 0 < n → n ≡ length xs
+    → f ≡ get_or xs (n - 1) f → Splits xs n f g
 splits xs n f g pos len is = splits_from xs (reverse xs) n f g refl pos len is
 
 -- the frame after its next child was taken
 abbrev pub after : Frame → Frame
 after f = record { object = f.object; next = f.next + 1; count = f.count }
 
-pub child_path : (tags : List ℕ) (f : Frame) (fs : List Frame) → IsOpen tags (f ∷ fs) → IsOpen tags (after f ∷ fs)
-child_path tags f fs o = record { distinct = o.distinct; below = o.below; marks = o.marks; uncached = o.uncached }
+pub child_path : (tags : List ℕ) (f : Frame) (fs : List Frame) → IsOpen tags (f ∷ fs)
+    → IsOpen tags (after f ∷ fs)
+child_path tags f fs o =
+    record { distinct = o.distinct; below = o.below; marks = o.marks; uncached = o.uncached }
 
-child_flat : (step : ℕ → List Item) (xs : List ℕ) (more : List Item) (i x : ℕ) → i < length xs → x ≡ get_or xs i x → flat_map step (drop i xs) ++ more ≡ step x ++ (flat_map step (drop (i + 1) xs) ++ more)
+child_flat : (step : ℕ → List Item) (xs : List ℕ) (more : List Item) (i x : ℕ) → i < length xs
+    → x ≡ get_or xs i x → flat_map step (drop i xs) ++ more ≡ step x
+    ++ (flat_map step (drop (i + 1) xs) ++ more)
 child_flat step xs more i x h e =
-    let rest : drop i xs ≡ x ∷ drop (i + 1) xs = drop-cons xs i x h ∙ ap (λ y. y ∷ drop (suc i) xs) (sym e) ∙ ap (λ j. x ∷ drop j xs) (sym (add-one i)) in
+    let rest : drop i xs ≡ x ∷ drop (i + 1) xs = drop-cons xs i x h
+    ∙ ap (λ y. y ∷ drop (suc i) xs) (sym e) ∙ ap (λ j. x ∷ drop j xs) (sym (add-one i)) in
     rw rest (append_assoc (step x) (flat_map step (drop (i + 1) xs)) more)
 
 read_or : (xs : List ℕ) (i : ℕ) → get_or xs i 0 ≡ get_or xs i (get_or xs i 0)
@@ -61,12 +77,14 @@ drop_all [] (suc n) h = refl
 drop_all (x ∷ xs) zero h = absurd (omega arith)
 drop_all (x ∷ xs) (suc n) h = drop_all xs n (omega arith)
 
-until_some : (items : List Item) (event : PlainEvent) (more : List Item) → IsOwed (until_fault (items ++ Ok event ∷ more))
+until_some : (items : List Item) (event : PlainEvent) (more : List Item)
+    → IsOwed (until_fault (items ++ Ok event ∷ more))
 until_some [] event more = omega arith
 until_some (Ok e ∷ items) event more = omega arith
 until_some (Err f ∷ items) event more = omega arith
 
-module _ (bytes tags contents : List ℕ) (bounds : Bounds) (f : Frame) (fs : List Frame) (k : IsKnown bytes bounds tags contents (f ∷ fs)) where
+module _ (bytes tags contents : List ℕ) (bounds : Bounds) (f : Frame) (fs : List Frame)
+    (k : IsKnown bytes bounds tags contents (f ∷ fs)) where
   abbrev table : List Entry
   table = entries_of bytes bounds
 
@@ -75,31 +93,56 @@ module _ (bytes tags contents : List ℕ) (bounds : Bounds) (f : Frame) (fs : Li
 
   -- its next child
   pub child_owed : f.next < f.count
-      → ((owed_by table (f ∷ fs) ≡ unfolding_of table (length table - length (after f ∷ fs)) (path_of (after f ∷ fs)) (place_at (slice_get table f.object)) (get_or children f.next 0) ++ owed_by table (after f ∷ fs))
+      → ((owed_by table (f ∷ fs) ≡ unfolding_of table (length table - length (after f ∷ fs))
+      (path_of (after f ∷ fs)) (place_at (slice_get table f.object)) (get_or children f.next 0)
+      ++ owed_by table (after f ∷ fs))
       × (f.next < length children)
       × IsOwed (until_fault (owed_by table (f ∷ fs)))
-      × (next_number table (f ∷ fs) ≡ Some (get_or children f.next 0))) × IsKnown bytes bounds tags contents (after f ∷ fs)
+      × (next_number table (f ∷ fs) ≡ Some (get_or children f.next 0)))
+      × IsKnown bytes bounds tags contents (after f ∷ fs)
   child_owed h = (
     (
-      child_flat (λ c. unfolding_of table (length table - suc (length fs)) (f.object ∷ path_of fs) (place_at (slice_get table f.object)) c) children (Ok EndCollection ∷ owed_by table fs) f.next (get_or children f.next 0) (rw k.counts.0 h) (read_or children f.next),
+      child_flat (λ c. unfolding_of table (length table - suc (length fs)) (f.object ∷ path_of fs)
+          (place_at (slice_get table f.object)) c) children (Ok EndCollection ∷ owed_by table fs)
+          f.next (get_or children f.next 0) (rw k.counts.0 h) (read_or children f.next),
       rw k.counts.0 h,
-      until_some (flat_map (λ c. unfolding_of table (length table - suc (length fs)) (f.object ∷ path_of fs) (place_at (slice_get table f.object)) c) (drop f.next children)) EndCollection (owed_by table fs),
+      until_some (flat_map (λ c. unfolding_of table (length table - suc (length fs))
+          (f.object ∷ path_of fs) (place_at (slice_get table f.object)) c) (drop f.next children))
+          EndCollection (owed_by table fs),
       ap (λ b. cond b (Some (get_or children f.next 0)) None) (lt-ltb f.next f.count h),
     ),
-    record { head = k.head; within = k.within; size = k.size; held = k.held; counts = (k.counts.0, k.counts.1) },
+    record {
+      head = k.head;
+      within = k.within;
+      size = k.size;
+      held = k.held;
+      counts =
+          (k.counts.0, k.counts.1);
+    },
   )
 
   -- or its end
-  pub closed_owed : (new : List ℕ) → f.count ≤ f.next → Remarked f.object false tags new → (owed_by table (f ∷ fs) ≡ Ok EndCollection ∷ owed_by table fs) × IsKnown bytes bounds new contents fs
+  pub closed_owed : (new : List ℕ) → f.count ≤ f.next → Remarked f.object false tags new
+      → (owed_by table (f ∷ fs) ≡ Ok EndCollection ∷ owed_by table fs)
+      × IsKnown bytes bounds new contents fs
   closed_owed new h m = (
     rw (drop_all children f.next (rw k.counts.0 h)) refl,
-    record { head = k.head; within = k.within; size = k.size ∙ sym m.size; held = λ q less. rw (m.tags q) (k.held q (rw m.size at less)); counts = k.counts.1 },
+    record {
+      head = k.head;
+      within = k.within;
+      size = k.size
+          ∙ sym m.size;
+      held = λ q less. rw (m.tags q) (k.held q (rw m.size at less));
+      counts =
+          k.counts.1;
+    },
   )
 
 one_less : (l i s w : ℕ) → i < l → (l - i) * s + 1 + w ≡ (l - (i + 1)) * s + 1 + w + s
 one_less l i s w h = let e : l - i ≡ suc (l - (i + 1)) = omega arith in rw e (omega arith)
 
-pub child_weight : (n : ℕ) (f : Frame) (fs : List Frame) → f.next < f.count → weight n (f ∷ fs) ≡ weight n (after f ∷ fs) + steps (n - length (after f ∷ fs))
+pub child_weight : (n : ℕ) (f : Frame) (fs : List Frame) → f.next < f.count
+    → weight n (f ∷ fs) ≡ weight n (after f ∷ fs) + steps (n - length (after f ∷ fs))
 child_weight n f fs h = one_less f.count f.next (steps (n - suc (length fs))) (weight n fs) h
 
 -- nothing closes where nothing is open
@@ -108,7 +151,8 @@ closes-none [] h e = absurd (cc)
 closes-none (x ∷ xs) h e = absurd (omega arith)
 
 -- nor where a child is left
-pub closes-child : (xs : List Frame) (f : Frame) (below : List Frame) → reverse xs ≡ f ∷ below → f.next < f.count → closes (reverse xs) ≡ true → ⊥
+pub closes-child : (xs : List Frame) (f : Frame) (below : List Frame) → reverse xs ≡ f ∷ below
+    → f.next < f.count → closes (reverse xs) ≡ true → ⊥
 closes-child xs f below whole h e =
     let no : closes (f ∷ below) ≡ false = ap not (lt-ltb f.next f.count h) in
     let yes : closes (f ∷ below) ≡ true = sym (ap closes whole) ∙ e in

@@ -14,44 +14,52 @@ use Rattle.plist_base.specs.Limits.{has_room, under_any}
 use Rattle.plist_binread.specs.Failures.{ItemGivenWithin}
 use Rattle.plist_binread.specs.declared.reader.BinaryReader.{BinaryReader}
 use Rattle.plist_binread.specs.declared.reader.State.TheVariants.{Ended}
-use Rattle.plist_binread.specs.declared.frames.Frame.{Frame}
+use Rattle.plist_binread.specs.declared.walk.Frame.{Frame}
 use Rattle.plist_binread.specs.declared.counter.DecodeCounter.{Ghosts as CounterGhosts}
 use Rattle.plist_binread.specs.Lent.{IsToldEnd}
 use Rattle.plist_binread.specs.Told.{event_in}
 use Rattle.plist_binread.specs.Debt.{IsOpen, still_owed, number_owed, cached_count, places_of, AreBoundsOf, IsKept, IsKeptTold, is_fresh, is_walking, ends_next, IsOwed, WantsMemory, steps_left}
 
 -- the source inside
-abbrev pub source_of : {R C : Type 0} {g : Ghosts R} {h : CounterGhosts C} → BinaryReader R C g h → R
+abbrev pub source_of : {R C : Type 0} {g : Ghosts R} {h : CounterGhosts C} → BinaryReader R C g h
+    → R
 source_of reader = reader.source
 
 -- the items of the file that are still to come, were there no limits
-abbrev pub walk_to_come : {R C : Type 0} {g : Ghosts R} {h : CounterGhosts C} → List ℕ → BinaryReader R C g h → List Item
-walk_to_come bytes reader = still_owed bytes reader.state reader.bounds reader.frames.items
+abbrev pub walk_to_come : {R C : Type 0} {g : Ghosts R} {h : CounterGhosts C} → List ℕ
+    → BinaryReader R C g h → List Item
+walk_to_come bytes reader = still_owed bytes reader.state reader.bounds reader.walk.frames.items
 
 -- the items still to come, where these are the file's bytes
-abbrev pub to_come : {R C : Type 0} {g : Ghosts R} {h : CounterGhosts C} → List ℕ → BinaryReader R C g h → List Item
+abbrev pub to_come : {R C : Type 0} {g : Ghosts R} {h : CounterGhosts C} → List ℕ
+    → BinaryReader R C g h → List Item
 to_come bytes reader = under_any reader.limiter (walk_to_come bytes reader)
 
 -- are there limits?
-abbrev pub is_limited : {R C : Type 0} {g : Ghosts R} {h : CounterGhosts C} → BinaryReader R C g h → Bool
+abbrev pub is_limited : {R C : Type 0} {g : Ghosts R} {h : CounterGhosts C} → BinaryReader R C g h
+    → Bool
 is_limited reader = is_some reader.limiter
 
 -- has no item been asked for?
-abbrev pub is_new : {R C : Type 0} {g : Ghosts R} {h : CounterGhosts C} → BinaryReader R C g h → Bool
+abbrev pub is_new : {R C : Type 0} {g : Ghosts R} {h : CounterGhosts C} → BinaryReader R C g h
+    → Bool
 is_new reader = is_fresh reader.state
 
 -- the reader gives nothing more
-abbrev pub HasEnded : {R C : Type 0} {g : Ghosts R} {h : CounterGhosts C} → BinaryReader R C g h → Type 0
+abbrev pub HasEnded : {R C : Type 0} {g : Ghosts R} {h : CounterGhosts C} → BinaryReader R C g h
+    → Type 0
 HasEnded reader = reader.state ≡ Ended
 
 -- how many collections are open
-abbrev pub open_collections : {R C : Type 0} {g : Ghosts R} {h : CounterGhosts C} → BinaryReader R C g h → ℕ
-open_collections reader = length reader.frames.items
+abbrev pub open_collections : {R C : Type 0} {g : Ghosts R} {h : CounterGhosts C}
+    → BinaryReader R C g h → ℕ
+open_collections reader = length reader.walk.frames.items
 
 -- does the end of the innermost collection come next, none of whose children is left, were there no
 -- limits?
-abbrev pub walk_closes : {R C : Type 0} {g : Ghosts R} {h : CounterGhosts C} → BinaryReader R C g h → Bool
-walk_closes reader = ends_next reader.state reader.frames.items
+abbrev pub walk_closes : {R C : Type 0} {g : Ghosts R} {h : CounterGhosts C} → BinaryReader R C g h
+    → Bool
+walk_closes reader = ends_next reader.state reader.walk.frames.items
 
 -- may one more event come?
 abbrev pub has_room_in : Option Limiter → Bool
@@ -59,7 +67,8 @@ has_room_in None = true
 has_room_in (Some limiter) = has_room limiter
 
 -- does that end come next?
-abbrev pub end_comes : {R C : Type 0} {g : Ghosts R} {h : CounterGhosts C} → BinaryReader R C g h → Bool
+abbrev pub end_comes : {R C : Type 0} {g : Ghosts R} {h : CounterGhosts C} → BinaryReader R C g h
+    → Bool
 end_comes reader = has_room_in reader.limiter && walk_closes reader
 
 -- how many objects the head of these bytes tells
@@ -67,59 +76,77 @@ abbrev pub told_objects : List ℕ → ℕ
 told_objects bytes = length (places_of bytes)
 
 -- how many objects the file has, as far as that has been read
-abbrev pub object_count : {R C : Type 0} {g : Ghosts R} {h : CounterGhosts C} → BinaryReader R C g h → ℕ
-object_count reader = length reader.tags.items
+abbrev pub object_count : {R C : Type 0} {g : Ghosts R} {h : CounterGhosts C} → BinaryReader R C g h
+    → ℕ
+object_count reader = length reader.walk.tags.items
 
 -- the number of the object whose item comes next, or none where that is an end
-abbrev pub number_to_come : {R C : Type 0} {g : Ghosts R} {h : CounterGhosts C} → List ℕ → BinaryReader R C g h → Option ℕ
-number_to_come bytes reader = number_owed bytes reader.state reader.bounds reader.frames.items
+abbrev pub number_to_come : {R C : Type 0} {g : Ghosts R} {h : CounterGhosts C} → List ℕ
+    → BinaryReader R C g h → Option ℕ
+number_to_come bytes reader = number_owed bytes reader.state reader.bounds reader.walk.frames.items
 
 -- a reader that has begun and not ended holds the head of these bytes
-abbrev pub HoldsHead : {R C : Type 0} {g : Ghosts R} {h : CounterGhosts C} → List ℕ → BinaryReader R C g h → Type 0
-HoldsHead bytes reader = is_walking reader.state ≡ true → AreBoundsOf (head_of bytes) reader.bounds × (object_count reader ≡ told_objects bytes)
+abbrev pub HoldsHead : {R C : Type 0} {g : Ghosts R} {h : CounterGhosts C} → List ℕ
+    → BinaryReader R C g h → Type 0
+HoldsHead bytes reader =
+    is_walking reader.state ≡ true → AreBoundsOf (head_of bytes) reader.bounds
+    × (object_count reader ≡ told_objects bytes)
 
 -- What was to come begins with this item and goes on with what is to come then. Nothing comes only
 -- where nothing was to come. After a fault nothing is to come; a device's fault comes only where
 -- something was, and want of memory only there at the first call, and later only in the place of a
 -- start, a text or the fault of a text or of a limit.
-abbrev pub GivesItem : (new : Bool) (before : List Item) → Option (Result Event Error) → (after : List Item) → Type 0
+abbrev pub GivesItem : (new : Bool) (before : List Item) → Option (Result Event Error)
+    → (after : List Item) → Type 0
 GivesItem new before item after =
     MatchOption item ((before ≡ []) × (after ≡ [])) (λ answer. MatchResult answer
     (λ event. before ≡ Ok (event_of event) ∷ after)
-    (λ error. (after ≡ []) × MatchFault (kind_of (error_kind_of error)) (IsOwed before) (MatchBool new (IsOwed before) (WantsMemory before)) (before ≡ Err (fault_of error) ∷ [])))
+    (λ error. (after ≡ []) × MatchFault (kind_of (error_kind_of error)) (IsOwed before)
+    (MatchBool new (IsOwed before) (WantsMemory before)) (before ≡ Err (fault_of error) ∷ [])))
 
 -- after a fault, and where nothing comes, the reader has ended
-abbrev pub EndsAfter : {R C : Type 0} {g : Ghosts R} {h : CounterGhosts C} → Option (Result Event Error) → BinaryReader R C g h → Type 0
+abbrev pub EndsAfter : {R C : Type 0} {g : Ghosts R} {h : CounterGhosts C}
+    → Option (Result Event Error) → BinaryReader R C g h → Type 0
 EndsAfter item after = MatchOption item (HasEnded after) (λ answer. OnErr answer (HasEnded after))
 
 -- the counter inside
-abbrev pub counter_of : {R C : Type 0} {g : Ghosts R} {h : CounterGhosts C} → BinaryReader R C g h → C
+abbrev pub counter_of : {R C : Type 0} {g : Ghosts R} {h : CounterGhosts C} → BinaryReader R C g h
+    → C
 counter_of reader = reader.counter
 
 -- how many objects are cached
-abbrev pub cached_objects : {R C : Type 0} {g : Ghosts R} {h : CounterGhosts C} → BinaryReader R C g h → ℕ
-cached_objects reader = cached_count reader.tags.items
+abbrev pub cached_objects : {R C : Type 0} {g : Ghosts R} {h : CounterGhosts C}
+    → BinaryReader R C g h → ℕ
+cached_objects reader = cached_count reader.walk.tags.items
 
 -- the marks stand exactly on the objects that are open, none of which is cached
-abbrev pub MarksItsPath : {R C : Type 0} {g : Ghosts R} {h : CounterGhosts C} → BinaryReader R C g h → Type 0
-MarksItsPath reader = IsOpen reader.tags.items (reverse reader.frames.items)
+abbrev pub MarksItsPath : {R C : Type 0} {g : Ghosts R} {h : CounterGhosts C} → BinaryReader R C g h
+    → Type 0
+MarksItsPath reader = IsOpen reader.walk.tags.items (reverse reader.walk.frames.items)
 
 -- the object of this number is cached in a reader that gave this item, if that is small
-abbrev pub CachesItem : {R C : Type 0} {g : Ghosts R} {h : CounterGhosts C} → Option ℕ → Option (Result Event Error) → BinaryReader R C g h → Type 0
-CachesItem number item reader = IsKept number item reader.tags.items
+abbrev pub CachesItem : {R C : Type 0} {g : Ghosts R} {h : CounterGhosts C} → Option ℕ
+    → Option (Result Event Error) → BinaryReader R C g h → Type 0
+CachesItem number item reader = IsKept number item reader.walk.tags.items
 
 -- none of the reader's lists is longer than there are objects
 abbrev pub AreWithin : (count : ℕ) → (tags contents : List ℕ) → List Frame → Type 0
-AreWithin count tags contents frames = (length tags ≤ count) × (length contents ≤ count) × (length frames ≤ count)
+AreWithin count tags contents frames =
+    (length tags ≤ count) × (length contents ≤ count) × (length frames ≤ count)
 
 -- the same of a reader
-abbrev pub KeepsWithin : {R C : Type 0} {g : Ghosts R} {h : CounterGhosts C} → (count : ℕ) → BinaryReader R C g h → Type 0
-KeepsWithin count reader = AreWithin count reader.tags.items reader.contents.items reader.frames.items
+abbrev pub KeepsWithin : {R C : Type 0} {g : Ghosts R} {h : CounterGhosts C} → (count : ℕ)
+    → BinaryReader R C g h → Type 0
+KeepsWithin count reader =
+    AreWithin count reader.walk.tags.items reader.walk.contents.items reader.walk.frames.items
 
 -- one call of `next`: known bytes stay as they are, and the item is the first of those to come
-pub record Gives {R C : Type 0} {g : Ghosts R} {h : CounterGhosts C} (known : R → Option (List ℕ)) (failed : R → ℕ) (counts : Type 0) (count : C → ℕ) (old : BinaryReader R C g h) (item : Option (Result Event Error)) (new : BinaryReader R C g h) : Type 0 where
+pub record Gives {R C : Type 0} {g : Ghosts R} {h : CounterGhosts C} (known : R → Option (List ℕ))
+    (failed : R → ℕ) (counts : Type 0) (count : C → ℕ) (old : BinaryReader R C g h)
+    (item : Option (Result Event Error)) (new : BinaryReader R C g h) : Type 0 where
   pub unchanged : known (source_of new) ≡ known (source_of old)
-  pub items : IfSome (known (source_of old)) (λ bytes. GivesItem (is_new old) (to_come bytes old) item (to_come bytes new))
+  pub items : IfSome (known (source_of old))
+      (λ bytes. GivesItem (is_new old) (to_come bytes old) item (to_come bytes new))
   pub failures : ItemCountsIo item (failed (source_of old)) (failed (source_of new))
   pub ended : HasEnded old → item ≡ None
   pub ends : EndsAfter item new
@@ -127,40 +154,54 @@ pub record Gives {R C : Type 0} {g : Ghosts R} {h : CounterGhosts C} (known : R 
   pub faults : ItemGivenWithin 0 (2 ^ 64) (is_limited old) item
   pub closes : end_comes old ≡ true → item ≡ Some (Ok EndCollection)
   pub head : IfSome (known (source_of old)) (λ bytes. HoldsHead bytes new)
-  pub nested : MatchOption (known (source_of old)) (open_collections new ≤ object_count new) (λ bytes. open_collections new ≤ told_objects bytes)
-  pub cached : IfSome (known (source_of old)) (λ bytes. CachesItem (number_to_come bytes old) item new)
+  pub nested : MatchOption (known (source_of old)) (open_collections new ≤ object_count new)
+      (λ bytes. open_collections new ≤ told_objects bytes)
+  pub cached : IfSome (known (source_of old))
+      (λ bytes. CachesItem (number_to_come bytes old) item new)
   pub marked : MarksItsPath new
   pub counted : counts → count (counter_of new) ≡ cached_objects new
   pub lists : IfSome (known (source_of old)) (λ bytes. KeepsWithin (told_objects bytes) new)
 
 -- at most how many items are still to come
-abbrev pub steps_to_come : {R C : Type 0} {g : Ghosts R} {h : CounterGhosts C} → BinaryReader R C g h → ℕ
-steps_to_come reader = steps_left reader.state (length reader.tags.items) reader.frames.items
+abbrev pub steps_to_come : {R C : Type 0} {g : Ghosts R} {h : CounterGhosts C}
+    → BinaryReader R C g h → ℕ
+steps_to_come reader =
+    steps_left reader.state (length reader.walk.tags.items) reader.walk.frames.items
 
 -- the event that was told last
-abbrev pub event_told : {R C : Type 0} {g : Ghosts R} {h : CounterGhosts C} → BinaryReader R C g h → PlainEvent
+abbrev pub event_told : {R C : Type 0} {g : Ghosts R} {h : CounterGhosts C} → BinaryReader R C g h
+    → PlainEvent
 event_told reader = event_in reader.last
 
 -- as `GivesItem`, where the item is told: the event is `told`
-abbrev pub TellsItem : {A : Type 0} → (new : Bool) (before : List Item) → Option (Result A Error) → (told : PlainEvent) → (after : List Item) → Type 0
+abbrev pub TellsItem : {A : Type 0} → (new : Bool) (before : List Item) → Option (Result A Error)
+    → (told : PlainEvent) → (after : List Item) → Type 0
 TellsItem new before item told after =
     MatchOption item ((before ≡ []) × (after ≡ [])) (λ answer. MatchResult answer
     (λ _. before ≡ Ok told ∷ after)
-    (λ error. (after ≡ []) × MatchFault (kind_of (error_kind_of error)) (IsOwed before) (MatchBool new (IsOwed before) (WantsMemory before)) (before ≡ Err (fault_of error) ∷ [])))
+    (λ error. (after ≡ []) × MatchFault (kind_of (error_kind_of error)) (IsOwed before)
+    (MatchBool new (IsOwed before) (WantsMemory before)) (before ≡ Err (fault_of error) ∷ [])))
 
 -- as `EndsAfter`, where the item is told
-abbrev pub EndsTold : {A R C : Type 0} {g : Ghosts R} {h : CounterGhosts C} → Option (Result A Error) → BinaryReader R C g h → Type 0
+abbrev pub EndsTold : {A R C : Type 0} {g : Ghosts R} {h : CounterGhosts C}
+    → Option (Result A Error) → BinaryReader R C g h → Type 0
 EndsTold item after = MatchOption item (HasEnded after) (λ answer. OnErr answer (HasEnded after))
 
 -- as `CachesItem`, where the item is told
-abbrev pub CachesTold : {A R C : Type 0} {g : Ghosts R} {h : CounterGhosts C} → Option ℕ → Option (Result A Error) → BinaryReader R C g h → Type 0
-CachesTold number item reader = IsKeptTold number item (event_told reader) reader.tags.items
+abbrev pub CachesTold : {A R C : Type 0} {g : Ghosts R} {h : CounterGhosts C} → Option ℕ
+    → Option (Result A Error) → BinaryReader R C g h → Type 0
+CachesTold number item reader = IsKeptTold number item (event_told reader) reader.walk.tags.items
 
 -- one call of `advance`: as one of `next`, but that the event is told. What is to come, whether an
 -- end comes next and whether there are limits are words of the reader's.
-pub record TellsBy {A R C : Type 0} {g : Ghosts R} {h : CounterGhosts C} (coming : List ℕ → BinaryReader R C g h → List Item) (closing limited : BinaryReader R C g h → Bool) (known : R → Option (List ℕ)) (failed : R → ℕ) (counts : Type 0) (count : C → ℕ) (old : BinaryReader R C g h) (item : Option (Result A Error)) (new : BinaryReader R C g h) : Type 0 where
+pub record TellsBy {A R C : Type 0} {g : Ghosts R} {h : CounterGhosts C}
+    (coming : List ℕ → BinaryReader R C g h → List Item)
+    (closing limited : BinaryReader R C g h → Bool) (known : R → Option (List ℕ)) (failed : R → ℕ)
+    (counts : Type 0) (count : C → ℕ) (old : BinaryReader R C g h) (item : Option (Result A Error))
+    (new : BinaryReader R C g h) : Type 0 where
   pub unchanged : known (source_of new) ≡ known (source_of old)
-  pub items : IfSome (known (source_of old)) (λ bytes. TellsItem (is_new old) (coming bytes old) item (event_told new) (coming bytes new))
+  pub items : IfSome (known (source_of old))
+      (λ bytes. TellsItem (is_new old) (coming bytes old) item (event_told new) (coming bytes new))
   pub failures : ItemCountsIo item (failed (source_of old)) (failed (source_of new))
   pub ended : HasEnded old → item ≡ None
   pub ends : EndsTold item new
@@ -168,16 +209,26 @@ pub record TellsBy {A R C : Type 0} {g : Ghosts R} {h : CounterGhosts C} (coming
   pub faults : ItemGivenWithin 0 (2 ^ 64) (limited old) item
   pub closes : closing old ≡ true → IsToldEnd item (event_told new)
   pub head : IfSome (known (source_of old)) (λ bytes. HoldsHead bytes new)
-  pub nested : MatchOption (known (source_of old)) (open_collections new ≤ object_count new) (λ bytes. open_collections new ≤ told_objects bytes)
-  pub cached : IfSome (known (source_of old)) (λ bytes. CachesTold (number_to_come bytes old) item new)
+  pub nested : MatchOption (known (source_of old)) (open_collections new ≤ object_count new)
+      (λ bytes. open_collections new ≤ told_objects bytes)
+  pub cached : IfSome (known (source_of old))
+      (λ bytes. CachesTold (number_to_come bytes old) item new)
   pub marked : MarksItsPath new
   pub counted : counts → count (counter_of new) ≡ cached_objects new
   pub lists : IfSome (known (source_of old)) (λ bytes. KeepsWithin (told_objects bytes) new)
   pub falls : IfSome item (λ _. steps_to_come new < steps_to_come old)
 
-abbrev pub Tells : {A R C : Type 0} {g : Ghosts R} {h : CounterGhosts C} (known : R → Option (List ℕ)) (failed : R → ℕ) (counts : Type 0) (count : C → ℕ) (old : BinaryReader R C g h) (item : Option (Result A Error)) (new : BinaryReader R C g h) → Type 0
-Tells known failed counts count old item new = TellsBy to_come end_comes is_limited known failed counts count old item new
+abbrev pub Tells : {A R C : Type 0} {g : Ghosts R} {h : CounterGhosts C}
+    (known : R → Option (List ℕ)) (failed : R → ℕ) (counts : Type 0) (count : C → ℕ)
+    (old : BinaryReader R C g h) (item : Option (Result A Error)) (new : BinaryReader R C g h)
+    → Type 0
+Tells known failed counts count old item new =
+    TellsBy to_come end_comes is_limited known failed counts count old item new
 
 -- the same of the walk that knows no limits
-abbrev pub Walks : {A R C : Type 0} {g : Ghosts R} {h : CounterGhosts C} (known : R → Option (List ℕ)) (failed : R → ℕ) (counts : Type 0) (count : C → ℕ) (old : BinaryReader R C g h) (item : Option (Result A Error)) (new : BinaryReader R C g h) → Type 0
-Walks known failed counts count old item new = TellsBy walk_to_come walk_closes (λ _. false) known failed counts count old item new
+abbrev pub Walks : {A R C : Type 0} {g : Ghosts R} {h : CounterGhosts C}
+    (known : R → Option (List ℕ)) (failed : R → ℕ) (counts : Type 0) (count : C → ℕ)
+    (old : BinaryReader R C g h) (item : Option (Result A Error)) (new : BinaryReader R C g h)
+    → Type 0
+Walks known failed counts count old item new =
+    TellsBy walk_to_come walk_closes (λ _. false) known failed counts count old item new

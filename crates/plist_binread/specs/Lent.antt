@@ -8,59 +8,74 @@ use Rattle.plist_binread.specs.declared.lent.Lent.{Lent}
 use Rattle.plist_binread.specs.declared.lent.Lent.TheVariants as lent
 use Rattle.plist_binread.specs.declared.table.Bounds.{Bounds}
 use Rattle.plist_binread.specs.Container.{number_at}
-use Rattle.plist_binread.specs.Debt.{IsCollection, ReadsChild, Explains, children_in, path_of, owed_by}
-use Rattle.plist_binread.specs.declared.frames.Frame.{Frame}
-use Rattle.plist_binread.specs.Object.{Object, Scalar, object_in}
-use Rattle.plist_binread.specs.Packed.{is_small, unmarked}
+use Rattle.plist_binread.specs.Debt.{IsCollection, ReadsChild, Explains, single_in, children_in, path_of, owed_by}
+use Rattle.plist_binread.specs.declared.walk.Frame.{Frame}
+use Rattle.plist_binread.specs.Object.{Object, object_in}
+use Rattle.plist_binread.specs.Packed.{is_small_event, unmarked}
 use Rattle.plist_binread.specs.Unfolding.{Entry, unfolding_of, until_fault}
 
 -- what was lent is this object: the scalar that is told, or a collection whose start is told
 abbrev pub IsLentAs : Object → (told : PlainEvent) → Lent → Type 0
 IsLentAs object told lent.Nothing = Unit {0}
-IsLentAs object told lent.Scalar = object ≡ Scalar told
+IsLentAs object told lent.Scalar = single_in object ≡ Some told
 IsLentAs object told (lent.Collection count) = IsCollection object told count
 
 -- how many small objects were decoded
 abbrev pub small_lent : Lent → (told : PlainEvent) → ℕ
 small_lent lent.Nothing told = 0
-small_lent lent.Scalar told = cond (is_small told) 1 0
+small_lent lent.Scalar told = cond (is_small_event told) 1 0
 small_lent (lent.Collection count) told = 0
 
--- the number of a child's reference among all those of its collection, where that has so many pairs, or none since it is an array
+-- the number of a child's reference among all those of its collection, where that has so many
+-- pairs, or none since it is an array
 abbrev pub slot_of : (pairs index : ℕ) → ℕ
-slot_of pairs index = cond (nat_eq pairs 0) index (cond (nat_eq (index % 2) 0) (index / 2) (pairs + index / 2))
+slot_of pairs index =
+    cond (nat_eq pairs 0) index (cond (nat_eq (index % 2) 0) (index / 2) (pairs + index / 2))
 
 -- the references of the children of the object at the front of these bytes stand from `start` on
 abbrev pub IsSlots : (width : ℕ) (object : List ℕ) (start pairs : ℕ) → Type 0
 IsSlots width object start pairs =
     (index : ℕ) → index < length (children_in (object_in width object))
     → (start + slot_of pairs index * width + width ≤ length object)
-    × (number_at object (start + slot_of pairs index * width) width ≡ get_or (children_in (object_in width object)) index 0)
+    × (number_at object (start + slot_of pairs index * width) width
+    ≡ get_or (children_in (object_in width object)) index 0)
 
 -- the same of the collection that was asked last
 abbrev pub IsAsked : (bytes : List ℕ) → Bounds → Asked → Type 0
-IsAsked bytes bounds asked = IsSlots bounds.reference_width (drop asked.place (take bounds.trailer bytes)) asked.start asked.pairs
+IsAsked bytes bounds asked =
+    IsSlots bounds.reference_width (drop asked.place (take bounds.trailer bytes)) asked.start
+    asked.pairs
 
 -- what is owed begins with the event that is told, and goes on with what is owed afterwards
 abbrev pub PaysTold : List Item → (told : PlainEvent) → List Item → Type 0
 PaysTold before told after = until_fault before ≡ Ok told ∷ until_fault after
 
 -- the same of an item that is told, or nothing where nothing is owed
-abbrev pub PaysNextTold : {A : Type 0} → List Item → Option (Result A Error) → (told : PlainEvent) → List Item → Type 0
+abbrev pub PaysNextTold : {A : Type 0} → List Item → Option (Result A Error) → (told : PlainEvent)
+    → List Item → Type 0
 PaysNextTold before item told after =
-    MatchOption item ((before ≡ []) × (after ≡ [])) (λ answer. MatchResult answer (λ _. PaysTold before told after) (λ error. Explains (until_fault before) error))
+    MatchOption item ((before ≡ []) × (after ≡ []))
+    (λ answer. MatchResult answer (λ _. PaysTold before told after)
+    (λ error. Explains (until_fault before) error))
 
--- the child of this index has been entered, and its first item told: what was owed with it goes on with what is owed now, and it is cached if it is small
-abbrev pub EntersChild : List Entry → Object → (index count : ℕ) → (old : List Frame) → (told : PlainEvent) → (tags : List ℕ) → (new : List Frame) → Type 0
+-- the child of this index has been entered, and its first item told: what was owed with it goes on
+-- with what is owed now, and it is cached if it is small
+abbrev pub EntersChild : List Entry → Object → (index count : ℕ) → (old : List Frame)
+    → (told : PlainEvent) → (tags : List ℕ) → (new : List Frame) → Type 0
 EntersChild table object index count old told tags new =
     (number : ℕ) × ReadsChild object index (Ok number)
-    × (is_small told ≡ true → 0 < unmarked (get_or tags number 0))
-    × ((at : ℕ) → PaysTold (unfolding_of table (count - length old) (path_of old) at number ++ owed_by table old) told (owed_by table new))
+    × (is_small_event told ≡ true → 0 < unmarked (get_or tags number 0))
+    × ((at : ℕ) → PaysTold (unfolding_of table (count - length old) (path_of old) at number
+    ++ owed_by table old) told (owed_by table new))
 
 -- an end is told
 abbrev pub IsToldEnd : {A : Type 0} → Option (Result A Error) → (told : PlainEvent) → Type 0
-IsToldEnd item told = MatchOption item ⊥ (λ answer. MatchResult answer (λ _. told ≡ EndCollection) (λ error. ⊥))
+IsToldEnd item told =
+    MatchOption item ⊥ (λ answer. MatchResult answer (λ _. told ≡ EndCollection) (λ error. ⊥))
 
 -- what a slow step gave is told
-abbrev pub IsToldAs : Result Event Error → Option (Result (Unit {0}) Error) → (told : PlainEvent) → Type 0
-IsToldAs answer item told = MatchResult answer (λ event. (item ≡ Some (Ok (tt {0}))) × (told ≡ event_of event)) (λ error. item ≡ Some (Err error))
+abbrev pub IsToldAs : Result Event Error → Option (Result (Unit {0}) Error) → (told : PlainEvent)
+    → Type 0
+IsToldAs answer item told =
+    MatchResult answer (λ event. (item ≡ Some (Ok (tt {0}))) × (told ≡ event_of event))
+    (λ error. item ≡ Some (Err error))

@@ -12,3 +12,4 @@ pub mod Tables
 pub mod Told
 pub mod Unfolding
 pub mod Visits
+pub mod Walking

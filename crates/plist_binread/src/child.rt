@@ -11,7 +11,7 @@ ghost use Rattle.plist_binread.specs.Failures.{ErrWithin};
 
 use crate::extent::find_content;
 use crate::lent::lent_length;
-use crate::numbers::{number_from, read_number};
+use crate::numbers::{number_at_hand, read_number};
 use crate::table::Bounds;
 use plist_base::{Error, ErrorKind, Source};
 
@@ -204,11 +204,8 @@ fn near_number<S: Source>(source: &S, bounds: &Bounds, asked: &Asked, index: u64
     let width = bounds.reference_width;
     let behind = slot_of(asked.pairs, index)?.checked_mul(width as u64)?;
     let place = asked.place.checked_add(asked.start.checked_add(behind)?)?;
-    let seen = source.near(place);
-    if seen.len() < width {
-        return None;
-    }
-    Some(number_from(&seen[..width]))
+    let number = number_at_hand(source, place, width)?;
+    Some(number)
 }
 
 /// The number of a child of the collection at a place, if it is at hand.

@@ -4,7 +4,7 @@
 
 ghost use Rattle.std.specs.Prelude.{◌≡◌, ℕ, ◌+◌, ◌-◌, ◌*◌, ◌^◌, ◌<◌, ◌≤◌, List, ◌++◌, length, drop, Some, IfSome, cond};
 ghost use Rattle.plist_base.specs.declared.real.RealBits.TheVariants.{Eight};
-ghost use Rattle.plist_base.specs.Events.{Data, Real, Uid as uid_event};
+ghost use Rattle.plist_base.specs.Trees.{Data, Real, Uid as uid_scalar};
 ghost use Rattle.plist_binread.specs.Container.{number_of, numbers_of};
 ghost use Rattle.plist_binread.specs.Lent.{IsLentAs, small_lent};
 ghost use Rattle.plist_binread.specs.Object.{Object, Scalar, Array, date, text, dictionary, unsigned_integer, signed_integer, length_in, layout_of, meaning_of_front, meaning_counted, object_behind, object_in};
@@ -120,7 +120,7 @@ fn lent_signed(rest: &[u8], last: &mut Last) -> Lent
 fn lent_uid(rest: &[u8], width: usize, last: &mut Last) -> Lent
     requires { width ≤ 8 }
     ensures lent { (more : List ℕ) → IsLentAs (meaning_of_front width
-        (λ content. Scalar (uid_event (number_of content))) (rest.now ++ more))
+        (λ content. Scalar (uid_scalar (number_of content))) (rest.now ++ more))
         (event_in last.new) result }
 {
     match lent_number(rest, width) {
@@ -285,8 +285,8 @@ fn is_small_lent(lent: Lent, last: &Last) -> bool
     }
 }
 
-/// Decodes the object at the front of lent bytes, and counts it where it is small. The trailer is so
-/// far away.
+/// Decodes the object at the front of lent bytes, and counts it where it is small. The trailer is
+/// so far away.
 pub fn decode_lent<C: DecodeCounter>(
     seen: &[u8],
     room: u64,

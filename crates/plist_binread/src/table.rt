@@ -1,6 +1,7 @@
 //! The object table.
 
 ghost use Rattle.std.specs.Prelude.{◌≡◌, ◌^◌, ◌<◌, ◌≤◌, length, IfOk, IfErr, IfSome};
+ghost use Rattle.plist_base.specs.Outcomes.{OnlyFault};
 ghost use Rattle.plist_base.specs.Faults.{Io, fault_of, fault_at};
 ghost use Rattle.plist_base.specs.Sources.{AnswersIo};
 
@@ -56,7 +57,7 @@ impl Bounds {
 fn read_size<S: Source>(source: &mut S) -> Result<u64, Error>
     ensures length { IfOk result (λ size. IfSome (S.known source.old) (λ bytes.
         size ≡ length bytes)) }
-    ensures refused { IfErr result (λ e. fault_of e ≡ fault_at Io 0) }
+    ensures refused { OnlyFault result (fault_at Io 0) }
     ensures unchanged { S.known source.new ≡ S.known source.old }
     ensures failures { AnswersIo result (S.failures source.old) (S.failures source.new) }
 {
@@ -80,8 +81,8 @@ impl Table {
             head_of bytes ≡ Ok (head_seen table))) }
         ensures within { IfOk result (λ table. IfSome (S.known source.old) (λ bytes.
             table.trailer ≤ length bytes)) }
-        ensures refused { IfErr result (λ e. IfSome (S.known source.old) (λ bytes.
-            MatchFault (kind_of (error_kind_of e)) ⊤ ⊤ (head_of bytes ≡ Err (fault_of e)))) }
+        ensures refused { IfErr result (λ error. IfSome (S.known source.old) (λ bytes.
+            MatchFault (kind_of (error_kind_of error)) ⊤ ⊤ (head_of bytes ≡ Err (fault_of error)))) }
         ensures fault { ErrWithin 0 (2 ^ 64) result }
         ensures unchanged { S.known source.new ≡ S.known source.old }
         ensures failures { AnswersIo result (S.failures source.old) (S.failures source.new) }
@@ -106,9 +107,9 @@ impl Table {
         ensures value { IfOk result (λ table. IfSome (S.known source.old) (λ bytes.
             length bytes ≡ trailer + 32 →
             head_with bytes trailer (trailer_in (drop trailer bytes)) ≡ Ok (head_seen table))) }
-        ensures refused { IfErr result (λ e. IfSome (S.known source.old) (λ bytes.
-            length bytes ≡ trailer + 32 → MatchFault (kind_of (error_kind_of e)) ⊤ ⊤
-            (head_with bytes trailer (trailer_in (drop trailer bytes)) ≡ Err (fault_of e)))) }
+        ensures refused { IfErr result (λ error. IfSome (S.known source.old) (λ bytes.
+            length bytes ≡ trailer + 32 → MatchFault (kind_of (error_kind_of error)) ⊤ ⊤
+            (head_with bytes trailer (trailer_in (drop trailer bytes)) ≡ Err (fault_of error)))) }
         ensures fault { ErrWithin 0 (trailer + 32) result }
         ensures unchanged { S.known source.new ≡ S.known source.old }
         ensures failures { AnswersIo result (S.failures source.old) (S.failures source.new) }

@@ -2,9 +2,10 @@
 
 ghost use Rattle.std.specs.Prelude.{◌≡◌, Some, true};
 ghost use Rattle.std.specs.Str.{IsUtf8};
-ghost use Rattle.plist_base.specs.Events.{Data as DataEvent, String as StringEvent, event_of};
+ghost use Rattle.plist_base.specs.Events.{Single, event_of};
+ghost use Rattle.plist_base.specs.Trees.{Data as DataScalar, String as StringScalar};
 ghost use Rattle.plist_binread.specs.declared.lent.Lent.TheVariants.{Scalar as ScalarLent};
-ghost use Rattle.plist_binread.specs.Packed.{cached};
+ghost use Rattle.plist_binread.specs.Packed.{cached, single};
 ghost use Rattle.plist_binread.specs.Told.{event_in};
 
 use crate::lent::Lent;
@@ -113,7 +114,8 @@ impl Last {
 
     /// Tells the text in these bytes, if they are one and there is room for it.
     pub fn tell_text(&mut self, bytes: &[u8]) -> bool
-        ensures { result ≡ true → IsUtf8 bytes.now × (event_in self.new ≡ StringEvent bytes.now) }
+        ensures { result ≡ true →
+            IsUtf8 bytes.now × (event_in self.new ≡ Single (StringScalar bytes.now)) }
     {
         match str::from_utf8(bytes) {
             Ok(text) => {
@@ -127,7 +129,7 @@ impl Last {
 
     /// Tells this data, if there is room for it.
     pub fn tell_data(&mut self, bytes: &[u8]) -> bool
-        ensures { result ≡ true → event_in self.new ≡ DataEvent bytes.now }
+        ensures { result ≡ true → event_in self.new ≡ Single (DataScalar bytes.now) }
     {
         self.data.clear();
         self.told = Told::Data;
@@ -136,7 +138,7 @@ impl Last {
 
     /// Tells the scalar that a tag and a content hold, if they hold one and there is room for it.
     pub fn recall(&mut self, tag: u8, content: u64) -> bool
-        ensures { result ≡ true → cached tag content ≡ Some (event_in self.new) }
+        ensures { result ≡ true → single (cached tag content) ≡ Some (event_in self.new) }
     {
         let bytes = content.to_be_bytes();
         match tag % 128 {

@@ -12,50 +12,72 @@ module _ (cs ids fs : List ℕ) (have : HaveIds cs ids fs) (p : ℕ) (lt : p < l
   class = num_of cs p
 
   module _ (small : length fs + 1 < 2 ^ 64) (un : length fs ≤ get_or ids (num_of cs p) 0) where
-    at_write : (q : ℕ) → (P : ℕ → Type 0) → (q ≡ num_of cs p → P (length fs)) → (q ≢ num_of cs p → P (get_or ids q 0)) → P (get_or (set ids (num_of cs p) (length fs)) q 0)
+    at_write : (q : ℕ) → (P : ℕ → Type 0) → (q ≡ num_of cs p → P (length fs))
+        → (q ≢ num_of cs p → P (get_or ids q 0))
+        → P (get_or (set ids (num_of cs p) (length fs)) q 0)
     at_write q P same other =
         elim (eqb_tells q (num_of cs p)) [
-          | inl e ↦ subst P (sym (ap (λ k. get_or (set ids (num_of cs p) (length fs)) k 0) e.1 ∙ get_or-set_same ids (num_of cs p) (length fs) 0 (have.below p lt))) (same e.1)
-          | inr d ↦ subst P (sym (get_or-set_other ids (num_of cs p) q (length fs) 0 d.1)) (other d.1)
+          | inl e ↦ subst P (sym (ap (λ k. get_or (set ids (num_of cs p) (length fs)) k 0) e.1
+              ∙ get_or-set_same ids (num_of cs p) (length fs) 0 (have.below p lt))) (same e.1)
+          | inr d ↦ subst P (sym (get_or-set_other ids (num_of cs p) q (length fs) 0 d.1))
+              (other d.1)
         ]
 
     len : length (fs ++ p ∷ []) ≡ length fs + 1
     len = length-append fs (p ∷ [])
 
-    at_first : (k : ℕ) (P : ℕ → Type 0) → k < length (fs ++ p ∷ []) → (k ≡ length fs → P p) → (k < length fs → P (get_or fs k 0)) → P (get_or (fs ++ p ∷ []) k 0)
+    at_first : (k : ℕ) (P : ℕ → Type 0) → k < length (fs ++ p ∷ []) → (k ≡ length fs → P p)
+        → (k < length fs → P (get_or fs k 0)) → P (get_or (fs ++ p ∷ []) k 0)
     at_first k P h last other =
         elim (leb_tells (length fs) k) [
-          | inl e ↦ let s : k ≡ length fs = omega (arith, e.1, len) in subst P (sym (ap (λ i. get_or (fs ++ p ∷ []) i 0) s ∙ get_or-append_seam fs p [] 0)) (last s)
+          | inl e ↦ let s : k ≡ length fs = omega (arith, e.1, len) in subst P
+              (sym (ap (λ i. get_or (fs ++ p ∷ []) i 0) s ∙ get_or-append_seam fs p [] 0)) (last s)
           | inr d ↦ subst P (sym (get_or-append fs (p ∷ []) 0 k d.1)) (other d.1)
         ]
 
     long : length (set ids (num_of cs p) (length fs)) ≡ length ids
     long = length-set ids (num_of cs p) (length fs)
 
-    was : (c : ℕ) → c < length ids → get_or ids c 0 < length (fs ++ p ∷ []) → get_or ids c 0 < length fs
+    was : (c : ℕ) → c < length ids → get_or ids c 0 < length (fs ++ p ∷ [])
+        → get_or ids c 0 < length fs
     was c l n = elim (have.free c l) [ inl g ↦ g | inr g ↦ absurd (omega (arith, len, g)) ]
 
     pub ids_new : HaveIds cs (set ids (num_of cs p) (length fs)) (fs ++ p ∷ [])
     ids_new = record {
       below = subst (λ n. AllBelow n cs) (sym long) have.below;
-      sound = λ c l. at_write c (λ v. v < length (fs ++ p ∷ []) → num_of cs (get_or (fs ++ p ∷ []) v 0) ≡ c)
+      sound =
+          λ c l. at_write c (λ v. v < length (fs ++ p ∷ [])
+          → num_of cs (get_or (fs ++ p ∷ []) v 0) ≡ c)
           (λ e n. ap (num_of cs) (get_or-append_seam fs p [] 0) ∙ sym e)
-          (λ d n. let w = was c (omega (arith, l, long)) n in ap (num_of cs) (get_or-append fs (p ∷ []) 0 (get_or ids c 0) w) ∙ have.sound c (omega (arith, l, long)) w);
-      complete = λ k l. at_first k (λ q. get_or (set ids (num_of cs p) (length fs)) (num_of cs q) 0 ≡ k) l
+          (λ d n. let w = was c (omega (arith, l, long)) n in ap (num_of cs)
+          (get_or-append fs (p ∷ []) 0 (get_or ids c 0) w)
+          ∙ have.sound c (omega (arith, l, long)) w);
+      complete =
+          λ k l. at_first k (λ q. get_or (set ids (num_of cs p) (length fs)) (num_of cs q) 0 ≡ k) l
           (λ e. get_or-set_same ids (num_of cs p) (length fs) 0 (have.below p lt) ∙ sym e)
           (λ h. at_write (num_of cs (get_or fs k 0)) (λ v. v ≡ k)
-          (λ e. let s : get_or ids (num_of cs p) 0 ≡ k = ap (λ q. get_or ids q 0) (sym e) ∙ have.complete k h in absurd (omega (arith, s)))
+          (λ e. let s : get_or ids (num_of cs p) 0 ≡ k = ap (λ q. get_or ids q 0) (sym e)
+          ∙ have.complete k h in absurd (omega (arith, s)))
           (λ d. have.complete k h));
-      free = λ c l. at_write c (λ v. (v < length (fs ++ p ∷ [])) ⊎ (v ≡ 2 ^ 64 - 1)) (λ e. inl (omega (arith, len)))
-          (λ d. elim (have.free c (omega (arith, l, long))) [ inl g ↦ inl (omega (arith, len, g)) | inr g ↦ inr g ]);
+      free =
+          λ c l. at_write c (λ v. (v < length (fs ++ p ∷ [])) ⊎ (v ≡ 2 ^ 64 - 1))
+          (λ e. inl (omega (arith, len)))
+          (λ d. elim (have.free c (omega (arith, l, long))) [
+            | inl g ↦ inl
+                (omega (arith, len, g))
+            | inr g ↦ inr g
+          ]);
     }
 
     -- no number so far is of this class
-    pub none_yet : (k : ℕ) → k < length fs → num_of cs (get_or fs k 0) ≡ num_of cs p → get_or fs k 0 ≡ p
-    none_yet k h e = let s : get_or ids (num_of cs p) 0 ≡ k = ap (λ q. get_or ids q 0) (sym e) ∙ have.complete k h in absurd (omega (arith, s))
+    pub none_yet : (k : ℕ) → k < length fs → num_of cs (get_or fs k 0) ≡ num_of cs p
+        → get_or fs k 0 ≡ p
+    none_yet k h e = let s : get_or ids (num_of cs p) 0 ≡ k = ap (λ q. get_or ids q 0) (sym e)
+        ∙ have.complete k h in absurd (omega (arith, s))
 
 -- before any number
-pub ids_none : (cs ids : List ℕ) → AllBelow (length ids) cs → ((c : ℕ) → c < length ids → get_or ids c 0 ≡ 2 ^ 64 - 1) → HaveIds cs ids []
+pub ids_none : (cs ids : List ℕ) → AllBelow (length ids) cs
+    → ((c : ℕ) → c < length ids → get_or ids c 0 ≡ 2 ^ 64 - 1) → HaveIds cs ids []
 ids_none cs ids below all = record {
   below = below;
   sound = λ c l h. absurd (omega (arith, all c l));

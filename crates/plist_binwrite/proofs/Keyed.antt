@@ -7,32 +7,46 @@ use Rattle.plist_binwrite.specs.Scalars.{AreApart}
 
 module _ {T P : Type 0} (same : T → T → Bool) (view : T → P) where
   -- the key at a place
-  pub key_at : (cs : List T) (i : ℕ) (x y : T) → (same x y ≡ true → view x ≡ view y) → slice_get cs i ≡ Some y → same x y ≡ true → slice_get (map view cs) i ≡ Some (view x)
-  key_at cs i x y same_key h s = slice_get-map view cs i ∙ ap (option_map view) h ∙ ap Some (sym (same_key s))
+  pub key_at : (cs : List T) (i : ℕ) (x y : T) → (same x y ≡ true → view x ≡ view y)
+      → slice_get cs i ≡ Some y → same x y ≡ true → slice_get (map view cs) i ≡ Some (view x)
+  key_at cs i x y same_key h s =
+      slice_get-map view cs i ∙ ap (option_map view) h ∙ ap Some (sym (same_key s))
 
-  front : (xs ys : List T) (i : ℕ) → i < length (map view xs) → slice_get (map view (xs ++ ys)) i ≡ slice_get (map view xs) i
+  front : (xs ys : List T) (i : ℕ) → i < length (map view xs)
+      → slice_get (map view (xs ++ ys)) i ≡ slice_get (map view xs) i
   front [] ys i h = absurd (omega (arith, h))
   front (x ∷ xs) ys zero h = refl
   front (x ∷ xs) ys (suc i) h = front xs ys i (omega (arith, h))
 
   -- a key that comes changes none before it
-  pub keys_kept : (b : Bool) (old new : List T) (x : T) → new ≡ (if b then old else old ++ x ∷ []) → (i : ℕ) → i < length (map view old) → slice_get (map view new) i ≡ slice_get (map view old) i
+  pub keys_kept : (b : Bool) (old new : List T) (x : T) → new ≡ (if b then old else old ++ x ∷ [])
+      → (i : ℕ) → i < length (map view old) → slice_get (map view new) i
+      ≡ slice_get (map view old) i
   keys_kept true old new x e i h = ap (λ l. slice_get (map view l) i) e
   keys_kept false old new x e i h = ap (λ l. slice_get (map view l) i) e ∙ front old (x ∷ []) i h
 
   -- and the keys grow by one at most
-  pub keys_grow : (b : Bool) (old new : List T) (x : T) → new ≡ (if b then old else old ++ x ∷ []) → (length (map view old) ≤ length (map view new)) × (length (map view new) ≤ length (map view old) + 1)
-  keys_grow true old new x e = let n = ap (λ (l : List T). length (map view l)) e in (omega (arith, n), omega (arith, n))
-  keys_grow false old new x e = let n = ap (λ (l : List T). length (map view l)) e in let m = one old in (omega (arith, n, m), omega (arith, n, m))
+  pub keys_grow : (b : Bool) (old new : List T) (x : T) → new ≡ (if b then old else old ++ x ∷ [])
+      → (length (map view old) ≤ length (map view new))
+      × (length (map view new) ≤ length (map view old) + 1)
+  keys_grow true old new x e = let n = ap (λ (l : List T). length (map view l)) e in (
+    omega
+        (arith, n),
+    omega (arith, n),
+  )
+  keys_grow false old new x e = let n = ap (λ (l : List T). length
+      (map view l)) e in let m = one old in (omega (arith, n, m), omega (arith, n, m))
     where
       one : (l : List T) → length (map view (l ++ x ∷ [])) ≡ length (map view l) + 1
       one [] = refl
       one (y ∷ l) = let r = one l in omega (arith, r)
 
   module _ (key_same : (x y : T) → view x ≡ view y → same x y ≡ true) where
-    no_key : (x : T) (cs : List T) (j : ℕ) → AllByRecursion (λ y. same x y ≡ false) cs → slice_get (map view cs) j ≡ Some (view x) → ⊥
+    no_key : (x : T) (cs : List T) (j : ℕ) → AllByRecursion (λ y. same x y ≡ false) cs
+        → slice_get (map view cs) j ≡ Some (view x) → ⊥
     no_key x [] j a h = cc
-    no_key x (y ∷ cs) zero a h = let k : view y ≡ view x = cc in never (same x y) (key_same x y (sym k)) a.0
+    no_key x (y ∷ cs) zero a h = let k : view y
+        ≡ view x = cc in never (same x y) (key_same x y (sym k)) a.0
       where
         never : (b : Bool) → b ≡ true → b ≡ false → ⊥
         never b p q = cc

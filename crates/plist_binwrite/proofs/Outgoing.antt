@@ -8,41 +8,86 @@ use Rattle.std.specs.Io.KnownBytes.{Appends}
 use Rattle.std.proofs.KnownBytes.{Appends-trans, Appends-nil}
 use Rattle.plist_base.specs.Faults.{Fault, Io, fault_nowhere}
 use Rattle.plist_base.specs.Writing.{Answer}
-use Rattle.plist_binwrite.specs.Fronts.{AppendsFront}
+use Rattle.plist_base.specs.Fronts.{AppendsFront}
 use Rattle.plist_binwrite.specs.Outlets.{IsOut, Follow, Puts}
 
 -- a beginning of some bytes is one of more
-pub front_more : (a b : Option (List ℕ)) (xs ys : List ℕ) → AppendsFront a b xs → AppendsFront a b (xs ++ ys)
+pub front_more : (a b : Option (List ℕ)) (xs ys : List ℕ) → AppendsFront a b xs
+    → AppendsFront a b (xs ++ ys)
 front_more a b xs ys f = (f.0, f.1 ++ ys, f.2, ap (λ l. l ++ ys) f.3 ∙ append_assoc f.0 f.1 ys)
 
 -- nothing yet
 pub puts_none : {a : Option (List ℕ)} {held : List ℕ} → Puts a held [] (Ok tt) a held
-puts_none {a} {held} = record { follow = λ first done out. subst (IsOut first a held) (sym (append-nil done)) out }
+puts_none {a} {held} =
+    record { follow = λ first done out. subst (IsOut first a held) (sym (append-nil done)) out }
 
 -- bytes, and then more
-pub puts_then : {a b c : Option (List ℕ)} {held h k xs ys : List ℕ} {answer : Answer} → Puts a held xs (Ok tt) b h → Puts b h ys answer c k → Puts a held (xs ++ ys) answer c k
+pub puts_then : {a b c : Option (List ℕ)} {held h k xs ys : List ℕ} {answer : Answer}
+    → Puts a held xs (Ok tt) b h → Puts b h ys answer c k → Puts a held (xs ++ ys) answer c k
 puts_then {a} {b} {c} {held} {h} {k} {xs} {ys} {answer} p q = go answer q.follow
   where
     go : (answer : Answer) → Follow b h ys answer c k → Puts a held (xs ++ ys) answer c k
-    go (Ok u) q = record { follow = λ first done out. subst (IsOut first c k) (append_assoc done xs ys) (q first (done ++ xs) (p.follow first done out)) }
-    go (Err fault) q = record { follow = (q.0, λ first done out. subst (AppendsFront first c) (append_assoc done xs ys) (q.1 first (done ++ xs) (p.follow first done out))) }
+    go (Ok u) q =
+        record {
+          follow = λ first done out. subst (IsOut first c k) (append_assoc done xs ys)
+              (q first (done ++ xs) (p.follow first done out));
+        }
+    go (Err fault) q =
+        record {
+          follow = (
+            q.0,
+            λ first done out. subst (AppendsFront first c)
+                (append_assoc done xs ys) (q.1 first (done ++ xs) (p.follow first done out)),
+          );
+        }
 
 -- what failed fails the whole
-pub puts_front : {a b : Option (List ℕ)} {held h xs : List ℕ} {fault : Fault} (ys : List ℕ) → Puts a held xs (Err fault) b h → Puts a held (xs ++ ys) (Err fault) b h
-puts_front {a} {b} {held} {h} {xs} {fault} ys p = record { follow = (p.follow.0, λ first done out. subst (AppendsFront first b) (append_assoc done xs ys) (front_more first b (done ++ xs) ys (p.follow.1 first done out))) }
+pub puts_front : {a b : Option (List ℕ)} {held h xs : List ℕ} {fault : Fault} (ys : List ℕ)
+    → Puts a held xs (Err fault) b h → Puts a held (xs ++ ys) (Err fault) b h
+puts_front {a} {b} {held} {h} {xs} {fault} ys p =
+    record {
+      follow = (
+        p.follow.0,
+        λ first done out. subst (AppendsFront first b)
+            (append_assoc done xs ys) (front_more first b (done ++ xs) ys
+            (p.follow.1 first done out)),
+      );
+    }
 
-pub puts_as : {a b : Option (List ℕ)} {held k xs ys : List ℕ} {answer : Answer} → xs ≡ ys → Puts a held xs answer b k → Puts a held ys answer b k
+pub puts_as : {a b : Option (List ℕ)} {held k xs ys : List ℕ} {answer : Answer} → xs ≡ ys
+    → Puts a held xs answer b k → Puts a held ys answer b k
 puts_as {a} {b} {held} {k} {xs} {ys} {answer} e p = subst (λ l. Puts a held l answer b k) e p
 
 -- the bytes wait
-pub puts_waits : (a : Option (List ℕ)) (held xs holds : List ℕ) → holds ≡ held ++ xs → Puts a held xs (Ok tt) a holds
-puts_waits a held xs holds e = record { follow = λ first done out. record { sent = out.sent; went = out.went; is = ap (λ l. l ++ xs) out.is ∙ append_assoc out.sent held xs ∙ ap (λ l. out.sent ++ l) (sym e) } }
+pub puts_waits : (a : Option (List ℕ)) (held xs holds : List ℕ) → holds ≡ held ++ xs
+    → Puts a held xs (Ok tt) a holds
+puts_waits a held xs holds e =
+    record {
+      follow = λ first done out. record {
+        sent = out.sent;
+        went = out.went;
+        is = ap
+            (λ l. l ++ xs) out.is ∙ append_assoc out.sent held xs ∙ ap (λ l. out.sent ++ l) (sym e);
+      };
+    }
 
 -- what waited goes out
-puts_drain : (a : Option (List ℕ)) (held : List ℕ) (b : Option (List ℕ)) → Appends a b held → Puts a held [] (Ok tt) b []
-puts_drain a held b h = record { follow = λ first done out. record { sent = out.sent ++ held; went = Appends-trans first a b out.sent held out.went h; is = append-nil done ∙ out.is ∙ sym (append-nil (out.sent ++ held)) } }
+puts_drain : (a : Option (List ℕ)) (held : List ℕ) (b : Option (List ℕ)) → Appends a b held
+    → Puts a held [] (Ok tt) b []
+puts_drain a held b h =
+    record {
+      follow = λ first done out. record {
+        sent = out.sent ++ held;
+        went = Appends-trans first
+            a b out.sent held out.went h;
+        is = append-nil done ∙ out.is
+            ∙ sym (append-nil (out.sent ++ held));
+      };
+    }
 
-puts_broken : (a : Option (List ℕ)) (held bytes : List ℕ) (fault : Fault) (b : Option (List ℕ)) (h : List ℕ) → fault ≡ fault_nowhere Io → AppendsFront a b held → Puts a held bytes (Err fault) b h
+puts_broken : (a : Option (List ℕ)) (held bytes : List ℕ) (fault : Fault) (b : Option (List ℕ))
+    (h : List ℕ) → fault ≡ fault_nowhere Io → AppendsFront a b held
+    → Puts a held bytes (Err fault) b h
 puts_broken a held bytes fault b h io f = record {
   follow = (
     io,
@@ -57,9 +102,19 @@ puts_broken a held bytes fault b h io f = record {
 
 -- nothing waits, and bytes go out
 puts_sent : (a b : Option (List ℕ)) (xs : List ℕ) → Appends a b xs → Puts a [] xs (Ok tt) b []
-puts_sent a b xs h = record { follow = λ first done out. record { sent = out.sent ++ xs; went = Appends-trans first a b out.sent xs out.went h; is = ap (λ l. l ++ xs) (out.is ∙ append-nil out.sent) ∙ sym (append-nil (out.sent ++ xs)) } }
+puts_sent a b xs h =
+    record {
+      follow = λ first done out. record {
+        sent = out.sent ++ xs;
+        went = Appends-trans first a
+            b out.sent xs out.went h;
+        is = ap (λ l. l ++ xs) (out.is ∙ append-nil out.sent)
+            ∙ sym (append-nil (out.sent ++ xs));
+      };
+    }
 
-puts_unsent : (a b : Option (List ℕ)) (xs : List ℕ) (fault : Fault) → fault ≡ fault_nowhere Io → AppendsFront a b xs → Puts a [] xs (Err fault) b []
+puts_unsent : (a b : Option (List ℕ)) (xs : List ℕ) (fault : Fault) → fault ≡ fault_nowhere Io
+    → AppendsFront a b xs → Puts a [] xs (Err fault) b []
 puts_unsent a b xs fault io f = record {
   follow = (
     io,
@@ -67,50 +122,76 @@ puts_unsent a b xs fault io f = record {
       out.sent ++ f.0,
       f.1,
       Appends-trans first a b out.sent f.0 out.went f.2,
-      ap (λ l. l ++ xs) (out.is ∙ append-nil out.sent) ∙ ap (λ l. out.sent ++ l) f.3 ∙ sym (append_assoc out.sent f.0 f.1),
+      ap (λ l. l ++ xs) (out.is ∙ append-nil out.sent) ∙ ap (λ l. out.sent ++ l) f.3
+          ∙ sym (append_assoc out.sent f.0 f.1),
     ),
   );
 }
 
 -- ---- what `put` does where bytes don't fit
 
-pub put_all : (a b c : Option (List ℕ)) (held now bytes k : List ℕ) → now ≡ held → k ≡ [] → Appends a b now → Appends b c bytes → Puts a held bytes (Ok tt) c k
+pub put_all : (a b c : Option (List ℕ)) (held now bytes k : List ℕ) → now ≡ held → k ≡ []
+    → Appends a b now → Appends b c bytes → Puts a held bytes (Ok tt) c k
 put_all a b c held now bytes k e n p q =
-    subst (λ l. Puts a held bytes (Ok tt) c l) (sym n) (puts_then (puts_drain a held b (subst (Appends a b) e p)) (puts_sent b c bytes q))
+    subst (λ l. Puts a held bytes (Ok tt) c l) (sym n)
+    (puts_then (puts_drain a held b (subst (Appends a b) e p)) (puts_sent b c bytes q))
 
-pub put_half : (a b c : Option (List ℕ)) (held now bytes k : List ℕ) (fault : Fault) → now ≡ held → k ≡ [] → Appends a b now → fault ≡ fault_nowhere Io → AppendsFront b c bytes → Puts a held bytes (Err fault) c k
+pub put_half : (a b c : Option (List ℕ)) (held now bytes k : List ℕ) (fault : Fault) → now ≡ held
+    → k ≡ [] → Appends a b now → fault ≡ fault_nowhere Io → AppendsFront b c bytes
+    → Puts a held bytes (Err fault) c k
 put_half a b c held now bytes k fault e n p io q =
-    subst (λ l. Puts a held bytes (Err fault) c l) (sym n) (puts_then (puts_drain a held b (subst (Appends a b) e p)) (puts_unsent b c bytes fault io q))
+    subst (λ l. Puts a held bytes (Err fault) c l) (sym n)
+    (puts_then (puts_drain a held b (subst (Appends a b) e p)) (puts_unsent b c bytes fault io q))
 
-pub put_stuck : (a b : Option (List ℕ)) (held now bytes k : List ℕ) (fault : Fault) → now ≡ held → fault ≡ fault_nowhere Io → AppendsFront a b now → Puts a held bytes (Err fault) b k
-put_stuck a b held now bytes k fault e io f = puts_broken a held bytes fault b k io (subst (AppendsFront a b) e f)
+pub put_stuck : (a b : Option (List ℕ)) (held now bytes k : List ℕ) (fault : Fault) → now ≡ held
+    → fault ≡ fault_nowhere Io → AppendsFront a b now → Puts a held bytes (Err fault) b k
+put_stuck a b held now bytes k fault e io f =
+    puts_broken a held bytes fault b k io (subst (AppendsFront a b) e f)
 
 -- ---- bytes of each of some numbers
 
 module _ (f : ℕ → List ℕ) (xs : List ℕ) (i : ℕ) (lt : i < length xs) where
   pub one_part : flat_map f (take i xs) ++ f (get_or xs i 0) ≡ flat_map f (take (i + 1) xs)
-  one_part = sym (ap (flat_map f) (take_more xs i 0 lt) ∙ flat_map-append f (take i xs) (get_or xs i 0 ∷ []) ∙ ap (λ l. flat_map f (take i xs) ++ l) (append-nil (f (get_or xs i 0))))
+  one_part =
+      sym (ap (flat_map f) (take_more xs i 0 lt)
+      ∙ flat_map-append f (take i xs) (get_or xs i 0 ∷ [])
+      ∙ ap (λ l. flat_map f (take i xs) ++ l) (append-nil (f (get_or xs i 0))))
 
-  pub all_parts : (flat_map f (take i xs) ++ f (get_or xs i 0)) ++ flat_map f (drop (i + 1) xs) ≡ flat_map f xs
-  all_parts = ap (λ l. l ++ flat_map f (drop (i + 1) xs)) one_part ∙ sym (flat_map-append f (take (i + 1) xs) (drop (i + 1) xs)) ∙ ap (flat_map f) (take-append-drop (i + 1) xs)
+  pub all_parts : (flat_map f (take i xs) ++ f (get_or xs i 0)) ++ flat_map f (drop (i + 1) xs)
+      ≡ flat_map f xs
+  all_parts =
+      ap (λ l. l ++ flat_map f (drop (i + 1) xs)) one_part
+      ∙ sym (flat_map-append f (take (i + 1) xs) (drop (i + 1) xs))
+      ∙ ap (flat_map f) (take-append-drop (i + 1) xs)
 
 pub last_part : (xs : List ℕ) (i : ℕ) → length xs ≤ i → i ≤ length xs → take i xs ≡ xs
 last_part xs i h k = let e : i ≡ length xs = omega arith in ap (λ n. take n xs) e ∙ take-length xs
 
 -- ---- the end
 
-pub out_sent : (first a b : Option (List ℕ)) (held done : List ℕ) → Appends a b held → IsOut first a held done → Appends first b done
-out_sent first a b held done h out = subst (Appends first b) (sym out.is) (Appends-trans first a b out.sent held out.went h)
+pub out_sent : (first a b : Option (List ℕ)) (held done : List ℕ) → Appends a b held
+    → IsOut first a held done → Appends first b done
+out_sent first a b held done h out =
+    subst (Appends first b) (sym out.is) (Appends-trans first a b out.sent held out.went h)
 
-pub out_front : (first a b : Option (List ℕ)) (held done : List ℕ) → AppendsFront a b held → IsOut first a held done → AppendsFront first b done
-out_front first a b held done f out = (out.sent ++ f.0, f.1, Appends-trans first a b out.sent f.0 out.went f.2, out.is ∙ ap (λ l. out.sent ++ l) f.3 ∙ sym (append_assoc out.sent f.0 f.1))
+pub out_front : (first a b : Option (List ℕ)) (held done : List ℕ) → AppendsFront a b held
+    → IsOut first a held done → AppendsFront first b done
+out_front first a b held done f out = (
+  out.sent ++ f.0,
+  f.1,
+  Appends-trans first a b out.sent f.0 out.went f.2,
+  out.is
+      ∙ ap (λ l. out.sent ++ l) f.3 ∙ sym (append_assoc out.sent f.0 f.1),
+)
 
 -- an empty room, and then the bytes
 is_out : (a : Option (List ℕ)) → IsOut a a [] []
 is_out a = record { sent = []; went = Appends-nil a; is = refl }
 
-pub from_empty : {a b : Option (List ℕ)} {held bytes k : List ℕ} → held ≡ [] → Puts a held bytes (Ok tt) b k → IsOut a b k bytes
+pub from_empty : {a b : Option (List ℕ)} {held bytes k : List ℕ} → held ≡ []
+    → Puts a held bytes (Ok tt) b k → IsOut a b k bytes
 from_empty {a} e p = p.follow a [] (subst (λ l. IsOut a a l []) (sym e) (is_out a))
 
-pub from_empty_front : {a b : Option (List ℕ)} {held bytes k : List ℕ} {fault : Fault} → held ≡ [] → Puts a held bytes (Err fault) b k → AppendsFront a b bytes
+pub from_empty_front : {a b : Option (List ℕ)} {held bytes k : List ℕ} {fault : Fault} → held ≡ []
+    → Puts a held bytes (Err fault) b k → AppendsFront a b bytes
 from_empty_front {a} e p = p.follow.1 a [] (subst (λ l. IsOut a a l []) (sym e) (is_out a))

@@ -1,64 +1,59 @@
 -- Steps of a layout.
-use Rattle.std.proofs.Common.{◌≡◌, ℕ, suc, ◌+◌, ◌^◌, ◌<◌, ◌≤◌, false, List, [], ◌∷◌, ◌++◌, length, map, refl, ap, sym, ◌∙◌, subst, arith, append-nil}
+use Rattle.std.proofs.Common.{◌≡◌, ℕ, suc, ◌+◌, ◌^◌, ◌<◌, ◌≤◌, false, None, List, [], ◌∷◌, ◌++◌, length, map, refl, ap, sym, ◌∙◌, arith, append-nil}
 use Rattle.std.specs.List.{AllByRecursion}
-use Rattle.plist_base.specs.Events as events
-use Rattle.plist_base.specs.Events.{PlainEvent}
-use Rattle.plist_base.specs.Bracketing.{event_of_scalar}
+use Rattle.plist_base.specs.Events.{PlainEvent, Single, StartArray, StartDictionary, EndCollection}
 use Rattle.plist_base.specs.Trees as trees
 use Rattle.plist_binwrite.specs.declared.kinds.Kind.{Kind}
 use Rattle.plist_binwrite.specs.declared.kinds.Kind.TheVariants as kind
-use Rattle.plist_binwrite.specs.Marks.{Scalar, Ev, start_array, start_dictionary, stop, leaf, mark_of, Tree, Leaf, Array, Dictionary, Trees, NoTrees, TreeAnd, Members, NoMembers, MemberAnd, br, br_items, br_pairs, size, Sits, SitsItems, SitsPairs}
+use Rattle.plist_base.specs.Trees.{Scalar, Tree, Leaf, Array, Dictionary, Trees, NoTrees, TreeAnd, Members, NoMembers, MemberAnd}
+use Rattle.plist_base.specs.Bracketing.{unhinted, shape, shape_of_items, shape_of_pairs}
+use Rattle.plist_binwrite.specs.Standing.{size, Sits, SitsItems, SitsPairs}
 use Rattle.plist_binwrite.specs.Numberings.{refs, pairs, obj_of}
-use Rattle.plist_binwrite.specs.Forms.{form, scalar_form, length_form, table_form, keys_of, values_of, IsWritable, IsWritableScalar, AllFit}
-use Rattle.plist_binwrite.specs.Held.{is_stop, kind_of, event_at, item_places, key_places, value_places, keys_in, values_in, num_of, AllNumbered, IsBracketed, IsScalarEvent}
+use Rattle.plist_binwrite.specs.Forms.{form, length_form, table_form, keys_of, values_of, IsWritable, AllFit}
+use Rattle.plist_binwrite.specs.Held.{is_stop, kind_of, event_at, item_places, key_places, value_places, keys_in, values_in, num_of, AllNumbered, IsBracketed}
 use Rattle.plist_binwrite.proofs.Sitting.{sits_items, sits_pairs, sits_item, sits_next, sits_key, sits_value, sits_next_pair}
 use Rattle.plist_binwrite.proofs.Skipping.{first_event, begins, sits_within, size_positive}
 use Rattle.plist_binwrite.proofs.Inside.{inside}
 
 -- ---- references fit
 
-module _ (es : List Ev) (numbers : List ℕ) (count w : ℕ) (all : AllNumbered es numbers count) (wide : count ≤ 256 ^ w) where
+module _ (es : List PlainEvent) (numbers : List ℕ) (count w : ℕ)
+    (all : AllNumbered es numbers count) (wide : count ≤ 256 ^ w) where
   number_fits : (t : Tree) (p : ℕ) → Sits es t p → num_of numbers p < 256 ^ w
-  number_fits t p s = omega (arith, wide, all p (omega (arith, sits_within s, size_positive t)) (begins t p s))
+  number_fits t p s =
+      omega (arith, wide, all p (omega (arith, sits_within s, size_positive t)) (begins t p s))
 
   refs_fit : (ts : Trees) (q : ℕ) → SitsItems es ts q → AllFit w (refs (num_of numbers) ts q)
   refs_fit NoTrees q s = tt
-  refs_fit (TreeAnd t ts) q s = (number_fits t q (sits_item s), refs_fit ts (q + size t) (sits_next s))
+  refs_fit (TreeAnd t ts) q s =
+      (number_fits t q (sits_item s), refs_fit ts (q + size t) (sits_next s))
 
-  keys_fit : (ms : Members) (q : ℕ) → SitsPairs es ms q → AllFit w (keys_of (pairs (num_of numbers) ms q))
+  keys_fit : (ms : Members) (q : ℕ) → SitsPairs es ms q
+      → AllFit w (keys_of (pairs (num_of numbers) ms q))
   keys_fit NoMembers q s = tt
-  keys_fit (MemberAnd k t ms) q s = (number_fits (Leaf (trees.String k)) q (sits_key s), keys_fit ms (q + 1 + size t) (sits_next_pair s))
+  keys_fit (MemberAnd k t ms) q s = (
+    number_fits (Leaf (trees.String k)) q (sits_key s),
+    keys_fit ms (q + 1 + size t)
+        (sits_next_pair s),
+  )
 
-  values_fit : (ms : Members) (q : ℕ) → SitsPairs es ms q → AllFit w (values_of (pairs (num_of numbers) ms q))
+  values_fit : (ms : Members) (q : ℕ) → SitsPairs es ms q
+      → AllFit w (values_of (pairs (num_of numbers) ms q))
   values_fit NoMembers q s = tt
-  values_fit (MemberAnd k t ms) q s = (number_fits t (q + 1) (sits_value s), values_fit ms (q + 1 + size t) (sits_next_pair s))
+  values_fit (MemberAnd k t ms) q s =
+      (number_fits t (q + 1) (sits_value s), values_fit ms (q + 1 + size t) (sits_next_pair s))
 
 -- ---- forms by places
 
 pub no_kind : (v a b : Kind) → v ≡ a → v ≡ b → (a ≡ b → ⊥) → ⊥
 no_kind v a b p q h = h (sym p ∙ q)
 
--- what a scalar is by its mark
-pub mark_scalar : (e : PlainEvent) (x : Scalar) → mark_of e ≡ leaf x → e ≡ event_of_scalar x
-mark_scalar (events.StartArray n) x h = absurd (cc)
-mark_scalar (events.StartDictionary n) x h = absurd (cc)
-mark_scalar events.EndCollection x h = absurd (cc)
-mark_scalar (events.Boolean v) x h = let k : trees.Boolean v ≡ x = cc in ap event_of_scalar k
-mark_scalar (events.Data v) x h = let k : trees.Data v ≡ x = cc in ap event_of_scalar k
-mark_scalar (events.Date v) x h = let k : trees.Date v ≡ x = cc in ap event_of_scalar k
-mark_scalar (events.Integer v) x h = let k : trees.Integer v ≡ x = cc in ap event_of_scalar k
-mark_scalar (events.Real v) x h = let k : trees.Real v ≡ x = cc in ap event_of_scalar k
-mark_scalar (events.String v) x h = let k : trees.String v ≡ x = cc in ap event_of_scalar k
-mark_scalar (events.Uid v) x h = let k : trees.Uid v ≡ x = cc in ap event_of_scalar k
-
-is_scalar : (x : Scalar) → IsScalarEvent (event_of_scalar x)
-is_scalar (trees.Boolean v) = tt
-is_scalar (trees.Data v) = tt
-is_scalar (trees.Date v) = tt
-is_scalar (trees.Integer v) = tt
-is_scalar (trees.Real v) = tt
-is_scalar (trees.String v) = tt
-is_scalar (trees.Uid v) = tt
+-- a scalar has no length
+pub scalar_is : (e : PlainEvent) (x : Scalar) → unhinted e ≡ Single x → e ≡ Single x
+scalar_is (StartArray n) x h = absurd (cc)
+scalar_is (StartDictionary n) x h = absurd (cc)
+scalar_is EndCollection x h = absurd (cc)
+scalar_is (Single y) x h = h
 
 module _ (num : ℕ → ℕ) where
   pub refs_are : (ts : Trees) (q : ℕ) → refs num ts q ≡ map num (item_places ts q)
@@ -83,42 +78,68 @@ module _ (num : ℕ → ℕ) where
 
   -- the form of a collection, by the places of its children
   abbrev pub form_by : (w high : ℕ) → Tree → ℕ → List ℕ
-  form_by w high t p = length_form high (length (values_in t p)) ++ (table_form w (map num (keys_in t p)) ++ table_form w (map num (values_in t p)))
+  form_by w high t p =
+      length_form high (length (values_in t p)) ++ (table_form w
+      (map num (keys_in t p)) ++ table_form w (map num (values_in t p)))
 
-  pub array_by : {es : List Ev} (w : ℕ) (t : Tree) (p : ℕ) → Sits es t p → kind_of (event_at es p) ≡ kind.Array → form_by w 0xa t p ≡ form w (obj_of num t p)
-  array_by {es} w (Leaf x) p s k = absurd (no_kind (kind_of (event_at es p)) kind.Array kind.Scalar k (ap kind_of (first_event es p (leaf x) s.rest s.is)) (λ e. cc))
-  array_by {es} w (Array ts) p s k = sym (λ i. length_form 0xa (length-refs ts (p + 1) i) ++ table_form w (refs_are ts (p + 1) i))
-  array_by {es} w (Dictionary ms) p s k = absurd (no_kind (kind_of (event_at es p)) kind.Array kind.Dictionary k (ap kind_of (first_event es p start_dictionary ((br_pairs ms ++ stop ∷ []) ++ s.rest) s.is)) (λ e. cc))
+  pub array_by : {es : List PlainEvent} (w : ℕ) (t : Tree) (p : ℕ) → Sits es t p
+      → kind_of (event_at es p) ≡ kind.Array → form_by w 0xa t p ≡ form w (obj_of num t p)
+  array_by {es} w (Leaf x) p s k =
+      absurd (no_kind (kind_of (event_at es p)) kind.Array kind.Scalar k
+      (ap kind_of (first_event es p (Single x) s.rest s.is)) (λ e. cc))
+  array_by {es} w (Array ts) p s k =
+      sym (λ i. length_form 0xa (length-refs ts (p + 1) i) ++ table_form w (refs_are ts (p + 1) i))
+  array_by {es} w (Dictionary ms) p s k =
+      absurd (no_kind (kind_of (event_at es p)) kind.Array kind.Dictionary k
+      (ap kind_of (first_event es p (StartDictionary None)
+      ((shape_of_pairs ms ++ EndCollection ∷ []) ++ s.rest) s.is)) (λ e. cc))
 
-  pub dictionary_by : {es : List Ev} (w : ℕ) (t : Tree) (p : ℕ) → Sits es t p → kind_of (event_at es p) ≡ kind.Dictionary → form_by w 0xd t p ≡ form w (obj_of num t p)
-  dictionary_by {es} w (Leaf x) p s k = absurd (no_kind (kind_of (event_at es p)) kind.Dictionary kind.Scalar k (ap kind_of (first_event es p (leaf x) s.rest s.is)) (λ e. cc))
-  dictionary_by {es} w (Array ts) p s k = absurd (no_kind (kind_of (event_at es p)) kind.Dictionary kind.Array k (ap kind_of (first_event es p start_array ((br_items ts ++ stop ∷ []) ++ s.rest) s.is)) (λ e. cc))
+  pub dictionary_by : {es : List PlainEvent} (w : ℕ) (t : Tree) (p : ℕ) → Sits es t p
+      → kind_of (event_at es p) ≡ kind.Dictionary → form_by w 0xd t p ≡ form w (obj_of num t p)
+  dictionary_by {es} w (Leaf x) p s k =
+      absurd (no_kind (kind_of (event_at es p)) kind.Dictionary kind.Scalar k
+      (ap kind_of (first_event es p (Single x) s.rest s.is)) (λ e. cc))
+  dictionary_by {es} w (Array ts) p s k =
+      absurd (no_kind (kind_of (event_at es p)) kind.Dictionary kind.Array k
+      (ap kind_of (first_event es p (StartArray None)
+      ((shape_of_items ts ++ EndCollection ∷ []) ++ s.rest) s.is)) (λ e. cc))
   dictionary_by {es} w (Dictionary ms) p s k =
-      sym (λ i. length_form 0xd (length-pairs ms (p + 1) i) ++ (table_form w (keys_are ms (p + 1) i) ++ table_form w (values_are ms (p + 1) i)))
-
-  -- where no collection begins, a scalar stands
-  pub scalar_by : {es : List Ev} (w : ℕ) (t : Tree) (p : ℕ) (e : PlainEvent) → Sits es t p → event_at es p ≡ mark_of e → (kind_of (event_at es p) ≡ kind.Array → ⊥) → (kind_of (event_at es p) ≡ kind.Dictionary → ⊥)
-      → (IsScalarEvent e → IsWritableScalar e) → (scalar_form e ≡ form w (obj_of num t p)) × IsWritable w (obj_of num t p)
-  scalar_by {es} w (Leaf x) p e s is a b h =
-      let same : e ≡ event_of_scalar x = mark_scalar e x (sym is ∙ first_event es p (leaf x) s.rest s.is) in
-      (ap scalar_form same, subst IsWritableScalar same (h (subst IsScalarEvent (sym same) (is_scalar x))))
-  scalar_by {es} w (Array ts) p e s is a b h = absurd (a (ap kind_of (first_event es p start_array ((br_items ts ++ stop ∷ []) ++ s.rest) s.is)))
-  scalar_by {es} w (Dictionary ms) p e s is a b h = absurd (b (ap kind_of (first_event es p start_dictionary ((br_pairs ms ++ stop ∷ []) ++ s.rest) s.is)))
+      sym (λ i. length_form 0xd (length-pairs ms (p + 1) i) ++ (table_form w
+      (keys_are ms (p + 1) i) ++ table_form w (values_are ms (p + 1) i)))
 
 -- a collection whose children are numbered can be written
-pub collection_fits : (es : List Ev) (numbers : List ℕ) (count w : ℕ) → AllNumbered es numbers count → count ≤ 256 ^ w → (t : Tree) (p : ℕ) → Sits es t p → (kind_of (event_at es p) ≡ kind.Scalar → ⊥) → length (values_in t p) < 2 ^ 64 → IsWritable w (obj_of (num_of numbers) t p)
-collection_fits es numbers count w all wide (Leaf x) p s k few = absurd (k (ap kind_of (first_event es p (leaf x) s.rest s.is)))
-collection_fits es numbers count w all wide (Array ts) p s k few = (omega (arith, length-refs (num_of numbers) ts (p + 1)), refs_fit es numbers count w all wide ts (p + 1) (sits_items s))
-collection_fits es numbers count w all wide (Dictionary ms) p s k few =
-    (omega (arith, length-pairs (num_of numbers) ms (p + 1)), keys_fit es numbers count w all wide ms (p + 1) (sits_pairs s), values_fit es numbers count w all wide ms (p + 1) (sits_pairs s))
+pub collection_fits : (es : List PlainEvent) (numbers : List ℕ) (count w : ℕ)
+    → AllNumbered es numbers count → count ≤ 256 ^ w → (t : Tree) (p : ℕ) → Sits es t p
+    → (kind_of (event_at es p) ≡ kind.Scalar → ⊥) → length (values_in t p) < 2 ^ 64
+    → IsWritable w (obj_of (num_of numbers) t p)
+collection_fits es numbers count w all wide (Leaf x) p s k few =
+    absurd (k (ap kind_of (first_event es p (Single x) s.rest s.is)))
+collection_fits es numbers count w all wide (Array ts) p s k few = (
+  omega (arith, length-refs (num_of numbers) ts (p + 1)),
+  refs_fit es numbers count w all wide ts
+      (p + 1) (sits_items s),
+)
+collection_fits es numbers count w all wide (Dictionary ms) p s k few = (
+  omega (
+    arith,
+    length-pairs (num_of numbers) ms
+        (p + 1),
+  ),
+  keys_fit es numbers count w all wide ms (p + 1)
+      (sits_pairs s),
+  values_fit es numbers count w all wide ms (p + 1) (sits_pairs s),
+)
 
 -- ---- one step
 
 -- in the events of a tree, each that isn't an end begins one
-pub sits_at : (es : List Ev) → IsBracketed es → (p : ℕ) → p < length es → is_stop (event_at es p) ≡ false → (u : Tree) × Sits es u p
+pub sits_at : (es : List PlainEvent) → IsBracketed es → (p : ℕ) → p < length es
+    → is_stop (event_at es p) ≡ false → (u : Tree) × Sits es u p
 sits_at es (t, e) p lt b =
     let len : length es ≡ size t = ap length e in
-    (inside es (λ q. Unit {0}) (λ u r s q. (all_units (keys_in u r), all_units (values_in u r))) t 0 (record { rest = []; is = e ∙ sym (append-nil (br t)) }) tt p (omega arith) (omega arith) b).1
+    (inside es (λ q. Unit {0}) (λ u r s q. (all_units (keys_in u r), all_units (values_in u r))) t 0
+    (record { rest = []; is = e ∙ sym (append-nil (shape t)) }) tt p (omega arith)
+    (omega arith) b).1
   where
     all_units : (ps : List ℕ) → AllByRecursion (λ q. Unit {0}) ps
     all_units [] = tt

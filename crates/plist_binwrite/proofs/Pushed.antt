@@ -11,11 +11,13 @@ pub length_short : (high count : ℕ) → count < 15 → length_form high count 
 unfolding length_form
 length_short high count h = rw (lt-ltb count 15 h) refl
 
-pub length_long : (high count : ℕ) → 15 ≤ count → length_form high count ≡ (high * 16 + 15) ∷ natural_form count
+pub length_long : (high count : ℕ) → 15 ≤ count
+    → length_form high count ≡ (high * 16 + 15) ∷ natural_form count
 unfolding length_form
 length_long high count h = rw (le-ltb count 15 h) refl
 
-pub integer_small : (z : ℤ) (n : ℕ) → pos n ≡ z → z <ℤ pos (2 ^ 63) → natural_form n ≡ integer_form z
+pub integer_small : (z : ℤ) (n : ℕ) → pos n ≡ z → z <ℤ pos (2 ^ 63)
+    → natural_form n ≡ integer_form z
 integer_small (pos m) n e h =
     let same : n ≡ m = omega (arith, ints, e) in
     let small : m < 2 ^ 63 = omega (arith, ints) in
@@ -39,17 +41,22 @@ wide_is n h =
       high_zero 8 n (omega arith),
     ) refl
 
-pub integer_wide : (z : ℤ) (n : ℕ) → pos n ≡ z → pos (2 ^ 63) ≤ℤ z → 0x14 ∷ big_endian 16 n ≡ integer_form z
+pub integer_wide : (z : ℤ) (n : ℕ) → pos n ≡ z → pos (2 ^ 63) ≤ℤ z
+    → 0x14 ∷ big_endian 16 n ≡ integer_form z
 integer_wide (pos m) n e h =
     let same : n ≡ m = omega (arith, ints, e) in
     let large : 2 ^ 63 ≤ m = omega (arith, ints) in
     rw (same, le-ltb m (2 ^ 63) large) refl
 integer_wide (negsuc m) n e h = absurd (omega (arith, ints, e))
 
-pub integer_negative : (z : ℤ) → z <ℤ pos 0 → 0x13 ∷ big_endian 8 (cast_unsigned w64 z) ≡ integer_form z
+pub integer_negative : (z : ℤ) → z <ℤ pos 0 → 0x13 ∷ big_endian 8 (cast_unsigned w64 z)
+    ≡ integer_form z
 integer_negative (pos m) h = absurd (omega (arith, ints))
 integer_negative (negsuc m) h = refl
 
 -- the table and the trailer behind the objects
-pub ending_is : (places : List ℕ) (table w r n : ℕ) → w ≡ offset_width table → r ≡ reference_width (length places) → n ≡ length places → table_form w places ++ trailer_form w r n table ≡ ending places table
-ending_is places table w r n a b c = λ i. table_form (a i) places ++ trailer_form (a i) (b i) (c i) table
+pub ending_is : (places : List ℕ) (table w r n : ℕ) → w ≡ offset_width table
+    → r ≡ reference_width (length places) → n ≡ length places
+    → table_form w places ++ trailer_form w r n table ≡ ending places table
+ending_is places table w r n a b c =
+    λ i. table_form (a i) places ++ trailer_form (a i) (b i) (c i) table

@@ -4,7 +4,7 @@ use Rattle.std.specs.Io.KnownBytes.{Appends}
 use Rattle.std.specs.List.{list_any}
 use Rattle.plist_base.specs.declared.error.Error.{Error}
 use Rattle.plist_base.specs.declared.event.Event.{Event}
-use Rattle.plist_base.specs.Bracketing.{AreWhole}
+use Rattle.plist_base.specs.Bracketing.{AreWhole, shape}
 use Rattle.plist_base.specs.Faults.{Io, fault_of, fault_nowhere}
 use Rattle.plist_base.specs.Writing.{Answer, answer_of}
 use Rattle.plist_base.proofs.Grammar.{complete_of_whole}
@@ -12,70 +12,112 @@ use Rattle.plist_binread.specs.Container.{magic}
 use Rattle.plist_binread.specs.Object.{Object}
 use Rattle.plist_binwrite.specs.declared.completion.Ready.{Ready}
 use Rattle.plist_binwrite.specs.declared.plan.Plan.{Plan}
-use Rattle.plist_binwrite.specs.Ending.{IsTreeFile, numbers_in, file_of, IsReady, SendsReady}
-use Rattle.plist_binwrite.specs.Fronts.{AppendsFront}
+use Rattle.plist_binwrite.specs.Classes.{IsFileBy, Fits, SendsBy, size_by}
+use Rattle.plist_binwrite.specs.Ending.{numbers_in, file_of, IsReady, IsReadyBy, SendsReady}
+use Rattle.plist_base.specs.Fronts.{AppendsFront}
 use Rattle.plist_binwrite.specs.Outlets.{IsOut}
-use Rattle.plist_binwrite.specs.Held.{evs, AllBelow, Describes}
+use Rattle.plist_binwrite.specs.Held.{plain_events, AllBelow, Describes}
 use Rattle.plist_binwrite.specs.Laying.{IsOrder, laid_out, closed}
-use Rattle.plist_binwrite.specs.Marks.{Ev, Tree, br}
-use Rattle.plist_binwrite.specs.Pendings.{plain_events}
-use Rattle.plist_binwrite.specs.Planning.{IsPlanned, count_of, numbers_of, firsts_of}
-use Rattle.plist_binwrite.specs.Sending.{IsFileOfEvents, Sends}
-use Rattle.plist_binwrite.specs.Sizes.{Fits}
+use Rattle.plist_base.specs.Events.{PlainEvent}
+use Rattle.plist_base.specs.Trees.{Tree}
+use Rattle.plist_binwrite.specs.Planning.{IsPlanned, GoesBy, count_of, numbers_of, firsts_of}
+use Rattle.plist_binwrite.specs.SendingAs.{IsFileOfEvents}
 use Rattle.plist_binwrite.specs.Written.{Laid, reference_width, bodies, ending}
 use Rattle.plist_binwrite.proofs.Finished.{finish, some_objects}
-use Rattle.plist_binwrite.proofs.Least.{least}
-use Rattle.plist_binwrite.proofs.Marked.{evs_alike}
+use Rattle.plist_binwrite.proofs.Unhinted.{plain_shape}
 use Rattle.plist_binwrite.proofs.Placing.{any_at}
 use Rattle.plist_binwrite.proofs.Sends.{sends_io}
 
-module _ (es : List Ev) (plan : Plan) (order now marks places : List ℕ) (table : ℕ) (same : now ≡ order) (p : IsPlanned es plan) (o : IsOrder (count_of plan) order marks)
-    (all : (k : ℕ) → k < count_of plan → list_any (eqb k) order ≡ true) (long : length places ≡ count_of plan)
-    (at : (objects : ℕ → Object) → Describes es (numbers_of plan) objects → table ≡ length (laid_out (reference_width (count_of plan)) objects now))
-    (laid : (objects : ℕ → Object) → Describes es (numbers_of plan) objects → Laid (reference_width (count_of plan)) objects places now 8) (fits : Fits es) where
+module _ (es : List PlainEvent) (plan : Plan) (order now marks places : List ℕ) (table : ℕ)
+    (same : now ≡ order) (p : IsPlanned es plan) (o : IsOrder (count_of plan) order marks)
+    (all : (k : ℕ) → k < count_of plan → list_any (eqb k) order ≡ true)
+    (long : length places ≡ count_of plan)
+    (at : (objects : ℕ → Object) → Describes es (numbers_of plan) objects
+    → table ≡ length (laid_out (reference_width (count_of plan)) objects now))
+    (laid : (objects : ℕ → Object) → Describes es (numbers_of plan) objects
+    → Laid (reference_width (count_of plan)) objects places now 8) (fits : (class : ℕ → ℕ)
+    → GoesBy es class plan → Fits class es) where
   pub ready_order : AllBelow (count_of plan) order
   ready_order i h = o.below (get_or order i 0) (any_at order i h)
 
-  pub ready_table : (objects : ℕ → Object) → Describes es (numbers_of plan) objects → table ≡ length (laid_out (reference_width (length places)) objects order)
-  ready_table objects d = at objects d ∙ (λ i. length (laid_out (reference_width (sym long i)) objects (same i)))
+  pub ready_table : (objects : ℕ → Object) → Describes es (numbers_of plan) objects
+      → table ≡ length (laid_out (reference_width (length places)) objects order)
+  ready_table objects d =
+      at objects d ∙ (λ i. length (laid_out (reference_width (sym long i)) objects (same i)))
 
-  pub ready_file : (objects : ℕ → Object) → Describes es (numbers_of plan) objects → (t : Tree) → es ≡ br t → IsTreeFile t (closed (laid_out (reference_width (length places)) objects order) places)
-  ready_file objects d t e =
-      finish es t (numbers_of plan) (firsts_of plan) order places objects e p.numbered p.all p.root d o.distinct o.below all
-      (subst (λ l. Laid (reference_width (length places)) objects places l 8) same (subst (λ n. Laid (reference_width n) objects places now 8) (sym long) (laid objects d)))
-      long (fits t e) (omega (arith, long, p.numbered.small))
+  pub ready_file : (objects : ℕ → Object) → Describes es (numbers_of plan) objects → (class : ℕ → ℕ)
+      → GoesBy es class plan → (t : Tree) → es ≡ shape t
+      → IsFileBy class t (closed (laid_out (reference_width (length places)) objects order) places)
+  ready_file objects d class goes t e =
+      finish es t class p.class (numbers_of plan)
+      (firsts_of plan) order places objects e goes p.numbered p.classes p.all p.root d o.distinct
+      o.below all
+      (subst (λ l. Laid (reference_width (length places)) objects places l 8) same
+      (subst (λ n. Laid (reference_width n) objects places now 8) (sym long) (laid objects d)))
+      long (fits class goes t e) (omega (arith, long, p.numbered.small))
 
 -- the parts that are put, one behind the other
-pub file_is : (objects : ℕ → Object) (order now places offsets : List ℕ) (table width : ℕ) → now ≡ order → offsets ≡ places → width ≡ reference_width (length offsets)
-    → table ≡ length (laid_out (reference_width (length places)) objects order) → magic ++ (bodies width objects now ++ ending offsets table) ≡ closed (laid_out (reference_width (length places)) objects order) places
+pub file_is : (objects : ℕ → Object) (order now places offsets : List ℕ) (table width : ℕ)
+    → now ≡ order → offsets ≡ places → width ≡ reference_width (length offsets)
+    → table ≡ length (laid_out (reference_width (length places)) objects order)
+    → magic ++ (bodies width objects now ++ ending offsets table)
+    ≡ closed (laid_out (reference_width (length places)) objects order) places
 file_is objects order now places offsets table width a b wide e =
-    (λ i. magic ++ (bodies ((wide ∙ ap (λ l. reference_width (length l)) b) i) objects (a i) ++ ending (b i) table))
-    ∙ sym (append_assoc magic (bodies (reference_width (length places)) objects order) (ending places table)) ∙ ap (λ n. laid_out (reference_width (length places)) objects order ++ ending places n) e
+    (λ i. magic ++ (bodies ((wide ∙ ap (λ l. reference_width (length l)) b) i) objects
+    (a i) ++ ending (b i) table))
+    ∙ sym (append_assoc magic (bodies (reference_width (length places)) objects order)
+    (ending places table))
+    ∙ ap (λ n. laid_out (reference_width (length places)) objects order ++ ending places n) e
 
 -- what waits goes out at the end
-pub sends_end : {W : Type 0} (contents : W → Option (List ℕ)) (es : List Ev) (ready : Ready) (old middle new : W) (waiting : List ℕ) (answer : Result (Unit {0}) Error)
-    → OnOk answer ((first : Option (List ℕ)) (done : List ℕ) → IsOut first (contents middle) waiting done → Appends first (contents new) done)
-    → ((first : Option (List ℕ)) (done : List ℕ) → IsOut first (contents middle) waiting done → AppendsFront first (contents new) done) → IfErr answer (λ error. fault_of error ≡ fault_nowhere Io)
-    → ((objects : ℕ → Object) → Describes es (numbers_in ready) objects → IsOut (contents old) (contents middle) waiting (file_of ready objects)) → SendsReady contents es ready (answer_of answer) old new
-sends_end contents es ready old middle new waiting (Ok done) sent front failed out = λ objects d. sent (contents old) (file_of ready objects) (out objects d)
-sends_end contents es ready old middle new waiting (Err error) sent front failed out = (failed, λ objects d. front (contents old) (file_of ready objects) (out objects d))
+pub sends_end : {W : Type 0} (contents : W → Option (List ℕ)) (es : List PlainEvent) (ready : Ready)
+    (old middle new : W) (waiting : List ℕ) (answer : Result (Unit {0}) Error)
+    → OnOk answer ((first : Option (List ℕ)) (done : List ℕ)
+    → IsOut first (contents middle) waiting done → Appends first (contents new) done)
+    → ((first : Option (List ℕ)) (done : List ℕ) → IsOut first (contents middle) waiting done
+    → AppendsFront first (contents new) done)
+    → IfErr answer (λ error. fault_of error ≡ fault_nowhere Io)
+    → ((objects : ℕ → Object) → Describes es (numbers_in ready) objects
+    → IsOut (contents old) (contents middle) waiting (file_of ready objects))
+    → SendsReady contents es ready (answer_of answer) old new
+sends_end contents es ready old middle new waiting (Ok done) sent front failed out =
+    λ objects d. sent (contents old) (file_of ready objects) (out objects d)
+sends_end contents es ready old middle new waiting (Err error) sent front failed out =
+    (failed, λ objects d. front (contents old) (file_of ready objects) (out objects d))
 
 -- a plan has objects
-pub with_objects : (es : List Ev) (ready : Ready) (P : Type 0) → IsReady es ready → ((objects : ℕ → Object) → Describes es (numbers_in ready) objects → P) → P
-with_objects es ready P r h = let o = some_objects es (numbers_in ready) (firsts_of ready.plan) r.planned.whole r.planned.numbered r.planned.all in h o.0 o.1
+pub with_objects : (es : List PlainEvent) (ready : Ready) (P : Type 0) → IsReady es ready
+    → ((objects : ℕ → Object) → Describes es (numbers_in ready) objects → P) → P
+with_objects es ready P r h =
+    let o = some_objects es r.planned.class (numbers_in ready)
+    (firsts_of ready.plan) r.planned.whole r.planned.classes r.planned.numbered r.planned.all in h
+    o.0 o.1
 
 -- ---- what goes out
 
-module _ {W : Type 0} (contents : W → Option (List ℕ)) (events : List Event) (ready : Ready) (old new : W) (whole : AreWhole (plain_events events)) (r : IsReady (evs events) ready) where
-  objects : (of : ℕ → Object) × Describes (evs events) (numbers_in ready) of
-  objects = some_objects (evs events) (numbers_in ready) (firsts_of ready.plan) r.planned.whole r.planned.numbered r.planned.all
+module _ {W : Type 0} (contents : W → Option (List ℕ)) (events : List Event) (class : ℕ
+    → ℕ) (ready : Ready) (old new : W) (whole : AreWhole (plain_events events))
+    (b : IsReadyBy (plain_events events) class ready) where
+  abbrev r : IsReady (plain_events events) ready
+  r = b.all
 
-  is_file : IsFileOfEvents (plain_events events) (file_of ready objects.0)
+  objects : (of : ℕ → Object) × Describes (plain_events events) (numbers_in ready) of
+  objects =
+      some_objects (plain_events events) r.planned.class (numbers_in ready)
+      (firsts_of ready.plan) r.planned.whole r.planned.classes r.planned.numbered r.planned.all
+
+  is_file : IsFileOfEvents (IsFileBy class) (size_by class) (plain_events events)
+      (file_of ready objects.0)
   is_file = (
     complete_of_whole (plain_events events) whole,
-    λ t alike. let f = r.file objects.0 objects.1 t (evs_alike events t alike) in record { written = f.written; once = f.once; count = f.count; least = least t; size = f.size; fits = f.fits },
+    λ t alike. r.file objects.0 objects.1 class
+        b.goes t (plain_shape events t alike),
   )
 
-  pub ready_sends : (answer : Answer) → SendsReady contents (evs events) ready answer old new → Sends contents (plain_events events) answer old new
+  pub ready_sends : (answer : Answer) → SendsReady contents
+      (plain_events events) ready answer old new
+      → SendsBy class contents (plain_events events) answer old new
   ready_sends (Ok done) s = (file_of ready objects.0, is_file, s objects.0 objects.1)
-  ready_sends (Err fault) s = sends_io contents (plain_events events) fault old new (file_of ready objects.0) s.0 is_file (s.1 objects.0 objects.1)
+  ready_sends (Err fault) s =
+      sends_io (IsFileBy class) (size_by class) contents (plain_events events) fault old new
+      (file_of ready objects.0) s.0 is_file (s.1 objects.0 objects.1)

@@ -16,8 +16,7 @@ use Rattle.std.proofs.Math.Seq.{take-append_seam, drop-append_seam}
 use Rattle.std.proofs.Math.Nat.{mul-div_cancel}
 use Rattle.plist_base.specs.declared.real.RealBits.{RealBits}
 use Rattle.plist_base.specs.declared.real.RealBits.TheVariants.{Four, Eight}
-use Rattle.plist_base.specs.Events as event
-use Rattle.plist_base.specs.Events.{PlainEvent}
+use Rattle.plist_base.specs.Trees as trees
 use Rattle.plist_binread.specs.Container.{number_of, number_at, numbers_of}
 use Rattle.plist_binread.specs.Object.{Object, Scalar, Array, Dictionary, Faulty, Counted, layout_of, length_in, length_that_follows, meaning_of_front, meaning_counted, object_behind, object_in, signed, unsigned_integer, signed_integer, text, wide_text, text_of_units, dictionary, wide_integer, integer_in_range, date, date_if_any}
 use Rattle.plist_binread.proofs.Markers.{layout-data, layout-text, layout-wide_text, layout-array, layout-dictionary}
@@ -28,31 +27,44 @@ use Rattle.plist_binwrite.proofs.Widths.{IsWidth, one, two, four, eight, cases_w
 
 -- ---- fixed sizes
 
-front : (size : ℕ) (meaning : List ℕ → Object) (content rest : List ℕ) → length content ≡ size → meaning_of_front size meaning (content ++ rest) ≡ meaning content
+front : (size : ℕ) (meaning : List ℕ → Object) (content rest : List ℕ) → length content ≡ size
+    → meaning_of_front size meaning (content ++ rest) ≡ meaning content
 front size meaning content rest e =
-    rw (← e, le-leb (length content) (length (content ++ rest)) (omega (arith, length-append content rest)), take-append_seam content rest) refl
+    rw (
+      ← e,
+      le-leb (length content) (length (content ++ rest))
+          (omega (arith, length-append content rest)),
+      take-append_seam content rest,
+    ) refl
 
 -- ---- integers
 
-number_front : (w n : ℕ) (rest : List ℕ) → n < 256 ^ w → meaning_of_front w unsigned_integer (big_endian w n ++ rest) ≡ Scalar (event.Integer (pos n))
-number_front w n rest h = front w unsigned_integer (big_endian w n) rest (length-big_endian w n) ∙ ap (λ k. Scalar (event.Integer (pos k))) (number_back w n h)
+number_front : (w n : ℕ) (rest : List ℕ) → n < 256 ^ w
+    → meaning_of_front w unsigned_integer (big_endian w n ++ rest) ≡ Scalar (trees.Integer (pos n))
+number_front w n rest h =
+    front w unsigned_integer (big_endian w n) rest (length-big_endian w n)
+    ∙ ap (λ k. Scalar (trees.Integer (pos k))) (number_back w n h)
 
 signed_low : (n : ℕ) → n < 2 ^ 63 → signed 64 n ≡ pos n
 signed_low n h = rw (lt-ltb n (2 ^ 63) h) refl
 
-natural_read : (width n : ℕ) (rest : List ℕ) → n < 2 ^ 63 → object_in width (natural_form n ++ rest) ≡ Scalar (event.Integer (pos n))
+natural_read : (width n : ℕ) (rest : List ℕ) → n < 2 ^ 63
+    → object_in width (natural_form n ++ rest) ≡ Scalar (trees.Integer (pos n))
 unfolding object_in
 natural_read width n rest h =
     let c = cases_width n in
-    ap (λ w. object_in width ((0x10 + doublings w) ∷ big_endian w n ++ rest)) c.1 ∙ by c.2 (c.3 (omega arith))
+    ap (λ w. object_in width ((0x10 + doublings w) ∷ big_endian w n ++ rest)) c.1
+    ∙ by c.2 (c.3 (omega arith))
   where
-    by : {w : ℕ} → IsWidth w → n < 256 ^ w → object_in width ((0x10 + doublings w) ∷ big_endian w n ++ rest) ≡ Scalar (event.Integer (pos n))
+    by : {w : ℕ} → IsWidth w → n < 256 ^ w → object_in width
+        ((0x10 + doublings w) ∷ big_endian w n ++ rest) ≡ Scalar (trees.Integer (pos n))
     by one small = number_front 1 n rest small
     by two small = number_front 2 n rest small
     by four small = number_front 4 n rest small
     by eight small =
         front 8 signed_integer (big_endian 8 n) rest (length-big_endian 8 n)
-        ∙ ap (λ k. Scalar (event.Integer (signed 64 k))) (number_back 8 n small) ∙ ap (λ z. Scalar (event.Integer z)) (signed_low n h)
+        ∙ ap (λ k. Scalar (trees.Integer (signed 64 k))) (number_back 8 n small)
+        ∙ ap (λ z. Scalar (trees.Integer z)) (signed_low n h)
 
 natural_not_wide : (n : ℕ) → n < 2 ^ 63 → n < 2 ^ 64
 natural_not_wide n h = omega arith
@@ -63,34 +75,45 @@ signed_negative m h = rw (le-ltb (2 ^ 64 - suc m) (2 ^ 63) (omega arith)) (omega
 signed_wide : (n : ℕ) → n < 2 ^ 64 → signed 128 n ≡ pos n
 signed_wide n h = rw (lt-ltb n (2 ^ 127) (omega arith)) refl
 
-wide_read : (n : ℕ) → n < 2 ^ 64 → wide_integer (big_endian 16 n) ≡ Scalar (event.Integer (pos n))
+wide_read : (n : ℕ) → n < 2 ^ 64 → wide_integer (big_endian 16 n) ≡ Scalar (trees.Integer (pos n))
 wide_read n h =
-    ap (λ k. integer_in_range (signed 128 k)) (number_back 16 n (omega arith)) ∙ ap integer_in_range (signed_wide n h)
+    ap (λ k. integer_in_range (signed 128 k)) (number_back 16 n (omega arith))
+    ∙ ap integer_in_range (signed_wide n h)
     ∙ rw (lt-ltb n (2 ^ 64) h) refl
 
-pub integer_read : (width : ℕ) (z : ℤ) (rest : List ℕ) → IsInteger z → object_in width (integer_form z ++ rest) ≡ Scalar (event.Integer z)
+pub integer_read : (width : ℕ) (z : ℤ) (rest : List ℕ) → IsInteger z
+    → object_in width (integer_form z ++ rest) ≡ Scalar (trees.Integer z)
 unfolding object_in
 integer_read width (pos n) rest range =
     elim (cases_lt n (2 ^ 63)) [
       | inl low ↦ rw (lt-ltb n (2 ^ 63) low) (natural_read width n rest low)
       | inr high ↦ let fits : n < 2 ^ 64 = omega (arith, ints, range.1) in
-          rw (le-ltb n (2 ^ 63) high) (front 16 wide_integer (big_endian 16 n) rest (length-big_endian 16 n) ∙ wide_read n fits)
+          rw (le-ltb n (2 ^ 63) high) (front 16 wide_integer (big_endian 16 n) rest
+          (length-big_endian 16 n) ∙ wide_read n fits)
     ]
 integer_read width (negsuc m) rest range =
     let small : m < 2 ^ 63 = omega (arith, ints, range.0) in
-    front 8 signed_integer (big_endian 8 (2 ^ 64 - suc m)) rest (length-big_endian 8 (2 ^ 64 - suc m))
-    ∙ ap (λ k. Scalar (event.Integer (signed 64 k))) (number_back 8 (2 ^ 64 - suc m) (omega arith)) ∙ ap (λ z. Scalar (event.Integer z)) (signed_negative m small)
+    front 8 signed_integer (big_endian 8 (2 ^ 64 - suc m)) rest
+    (length-big_endian 8 (2 ^ 64 - suc m))
+    ∙ ap (λ k. Scalar (trees.Integer (signed 64 k))) (number_back 8 (2 ^ 64 - suc m) (omega arith))
+    ∙ ap (λ z. Scalar (trees.Integer z)) (signed_negative m small)
 
-pub uid_read : (width n : ℕ) (rest : List ℕ) → n < 2 ^ 64 → object_in width (uid_form n ++ rest) ≡ Scalar (event.Uid n)
+pub uid_read : (width n : ℕ) (rest : List ℕ) → n < 2 ^ 64
+    → object_in width (uid_form n ++ rest) ≡ Scalar (trees.Uid n)
 unfolding object_in
 uid_read width n rest h =
     let c = cases_width n in
     ap (λ w. object_in width ((0x7f + w) ∷ big_endian w n ++ rest)) c.1 ∙ by c.2 (c.3 h)
   where
-    uid_front : (w : ℕ) → n < 256 ^ w → meaning_of_front w (λ content. Scalar (event.Uid (number_of content))) (big_endian w n ++ rest) ≡ Scalar (event.Uid n)
-    uid_front w small = front w (λ content. Scalar (event.Uid (number_of content))) (big_endian w n) rest (length-big_endian w n) ∙ ap (λ k. Scalar (event.Uid k)) (number_back w n small)
+    uid_front : (w : ℕ) → n < 256 ^ w → meaning_of_front w
+        (λ content. Scalar (trees.Uid (number_of content))) (big_endian w n ++ rest)
+        ≡ Scalar (trees.Uid n)
+    uid_front w small =
+        front w (λ content. Scalar (trees.Uid (number_of content))) (big_endian w n) rest
+        (length-big_endian w n) ∙ ap (λ k. Scalar (trees.Uid k)) (number_back w n small)
 
-    by : {w : ℕ} → IsWidth w → n < 256 ^ w → object_in width ((0x7f + w) ∷ big_endian w n ++ rest) ≡ Scalar (event.Uid n)
+    by : {w : ℕ} → IsWidth w → n < 256 ^ w → object_in width ((0x7f + w) ∷ big_endian w n ++ rest)
+        ≡ Scalar (trees.Uid n)
     by one small = uid_front 1 small
     by two small = uid_front 2 small
     by four small = uid_front 4 small
@@ -99,53 +122,75 @@ uid_read width n rest h =
 -- ---- lengths
 
 -- a length that follows is read
-follows : (n : ℕ) (rest : List ℕ) → n < 2 ^ 64 → length_that_follows (natural_form n ++ rest) ≡ Some (n, rest)
+follows : (n : ℕ) (rest : List ℕ) → n < 2 ^ 64
+    → length_that_follows (natural_form n ++ rest) ≡ Some (n, rest)
 follows n rest h =
     let c = cases_width n in
-    ap (λ w. length_that_follows ((0x10 + doublings w) ∷ big_endian w n ++ rest)) c.1 ∙ by c.2 (c.3 h)
+    ap (λ w. length_that_follows ((0x10 + doublings w) ∷ big_endian w n ++ rest)) c.1
+    ∙ by c.2 (c.3 h)
   where
-    taken : (w : ℕ) → n < 256 ^ w → cond {A = Option (ℕ × List ℕ)} (nat_le w (length (big_endian w n ++ rest))) (Some (number_of (take w (big_endian w n ++ rest)), drop w (big_endian w n ++ rest))) None ≡ Some (n, rest)
+    taken : (w : ℕ) → n < 256 ^ w → cond {A = Option (ℕ × List ℕ)}
+        (nat_le w (length (big_endian w n ++ rest)))
+        (Some (number_of (take w (big_endian w n ++ rest)), drop w (big_endian w n ++ rest))) None
+        ≡ Some (n, rest)
     taken w small =
         let len = length-big_endian w n in
-        let whole : w ≤ length (big_endian w n ++ rest) = omega (arith, length-append (big_endian w n) rest) in
+        let whole : w ≤ length (big_endian w n ++ rest) = omega
+        (arith, length-append (big_endian w n) rest) in
         rw (le-leb w (length (big_endian w n ++ rest)) whole)
-        (ap (λ k. Some (number_of (take k (big_endian w n ++ rest)), drop k (big_endian w n ++ rest))) (sym len)
-        ∙ (λ i. Some (number_of (take-append_seam (big_endian w n) rest i), drop-append_seam (big_endian w n) rest i))
+        (ap (λ k. Some (
+          number_of (take k (big_endian w n ++ rest)),
+          drop k
+              (big_endian w n ++ rest),
+        )) (sym len)
+        ∙ (λ i. Some (
+          number_of (take-append_seam (big_endian w n) rest i),
+          drop-append_seam
+              (big_endian w n) rest i,
+        ))
         ∙ ap (λ k. Some (k, rest)) (number_back w n small))
 
-    by : {w : ℕ} → IsWidth w → n < 256 ^ w → length_that_follows ((0x10 + doublings w) ∷ big_endian w n ++ rest) ≡ Some (n, rest)
+    by : {w : ℕ} → IsWidth w → n < 256 ^ w → length_that_follows
+        ((0x10 + doublings w) ∷ big_endian w n ++ rest) ≡ Some (n, rest)
     by one small = taken 1 small
     by two small = taken 2 small
     by four small = taken 4 small
     by eight small = taken 8 small
 
 -- an object of so many elements
-counted : (width high count size : ℕ) (meaning : ℕ → List ℕ → Object) (content rest : List ℕ) → ((m : ℕ) → high * 16 ≤ m → m ≤ high * 16 + 15 → layout_of width m ≡ Counted size meaning)
-    → count < 2 ^ 64 → length content ≡ count * size → object_in width ((length_form high count ++ content) ++ rest) ≡ meaning count content
+counted : (width high count size : ℕ) (meaning : ℕ → List ℕ → Object) (content rest : List ℕ)
+    → ((m : ℕ) → high * 16 ≤ m → m ≤ high * 16 + 15 → layout_of width m ≡ Counted size meaning)
+    → count < 2 ^ 64 → length content ≡ count * size
+    → object_in width ((length_form high count ++ content) ++ rest) ≡ meaning count content
 unfolding object_in
 counted width high count size meaning content rest layout small len =
     elim (cases_lt count 15) [
       | inl short ↦
           ap (λ l. object_in width ((l ++ content) ++ rest)) (length_short high count short)
-          ∙ ap (λ l. object_behind (high * 16 + count) l (content ++ rest)) (layout (high * 16 + count) (omega arith) (omega arith))
+          ∙ ap (λ l. object_behind (high * 16 + count) l (content ++ rest))
+          (layout (high * 16 + count) (omega arith) (omega arith))
           ∙ ap (meaning_counted size meaning) (low_half short)
           ∙ front (count * size) (meaning count) content rest len
       | inr long ↦
           ap (λ l. object_in width ((l ++ content) ++ rest)) (length_long high count long)
-          ∙ ap (λ l. object_behind (high * 16 + 15) l ((natural_form count ++ content) ++ rest)) (layout (high * 16 + 15) (omega arith) (omega arith))
+          ∙ ap (λ l. object_behind (high * 16 + 15) l ((natural_form count ++ content) ++ rest))
+          (layout (high * 16 + 15) (omega arith) (omega arith))
           ∙ ap (meaning_counted size meaning) (behind long)
           ∙ front (count * size) (meaning count) content rest len
     ]
   where
-    low_half : count < 15 → length_in (high * 16 + count) (content ++ rest) ≡ Some (count, content ++ rest)
+    low_half : count < 15 → length_in (high * 16 + count) (content ++ rest)
+        ≡ Some (count, content ++ rest)
     low_half short =
         let m : (high * 16 + count) % 16 ≡ count = omega arith in
         rw (m, lt-ltb count 15 short) refl
 
-    behind : 15 ≤ count → length_in (high * 16 + 15) ((natural_form count ++ content) ++ rest) ≡ Some (count, content ++ rest)
+    behind : 15 ≤ count → length_in (high * 16 + 15) ((natural_form count ++ content) ++ rest)
+        ≡ Some (count, content ++ rest)
     behind long =
         let m : (high * 16 + 15) % 16 ≡ 15 = omega arith in
-        rw (m) (ap length_that_follows (append_assoc (natural_form count) content rest) ∙ follows count (content ++ rest) small)
+        rw (m) (ap length_that_follows (append_assoc (natural_form count) content rest)
+        ∙ follows count (content ++ rest) small)
 
 -- ---- numbers one behind the other
 
@@ -154,29 +199,44 @@ length-table w [] = omega arith
 length-table w (x ∷ xs) =
     let rest = length-table w xs in
     let more : suc (length xs) * w ≡ w + length xs * w = grind arith in
-    length-append (big_endian w x) (flat_map (big_endian w) xs) ∙ (let e : length (big_endian w x) + length (flat_map (big_endian w) xs) ≡ suc (length xs) * w = omega (arith, rest, more, length-big_endian w x) in e)
+    length-append (big_endian w x) (flat_map (big_endian w) xs)
+    ∙ (let e : length (big_endian w x) + length (flat_map (big_endian w) xs)
+    ≡ suc (length xs) * w = omega (arith, rest, more, length-big_endian w x) in e)
 
-number_there : (w : ℕ) (xs : List ℕ) (k : ℕ) → AllFit w xs → k < length xs → get_or xs k 0 ≡ number_of (take w (drop (k * w) (flat_map (big_endian w) xs)))
+number_there : (w : ℕ) (xs : List ℕ) (k : ℕ) → AllFit w xs → k < length xs
+    → get_or xs k 0 ≡ number_of (take w (drop (k * w) (flat_map (big_endian w) xs)))
 number_there w [] k fit h = absurd (omega arith)
 number_there w (x ∷ xs) zero fit h =
     let none : zero * w ≡ 0 = omega arith in
     let len = length-big_endian w x in
-    sym (number_back w x fit.0) ∙ ap number_of (sym (take-append_seam (big_endian w x) (flat_map (big_endian w) xs))) ∙ (λ i. number_of (take (len i) (big_endian w x ++ flat_map (big_endian w) xs))) ∙ ap (λ k. number_of (take w (drop k (big_endian w x ++ flat_map (big_endian w) xs)))) (sym none)
+    sym (number_back w x fit.0) ∙ ap number_of
+    (sym (take-append_seam (big_endian w x) (flat_map (big_endian w) xs)))
+    ∙ (λ i. number_of (take (len i) (big_endian w x ++ flat_map (big_endian w) xs)))
+    ∙ ap (λ k. number_of (take w (drop k (big_endian w x ++ flat_map (big_endian w) xs))))
+    (sym none)
 number_there w (x ∷ xs) (suc k) fit h =
-    let more : suc k * w ≡ length (big_endian w x) + k * w = (let e : suc k * w ≡ w + k * w = grind arith in omega (arith, e, length-big_endian w x)) in
+    let more : suc k * w ≡ length (big_endian w x) + k * w =
+    (let e : suc k * w ≡ w + k * w = grind arith in omega (arith, e, length-big_endian w x)) in
     number_there w xs k fit.1 (omega arith)
-    ∙ ap (λ l. number_of (take w (drop (k * w) l))) (sym (drop-append_seam (big_endian w x) (flat_map (big_endian w) xs)))
-    ∙ ap (λ l. number_of (take w l)) (drop-drop-sum (length (big_endian w x)) (k * w) (big_endian w x ++ flat_map (big_endian w) xs))
-    ∙ ap (λ n. number_of (take w (drop n (big_endian w x ++ flat_map (big_endian w) xs)))) (sym more)
+    ∙ ap (λ l. number_of (take w (drop (k * w) l)))
+    (sym (drop-append_seam (big_endian w x) (flat_map (big_endian w) xs)))
+    ∙ ap (λ l. number_of (take w l)) (drop-drop-sum (length (big_endian w x)) (k * w)
+    (big_endian w x ++ flat_map (big_endian w) xs))
+    ∙ ap (λ n. number_of (take w (drop n (big_endian w x ++ flat_map (big_endian w) xs))))
+    (sym more)
   where
     drop-drop-sum : (a b : ℕ) (l : List ℕ) → drop b (drop a l) ≡ drop (a + b) l
     drop-drop-sum a b l = drop-drop b a l
 
-pub numbers_back : (w : ℕ) (xs : List ℕ) → 0 < w → AllFit w xs → numbers_of w (flat_map (big_endian w) xs) ≡ xs
+pub numbers_back : (w : ℕ) (xs : List ℕ) → 0 < w → AllFit w xs
+    → numbers_of w (flat_map (big_endian w) xs) ≡ xs
 numbers_back w xs positive fit =
-    let count : length (flat_map (big_endian w) xs) / w ≡ length xs = ap (λ n. n / w) (length-table w xs) ∙ mul-div_cancel (length xs) {n = w} positive in
+    let count : length (flat_map (big_endian w) xs) / w
+    ≡ length xs = ap (λ n. n / w) (length-table w xs)
+    ∙ mul-div_cancel (length xs) {n = w} positive in
     ap (λ n. map (λ i. number_at (flat_map (big_endian w) xs) (i * w) w) (range_with_len 0 n)) count
-    ∙ sym (fill_by_all (λ i. number_at (flat_map (big_endian w) xs) (i * w) w) xs (length xs) 0 refl (λ k h. number_there w xs k fit h))
+    ∙ sym (fill_by_all (λ i. number_at (flat_map (big_endian w) xs) (i * w) w) xs (length xs) 0 refl
+    (λ k h. number_there w xs k fit h))
 
 -- ---- texts
 
@@ -196,11 +256,21 @@ fit_append w (x ∷ xs) ys a b = (a.0, fit_append w xs ys a.1 b)
 
 units_fit : (cs : List ℕ) → scalars cs ≡ true → AllFit 2 (flat_map encode_utf16 cs)
 units_fit [] s = tt
-units_fit (c ∷ cs) s = let k = and_parts (scalar c) (scalars cs) s in fit_append 2 (encode_utf16 c) (flat_map encode_utf16 cs) (unit_bounds c k.0) (units_fit cs k.1)
+units_fit (c ∷ cs) s =
+    let k = and_parts (scalar c) (scalars cs) s in fit_append 2 (encode_utf16 c)
+    (flat_map encode_utf16 cs) (unit_bounds c k.0) (units_fit cs k.1)
 
 few_units_in : (cs : List ℕ) → length (flat_map encode_utf16 cs) ≤ length (encode_utf8_all cs)
 few_units_in [] = omega arith
-few_units_in (c ∷ cs) = omega (arith, few_units c, few_units_in cs, length-append (encode_utf16 c) (flat_map encode_utf16 cs), length-append (encode_utf8 c) (encode_utf8_all cs))
+few_units_in (c ∷ cs) =
+    omega (
+      arith,
+      few_units c,
+      few_units_in cs,
+      length-append (encode_utf16 c)
+          (flat_map encode_utf16 cs),
+      length-append (encode_utf8 c) (encode_utf8_all cs),
+    )
 
 -- ---- UTF-16
 
@@ -212,24 +282,35 @@ lone_is c s =
     ]
 
 not_paired : (c v : ℕ) → scalar c ≡ true → 0xD800 ≤ c → c < 0xDC00 → ⊥
-not_paired c v s a b = elim (scalar_cases c s) [ inl l ↦ absurd (omega (arith, l)) | inr l ↦ absurd (omega (arith, l.0)) ]
+not_paired c v s a b =
+    elim (scalar_cases c s) [
+      | inl l ↦ absurd (omega (arith, l))
+      | inr l ↦ absurd
+          (omega (arith, l.0))
+    ]
 
-pair_is : (c : ℕ) → 0x1_0000 ≤ c → surrogate_pair_char (0xD800 + (c - 0x1_0000) / 0x400) (0xDC00 + (c - 0x1_0000) % 0x400) ≡ c
+pair_is : (c : ℕ) → 0x1_0000 ≤ c → surrogate_pair_char (0xD800 + (c - 0x1_0000) / 0x400)
+    (0xDC00 + (c - 0x1_0000) % 0x400) ≡ c
 pair_is c high = omega arith
 
-units_back : (cs : List ℕ) → scalars cs ≡ true → utf16_chars (flat_map encode_utf16 cs) ≡ map Some cs
+units_back : (cs : List ℕ) → scalars cs ≡ true
+    → utf16_chars (flat_map encode_utf16 cs) ≡ map Some cs
 units_back [] s = utf16_chars-nil
 units_back (c ∷ cs) s =
     let k = and_parts (scalar c) (scalars cs) s in
     let rest = units_back cs k.1 in
     elim (cases_lt c 0x1_0000) [
       | inl low ↦ rw (lt-ltb c 0x1_0000 low)
-          (utf16_chars_lone c (flat_map encode_utf16 cs) (λ p. not_paired c 0 k.0 p.0 p.1) ∙ (λ i. lone_is c k.0 i ∷ rest i))
+          (utf16_chars_lone c (flat_map encode_utf16 cs) (λ p. not_paired c 0 k.0 p.0 p.1)
+          ∙ (λ i. lone_is c k.0 i ∷ rest i))
       | inr high ↦ rw (le-ltb c 0x1_0000 high)
-          (utf16_chars_pair (0xD800 + (c - 0x1_0000) / 0x400) (0xDC00 + (c - 0x1_0000) % 0x400) (flat_map encode_utf16 cs) (paired c k.0 high) ∙ (λ i. Some (pair_is c high i) ∷ rest i))
+          (utf16_chars_pair (0xD800 + (c - 0x1_0000) / 0x400) (0xDC00 + (c - 0x1_0000) % 0x400)
+          (flat_map encode_utf16 cs) (paired c k.0 high) ∙ (λ i. Some (pair_is c high i) ∷ rest i))
     ]
   where
-    paired : (c : ℕ) → scalar c ≡ true → 0x1_0000 ≤ c → (0xD800 ≤ 0xD800 + (c - 0x1_0000) / 0x400) × (0xD800 + (c - 0x1_0000) / 0x400 < 0xDC00) × (0xDC00 ≤ 0xDC00 + (c - 0x1_0000) % 0x400) × (0xDC00 + (c - 0x1_0000) % 0x400 < 0xE000)
+    paired : (c : ℕ) → scalar c ≡ true → 0x1_0000 ≤ c
+        → (0xD800 ≤ 0xD800 + (c - 0x1_0000) / 0x400) × (0xD800 + (c - 0x1_0000) / 0x400 < 0xDC00)
+        × (0xDC00 ≤ 0xDC00 + (c - 0x1_0000) % 0x400) × (0xDC00 + (c - 0x1_0000) % 0x400 < 0xE000)
     paired c s high =
         elim (scalar_cases c s) [
           | inl a ↦ absurd (omega arith)
@@ -244,17 +325,22 @@ none_lost : (cs : List ℕ) → map (λ o. unwrap_or o 0xFFFD) (map Some cs) ≡
 none_lost [] = refl
 none_lost (c ∷ cs) = ap (λ l. c ∷ l) (none_lost cs)
 
-text_of_chars : (cs : List ℕ) → scalars cs ≡ true → text_of_units (flat_map encode_utf16 cs) ≡ Scalar (event.String (encode_utf8_all cs))
+text_of_chars : (cs : List ℕ) → scalars cs ≡ true
+    → text_of_units (flat_map encode_utf16 cs) ≡ Scalar (trees.String (encode_utf8_all cs))
 text_of_chars cs s =
     let back = units_back cs s in
-    let paired : has_unpaired_surrogate (flat_map encode_utf16 cs) ≡ false = ap (list_any (λ o. not (is_some o))) back ∙ all_paired cs in
-    rw (paired) (ap (λ l. Scalar (event.String (encode_utf8_all l))) (ap (map (λ o. unwrap_or o 0xFFFD)) back ∙ none_lost cs))
+    let paired : has_unpaired_surrogate (flat_map encode_utf16 cs)
+    ≡ false = ap (list_any (λ o. not (is_some o))) back ∙ all_paired cs in
+    rw (paired) (ap (λ l. Scalar (trees.String (encode_utf8_all l)))
+    (ap (map (λ o. unwrap_or o 0xFFFD)) back ∙ none_lost cs))
 
-units_are : (text cs : List ℕ) → scalars cs ≡ true → encode_utf8_all cs ≡ text → units_of text ≡ flat_map encode_utf16 cs
+units_are : (text cs : List ℕ) → scalars cs ≡ true → encode_utf8_all cs ≡ text
+    → units_of text ≡ flat_map encode_utf16 cs
 unfolding units_of
 units_are text cs s e = ap (flat_map encode_utf16) (ap chars (sym e) ∙ chars-encodes cs s)
 
-pub text_read : (width : ℕ) (t rest : List ℕ) → IsText t → object_in width (text_form t ++ rest) ≡ Scalar (event.String t)
+pub text_read : (width : ℕ) (t rest : List ℕ) → IsText t
+    → object_in width (text_form t ++ rest) ≡ Scalar (trees.String t)
 text_read width t rest is = by (is_ascii_text t) refl
   where
     cs : List ℕ
@@ -263,54 +349,67 @@ text_read width t rest is = by (is_ascii_text t) refl
     units : units_of t ≡ flat_map encode_utf16 cs
     units = units_are t cs is.0.1.0 is.0.1.1
 
-    narrow : object_in width ((length_form 0x5 (length t) ++ t) ++ rest) ≡ Scalar (event.String t)
+    narrow : object_in width ((length_form 0x5 (length t) ++ t) ++ rest) ≡ Scalar (trees.String t)
     narrow =
-        counted width 0x5 (length t) 1 (λ _. text) t rest (λ m a b. layout-text width m a b) is.1 (omega arith)
+        counted width 0x5 (length t) 1 (λ _. text) t rest (λ m a b. layout-text width m a b) is.1
+        (omega arith)
         ∙ rw (is_utf8-from_IsUtf8 t is.0) refl
 
     few : length (units_of t) < 2 ^ 64
     few = omega (arith, is.1, ap length units, few_units_in cs, ap length is.0.1.1)
 
-    wide : object_in width ((length_form 0x6 (length (units_of t)) ++ flat_map (big_endian 2) (units_of t)) ++ rest) ≡ Scalar (event.String t)
+    wide : object_in width ((length_form 0x6 (length (units_of t)) ++ flat_map (big_endian 2)
+        (units_of t)) ++ rest) ≡ Scalar (trees.String t)
     wide =
-        counted width 0x6 (length (units_of t)) 2 (λ _. wide_text) (flat_map (big_endian 2) (units_of t)) rest (λ m a b. layout-wide_text width m a b) few (length-table 2 (units_of t))
-        ∙ ap text_of_units (numbers_back 2 (units_of t) (omega arith) (subst (AllFit 2) (sym units) (units_fit cs is.0.1.0)))
-        ∙ ap text_of_units units ∙ text_of_chars cs is.0.1.0 ∙ ap (λ l. Scalar (event.String l)) is.0.1.1
+        counted width 0x6 (length (units_of t)) 2 (λ _. wide_text)
+        (flat_map (big_endian 2) (units_of t)) rest (λ m a b. layout-wide_text width m a b) few
+        (length-table 2 (units_of t))
+        ∙ ap text_of_units (numbers_back 2 (units_of t) (omega arith)
+        (subst (AllFit 2) (sym units) (units_fit cs is.0.1.0)))
+        ∙ ap text_of_units units ∙ text_of_chars cs is.0.1.0
+        ∙ ap (λ l. Scalar (trees.String l)) is.0.1.1
 
-    by : (b : Bool) → is_ascii_text t ≡ b → object_in width (text_form t ++ rest) ≡ Scalar (event.String t)
+    by : (b : Bool) → is_ascii_text t ≡ b → object_in width (text_form t ++ rest)
+        ≡ Scalar (trees.String t)
     by true e = rw (e) narrow
     by false e = rw (e) wide
 
 -- ---- any object
 
-boolean_read : (width : ℕ) (value : Bool) (rest : List ℕ) → object_in width (boolean_form value ++ rest) ≡ Scalar (event.Boolean value)
+boolean_read : (width : ℕ) (value : Bool) (rest : List ℕ)
+    → object_in width (boolean_form value ++ rest) ≡ Scalar (trees.Boolean value)
 unfolding object_in
-boolean_read width true rest = front 0 (λ _. Scalar (event.Boolean true)) [] rest refl
-boolean_read width false rest = front 0 (λ _. Scalar (event.Boolean false)) [] rest refl
+boolean_read width true rest = front 0 (λ _. Scalar (trees.Boolean true)) [] rest refl
+boolean_read width false rest = front 0 (λ _. Scalar (trees.Boolean false)) [] rest refl
 
-date_read : (width : ℕ) (bytes rest : List ℕ) → IsDateBytes bytes → object_in width (date_form bytes ++ rest) ≡ Scalar (event.Date bytes)
+date_read : (width : ℕ) (bytes rest : List ℕ) → IsDateBytes bytes
+    → object_in width (date_form bytes ++ rest) ≡ Scalar (trees.Date bytes)
 unfolding object_in
 date_read width bytes rest is = front 8 date bytes rest is.1 ∙ ap date_if_any is.0
 
-real_read : (width : ℕ) (bits : RealBits) (rest : List ℕ) → IsReal bits → object_in width (real_form bits ++ rest) ≡ Scalar (event.Real bits)
+real_read : (width : ℕ) (bits : RealBits) (rest : List ℕ) → IsReal bits
+    → object_in width (real_form bits ++ rest) ≡ Scalar (trees.Real bits)
 unfolding object_in
-real_read width (Four bytes) rest is = front 4 (λ content. Scalar (event.Real (Four content))) bytes rest is
-real_read width (Eight bytes) rest is = front 8 (λ content. Scalar (event.Real (Eight content))) bytes rest is
+real_read width (Four bytes) rest is =
+    front 4 (λ content. Scalar (trees.Real (Four content))) bytes rest is
+real_read width (Eight bytes) rest is =
+    front 8 (λ content. Scalar (trees.Real (Eight content))) bytes rest is
 
-data_read : (width : ℕ) (bytes rest : List ℕ) → length bytes < 2 ^ 64 → object_in width (data_form bytes ++ rest) ≡ Scalar (event.Data bytes)
-data_read width bytes rest small = counted width 0x4 (length bytes) 1 (λ _ content. Scalar (event.Data content)) bytes rest (λ m a b. layout-data width m a b) small (omega arith)
+data_read : (width : ℕ) (bytes rest : List ℕ) → length bytes < 2 ^ 64
+    → object_in width (data_form bytes ++ rest) ≡ Scalar (trees.Data bytes)
+data_read width bytes rest small =
+    counted width 0x4 (length bytes) 1 (λ _ content. Scalar (trees.Data content)) bytes rest
+    (λ m a b. layout-data width m a b) small (omega arith)
 
-scalar_read : (width : ℕ) (e : PlainEvent) (rest : List ℕ) → IsWritableScalar e → object_in width (scalar_form e ++ rest) ≡ Scalar e
-scalar_read width (event.StartArray n) rest is = absurd is
-scalar_read width (event.StartDictionary n) rest is = absurd is
-scalar_read width event.EndCollection rest is = absurd is
-scalar_read width (event.Boolean v) rest is = boolean_read width v rest
-scalar_read width (event.Data v) rest is = data_read width v rest is
-scalar_read width (event.Date v) rest is = date_read width v rest is
-scalar_read width (event.Integer v) rest is = integer_read width v rest is
-scalar_read width (event.Real v) rest is = real_read width v rest is
-scalar_read width (event.String v) rest is = text_read width v rest is
-scalar_read width (event.Uid v) rest is = uid_read width v rest is
+scalar_read : (width : ℕ) (x : trees.Scalar) (rest : List ℕ) → IsWritableScalar x
+    → object_in width (scalar_form x ++ rest) ≡ Scalar x
+scalar_read width (trees.Boolean v) rest is = boolean_read width v rest
+scalar_read width (trees.Data v) rest is = data_read width v rest is
+scalar_read width (trees.Date v) rest is = date_read width v rest is
+scalar_read width (trees.Integer v) rest is = integer_read width v rest is
+scalar_read width (trees.Real v) rest is = real_read width v rest is
+scalar_read width (trees.String v) rest is = text_read width v rest is
+scalar_read width (trees.Uid v) rest is = uid_read width v rest is
 
 pub length-keys_of : (ps : List (ℕ × ℕ)) → length (keys_of ps) ≡ length ps
 length-keys_of [] = refl
@@ -324,25 +423,42 @@ zip_is : (ps : List (ℕ × ℕ)) → zip (keys_of ps) (values_of ps) ≡ ps
 zip_is [] = refl
 zip_is (p ∷ ps) = ap (λ l. p ∷ l) (zip_is ps)
 
-dictionary_is : (ps : List (ℕ × ℕ)) → dictionary (length ps) (keys_of ps ++ values_of ps) ≡ Dictionary ps
+dictionary_is : (ps : List (ℕ × ℕ)) → dictionary (length ps) (keys_of ps ++ values_of ps)
+    ≡ Dictionary ps
 dictionary_is ps =
     let n = length-keys_of ps in
-    ap (λ k. Dictionary (zip (take k (keys_of ps ++ values_of ps)) (drop k (keys_of ps ++ values_of ps)))) (sym n)
-    ∙ (λ i. Dictionary (zip (take-append_seam (keys_of ps) (values_of ps) i) (drop-append_seam (keys_of ps) (values_of ps) i)))
+    ap (λ k. Dictionary (zip (take k (keys_of ps ++ values_of ps))
+    (drop k (keys_of ps ++ values_of ps)))) (sym n)
+    ∙ (λ i. Dictionary (zip (take-append_seam (keys_of ps) (values_of ps) i)
+    (drop-append_seam (keys_of ps) (values_of ps) i)))
     ∙ ap Dictionary (zip_is ps)
 
-pub form_read : (w : ℕ) → 0 < w → (o : Object) (rest : List ℕ) → IsWritable w o → object_in w (form w o ++ rest) ≡ o
-form_read w positive (Scalar e) rest is = scalar_read w e rest is
+pub form_read : (w : ℕ) → 0 < w → (o : Object) (rest : List ℕ) → IsWritable w o
+    → object_in w (form w o ++ rest) ≡ o
+form_read w positive (Scalar x) rest is = scalar_read w x rest is
 form_read w positive (Array items) rest is =
-    counted w 0xa (length items) w (λ _ content. Array (numbers_of w content)) (flat_map (big_endian w) items) rest (λ m a b. layout-array w m a b) is.0 (length-table w items)
+    counted w 0xa (length items) w (λ _ content. Array (numbers_of w content))
+    (flat_map (big_endian w) items) rest (λ m a b. layout-array w m a b) is.0 (length-table w items)
     ∙ ap Array (numbers_back w items positive is.1)
 form_read w positive (Dictionary ps) rest is =
-    let joined : flat_map (big_endian w) (keys_of ps) ++ flat_map (big_endian w) (values_of ps) ≡ flat_map (big_endian w) (keys_of ps ++ values_of ps) = sym (flat_map-append (big_endian w) (keys_of ps) (values_of ps)) in
-    let many : length (keys_of ps ++ values_of ps) ≡ 2 * length ps = omega (arith, length-append (keys_of ps) (values_of ps), length-keys_of ps, length-values_of ps) in
+    let joined : flat_map (big_endian w) (keys_of ps) ++ flat_map (big_endian w) (values_of ps)
+    ≡ flat_map (big_endian w) (keys_of ps ++ values_of ps) = sym
+    (flat_map-append (big_endian w) (keys_of ps) (values_of ps)) in
+    let many : length (keys_of ps ++ values_of ps)
+    ≡ 2 * length ps = omega (
+      arith,
+      length-append (keys_of ps)
+          (values_of ps),
+      length-keys_of ps,
+      length-values_of ps,
+    ) in
     let twice : 2 * length ps * w ≡ length ps * (2 * w) = grind arith in
     ap (λ l. object_in w ((length_form 0xd (length ps) ++ l) ++ rest)) joined
-    ∙ counted w 0xd (length ps) (2 * w) (λ count content. dictionary count (numbers_of w content)) (flat_map (big_endian w) (keys_of ps ++ values_of ps)) rest (λ m a b. layout-dictionary w m a b) is.0
+    ∙ counted w 0xd (length ps) (2 * w) (λ count content. dictionary count (numbers_of w content))
+    (flat_map (big_endian w) (keys_of ps ++ values_of ps)) rest
+    (λ m a b. layout-dictionary w m a b) is.0
     (length-table w (keys_of ps ++ values_of ps) ∙ ap (λ n. n * w) many ∙ twice)
-    ∙ ap (dictionary (length ps)) (numbers_back w (keys_of ps ++ values_of ps) positive (fit_append w (keys_of ps) (values_of ps) is.1 is.2))
+    ∙ ap (dictionary (length ps)) (numbers_back w (keys_of ps ++ values_of ps) positive
+    (fit_append w (keys_of ps) (values_of ps) is.1 is.2))
     ∙ dictionary_is ps
 form_read w positive (Faulty kind) rest is = absurd is

@@ -2,8 +2,8 @@
 use Rattle.std.proofs.Common.{◌≡◌, ℕ, suc, ◌<◌, Bool, true, false, ◌&&◌, ◌==◌, List, [], ◌∷◌, ◌++◌, length, reverse, arith, Option, Some, None, option_and_then, refl, sym, ap, ◌∙◌, subst}
 use Rattle.std.proofs.lemmas.Bool.{and_parts, ne_eqb}
 use Rattle.std.proofs.lemmas.List.{length-map, length-reverse}
-use Rattle.plist_base.specs.Events.{PlainEvent, StartArray, StartDictionary, EndCollection, Boolean, Data, Date, Integer, Real, String, Uid}
-use Rattle.plist_base.specs.Wants.{Want, OneValue, Items, Pairs, Change, Refused, Gone, Kept, Pushed, Became, change_of, changed, step, wanted_after}
+use Rattle.plist_base.specs.Events.{PlainEvent, StartArray, StartDictionary, EndCollection, Single}
+use Rattle.plist_base.specs.inner.Wants.{Want, OneValue, Items, Pairs, Change, Refused, Gone, Kept, Pushed, Became, change_of, changed, step, wanted_after}
 use Rattle.plist_base.proofs.Grammar.{steps_snoc}
 use Rattle.plist_binwrite.specs.declared.wants.Want as code_want
 use Rattle.plist_binwrite.specs.declared.wants.Change as code_change
@@ -46,61 +46,70 @@ pub is_stack_of : (o : Option (List Want)) (s : List Want) → o ≡ Some s → 
 is_stack_of o s h = ap (λ p. is_stack p s) h ∙ stack_self s
 
 -- nothing is kept or pushed where a value is wanted
-value_change : (e : PlainEvent) → (P : Change → Type 0) → P Refused → P Gone → ((w : Want) → P (Became w)) → P (change_of OneValue e)
+value_change : (e : PlainEvent) → (P : Change → Type 0) → P Refused → P Gone
+    → ((w : Want) → P (Became w)) → P (change_of OneValue e)
 value_change (StartArray n) P r g b = b Items
 value_change (StartDictionary n) P r g b = b Pairs
 value_change EndCollection P r g b = r
-value_change (Boolean v) P r g b = g
-value_change (Data v) P r g b = g
-value_change (Date v) P r g b = g
-value_change (Integer v) P r g b = g
-value_change (Real v) P r g b = g
-value_change (String v) P r g b = g
-value_change (Uid v) P r g b = g
+value_change (Single x) P r g b = g
 
-put_root : (e : PlainEvent) (new : List Want) → (change_of OneValue e ≡ Refused → ⊥) → Puts [] (change_of OneValue e) new → changed (change_of OneValue e) OneValue [] ≡ Some new
+put_root : (e : PlainEvent) (new : List Want) → (change_of OneValue e ≡ Refused → ⊥)
+    → Puts [] (change_of OneValue e) new → changed (change_of OneValue e) OneValue [] ≡ Some new
 put_root e new =
     value_change e (λ c. (c ≡ Refused → ⊥) → Puts [] c new → changed c OneValue [] ≡ Some new)
     (λ n p. absurd (n refl)) (λ n p. ap Some (sym p)) (λ w n p. ap Some (sym p))
 
-put_top : (c : Change) (top : Want) (rest new : List Want) → (c ≡ Refused → ⊥) → Puts (top ∷ rest) c new → changed c top rest ≡ Some new
+put_top : (c : Change) (top : Want) (rest new : List Want) → (c ≡ Refused → ⊥)
+    → Puts (top ∷ rest) c new → changed c top rest ≡ Some new
 put_top Refused top rest new n p = absurd (n refl)
 put_top Gone top rest new n p = ap Some (sym p)
 put_top Kept top rest new n p = ap Some (sym p)
 put_top (Pushed w) top rest new n p = ap Some (sym p)
 put_top (Became w) top rest new n p = ap Some (sym p)
 
-step_taken : (s new : List Want) (e : PlainEvent) → (change_on_top s e ≡ Refused → ⊥) → Puts s (change_on_top s e) new → step (with_root s) e ≡ Some new
+step_taken : (s new : List Want) (e : PlainEvent) → (change_on_top s e ≡ Refused → ⊥)
+    → Puts s (change_on_top s e) new → step (with_root s) e ≡ Some new
 step_taken [] new e n p = put_root e new n p
 step_taken (top ∷ rest) new e n p = put_top (change_of top e) top rest new n p
 
-step_refused : (s : List Want) (e : PlainEvent) → change_on_top s e ≡ Refused → step (with_root s) e ≡ None
+step_refused : (s : List Want) (e : PlainEvent) → change_on_top s e ≡ Refused
+    → step (with_root s) e ≡ None
 step_refused [] e p = ap (λ c. changed c OneValue []) p
 step_refused (top ∷ rest) e p = ap (λ c. changed c top rest) p
 
 -- one more event is refused, or taken
-pub wanted_refused : (held : List PlainEvent) (s : List Want) (e : PlainEvent) → wanted_after held ≡ Some (with_root s) → change_on_top s e ≡ Refused → wanted_after (held ++ e ∷ []) ≡ None
-wanted_refused held s e w p = steps_snoc held (OneValue ∷ []) e ∙ ap (option_and_then (λ t. step t e)) w ∙ step_refused s e p
+pub wanted_refused : (held : List PlainEvent) (s : List Want) (e : PlainEvent)
+    → wanted_after held ≡ Some (with_root s) → change_on_top s e ≡ Refused
+    → wanted_after (held ++ e ∷ []) ≡ None
+wanted_refused held s e w p =
+    steps_snoc held (OneValue ∷ []) e ∙ ap (option_and_then (λ t. step t e)) w ∙ step_refused s e p
 
-pub wanted_taken : (held : List PlainEvent) (s new : List Want) (e : PlainEvent) (c : Change) → wanted_after held ≡ Some (with_root s) → c ≡ change_on_top s e → (c ≡ Refused → ⊥) → Puts s c new → wanted_after (held ++ e ∷ []) ≡ Some new
+pub wanted_taken : (held : List PlainEvent) (s new : List Want) (e : PlainEvent) (c : Change)
+    → wanted_after held ≡ Some (with_root s) → c ≡ change_on_top s e → (c ≡ Refused → ⊥)
+    → Puts s c new → wanted_after (held ++ e ∷ []) ≡ Some new
 wanted_taken held s new e c w is n p =
     steps_snoc held (OneValue ∷ []) e ∙ ap (option_and_then (λ t. step t e)) w
     ∙ step_taken s new e (subst (λ d. d ≡ Refused → ⊥) is n) (subst (λ d. Puts s d new) is p)
 
-changed_some : (c : Change) (top : Want) (rest : List Want) → (c ≡ Refused → ⊥) → changed c top rest ≡ None → ⊥
+changed_some : (c : Change) (top : Want) (rest : List Want) → (c ≡ Refused → ⊥)
+    → changed c top rest ≡ None → ⊥
 changed_some Refused top rest n h = n refl
 changed_some Gone top rest n h = cc
 changed_some Kept top rest n h = cc
 changed_some (Pushed w) top rest n h = cc
 changed_some (Became w) top rest n h = cc
 
-step_some : (s : List Want) (e : PlainEvent) → (change_on_top s e ≡ Refused → ⊥) → step (with_root s) e ≡ None → ⊥
+step_some : (s : List Want) (e : PlainEvent) → (change_on_top s e ≡ Refused → ⊥)
+    → step (with_root s) e ≡ None → ⊥
 step_some [] e n h = changed_some (change_of OneValue e) OneValue [] n h
 step_some (top ∷ rest) e n h = changed_some (change_of top e) top rest n h
 
-pub not_refused : (held : List PlainEvent) (s : List Want) (e : PlainEvent) (c : Change) → wanted_after held ≡ Some (with_root s) → c ≡ change_on_top s e → (c ≡ Refused → ⊥) → wanted_after (held ++ e ∷ []) ≡ None → ⊥
+pub not_refused : (held : List PlainEvent) (s : List Want) (e : PlainEvent) (c : Change)
+    → wanted_after held ≡ Some (with_root s) → c ≡ change_on_top s e → (c ≡ Refused → ⊥)
+    → wanted_after (held ++ e ∷ []) ≡ None → ⊥
 not_refused held s e c w is n none =
-    step_some s e (subst (λ d. d ≡ Refused → ⊥) is n) (sym (steps_snoc held (OneValue ∷ []) e ∙ ap (option_and_then (λ t. step t e)) w) ∙ none)
+    step_some s e (subst (λ d. d ≡ Refused → ⊥) is n)
+    (sym (steps_snoc held (OneValue ∷ []) e ∙ ap (option_and_then (λ t. step t e)) w) ∙ none)
 
 -- ---- the code's stack
 
@@ -128,10 +137,15 @@ is_zero n b e z = e ∙ ap (λ k. k == 0) z
 not_zero : (n m : ℕ) (b : Bool) → b ≡ (n == 0) → n ≡ suc m → b ≡ false
 not_zero n m b e z = e ∙ ap (λ k. k == 0) z ∙ ne_eqb (suc m) 0 (λ p. absurd (omega arith))
 
-pub stack_shown : (ws : List code_want.Want) (n : ℕ) (b : Bool) → n ≡ length ws → b ≡ (n == 0) → stack_of ws ≡ wanted_now b ws
+pub stack_shown : (ws : List code_want.Want) (n : ℕ) (b : Bool) → n ≡ length ws → b ≡ (n == 0)
+    → stack_of ws ≡ wanted_now b ws
 stack_shown [] n b h e = ap (λ v. wanted_now v []) (sym (is_zero n b e h))
-stack_shown (w ∷ ws) n b h e = root_or_top (stack_of (w ∷ ws)) (deep w ws) ∙ ap (λ v. wanted_now v (w ∷ ws)) (sym (not_zero n (length ws) b e h))
+stack_shown (w ∷ ws) n b h e =
+    root_or_top (stack_of (w ∷ ws)) (deep w ws)
+    ∙ ap (λ v. wanted_now v (w ∷ ws)) (sym (not_zero n (length ws) b e h))
 
-pub nothing_shown : (ws : List code_want.Want) (n : ℕ) (b : Bool) → n ≡ length ws → b ≡ (n == 0) → b ≡ is_nothing (stack_of ws)
+pub nothing_shown : (ws : List code_want.Want) (n : ℕ) (b : Bool) → n ≡ length ws → b ≡ (n == 0)
+    → b ≡ is_nothing (stack_of ws)
 nothing_shown [] n b h e = is_zero n b e h
-nothing_shown (w ∷ ws) n b h e = not_zero n (length ws) b e h ∙ some_wanted (stack_of (w ∷ ws)) (deep w ws)
+nothing_shown (w ∷ ws) n b h e =
+    not_zero n (length ws) b e h ∙ some_wanted (stack_of (w ∷ ws)) (deep w ws)

@@ -10,18 +10,27 @@ use Rattle.plist_binwrite.specs.Forms.{big_endian, units_of}
 
 pub units_empty : (text : List ℕ) → length text ≡ 0 → units_of text ≡ []
 unfolding units_of
-units_empty text none = ap (flat_map encode_utf16) (ap chars (nil_from_length text none) ∙ chars-nil)
+units_empty text none =
+    ap (flat_map encode_utf16) (ap chars (nil_from_length text none) ∙ chars-nil)
 
-pub units_step : (text rest : List ℕ) (c : ℕ) → IsUtf8 text → text ≡ encode_utf8 c ++ rest → units_of text ≡ encode_utf16 c ++ units_of rest
+pub units_step : (text rest : List ℕ) (c : ℕ) → IsUtf8 text → text ≡ encode_utf8 c ++ rest
+    → units_of text ≡ encode_utf16 c ++ units_of rest
 unfolding units_of
-units_step text rest c utf8 parts = ap (flat_map encode_utf16) (chars_past_char text rest c utf8 parts)
+units_step text rest c utf8 parts =
+    ap (flat_map encode_utf16) (chars_past_char text rest c utf8 parts)
 
 -- the bytes of the units
-pub unit_bytes_step : (text rest : List ℕ) (c : ℕ) → IsUtf8 text → text ≡ encode_utf8 c ++ rest → flat_map (big_endian 2) (units_of text) ≡ flat_map (big_endian 2) (encode_utf16 c) ++ flat_map (big_endian 2) (units_of rest)
-unit_bytes_step text rest c utf8 parts = ap (flat_map (big_endian 2)) (units_step text rest c utf8 parts) ∙ flat_map-append (big_endian 2) (encode_utf16 c) (units_of rest)
+pub unit_bytes_step : (text rest : List ℕ) (c : ℕ) → IsUtf8 text → text ≡ encode_utf8 c ++ rest
+    → flat_map (big_endian 2) (units_of text)
+    ≡ flat_map (big_endian 2) (encode_utf16 c) ++ flat_map (big_endian 2) (units_of rest)
+unit_bytes_step text rest c utf8 parts =
+    ap (flat_map (big_endian 2)) (units_step text rest c utf8 parts)
+    ∙ flat_map-append (big_endian 2) (encode_utf16 c) (units_of rest)
 
-pub count_step : (text rest : List ℕ) (c : ℕ) → IsUtf8 text → text ≡ encode_utf8 c ++ rest → length (units_of text) ≡ length (encode_utf16 c) + length (units_of rest)
-count_step text rest c utf8 parts = ap length (units_step text rest c utf8 parts) ∙ length-append (encode_utf16 c) (units_of rest)
+pub count_step : (text rest : List ℕ) (c : ℕ) → IsUtf8 text → text ≡ encode_utf8 c ++ rest
+    → length (units_of text) ≡ length (encode_utf16 c) + length (units_of rest)
+count_step text rest c utf8 parts =
+    ap length (units_step text rest c utf8 parts) ∙ length-append (encode_utf16 c) (units_of rest)
 
 -- a character has no more units than bytes
 pub few_units : (c : ℕ) → length (encode_utf16 c) ≤ length (encode_utf8 c)
@@ -35,7 +44,10 @@ few_units c =
     least = grind arith
 
     most : 0x1_0000 ≤ c → 2 ≤ len_utf8 c
-    most h = rw (le-ltb c 0x80 (omega arith), le-ltb c 0x800 (omega arith), le-ltb c 0x1_0000 h) (omega arith)
+    most h =
+        rw (le-ltb c 0x80 (omega arith), le-ltb c 0x800 (omega arith), le-ltb c 0x1_0000 h)
+        (omega arith)
 
-pub bytes_step : (text rest : List ℕ) (c : ℕ) → text ≡ encode_utf8 c ++ rest → length text ≡ length (encode_utf8 c) + length rest
+pub bytes_step : (text rest : List ℕ) (c : ℕ) → text ≡ encode_utf8 c ++ rest
+    → length text ≡ length (encode_utf8 c) + length rest
 bytes_step text rest c parts = ap length parts ∙ length-append (encode_utf8 c) rest

@@ -5,25 +5,28 @@ use Rattle.std.proofs.lemmas.Map.Steps.{length-le_from_distinct_below}
 use Rattle.std.proofs.lemmas.Bool.{lt-ltb}
 use Rattle.std.proofs.lemmas.Bool.Decides.{eqb_tells}
 use Rattle.std.proofs.lemmas.List.{map-append}
-use Rattle.plist_base.specs.Bracketing.{bracketing, bracketing_of_items, bracketing_of_pairs}
+use Rattle.plist_base.specs.Bracketing.{bracketing, bracketing_of_items, bracketing_of_pairs, shape, shape_of_items, shape_of_pairs}
 use Rattle.plist_base.specs.Events as events
-use Rattle.plist_base.specs.Events.{PlainEvent}
+use Rattle.plist_base.specs.Events.{PlainEvent, EndCollection, Single}
 use Rattle.plist_base.specs.Trees as trees
-use Rattle.plist_base.specs.Trees.{number_of_trees, number_of_members}
+use Rattle.plist_base.specs.Trees.{number_of_trees, number_of_members, Tree, Leaf, Array, Dictionary, Trees, NoTrees, TreeAnd, Members, NoMembers, MemberAnd}
 use Rattle.plist_binread.specs.Object.{Object, children_of}
 use Rattle.plist_binread.specs.Unfolding.{until_fault}
-use Rattle.plist_binwrite.specs.Marks.{Ev, stop, leaf, Tree, Leaf, Array, Dictionary, Trees, NoTrees, TreeAnd, Members, NoMembers, MemberAnd, br, br_items, br_pairs, size, Sits, SitsItems, SitsPairs}
+use Rattle.plist_binwrite.specs.Standing.{size, Sits, SitsItems, SitsPairs}
 use Rattle.plist_binwrite.specs.Walks.{Shown, all_items, of_obj, walk}
 use Rattle.plist_binwrite.specs.Numberings.{refs, pairs, obj_of, trace, trace_items, trace_pairs, IsNumbering}
 use Rattle.plist_binwrite.proofs.Sitting.{sits_items, sits_pairs, sits_item, sits_next, sits_key, sits_value, sits_next_pair}
 
 pub length-refs : (num : ℕ → ℕ) (ts : Trees) (q : ℕ) → length (refs num ts q) ≡ number_of_trees ts
 length-refs num NoTrees q = refl
-length-refs num (TreeAnd t ts) q = let e : suc (length (refs num ts (q + size t))) ≡ 1 + number_of_trees ts = omega (arith, length-refs num ts (q + size t)) in e
+length-refs num (TreeAnd t ts) q = let e : suc (length (refs num ts (q + size t)))
+    ≡ 1 + number_of_trees ts = omega (arith, length-refs num ts (q + size t)) in e
 
-pub length-pairs : (num : ℕ → ℕ) (ms : Members) (q : ℕ) → length (pairs num ms q) ≡ number_of_members ms
+pub length-pairs : (num : ℕ → ℕ) (ms : Members) (q : ℕ)
+    → length (pairs num ms q) ≡ number_of_members ms
 length-pairs num NoMembers q = refl
-length-pairs num (MemberAnd k t ms) q = let e : suc (length (pairs num ms (q + 1 + size t))) ≡ 1 + number_of_members ms = omega (arith, length-pairs num ms (q + 1 + size t)) in e
+length-pairs num (MemberAnd k t ms) q = let e : suc (length (pairs num ms (q + 1 + size t)))
+    ≡ 1 + number_of_members ms = omega (arith, length-pairs num ms (q + 1 + size t)) in e
 
 -- the objects of a path, each below the count and none twice
 pub record IsPath (count : ℕ) (path : List ℕ) : Type 0 where
@@ -34,15 +37,18 @@ or_false : (a b : Bool) → a || b ≡ false → (a ≡ false) × (b ≡ false)
 or_false true b h = absurd (cc)
 or_false false b h = (refl, h)
 
-none_equal : (i : ℕ) (xs : List ℕ) → list_any (eqb i) xs ≡ false → AllByRecursion (λ y. eqb i y ≡ false) xs
+none_equal : (i : ℕ) (xs : List ℕ) → list_any (eqb i) xs ≡ false
+    → AllByRecursion (λ y. eqb i y ≡ false) xs
 none_equal i [] h = tt
-none_equal i (x ∷ xs) h = let k = or_false (eqb i x) (list_any (eqb i) xs) h in (k.0, none_equal i xs k.1)
+none_equal i (x ∷ xs) h =
+    let k = or_false (eqb i x) (list_any (eqb i) xs) h in (k.0, none_equal i xs k.1)
 
 pub path_none : (count : ℕ) → IsPath count []
 unfolding IsDistinct
 path_none count = record { distinct = tt; below = λ q any. absurd (cc) }
 
-pub path_push : {count : ℕ} {path : List ℕ} (i : ℕ) → IsPath count path → i < count → list_any (eqb i) path ≡ false → IsPath count (i ∷ path)
+pub path_push : {count : ℕ} {path : List ℕ} (i : ℕ) → IsPath count path → i < count
+    → list_any (eqb i) path ≡ false → IsPath count (i ∷ path)
 unfolding IsDistinct
 path_push {count} {path} i o h new = record {
   distinct = (none_equal i path new, o.distinct);
@@ -53,13 +59,18 @@ pub path_room : {count : ℕ} {path : List ℕ} → IsPath count path → length
 path_room {count} {path} o = length-le_from_distinct_below path count o.distinct o.below
 
 module _ {A : Type 0} (s : Shown A) (count : ℕ) (place : ℕ → ℕ) (object : ℕ → Object) where
-  walk_step : (room : ℕ) (path : List ℕ) (at i : ℕ) → i < count → list_any (eqb i) path ≡ false → walk s count place object (suc room) path at i ≡ of_obj s (object i) i (place i) (λ c. walk s count place object room (i ∷ path) (place i) c)
+  walk_step : (room : ℕ) (path : List ℕ) (at i : ℕ) → i < count → list_any (eqb i) path ≡ false
+      → walk s count place object (suc room) path at i
+      ≡ of_obj s (object i) i (place i) (λ c. walk s count place object room (i ∷ path) (place i) c)
   unfolding walk
   walk_step room path at i h any = rw (lt-ltb i count h, any) refl
 
   -- an object that isn't open is entered
-  pub walk_entered : (path : List ℕ) (at i : ℕ) → IsPath count path → i < count → list_any (eqb i) path ≡ false →
-      walk s count place object (count - length path) path at i ≡ of_obj s (object i) i (place i) (λ c. walk s count place object (count - length (i ∷ path)) (i ∷ path) (place i) c)
+  pub walk_entered : (path : List ℕ) (at i : ℕ) → IsPath count path → i < count
+      → list_any (eqb i) path ≡ false →
+      walk s count place object (count - length path) path at i
+      ≡ of_obj s (object i) i (place i) (λ c. walk s count place object (count - length (i ∷ path))
+      (i ∷ path) (place i) c)
   walk_entered path at i o h any =
       let room : length (i ∷ path) ≤ count = path_room (path_push i o h any) in
       let e : count - length path ≡ suc (count - length (i ∷ path)) = omega arith in
@@ -69,12 +80,14 @@ module _ {A : Type 0} (s : Shown A) (count : ℕ) (place : ℕ → ℕ) (object 
 abbrev pub Above : (ℕ → ℕ) → ℕ → List ℕ → Type 0
 Above rank m path = AllByRecursion (λ x. m < rank x) path
 
-above_less : (rank : ℕ → ℕ) (m n : ℕ) (path : List ℕ) → m ≤ n → Above rank n path → Above rank m path
+above_less : (rank : ℕ → ℕ) (m n : ℕ) (path : List ℕ) → m ≤ n → Above rank n path
+    → Above rank m path
 above_less rank m n [] h a = tt
 above_less rank m n (x ∷ path) h a = (omega (arith, a.0), above_less rank m n path h a.1)
 
 -- so an object of a tree of m events isn't on it
-not_on_path : (rank : ℕ → ℕ) (m i : ℕ) (path : List ℕ) → rank i ≡ m → Above rank m path → list_any (eqb i) path ≡ false
+not_on_path : (rank : ℕ → ℕ) (m i : ℕ) (path : List ℕ) → rank i ≡ m → Above rank m path
+    → list_any (eqb i) path ≡ false
 not_on_path rank m i [] e a = refl
 not_on_path rank m i (x ∷ path) e a =
     elim (eqb_tells i x) [
@@ -82,67 +95,123 @@ not_on_path rank m i (x ∷ path) e a =
       | inr d ↦ ap (λ b. b || list_any (eqb i) path) d.0 ∙ not_on_path rank m i path e a.1
     ]
 
-module _ {A : Type 0} (s : Shown A) (es : List Ev) (num rank : ℕ → ℕ) (count : ℕ) (place : ℕ → ℕ) (object : ℕ → Object) (n : IsNumbering es num rank count object) where
-  entered : (t : Tree) (p : ℕ) (path : List ℕ) (at : ℕ) → Sits es t p → IsPath count path → Above rank (size t) path →
-      walk s count place object (count - length path) path at (num p) ≡ of_obj s (obj_of num t p) (num p) (place (num p)) (λ c. walk s count place object (count - length (num p ∷ path)) (num p ∷ path) (place (num p)) c)
+module _ {A : Type 0} (s : Shown A) (es : List PlainEvent) (num rank : ℕ → ℕ) (count : ℕ) (place : ℕ
+    → ℕ) (object : ℕ → Object) (n : IsNumbering es num rank count object) where
+  entered : (t : Tree) (p : ℕ) (path : List ℕ) (at : ℕ) → Sits es t p → IsPath count path
+      → Above rank (size t) path →
+      walk s count place object (count - length path) path at (num p)
+      ≡ of_obj s (obj_of num t p) (num p) (place (num p))
+      (λ c. walk s count place object (count - length (num p ∷ path)) (num p ∷ path)
+      (place (num p)) c)
   entered t p path at sits o a =
-      walk_entered s count place object path at (num p) o (n.below t p sits) (not_on_path rank (size t) (num p) path (n.ranked t p sits) a)
-      ∙ ap (λ ob. of_obj s ob (num p) (place (num p)) (λ c. walk s count place object (count - length (num p ∷ path)) (num p ∷ path) (place (num p)) c)) (n.holds t p sits)
+      walk_entered s count place object path at (num p) o (n.below t p sits)
+      (not_on_path rank (size t) (num p) path (n.ranked t p sits) a)
+      ∙ ap (λ ob. of_obj s ob (num p) (place (num p))
+      (λ c. walk s count place object (count - length (num p ∷ path)) (num p ∷ path)
+      (place (num p)) c)) (n.holds t p sits)
 
-  path_in : (t : Tree) (p : ℕ) (path : List ℕ) → Sits es t p → IsPath count path → Above rank (size t) path → IsPath count (num p ∷ path)
-  path_in t p path sits o a = path_push (num p) o (n.below t p sits) (not_on_path rank (size t) (num p) path (n.ranked t p sits) a)
+  path_in : (t : Tree) (p : ℕ) (path : List ℕ) → Sits es t p → IsPath count path
+      → Above rank (size t) path → IsPath count (num p ∷ path)
+  path_in t p path sits o a =
+      path_push (num p) o (n.below t p sits) (not_on_path rank (size t) (num p) path
+      (n.ranked t p sits) a)
 
-  above_in : (t : Tree) (p m : ℕ) (path : List ℕ) → Sits es t p → m < size t → Above rank (size t) path → Above rank m (num p ∷ path)
-  above_in t p m path sits h a = (omega (arith, n.ranked t p sits), above_less rank m (size t) path (omega arith) a)
+  above_in : (t : Tree) (p m : ℕ) (path : List ℕ) → Sits es t p → m < size t
+      → Above rank (size t) path → Above rank m (num p ∷ path)
+  above_in t p m path sits h a =
+      (omega (arith, n.ranked t p sits), above_less rank m (size t) path (omega arith) a)
 
   mutual
-    pub unfolds : (t : Tree) (p : ℕ) (path : List ℕ) (at : ℕ) → Sits es t p → IsPath count path → Above rank (size t) path → walk s count place object (count - length path) path at (num p) ≡ trace num s t p
+    pub unfolds : (t : Tree) (p : ℕ) (path : List ℕ) (at : ℕ) → Sits es t p → IsPath count path
+        → Above rank (size t) path → walk s count place object (count - length path) path at (num p)
+        ≡ trace num s t p
     unfolds (Leaf x) p path at sits o a = entered (Leaf x) p path at sits o a
     unfolds (Array ts) p path at sits o a =
         entered (Array ts) p path at sits o a
-        ∙ ap (λ n. s.begin_array (num p) n ++ (flat_map (λ c. walk s count place object (count - length (num p ∷ path)) (num p ∷ path) (place (num p)) c) (refs num ts (p + 1)) ++ s.close)) (length-refs num ts (p + 1))
+        ∙ ap (λ n. s.begin_array (num p) n ++ (flat_map
+        (λ c. walk s count place object (count - length (num p ∷ path)) (num p ∷ path)
+        (place (num p)) c) (refs num ts (p + 1)) ++ s.close)) (length-refs num ts (p + 1))
         ∙ ap (λ l. s.begin_array (num p) (number_of_trees ts) ++ (l ++ s.close))
-        (unfolds_items ts (p + 1) (num p ∷ path) (place (num p)) (sits_items sits) (path_in (Array ts) p path sits o a)
-        (above_in (Array ts) p (length (br_items ts)) path sits (omega (arith, length-append (br_items ts) (stop ∷ []))) a))
+        (unfolds_items ts (p + 1) (num p ∷ path) (place (num p)) (sits_items sits)
+        (path_in (Array ts) p path sits o a)
+        (above_in (Array ts) p (length (shape_of_items ts)) path sits
+        (omega (arith, length-append (shape_of_items ts) (EndCollection ∷ []))) a))
     unfolds (Dictionary ms) p path at sits o a =
         entered (Dictionary ms) p path at sits o a
-        ∙ ap (λ n. s.begin_dictionary (num p) n ++ (flat_map (λ c. walk s count place object (count - length (num p ∷ path)) (num p ∷ path) (place (num p)) c) (children_of (pairs num ms (p + 1))) ++ s.close)) (length-pairs num ms (p + 1))
+        ∙ ap (λ n. s.begin_dictionary (num p) n ++ (flat_map
+        (λ c. walk s count place object (count - length (num p ∷ path)) (num p ∷ path)
+        (place (num p)) c) (children_of (pairs num ms (p + 1))) ++ s.close))
+        (length-pairs num ms (p + 1))
         ∙ ap (λ l. s.begin_dictionary (num p) (number_of_members ms) ++ (l ++ s.close))
-        (unfolds_pairs ms (p + 1) (num p ∷ path) (place (num p)) (sits_pairs sits) (path_in (Dictionary ms) p path sits o a)
-        (above_in (Dictionary ms) p (length (br_pairs ms)) path sits (omega (arith, length-append (br_pairs ms) (stop ∷ []))) a))
+        (unfolds_pairs ms (p + 1) (num p ∷ path) (place (num p)) (sits_pairs sits)
+        (path_in (Dictionary ms) p path sits o a)
+        (above_in (Dictionary ms) p (length (shape_of_pairs ms)) path sits
+        (omega (arith, length-append (shape_of_pairs ms) (EndCollection ∷ []))) a))
 
-    pub unfolds_items : (ts : Trees) (q : ℕ) (path : List ℕ) (at : ℕ) → SitsItems es ts q → IsPath count path → Above rank (length (br_items ts)) path → flat_map (λ c. walk s count place object (count - length path) path at c) (refs num ts q) ≡ trace_items num s ts q
+    pub unfolds_items : (ts : Trees) (q : ℕ) (path : List ℕ) (at : ℕ) → SitsItems es ts q
+        → IsPath count path → Above rank (length (shape_of_items ts)) path
+        → flat_map (λ c. walk s count place object (count - length path) path at c) (refs num ts q)
+        ≡ trace_items num s ts q
     unfolds_items NoTrees q path at sits o a = refl
     unfolds_items (TreeAnd t ts) q path at sits o a =
-        let len : length (br t ++ br_items ts) ≡ length (br t) + length (br_items ts) = length-append (br t) (br_items ts) in
-        let first = unfolds t q path at (sits_item sits) o (above_less rank (size t) (length (br t ++ br_items ts)) path (omega arith) a) in
-        let next = unfolds_items ts (q + size t) path at (sits_next sits) o (above_less rank (length (br_items ts)) (length (br t ++ br_items ts)) path (omega arith) a) in
+        let len : length (shape t ++ shape_of_items ts)
+        ≡ length (shape t) + length (shape_of_items ts) = length-append (shape t)
+        (shape_of_items ts) in
+        let first = unfolds t q path at (sits_item sits) o
+        (above_less rank (size t) (length (shape t ++ shape_of_items ts)) path (omega arith) a) in
+        let next = unfolds_items ts (q + size t) path at (sits_next sits) o
+        (above_less rank (length (shape_of_items ts)) (length (shape t ++ shape_of_items ts)) path
+        (omega arith) a) in
         λ i. first i ++ next i
 
-    pub unfolds_pairs : (ms : Members) (q : ℕ) (path : List ℕ) (at : ℕ) → SitsPairs es ms q → IsPath count path → Above rank (length (br_pairs ms)) path → flat_map (λ c. walk s count place object (count - length path) path at c) (children_of (pairs num ms q)) ≡ trace_pairs num s ms q
+    pub unfolds_pairs : (ms : Members) (q : ℕ) (path : List ℕ) (at : ℕ) → SitsPairs es ms q
+        → IsPath count path → Above rank (length (shape_of_pairs ms)) path
+        → flat_map (λ c. walk s count place object (count - length path) path at c)
+        (children_of (pairs num ms q)) ≡ trace_pairs num s ms q
     unfolds_pairs NoMembers q path at sits o a = refl
     unfolds_pairs (MemberAnd k t ms) q path at sits o a =
-        let len : length (br t ++ br_pairs ms) ≡ length (br t) + length (br_pairs ms) = length-append (br t) (br_pairs ms) in
-        let all : ℕ = length (leaf (trees.String k) ∷ (br t ++ br_pairs ms)) in
-        let key = entered (Leaf (trees.String k)) q path at (sits_key sits) o (above_less rank 1 (length (leaf (trees.String k) ∷ (br t ++ br_pairs ms))) path (omega arith) a) in
-        let first = unfolds t (q + 1) path at (sits_value sits) o (above_less rank (size t) (length (leaf (trees.String k) ∷ (br t ++ br_pairs ms))) path (omega arith) a) in
-        let next = unfolds_pairs ms (q + 1 + size t) path at (sits_next_pair sits) o (above_less rank (length (br_pairs ms)) (length (leaf (trees.String k) ∷ (br t ++ br_pairs ms))) path (omega arith) a) in
+        let len : length (shape t ++ shape_of_pairs ms)
+        ≡ length (shape t) + length (shape_of_pairs ms) = length-append (shape t)
+        (shape_of_pairs ms) in
+        let all : ℕ = length (Single (trees.String k) ∷ (shape t ++ shape_of_pairs ms)) in
+        let key = entered (Leaf (trees.String k)) q path at (sits_key sits) o
+        (above_less rank 1 (length (Single (trees.String k) ∷ (shape t ++ shape_of_pairs ms))) path
+        (omega arith) a) in
+        let first = unfolds t (q + 1) path at (sits_value sits) o
+        (above_less rank (size t) (length (Single
+        (trees.String k) ∷ (shape t ++ shape_of_pairs ms))) path (omega arith) a) in
+        let next = unfolds_pairs ms (q + 1 + size t) path at (sits_next_pair sits) o
+        (above_less rank (length (shape_of_pairs ms))
+        (length (Single (trees.String k) ∷ (shape t ++ shape_of_pairs ms))) path (omega arith) a) in
         λ i. key i ++ (first i ++ next i)
 
 -- the items of a tree are its events
 mutual
   pub trace_is : (num : ℕ → ℕ) (t : Tree) (p : ℕ) → trace num all_items t p ≡ map Ok (bracketing t)
   trace_is num (Leaf x) p = refl
-  trace_is num (Array ts) p = ap (λ l. Ok (events.StartArray (Some (number_of_trees ts))) ∷ l) (ap (λ l. l ++ Ok events.EndCollection ∷ []) (trace_items_is num ts (p + 1)) ∙ sym (map-append Ok (bracketing_of_items ts) (events.EndCollection ∷ [])))
-  trace_is num (Dictionary ms) p = ap (λ l. Ok (events.StartDictionary (Some (number_of_members ms))) ∷ l) (ap (λ l. l ++ Ok events.EndCollection ∷ []) (trace_pairs_is num ms (p + 1)) ∙ sym (map-append Ok (bracketing_of_pairs ms) (events.EndCollection ∷ [])))
+  trace_is num (Array ts) p =
+      ap (λ l. Ok (events.StartArray (Some (number_of_trees ts))) ∷ l)
+      (ap (λ l. l ++ Ok events.EndCollection ∷ []) (trace_items_is num ts (p + 1))
+      ∙ sym (map-append Ok (bracketing_of_items ts) (events.EndCollection ∷ [])))
+  trace_is num (Dictionary ms) p =
+      ap (λ l. Ok (events.StartDictionary (Some (number_of_members ms))) ∷ l)
+      (ap (λ l. l ++ Ok events.EndCollection ∷ []) (trace_pairs_is num ms (p + 1))
+      ∙ sym (map-append Ok (bracketing_of_pairs ms) (events.EndCollection ∷ [])))
 
-  trace_items_is : (num : ℕ → ℕ) (ts : Trees) (q : ℕ) → trace_items num all_items ts q ≡ map Ok (bracketing_of_items ts)
+  trace_items_is : (num : ℕ → ℕ) (ts : Trees) (q : ℕ)
+      → trace_items num all_items ts q ≡ map Ok (bracketing_of_items ts)
   trace_items_is num NoTrees q = refl
-  trace_items_is num (TreeAnd t ts) q = (λ i. trace_is num t q i ++ trace_items_is num ts (q + size t) i) ∙ sym (map-append Ok (bracketing t) (bracketing_of_items ts))
+  trace_items_is num (TreeAnd t ts) q =
+      (λ i. trace_is num t q i ++ trace_items_is num ts (q + size t) i)
+      ∙ sym (map-append Ok (bracketing t) (bracketing_of_items ts))
 
-  trace_pairs_is : (num : ℕ → ℕ) (ms : Members) (q : ℕ) → trace_pairs num all_items ms q ≡ map Ok (bracketing_of_pairs ms)
+  trace_pairs_is : (num : ℕ → ℕ) (ms : Members) (q : ℕ)
+      → trace_pairs num all_items ms q ≡ map Ok (bracketing_of_pairs ms)
   trace_pairs_is num NoMembers q = refl
-  trace_pairs_is num (MemberAnd k t ms) q = ap (λ l. Ok (events.String k) ∷ l) ((λ i. trace_is num t (q + 1) i ++ trace_pairs_is num ms (q + 1 + size t) i) ∙ sym (map-append Ok (bracketing t) (bracketing_of_pairs ms)))
+  trace_pairs_is num (MemberAnd k t ms) q =
+      ap (λ l. Ok (Single (trees.String k)) ∷ l)
+      ((λ i. trace_is num t (q + 1) i ++ trace_pairs_is num ms (q + 1 + size t) i)
+      ∙ sym (map-append Ok (bracketing t) (bracketing_of_pairs ms)))
 
 pub no_fault : (es : List PlainEvent) → until_fault (map Ok es) ≡ map Ok es
 no_fault [] = refl

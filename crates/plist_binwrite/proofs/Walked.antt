@@ -11,28 +11,39 @@ use Rattle.plist_binread.specs.Visits.{visits_within, visits_found, visits_of}
 use Rattle.plist_binwrite.specs.Walks.{all_items, collections, of_obj, walk}
 
 -- a collection's items by those of its children, and its visits
-items_by : (o : Object) (place i : ℕ) (f g : ℕ → List Item) → ((c : ℕ) → f c ≡ g c) → of_obj all_items o i place f ≡ items_of place o g
+items_by : (o : Object) (place i : ℕ) (f g : ℕ → List Item) → ((c : ℕ) → f c ≡ g c)
+    → of_obj all_items o i place f ≡ items_of place o g
 items_by (Scalar e) place i f g h = refl
-items_by (Array items) place i f g h = λ j. Ok (events.StartArray (Some (length items))) ∷ (flat_map (λ c. h c j) items ++ Ok events.EndCollection ∷ [])
-items_by (Dictionary pairs) place i f g h = λ j. Ok (events.StartDictionary (Some (length pairs))) ∷ (flat_map (λ c. h c j) (children_of pairs) ++ Ok events.EndCollection ∷ [])
+items_by (Array items) place i f g h =
+    λ j. Ok (events.StartArray (Some (length items))) ∷ (flat_map
+    (λ c. h c j) items ++ Ok events.EndCollection ∷ [])
+items_by (Dictionary pairs) place i f g h =
+    λ j. Ok (events.StartDictionary (Some (length pairs))) ∷ (flat_map (λ c. h c j)
+    (children_of pairs) ++ Ok events.EndCollection ∷ [])
 items_by (Faulty kind) place i f g h = refl
 
-visits_by : (o : Object) (place i : ℕ) (f g : ℕ → List ℕ) → ((c : ℕ) → f c ≡ g c) → of_obj collections o i place f ≡ visits_within i o g
+visits_by : (o : Object) (place i : ℕ) (f g : ℕ → List ℕ) → ((c : ℕ) → f c ≡ g c)
+    → of_obj collections o i place f ≡ visits_within i o g
 visits_by (Scalar e) place i f g h = refl
-visits_by (Array items) place i f g h = ap (λ l. i ∷ l) (append-nil (flat_map f items)) ∙ (λ j. i ∷ flat_map (λ c. h c j) items)
-visits_by (Dictionary pairs) place i f g h = ap (λ l. i ∷ l) (append-nil (flat_map f (children_of pairs))) ∙ (λ j. i ∷ flat_map (λ c. h c j) (children_of pairs))
+visits_by (Array items) place i f g h =
+    ap (λ l. i ∷ l) (append-nil (flat_map f items)) ∙ (λ j. i ∷ flat_map (λ c. h c j) items)
+visits_by (Dictionary pairs) place i f g h =
+    ap (λ l. i ∷ l) (append-nil (flat_map f (children_of pairs)))
+    ∙ (λ j. i ∷ flat_map (λ c. h c j) (children_of pairs))
 visits_by (Faulty kind) place i f g h = refl
 
 module _ (before : List ℕ) (w : ℕ) where
   abbrev pub entry_at : ℕ → Entry
   entry_at place = record { place = place; object = object_in w (drop place before) }
 
-  found_inside : (places : List ℕ) (i : ℕ) → i < length places → slice_get (table_of before w places) i ≡ Some (entry_at (get_or places i 0))
+  found_inside : (places : List ℕ) (i : ℕ) → i < length places
+      → slice_get (table_of before w places) i ≡ Some (entry_at (get_or places i 0))
   found_inside [] i h = absurd (omega arith)
   found_inside (p ∷ ps) zero h = refl
   found_inside (p ∷ ps) (suc i) h = found_inside ps i (omega arith)
 
-  found_outside : (places : List ℕ) (i : ℕ) → length places ≤ i → slice_get (table_of before w places) i ≡ None
+  found_outside : (places : List ℕ) (i : ℕ) → length places ≤ i
+      → slice_get (table_of before w places) i ≡ None
   found_outside [] i h = refl
   found_outside (p ∷ ps) zero h = absurd (omega arith)
   found_outside (p ∷ ps) (suc i) h = found_outside ps i (omega arith)
@@ -44,26 +55,33 @@ module _ (before : List ℕ) (w : ℕ) where
     abbrev pub object_of : ℕ → Object
     object_of i = object_in w (drop (get_or places i 0) before)
 
-    at_last : (b : Bool) (at place : ℕ) → cond b (Err (fault_at RecursiveObject place) ∷ []) [] ≡ items_found (Some (entry_at place)) b at (λ entry. [])
+    at_last : (b : Bool) (at place : ℕ) → cond b (Err (fault_at RecursiveObject place) ∷ []) []
+        ≡ items_found (Some (entry_at place)) b at (λ entry. [])
     at_last true at place = refl
     at_last false at place = refl
 
-    at_one : (b : Bool) (at place : ℕ) (xs : List Item) (f : Entry → List Item) → xs ≡ f (entry_at place) → cond b (Err (fault_at RecursiveObject place) ∷ []) xs ≡ items_found (Some (entry_at place)) b at f
+    at_one : (b : Bool) (at place : ℕ) (xs : List Item) (f : Entry → List Item)
+        → xs ≡ f (entry_at place) → cond b (Err (fault_at RecursiveObject place) ∷ []) xs
+        ≡ items_found (Some (entry_at place)) b at f
     at_one true at place xs f h = refl
     at_one false at place xs f h = h
 
-    pub walk_items : (room : ℕ) (path : List ℕ) (at i : ℕ) → walk all_items (length places) place_in object_of room path at i ≡ unfolding_of (table_of before w places) room path at i
+    pub walk_items : (room : ℕ) (path : List ℕ) (at i : ℕ)
+        → walk all_items (length places) place_in object_of room path at i
+        ≡ unfolding_of (table_of before w places) room path at i
     unfolding walk unfolding_of
     walk_items zero path at i =
         elim (cases_lt i (length places)) [
-          | inl h ↦ rw (lt-ltb i (length places) h, found_inside places i h) (at_last (list_any (nat_eq i) path) at (get_or places i 0))
+          | inl h ↦ rw (lt-ltb i (length places) h, found_inside places i h)
+              (at_last (list_any (nat_eq i) path) at (get_or places i 0))
           | inr h ↦ rw (le-ltb i (length places) h, found_outside places i h) refl
         ]
     walk_items (suc room) path at i =
         elim (cases_lt i (length places)) [
           | inl h ↦ rw (lt-ltb i (length places) h, found_inside places i h)
               (at_one (list_any (nat_eq i) path) at (get_or places i 0) _ _
-              (items_by (object_of i) (get_or places i 0) i _ _ (λ c. walk_items room (i ∷ path) (get_or places i 0) c)))
+              (items_by (object_of i) (get_or places i 0) i _ _
+              (λ c. walk_items room (i ∷ path) (get_or places i 0) c)))
           | inr h ↦ rw (le-ltb i (length places) h, found_outside places i h) refl
         ]
 
@@ -74,11 +92,14 @@ module _ (before : List ℕ) (w : ℕ) where
     no_visit true = refl
     no_visit false = refl
 
-    visit_one : (b : Bool) (place : ℕ) (xs : List ℕ) (f : Entry → List ℕ) → xs ≡ f (entry_at place) → cond b [] xs ≡ visits_found (Some (entry_at place)) b f
+    visit_one : (b : Bool) (place : ℕ) (xs : List ℕ) (f : Entry → List ℕ) → xs ≡ f (entry_at place)
+        → cond b [] xs ≡ visits_found (Some (entry_at place)) b f
     visit_one true place xs f h = refl
     visit_one false place xs f h = h
 
-    pub walk_visits : (room : ℕ) (path : List ℕ) (at i : ℕ) → walk collections (length places) place_in object_of room path at i ≡ visits_of (table_of before w places) room path i
+    pub walk_visits : (room : ℕ) (path : List ℕ) (at i : ℕ)
+        → walk collections (length places) place_in object_of room path at i
+        ≡ visits_of (table_of before w places) room path i
     unfolding walk visits_of
     walk_visits zero path at i =
         elim (cases_lt i (length places)) [
@@ -89,6 +110,7 @@ module _ (before : List ℕ) (w : ℕ) where
         elim (cases_lt i (length places)) [
           | inl h ↦ rw (lt-ltb i (length places) h, found_inside places i h)
               (visit_one (list_any (nat_eq i) path) (get_or places i 0) _ _
-              (visits_by (object_of i) (get_or places i 0) i _ _ (λ c. walk_visits room (i ∷ path) (get_or places i 0) c)))
+              (visits_by (object_of i) (get_or places i 0) i _ _
+              (λ c. walk_visits room (i ∷ path) (get_or places i 0) c)))
           | inr h ↦ rw (le-ltb i (length places) h, found_outside places i h) refl
         ]

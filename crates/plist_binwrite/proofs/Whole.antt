@@ -3,12 +3,13 @@ use Rattle.std.proofs.Common.{◌≡◌, ◌≢◌, ℕ, suc, ◌+◌, ◌-◌, 
 use Rattle.std.specs.List.{list_any, starts_with}
 use Rattle.std.proofs.lemmas.Bool.{le-ltb}
 use Rattle.std.proofs.Math.Seq.{take-append_seam, drop-append_seam}
-use Rattle.plist_base.specs.Bracketing.{bracketing}
+use Rattle.plist_base.specs.Bracketing.{bracketing, shape}
 use Rattle.plist_binread.specs.Container.{number_of, numbers_of, magic, trailer_in, is_width, Head, head_with, head_of}
 use Rattle.plist_binread.specs.Object.{Object, object_in}
 use Rattle.plist_binread.specs.Unfolding.{until_fault, items_with, items_of_file}
 use Rattle.plist_binread.specs.Visits.{visits_with, visits}
-use Rattle.plist_binwrite.specs.Marks.{Tree, br, Sits}
+use Rattle.plist_base.specs.Trees.{Tree}
+use Rattle.plist_binwrite.specs.Standing.{Sits}
 use Rattle.plist_binwrite.specs.Forms.{big_endian, least_width, form, table_form, trailer_form, AllFit}
 use Rattle.plist_binwrite.specs.Counts.{HasObjects}
 use Rattle.plist_binwrite.specs.Written.{reference_width, offset_width, bodies, ending, IsWrittenAs}
@@ -41,7 +42,9 @@ width_positive n = let c = cases_width n in let p = by c.2 in omega (arith, c.1)
     by four = omega arith
     by eight = omega arith
 
-trailer_back : (ow rf count at : ℕ) → count < 2 ^ 64 → at < 2 ^ 64 → trailer_in (trailer_form ow rf count at) ≡ record { offset_width = ow; reference_width = rf; count = count; root = 0; table = at }
+trailer_back : (ow rf count at : ℕ) → count < 2 ^ 64 → at < 2 ^ 64
+    → trailer_in (trailer_form ow rf count at)
+    ≡ record { offset_width = ow; reference_width = rf; count = count; root = 0; table = at }
 trailer_back ow rf count at few short =
     let a : number_of (ow ∷ []) ≡ ow = omega arith in
     let b : number_of (rf ∷ []) ≡ rf = omega arith in
@@ -50,64 +53,113 @@ trailer_back ow rf count at few short =
     let t : number_of (big_endian 8 at) ≡ at = number_back 8 at (omega arith) in
     λ i. record { offset_width = a i; reference_width = b i; count = c i; root = z i; table = t i }
 
-head_with_is : (bytes places : List ℕ) (trailer ow rf count at : ℕ) → is_width ow ≡ true → is_width rf ≡ true → at + count * ow ≤ trailer → numbers_of ow (take (count * ow) (drop at bytes)) ≡ places
-    → head_with bytes trailer (record { offset_width = ow; reference_width = rf; count = count; root = 0; table = at }) ≡ Ok (record { trailer = trailer; reference_width = rf; root = 0; places = places })
+head_with_is : (bytes places : List ℕ) (trailer ow rf count at : ℕ) → is_width ow ≡ true
+    → is_width rf ≡ true → at + count * ow ≤ trailer
+    → numbers_of ow (take (count * ow) (drop at bytes)) ≡ places
+    → head_with bytes trailer
+    (record { offset_width = ow; reference_width = rf; count = count; root = 0; table = at })
+    ≡ Ok (record { trailer = trailer; reference_width = rf; root = 0; places = places })
 head_with_is bytes places trailer ow rf count at a b h e =
-    rw (a, b, le-ltb trailer (at + count * ow) h) (ap (λ ps. Ok (record { trailer = trailer; reference_width = rf; root = 0; places = ps })) e)
+    rw (a, b, le-ltb trailer (at + count * ow) h) (ap (λ ps. Ok (record {
+      trailer =
+          trailer;
+      reference_width = rf;
+      root = 0;
+      places = ps;
+    })) e)
 
-head_whole : (bytes : List ℕ) → starts_with nat_eq bytes magic ≡ true → 32 ≤ length bytes → head_of bytes ≡ head_with bytes (length bytes - 32) (trailer_in (drop (length bytes - 32) bytes))
+head_whole : (bytes : List ℕ) → starts_with nat_eq bytes magic ≡ true → 32 ≤ length bytes
+    → head_of bytes ≡ head_with bytes (length bytes - 32)
+    (trailer_in (drop (length bytes - 32) bytes))
 unfolding head_of
-head_whole bytes e h = let big : 8 ≤ length bytes = omega arith in rw (le-ltb (length bytes) 8 big, e, le-ltb (length bytes) 32 h) refl
+head_whole bytes e h = let big : 8 ≤ length bytes = omega arith in rw (
+  le-ltb
+      (length bytes) 8 big,
+  e,
+  le-ltb (length bytes) 32 h,
+) refl
 
 module _ (file places : List ℕ) where
   abbrev table : List ℕ
   table = table_form (offset_width (length file)) places
 
   abbrev trailer : List ℕ
-  trailer = trailer_form (offset_width (length file)) (reference_width (length places)) (length places) (length file)
+  trailer =
+      trailer_form (offset_width (length file)) (reference_width (length places)) (length places)
+      (length file)
 
   -- where the trailer begins
   abbrev pub last : ℕ
   last = length file + length places * offset_width (length file)
 
   length_front : length (file ++ table) ≡ last
-  length_front = omega (arith, length-append file table, length-table (offset_width (length file)) places)
+  length_front =
+      omega (arith, length-append file table, length-table (offset_width (length file)) places)
 
   regroup : closed file places ≡ (file ++ table) ++ trailer
   regroup = sym (append_assoc file table trailer)
 
   pub length_closed : length (closed file places) ≡ last + 32
-  length_closed = let n : length trailer ≡ 32 = refl in ap length regroup ∙ length-append (file ++ table) trailer ∙ (let e : length (file ++ table) + length trailer ≡ last + 32 = omega (arith, length_front, n) in e)
+  length_closed = let n : length trailer ≡ 32 = refl in ap length regroup
+      ∙ length-append (file ++ table) trailer
+      ∙ (let e : length (file ++ table) + length trailer
+      ≡ last + 32 = omega (arith, length_front, n) in e)
 
   last_is : length (closed file places) - 32 ≡ last
   last_is = omega (arith, length_closed)
 
   pub front_is : take last (closed file places) ≡ file ++ table
-  front_is = ap (λ n. take n (closed file places)) (sym length_front) ∙ ap (take (length (file ++ table))) regroup ∙ take-append_seam (file ++ table) trailer
+  front_is =
+      ap (λ n. take n (closed file places)) (sym length_front)
+      ∙ ap (take (length (file ++ table))) regroup ∙ take-append_seam (file ++ table) trailer
 
   trailer_is : drop last (closed file places) ≡ trailer
-  trailer_is = ap (λ n. drop n (closed file places)) (sym length_front) ∙ ap (drop (length (file ++ table))) regroup ∙ drop-append_seam (file ++ table) trailer
+  trailer_is =
+      ap (λ n. drop n (closed file places)) (sym length_front)
+      ∙ ap (drop (length (file ++ table))) regroup ∙ drop-append_seam (file ++ table) trailer
 
-  table_is : take (length places * offset_width (length file)) (drop (length file) (closed file places)) ≡ table
+  table_is : take (length places * offset_width (length file))
+      (drop (length file) (closed file places)) ≡ table
   table_is =
-      ap (take (length places * offset_width (length file))) (drop-append_seam file (table ++ trailer))
-      ∙ ap (λ n. take n (table ++ trailer)) (sym (length-table (offset_width (length file)) places)) ∙ take-append_seam table trailer
+      ap (take (length places * offset_width (length file)))
+      (drop-append_seam file (table ++ trailer))
+      ∙ ap (λ n. take n (table ++ trailer)) (sym (length-table (offset_width (length file)) places))
+      ∙ take-append_seam table trailer
 
-  pub head_is : (body : List ℕ) → file ≡ magic ++ body → length places < 2 ^ 64 → length file < 2 ^ 64 → AllFit (offset_width (length file)) places
-      → head_of (closed file places) ≡ Ok (record { trailer = last; reference_width = reference_width (length places); root = 0; places = places })
+  pub head_is : (body : List ℕ) → file ≡ magic ++ body → length places < 2 ^ 64
+      → length file < 2 ^ 64 → AllFit (offset_width (length file)) places
+      → head_of (closed file places)
+      ≡ Ok (record {
+        trailer = last;
+        reference_width = reference_width
+            (length places);
+        root = 0;
+        places = places;
+      })
   head_is body is few short fit =
-      let starts : starts_with nat_eq (closed file places) magic ≡ true = ap (λ f. starts_with nat_eq (f ++ (table ++ trailer)) magic) is in
-      let back : numbers_of (offset_width (length file)) (take (length places * offset_width (length file)) (drop (length file) (closed file places))) ≡ places
-      = ap (numbers_of (offset_width (length file))) table_is ∙ numbers_back (offset_width (length file)) places (width_positive (length file)) fit in
+      let starts : starts_with nat_eq (closed file places) magic
+      ≡ true = ap (λ f. starts_with nat_eq (f ++ (table ++ trailer)) magic) is in
+      let back : numbers_of (offset_width (length file))
+      (take (length places * offset_width (length file)) (drop (length file) (closed file places)))
+      ≡ places
+      = ap (numbers_of (offset_width (length file))) table_is
+      ∙ numbers_back (offset_width (length file)) places (width_positive (length file)) fit in
       head_whole (closed file places) starts (omega (arith, length_closed))
-      ∙ (λ i. head_with (closed file places) (last_is i) (trailer_in (drop (last_is i) (closed file places))))
+      ∙ (λ i. head_with (closed file places) (last_is i)
+      (trailer_in (drop (last_is i) (closed file places))))
       ∙ ap (λ r. head_with (closed file places) last (trailer_in r)) trailer_is
-      ∙ ap (head_with (closed file places) last) (trailer_back (offset_width (length file)) (reference_width (length places)) (length places) (length file) few short)
-      ∙ head_with_is (closed file places) places last (offset_width (length file)) (reference_width (length places)) (length places) (length file) (width_is (length file)) (width_is (length places - 1)) (omega arith) back
+      ∙ ap (head_with (closed file places) last)
+      (trailer_back (offset_width (length file)) (reference_width (length places)) (length places)
+      (length file) few short)
+      ∙ head_with_is (closed file places) places last (offset_width (length file))
+      (reference_width (length places)) (length places) (length file) (width_is (length file))
+      (width_is (length places - 1)) (omega arith) back
 
 -- ---- what the file's own table holds
 
-is_written : (w : ℕ) (objects : ℕ → Object) (file places : List ℕ) (l : IsLaid w objects file places) (k : ℕ) → get_or places k 0 ≢ 0 → (b : Bool) → list_any (eqb k) l.order ≡ b → b ≡ true
+is_written : (w : ℕ) (objects : ℕ → Object) (file places : List ℕ)
+    (l : IsLaid w objects file places) (k : ℕ) → get_or places k 0 ≢ 0 → (b : Bool)
+    → list_any (eqb k) l.order ≡ b → b ≡ true
 is_written w objects file places l k z true e = refl
 is_written w objects file places l k z false e = absurd (z (l.unset k e))
 
@@ -115,8 +167,12 @@ all_fit : (w : ℕ) (xs : List ℕ) → ((k : ℕ) → k < length xs → get_or 
 all_fit w [] h = tt
 all_fit w (x ∷ xs) h = (h 0 (omega arith), all_fit w xs (λ k lt. h (suc k) (omega arith)))
 
-module _ (t : Tree) (num rank : ℕ → ℕ) (objects : ℕ → Object) (file places : List ℕ) (l : IsLaid (reference_width (length places)) objects file places)
-    (all : (k : ℕ) → k < length places → get_or places k 0 ≢ 0) (root : num 0 ≡ 0) (n : IsNumbering (br t) num rank (length places) objects) (few : length places < 2 ^ 64) (short : length file < 2 ^ 64) where
+module _ (t : Tree) (num rank : ℕ → ℕ) (objects : ℕ
+    → Object) (file places : List ℕ) (l : IsLaid
+    (reference_width (length places)) objects file places)
+    (all : (k : ℕ) → k < length places → get_or places k 0 ≢ 0) (root : num 0 ≡ 0)
+    (n : IsNumbering (shape t) num rank (length places) objects) (few : length places < 2 ^ 64)
+    (short : length file < 2 ^ 64) where
   abbrev w : ℕ
   w = reference_width (length places)
 
@@ -128,12 +184,14 @@ module _ (t : Tree) (num rank : ℕ → ℕ) (objects : ℕ → Object) (file pl
 
   object_read : (k : ℕ) → k < length places → object_of before w places k ≡ objects k
   object_read k h =
-      let o = object_there w objects file places (table_form (offset_width (length file)) places) k l (there k h) in
+      let o = object_there w objects file places
+      (table_form (offset_width (length file)) places) k l (there k h) in
       ap (λ bytes. object_in w (drop (get_or places k 0) bytes)) (front_is file places ∙ o.is)
-      ∙ ap (object_in w) (ap (λ at. drop at (o.before ++ (form w (objects k) ++ o.after))) (sym o.at_place) ∙ drop-append_seam o.before (form w (objects k) ++ o.after))
+      ∙ ap (object_in w) (ap (λ at. drop at (o.before ++ (form w (objects k) ++ o.after)))
+      (sym o.at_place) ∙ drop-append_seam o.before (form w (objects k) ++ o.after))
       ∙ form_read w (width_positive (length places - 1)) (objects k) o.after o.good
 
-  numbered : IsNumbering (br t) num rank (length places) (object_of before w places)
+  numbered : IsNumbering (shape t) num rank (length places) (object_of before w places)
   numbered = record {
     below = n.below;
     ranked = n.ranked;
@@ -141,29 +199,46 @@ module _ (t : Tree) (num rank : ℕ → ℕ) (objects : ℕ → Object) (file pl
   }
 
   fit : AllFit (offset_width (length file)) places
-  fit = all_fit (offset_width (length file)) places (λ k h. omega (arith, found_place w objects file places k l (there k h), width_holds (length file) short))
+  fit =
+      all_fit (offset_width (length file)) places
+      (λ k h. omega (
+        arith,
+        found_place w objects file places k l (there k h),
+        width_holds
+            (length file) short,
+      ))
 
-  head_found : head_of (closed file places) ≡ Ok (record { trailer = last file places; reference_width = w; root = 0; places = places })
+  head_found : head_of (closed file places) ≡ Ok
+      (record { trailer = last file places; reference_width = w; root = 0; places = places })
   head_found = head_is file places _ l.is few short fit
 
-  sits_whole : Sits (br t) t 0
-  sits_whole = record { rest = []; is = sym (append-nil (br t)) }
+  sits_whole : Sits (shape t) t 0
+  sits_whole = record { rest = []; is = sym (append-nil (shape t)) }
 
-  walked : {A : Type 0} (s : Shown A) → walk s (length places) (place_in before w places) (object_of before w places) (length places) [] (last file places) 0 ≡ trace num s t 0
+  walked : {A : Type 0} (s : Shown A) → walk s (length places) (place_in before w places)
+      (object_of before w places) (length places) [] (last file places) 0 ≡ trace num s t 0
   walked s =
-      ap (λ i. walk s (length places) (place_in before w places) (object_of before w places) (length places) [] (last file places) i) (sym root)
-      ∙ ap (λ r. walk s (length places) (place_in before w places) (object_of before w places) r [] (last file places) (num 0)) (omega arith)
-      ∙ unfolds s (br t) num rank (length places) (place_in before w places) (object_of before w places) numbered t 0 [] (last file places) sits_whole (path_none (length places)) tt
+      ap (λ i. walk s (length places) (place_in before w places) (object_of before w places)
+      (length places) [] (last file places) i) (sym root)
+      ∙ ap (λ r. walk s (length places) (place_in before w places) (object_of before w places) r []
+      (last file places) (num 0)) (omega arith)
+      ∙ unfolds s (shape t) num rank (length places) (place_in before w places)
+      (object_of before w places) numbered t 0 [] (last file places) sits_whole
+      (path_none (length places)) tt
 
   pub items_are : items_of_file (closed file places) ≡ map Ok (bracketing t)
   unfolding items_of_file
   items_are =
       ap (items_with (closed file places)) head_found
-      ∙ ap until_fault (sym (walk_items before w places (length places) [] (last file places) 0) ∙ walked all_items ∙ trace_is num t 0) ∙ no_fault (bracketing t)
+      ∙ ap until_fault (sym (walk_items before w places (length places) [] (last file places) 0)
+      ∙ walked all_items ∙ trace_is num t 0) ∙ no_fault (bracketing t)
 
   pub visits_are : visits (closed file places) ≡ trace num collections t 0
   unfolding visits
-  visits_are = ap (visits_with (closed file places)) head_found ∙ sym (walk_visits before w places (length places) [] (last file places) 0) ∙ walked collections
+  visits_are =
+      ap (visits_with (closed file places)) head_found
+      ∙ sym (walk_visits before w places (length places) [] (last file places) 0)
+      ∙ walked collections
 
   pub written : IsWrittenAs t (closed file places)
   written = record {
@@ -173,12 +248,16 @@ module _ (t : Tree) (num rank : ℕ → ℕ) (objects : ℕ → Object) (file pl
     distinct = l.distinct;
     numbered = λ k. (l.below k, there k);
     laid = l.laid;
-    is = ap (λ x. x ++ ending places (length file)) l.is ∙ append_assoc magic (bodies w objects l.order) (ending places (length file))
-        ∙ ap (λ at. magic ++ (bodies w objects l.order ++ ending places at)) (ap length l.is ∙ length-magic (bodies w objects l.order));
+    is =
+        ap (λ x. x ++ ending places (length file)) l.is
+        ∙ append_assoc magic (bodies w objects l.order) (ending places (length file))
+        ∙ ap (λ at. magic ++ (bodies w objects l.order ++ ending places at)) (ap length l.is
+        ∙ length-magic (bodies w objects l.order));
     items = items_are;
   }
 
-  ok_same : (a b : Head) → Ok a ≡ head_of (closed file places) → head_of (closed file places) ≡ Ok b → b ≡ a
+  ok_same : (a b : Head) → Ok a ≡ head_of (closed file places) → head_of (closed file places) ≡ Ok b
+      → b ≡ a
   ok_same a b p q = cc
 
   pub has_objects : HasObjects (closed file places) (length places)

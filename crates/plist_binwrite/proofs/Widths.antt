@@ -26,7 +26,8 @@ width_4 n l h = rw (le-ltb n (2 ^ 8) (omega arith), le-ltb n (2 ^ 16) l, lt-ltb 
 
 pub width_8 : (n : ℕ) → 4294967296 ≤ n → least_width n ≡ 8
 unfolding least_width
-width_8 n l = rw (le-ltb n (2 ^ 8) (omega arith), le-ltb n (2 ^ 16) (omega arith), le-ltb n (2 ^ 32) l) refl
+width_8 n l =
+    rw (le-ltb n (2 ^ 8) (omega arith), le-ltb n (2 ^ 16) (omega arith), le-ltb n (2 ^ 32) l) refl
 
 -- a width of 1, 2, 4 or 8
 pub data IsWidth : ℕ → Type 0 where
@@ -80,16 +81,23 @@ byte_is zero n = let e : n / 256 ^ 0 ≡ n = omega arith in rw e refl
 byte_is (suc w) n = refl
 
 high_digit : (w n : ℕ) → n % 256 ^ suc w ≡ byte_at w n * 256 ^ w + n % 256 ^ w
-high_digit w n = rw (byte_is w n, pow-succ' 256 w) (mod-mul n {m = 256} {c = 256 ^ w} (omega arith) (pow_positive w))
+high_digit w n =
+    rw (byte_is w n, pow-succ' 256 w) (mod-mul n {m = 256} {c = 256 ^ w} (omega arith)
+    (pow_positive w))
 
-number_after : (w m n : ℕ) → number_from_digits_after 256 m (big_endian w n) ≡ m * 256 ^ w + n % 256 ^ w
+number_after : (w m n : ℕ) → number_from_digits_after 256 m (big_endian w n)
+    ≡ m * 256 ^ w + n % 256 ^ w
 number_after zero m n = let z = mod_one n in omega (arith, z)
 number_after (suc w) m n =
     let next = number_after w (m * 256 + byte_at w n) n in
     let split = high_digit w n in
     let power : 256 ^ suc w ≡ 256 * 256 ^ w = pow-succ' 256 w in
-    let spread : (m * 256 + byte_at w n) * 256 ^ w ≡ m * (256 * 256 ^ w) + byte_at w n * 256 ^ w = grind arith in
-    next ∙ ap (λ k. k + n % 256 ^ w) spread ∙ (let e : m * (256 * 256 ^ w) + byte_at w n * 256 ^ w + n % 256 ^ w ≡ m * 256 ^ suc w + n % 256 ^ suc w = rw (power) (let s = rw power at split in omega (arith, s)) in e)
+    let spread : (m * 256 + byte_at w n) * 256 ^ w
+    ≡ m * (256 * 256 ^ w) + byte_at w n * 256 ^ w = grind arith in
+    next ∙ ap (λ k. k + n % 256 ^ w) spread
+    ∙ (let e : m * (256 * 256 ^ w) + byte_at w n * 256 ^ w + n % 256 ^ w
+    ≡ m * 256 ^ suc w + n % 256 ^ suc w = rw (power)
+    (let s = rw power at split in omega (arith, s)) in e)
 
 -- what is written is read
 pub number_back : (w n : ℕ) → n < 256 ^ w → number_of (big_endian w n) ≡ n
@@ -97,7 +105,9 @@ number_back w n h =
     let small : n % 256 ^ w ≡ n = mod-eq_of_lt h in
     number_after w 0 n ∙ (let e : 0 * 256 ^ w + n % 256 ^ w ≡ n = omega arith in e)
 
-pub tail_of_digits : (digits : List ℕ) (w n : ℕ) → digits ≡ big_endian 8 n → w ≤ 8 → take (8 - (8 - w)) (drop (8 - w) digits) ≡ big_endian w n
+pub tail_of_digits : (digits : List ℕ) (w n : ℕ) → digits ≡ big_endian 8 n → w ≤ 8
+    → take (8 - (8 - w)) (drop (8 - w) digits) ≡ big_endian w n
 tail_of_digits digits w n is h =
     let back : 8 - (8 - w) ≡ length (big_endian w n) = omega (arith, length-big_endian w n) in
-    ap (λ l. take (8 - (8 - w)) l) (ap (drop (8 - w)) is ∙ tail-big_endian w n h) ∙ ap (λ count. take count (big_endian w n)) back ∙ take-length (big_endian w n)
+    ap (λ l. take (8 - (8 - w)) l) (ap (drop (8 - w)) is ∙ tail-big_endian w n h)
+    ∙ ap (λ count. take count (big_endian w n)) back ∙ take-length (big_endian w n)

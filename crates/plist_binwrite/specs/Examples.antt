@@ -21,10 +21,13 @@ two_bytes : integer_form (pos 256) ≡ 0x11 ∷ 1 ∷ 0 ∷ []
 unfolding least_width
 two_bytes = refl
 
-minus_one : integer_form (negsuc 0) ≡ 0x13 ∷ 0xff ∷ 0xff ∷ 0xff ∷ 0xff ∷ 0xff ∷ 0xff ∷ 0xff ∷ 0xff ∷ []
+minus_one : integer_form (negsuc 0) ≡ 0x13 ∷ 0xff ∷ 0xff ∷ 0xff ∷ 0xff ∷ 0xff ∷ 0xff ∷ 0xff ∷ 0xff
+    ∷ []
 minus_one = refl
 
-sixteen_bytes : integer_form (pos 18446744073709551615) ≡ 0x14 ∷ 0 ∷ 0 ∷ 0 ∷ 0 ∷ 0 ∷ 0 ∷ 0 ∷ 0 ∷ 0xff ∷ 0xff ∷ 0xff ∷ 0xff ∷ 0xff ∷ 0xff ∷ 0xff ∷ 0xff ∷ []
+sixteen_bytes : integer_form (pos 18446744073709551615)
+    ≡ 0x14 ∷ 0 ∷ 0 ∷ 0 ∷ 0 ∷ 0 ∷ 0 ∷ 0 ∷ 0 ∷ 0xff ∷ 0xff ∷ 0xff ∷ 0xff ∷ 0xff ∷ 0xff ∷ 0xff ∷ 0xff
+    ∷ []
 unfolding least_width
 sixteen_bytes = refl
 
@@ -44,15 +47,18 @@ unfolding least_width length_form units_of chars
 truth_size = refl
 
 -- a text that stands twice is one object
-twice_count : object_count (Array (trees_of (Leaf (trees.String (97 ∷ [])) ∷ Leaf (trees.String (97 ∷ [])) ∷ []))) ≡ 2
+twice_count : object_count
+    (Array (trees_of (Leaf (trees.String (97 ∷ [])) ∷ Leaf (trees.String (97 ∷ [])) ∷ []))) ≡ 2
 twice_count = refl
 
-twice_size : file_size (Array (trees_of (Leaf (trees.String (97 ∷ [])) ∷ Leaf (trees.String (97 ∷ [])) ∷ []))) ≡ 47
+twice_size : file_size
+    (Array (trees_of (Leaf (trees.String (97 ∷ [])) ∷ Leaf (trees.String (97 ∷ [])) ∷ []))) ≡ 47
 unfolding least_width length_form units_of chars
 twice_size = refl
 
 -- a key is counted as a text
-key_count : object_count (Dictionary (members_of ((107 ∷ [], Leaf (trees.String (107 ∷ []))) ∷ []))) ≡ 2
+key_count : object_count (Dictionary (members_of ((107 ∷ [], Leaf (trees.String (107 ∷ []))) ∷ [])))
+    ≡ 2
 key_count = refl
 
 -- each array is one object, also where it equals another
@@ -60,6 +66,9 @@ arrays_count : object_count (Array (trees_of (Array (trees_of []) ∷ Array (tre
 arrays_count = refl
 
 -- the collections of [["x"], "y"]
-nested_visits : visits (98 ∷ 112 ∷ 108 ∷ 105 ∷ 115 ∷ 116 ∷ 48 ∷ 48 ∷ 0xa2 ∷ 1 ∷ 2 ∷ 0xa1 ∷ 3 ∷ 0x51 ∷ 0x78 ∷ 0x51 ∷ 0x79 ∷ 8 ∷ 11 ∷ 15 ∷ 13 ∷ 0 ∷ 0 ∷ 0 ∷ 0 ∷ 0 ∷ 0 ∷ 1 ∷ 1 ∷ 0 ∷ 0 ∷ 0 ∷ 0 ∷ 0 ∷ 0 ∷ 0 ∷ 4 ∷ 0 ∷ 0 ∷ 0 ∷ 0 ∷ 0 ∷ 0 ∷ 0 ∷ 0 ∷ 0 ∷ 0 ∷ 0 ∷ 0 ∷ 0 ∷ 0 ∷ 0 ∷ 17 ∷ []) ≡ 0 ∷ 1 ∷ []
+nested_visits : visits
+    (98 ∷ 112 ∷ 108 ∷ 105 ∷ 115 ∷ 116 ∷ 48 ∷ 48 ∷ 0xa2 ∷ 1 ∷ 2 ∷ 0xa1 ∷ 3 ∷ 0x51 ∷ 0x78 ∷ 0x51
+    ∷ 0x79 ∷ 8 ∷ 11 ∷ 15 ∷ 13 ∷ 0 ∷ 0 ∷ 0 ∷ 0 ∷ 0 ∷ 0 ∷ 1 ∷ 1 ∷ 0 ∷ 0 ∷ 0 ∷ 0 ∷ 0 ∷ 0 ∷ 0 ∷ 4 ∷ 0
+    ∷ 0 ∷ 0 ∷ 0 ∷ 0 ∷ 0 ∷ 0 ∷ 0 ∷ 0 ∷ 0 ∷ 0 ∷ 0 ∷ 0 ∷ 0 ∷ 0 ∷ 17 ∷ []) ≡ 0 ∷ 1 ∷ []
 unfolding head_of object_in visits_of visits is_utf8 chars encode
 nested_visits = refl

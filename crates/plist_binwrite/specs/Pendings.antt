@@ -1,16 +1,12 @@
 -- What contracts see of the events of the open property list.
-use Rattle.std.specs.Prelude.{◌≡◌, Bool, List, [], ◌∷◌, ◌++◌, MatchBool, map}
+use Rattle.std.specs.Prelude.{◌≡◌, Bool, List, [], ◌∷◌, ◌++◌, MatchBool}
 use Rattle.plist_base.specs.declared.error.EventKind.{EventKind}
 use Rattle.plist_base.specs.declared.error.EventKind.TheVariants as event_kind
-use Rattle.plist_base.specs.declared.event.Event.{Event}
 use Rattle.plist_base.specs.Bracketing.{unhinted, AreWhole, AreComplete, CanContinue}
-use Rattle.plist_base.specs.Events.{PlainEvent, event_of, kind_of_event}
+use Rattle.plist_base.specs.Events.{PlainEvent, kind_of_event}
 use Rattle.plist_base.specs.Faults.{Fault, UnexpectedEventType, fault_nowhere}
 use Rattle.plist_binwrite.specs.declared.pending.Pending.{Pending}
-
--- what contracts see of events that are held: lengths of starts are struck out
-abbrev pub plain_events : List Event → List PlainEvent
-plain_events events = map unhinted (map event_of events)
+use Rattle.plist_binwrite.specs.Held.{plain_events}
 
 -- the events
 abbrev pub events_held : Pending → List PlainEvent
@@ -27,7 +23,8 @@ expected_instead (event ∷ events) = event_kind.DictionaryKeyOrEndCollection
 
 -- the fault of an event that can't follow those held
 abbrev pub refusal_of : List PlainEvent → PlainEvent → Fault
-refusal_of held event = fault_nowhere (UnexpectedEventType (expected_instead held) (kind_of_event event))
+refusal_of held event =
+    fault_nowhere (UnexpectedEventType (expected_instead held) (kind_of_event event))
 
 -- tells whether the events are those of a tree
 abbrev pub TellsWhole : Bool → List PlainEvent → Type 0
@@ -35,7 +32,9 @@ TellsWhole told events = MatchBool told (AreComplete events) (AreWhole events �
 
 -- the event is taken
 abbrev pub Takes : (before : Pending) → PlainEvent → (after : Pending) → Type 0
-Takes before event after = (events_held after ≡ events_held before ++ unhinted event ∷ []) × TellsWhole (is_whole after) (events_held before ++ event ∷ [])
+Takes before event after =
+    (events_held after ≡ events_held before ++ unhinted event ∷ [])
+    × TellsWhole (is_whole after) (events_held before ++ event ∷ [])
 
 -- the event can't follow those held, and this is its fault
 abbrev pub IsRefused : (held : List PlainEvent) → PlainEvent → Fault → Type 0

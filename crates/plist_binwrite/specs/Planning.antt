@@ -1,8 +1,10 @@
 -- What is planned of the events of a tree.
 use Rattle.std.specs.Prelude.{◌≡◌, ℕ, List, length}
 use Rattle.plist_binwrite.specs.declared.plan.Plan.{Plan}
-use Rattle.plist_binwrite.specs.Marks.{Ev}
-use Rattle.plist_binwrite.specs.Held.{IsBracketed, IsSkips, IsPlan, AllNumbered, num_of}
+use Rattle.plist_base.specs.Events.{PlainEvent}
+use Rattle.plist_binwrite.specs.Classes.{AreClasses}
+use Rattle.plist_binwrite.specs.Held.{IsBracketed, IsSkips, AllNumbered, num_of}
+use Rattle.plist_binwrite.specs.PlansBy.{IsPlan}
 
 -- by event, the place behind the tree that it begins
 abbrev pub skips_in : Plan → List ℕ
@@ -19,10 +21,16 @@ firsts_of plan = plan.numbering.firsts.items
 abbrev pub count_of : Plan → ℕ
 count_of plan = length (firsts_of plan)
 
--- the events are those of a tree, and this is planned of them
-pub record IsPlanned (es : List Ev) (plan : Plan) : Type 0 where
+-- the events are those of a tree, and this is planned of them by some classes
+pub record IsPlanned (es : List PlainEvent) (plan : Plan) : Type 0 where
   pub whole : IsBracketed es
+  pub class : ℕ → ℕ
+  pub classes : AreClasses es class
   pub skips : IsSkips es (skips_in plan) 0
-  pub numbered : IsPlan es (numbers_of plan) (firsts_of plan)
+  pub numbered : IsPlan es class (numbers_of plan) (firsts_of plan)
   pub all : AllNumbered es (numbers_of plan) (count_of plan)
   pub root : num_of (numbers_of plan) 0 ≡ 0
+
+-- these are the classes that a plan goes by
+abbrev pub GoesBy : List PlainEvent → (class : ℕ → ℕ) → Plan → Type 0
+GoesBy es class plan = IsPlan es class (numbers_of plan) (firsts_of plan)

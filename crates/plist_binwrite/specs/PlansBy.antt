@@ -1,19 +1,28 @@
--- The numbers given so far, where places of one class share theirs.
+-- The numbers given so far, where places of one class share theirs: `firsts` holds, by number, the
+-- place of
+-- the first event of that object.
 use Rattle.std.specs.Prelude.{◌≡◌, ◌⊎◌, ℕ, ◌-◌, ◌^◌, ◌<◌, false, List, length, get_or}
-use Rattle.plist_binwrite.specs.Marks.{Ev}
+use Rattle.plist_base.specs.Events.{PlainEvent}
 use Rattle.plist_binwrite.specs.Held.{is_stop, event_at, IsNumbered, AllBelow, num_of}
 
-pub record IsPlan (es : List Ev) (class : ℕ → ℕ) (numbers firsts : List ℕ) : Type 0 where
+pub record IsPlan (es : List PlainEvent) (class : ℕ → ℕ) (numbers firsts : List ℕ) : Type 0 where
   pub long : length numbers ≡ length es
   pub small : length firsts < 2 ^ 64
-  pub known : (k : ℕ) → k < length firsts → (get_or firsts k 0 < length es) × (get_or numbers (get_or firsts k 0) 0 ≡ k) × (is_stop (event_at es (get_or firsts k 0)) ≡ false)
-  pub same : (p : ℕ) → p < length es → IsNumbered numbers firsts p → class (get_or firsts (get_or numbers p 0) 0) ≡ class p
-  pub free : (p : ℕ) → p < length es → IsNumbered numbers firsts p ⊎ (get_or numbers p 0 ≡ 2 ^ 64 - 1)
-  pub apart : (k l : ℕ) → k < length firsts → l < length firsts → class (get_or firsts k 0) ≡ class (get_or firsts l 0) → k ≡ l
+  pub known : (k : ℕ) → k < length firsts → (get_or firsts k 0 < length es)
+      × (get_or numbers (get_or firsts k 0) 0 ≡ k)
+      × (is_stop (event_at es (get_or firsts k 0)) ≡ false)
+  pub same : (p : ℕ) → p < length es → IsNumbered numbers firsts p
+      → class (get_or firsts (get_or numbers p 0) 0) ≡ class p
+  pub free : (p : ℕ) → p < length es → IsNumbered numbers firsts p
+      ⊎ (get_or numbers p 0 ≡ 2 ^ 64 - 1)
+  pub apart : (k l : ℕ) → k < length firsts → l < length firsts
+      → class (get_or firsts k 0) ≡ class (get_or firsts l 0) → k ≡ l
 
 -- by class, the number that it has so far
 pub record HaveIds (classes ids firsts : List ℕ) : Type 0 where
   pub below : AllBelow (length ids) classes
-  pub sound : (c : ℕ) → c < length ids → get_or ids c 0 < length firsts → num_of classes (get_or firsts (get_or ids c 0) 0) ≡ c
+  pub sound : (c : ℕ) → c < length ids → get_or ids c 0 < length firsts
+      → num_of classes (get_or firsts (get_or ids c 0) 0) ≡ c
   pub complete : (k : ℕ) → k < length firsts → get_or ids (num_of classes (get_or firsts k 0)) 0 ≡ k
-  pub free : (c : ℕ) → c < length ids → (get_or ids c 0 < length firsts) ⊎ (get_or ids c 0 ≡ 2 ^ 64 - 1)
+  pub free : (c : ℕ) → c < length ids → (get_or ids c 0 < length firsts)
+      ⊎ (get_or ids c 0 ≡ 2 ^ 64 - 1)

@@ -1,36 +1,25 @@
--- What goes out at the end of a property list.
-use Rattle.std.specs.Prelude.{◌≡◌, ℕ, ◌^◌, ◌≤◌, List, Option, None, Ok, Err}
-use Rattle.std.specs.Io.KnownBytes.{Appends}
-use Rattle.plist_base.specs.Bracketing.{bracketing, AreAlike, AreComplete}
+-- What goes out of the plain writer at the end of a property list.
+use Rattle.std.specs.Prelude.{ℕ, List, Option}
 use Rattle.plist_base.specs.Events.{PlainEvent}
-use Rattle.plist_base.specs.Faults.{FaultKind, Io, OutOfMemory, PlistTooLarge}
-use Rattle.plist_base.specs.Trees.{Tree}
+use Rattle.plist_base.specs.Faults.{FaultKind}
 use Rattle.plist_base.specs.Writing.{Answer}
 use Rattle.plist_binwrite.specs.Files.{IsFileOf}
+use Rattle.plist_binwrite.specs.SendingAs as any
 use Rattle.plist_binwrite.specs.Sizes.{file_size}
-use Rattle.plist_binwrite.specs.Fronts.{AppendsFront}
 
 -- the events are all of a tree's, and this is a file of it
 abbrev pub IsFileOfEvents : List PlainEvent → List ℕ → Type 0
-IsFileOfEvents events file = AreComplete events × ((tree : Tree) → AreAlike events (bracketing tree) → IsFileOf tree file)
-
--- the events are all of a tree's, and a file of it would have 2^64 bytes or more
-abbrev pub IsTooLarge : List PlainEvent → Type 0
-IsTooLarge events = AreComplete events × ((tree : Tree) → AreAlike events (bracketing tree) → 2 ^ 64 ≤ file_size tree)
+IsFileOfEvents events file = any.IsFileOfEvents IsFileOf file_size events file
 
 module _ {W : Type 0} (contents : W → Option (List ℕ)) where
   -- a file of the tree whose events these are went out
   abbrev pub SendsFile : (events : List PlainEvent) (old new : W) → Type 0
-  SendsFile events old new = (file : List ℕ) × IsFileOfEvents events file × Appends (contents old) (contents new) file
+  SendsFile events old new = any.SendsFile IsFileOf file_size contents events old new
 
-  -- what went out where the call failed: of a device's fault a beginning of a file, else nothing, and what takes the bytes is the same
+  -- what went out where the call failed
   abbrev pub FailsWith : FaultKind → (events : List PlainEvent) (old new : W) → Type 0
-  FailsWith Io events old new = (file : List ℕ) × IsFileOfEvents events file × AppendsFront (contents old) (contents new) file
-  FailsWith PlistTooLarge events old new = IsTooLarge events × (new ≡ old)
-  FailsWith OutOfMemory events old new = new ≡ old
-  FailsWith kind events old new = ⊥
+  FailsWith kind events old new = any.FailsWith IsFileOf file_size contents kind events old new
 
   -- what sending the file of whole events does
   abbrev pub Sends : (events : List PlainEvent) → Answer → (old new : W) → Type 0
-  Sends events (Ok done) old new = SendsFile events old new
-  Sends events (Err fault) old new = (fault.offset ≡ None) × FailsWith fault.kind events old new
+  Sends events answer old new = any.Sends IsFileOf file_size contents events answer old new

@@ -1,8 +1,9 @@
--- The stack of what has to come, xs the code holds it: without the value that is wanted where nothing
+-- The stack of what has to come, xs the code holds it: without the value that is wanted where
+-- nothing
 -- is held. In these lists the topmost want comes first.
 use Rattle.std.specs.Prelude.{◌≡◌, Bool, true, false, ◌&&◌, List, [], ◌∷◌, Option, None, Some, map, reverse, ⊤}
 use Rattle.plist_base.specs.Events.{PlainEvent}
-use Rattle.plist_base.specs.Wants.{Want, OneValue, Items, Pairs, Change, Refused, Gone, Kept, Pushed, Became, change_of}
+use Rattle.plist_base.specs.inner.Wants.{Want, OneValue, Items, Pairs, Change, Refused, Gone, Kept, Pushed, Became, change_of}
 use Rattle.plist_binwrite.specs.declared.wants.Want as code_want
 use Rattle.plist_binwrite.specs.declared.wants.Want.TheVariants as want
 use Rattle.plist_binwrite.specs.declared.wants.Change as code_change

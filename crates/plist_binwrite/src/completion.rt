@@ -1,23 +1,25 @@
 //! The end of a property list: its file is planned and sent.
 
-ghost use Rattle.std.specs.Prelude.{◌≡◌, [], ℕ, IfOk, IfErr};
+ghost use Rattle.std.specs.Prelude.{◌≡◌, [], ℕ, length, IfOk, IfErr};
+ghost use Rattle.plist_base.specs.Outcomes.{OnlyMemory};
 ghost use Rattle.plist_base.specs.Bracketing.{AreWhole};
-ghost use Rattle.plist_base.specs.Faults.{OutOfMemory, fault_of, fault_nowhere};
+ghost use Rattle.plist_base.specs.Faults.{fault_of};
 ghost use Rattle.plist_base.specs.Writing.{answer_of};
 ghost use Rattle.plist_binread.specs.Object.{Object};
-ghost use Rattle.plist_binwrite.specs.Ending.{IsReady, SendsReady, file_of, numbers_in};
-ghost use Rattle.plist_binwrite.specs.Held.{evs, IsBracketed, Describes};
+ghost use Rattle.plist_binwrite.specs.Classes.{AreClasses, IsUnplanned, SendsBy};
+ghost use Rattle.plist_binwrite.specs.Ending.{IsReady, IsReadyBy, SendsReady, file_of, numbers_in};
+ghost use Rattle.plist_binwrite.specs.Held.{plain_events, num_of, AllBelow, IsBracketed, IsSkips, Describes};
 ghost use Rattle.plist_binwrite.specs.Outlets.{Puts};
-ghost use Rattle.plist_binwrite.specs.Pendings.{plain_events};
 ghost use Rattle.plist_binwrite.specs.Sending.{Sends};
-ghost use Rattle.plist_binwrite.specs.Sizes.{IsUnplanned};
 
+use crate::classes::classes_of;
 use crate::forms::{put_ending, reference_width};
 use crate::layout::order_objects;
 use crate::objects::put_objects;
 use crate::outlet::{finish, put};
-use crate::plan::{Plan, plan_events};
+use crate::plan::{Plan, plan_by_class};
 use crate::size::check_size;
+use crate::skips::skips_of;
 use plist_base::{Error, Event};
 use std::alloc::Global;
 use std::io::Write;
@@ -34,13 +36,25 @@ struct Ready {
     table: usize,
 }
 
-// Plans the file of the events of a tree.
-fn make_ready(alloc: Global, events: &[Event<'_>]) -> Result<Ready, Error>
-    requires whole { IsBracketed (evs events.now) }
-    ensures ready { IfOk result (λ ready. IsReady (evs events.now) ready) }
-    ensures refused { IfErr result (λ error. IsUnplanned (evs events.now) (fault_of error)) }
+// Plans the file of the events of a tree, with one object for each class.
+fn make_ready(
+    alloc: Global,
+    events: &[Event<'_>],
+    skips: Vec<usize>,
+    classes: &[usize],
+    count: usize,
+) -> Result<Ready, Error>
+    requires whole { IsBracketed (plain_events events.now) }
+    requires skips { IsSkips (plain_events events.now) skips.items 0 }
+    requires long { length classes.now ≡ length events.now }
+    requires below { AllBelow count classes.now }
+    requires classes { AreClasses (plain_events events.now) (num_of classes.now) }
+    ensures ready { IfOk result (λ ready. IsReadyBy (plain_events events.now)
+        (num_of classes.now) ready) }
+    ensures refused { IfErr result (λ error. IsUnplanned (num_of classes.now)
+        (plain_events events.now) (fault_of error)) }
 {
-    let plan = plan_events(alloc, events)?;
+    let plan = plan_by_class(alloc, events, skips, classes, count)?;
     let layout = order_objects(alloc, events, &plan)?;
     let mut places = layout.places;
     let order = layout.order;
@@ -62,8 +76,9 @@ fn put_file<W: Write>(
     events: &[Event<'_>],
     ready: &Ready,
 ) -> Result<(), Error>
-    requires ready { IsReady (evs events.now) ready.now }
-    ensures { (objects : ℕ → Object) → Describes (evs events.now) (numbers_in ready.now) objects
+    requires ready { IsReady (plain_events events.now) ready.now }
+    ensures { (objects : ℕ → Object)
+        → Describes (plain_events events.now) (numbers_in ready.now) objects
         → Puts (W.contents writer.old) room.old.items (file_of ready.now objects)
         (answer_of result) (W.contents writer.new) room.new.items }
 {
@@ -87,9 +102,9 @@ fn send_file<W: Write>(
     events: &[Event<'_>],
     ready: &Ready,
 ) -> Result<(), Error>
-    requires ready { IsReady (evs events.now) ready.now }
+    requires ready { IsReady (plain_events events.now) ready.now }
     requires empty { room.old.items ≡ [] }
-    ensures { SendsReady W.contents (evs events.now) ready.now
+    ensures { SendsReady W.contents (plain_events events.now) ready.now
         (answer_of result) writer.old writer.new }
 {
     match put_file(writer, room, events, ready) {
@@ -100,25 +115,65 @@ fn send_file<W: Write>(
 
 fn make_room(alloc: Global) -> Result<Vec<u8>, Error>
     ensures empty { IfOk result (λ room. room.items ≡ []) }
-    ensures memory { IfErr result (λ error. fault_of error ≡ fault_nowhere OutOfMemory) }
+    ensures memory { OnlyMemory result }
 {
     let room = Vec::with_capacity(alloc, ROOM)?;
     Ok(room)
 }
 
-/// Plans the file of the events of a whole property list, sends it and flushes. All memory is taken
-/// before the first byte is sent: besides the plan, a room of fixed size that bytes are sent through.
+/// Plans the file of the events of a whole property list with one object for each class, sends it
+/// and flushes. All memory is taken before the first byte is sent: besides the plan, a room of fixed
+/// size that bytes are sent through.
+///
+/// `skips` tells for each event the place behind the tree that it begins, and `classes` its class,
+/// below `count`. Trees of one class have one object; the class of an end is of no account.
 ///
 /// # Errors
-/// `PlistTooLarge` where the file would have 2^64 bytes or more, and `OutOfMemory`, before a byte was
-/// sent; `Io` after a beginning of the file was.
+/// `PlistTooLarge` where the file would have 2^64 bytes or more, and `OutOfMemory`, before a byte
+/// was sent; `Io` after a beginning of the file was.
+pub fn complete_by_class<W: Write>(
+    alloc: Global,
+    events: &[Event<'_>],
+    skips: Vec<usize>,
+    classes: &[usize],
+    count: usize,
+    writer: &mut W,
+) -> Result<(), Error>
+    requires whole { AreWhole (plain_events events.now) }
+    requires skips { IsSkips (plain_events events.now) skips.items 0 }
+    requires long { length classes.now ≡ length events.now }
+    requires below { AllBelow count classes.now }
+    requires classes { AreClasses (plain_events events.now) (num_of classes.now) }
+    ensures { SendsBy (num_of classes.now) W.contents (plain_events events.now)
+        (answer_of result) writer.old writer.new }
+{
+    let mut room = make_room(alloc)?;
+    let ready = make_ready(alloc, events, skips, classes, count)?;
+    match send_file(writer, &mut room, events, &ready) {
+        Ok(()) => Ok(()),
+        Err(error) => Err(error),
+    }
+}
+
+/// Plans the file of the events of a whole property list, sends it and flushes: one object for each
+/// collection, and one for each different scalar. All memory is taken before the first byte goes out.
+///
+/// # Errors
+/// Those of [`complete_by_class`].
 pub fn complete<W: Write>(alloc: Global, events: &[Event<'_>], writer: &mut W) -> Result<(), Error>
     requires whole { AreWhole (plain_events events.now) }
     ensures { Sends W.contents (plain_events events.now) (answer_of result) writer.old writer.new }
 {
-    let mut room = make_room(alloc)?;
-    let ready = make_ready(alloc, events)?;
-    match send_file(writer, &mut room, events, &ready) {
+    let skips = skips_of(alloc, events)?;
+    let classes = classes_of(alloc, events)?;
+    match complete_by_class(
+        alloc,
+        events,
+        skips,
+        classes.as_slice(),
+        events.len(),
+        writer,
+    ) {
         Ok(()) => Ok(()),
         Err(error) => Err(error),
     }

@@ -1,9 +1,9 @@
 //! The order of a file's objects.
 
-ghost use Rattle.std.specs.Prelude.{◌≡◌, ◌≢◌, ◌<◌, ℕ, length, get_or, eqb, true, false, IfOk, IfErr, OnOk};
+ghost use Rattle.std.specs.Prelude.{◌≡◌, ◌≢◌, ◌<◌, ℕ, length, get_or, eqb, true, false, IfOk, OnOk};
+ghost use Rattle.plist_base.specs.Outcomes.{OnlyMemory};
 ghost use Rattle.std.specs.List.{list_any};
-ghost use Rattle.plist_base.specs.Faults.{OutOfMemory, fault_of, fault_nowhere};
-ghost use Rattle.plist_binwrite.specs.Held.{evs, is_stop, event_at, num_of};
+ghost use Rattle.plist_binwrite.specs.Held.{plain_events, is_stop, event_at, num_of};
 ghost use Rattle.plist_binwrite.specs.Laying.{IsOrder, KeepsMarks};
 ghost use Rattle.plist_binwrite.specs.Planning.{IsPlanned, count_of, numbers_of};
 
@@ -21,14 +21,14 @@ fn order_one(
     order: &mut Vec<usize>,
     marks: &mut Vec<usize>,
 ) -> Result<(), Error>
-    requires planned { IsPlanned (evs events.now) plan.now }
+    requires planned { IsPlanned (plain_events events.now) plan.now }
     requires order { IsOrder (count_of plan.now) order.old.items marks.old.items }
     ensures order { OnOk result (IsOrder (count_of plan.now) order.new.items marks.new.items) }
     ensures keeps { OnOk result (KeepsMarks marks.old.items marks.new.items) }
     ensures marked { OnOk result (place < length events.now
-        → is_stop (event_at (evs events.now) place) ≡ false
+        → is_stop (event_at (plain_events events.now) place) ≡ false
         → get_or marks.new.items (num_of (numbers_of plan.now) place) 0 ≢ 0) }
-    ensures memory { IfErr result (λ error. fault_of error ≡ fault_nowhere OutOfMemory) }
+    ensures memory { OnlyMemory result }
 {
     if !has_item(events, place) {
         return Ok(());
@@ -50,11 +50,11 @@ fn order_keys(
     order: &mut Vec<usize>,
     marks: &mut Vec<usize>,
 ) -> Result<(), Error>
-    requires planned { IsPlanned (evs events.now) plan.now }
+    requires planned { IsPlanned (plain_events events.now) plan.now }
     requires order { IsOrder (count_of plan.now) order.old.items marks.old.items }
     ensures order { OnOk result (IsOrder (count_of plan.now) order.new.items marks.new.items) }
     ensures keeps { OnOk result (KeepsMarks marks.old.items marks.new.items) }
-    ensures memory { IfErr result (λ error. fault_of error ≡ fault_nowhere OutOfMemory) }
+    ensures memory { OnlyMemory result }
 {
     let mut key = from;
     'walk: while has_item(events, key) {
@@ -76,14 +76,14 @@ fn order_here(
     order: &mut Vec<usize>,
     marks: &mut Vec<usize>,
 ) -> Result<(), Error>
-    requires planned { IsPlanned (evs events.now) plan.now }
+    requires planned { IsPlanned (plain_events events.now) plan.now }
     requires place { place < length events.now }
     requires order { IsOrder (count_of plan.now) order.old.items marks.old.items }
     ensures order { OnOk result (IsOrder (count_of plan.now) order.new.items marks.new.items) }
     ensures keeps { OnOk result (KeepsMarks marks.old.items marks.new.items) }
-    ensures marked { OnOk result (is_stop (event_at (evs events.now) place) ≡ false
+    ensures marked { OnOk result (is_stop (event_at (plain_events events.now) place) ≡ false
         → get_or marks.new.items (num_of (numbers_of plan.now) place) 0 ≢ 0) }
-    ensures memory { IfErr result (λ error. fault_of error ≡ fault_nowhere OutOfMemory) }
+    ensures memory { OnlyMemory result }
 {
     order_one(events, plan, place, order, marks)?;
     match kind_at(events, place) {
@@ -95,7 +95,7 @@ fn order_here(
 fn zeros(alloc: Global, count: usize) -> Result<Vec<usize>, Error>
     ensures long { IfOk result (λ v. length v.items ≡ count) }
     ensures zero { IfOk result (λ v. (k : ℕ) → k < count → get_or v.items k 0 ≡ 0) }
-    ensures memory { IfErr result (λ error. fault_of error ≡ fault_nowhere OutOfMemory) }
+    ensures memory { OnlyMemory result }
 {
     let places = vec![in alloc; 0usize; count]?;
     Ok(places)
@@ -114,11 +114,11 @@ pub struct Layout {
 /// # Errors
 /// `OutOfMemory`, without an offset.
 pub fn order_objects(alloc: Global, events: &[Event<'_>], plan: &Plan) -> Result<Layout, Error>
-    requires planned { IsPlanned (evs events.now) plan.now }
+    requires planned { IsPlanned (plain_events events.now) plan.now }
     ensures order { IfOk result (λ r. IsOrder (count_of plan.now) r.order.items r.places.items) }
     ensures all { IfOk result (λ r. (k : ℕ) → k < count_of plan.now
         → list_any (eqb k) r.order.items ≡ true) }
-    ensures memory { IfErr result (λ error. fault_of error ≡ fault_nowhere OutOfMemory) }
+    ensures memory { OnlyMemory result }
 {
     let count = plan.numbering.firsts.len();
     let mut places = zeros(alloc, count)?;

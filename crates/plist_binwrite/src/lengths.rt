@@ -2,9 +2,9 @@
 
 ghost use Rattle.std.specs.Prelude.{◌≡◌, ◌+◌, ◌*◌, ◌≤◌, ◌<◌, ◌^◌, ℕ, length, None};
 ghost use Rattle.plist_base.specs.Events.{event_of};
-ghost use Rattle.plist_binwrite.specs.Forms.{IsDateBytes, IsInteger, IsReal, IsText, IsWritableScalar, natural_form, integer_form, uid_form, length_form, date_form, real_form, text_form, scalar_form};
-ghost use Rattle.plist_binwrite.specs.Held.{IsScalarEvent};
-ghost use Rattle.plist_binwrite.specs.Sizes.{TellsSize};
+ghost use Rattle.plist_binwrite.specs.Forms.{IsDateBytes, IsInteger, IsReal, IsText, IsWritableScalar, natural_form, integer_form, uid_form, length_form, date_form, real_form, text_form};
+ghost use Rattle.plist_binwrite.specs.Held.{IfScalar};
+ghost use Rattle.plist_binwrite.specs.Sizes.{TellsSize, scalar_size};
 
 use crate::forms::least_width;
 use crate::text::{count_units, is_ascii_text};
@@ -94,11 +94,11 @@ fn length_of_uid(uid: Uid) -> u64
     1 + least_width(uid.get()) as u64
 }
 
-/// The length of a scalar, and 0 for the start or the end of a collection.
+/// The length of a scalar. Of the start and the end of a collection nothing is told.
 pub fn length_of_scalar(event: &Event<'_>) -> Option<u64>
-    ensures value { TellsSize result (length (scalar_form (event_of event.now))) }
-    ensures writable { IsScalarEvent (event_of event.now)
-        → IsWritableScalar (event_of event.now) }
+    ensures value { IfScalar (event_of event.now) (λ scalar. TellsSize result
+        (scalar_size scalar)) }
+    ensures writable { IfScalar (event_of event.now) IsWritableScalar }
 {
     match event {
         Event::Boolean(_) => Some(1),

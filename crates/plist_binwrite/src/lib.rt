@@ -4,26 +4,25 @@
 //! in the least forms, that unfolds to the events; no other event sends a byte.
 #![tactic(auto)]
 
-mod children;
-mod classes;
-mod completion;
+pub mod children;
+pub mod classes;
+pub mod completion;
 pub mod forms;
-mod kinds;
+pub mod kinds;
 mod layout;
 mod lengths;
 mod numbering;
 mod objects;
 pub mod outlet;
-mod pending;
+pub mod pending;
 mod plan;
 mod scalar;
-mod send;
 mod size;
-mod skips;
+pub mod skips;
 mod text;
 mod wants;
 mod writer;
 
-pub use completion::complete;
-pub use send::send_whole;
+pub use completion::{complete, complete_by_class};
+pub use plist_base::send::send_whole;
 pub use writer::BinaryWriter;

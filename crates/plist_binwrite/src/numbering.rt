@@ -1,14 +1,13 @@
-//! The numbers of objects: one for each collection, and one for each different scalar.
+//! The numbers of objects: one for each class.
 
-ghost use Rattle.std.specs.Prelude.{◌≡◌, ◌<◌, ℕ, length, get_or, false, IfOk, IfErr, OnOk};
-ghost use Rattle.plist_base.specs.Faults.{OutOfMemory, fault_of, fault_nowhere};
-ghost use Rattle.plist_binwrite.specs.Marks.{Tree, br};
-ghost use Rattle.plist_binwrite.specs.Held.{evs, is_stop, event_at, IsSkips, AllBelow, num_of, IsNumbered, Keeps, AllNumbered};
-ghost use Rattle.plist_binwrite.specs.Held as held;
+ghost use Rattle.std.specs.Prelude.{◌≡◌, ◌<◌, ℕ, length, get_or, false, IfOk, OnOk};
+ghost use Rattle.plist_base.specs.Outcomes.{OnlyMemory};
+ghost use Rattle.plist_base.specs.Trees.{Tree};
+ghost use Rattle.plist_base.specs.Bracketing.{shape};
+ghost use Rattle.plist_binwrite.specs.Held.{plain_events, is_stop, event_at, IsSkips, AllBelow, num_of, IsNumbered, Keeps, AllNumbered};
 ghost use Rattle.plist_binwrite.specs.PlansBy.{IsPlan, HaveIds};
 
 use crate::children::children;
-use crate::classes::classes_of;
 use crate::kinds::{has_item, push_place};
 use plist_base::{Error, Event};
 use std::alloc::Global;
@@ -25,20 +24,22 @@ fn number_one(
     firsts: &mut Vec<usize>,
     place: usize,
 ) -> Result<(), Error>
-    requires plan { IsPlan (evs events.now)
+    requires plan { IsPlan (plain_events events.now)
         (num_of classes.now) numbers.old.items firsts.old.items }
     requires ids { HaveIds classes.now ids.old.items firsts.old.items }
     requires long { length classes.now ≡ length events.now }
     requires place { place < length events.now }
-    ensures plan { OnOk result (IsPlan (evs events.now)
+    ensures plan { OnOk result (IsPlan (plain_events events.now)
         (num_of classes.now) numbers.new.items firsts.new.items) }
     ensures ids { OnOk result (HaveIds classes.now ids.new.items firsts.new.items) }
-    ensures keeps { OnOk result (Keeps numbers.old.items firsts.old.items numbers.new.items firsts.new.items) }
-    ensures numbered { OnOk result (is_stop (event_at (evs events.now) place) ≡ false
+    ensures keeps { OnOk result (Keeps numbers.old.items firsts.old.items
+        numbers.new.items firsts.new.items) }
+    ensures numbered { OnOk result (is_stop (event_at (plain_events events.now) place) ≡ false
         → IsNumbered numbers.new.items firsts.new.items place) }
     ensures first { OnOk result (length firsts.old.items ≡ 0
-        → is_stop (event_at (evs events.now) place) ≡ false → get_or firsts.new.items 0 0 ≡ place) }
-    ensures memory { IfErr result (λ error. fault_of error ≡ fault_nowhere OutOfMemory) }
+        → is_stop (event_at (plain_events events.now) place) ≡ false
+        → get_or firsts.new.items 0 0 ≡ place) }
+    ensures memory { OnlyMemory result }
 {
     if !has_item(events, place) {
         return Ok(());
@@ -67,19 +68,20 @@ fn number_all(
     firsts: &mut Vec<usize>,
     places: &[usize],
 ) -> Result<(), Error>
-    requires plan { IsPlan (evs events.now)
+    requires plan { IsPlan (plain_events events.now)
         (num_of classes.now) numbers.old.items firsts.old.items }
     requires ids { HaveIds classes.now ids.old.items firsts.old.items }
     requires long { length classes.now ≡ length events.now }
     requires places { AllBelow (length events.now) places.now }
-    ensures plan { OnOk result (IsPlan (evs events.now)
+    ensures plan { OnOk result (IsPlan (plain_events events.now)
         (num_of classes.now) numbers.new.items firsts.new.items) }
     ensures ids { OnOk result (HaveIds classes.now ids.new.items firsts.new.items) }
-    ensures keeps { OnOk result (Keeps numbers.old.items firsts.old.items numbers.new.items firsts.new.items) }
+    ensures keeps { OnOk result (Keeps numbers.old.items firsts.old.items
+        numbers.new.items firsts.new.items) }
     ensures numbered { OnOk result ((i : ℕ) → i < length places.now
-        → is_stop (event_at (evs events.now) (get_or places.now i 0)) ≡ false
+        → is_stop (event_at (plain_events events.now) (get_or places.now i 0)) ≡ false
         → IsNumbered numbers.new.items firsts.new.items (get_or places.now i 0)) }
-    ensures memory { IfErr result (λ error. fault_of error ≡ fault_nowhere OutOfMemory) }
+    ensures memory { OnlyMemory result }
 {
     for place in places {
         number_one(events, classes, ids, numbers, firsts, *place)?;
@@ -87,7 +89,8 @@ fn number_all(
     Ok(())
 }
 
-/// The number of each held event's object, and by number the place of the first event of that object.
+/// The number of each held event's object, and by number the place of the first event of that
+/// object.
 #[derive(Drop)]
 pub struct Numbering {
     pub numbers: Vec<usize>,
@@ -103,16 +106,16 @@ pub fn number_by_class(
     classes: &[usize],
     count: usize,
 ) -> Result<Numbering, Error>
-    requires skips { IsSkips (evs events.now) skips.now 0 }
+    requires skips { IsSkips (plain_events events.now) skips.now 0 }
     requires long { length classes.now ≡ length events.now }
     requires below { AllBelow count classes.now }
-    ensures plan { IfOk result (λ r. IsPlan (evs events.now)
+    ensures plan { IfOk result (λ r. IsPlan (plain_events events.now)
         (num_of classes.now) r.numbers.items r.firsts.items) }
-    ensures all { IfOk result (λ r. (t : Tree) → evs events.now ≡ br t
-        → AllNumbered (evs events.now) r.numbers.items (length r.firsts.items)) }
-    ensures root { IfOk result (λ r. (t : Tree) → evs events.now ≡ br t
+    ensures all { IfOk result (λ r. (t : Tree) → plain_events events.now ≡ shape t
+        → AllNumbered (plain_events events.now) r.numbers.items (length r.firsts.items)) }
+    ensures root { IfOk result (λ r. (t : Tree) → plain_events events.now ≡ shape t
         → num_of r.numbers.items 0 ≡ 0) }
-    ensures memory { IfErr result (λ error. fault_of error ≡ fault_nowhere OutOfMemory) }
+    ensures memory { OnlyMemory result }
 {
     let mut numbers = vec![in alloc; NO_NUMBER; events.len()]?;
     let mut firsts = Vec::new(alloc);
@@ -143,23 +146,4 @@ pub fn number_by_class(
         )?;
     }
     Ok(Numbering { numbers, firsts })
-}
-
-/// Numbers the objects of the held events: one for each collection, and one for each different scalar.
-pub fn number_events(
-    alloc: Global,
-    events: &[Event<'_>],
-    skips: &[usize],
-) -> Result<Numbering, Error>
-    requires skips { IsSkips (evs events.now) skips.now 0 }
-    ensures plan { IfOk result (λ r. held.IsPlan (evs events.now) r.numbers.items r.firsts.items) }
-    ensures all { IfOk result (λ r. (t : Tree) → evs events.now ≡ br t
-        → AllNumbered (evs events.now) r.numbers.items (length r.firsts.items)) }
-    ensures root { IfOk result (λ r. (t : Tree) → evs events.now ≡ br t
-        → num_of r.numbers.items 0 ≡ 0) }
-    ensures memory { IfErr result (λ error. fault_of error ≡ fault_nowhere OutOfMemory) }
-{
-    let classes = classes_of(alloc, events)?;
-    let numbering = number_by_class(alloc, events, skips, classes.as_slice(), events.len())?;
-    Ok(numbering)
 }

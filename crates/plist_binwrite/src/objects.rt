@@ -4,8 +4,9 @@ ghost use Rattle.std.specs.Prelude.{◌+◌, ◌<◌, ◌≤◌, ℕ, length, ma
 ghost use Rattle.plist_base.specs.Writing.{answer_of};
 ghost use Rattle.plist_binread.specs.Object.{Object};
 ghost use Rattle.plist_binwrite.specs.Forms.{form, table_form};
-ghost use Rattle.plist_binwrite.specs.Held.{evs, num_of, item_places, key_places, value_places, AllBelow, Describes};
-ghost use Rattle.plist_binwrite.specs.Marks.{Tree, Trees, Members, Array, Dictionary, Sits, SitsItems, SitsPairs};
+ghost use Rattle.plist_binwrite.specs.Held.{plain_events, num_of, item_places, key_places, value_places, AllBelow, Describes};
+ghost use Rattle.plist_base.specs.Trees.{Tree, Trees, Members, Array, Dictionary};
+ghost use Rattle.plist_binwrite.specs.Standing.{Sits, SitsItems, SitsPairs};
 ghost use Rattle.plist_binwrite.specs.Numberings.{obj_of};
 ghost use Rattle.plist_binwrite.specs.Outlets.{Puts};
 ghost use Rattle.plist_binwrite.specs.Planning.{IsPlanned, count_of, numbers_of};
@@ -27,9 +28,9 @@ fn put_items<W: Write>(
     width: usize,
     from: usize,
 ) -> Result<(), Error>
-    requires planned { IsPlanned (evs events.now) plan.now }
+    requires planned { IsPlanned (plain_events events.now) plan.now }
     requires width { width ≤ 8 }
-    ensures { (ts : Trees) → SitsItems (evs events.now) ts from
+    ensures { (ts : Trees) → SitsItems (plain_events events.now) ts from
         → Puts (W.contents writer.old) room.old.items
         (table_form width (map (num_of (numbers_of plan.now)) (item_places ts from)))
         (answer_of result) (W.contents writer.new) room.new.items }
@@ -55,9 +56,9 @@ fn put_keys<W: Write>(
     width: usize,
     from: usize,
 ) -> Result<(), Error>
-    requires planned { IsPlanned (evs events.now) plan.now }
+    requires planned { IsPlanned (plain_events events.now) plan.now }
     requires width { width ≤ 8 }
-    ensures { (ms : Members) → SitsPairs (evs events.now) ms from
+    ensures { (ms : Members) → SitsPairs (plain_events events.now) ms from
         → Puts (W.contents writer.old) room.old.items
         (table_form width (map (num_of (numbers_of plan.now)) (key_places ms from)))
         (answer_of result) (W.contents writer.new) room.new.items }
@@ -87,9 +88,9 @@ fn put_values<W: Write>(
     width: usize,
     from: usize,
 ) -> Result<(), Error>
-    requires planned { IsPlanned (evs events.now) plan.now }
+    requires planned { IsPlanned (plain_events events.now) plan.now }
     requires width { width ≤ 8 }
-    ensures { (ms : Members) → SitsPairs (evs events.now) ms from
+    ensures { (ms : Members) → SitsPairs (plain_events events.now) ms from
         → Puts (W.contents writer.old) room.old.items
         (table_form width (map (num_of (numbers_of plan.now)) (value_places ms from)))
         (answer_of result) (W.contents writer.new) room.new.items }
@@ -118,10 +119,10 @@ fn put_array<W: Write>(
     width: usize,
     place: usize,
 ) -> Result<(), Error>
-    requires planned { IsPlanned (evs events.now) plan.now }
+    requires planned { IsPlanned (plain_events events.now) plan.now }
     requires place { place < length events.now }
     requires width { width ≤ 8 }
-    ensures { (ts : Trees) → SitsItems (evs events.now) ts (place + 1)
+    ensures { (ts : Trees) → SitsItems (plain_events events.now) ts (place + 1)
         → Puts (W.contents writer.old) room.old.items
         (form width (obj_of (num_of (numbers_of plan.now)) (Array ts) place))
         (answer_of result) (W.contents writer.new) room.new.items }
@@ -141,10 +142,10 @@ fn put_dictionary<W: Write>(
     width: usize,
     place: usize,
 ) -> Result<(), Error>
-    requires planned { IsPlanned (evs events.now) plan.now }
+    requires planned { IsPlanned (plain_events events.now) plan.now }
     requires place { place < length events.now }
     requires width { width ≤ 8 }
-    ensures { (ms : Members) → SitsPairs (evs events.now) ms (place + 1)
+    ensures { (ms : Members) → SitsPairs (plain_events events.now) ms (place + 1)
         → Puts (W.contents writer.old) room.old.items
         (form width (obj_of (num_of (numbers_of plan.now)) (Dictionary ms) place))
         (answer_of result) (W.contents writer.new) room.new.items }
@@ -169,10 +170,10 @@ fn put_object<W: Write>(
     width: usize,
     place: usize,
 ) -> Result<(), Error>
-    requires planned { IsPlanned (evs events.now) plan.now }
+    requires planned { IsPlanned (plain_events events.now) plan.now }
     requires place { place < length events.now }
     requires width { width ≤ 8 }
-    ensures { (t : Tree) → Sits (evs events.now) t place
+    ensures { (t : Tree) → Sits (plain_events events.now) t place
         → Puts (W.contents writer.old) room.old.items
         (form width (obj_of (num_of (numbers_of plan.now)) t place))
         (answer_of result) (W.contents writer.new) room.new.items }
@@ -193,10 +194,11 @@ pub fn put_objects<W: Write>(
     width: usize,
     order: &[usize],
 ) -> Result<(), Error>
-    requires planned { IsPlanned (evs events.now) plan.now }
+    requires planned { IsPlanned (plain_events events.now) plan.now }
     requires width { width ≤ 8 }
     requires order { AllBelow (count_of plan.now) order.now }
-    ensures { (objects : ℕ → Object) → Describes (evs events.now) (numbers_of plan.now) objects
+    ensures { (objects : ℕ → Object)
+        → Describes (plain_events events.now) (numbers_of plan.now) objects
         → Puts (W.contents writer.old) room.old.items (bodies width objects order.now)
         (answer_of result) (W.contents writer.new) room.new.items }
 {

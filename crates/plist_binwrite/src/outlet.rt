@@ -1,14 +1,14 @@
 //! Sends bytes part by part, through a room of fixed size.
 
-ghost use Rattle.std.specs.Prelude.{◌≡◌, ◌++◌, ℕ, List, Option, true, false, OnOk, IfErr};
+ghost use Rattle.std.specs.Prelude.{◌≡◌, ◌++◌, ℕ, List, Option, true, false, OnOk};
+ghost use Rattle.plist_base.specs.Outcomes.{OnlyDevice};
 ghost use Rattle.std.specs.Io.KnownBytes.{Appends};
-ghost use Rattle.plist_base.specs.Faults.{Io, fault_of, fault_nowhere};
 ghost use Rattle.plist_base.specs.Writing.{answer_of};
-ghost use Rattle.plist_binwrite.specs.Fronts.{AppendsFront};
+ghost use Rattle.plist_base.specs.Fronts.{AppendsFront};
 ghost use Rattle.plist_binwrite.specs.Outlets.{IsOut, Puts};
 
-use crate::send::{send, send_whole};
 use plist_base::Error;
+use plist_base::send::{send, send_whole};
 use std::io::Write;
 
 // Has bytes wait, where they fit into the room.
@@ -57,7 +57,7 @@ pub fn finish<W: Write>(writer: &mut W, room: &[u8]) -> Result<(), Error>
     ensures front { (first : Option (List ℕ)) (done : List ℕ)
         → IsOut first (W.contents writer.old) room.now done
         → AppendsFront first (W.contents writer.new) done }
-    ensures failed { IfErr result (λ error. fault_of error ≡ fault_nowhere Io) }
+    ensures fault { OnlyDevice result }
 {
     match send_whole(writer, room) {
         Ok(()) => Ok(()),

@@ -3,7 +3,7 @@
 ghost use Rattle.std.specs.Prelude.{◌≡◌, map, true};
 ghost use Rattle.std.proofs.Props.{props};
 ghost use Rattle.plist_base.specs.Events.{event_of};
-ghost use Rattle.plist_base.specs.Wants.{wanted_after};
+ghost use Rattle.plist_base.specs.inner.Wants.{wanted_after};
 ghost use Rattle.plist_binwrite.specs.Stacks.{is_stack, wanted_now};
 
 use crate::wants::{Change, Want, change_on, put};
@@ -21,11 +21,14 @@ pub struct Pending {
 }
 
 impl Pending {
-    ghost use Rattle.std.specs.Prelude.{◌≡◌, [], false, None, OnOk, IfErr, IfSome};
+    ghost use Rattle.std.specs.Prelude.{◌≡◌, [], false, None, OnOk, IfOk, IfErr, IfSome};
     ghost use Rattle.plist_base.specs.Bracketing.{CanContinue};
     ghost use Rattle.plist_base.specs.Events.{event_of};
-    ghost use Rattle.plist_base.specs.Faults.{OutOfMemory, fault_of, fault_nowhere};
-    ghost use Rattle.plist_binwrite.specs.Pendings.{events_held, is_whole, plain_events, Takes, IsRefused, refusal_of};
+    ghost use Rattle.plist_base.specs.Faults.{fault_of};
+    ghost use Rattle.plist_base.specs.Outcomes.{OnlyMemory};
+    ghost use Rattle.plist_binwrite.specs.Pendings.{events_held, is_whole, Takes, IsRefused, refusal_of};
+    ghost use Rattle.plist_binwrite.specs.Held.{plain_events};
+    ghost use Rattle.plist_binwrite.specs.Stacks.{change_seen, stack_of, change_on_top};
 
     /// No events. It takes no memory.
     pub fn new(alloc: Global) -> Pending
@@ -52,36 +55,48 @@ impl Pending {
         ErrorKind::UnexpectedEventType { expected, found }.without_position()
     }
 
-    /// The fault of an event, `UnexpectedEventType` without an offset, if it can't follow those held.
-    pub fn refusal(&self, event: &Event<'_>) -> Option<Error>
-        requires still { is_whole self.now ≡ false }
-        ensures refused { IfSome result (λ error. IsRefused (events_held self.now)
-            (event_of event.now) (fault_of error)) }
-        ensures accepted { result ≡ None → CanContinue (events_held self.now) (event_of event.now) }
-    {
-        match change_on(self.wants.as_slice(), event) {
-            Change::Refused => Some(self.fault_of_event(event)),
-            _ => None,
-        }
-    }
-
-    /// Takes an event that can follow those held.
-    ///
-    /// # Errors
-    /// `OutOfMemory`, without an offset.
-    pub fn take(&mut self, alloc: Global, event: Event<'_>) -> Result<(), Error>
+    // Takes an event that can follow those held, where this is what it does to the stack.
+    fn hold(&mut self, alloc: Global, event: Event<'_>, change: Change) -> Result<(), Error>
         requires still { is_whole self.old ≡ false }
         requires accepted { CanContinue (events_held self.old) (event_of event) }
+        requires change { change_seen change ≡ change_on_top
+            (stack_of self.old.wants.items) (event_of event) }
         ensures taken { OnOk result (Takes self.old (event_of event.entry) self.new) }
-        ensures memory { IfErr result (λ error. fault_of error ≡ fault_nowhere OutOfMemory) }
+        ensures memory { OnlyMemory result }
     {
-        let change = change_on(self.wants.as_slice(), &event);
         let owned = event.into_owned(alloc)?;
         self.wants.reserve(1)?;
         self.events.push(owned)?;
         put(&mut self.wants, change);
         self.whole = self.wants.is_empty();
         Ok(())
+    }
+
+    /// Takes an event, or refuses one that can't follow those held: then its fault,
+    /// `UnexpectedEventType` without an offset, is told, and nothing changes.
+    ///
+    /// # Errors
+    /// `OutOfMemory`, without an offset, for an event that can follow those held.
+    pub fn offer(&mut self, alloc: Global, event: Event<'_>) -> Result<Option<Error>, Error>
+        requires still { is_whole self.old ≡ false }
+        ensures refused { IfOk result (λ refusal. IfSome refusal (λ error. IsRefused
+            (events_held self.old) (event_of event.entry) (fault_of error)
+            × (self.new ≡ self.old))) }
+        ensures taken { IfOk result (λ refusal. refusal ≡ None
+            → CanContinue (events_held self.old) (event_of event.entry)
+            × Takes self.old (event_of event.entry) self.new) }
+        ensures accepted { IfErr result (λ error. CanContinue
+            (events_held self.old) (event_of event.entry)) }
+        ensures memory { OnlyMemory result }
+    {
+        let change = change_on(self.wants.as_slice(), &event);
+        match change {
+            Change::Refused => Ok(Some(self.fault_of_event(&event))),
+            _ => {
+                self.hold(alloc, event, change)?;
+                Ok(None)
+            }
+        }
     }
 
     /// Whether the events are those of a whole property list.

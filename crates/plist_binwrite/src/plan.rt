@@ -1,12 +1,12 @@
 //! What is planned of held events before their file is laid out.
 
-ghost use Rattle.std.specs.Prelude.{◌≡◌, ◌<◌, length, IfOk, IfErr};
-ghost use Rattle.plist_base.specs.Faults.{OutOfMemory, fault_of, fault_nowhere};
-ghost use Rattle.plist_binwrite.specs.Held.{evs, num_of, IsBracketed};
-ghost use Rattle.plist_binwrite.specs.Planning.{IsPlanned, skips_in, numbers_of, firsts_of};
+ghost use Rattle.std.specs.Prelude.{◌≡◌, ◌<◌, length, IfOk};
+ghost use Rattle.plist_base.specs.Outcomes.{OnlyMemory};
+ghost use Rattle.plist_binwrite.specs.Classes.{AreClasses};
+ghost use Rattle.plist_binwrite.specs.Held.{plain_events, num_of, AllBelow, IsBracketed, IsSkips};
+ghost use Rattle.plist_binwrite.specs.Planning.{IsPlanned, GoesBy, skips_in, numbers_of, firsts_of};
 
-use crate::numbering::{Numbering, number_events};
-use crate::skips::skips_of;
+use crate::numbering::{Numbering, number_by_class};
 use plist_base::{Error, Event};
 use std::alloc::Global;
 
@@ -44,16 +44,27 @@ impl Plan {
     }
 }
 
-/// Plans the events of a tree.
+/// Plans the events of a tree: one object for each class, where the classes are below a count.
 ///
 /// # Errors
 /// `OutOfMemory`, without an offset.
-pub fn plan_events(alloc: Global, events: &[Event<'_>]) -> Result<Plan, Error>
-    requires whole { IsBracketed (evs events.now) }
-    ensures planned { IfOk result (λ plan. IsPlanned (evs events.now) plan) }
-    ensures memory { IfErr result (λ error. fault_of error ≡ fault_nowhere OutOfMemory) }
+pub fn plan_by_class(
+    alloc: Global,
+    events: &[Event<'_>],
+    skips: Vec<usize>,
+    classes: &[usize],
+    count: usize,
+) -> Result<Plan, Error>
+    requires whole { IsBracketed (plain_events events.now) }
+    requires skips { IsSkips (plain_events events.now) skips.items 0 }
+    requires long { length classes.now ≡ length events.now }
+    requires below { AllBelow count classes.now }
+    requires classes { AreClasses (plain_events events.now) (num_of classes.now) }
+    ensures planned { IfOk result (λ plan. IsPlanned (plain_events events.now) plan) }
+    ensures goes { IfOk result (λ plan. GoesBy (plain_events events.now)
+        (num_of classes.now) plan) }
+    ensures memory { OnlyMemory result }
 {
-    let skips = skips_of(alloc, events)?;
-    let numbering = number_events(alloc, events, skips.as_slice())?;
+    let numbering = number_by_class(alloc, events, skips.as_slice(), classes, count)?;
     Ok(Plan { skips, numbering })
 }

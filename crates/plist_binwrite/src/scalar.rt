@@ -3,6 +3,7 @@
 ghost use Rattle.plist_base.specs.Events.{event_of};
 ghost use Rattle.plist_base.specs.Writing.{answer_of};
 ghost use Rattle.plist_binwrite.specs.Forms.{scalar_form};
+ghost use Rattle.plist_binwrite.specs.Held.{IfScalar};
 ghost use Rattle.plist_binwrite.specs.Outlets.{Puts};
 
 use crate::forms::{put_boolean, put_data, put_date, put_integer, put_real, put_uid};
@@ -10,14 +11,15 @@ use crate::text::put_text;
 use plist_base::{Error, Event};
 use std::io::Write;
 
-/// Puts a scalar, and nothing for the start or the end of a collection.
+/// Puts a scalar. Of the start and the end of a collection nothing is told.
 pub fn put_scalar<W: Write>(
     writer: &mut W,
     room: &mut Vec<u8>,
     event: &Event<'_>,
 ) -> Result<(), Error>
-    ensures { Puts (W.contents writer.old) room.old.items (scalar_form (event_of event.now))
-        (answer_of result) (W.contents writer.new) room.new.items }
+    ensures { IfScalar (event_of event.now) (λ scalar. Puts (W.contents writer.old)
+        room.old.items (scalar_form scalar)
+        (answer_of result) (W.contents writer.new) room.new.items) }
 {
     match event {
         Event::Boolean(value) => put_boolean(writer, room, *value),

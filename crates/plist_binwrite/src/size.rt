@@ -1,19 +1,20 @@
-//! How many bytes the objects and the file will have, before any byte is sent. A size of 2^64 or more is
-//! `None`.
+//! How many bytes the objects and the file will have, before any byte is sent. A size of 2^64 or
+//! more is `None`.
 
 ghost use Rattle.std.specs.Prelude.{◌≡◌, ◌+◌, ◌^◌, ◌<◌, ◌≤◌, ℕ, length, eqb, true, false, IfOk, IfErr, IfSome};
+ghost use Rattle.plist_base.specs.Outcomes.{OnlyFault};
 ghost use Rattle.std.specs.List.{list_any};
-ghost use Rattle.plist_base.specs.Faults.{PlistTooLarge, fault_of, fault_nowhere};
-ghost use Rattle.plist_base.specs.Trees.{number_of_trees};
+ghost use Rattle.plist_base.specs.Faults.{PlistTooLarge, fault_nowhere};
+ghost use Rattle.plist_base.specs.Trees.{number_of_trees, Tree, Trees};
 ghost use Rattle.plist_binread.specs.Object.{Object};
-ghost use Rattle.plist_binwrite.specs.Counts.{object_count};
+ghost use Rattle.plist_binwrite.specs.Classes.{Fits, IsOversized};
 ghost use Rattle.plist_binwrite.specs.Forms.{IsWritable};
-ghost use Rattle.plist_binwrite.specs.Marks.{Tree, Trees, Sits, SitsItems};
-ghost use Rattle.plist_binwrite.specs.Held.{evs, num_of, IsSkips, Describes};
+ghost use Rattle.plist_binwrite.specs.Standing.{Sits, SitsItems};
+ghost use Rattle.plist_binwrite.specs.Held.{plain_events, num_of, IsSkips, Describes};
 ghost use Rattle.plist_binwrite.specs.Laying.{IsOrder, laid_out};
 ghost use Rattle.plist_binwrite.specs.Numberings.{obj_of};
-ghost use Rattle.plist_binwrite.specs.Planning.{IsPlanned, count_of, numbers_of};
-ghost use Rattle.plist_binwrite.specs.Sizes.{TellsSize, object_size, table_place, file_size, Fits, IsOversized};
+ghost use Rattle.plist_binwrite.specs.Planning.{IsPlanned, GoesBy, count_of, numbers_of};
+ghost use Rattle.plist_binwrite.specs.Sizes.{TellsSize, object_size, size_with};
 ghost use Rattle.plist_binwrite.specs.Written.{Laid, reference_width};
 
 use crate::forms::{offset_width, reference_width};
@@ -24,8 +25,8 @@ use plist_base::{Error, ErrorKind, Event};
 
 /// The number of items of an array from here on; a key is an item, and so is its value.
 pub fn count_items(events: &[Event<'_>], skips: &[usize], from: usize) -> usize
-    requires { IsSkips (evs events.now) skips.now 0 }
-    ensures value { (ts : Trees) → SitsItems (evs events.now) ts from
+    requires { IsSkips (plain_events events.now) skips.now 0 }
+    ensures value { (ts : Trees) → SitsItems (plain_events events.now) ts from
         → result ≡ number_of_trees ts }
     ensures small { result < 2 ^ 64 }
 {
@@ -40,12 +41,12 @@ pub fn count_items(events: &[Event<'_>], skips: &[usize], from: usize) -> usize
 
 // The size of the object of the tree that begins here.
 fn size_of_object(events: &[Event<'_>], plan: &Plan, width: usize, place: usize) -> Option<u64>
-    requires planned { IsPlanned (evs events.now) plan.now }
+    requires planned { IsPlanned (plain_events events.now) plan.now }
     requires place { place < length events.now }
     requires fits { count_of plan.now ≤ 256 ^ width }
-    ensures size { (t : Tree) → Sits (evs events.now) t place
+    ensures size { (t : Tree) → Sits (plain_events events.now) t place
         → TellsSize result (object_size width t) }
-    ensures writable { (t : Tree) → Sits (evs events.now) t place
+    ensures writable { (t : Tree) → Sits (plain_events events.now) t place
         → IsWritable width (obj_of (num_of (numbers_of plan.now)) t place) }
 {
     match kind_at(events, place) {
@@ -79,14 +80,15 @@ fn place_objects(
     order: &[usize],
     places: &mut Vec<usize>,
 ) -> Option<u64>
-    requires planned { IsPlanned (evs events.now) plan.now }
+    requires planned { IsPlanned (plain_events events.now) plan.now }
     requires fits { count_of plan.now ≤ 256 ^ width }
     requires order { IsOrder (count_of plan.now) order.now places.old.items }
     ensures long { length places.new.items ≡ count_of plan.now }
-    ensures size { (objects : ℕ → Object) → Describes (evs events.now) (numbers_of plan.now) objects
+    ensures size { (objects : ℕ → Object)
+        → Describes (plain_events events.now) (numbers_of plan.now) objects
         → TellsSize result (length (laid_out width objects order.now)) }
     ensures laid { IfSome result (λ end. (objects : ℕ → Object)
-        → Describes (evs events.now) (numbers_of plan.now) objects
+        → Describes (plain_events events.now) (numbers_of plan.now) objects
         → Laid width objects places.new.items order.now 8) }
 {
     let mut at = Some(8);
@@ -101,8 +103,7 @@ fn place_objects(
 
 // The size of a file with so many objects, whose offset table lies here.
 fn size_of_file(table: u64, count: u64) -> Option<u64>
-    ensures { (t : Tree) → table ≡ table_place t → count ≡ object_count t
-        → TellsSize result (file_size t) }
+    ensures { (objects : ℕ) → table ≡ 8 + objects → TellsSize result (size_with count objects) }
 {
     let offsets = count.checked_mul(offset_width(table) as u64);
     add(add(Some(table), offsets), Some(32))
@@ -110,10 +111,10 @@ fn size_of_file(table: u64, count: u64) -> Option<u64>
 
 // Whether a file with so many objects, whose offset table lies here, has less than 2^64 bytes.
 fn has_size(table: u64, count: u64) -> bool
-    ensures yes { result ≡ true → (t : Tree) → table ≡ table_place t → count ≡ object_count t
-        → file_size t < 2 ^ 64 }
-    ensures no { result ≡ false → (t : Tree) → table ≡ table_place t → count ≡ object_count t
-        → 2 ^ 64 ≤ file_size t }
+    ensures yes { result ≡ true → (objects : ℕ) → table ≡ 8 + objects
+        → size_with count objects < 2 ^ 64 }
+    ensures no { result ≡ false → (objects : ℕ) → table ≡ 8 + objects
+        → 2 ^ 64 ≤ size_with count objects }
 {
     match size_of_file(table, count) {
         Some(_) => true,
@@ -132,19 +133,22 @@ pub fn check_size(
     order: &[usize],
     places: &mut Vec<usize>,
 ) -> Result<u64, Error>
-    requires planned { IsPlanned (evs events.now) plan.now }
+    requires planned { IsPlanned (plain_events events.now) plan.now }
     requires order { IsOrder (count_of plan.now) order.now places.old.items }
     requires all { (k : ℕ) → k < count_of plan.now → list_any (eqb k) order.now ≡ true }
     ensures long { length places.new.items ≡ count_of plan.now }
     ensures table { IfOk result (λ table. (objects : ℕ → Object)
-        → Describes (evs events.now) (numbers_of plan.now) objects
+        → Describes (plain_events events.now) (numbers_of plan.now) objects
         → table ≡ length (laid_out (reference_width (count_of plan.now)) objects order.now)) }
     ensures laid { IfOk result (λ table. (objects : ℕ → Object)
-        → Describes (evs events.now) (numbers_of plan.now) objects
+        → Describes (plain_events events.now) (numbers_of plan.now) objects
         → Laid (reference_width (count_of plan.now)) objects places.new.items order.now 8) }
-    ensures fits { IfOk result (λ table. Fits (evs events.now)) }
-    ensures kind { IfErr result (λ error. fault_of error ≡ fault_nowhere PlistTooLarge) }
-    ensures oversized { IfErr result (λ error. IsOversized (evs events.now)) }
+    ensures fits { IfOk result (λ table. (class : ℕ → ℕ)
+        → GoesBy (plain_events events.now) class plan.now → Fits class (plain_events events.now)) }
+    ensures kind { OnlyFault result (fault_nowhere PlistTooLarge) }
+    ensures oversized { IfErr result (λ error. (class : ℕ → ℕ)
+        → GoesBy (plain_events events.now) class plan.now
+        → IsOversized class (plain_events events.now)) }
 {
     let count = plan.numbering.firsts.len();
     let width = reference_width(count as u64);

@@ -33,11 +33,8 @@ pub struct BinaryWriter<W: Write> {
 }
 
 impl<W: Write> BinaryWriter<W> {
-    ghost use Rattle.std.specs.Prelude.{◌≡◌, [], false, None, IfSome};
-    ghost use Rattle.plist_base.specs.Bracketing.{CanContinue};
+    ghost use Rattle.std.specs.Prelude.{◌≡◌, [], false};
     ghost use Rattle.plist_base.specs.Events.{event_of};
-    ghost use Rattle.plist_base.specs.Faults.{fault_of};
-    ghost use Rattle.plist_binwrite.specs.Pendings.{IsRefused};
     ghost use Rattle.plist_base.specs.Writing.{answer_of};
     ghost use Rattle.plist_binwrite.specs.Taking.{Takes, held_by, failed_of, inner_of};
 
@@ -63,36 +60,28 @@ impl<W: Write> BinaryWriter<W> {
         writer
     }
 
-    // The fault of an event, if it can't follow those held.
-    fn refusal(&self, event: &Event<'_>) -> Option<Error>
-        requires working { failed_of self.now ≡ false }
-        ensures refused { IfSome result (λ error. IsRefused (held_by self.now)
-            (event_of event.now) (fault_of error)) }
-        ensures accepted { result ≡ None → CanContinue (held_by self.now) (event_of event.now) }
-    {
-        self.pending.refusal(event)
-    }
-
     fn take(&mut self, event: Event<'_>) -> Result<(), Error>
         ensures { Takes W.contents self.old (event_of event.entry) (answer_of result) self.new }
     {
         if self.has_failed {
             return Err(ErrorKind::WriterFailed.without_position());
         }
-        if let Some(error) = self.refusal(&event) {
-            return Err(error);
-        }
-        self.has_failed = true;
-        if let Err(error) = self.pending.take(self.alloc, event) {
-            return Err(error);
+        match self.pending.offer(self.alloc, event) {
+            Ok(None) => {}
+            Ok(Some(refusal)) => return Err(refusal),
+            Err(error) => {
+                self.has_failed = true;
+                return Err(error);
+            }
         }
         if self.pending.is_whole() {
+            self.has_failed = true;
             if let Err(error) = complete(self.alloc, self.pending.events(), &mut self.writer) {
                 return Err(error);
             }
             self.pending.clear();
+            self.has_failed = false;
         }
-        self.has_failed = false;
         Ok(())
     }
 }

@@ -42,7 +42,8 @@ dark_both : (a b : Bool) → (a && b) ≡ true → (a ≡ true) × (b ≡ true)
 dark_both true b h = (refl, h)
 dark_both false b h = cc h
 
-dark_at : (symbols : List ℕ) (i : ℕ) → list_all is_dark symbols ≡ true → is_dark (slice_index symbols i) ≡ true
+dark_at : (symbols : List ℕ) (i : ℕ) → list_all is_dark symbols ≡ true
+    → is_dark (slice_index symbols i) ≡ true
 dark_at [] i all = refl
 dark_at (x ∷ symbols) zero all = (dark_both _ _ all).0
 dark_at (x ∷ symbols) (suc i) all = dark_at symbols i (dark_both _ _ all).1
@@ -53,48 +54,64 @@ symbol_is_dark i = dark_at standard.encode_table i refl
 dark-symbols : (bytes : List ℕ) → IsDark (encode_symbols standard.encode_table bytes)
 unfolding encode_symbols
 dark-symbols [] = refl
-dark-symbols (a ∷ []) = dark-cons _ _ (symbol_is_dark (a / 4)) (dark-cons _ _ (symbol_is_dark (a % 4 * 16)) dark-nil)
+dark-symbols (a ∷ []) =
+    dark-cons _ _ (symbol_is_dark (a / 4)) (dark-cons _ _ (symbol_is_dark (a % 4 * 16)) dark-nil)
 dark-symbols (a ∷ b ∷ []) =
     dark-cons _ _ (symbol_is_dark (a / 4))
-    (dark-cons _ _ (symbol_is_dark (a % 4 * 16 + b / 16)) (dark-cons _ _ (symbol_is_dark (b % 16 * 4)) dark-nil))
+    (dark-cons _ _ (symbol_is_dark (a % 4 * 16 + b / 16))
+    (dark-cons _ _ (symbol_is_dark (b % 16 * 4)) dark-nil))
 dark-symbols (a ∷ b ∷ c ∷ rest) =
     dark-cons _ _ (symbol_is_dark (a / 4))
     (dark-cons _ _ (symbol_is_dark (a % 4 * 16 + b / 16))
-    (dark-cons _ _ (symbol_is_dark (b % 16 * 4 + c / 64)) (dark-cons _ _ (symbol_is_dark (c % 64)) (dark-symbols rest))))
+    (dark-cons _ _ (symbol_is_dark (b % 16 * 4 + c / 64))
+    (dark-cons _ _ (symbol_is_dark (c % 64)) (dark-symbols rest))))
 
 dark-padding : (n : ℕ) → IsDark (replicate n 61)
 dark-padding zero = refl
 dark-padding (suc n) = dark-cons 61 (replicate n 61) refl (dark-padding n)
 
 dark-base64 : (bytes : List ℕ) → IsDark (encode_of standard bytes)
-dark-base64 bytes = dark-append (encode_symbols standard.encode_table bytes) _ (dark-symbols bytes) (dark-padding (padding_len (length bytes)))
+dark-base64 bytes =
+    dark-append (encode_symbols standard.encode_table bytes) _ (dark-symbols bytes)
+    (dark-padding (padding_len (length bytes)))
 
 -- ---- the lines
 
 -- without LF between them they stand one behind the other
-dark-lines : (bytes lines : List ℕ) → without_white (join_with_byte 10 (map (λ line. encode_of standard (bytes_of_line bytes line)) lines)) ≡ concat (map (λ line. encode_of standard (bytes_of_line bytes line)) lines)
+dark-lines : (bytes lines : List ℕ)
+    → without_white (join_with_byte 10
+    (map (λ line. encode_of standard (bytes_of_line bytes line)) lines))
+    ≡ concat (map (λ line. encode_of standard (bytes_of_line bytes line)) lines)
 dark-lines bytes [] = refl
-dark-lines bytes (line ∷ []) = dark-base64 (bytes_of_line bytes line) ∙ sym (append-nil (encode_of standard (bytes_of_line bytes line)))
+dark-lines bytes (line ∷ []) =
+    dark-base64 (bytes_of_line bytes line)
+    ∙ sym (append-nil (encode_of standard (bytes_of_line bytes line)))
 dark-lines bytes (line ∷ next ∷ lines) =
     filter-append is_dark (encode_of standard (bytes_of_line bytes line)) _
     ∙ rw (dark-base64 (bytes_of_line bytes line), dark-lines bytes (next ∷ lines)) refl
 
-concat-more : (bytes : List ℕ) (n count : ℕ) → n ≡ count + 1 → concat (first_lines n bytes) ≡ concat (first_lines count bytes) ++ encode_of standard (bytes_of_line bytes count)
+concat-more : (bytes : List ℕ) (n count : ℕ) → n ≡ count + 1
+    → concat (first_lines n bytes) ≡ concat (first_lines count bytes)
+    ++ encode_of standard (bytes_of_line bytes count)
 concat-more bytes n count is =
     let line = encode_of standard (bytes_of_line bytes count) in
     ap (λ k. concat (first_lines k bytes)) is
-    ∙ ap concat (map-range_with_len_more (λ k. encode_of standard (bytes_of_line bytes k)) 0 count count (omega arith))
+    ∙ ap concat (map-range_with_len_more (λ k. encode_of standard (bytes_of_line bytes k)) 0 count
+    count (omega arith))
     ∙ concat-append (first_lines count bytes) (line ∷ [])
     ∙ ap (λ t. concat (first_lines count bytes) ++ t) (append-nil line)
 
-concat-lines : (bytes : List ℕ) (count : ℕ) → count * 51 < length bytes + 51 → concat (first_lines count bytes) ≡ encode_of standard (take (count * 51) bytes)
+concat-lines : (bytes : List ℕ) (count : ℕ) → count * 51 < length bytes + 51
+    → concat (first_lines count bytes) ≡ encode_of standard (take (count * 51) bytes)
 concat-lines bytes zero fits = sym (encode_of-nil standard)
 concat-lines bytes (suc count) fits =
     let front = take (count * 51) bytes in
     let line = bytes_of_line bytes count in
-    let fills : length front ≡ count * 51 = length-take-le (count * 51) bytes (omega (arith, fits)) in
+    let fills : length front ≡ count * 51 = length-take-le (count * 51) bytes (omega (arith, fits))
+    in
     let whole : length front % 3 ≡ 0 = omega (arith, fills) in
-    let split : take (suc count * 51) bytes ≡ front ++ line = ap (λ n. take n bytes) (omega arith) ∙ take-add (count * 51) 51 bytes in
+    let split : take (suc count * 51) bytes ≡ front ++ line = ap (λ n. take n bytes) (omega arith)
+    ∙ take-add (count * 51) 51 bytes in
     concat-more bytes (suc count) count (omega arith)
     ∙ ap (λ t. t ++ encode_of standard line) (concat-lines bytes count (omega (arith, fits)))
     ∙ sym (encode_of-append standard front line whole)
@@ -102,25 +119,36 @@ concat-lines bytes (suc count) fits =
 
 -- ---- a further line
 
-join-next : (first : List ℕ) (lines : List (List ℕ)) (line : List ℕ) → join_with_byte 10 (first ∷ (lines ++ line ∷ [])) ≡ join_with_byte 10 (first ∷ lines) ++ 10 ∷ line
+join-next : (first : List ℕ) (lines : List (List ℕ)) (line : List ℕ)
+    → join_with_byte 10 (first ∷ (lines ++ line ∷ [])) ≡ join_with_byte 10 (first ∷ lines) ++ 10
+    ∷ line
 join-next first [] line = refl
-join-next first (next ∷ lines) line = rw (join-next next lines line) (sym (append_assoc first (10 ∷ join_with_byte 10 (next ∷ lines)) (10 ∷ line)))
+join-next first (next ∷ lines) line =
+    rw (join-next next lines line)
+    (sym (append_assoc first (10 ∷ join_with_byte 10 (next ∷ lines)) (10 ∷ line)))
 
 -- the bytes of a line, as far as there are some
-pub line-slice : (bytes : List ℕ) (start end : ℕ) → end ≡ min (length bytes) (start + 51) → start ≤ length bytes → take (end - start) (drop start bytes) ≡ take 51 (drop start bytes)
+pub line-slice : (bytes : List ℕ) (start end : ℕ) → end ≡ min (length bytes) (start + 51)
+    → start ≤ length bytes → take (end - start) (drop start bytes) ≡ take 51 (drop start bytes)
 line-slice bytes start end is fits =
-    let short : end - start ≡ min 51 (length (drop start bytes)) = omega (arith, is, fits, length-drop start bytes) in
+    let short : end - start ≡ min 51 (length (drop start bytes)) = omega
+    (arith, is, fits, length-drop start bytes) in
     ap (λ n. take n (drop start bytes)) short ∙ take_min 51 (drop start bytes)
 
 -- the first line
-pub lines-first : (bytes : List ℕ) (line : ℕ) → line ≡ 0 → join_with_byte 10 (first_lines (line + 1) bytes) ≡ join_with_byte 10 (first_lines line bytes) ++ encode_of standard (bytes_of_line bytes line)
+pub lines-first : (bytes : List ℕ) (line : ℕ) → line ≡ 0
+    → join_with_byte 10 (first_lines (line + 1) bytes) ≡ join_with_byte 10 (first_lines line bytes)
+    ++ encode_of standard (bytes_of_line bytes line)
 lines-first bytes line none = rw none refl
 
 -- a further line
-pub lines-next : (bytes : List ℕ) (line before : ℕ) → line ≡ suc before → join_with_byte 10 (first_lines (line + 1) bytes) ≡ join_with_byte 10 (first_lines line bytes) ++ 10 ∷ encode_of standard (bytes_of_line bytes line)
+pub lines-next : (bytes : List ℕ) (line before : ℕ) → line ≡ suc before
+    → join_with_byte 10 (first_lines (line + 1) bytes) ≡ join_with_byte 10 (first_lines line bytes)
+    ++ 10 ∷ encode_of standard (bytes_of_line bytes line)
 lines-next bytes line before is =
     let f = λ (k : ℕ). encode_of standard (bytes_of_line bytes k) in
-    let more : first_lines (line + 1) bytes ≡ first_lines line bytes ++ f line ∷ [] = map-range_with_len_more f 0 line line (omega arith) in
+    let more : first_lines (line + 1) bytes ≡ first_lines line bytes ++ f line
+    ∷ [] = map-range_with_len_more f 0 line line (omega arith) in
     rw (more, is) (join-next (f 0) (map f (range_with_len 1 before)) (f (suc before)))
 
 -- what is written is read back
@@ -130,12 +158,16 @@ written-reads bytes are_bytes =
     let count = line_count bytes in
     let whole_lines = div_ceil_times (length bytes) 51 (omega arith) in
     let all : take (count * 51) bytes ≡ bytes = take_all (count * 51) bytes whole_lines.0 in
-    let text : without_white (join_with_byte 10 (first_lines count bytes)) ≡ encode_of standard bytes = dark-lines bytes (range_with_len 0 count) ∙ concat-lines bytes count whole_lines.1 ∙ ap (encode_of standard) all in
-    rw text (decoded_of-ok standard (encode_of standard bytes) bytes (decode_of-encode_of standard bytes refl are_bytes))
+    let text : without_white (join_with_byte 10 (first_lines count bytes))
+    ≡ encode_of standard bytes = dark-lines bytes (range_with_len 0 count)
+    ∙ concat-lines bytes count whole_lines.1 ∙ ap (encode_of standard) all in
+    rw text (decoded_of-ok standard (encode_of standard bytes) bytes
+    (decode_of-encode_of standard bytes refl are_bytes))
 
 -- ---- exactly the base64 of bytes is read
 
-result_ok-some : (r : Result (List ℕ) DecodeError) (bytes : List ℕ) → result_ok r ≡ Some bytes → r ≡ Ok bytes
+result_ok-some : (r : Result (List ℕ) DecodeError) (bytes : List ℕ) → result_ok r ≡ Some bytes
+    → r ≡ Ok bytes
 result_ok-some (Ok x) bytes is = cc is
 result_ok-some (Err e) bytes is = cc is
 
@@ -146,32 +178,44 @@ bytes-cons : (x : ℕ) (xs : List ℕ) → x < 256 → IsBytes xs → IsBytes (x
 bytes-cons x xs first rest zero = first
 bytes-cons x xs first rest (suc i) = rest i
 
-bytes-kept : (keep : Bool) (x : ℕ) (xs : List ℕ) → x < 256 → IsBytes xs → IsBytes (cond keep (x ∷ xs) xs)
+bytes-kept : (keep : Bool) (x : ℕ) (xs : List ℕ) → x < 256 → IsBytes xs
+    → IsBytes (cond keep (x ∷ xs) xs)
 bytes-kept true x xs first rest = bytes-cons x xs first rest
 bytes-kept false x xs first rest = rest
 
 bytes-dark : (text : List ℕ) → IsBytes text → IsBytes (without_white text)
 bytes-dark [] are = are
-bytes-dark (x ∷ text) are = bytes-kept (is_dark x) x (without_white text) (are 0) (bytes-dark text (bytes-tail x text are))
+bytes-dark (x ∷ text) are =
+    bytes-kept (is_dark x) x (without_white text) (are 0) (bytes-dark text (bytes-tail x text are))
 
-pub spelled : (text bytes : List ℕ) → IsBytes text → IsBytes bytes → (data_of_text text ≡ Some bytes) ↔ (without_white text ≡ encode_of standard bytes)
+pub spelled : (text bytes : List ℕ) → IsBytes text → IsBytes bytes
+    → (data_of_text text ≡ Some bytes) ↔ (without_white text ≡ encode_of standard bytes)
 unfolding data_of_text decoded_of
 spelled text bytes are_bytes bytes_are =
-    let both = decode_of_iff standard (without_white text) bytes (refl, refl) (bytes-dark text are_bytes) bytes_are in
-    (λ is. both.0 (result_ok-some (decode_of standard (without_white text)) bytes is), λ is. ap result_ok (both.1 is))
+    let both = decode_of_iff standard (without_white text) bytes (refl, refl)
+    (bytes-dark text are_bytes) bytes_are in (
+      λ is. both.0 (result_ok-some (decode_of standard (without_white text)) bytes is),
+      λ is. ap
+          result_ok (both.1 is),
+    )
 
 -- what the bytes of a text decode to
-pub data-decoded : (text dark bytes : List ℕ) → dark ≡ without_white text → decode_of standard dark ≡ Ok bytes → data_of_text text ≡ Some bytes
+pub data-decoded : (text dark bytes : List ℕ) → dark ≡ without_white text
+    → decode_of standard dark ≡ Ok bytes → data_of_text text ≡ Some bytes
 unfolding data_of_text
-data-decoded text dark bytes is decoded = decoded_of-ok standard (without_white text) bytes (rw is at decoded)
+data-decoded text dark bytes is decoded =
+    decoded_of-ok standard (without_white text) bytes (rw is at decoded)
 
 -- all lines are the text
-pub text-of-lines : (bytes : List ℕ) (count : ℕ) (text : List ℕ) → text ≡ join_with_byte 10 (first_lines count bytes) → count ≡ line_count bytes → text ≡ data_text bytes
+pub text-of-lines : (bytes : List ℕ) (count : ℕ) (text : List ℕ)
+    → text ≡ join_with_byte 10 (first_lines count bytes) → count ≡ line_count bytes
+    → text ≡ data_text bytes
 unfolding data_text
 text-of-lines bytes count text is all = is ∙ ap (λ n. join_with_byte 10 (first_lines n bytes)) all
 
 -- no bytes have a text that doesn't decode
-pub no-data : (text dark : List ℕ) (error : DecodeAllocError) → dark ≡ without_white text → IsDecodeFailure standard dark error → IsNoData text (refusal_of error)
+pub no-data : (text dark : List ℕ) (error : DecodeAllocError) → dark ≡ without_white text
+    → IsDecodeFailure standard dark error → IsNoData text (refusal_of error)
 unfolding data_of_text decoded_of
 no-data text dark (decoding.DecodeError fault) is refused = ap result_ok (rw is at refused)
 no-data text dark decoding.OutOfMemory is refused = tt

@@ -23,7 +23,8 @@ bytes_of_line bytes line = take 51 (drop (line * 51) bytes)
 
 -- the first lines' base64
 abbrev pub first_lines : ℕ → List ℕ → List (List ℕ)
-first_lines count bytes = map (λ line. encode_of standard (bytes_of_line bytes line)) (range_with_len 0 count)
+first_lines count bytes =
+    map (λ line. encode_of standard (bytes_of_line bytes line)) (range_with_len 0 count)
 
 -- how many lines the bytes fill or begin
 abbrev pub line_count : List ℕ → ℕ
@@ -43,7 +44,8 @@ without_white text = filter (λ byte. not (is_ascii_whitespace byte)) text
 unfoldable pub data_of_text : List ℕ → Option (List ℕ)
 data_of_text text = decoded_of standard (without_white text)
 
--- the refusal of a text: the fault of decoding it, whose places count what is left without white space
+-- the refusal of a text: the fault of decoding it, whose places count what is left without white
+-- space
 abbrev pub IsFaultOf : List ℕ → InvalidXmlData → Type 0
 IsFaultOf text (Decode fault) = decode_of standard (without_white text) ≡ Err fault
 IsFaultOf text OutOfMemory = ⊤

@@ -4,7 +4,8 @@ ghost use Rattle.std.specs.Prelude.{◌≡◌, ◌↔◌, List, ℕ, length, Som
 ghost use Rattle.std.specs.Borrow.{Array, Lends, sem, u8};
 ghost use Rattle.base64.specs.Engines.{standard};
 ghost use Rattle.base64.specs.GeneralPurpose.{IsBytes, IsDecodeFailure, decode_of, encode_of};
-ghost use Rattle.plist_base.specs.Faults.{OutOfMemory, fault_nowhere, fault_of};
+ghost use Rattle.plist_base.specs.Faults.{OutOfMemory};
+ghost use Rattle.plist_base.specs.Outcomes.{OnlyMemory};
 ghost use Rattle.plist_data.specs.DataText.{IsFaultOf, IsNoData, data_of_text, data_text, overwritten, without_white};
 ghost use Rattle.plist_data.specs.contracts.data.Data.{the_row};
 
@@ -80,7 +81,7 @@ impl Data {
     pub fn to_xml_format(&self, alloc: Global) -> Result<String, Error>
         ensures text { IfOk result (λ text. string_bytes text ≡ data_text self.now) }
         ensures back { IfOk result (λ text. data_of_text (string_bytes text) ≡ Some self.now) }
-        ensures memory { IfErr result (λ error. fault_of error ≡ fault_nowhere OutOfMemory) }
+        ensures memory { OnlyMemory result }
     {
         text_of(alloc, self.bytes.as_slice())
     }
@@ -109,7 +110,7 @@ impl Data {
     /// [`plist_base::ErrorKind::OutOfMemory`] if memory runs out.
     pub fn clone(&self) -> Result<Data, Error>
         ensures same { IfOk result (λ copy. copy ≡ self.now) }
-        ensures memory { IfErr result (λ error. fault_of error ≡ fault_nowhere OutOfMemory) }
+        ensures memory { OnlyMemory result }
     {
         let bytes = self.bytes.clone()?;
         Ok(Data::new(bytes))
@@ -148,7 +149,7 @@ fn push_base64(text: &mut String, bytes: &[u8]) -> Result<(), AllocError>
 fn text_of(alloc: Global, bytes: &[u8]) -> Result<String, Error>
     ensures text { IfOk result (λ text. string_bytes text ≡ data_text bytes.now) }
     ensures back { IfOk result (λ text. data_of_text (string_bytes text) ≡ Some bytes.now) }
-    ensures memory { IfErr result (λ error. fault_of error ≡ fault_nowhere OutOfMemory) }
+    ensures memory { OnlyMemory result }
 {
     let mut text = String::new(alloc);
     for line in 0..bytes.len().div_ceil(BYTES_A_LINE) {

@@ -1,2 +1,3 @@
 pub mod Printing
 pub mod Years
+pub mod OneText

@@ -27,7 +27,8 @@ decimal_two : (n : ℕ) → 10 ≤ n → n < 100 → decimal n ≡ two_text n
 decimal_two n large small =
     let same : n / 10 % 10 ≡ n / 10 = omega arith in
     sym (digits_onto-nil 10 false n) ∙ digits_onto_step 10 false n [] 64 (omega arith) (omega arith)
-    ∙ digits_onto_last 10 false (n / 10) (digit_glyph false (n % 10) ∷ []) 63 (omega arith) (omega arith)
+    ∙ digits_onto_last 10 false (n / 10) (digit_glyph false (n % 10) ∷ []) 63 (omega arith)
+    (omega arith)
     ∙ ap (λ d. digit_glyph false d ∷ digit_glyph false (n % 10) ∷ []) same
     ∙ (λ k. glyph (n / 10) (omega arith) k ∷ glyph (n % 10) (omega arith) k ∷ [])
 
@@ -35,7 +36,9 @@ pub places_are_digits : (n : ℕ) → n < 100 → two_places n ≡ two_text n
 unfolding padded_integral char_count
 places_are_digits n small =
     elim (cases_lt n 10) [
-      | inl one ↦ let high : n / 10 ≡ 0 = omega arith in let low : n % 10 ≡ n = omega arith in rw (decimal_digit n one, high, low) refl
+      | inl one ↦ let high : n / 10 ≡ 0 =
+          omega arith in let low : n % 10
+          ≡ n = omega arith in rw (decimal_digit n one, high, low) refl
       | inr two ↦ rw (decimal_two n two small) refl
     ]
 
@@ -45,11 +48,14 @@ digits_back n small = grind arith
 
 -- ---- the parts
 
-day_is : (year month day : ℕ) → IsInRange 1 12 month → IsInRange 1 (days_in_month (pos year) month) day → day_number year month day ≡ Some (days_from_civil (pos year) month day)
+day_is : (year month day : ℕ) → IsInRange 1 12 month
+    → IsInRange 1 (days_in_month (pos year) month) day
+    → day_number year month day ≡ Some (days_from_civil (pos year) month day)
 unfolding day_number
 day_is year month day in_year in_month = grind (arith, in_year, in_month)
 
-time_is : (hour minute second : ℕ) → hour < 24 → minute < 60 → second < 60 → second_of_day hour minute second ≡ Some (hour * 3600 + minute * 60 + second)
+time_is : (hour minute second : ℕ) → hour < 24 → minute < 60 → second < 60
+    → second_of_day hour minute second ≡ Some (hour * 3600 + minute * 60 + second)
 unfolding second_of_day
 time_is hour minute second h m s = grind (arith, h, m, s)
 
@@ -57,45 +63,89 @@ time_is hour minute second h m s = grind (arith, h, m, s)
 
 abbrev text_from : (century year month day hour minute second : List ℕ) → List ℕ
 text_from century year month day hour minute second =
-    century ++ (year ++ 45 ∷ (month ++ 45 ∷ (day ++ 84 ∷ (hour ++ 58 ∷ (minute ++ 58 ∷ (second ++ 90 ∷ []))))))
+    century ++ (year ++ 45 ∷ (month ++ 45
+    ∷ (day ++ 84 ∷ (hour ++ 58 ∷ (minute ++ 58 ∷ (second ++ 90 ∷ []))))))
 
-reads : (century year month day hour minute second : ℕ) (n : ℤ) (s : ℕ) → century < 100 → year < 100 → month < 100 → day < 100 → hour < 100 → minute < 100 → second < 100
-    → day_number (century * 100 + year) month day ≡ Some n → second_of_day hour minute second ≡ Some s
-    → unix_second_of_text (text_from (two_text century) (two_text year) (two_text month) (two_text day) (two_text hour) (two_text minute) (two_text second)) ≡ Some ((n *ℤ pos 86400 +ℤ pos s) -ℤ pos 0)
+reads : (century year month day hour minute second : ℕ) (n : ℤ) (s : ℕ) → century < 100 → year < 100
+    → month < 100 → day < 100 → hour < 100 → minute < 100 → second < 100
+    → day_number (century * 100 + year) month day ≡ Some n
+    → second_of_day hour minute second ≡ Some s
+    → unix_second_of_text (text_from (two_text century) (two_text year) (two_text month)
+    (two_text day) (two_text hour) (two_text minute) (two_text second))
+    ≡ Some ((n *ℤ pos 86400 +ℤ pos s) -ℤ pos 0)
 unfolding unix_second_of_text
 reads century year month day hour minute second n s c y m d h i k is_day is_time =
-    rw (digits_back century c, digits_back year y, digits_back month m, digits_back day d, digits_back hour h, digits_back minute i, digits_back second k, is_day, is_time) refl
+    rw (
+      digits_back century c,
+      digits_back year y,
+      digits_back month m,
+      digits_back day d,
+      digits_back hour h,
+      digits_back minute i,
+      digits_back second k,
+      is_day,
+      is_time,
+    ) refl
 
 less_none : (z : ℤ) → (z -ℤ pos 0) ≡ z
 less_none z = omega (arith, signed_arith)
 
 -- the text of a second of a day spells it
 pub printed : (date : Date) (year second : ℕ) → pos year ≡ date.year → year < 10000 → second < 86400
-    → IsTextOfSecond (epoch_day date *ℤ pos 86400 +ℤ pos second) (moment_text record { century = year / 100; year = year % 100; month = date.month; day = date.day; hour = second / 3600; minute = second / 60 % 60; second = second % 60 })
+    → IsTextOfSecond (epoch_day date *ℤ pos 86400 +ℤ pos second)
+    (moment_text record {
+      century = year / 100;
+      year = year % 100;
+      month = date.month;
+      day =
+          date.day;
+      hour = second / 3600;
+      minute = second / 60 % 60;
+      second = second % 60;
+    })
 printed date year second is small in_day =
     let month : date.month < 100 = omega (arith, date.month_in.1) in
-    let day : date.day < 100 = omega (arith, date.day_in.1, (days_in_month_bounds date.year date.month).0) in
-    let in_month : IsInRange 1 (days_in_month (pos year) date.month) date.day = subst (λ (y : ℤ). IsInRange 1 (days_in_month y date.month) date.day) (sym is) date.day_in in
+    let day : date.day < 100 = omega
+    (arith, date.day_in.1, (days_in_month_bounds date.year date.month).0) in
+    let in_month : IsInRange 1 (days_in_month (pos year) date.month) date.day = subst
+    (λ (y : ℤ). IsInRange 1 (days_in_month y date.month) date.day) (sym is) date.day_in in
     let same : year / 100 * 100 + year % 100 ≡ year = omega arith in
-    let day_is : day_number (year / 100 * 100 + year % 100) date.month date.day ≡ Some (epoch_day date) =
-    ap (λ y. day_number y date.month date.day) same ∙ day_is year date.month date.day date.month_in in_month ∙ ap (λ z. Some (days_from_civil z date.month date.day)) is in
+    let day_is : day_number (year / 100 * 100 + year % 100) date.month date.day
+    ≡ Some (epoch_day date) =
+    ap (λ y. day_number y date.month date.day) same
+    ∙ day_is year date.month date.day date.month_in in_month
+    ∙ ap (λ z. Some (days_from_civil z date.month date.day)) is in
     let time : second / 3600 * 3600 + second / 60 % 60 * 60 + second % 60 ≡ second = omega arith in
-    let time_is : second_of_day (second / 3600) (second / 60 % 60) (second % 60) ≡ Some second = time_is (second / 3600) (second / 60 % 60) (second % 60) (omega arith) (omega arith) (omega arith) ∙ ap Some time in
-    let text = text_from (two_text (year / 100)) (two_text (year % 100)) (two_text date.month) (two_text date.day) (two_text (second / 3600)) (two_text (second / 60 % 60)) (two_text (second % 60)) in
-    let shown : text_from (two_places (year / 100)) (two_places (year % 100)) (two_places date.month) (two_places date.day) (two_places (second / 3600)) (two_places (second / 60 % 60)) (two_places (second % 60)) ≡ text =
+    let time_is : second_of_day (second / 3600) (second / 60 % 60) (second % 60)
+    ≡ Some second = time_is (second / 3600) (second / 60 % 60) (second % 60) (omega arith)
+    (omega arith) (omega arith) ∙ ap Some time in
+    let text = text_from (two_text (year / 100)) (two_text (year % 100)) (two_text date.month)
+    (two_text date.day) (two_text (second / 3600)) (two_text (second / 60 % 60))
+    (two_text (second % 60)) in
+    let shown : text_from (two_places (year / 100)) (two_places (year % 100))
+    (two_places date.month) (two_places date.day) (two_places (second / 3600))
+    (two_places (second / 60 % 60)) (two_places (second % 60)) ≡ text =
     λ k.
-    text_from (places_are_digits (year / 100) (omega arith) k) (places_are_digits (year % 100) (omega arith) k) (places_are_digits date.month month k) (places_are_digits date.day day k)
-    (places_are_digits (second / 3600) (omega arith) k) (places_are_digits (second / 60 % 60) (omega arith) k) (places_are_digits (second % 60) (omega arith) k) in
-    let read = reads (year / 100) (year % 100) date.month date.day (second / 3600) (second / 60 % 60) (second % 60) (epoch_day date) second
-    (omega arith) (omega arith) month day (omega arith) (omega arith) (omega arith) day_is time_is in
+    text_from (places_are_digits (year / 100) (omega arith) k)
+    (places_are_digits (year % 100) (omega arith) k) (places_are_digits date.month month k)
+    (places_are_digits date.day day k)
+    (places_are_digits (second / 3600) (omega arith) k)
+    (places_are_digits (second / 60 % 60) (omega arith) k)
+    (places_are_digits (second % 60) (omega arith) k) in
+    let read = reads (year / 100) (year % 100) date.month date.day (second / 3600)
+    (second / 60 % 60) (second % 60) (epoch_day date) second
+    (omega arith) (omega arith) month day (omega arith) (omega arith) (omega arith) day_is time_is
+    in
     record {
-      spells = ap unix_second_of_text shown ∙ read ∙ ap Some (less_none (epoch_day date *ℤ pos 86400 +ℤ pos second));
+      spells = ap unix_second_of_text shown ∙ read
+          ∙ ap Some (less_none (epoch_day date *ℤ pos 86400 +ℤ pos second));
       letter = ap (λ t. slice_index t 10) shown;
       utc = ap (λ t. slice_index t 19) shown;
     }
 
 -- the parts of a text are its second
-pub spelled : (text : List ℕ) (day zone : ℤ) (time : ℕ) → has_marks text ≡ true → day_in text ≡ Some day → time_in text ≡ Some time → zone_in text ≡ Some zone
+pub spelled : (text : List ℕ) (day zone : ℤ) (time : ℕ) → has_marks text ≡ true
+    → day_in text ≡ Some day → time_in text ≡ Some time → zone_in text ≡ Some zone
     → unix_second_of_text text ≡ Some ((day *ℤ pos 86400 +ℤ pos time) -ℤ zone)
 unfolding unix_second_of_text
 spelled text day zone time marks is_day is_time is_zone =

@@ -1,4 +1,5 @@
--- The text of a date: a profile of RFC 3339, as `2001-01-01T00:00:00Z` or `2001-01-01 01:30:00+01:30`.
+-- The text of a date: a profile of RFC 3339, as `2001-01-01T00:00:00Z` or `2001-01-01
+-- 01:30:00+01:30`.
 use Rattle.std.specs.Prelude.{◌≡◌, ℕ, ◌+◌, ◌-◌, ◌*◌, nat_le, nat_lt, Bool, cond, ◌&&◌, ◌||◌, ◌==◌, List, length, slice_index, ℤ, pos, neg_ℤ, ◌+ℤ◌, ◌-ℤ◌, ◌*ℤ◌, ◌≤ℤ◌, ◌<ℤ◌, Option, None, Some, refl, codes}
 use Rattle.std.specs.Char.{is_ascii_digit}
 use Rattle.std.specs.Int.{is_in_range}
@@ -8,7 +9,8 @@ use Rattle.jiff_core.specs.Calendar.{days_from_civil, days_in_month, days_of_mon
 
 -- the number of two digits
 unfoldable pub two_digits : (tens ones : ℕ) → Option ℕ
-two_digits tens ones = cond (is_ascii_digit tens && is_ascii_digit ones) (Some ((tens - 48) * 10 + (ones - 48))) None
+two_digits tens ones =
+    cond (is_ascii_digit tens && is_ascii_digit ones) (Some ((tens - 48) * 10 + (ones - 48))) None
 
 -- the number of two digits at a place of a text
 abbrev pub two_at : (text : List ℕ) (place : ℕ) → Option ℕ
@@ -21,25 +23,29 @@ of_both None b make = None
 of_both (Some a) None make = None
 
 -- what three numbers make, where all are there
-abbrev pub of_three : {A : Type 0} → Option ℕ → Option ℕ → Option ℕ → (ℕ → ℕ → ℕ → Option A) → Option A
+abbrev pub of_three : {A : Type 0} → Option ℕ → Option ℕ → Option ℕ → (ℕ → ℕ → ℕ → Option A)
+    → Option A
 of_three (Some a) b c make = of_both b c (make a)
 of_three None b c make = None
 
 -- the number of four digits at a place of a text
 abbrev pub four_at : (text : List ℕ) (place : ℕ) → Option ℕ
-four_at text place = of_both (two_at text place) (two_at text (place + 2)) (λ high low. Some (high * 100 + low))
+four_at text place =
+    of_both (two_at text place) (two_at text (place + 2)) (λ high low. Some (high * 100 + low))
 
 -- ---- the parts
 
 -- the days from 1970-01-01 to a date, where the calendar has it
 unfoldable pub day_number : (year month day : ℕ) → Option ℤ
 day_number year month day =
-    cond (is_in_range 1 12 month && is_in_range 1 (days_in_month (pos year) month) day) (Some (days_from_civil (pos year) month day)) None
+    cond (is_in_range 1 12 month && is_in_range 1 (days_in_month (pos year) month) day)
+    (Some (days_from_civil (pos year) month day)) None
 
 -- the second of a day, which has no leap second
 unfoldable pub second_of_day : (hour minute second : ℕ) → Option ℕ
 second_of_day hour minute second =
-    cond (nat_lt hour 24 && nat_lt minute 60 && nat_lt second 60) (Some (hour * 3600 + minute * 60 + second)) None
+    cond (nat_lt hour 24 && nat_lt minute 60 && nat_lt second 60)
+    (Some (hour * 3600 + minute * 60 + second)) None
 
 -- how many seconds a zone is before UTC
 abbrev pub offset : (sign hours minutes : ℕ) → Option ℤ
@@ -51,7 +57,8 @@ offset sign hours minutes =
 
 -- ---- the text
 
--- it isn't too short, with `-` in the day, `:` in the time, and one of `T`, `t` and the space between them
+-- it isn't too short, with `-` in the day, `:` in the time, and one of `T`, `t` and the space
+-- between them
 abbrev pub has_marks : List ℕ → Bool
 has_marks text =
     nat_le 20 (length text) && (slice_index text 4 == 45) && (slice_index text 7 == 45)
@@ -69,8 +76,10 @@ time_in text = of_three (two_at text 11) (two_at text 14) (two_at text 17) secon
 -- at the end `Z` or `z`, or a sign with HH:MM
 abbrev pub zone_in : List ℕ → Option ℤ
 zone_in text =
-    cond (length text == 20) (cond ((slice_index text 19 == 90) || (slice_index text 19 == 122)) (Some (pos 0)) None)
-    (cond ((length text == 25) && (slice_index text 22 == 58)) (of_both (two_at text 20) (two_at text 23) (offset (slice_index text 19))) None)
+    cond (length text == 20) (cond ((slice_index text 19 == 90) || (slice_index text 19 == 122))
+    (Some (pos 0)) None)
+    (cond ((length text == 25) && (slice_index text 22 == 58))
+    (of_both (two_at text 20) (two_at text 23) (offset (slice_index text 19))) None)
 
 -- the moment that day, time and zone make, as a Unix second
 abbrev pub moment : Option ℤ → Option ℕ → Option ℤ → Option ℤ
@@ -81,7 +90,8 @@ moment None time offset = None
 
 -- the Unix second that a text spells, or none
 unfoldable pub unix_second_of_text : List ℕ → Option ℤ
-unix_second_of_text text = cond (has_marks text) (moment (day_in text) (time_in text) (zone_in text)) None
+unix_second_of_text text =
+    cond (has_marks text) (moment (day_in text) (time_in text) (zone_in text)) None
 
 -- a text that is written: it spells this second, with `T` and `Z`
 pub record IsTextOfSecond (second : ℤ) (text : List ℕ) : Type 0 where
@@ -91,16 +101,20 @@ pub record IsTextOfSecond (second : ℤ) (text : List ℕ) : Type 0 where
 
 -- a second of the years from 0 to 9999
 abbrev pub HasFourDigitYear : ℤ → Type 0
-HasFourDigitYear second = ((days_from_civil (pos 0) 1 1 *ℤ pos 86400) ≤ℤ second) × (second <ℤ ((days_from_civil (pos 9999) 12 31 +ℤ pos 1) *ℤ pos 86400))
+HasFourDigitYear second =
+    ((days_from_civil (pos 0) 1 1 *ℤ pos 86400) ≤ℤ second)
+    × (second <ℤ ((days_from_civil (pos 9999) 12 31 +ℤ pos 1) *ℤ pos 86400))
 
 -- ---- worked examples
 
 epoch : unix_second_of_text (codes "1970-01-01T00:00:00Z") ≡ Some (pos 0)
-unfolding unix_second_of_text two_digits day_number second_of_day days_from_civil days_of_years days_of_months day_count
+unfolding unix_second_of_text two_digits day_number second_of_day days_from_civil days_of_years
+    days_of_months day_count
 epoch = refl
 
 with_offset : unix_second_of_text (codes "2001-01-01t00:00:00+01:00") ≡ Some (pos 978303600)
-unfolding unix_second_of_text two_digits day_number second_of_day days_from_civil days_of_years days_of_months day_count
+unfolding unix_second_of_text two_digits day_number second_of_day days_from_civil days_of_years
+    days_of_months day_count
 with_offset = refl
 
 no_leap_day : unix_second_of_text (codes "1900-02-29T00:00:00Z") ≡ None

@@ -10,5 +10,7 @@ two_places number = styled_decimal (format_spec 32 0 4 2 (2 ^ 64 - 1)) number
 -- YYYY-MM-DDTHH:MM:SSZ
 abbrev pub moment_text : Moment → List ℕ
 moment_text moment =
-    two_places moment.century ++ (two_places moment.year ++ 45 ∷ (two_places moment.month ++ 45 ∷ (two_places moment.day
-    ++ 84 ∷ (two_places moment.hour ++ 58 ∷ (two_places moment.minute ++ 58 ∷ (two_places moment.second ++ 90 ∷ []))))))
+    two_places moment.century ++ (two_places moment.year ++ 45
+    ∷ (two_places moment.month ++ 45 ∷ (two_places moment.day
+    ++ 84 ∷ (two_places moment.hour ++ 58
+    ∷ (two_places moment.minute ++ 58 ∷ (two_places moment.second ++ 90 ∷ []))))))

@@ -21,11 +21,14 @@ or_false : (a b : Bool) → a || b ≡ false → (a ≡ false) × (b ≡ false)
 or_false true b h = absurd (cc)
 or_false false b h = (refl, h)
 
-none_equal : (i : ℕ) (xs : List ℕ) → list_any (nat_eq i) xs ≡ false → AllByRecursion (λ y. nat_eq i y ≡ false) xs
+none_equal : (i : ℕ) (xs : List ℕ) → list_any (nat_eq i) xs ≡ false
+    → AllByRecursion (λ y. nat_eq i y ≡ false) xs
 none_equal i [] h = tt
-none_equal i (x ∷ xs) h = let k = or_false (nat_eq i x) (list_any (nat_eq i) xs) h in (k.0, none_equal i xs k.1)
+none_equal i (x ∷ xs) h =
+    let k = or_false (nat_eq i x) (list_any (nat_eq i) xs) h in (k.0, none_equal i xs k.1)
 
-below_cons : (i n q : ℕ) (xs : List ℕ) → i < n → ((p : ℕ) → list_any (nat_eq p) xs ≡ true → p < n) → list_any (nat_eq q) (i ∷ xs) ≡ true → q < n
+below_cons : (i n q : ℕ) (xs : List ℕ) → i < n → ((p : ℕ) → list_any (nat_eq p) xs ≡ true → p < n)
+    → list_any (nat_eq q) (i ∷ xs) ≡ true → q < n
 below_cons i n q xs h all any =
     elim (eqb_tells q i) [
       | inl e ↦ rw e.1 h
@@ -38,7 +41,8 @@ unfolding IsDistinct
 IsPath-none n = record { distinct = tt; below = λ q any. absurd (cc) }
 
 -- one more object may be opened
-pub IsPath-push : (n uid : ℕ) (path : List ℕ) → IsPath n path → uid < n → list_any (nat_eq uid) path ≡ false → IsPath n (uid ∷ path)
+pub IsPath-push : (n uid : ℕ) (path : List ℕ) → IsPath n path → uid < n
+    → list_any (nat_eq uid) path ≡ false → IsPath n (uid ∷ path)
 unfolding IsDistinct
 IsPath-push n uid path o h new = record {
   distinct = (none_equal uid path new, o.distinct);
@@ -58,10 +62,12 @@ IsPath-pop n uid path o = record {
 }
 
 -- there is room for an object that isn't open
-has_room : (n uid : ℕ) (path : List ℕ) → IsPath n path → uid < n → list_any (nat_eq uid) path ≡ false → length path < n
+has_room : (n uid : ℕ) (path : List ℕ) → IsPath n path → uid < n
+    → list_any (nat_eq uid) path ≡ false → length path < n
 unfolding IsDistinct
 has_room n uid path o h new =
-    let k : length (uid ∷ path) ≤ n = length-le_from_distinct_below (uid ∷ path) n (none_equal uid path new, o.distinct) (λ q any. below_cons uid n q path h o.below any) in
+    let k : length (uid ∷ path) ≤ n = length-le_from_distinct_below (uid ∷ path) n
+    (none_equal uid path new, o.distinct) (λ q any. below_cons uid n q path h o.below any) in
     omega (arith, k)
 
 or_comm : (a b : Bool) → a || (b || false) ≡ b || a
@@ -74,35 +80,45 @@ or_comm false false = refl
 pub any_reversed : (p : ℕ → Bool) (xs : List ℕ) → list_any p (reverse xs) ≡ list_any p xs
 any_reversed p [] = refl
 any_reversed p (x ∷ xs) =
-    ap (list_any p) (reverse-append (x ∷ []) xs) ∙ list_any-append p (reverse xs) (x ∷ []) ∙ ap (λ b. b || (p x || false)) (any_reversed p xs) ∙ or_comm (list_any p xs) (p x)
+    ap (list_any p) (reverse-append (x ∷ []) xs) ∙ list_any-append p (reverse xs) (x ∷ [])
+    ∙ ap (λ b. b || (p x || false)) (any_reversed p xs) ∙ or_comm (list_any p xs) (p x)
 
 pub reverse-snoc : {A : Type 0} → (xs : List A) (x : A) → reverse (xs ++ x ∷ []) ≡ x ∷ reverse xs
 reverse-snoc xs x = reverse-append xs (x ∷ [])
 
 module _ (objects : List (List PlainEvent)) where
   -- no object has the number
-  pub out_of_range : (room : ℕ) (path : List ℕ) (uid : ℕ) → slice_get objects uid ≡ None → steps_at objects room path uid ≡ Some (Err (told (UidOutOfRange uid))) ∷ []
+  pub out_of_range : (room : ℕ) (path : List ℕ) (uid : ℕ) → slice_get objects uid ≡ None
+      → steps_at objects room path uid ≡ Some (Err (told (UidOutOfRange uid))) ∷ []
   unfolding steps_at
   out_of_range zero path uid h = rw h refl
   out_of_range (suc room) path uid h = rw h refl
 
   -- the object is open
-  pub recursive : (room : ℕ) (path : List ℕ) (uid : ℕ) (es : List PlainEvent) → slice_get objects uid ≡ Some es → list_any (nat_eq uid) path ≡ true → steps_at objects room path uid ≡ Some (Err (told (RecursiveUid uid))) ∷ []
+  pub recursive : (room : ℕ) (path : List ℕ) (uid : ℕ) (es : List PlainEvent)
+      → slice_get objects uid ≡ Some es → list_any (nat_eq uid) path ≡ true
+      → steps_at objects room path uid ≡ Some (Err (told (RecursiveUid uid))) ∷ []
   unfolding steps_at
   recursive zero path uid es h o = rw h refl
   recursive (suc room) path uid es h o = rw (h, o) refl
 
   -- the object is opened
-  opened_at : (room : ℕ) (path : List ℕ) (uid : ℕ) (es : List PlainEvent) → slice_get objects uid ≡ Some es → list_any (nat_eq uid) path ≡ false
-      → steps_at objects (suc room) path uid ≡ None ∷ (steps_of (steps_at objects room (uid ∷ path)) es ++ None ∷ [])
+  opened_at : (room : ℕ) (path : List ℕ) (uid : ℕ) (es : List PlainEvent)
+      → slice_get objects uid ≡ Some es → list_any (nat_eq uid) path ≡ false
+      → steps_at objects (suc room) path uid ≡ None
+      ∷ (steps_of (steps_at objects room (uid ∷ path)) es ++ None ∷ [])
   unfolding steps_at
   opened_at room path uid es h o = rw (h, o) refl
 
-  pub opened : (levels : List Events) (path : List ℕ) (uid : ℕ) (level : Events) (es : List PlainEvent) → IsPath (length objects) path → slice_get objects uid ≡ Some es → list_any (nat_eq uid) path ≡ false → remaining_events level ≡ es
-      → follow_in objects path uid ++ owed_by objects levels path ≡ None ∷ owed_by objects (level ∷ levels) (uid ∷ path)
+  pub opened : (levels : List Events) (path : List ℕ) (uid : ℕ) (level : Events)
+      (es : List PlainEvent) → IsPath (length objects) path → slice_get objects uid ≡ Some es
+      → list_any (nat_eq uid) path ≡ false → remaining_events level ≡ es
+      → follow_in objects path uid ++ owed_by objects levels path ≡ None
+      ∷ owed_by objects (level ∷ levels) (uid ∷ path)
   opened levels path uid level es o at new left =
       let room = length objects - suc (length path) in
-      let fits : length path < length objects = has_room (length objects) uid path o (slice_get_within objects uid es at) new in
+      let fits : length path < length objects = has_room (length objects) uid path o
+      (slice_get_within objects uid es at) new in
       let e : length objects - length path ≡ suc room = omega (arith, fits) in
       let inside = steps_of (steps_at objects room (uid ∷ path)) in
       ap (λ r. steps_at objects r path uid ++ owed_by objects levels path) e
@@ -111,7 +127,8 @@ module _ (objects : List (List PlainEvent)) where
       ∙ ap (λ l. None ∷ (inside l ++ None ∷ owed_by objects levels path)) (sym left)
 
   -- a step is there, whatever a Uid finds
-  found_some : (found : Option (List PlainEvent)) (is_open : Bool) (uid : ℕ) (steps : List PlainEvent → List Step) → 0 < length (steps_found found is_open uid steps)
+  found_some : (found : Option (List PlainEvent)) (is_open : Bool) (uid : ℕ)
+      (steps : List PlainEvent → List Step) → 0 < length (steps_found found is_open uid steps)
   found_some None o uid steps = omega arith
   found_some (Some es) true uid steps = omega arith
   found_some (Some es) false uid steps = omega arith
@@ -119,13 +136,20 @@ module _ (objects : List (List PlainEvent)) where
   pub some_step : (room : ℕ) (path : List ℕ) (uid : ℕ) → 0 < length (steps_at objects room path uid)
   unfolding steps_at
   some_step zero path uid = found_some (slice_get objects uid) true uid (λ object. [])
-  some_step (suc room) path uid = found_some (slice_get objects uid) (list_any (nat_eq uid) path) uid (λ object. steps_of (steps_at objects room (uid ∷ path)) object)
+  some_step (suc room) path uid =
+      found_some (slice_get objects uid) (list_any (nat_eq uid) path) uid
+      (λ object. steps_of (steps_at objects room (uid ∷ path)) object)
 
 -- an object as it is seen
-pub seen_at : (objects : List Value) (uid : ℕ) (found : Option Value) → found ≡ slice_get objects uid → slice_get (objects_seen objects) uid ≡ option_map (λ v. bracketing (tree_of v)) found
+pub seen_at : (objects : List Value) (uid : ℕ) (found : Option Value)
+    → found ≡ slice_get objects uid
+    → slice_get (objects_seen objects) uid ≡ option_map (λ v. bracketing (tree_of v)) found
 seen_at objects uid found is =
-    slice_get-map bracketing (map tree_of objects) uid ∙ ap (option_map bracketing) (slice_get-map tree_of objects uid ∙ ap (option_map tree_of) (sym is)) ∙ twice found
+    slice_get-map bracketing (map tree_of objects) uid
+    ∙ ap (option_map bracketing) (slice_get-map tree_of objects uid
+    ∙ ap (option_map tree_of) (sym is)) ∙ twice found
   where
-    twice : (o : Option Value) → option_map bracketing (option_map tree_of o) ≡ option_map (λ v. bracketing (tree_of v)) o
+    twice : (o : Option Value) → option_map bracketing (option_map tree_of o)
+        ≡ option_map (λ v. bracketing (tree_of v)) o
     twice None = refl
     twice (Some v) = refl

@@ -19,12 +19,16 @@ use Rattle.plist_keyed.proofs.Expanding.{Gives, uid-gives}
 use Rattle.plist_keyed.proofs.Settled.{settled}
 use Rattle.plist_keyed.proofs.Told.{tree-told, fault-told}
 
-gives-at : (objects : List Value) (uid : ℕ) → Gives (resolved_tree (map tree_of objects) uid) (items_at objects uid)
+gives-at : (objects : List Value) (uid : ℕ)
+    → Gives (resolved_tree (map tree_of objects) uid) (items_at objects uid)
 gives-at objects uid =
     let trees = map tree_of objects in
-    subst (λ n. Gives (resolved_tree trees uid) (items_of (steps_at (objects_seen objects) n [] uid))) (sym (length-map trees bracketing)) (uid-gives trees (length trees) [] uid)
+    subst (λ n. Gives (resolved_tree trees uid)
+    (items_of (steps_at (objects_seen objects) n [] uid))) (sym (length-map trees bracketing))
+    (uid-gives trees (length trees) [] uid)
 
-of_value : (found : Option Value) (t : Tree) → ((v : Value) → last_wins (tree_of v) ≡ tree_of v) → option_map tree_of found ≡ Some t → last_wins t ≡ t
+of_value : (found : Option Value) (t : Tree) → ((v : Value) → last_wins (tree_of v) ≡ tree_of v)
+    → option_map tree_of found ≡ Some t → last_wins t ≡ t
 of_value None t itself p = cc
 of_value (Some v) t itself p = subst (λ u. last_wins u ≡ u) (same (tree_of v) t p) (itself v)
   where
@@ -32,14 +36,21 @@ of_value (Some v) t itself p = subst (λ u. last_wins u ≡ u) (same (tree_of v)
     same a b q = cc
 
 -- a tree
-pub tree-read : (objects slice : List Value) (uid : ℕ) (tree : Tree) → slice ≡ objects → ((v : Value) → last_wins (tree_of v) ≡ tree_of v) → IsReadFrom (items_at slice uid) (Ok tree) → resolved_tree (map tree_of objects) uid ≡ Ok tree
+pub tree-read : (objects slice : List Value) (uid : ℕ) (tree : Tree) → slice ≡ objects
+    → ((v : Value) → last_wins (tree_of v) ≡ tree_of v) → IsReadFrom (items_at slice uid) (Ok tree)
+    → resolved_tree (map tree_of objects) uid ≡ Ok tree
 tree-read objects slice uid tree e itself h =
     let trees = map tree_of objects in
-    tree-told (resolved_tree trees uid) (items_at objects uid) tree (gives-at objects uid) (subst (λ l. IsReadFrom (items_at l uid) (Ok tree)) e h)
-    (settled trees (λ u t p. of_value (slice_get objects u) t itself (sym (slice_get-map tree_of objects u) ∙ p)) (length trees) [] uid)
+    tree-told (resolved_tree trees uid) (items_at objects uid) tree (gives-at objects uid)
+    (subst (λ l. IsReadFrom (items_at l uid) (Ok tree)) e h)
+    (settled trees (λ u t p. of_value (slice_get objects u) t itself
+    (sym (slice_get-map tree_of objects u) ∙ p)) (length trees) [] uid)
 
 -- a fault
-pub error-read : (objects slice : List Value) (uid : ℕ) (fault : Fault) (error : KeyedError) → slice ≡ objects → error ≡ error_told fault → IsReadFrom (items_at slice uid) (Err fault) → IsFaultOf (resolved_tree (map tree_of objects) uid) error
+pub error-read : (objects slice : List Value) (uid : ℕ) (fault : Fault) (error : KeyedError)
+    → slice ≡ objects → error ≡ error_told fault → IsReadFrom (items_at slice uid) (Err fault)
+    → IsFaultOf (resolved_tree (map tree_of objects) uid) error
 error-read objects slice uid fault error e is h =
     subst (IsFaultOf (resolved_tree (map tree_of objects) uid)) (sym is)
-    (fault-told (resolved_tree (map tree_of objects) uid) (items_at objects uid) fault (gives-at objects uid) (subst (λ l. IsReadFrom (items_at l uid) (Err fault)) e h))
+    (fault-told (resolved_tree (map tree_of objects) uid) (items_at objects uid) fault
+    (gives-at objects uid) (subst (λ l. IsReadFrom (items_at l uid) (Err fault)) e h))

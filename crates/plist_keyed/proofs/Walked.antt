@@ -2,14 +2,14 @@
 use Rattle.std.proofs.Common.{◌≡◌, ℕ, suc, ◌-◌, ◌<◌, true, false, nat_eq, List, [], ◌∷◌, ◌++◌, length, reverse, Option, Some, None, Result, Ok, Err, OnOk, OnErr, refl, ap, sym, ◌∙◌, append_assoc, append-nil, arith, subst, true≢false}
 use Rattle.std.specs.Prelude.{slice_get, option_to_list, IsSome, ◌↔◌, ⊤, if◌then◌else◌}
 use Rattle.std.specs.List.{list_any}
+use Rattle.std.specs.Option.{option_map_or}
 use Rattle.indexmap.specs.IndexSet.{insert_key}
 use Rattle.std.proofs.lemmas.List.{length-append, length-reverse}
 use Rattle.plist_base.specs.declared.error.Error.{Error}
 use Rattle.plist_base.specs.Bracketing.{bracketing}
-use Rattle.plist_base.specs.Events as events
-use Rattle.plist_base.specs.Events.{PlainEvent, StartArray, StartDictionary}
-use Rattle.plist_base.specs.Faults as faults
-use Rattle.plist_base.specs.Faults.{FaultKind, Fault, MatchFault, fault_of}
+use Rattle.plist_base.specs.Events.{PlainEvent, StartArray, StartDictionary, EndCollection, Single}
+use Rattle.plist_base.specs.Faults.{Fault, MatchFault}
+use Rattle.plist_base.proofs.Refusals.{MatchFault-weaker}
 use Rattle.plist.specs.declared.stream.events.Events.{Events}
 use Rattle.plist.specs.declared.value.Value.{Value}
 use Rattle.plist.specs.Remaining.{remaining_events, BeginsWithStart}
@@ -21,184 +21,219 @@ use Rattle.plist_keyed.specs.Owing.{FailsAt, IsKept, IsOpened, IsWalk, follow, f
 use Rattle.plist_keyed.proofs.Entered.{IsPath-none, IsPath-push, IsPath-pop, any_reversed, opened, out_of_range, recursive, reverse-snoc, some_step}
 
 -- a key that isn't there goes last
-pub added : (keys new : List ℕ) (uid : ℕ) → new ≡ insert_key nat_eq keys uid → list_any (nat_eq uid) keys ≡ false → new ≡ keys ++ uid ∷ []
+pub added : (keys new : List ℕ) (uid : ℕ) → new ≡ insert_key nat_eq keys uid
+    → list_any (nat_eq uid) keys ≡ false → new ≡ keys ++ uid ∷ []
 added keys new uid is absent = is ∙ ap (λ b. if b then keys else keys ++ uid ∷ []) absent
 
 -- ---- entering an object
 
-fails : (steps : List Step) (fault told : Fault) → fault ≡ told → FailsAt steps told → FailsAt steps fault
+fails : (steps : List Step) (fault told : Fault) → fault ≡ told → FailsAt steps told
+    → FailsAt steps fault
 fails steps fault other e h = subst (FailsAt steps) (sym e) h
 
 -- no object has the number
-pub missing : (walk : Walk) (uid : ℕ) (fault : Fault) → fault ≡ told (UidOutOfRange uid) → slice_get (objects_seen walk.objects.now) uid ≡ None → FailsAt (follow walk uid) fault
+pub missing : (walk : Walk) (uid : ℕ) (fault : Fault) → fault ≡ told (UidOutOfRange uid)
+    → slice_get (objects_seen walk.objects.now) uid ≡ None → FailsAt (follow walk uid) fault
 missing walk uid fault e none =
     let seen = objects_seen walk.objects.now in
-    fails (follow walk uid) fault (told (UidOutOfRange uid)) e (out_of_range seen (length seen - length (path_of walk)) (path_of walk) uid none)
+    fails (follow walk uid) fault (told (UidOutOfRange uid)) e
+    (out_of_range seen (length seen - length (path_of walk)) (path_of walk) uid none)
 
 -- the object is open
-pub open_already : (walk : Walk) (uid : ℕ) (es : List PlainEvent) (fault : Fault) → fault ≡ told (RecursiveUid uid) → slice_get (objects_seen walk.objects.now) uid ≡ Some es → list_any (nat_eq uid) walk.path.keys ≡ true → FailsAt (follow walk uid) fault
+pub open_already : (walk : Walk) (uid : ℕ) (es : List PlainEvent) (fault : Fault)
+    → fault ≡ told (RecursiveUid uid) → slice_get (objects_seen walk.objects.now) uid ≡ Some es
+    → list_any (nat_eq uid) walk.path.keys ≡ true → FailsAt (follow walk uid) fault
 open_already walk uid es fault e at on =
     let seen = objects_seen walk.objects.now in
-    fails (follow walk uid) fault (told (RecursiveUid uid)) e (recursive seen (length seen - length (path_of walk)) (path_of walk) uid es at (any_reversed (nat_eq uid) walk.path.keys ∙ on))
+    fails (follow walk uid) fault (told (RecursiveUid uid)) e
+    (recursive seen (length seen - length (path_of walk)) (path_of walk) uid es at
+    (any_reversed (nat_eq uid) walk.path.keys ∙ on))
 
-module _ (old new : Walk) (uid : ℕ) (object : Value) (o : IsWalk old) (at : slice_get (objects_seen old.objects.now) uid ≡ Some (bracketing (tree_of object))) (off : list_any (nat_eq uid) old.path.keys ≡ false) where
+module _ (old new : Walk) (uid : ℕ) (object : Value) (o : IsWalk old)
+    (at : slice_get (objects_seen old.objects.now) uid ≡ Some (bracketing (tree_of object)))
+    (off : list_any (nat_eq uid) old.path.keys ≡ false) where
   off_path : list_any (nat_eq uid) (path_of old) ≡ false
   off_path = any_reversed (nat_eq uid) old.path.keys ∙ off
 
-  opened-walk : (n : ℕ) → n ≡ length (objects_seen old.objects.now) → uid < n → IsOpened old uid object new → IsWalk new
+  opened-walk : (n : ℕ) → n ≡ length (objects_seen old.objects.now) → uid < n
+      → IsOpened old uid object new → IsWalk new
   opened-walk n e lt (same, keys, (level, items, is)) =
-      rw (same, keys, reverse-snoc old.path.keys uid, items, reverse-snoc old.levels.items level)
-      (IsPath-push (length (objects_seen old.objects.now)) uid (path_of old) o.0 (subst (λ k. uid < k) e lt) off_path, ap suc o.1)
+      rw (same, keys, reverse-snoc old.path.keys uid, items, reverse-snoc old.levels.items level) (
+        IsPath-push (length (objects_seen old.objects.now)) uid (path_of old) o.0
+            (subst (λ k. uid < k) e lt) off_path,
+        ap suc o.1,
+      )
 
   opened-owes : IsOpened old uid object new → follow old uid ++ owed old ≡ None ∷ owed new
   opened-owes (same, keys, (level, items, is)) =
       rw (same, keys, reverse-snoc old.path.keys uid, items, reverse-snoc old.levels.items level)
-      (opened (objects_seen old.objects.now) (levels_of old) (path_of old) uid level (bracketing (tree_of object)) o.0 at off_path is)
+      (opened (objects_seen old.objects.now) (levels_of old) (path_of old) uid level
+      (bracketing (tree_of object)) o.0 at off_path is)
 
-  pub entered-walk : {A : Type 0} (r : Result A Error) → uid < length (objects_seen old.objects.now) → OnOk r (IsOpened old uid object new) → OnErr r (IsKept old new) → IsWalk new
+  pub entered-walk : {A : Type 0} (r : Result A Error) → uid < length (objects_seen old.objects.now)
+      → OnOk r (IsOpened old uid object new) → OnErr r (IsKept old new) → IsWalk new
   entered-walk (Ok a) lt h k = opened-walk (length (objects_seen old.objects.now)) refl lt h
   entered-walk (Err e) lt h (same, keys, items) = rw (same, keys, items) o
 
-  pub entered-owes : {A : Type 0} (r : Result A Error) → OnOk r (IsOpened old uid object new) → OnOk r (follow old uid ++ owed old ≡ None ∷ owed new)
+  pub entered-owes : {A : Type 0} (r : Result A Error) → OnOk r (IsOpened old uid object new)
+      → OnOk r (follow old uid ++ owed old ≡ None ∷ owed new)
   entered-owes (Ok a) h = opened-owes h
   entered-owes (Err e) h = tt
 
-pub kept-owes : {A : Type 0} (r : Result A Error) (old new : Walk) → OnErr r (IsKept old new) → OnErr r (owed new ≡ owed old)
+pub kept-owes : {A : Type 0} (r : Result A Error) (old new : Walk) → OnErr r (IsKept old new)
+    → OnErr r (owed new ≡ owed old)
 kept-owes (Ok a) old new h = tt
 kept-owes (Err e) old new (same, keys, items) = rw (same, keys, items) refl
 
-pub same-objects : {A : Type 0} (r : Result A Error) (old new : Walk) (uid : ℕ) (object : Value) → OnOk r (IsOpened old uid object new) → OnErr r (IsKept old new) → new.objects ≡ old.objects
+pub same-objects : {A : Type 0} (r : Result A Error) (old new : Walk) (uid : ℕ) (object : Value)
+    → OnOk r (IsOpened old uid object new) → OnErr r (IsKept old new) → new.objects ≡ old.objects
 same-objects (Ok a) old new uid object h k = h.0
 same-objects (Err e) old new uid object h k = k.0
 
 -- ---- an event
 
-pub plain_steps : (f : ℕ → List Step) (e : PlainEvent) (more : List Step) → uid_in e ≡ None → steps_of_event f e ++ more ≡ Some (Ok e) ∷ more
-plain_steps f (events.StartArray n) more h = refl
-plain_steps f (events.StartDictionary n) more h = refl
-plain_steps f events.EndCollection more h = refl
-plain_steps f (events.Boolean b) more h = refl
-plain_steps f (events.Data d) more h = refl
-plain_steps f (events.Date d) more h = refl
-plain_steps f (events.Integer z) more h = refl
-plain_steps f (events.Real r) more h = refl
-plain_steps f (events.String s) more h = refl
-plain_steps f (events.Uid u) more h = cc
+pub plain_steps : (f : ℕ → List Step) (e : PlainEvent) (more : List Step) → uid_in e ≡ None
+    → steps_of_event f e ++ more ≡ Some (Ok e) ∷ more
+plain_steps f (StartArray n) more h = refl
+plain_steps f (StartDictionary n) more h = refl
+plain_steps f EndCollection more h = refl
+plain_steps f (Single x) more h =
+    ap (λ uid. option_map_or f uid (Some (Ok (Single x)) ∷ []) ++ more) h
 
-same_uid : (u v : ℕ) → Some u ≡ Some v → u ≡ v
-same_uid u v p = cc
-
-pub uid_steps : (f : ℕ → List Step) (e : PlainEvent) (uid : ℕ) → uid_in e ≡ Some uid → steps_of_event f e ≡ f uid
-uid_steps f (events.StartArray n) uid h = cc
-uid_steps f (events.StartDictionary n) uid h = cc
-uid_steps f events.EndCollection uid h = cc
-uid_steps f (events.Boolean b) uid h = cc
-uid_steps f (events.Data d) uid h = cc
-uid_steps f (events.Date d) uid h = cc
-uid_steps f (events.Integer z) uid h = cc
-uid_steps f (events.Real r) uid h = cc
-uid_steps f (events.String s) uid h = cc
-uid_steps f (events.Uid u) uid h = ap f (same_uid u uid h)
+pub uid_steps : (f : ℕ → List Step) (e : PlainEvent) (uid : ℕ) → uid_in e ≡ Some uid
+    → steps_of_event f e ≡ f uid
+uid_steps f (StartArray n) uid h = cc
+uid_steps f (StartDictionary n) uid h = cc
+uid_steps f EndCollection uid h = cc
+uid_steps f (Single x) uid h = ap (λ found. option_map_or f found (Some (Ok (Single x)) ∷ [])) h
 
 -- a Uid's object is entered
-pub passes : (old new : Walk) (e : PlainEvent) (uid : ℕ) → uid_in e ≡ Some uid → follow old uid ++ owed old ≡ None ∷ owed new → steps_of_event (follow old) e ++ owed old ≡ None ∷ owed new
+pub passes : (old new : Walk) (e : PlainEvent) (uid : ℕ) → uid_in e ≡ Some uid
+    → follow old uid ++ owed old ≡ None ∷ owed new
+    → steps_of_event (follow old) e ++ owed old ≡ None ∷ owed new
 passes old new e uid is h = ap (λ l. l ++ owed old) (uid_steps (follow old) e uid is) ∙ h
 
-of-kind : (kind : FaultKind) (P Q : Type 0) → (P → Q) → MatchFault kind ⊤ ⊤ P → MatchFault kind ⊤ ⊤ Q
-of-kind faults.Io P Q f h = tt
-of-kind faults.OutOfMemory P Q f h = tt
-of-kind kind P Q f h = f h
-
 -- a Uid's object isn't entered
-pub refuses : (old new : Walk) (e : PlainEvent) (uid : ℕ) (fault : Fault) → uid_in e ≡ Some uid → owed new ≡ owed old → FailsAt (follow old uid) fault
-    → (length (owed new) < length (steps_of_event (follow old) e ++ owed old)) × MatchFault fault.kind ⊤ ⊤ (steps_of_event (follow old) e ++ owed old ≡ Some (Err fault) ∷ owed new)
+pub refuses : (old new : Walk) (e : PlainEvent) (uid : ℕ) (fault : Fault) → uid_in e ≡ Some uid
+    → owed new ≡ owed old → FailsAt (follow old uid) fault
+    → (length (owed new) < length (steps_of_event (follow old) e ++ owed old))
+    × MatchFault fault.kind ⊤ ⊤ (steps_of_event (follow old) e ++ owed old ≡ Some (Err fault)
+    ∷ owed new)
 refuses old new e uid fault is same h =
     let seen = objects_seen old.objects.now in
     let steps : steps_of_event (follow old) e ≡ follow old uid = uid_steps (follow old) e uid is in
-    let some : 0 < length (follow old uid) = some_step seen (length seen - length (path_of old)) (path_of old) uid in
-    rw (steps, same)
-    (rw (length-append (follow old uid) (owed old)) (omega (arith, some)), of-kind fault.kind _ _ (λ p. ap (λ l. l ++ owed old) p) h)
+    let some : 0 < length (follow old uid) = some_step seen (length seen - length (path_of old))
+    (path_of old) uid in
+    rw (steps, same) (
+      rw (length-append (follow old uid) (owed old)) (omega (arith, some)),
+      MatchFault-weaker
+          fault.kind (λ a. a) (λ a. a) (λ p. ap (λ l. l ++ owed old) p) h,
+    )
 
 -- ---- an open place
 
 module _ (objects : List (List PlainEvent)) where
   -- its next event is taken
-  takes : (left after : Events) (below : List Events) (path : List ℕ) (e : PlainEvent) → length (left ∷ below) ≡ length path → remaining_events left ≡ e ∷ remaining_events after
-      → owed_by objects (left ∷ below) path ≡ steps_of_event (follow_in objects path) e ++ owed_by objects (after ∷ below) path
+  takes : (left after : Events) (below : List Events) (path : List ℕ) (e : PlainEvent)
+      → length (left ∷ below) ≡ length path → remaining_events left ≡ e ∷ remaining_events after
+      → owed_by objects (left ∷ below) path ≡ steps_of_event (follow_in objects path) e
+      ++ owed_by objects (after ∷ below) path
   takes left after below [] e n is = absurd (omega (arith, n))
   takes left after below (uid ∷ path) e n is =
       let f = follow_in objects (uid ∷ path) in
-      ap (λ l. steps_of f l ++ None ∷ owed_by objects below path) is ∙ append_assoc (steps_of_event f e) (steps_of f (remaining_events after)) (None ∷ owed_by objects below path)
+      ap (λ l. steps_of f l ++ None ∷ owed_by objects below path) is
+      ∙ append_assoc (steps_of_event f e) (steps_of f (remaining_events after))
+      (None ∷ owed_by objects below path)
 
   -- it has no event left
-  closes : (left : Events) (below : List Events) (uid : ℕ) (path : List ℕ) → remaining_events left ≡ [] → owed_by objects (left ∷ below) (uid ∷ path) ≡ None ∷ owed_by objects below path
-  closes left below uid path is = ap (λ l. steps_of (follow_in objects (uid ∷ path)) l ++ None ∷ owed_by objects below path) is
+  closes : (left : Events) (below : List Events) (uid : ℕ) (path : List ℕ)
+      → remaining_events left ≡ [] → owed_by objects (left ∷ below) (uid ∷ path) ≡ None
+      ∷ owed_by objects below path
+  closes left below uid path is =
+      ap (λ l. steps_of (follow_in objects (uid ∷ path)) l ++ None ∷ owed_by objects below path) is
 
-  start-steps : (f : ℕ → List Step) (es : List PlainEvent) → BeginsWithStart es → 0 < length (steps_of f es)
+  start-steps : (f : ℕ → List Step) (es : List PlainEvent) → BeginsWithStart es
+      → 0 < length (steps_of f es)
   start-steps f [] h = absurd h
-  start-steps f (events.StartArray n ∷ es) h = omega arith
-  start-steps f (events.StartDictionary n ∷ es) h = omega arith
-  start-steps f (events.EndCollection ∷ es) h = absurd h
-  start-steps f (events.Boolean b ∷ es) h = absurd h
-  start-steps f (events.Data d ∷ es) h = absurd h
-  start-steps f (events.Date d ∷ es) h = absurd h
-  start-steps f (events.Integer z ∷ es) h = absurd h
-  start-steps f (events.Real r ∷ es) h = absurd h
-  start-steps f (events.String s ∷ es) h = absurd h
-  start-steps f (events.Uid u ∷ es) h = absurd h
+  start-steps f (StartArray n ∷ es) h = omega arith
+  start-steps f (StartDictionary n ∷ es) h = omega arith
+  start-steps f (EndCollection ∷ es) h = absurd h
+  start-steps f (Single x ∷ es) h = absurd h
 
   -- its start isn't given, and nothing is left of it
-  loses : (left after : Events) (below : List Events) (path : List ℕ) → length (left ∷ below) ≡ length path → BeginsWithStart (remaining_events left) → remaining_events after ≡ []
+  loses : (left after : Events) (below : List Events) (path : List ℕ)
+      → length (left ∷ below) ≡ length path → BeginsWithStart (remaining_events left)
+      → remaining_events after ≡ []
       → length (owed_by objects (after ∷ below) path) < length (owed_by objects (left ∷ below) path)
   loses left after below [] n begins none = absurd (omega (arith, n))
   loses left after below (uid ∷ path) n begins none =
       let f = follow_in objects (uid ∷ path) in
-      let some : 0 < length (steps_of f (remaining_events left)) = start-steps f (remaining_events left) begins in
-      rw (none, length-append (steps_of f (remaining_events left)) (None ∷ owed_by objects below path)) (omega (arith, some))
+      let some : 0 < length (steps_of f (remaining_events left)) = start-steps f
+      (remaining_events left) begins in
+      rw (
+        none,
+        length-append (steps_of f (remaining_events left))
+            (None ∷ owed_by objects below path),
+      ) (omega (arith, some))
 
 -- the innermost place is another one, on the same path
-module _ (old new : Walk) (left after : Events) (below : List Events) (o : IsWalk old) (same : new.objects ≡ old.objects) (keys : new.path.keys ≡ old.path.keys) (had : old.levels.items ≡ below ++ left ∷ []) (has : new.levels.items ≡ below ++ after ∷ []) where
-  had_first : levels_of old ≡ left ∷ reverse below
-  had_first = ap reverse had ∙ reverse-snoc below left
+module _ (old new : Walk) (left after : Events) (below : List Events) (o : IsWalk old)
+    (same : new.objects ≡ old.objects) (keys : new.path.keys ≡ old.path.keys)
+    (had : old.levels.items ≡ below ++ left ∷ []) (has : new.levels.items ≡ below ++ after ∷ [])
+  where
+    had_first : levels_of old ≡ left ∷ reverse below
+    had_first = ap reverse had ∙ reverse-snoc below left
 
-  as_many : length (left ∷ reverse below) ≡ length (path_of old)
-  as_many = sym (ap length had_first) ∙ o.1
+    as_many : length (left ∷ reverse below) ≡ length (path_of old)
+    as_many = sym (ap length had_first) ∙ o.1
 
-  pub still-walk : IsWalk new
-  still-walk = rw (same, keys, has, reverse-snoc below after) (o.0, as_many)
+    pub still-walk : IsWalk new
+    still-walk = rw (same, keys, has, reverse-snoc below after) (o.0, as_many)
 
-  same_follow : follow new ≡ follow old
-  same_follow = λ i. follow_in (objects_seen (same i).now) (reverse (keys i))
+    same_follow : follow new ≡ follow old
+    same_follow = λ i. follow_in (objects_seen (same i).now) (reverse (keys i))
 
-  new_owed : owed new ≡ owed_by (objects_seen old.objects.now) (after ∷ reverse below) (path_of old)
-  new_owed =
-      let levels : levels_of new ≡ after ∷ reverse below = ap reverse has ∙ reverse-snoc below after in
-      λ i. owed_by (objects_seen (same i).now) (levels i) (reverse (keys i))
+    new_owed : owed new ≡ owed_by (objects_seen old.objects.now) (after ∷ reverse below)
+        (path_of old)
+    new_owed =
+        let levels : levels_of new ≡ after ∷ reverse below = ap reverse has
+        ∙ reverse-snoc below after in
+        λ i. owed_by (objects_seen (same i).now) (levels i) (reverse (keys i))
 
-  pub taken-owes : (e : PlainEvent) → remaining_events left ≡ e ∷ remaining_events after → owed old ≡ steps_of_event (follow new) e ++ owed new
-  taken-owes e is =
-      ap (λ l. owed_by (objects_seen old.objects.now) l (path_of old)) had_first
-      ∙ takes (objects_seen old.objects.now) left after (reverse below) (path_of old) e as_many is
-      ∙ (λ i. steps_of_event (sym same_follow i) e ++ sym new_owed i)
+    pub taken-owes : (e : PlainEvent) → remaining_events left ≡ e ∷ remaining_events after
+        → owed old ≡ steps_of_event (follow new) e ++ owed new
+    taken-owes e is =
+        ap (λ l. owed_by (objects_seen old.objects.now) l (path_of old)) had_first
+        ∙ takes (objects_seen old.objects.now) left after (reverse below) (path_of old) e as_many is
+        ∙ (λ i. steps_of_event (sym same_follow i) e ++ sym new_owed i)
 
-  pub lost-owes : BeginsWithStart (remaining_events left) → remaining_events after ≡ [] → length (owed new) < length (owed old)
-  lost-owes begins none =
-      rw (same, keys, has, had, reverse-snoc below after, reverse-snoc below left)
-      (loses (objects_seen old.objects.now) left after (reverse below) (path_of old) as_many begins none)
+    pub lost-owes : BeginsWithStart (remaining_events left) → remaining_events after ≡ []
+        → length (owed new) < length (owed old)
+    lost-owes begins none =
+        rw (same, keys, has, had, reverse-snoc below after, reverse-snoc below left)
+        (loses (objects_seen old.objects.now) left after (reverse below) (path_of old) as_many
+        begins
+        none)
 
 -- ---- leaving an object
 
-last_key : (keys new : List ℕ) (r : Option ℕ) → keys ≡ new ++ option_to_list r → (IsSome r ↔ (0 < length keys)) → 0 < length keys → (uid : ℕ) × (reverse keys ≡ uid ∷ reverse new)
+last_key : (keys new : List ℕ) (r : Option ℕ) → keys ≡ new ++ option_to_list r
+    → (IsSome r ↔ (0 < length keys)) → 0 < length keys → (uid : ℕ)
+    × (reverse keys ≡ uid ∷ reverse new)
 last_key keys new None is found some = absurd (true≢false (sym (found.1 some)))
 last_key keys new (Some uid) is found some = (uid, ap reverse is ∙ reverse-snoc new uid)
 
-module _ (old new : Walk) (left : Events) (r : Option ℕ) (o : IsWalk old) (same : new.objects ≡ old.objects) (had : old.levels.items ≡ new.levels.items ++ left ∷ []) (keys : old.path.keys ≡ new.path.keys ++ option_to_list r) (found : IsSome r ↔ (0 < length old.path.keys)) where
+module _ (old new : Walk) (left : Events) (r : Option ℕ) (o : IsWalk old)
+    (same : new.objects ≡ old.objects) (had : old.levels.items ≡ new.levels.items ++ left ∷ [])
+    (keys : old.path.keys ≡ new.path.keys ++ option_to_list r)
+    (found : IsSome r ↔ (0 < length old.path.keys)) where
   had_left : levels_of old ≡ left ∷ levels_of new
   had_left = ap reverse had ∙ reverse-snoc new.levels.items left
 
   some_open : 0 < length old.path.keys
   some_open =
-      let n : length (left ∷ levels_of new) ≡ length (path_of old) = sym (ap length had_left) ∙ o.1 in
+      let n : length (left ∷ levels_of new) ≡ length (path_of old) = sym (ap length had_left)
+      ∙ o.1 in
       let m : length (path_of old) ≡ length old.path.keys = length-reverse old.path.keys in
       omega (arith, n, m)
 
@@ -207,13 +242,19 @@ module _ (old new : Walk) (left : Events) (r : Option ℕ) (o : IsWalk old) (sam
 
   pub left-walk : IsWalk new
   left-walk =
-      let n : suc (length (levels_of new)) ≡ suc (length (path_of new)) = sym (ap length had_left) ∙ o.1 ∙ ap length was.1 in
-      rw same (IsPath-pop (length (objects_seen old.objects.now)) was.0 (path_of new) (rw was.1 at o.0), omega (arith, n))
+      let n : suc (length (levels_of new)) ≡ suc (length (path_of new)) = sym (ap length had_left)
+      ∙ o.1 ∙ ap length was.1 in
+      rw same (
+        IsPath-pop (length (objects_seen old.objects.now)) was.0 (path_of new)
+            (rw was.1 at o.0),
+        omega (arith, n),
+      )
 
   pub left-owes : remaining_events left ≡ [] → owed old ≡ None ∷ owed new
   left-owes none =
       rw same
-      ((λ i. owed_by (objects_seen old.objects.now) (had_left i) (was.1 i)) ∙ closes (objects_seen old.objects.now) left (levels_of new) was.0 (path_of new) none)
+      ((λ i. owed_by (objects_seen old.objects.now) (had_left i) (was.1 i))
+      ∙ closes (objects_seen old.objects.now) left (levels_of new) was.0 (path_of new) none)
 
 -- ---- the end
 
@@ -227,23 +268,32 @@ done-owes walk n = rw (no_items walk.levels.items n) refl
 
 -- ---- the beginning
 
-module _ (start : Walk) (objects : List Value) (seen : start.objects.now ≡ objects) (keys : start.path.keys ≡ []) (items : start.levels.items ≡ []) where
+module _ (start : Walk) (objects : List Value) (seen : start.objects.now ≡ objects)
+    (keys : start.path.keys ≡ []) (items : start.levels.items ≡ []) where
   pub begins-walk : IsWalk start
   begins-walk = rw (keys, items) (IsPath-none (length (objects_seen start.objects.now)), refl)
 
   start-owed : owed start ≡ []
   start-owed = rw items refl
 
-  start-follow : (uid : ℕ) → follow start uid ≡ steps_at (objects_seen objects) (length (objects_seen objects)) [] uid
+  start-follow : (uid : ℕ) → follow start uid
+      ≡ steps_at (objects_seen objects) (length (objects_seen objects)) [] uid
   start-follow uid =
       let n : length (objects_seen objects) - 0 ≡ length (objects_seen objects) = omega arith in
-      (λ i. follow_in (objects_seen (seen i)) (reverse (keys i)) uid) ∙ ap (λ k. steps_at (objects_seen objects) k [] uid) n
+      (λ i. follow_in (objects_seen (seen i)) (reverse (keys i)) uid)
+      ∙ ap (λ k. steps_at (objects_seen objects) k [] uid) n
 
   -- the first object is entered
-  pub begun : (walk : Walk) (n uid : ℕ) → n ≡ uid → follow start n ++ owed start ≡ None ∷ owed walk → items_of (owed walk) ≡ items_at objects uid
+  pub begun : (walk : Walk) (n uid : ℕ) → n ≡ uid → follow start n ++ owed start ≡ None ∷ owed walk
+      → items_of (owed walk) ≡ items_at objects uid
   begun walk n uid e h =
-      ap items_of (sym h) ∙ ap (λ l. items_of (follow start n ++ l)) start-owed ∙ ap items_of (append-nil (follow start n)) ∙ ap items_of (start-follow n) ∙ ap (items_at objects) e
+      ap items_of (sym h) ∙ ap (λ l. items_of (follow start n ++ l)) start-owed
+      ∙ ap items_of (append-nil (follow start n)) ∙ ap items_of (start-follow n)
+      ∙ ap (items_at objects) e
 
   -- there is no first object, or it can't be entered
-  pub not-begun : (n uid : ℕ) (fault : Fault) → n ≡ uid → FailsAt (follow start n) fault → MatchFault fault.kind ⊤ ⊤ (items_at objects uid ≡ Err fault ∷ [])
-  not-begun n uid fault e h = of-kind fault.kind _ _ (λ p. ap (items_at objects) (sym e) ∙ ap items_of (sym (start-follow n)) ∙ ap items_of p) h
+  pub not-begun : (n uid : ℕ) (fault : Fault) → n ≡ uid → FailsAt (follow start n) fault
+      → MatchFault fault.kind ⊤ ⊤ (items_at objects uid ≡ Err fault ∷ [])
+  not-begun n uid fault e h =
+      MatchFault-weaker fault.kind (λ a. a) (λ a. a)
+      (λ p. ap (items_at objects) (sym e) ∙ ap items_of (sym (start-follow n)) ∙ ap items_of p) h

@@ -23,7 +23,8 @@ abbrev pub names_of : Archive → List (List ℕ × Value)
 names_of archive = archive.names.now
 
 -- the array stands at the key
-abbrev pub IsArrayAt : (key : List ℕ) → (pairs : List (List ℕ × Value)) → (array : Vec Value Global) → Type 0
+abbrev pub IsArrayAt : (key : List ℕ) → (pairs : List (List ℕ × Value)) → (array : Vec Value Global)
+    → Type 0
 IsArrayAt key pairs array = lookup (bytes_eq key) pairs ≡ Some (value.Array array)
 
 -- the dictionary of these pairs stands at the key
@@ -34,12 +35,16 @@ IsDictionaryAt key pairs others = lookup (bytes_eq key) pairs ≡ Some (value.Di
 abbrev pub IsUidAt : (key : List ℕ) → (pairs : List (List ℕ × Value)) → (uid : ℕ) → Type 0
 IsUidAt key pairs uid = lookup (bytes_eq key) pairs ≡ Some (value.Uid uid)
 
--- the property list is a dictionary with these objects in the array at `$objects`, and these names in the dictionary at `$top`
-abbrev pub IsArchiveOf : (root : Value) → (objects : List Value) → (names : List (List ℕ × Value)) → Type 0
+-- the property list is a dictionary with these objects in the array at `$objects`, and these names
+-- in the dictionary at `$top`
+abbrev pub IsArchiveOf : (root : Value) → (objects : List Value) → (names : List (List ℕ × Value))
+    → Type 0
 IsArchiveOf root objects names =
     (pairs : List (List ℕ × Value)) × (array : Vec Value Global)
-    × (root ≡ value.Dictionary pairs) × IsArrayAt (codes "$objects") pairs array × (array.items ≡ objects) × IsDictionaryAt (codes "$top") pairs names
+    × (root ≡ value.Dictionary pairs) × IsArrayAt (codes "$objects") pairs array
+    × (array.items ≡ objects) × IsDictionaryAt (codes "$top") pairs names
 
 -- the property list is an archive
 abbrev pub IsArchive : (root : Value) → Type 0
-IsArchive root = (objects : List Value) × (names : List (List ℕ × Value)) × IsArchiveOf root objects names
+IsArchive root =
+    (objects : List Value) × (names : List (List ℕ × Value)) × IsArchiveOf root objects names

@@ -12,7 +12,8 @@ text_of_error (error.UidOutOfRange uid) = codes "UidOutOfRange(" ++ decimal uid 
 text_of_error (error.RecursiveUid uid) = codes "RecursiveUid(" ++ decimal uid ++ codes ")"
 text_of_error error.OutOfMemory = codes "OutOfMemory"
 
--- one fact where the property list is no archive, one for want of memory, and one for a fault of the archive
+-- one fact where the property list is no archive, one for want of memory, and one for a fault of
+-- the archive
 abbrev pub MatchError : KeyedError → (closed memory : Type 0) → (ArchiveFault → Type 0) → Type 0
 MatchError error.NotAnArchive closed memory fault = closed
 MatchError (error.UidOutOfRange uid) closed memory fault = fault (UidOutOfRange uid)
@@ -23,7 +24,8 @@ MatchError error.OutOfMemory closed memory fault = memory
 abbrev pub IsFaultOf : {A : Type 0} → Result A ArchiveFault → KeyedError → Type 0
 IsFaultOf answer e = MatchError e ⊥ ⊤ (λ fault. answer ≡ Err fault)
 
--- the fault of an archive that stands in the place of an event, and want of memory for every other one
+-- the fault of an archive that stands in the place of an event, and want of memory for every other
+-- one
 abbrev pub error_by : FaultKind → (offset : Option ℕ) → KeyedError
 error_by ObjectReferenceTooLarge (Some uid) = error.UidOutOfRange uid
 error_by RecursiveObject (Some uid) = error.RecursiveUid uid

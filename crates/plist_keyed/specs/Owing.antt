@@ -5,8 +5,7 @@ use Rattle.std.specs.Option.{option_map}
 use Rattle.plist_base.specs.declared.error.Error.{Error}
 use Rattle.plist_base.specs.declared.event.Event.{Event}
 use Rattle.plist_base.specs.Bracketing.{bracketing}
-use Rattle.plist_base.specs.Events as events
-use Rattle.plist_base.specs.Events.{PlainEvent, Item, event_of}
+use Rattle.plist_base.specs.Events.{PlainEvent, Single, Item, event_of}
 use Rattle.plist_base.specs.Faults.{Fault, MatchFault, fault_of}
 use Rattle.plist.specs.declared.stream.events.Events.{Events}
 use Rattle.plist.specs.declared.value.Value.{Value}
@@ -17,6 +16,7 @@ use Rattle.plist.specs.Views.{tree_of}
 use Rattle.plist_keyed.specs.declared.walk.Move.{Move}
 use Rattle.plist_keyed.specs.declared.walk.Move.TheVariants as move
 use Rattle.plist_keyed.specs.declared.walk.Walk.{Walk}
+use Rattle.plist_keyed.specs.Archives.{number_of_uid}
 use Rattle.plist_keyed.specs.Walks.{Step, items_of, steps_of, steps_at}
 
 -- the events of each object
@@ -25,11 +25,12 @@ objects_seen objects = map bracketing (map tree_of objects)
 
 -- the items of a Uid's walk
 abbrev pub items_at : List Value → (uid : ℕ) → List Item
-items_at objects uid = items_of (steps_at (objects_seen objects) (length (objects_seen objects)) [] uid)
+items_at objects uid =
+    items_of (steps_at (objects_seen objects) (length (objects_seen objects)) [] uid)
 
 -- the number of a Uid's event
 abbrev pub uid_in : PlainEvent → Option ℕ
-uid_in (events.Uid uid) = Some uid
+uid_in (Single scalar) = number_of_uid scalar
 uid_in event = None
 
 -- the Uids on the path are different ones of these many objects
@@ -42,11 +43,13 @@ module _ (objects : List (List PlainEvent)) where
   abbrev pub follow_in : (path : List ℕ) → ℕ → List Step
   follow_in path uid = steps_at objects (length objects - length path) path uid
 
-  -- the steps that the open places still owe: those of the events left of the innermost one, its end, and what those below owe
+  -- the steps that the open places still owe: those of the events left of the innermost one, its
+  -- end, and what those below owe
   abbrev pub owed_by : List Events → (path : List ℕ) → List Step
   owed_by [] path = []
   owed_by (level ∷ below) [] = []
-  owed_by (level ∷ below) (uid ∷ path) = steps_of (follow_in (uid ∷ path)) (remaining_events level) ++ None ∷ owed_by below path
+  owed_by (level ∷ below) (uid ∷ path) =
+      steps_of (follow_in (uid ∷ path)) (remaining_events level) ++ None ∷ owed_by below path
 
 -- the open Uids
 abbrev pub path_of : Walk → List ℕ
@@ -58,7 +61,9 @@ levels_of walk = reverse walk.levels.items
 
 -- its path is one, and something is left of each object on it
 abbrev pub IsWalk : Walk → Type 0
-IsWalk walk = IsPath (length (objects_seen walk.objects.now)) (path_of walk) × (length (levels_of walk) ≡ length (path_of walk))
+IsWalk walk =
+    IsPath (length (objects_seen walk.objects.now)) (path_of walk)
+    × (length (levels_of walk) ≡ length (path_of walk))
 
 -- what the walk owes
 abbrev pub owed : Walk → List Step
@@ -70,13 +75,16 @@ follow walk uid = follow_in (objects_seen walk.objects.now) (path_of walk) uid
 
 -- the walk is as it was
 abbrev pub IsKept : Walk → Walk → Type 0
-IsKept old new = (new.objects ≡ old.objects) × (new.path.keys ≡ old.path.keys) × (new.levels.items ≡ old.levels.items)
+IsKept old new =
+    (new.objects ≡ old.objects) × (new.path.keys ≡ old.path.keys)
+    × (new.levels.items ≡ old.levels.items)
 
 -- this object was opened
 abbrev pub IsOpened : Walk → ℕ → Value → Walk → Type 0
 IsOpened old uid object new =
     (new.objects ≡ old.objects) × (new.path.keys ≡ old.path.keys ++ uid ∷ [])
-    × ((level : Events) × (new.levels.items ≡ old.levels.items ++ level ∷ []) × (remaining_events level ≡ bracketing (tree_of object)))
+    × ((level : Events) × (new.levels.items ≡ old.levels.items ++ level ∷ [])
+    × (remaining_events level ≡ bracketing (tree_of object)))
 
 -- the only step is this fault, unless it comes from outside
 abbrev pub FailsAt : List Step → Fault → Type 0
@@ -91,8 +99,11 @@ Moves before move.Passed after = before ≡ None ∷ after
 -- the same, or the first step is a fault; what comes from outside may take steps, too
 abbrev pub Pays : List Step → Result Move Error → List Step → Type 0
 Pays before (Ok done) after = Moves before done after
-Pays before (Err error) after = (length after < length before) × MatchFault (fault_of error).kind ⊤ ⊤ (before ≡ Some (Err (fault_of error)) ∷ after)
+Pays before (Err error) after =
+    (length after < length before)
+    × MatchFault (fault_of error).kind ⊤ ⊤ (before ≡ Some (Err (fault_of error)) ∷ after)
 
 -- the items that are to come begin with this one
 abbrev pub Gives : Walk → Option (Result Event Error) → Walk → Type 0
-Gives old item new = BeginsWith (items_of (owed old)) (option_map (item_by event_of) item) (items_of (owed new))
+Gives old item new =
+    BeginsWith (items_of (owed old)) (option_map (item_by event_of) item) (items_of (owed new))

@@ -1,12 +1,14 @@
--- The steps of a walk over an archive: the events of its objects, with each Uid in them replaced by the steps of what it finds.
+-- The steps of a walk over an archive: the events of its objects, with each Uid in them replaced by
+-- the steps of what it finds.
 use Rattle.std.specs.Prelude.{ℕ, zero, suc, Bool, true, false, List, [], ◌∷◌, ◌++◌, Option, Some, None, Ok, Err, nat_eq, slice_get}
 use Rattle.std.specs.List.{list_any, flat_map}
-use Rattle.plist_base.specs.Events as events
-use Rattle.plist_base.specs.Events.{PlainEvent, Item}
+use Rattle.std.specs.Option.{option_map_or}
+use Rattle.plist_base.specs.Events.{PlainEvent, Single, Item}
 use Rattle.plist_base.specs.Faults.{Fault, fault_at, ObjectReferenceTooLarge, RecursiveObject}
-use Rattle.plist_keyed.specs.Archives.{ArchiveFault, UidOutOfRange, RecursiveUid}
+use Rattle.plist_keyed.specs.Archives.{ArchiveFault, UidOutOfRange, RecursiveUid, number_of_uid}
 
--- the fault in the place of an event: a Uid is a reference, and its number stands where a place in a file would
+-- the fault in the place of an event: a Uid is a reference, and its number stands where a place in
+-- a file would
 abbrev pub told : ArchiveFault → Fault
 told (UidOutOfRange uid) = fault_at ObjectReferenceTooLarge uid
 told (RecursiveUid uid) = fault_at RecursiveObject uid
@@ -23,14 +25,16 @@ items_of (None ∷ steps) = items_of steps
 
 -- the steps of an event, where a Uid is followed
 abbrev pub steps_of_event : (follow : ℕ → List Step) → PlainEvent → List Step
-steps_of_event follow (events.Uid uid) = follow uid
+steps_of_event follow (Single scalar) =
+    option_map_or follow (number_of_uid scalar) (Some (Ok (Single scalar)) ∷ [])
 steps_of_event follow event = Some (Ok event) ∷ []
 
 abbrev pub steps_of : (follow : ℕ → List Step) → List PlainEvent → List Step
 steps_of follow es = flat_map (steps_of_event follow) es
 
 -- the steps of what a Uid finds
-abbrev pub steps_found : (found : Option (List PlainEvent)) (is_open : Bool) (uid : ℕ) → (List PlainEvent → List Step) → List Step
+abbrev pub steps_found : (found : Option (List PlainEvent)) (is_open : Bool) (uid : ℕ)
+    → (List PlainEvent → List Step) → List Step
 steps_found None is_open uid steps = Some (Err (told (UidOutOfRange uid))) ∷ []
 steps_found (Some object) true uid steps = Some (Err (told (RecursiveUid uid))) ∷ []
 steps_found (Some object) false uid steps = None ∷ (steps object ++ None ∷ [])
@@ -39,4 +43,6 @@ module _ (objects : List (List PlainEvent)) where
   -- the steps of a Uid inside the objects of the path; `room` objects aren't on it
   unfoldable pub steps_at : (room : ℕ) (path : List ℕ) (uid : ℕ) → List Step
   steps_at zero path uid = steps_found (slice_get objects uid) true uid (λ object. [])
-  steps_at (suc room) path uid = steps_found (slice_get objects uid) (list_any (nat_eq uid) path) uid (λ object. steps_of (steps_at room (uid ∷ path)) object)
+  steps_at (suc room) path uid =
+      steps_found (slice_get objects uid) (list_any (nat_eq uid) path) uid
+      (λ object. steps_of (steps_at room (uid ∷ path)) object)

@@ -53,8 +53,8 @@ impl<'a> Archive<'a> {
     ///
     /// # Errors
     ///
-    /// `NotAnArchive` unless the property list is a dictionary whose `$objects` is an array and whose
-    /// `$top` is a dictionary.
+    /// `NotAnArchive` unless the property list is a dictionary whose `$objects` is an array and
+    /// whose `$top` is a dictionary.
     pub fn open(root: &'a Value) -> Result<Archive<'a>, KeyedError>
         ensures archive { IfOk result (λ archive.
             IsArchiveOf root.now (objects_of archive) (names_of archive)) }
@@ -93,8 +93,8 @@ impl<'a> Archive<'a> {
         self.objects.get(uid.get() as usize)
     }
 
-    /// The object of a Uid, with each Uid in it replaced by the tree of the object that it names. An
-    /// object that is named more than once stands in the tree as often.
+    /// The object of a Uid, with each Uid in it replaced by the tree of the object that it names.
+    /// An object that is named more than once stands in the tree as often.
     ///
     /// So the tree may be exponentially larger than the archive: thirty objects, each an array that
     /// names the next one twice, make a tree of 2^30 leaves. To walk over an archive without making

@@ -3,7 +3,8 @@
 ghost use Rattle.std.specs.Prelude.{◌≡◌, ◌++◌, ◌∷◌, ◌<◌, [], false, length, None, OnErr, OnOk, OnSome, IfErr, nat_eq, slice_get};
 ghost use Rattle.std.specs.Option.{option_copied};
 ghost use Rattle.plist_base.specs.Events.{event_of};
-ghost use Rattle.plist_base.specs.Faults.{OutOfMemory, fault_nowhere, fault_of};
+ghost use Rattle.plist_base.specs.Faults.{fault_of};
+ghost use Rattle.plist_base.specs.Outcomes.{OnlyMemory};
 ghost use Rattle.indexmap.specs.IndexSet.{contains};
 ghost use Rattle.plist.specs.Collecting.{built_tree};
 ghost use Rattle.plist.specs.Inputs.{IsReadFrom};
@@ -37,9 +38,9 @@ fn uid_of(event: &Event<'_>) -> Option<u64>
     }
 }
 
-// The events of an object's tree, as the readers of values give theirs: a Uid that names no object is
-// a reference that is too large, one on its own path a recursive object, and its number stands where
-// a place in a file would.
+// The events of an object's tree, as the readers of values give theirs: a Uid that names no object
+// is a reference that is too large, one on its own path a recursive object, and its number stands
+// where a place in a file would.
 #[derive(Drop)]
 struct Walk<'a> {
     alloc: Global,
@@ -71,7 +72,7 @@ impl<'a> Walk<'a> {
     fn open(&mut self, uid: u64, object: &'a Value) -> Result<(), Error>
         requires { contains nat_eq self.old.path uid ≡ false }
         ensures opened { OnOk result (IsOpened self.old uid object.now self.new) }
-        ensures memory { IfErr result (λ error. fault_of error ≡ fault_nowhere OutOfMemory) }
+        ensures memory { OnlyMemory result }
         ensures unchanged { OnErr result (IsKept self.old self.new) }
     {
         self.levels.reserve(1)?;
@@ -188,9 +189,9 @@ impl<'a> Iterator for Walk<'a> {
 ///
 /// # Errors
 ///
-/// The first fault of the walk, depth first: `ObjectReferenceTooLarge` for a Uid that names no object,
-/// and `RecursiveObject` for one on its own path, each with the Uid's number in the place of an offset;
-/// and `OutOfMemory`.
+/// The first fault of the walk, depth first: `ObjectReferenceTooLarge` for a Uid that names no
+/// object, and `RecursiveObject` for one on its own path, each with the Uid's number in the place of
+/// an offset; and `OutOfMemory`.
 pub(crate) fn value_at(alloc: Global, objects: &[Value], uid: Uid) -> Result<Value, Error>
     ensures read { IsReadFrom (items_at objects.now uid) (built_tree result) }
     ensures itself { OnOk result ((value : Value) → last_wins (tree_of value) ≡ tree_of value) }

@@ -14,15 +14,18 @@ use Rattle.plist_reader.specs.declared.format.Format.TheVariants.{Binary}
 use Rattle.plist_reader.specs.Formats.{front, is_white, mark_length, past_white, xml_place, text_format, format_of}
 
 -- a place within bounds is one
-pub within-placed : (start end : ℕ) (offset : Option ℕ) → IsPlaceWithin start end offset → HasPlace offset
+pub within-placed : (start end : ℕ) (offset : Option ℕ) → IsPlaceWithin start end offset
+    → HasPlace offset
 within-placed start end None h = h
 within-placed start end (Some place) h = tt
 
 -- too few bytes begin with nothing longer
-pub short-starts : (bytes needle : List ℕ) → length bytes < length needle → starts_with nat_eq bytes needle ≡ false
+pub short-starts : (bytes needle : List ℕ) → length bytes < length needle
+    → starts_with nat_eq bytes needle ≡ false
 short-starts bytes [] h = absurd (omega arith)
 short-starts [] (n ∷ needle) h = refl
-short-starts (b ∷ bytes) (n ∷ needle) h = both (nat_eq n b) _ (short-starts bytes needle (omega arith))
+short-starts (b ∷ bytes) (n ∷ needle) h =
+    both (nat_eq n b) _ (short-starts bytes needle (omega arith))
   where
     both : (c d : Bool) → d ≡ false → c && d ≡ false
     both true d e = e
@@ -37,7 +40,9 @@ never_true : {A : Type 0} (b : Bool) → b ≡ false → IsTrue b → A
 never_true b e h = cc
 
 -- bytes that couldn't be read for another reason than a device's are too few
-pub short-front : (k : Option (List ℕ)) (kind : FaultKind) (is : Bool) (n : ℕ) (needle : List ℕ) → n ≡ length needle → is ≡ false → (IsTrue is ↔ (kind ≡ Io)) → IfSome k (λ bytes. 0 + n ≤ length bytes → IsIo kind)
+pub short-front : (k : Option (List ℕ)) (kind : FaultKind) (is : Bool) (n : ℕ) (needle : List ℕ)
+    → n ≡ length needle → is ≡ false → (IsTrue is ↔ (kind ≡ Io))
+    → IfSome k (λ bytes. 0 + n ≤ length bytes → IsIo kind)
     → IfSome k (λ bytes. false ≡ starts_with nat_eq bytes needle)
 short-front None kind is n needle e f t h = tt
 short-front (Some bytes) kind is n needle e f t h =
@@ -50,91 +55,131 @@ module _ (m : ℕ) (bytes : List ℕ) where
   abbrev cut : List ℕ
   cut = take m bytes
 
-  pub inside : (place b : ℕ) → place < m → slice_get bytes place ≡ Some b → (place < length cut) × (get_or cut place 0 ≡ b)
+  pub inside : (place b : ℕ) → place < m → slice_get bytes place ≡ Some b → (place < length cut)
+      × (get_or cut place 0 ≡ b)
   inside place b h e =
-      let l : place < length bytes = slice_get_within bytes place b e in
-      (omega (arith, length-take {A = ℕ}, l), get_or-take m bytes place 0 h ∙ get_or_from_slice_get bytes place b 0 e)
+      let l : place < length bytes = slice_get_within bytes place b e in (
+        omega (arith, length-take {A = ℕ}, l),
+        get_or-take m bytes place 0 h
+            ∙ get_or_from_slice_get bytes place b 0 e,
+      )
 
   -- a byte of white space is passed over
-  pub white-on : (place b : ℕ) → place < m → slice_get bytes place ≡ Some b → is_white b ≡ true → past_white place cut ≡ past_white (place + 1) cut
+  pub white-on : (place b : ℕ) → place < m → slice_get bytes place ≡ Some b → is_white b ≡ true
+      → past_white place cut ≡ past_white (place + 1) cut
   white-on place b h e w =
       let i = inside place b h e in
       let p = prefix_len-drop_yes is_white cut place 0 i.0 (ap is_white i.1 ∙ w) in
       omega (arith, p)
 
   -- at any other byte the place is found
-  pub xml-here : (place b : ℕ) → place < m → slice_get bytes place ≡ Some b → is_white b ≡ false → xml_place place cut ≡ cond (b == 60) (Some place) None
+  pub xml-here : (place b : ℕ) → place < m → slice_get bytes place ≡ Some b → is_white b ≡ false
+      → xml_place place cut ≡ cond (b == 60) (Some place) None
   xml-here place b h e w =
       let i = inside place b h e in
-      let p : past_white place cut ≡ place = let z = prefix_len-drop_no is_white cut place 0 i.0 (ap is_white i.1 ∙ w) in omega (arith, z) in
-      ap (λ q. cond (get_or cut q 0 == 60) (Some q) None) p ∙ ap (λ c. cond (c == 60) (Some place) None) i.1
+      let p : past_white place cut ≡ place = let z = prefix_len-drop_no is_white cut place 0 i.0
+      (ap is_white i.1 ∙ w) in omega (arith, z) in
+      ap (λ q. cond (get_or cut q 0 == 60) (Some q) None) p
+      ∙ ap (λ c. cond (c == 60) (Some place) None) i.1
 
   -- where no byte is left there is none
   pub xml-past : (place : ℕ) → length cut ≤ place → xml_place place cut ≡ None
   xml-past place h =
-      let p : past_white place cut ≡ place = let z = prefix_len-drop_all is_white cut place h in omega (arith, z) in
-      ap (λ q. cond (get_or cut q 0 == 60) (Some q) None) p ∙ ap (λ c. cond (c == 60) (Some place) None) (get_or_past cut place 0 h)
+      let p : past_white place cut ≡ place = let z = prefix_len-drop_all is_white cut place h in
+      omega (arith, z) in
+      ap (λ q. cond (get_or cut q 0 == 60) (Some q) None) p
+      ∙ ap (λ c. cond (c == 60) (Some place) None) (get_or_past cut place 0 h)
 
   pub none_left : (place : ℕ) → None ≡ slice_get bytes place → length bytes ≤ place
   none_left place e =
       elim (cases_lt place (length bytes)) [
-        | inl l ↦ let no : None ≡ Some (get_or bytes place 0) → length bytes ≤ place = λ p. cc in no (e ∙ slice_get-get_or bytes place 0 l)
+        | inl l ↦ let no : None ≡ Some (get_or bytes place 0) → length bytes ≤ place =
+            λ p. cc in no (e ∙ slice_get-get_or bytes place 0 l)
         | inr l ↦ l
       ]
 
   pub xml-none : (place : ℕ) → None ≡ slice_get bytes place → xml_place place cut ≡ None
-  xml-none place e = let l = none_left place e in xml-past place (omega (arith, length-take {A = ℕ}, l))
+  xml-none place e =
+      let l = none_left place e in xml-past place (omega (arith, length-take {A = ℕ}, l))
 
   pub xml-end : (place : ℕ) → m ≤ place → xml_place place cut ≡ None
   xml-end place h = xml-past place (omega (arith, length-take {A = ℕ}))
 
 -- ---- the same, where the bytes may not be known
 
-pub known-on : (k now : Option (List ℕ)) (place b : ℕ) → now ≡ k → place < 2 ^ 64 - 1 → IfSome now (λ bytes. Some b ≡ slice_get bytes place) → is_white b ≡ true → (f : List ℕ → ℕ) → IfSome k (λ bytes. f bytes ≡ past_white place (front bytes)) → IfSome k (λ bytes. f bytes ≡ past_white (place + 1) (front bytes))
+pub known-on : (k now : Option (List ℕ)) (place b : ℕ) → now ≡ k → place < 2 ^ 64 - 1
+    → IfSome now (λ bytes. Some b ≡ slice_get bytes place) → is_white b ≡ true → (f : List ℕ → ℕ)
+    → IfSome k (λ bytes. f bytes ≡ past_white place (front bytes))
+    → IfSome k (λ bytes. f bytes ≡ past_white (place + 1) (front bytes))
 known-on None now place b same h e w f i = tt
-known-on (Some bytes) now place b same h e w f i = let at : Some b ≡ slice_get bytes place = rw same at e in i ∙ white-on (2 ^ 64 - 1) bytes place b h (sym at) w
+known-on (Some bytes) now place b same h e w f i =
+    let at : Some b ≡ slice_get bytes place = rw same at e in i
+    ∙ white-on (2 ^ 64 - 1) bytes place b h (sym at) w
 
 -- what stands at the place found, by where the search began
-moved : (start place : ℕ) (bytes : List ℕ) → past_white start bytes ≡ past_white place bytes → xml_place start bytes ≡ xml_place place bytes
+moved : (start place : ℕ) (bytes : List ℕ) → past_white start bytes ≡ past_white place bytes
+    → xml_place start bytes ≡ xml_place place bytes
 moved start place bytes e = ap (λ q. cond (get_or bytes q 0 == 60) (Some q) None) e
 
 is_other : (b : ℕ) → b ≢ 60 → (b == 60) ≡ false
 is_other b is = elim (eqb_tells b 60) [ inl t ↦ absurd (is t.1) | inr f ↦ f.0 ]
 
-pub known-is : (k now : Option (List ℕ)) (start place b : ℕ) → now ≡ k → place < 2 ^ 64 - 1 → IfSome now (λ bytes. Some b ≡ slice_get bytes place) → is_white b ≡ false → b ≡ 60 → IfSome k (λ bytes. past_white start (front bytes) ≡ past_white place (front bytes))
+pub known-is : (k now : Option (List ℕ)) (start place b : ℕ) → now ≡ k → place < 2 ^ 64 - 1
+    → IfSome now (λ bytes. Some b ≡ slice_get bytes place) → is_white b ≡ false → b ≡ 60
+    → IfSome k (λ bytes. past_white start (front bytes) ≡ past_white place (front bytes))
     → IfSome k (λ bytes. Some place ≡ xml_place start (front bytes))
 known-is None now start place b same h e w is i = tt
 known-is (Some bytes) now start place b same h e w is i =
     let at : Some b ≡ slice_get bytes place = rw same at e in
-    sym (moved start place (front bytes) i ∙ xml-here (2 ^ 64 - 1) bytes place b h (sym at) w ∙ ap (λ c. cond c (Some place) None) (eq-eqb b 60 is))
+    sym (moved start place (front bytes) i ∙ xml-here (2 ^ 64 - 1) bytes place b h (sym at) w
+    ∙ ap (λ c. cond c (Some place) None) (eq-eqb b 60 is))
 
-pub known-other : (k now : Option (List ℕ)) (start place b : ℕ) → now ≡ k → place < 2 ^ 64 - 1 → IfSome now (λ bytes. Some b ≡ slice_get bytes place) → is_white b ≡ false → b ≢ 60 → IfSome k (λ bytes. past_white start (front bytes) ≡ past_white place (front bytes))
+pub known-other : (k now : Option (List ℕ)) (start place b : ℕ) → now ≡ k → place < 2 ^ 64 - 1
+    → IfSome now (λ bytes. Some b ≡ slice_get bytes place) → is_white b ≡ false → b ≢ 60
+    → IfSome k (λ bytes. past_white start (front bytes) ≡ past_white place (front bytes))
     → IfSome k (λ bytes. None ≡ xml_place start (front bytes))
 known-other None now start place b same h e w is i = tt
 known-other (Some bytes) now start place b same h e w is i =
     let at : Some b ≡ slice_get bytes place = rw same at e in
-    sym (moved start place (front bytes) i ∙ xml-here (2 ^ 64 - 1) bytes place b h (sym at) w ∙ ap (λ c. cond c (Some place) None) (is_other b is))
+    sym (moved start place (front bytes) i ∙ xml-here (2 ^ 64 - 1) bytes place b h (sym at) w
+    ∙ ap (λ c. cond c (Some place) None) (is_other b is))
 
-pub known-none : (k now : Option (List ℕ)) (start place : ℕ) → now ≡ k → IfSome now (λ bytes. None ≡ slice_get bytes place) → IfSome k (λ bytes. past_white start (front bytes) ≡ past_white place (front bytes)) → IfSome k (λ bytes. None ≡ xml_place start (front bytes))
+pub known-none : (k now : Option (List ℕ)) (start place : ℕ) → now ≡ k
+    → IfSome now (λ bytes. None ≡ slice_get bytes place)
+    → IfSome k (λ bytes. past_white start (front bytes) ≡ past_white place (front bytes))
+    → IfSome k (λ bytes. None ≡ xml_place start (front bytes))
 known-none None now start place same e i = tt
-known-none (Some bytes) now start place same e i = let at : None ≡ slice_get bytes place = rw same at e in sym (moved start place (front bytes) i ∙ xml-none (2 ^ 64 - 1) bytes place at)
+known-none (Some bytes) now start place same e i =
+    let at : None ≡ slice_get bytes place = rw same at e in sym
+    (moved start place (front bytes) i ∙ xml-none (2 ^ 64 - 1) bytes place at)
 
-pub known-end : (k : Option (List ℕ)) (start place : ℕ) → 2 ^ 64 - 1 ≤ place → IfSome k (λ bytes. past_white start (front bytes) ≡ past_white place (front bytes)) → IfSome k (λ bytes. None ≡ xml_place start (front bytes))
+pub known-end : (k : Option (List ℕ)) (start place : ℕ) → 2 ^ 64 - 1 ≤ place
+    → IfSome k (λ bytes. past_white start (front bytes) ≡ past_white place (front bytes))
+    → IfSome k (λ bytes. None ≡ xml_place start (front bytes))
 known-end None start place e i = tt
-known-end (Some bytes) start place e i = sym (moved start place (front bytes) i ∙ xml-end (2 ^ 64 - 1) bytes place e)
+known-end (Some bytes) start place e i =
+    sym (moved start place (front bytes) i ∙ xml-end (2 ^ 64 - 1) bytes place e)
 
 -- ---- the format
 
-pub is-binary : (k : Option (List ℕ)) (found : Bool) → found ≡ true → IfSome k (λ bytes. found ≡ starts_with nat_eq bytes magic) → IfSome k (λ bytes. Binary ≡ format_of bytes)
+pub is-binary : (k : Option (List ℕ)) (found : Bool) → found ≡ true
+    → IfSome k (λ bytes. found ≡ starts_with nat_eq bytes magic)
+    → IfSome k (λ bytes. Binary ≡ format_of bytes)
 unfolding format_of
 is-binary None found t h = tt
-is-binary (Some bytes) found t h = ap (λ b. cond b Binary (text_format (xml_place (mark_length bytes) (front bytes)))) (sym t ∙ h)
+is-binary (Some bytes) found t h =
+    ap (λ b. cond b Binary (text_format (xml_place (mark_length bytes) (front bytes)))) (sym t ∙ h)
 
-pub is-text : (k a b : Option (List ℕ)) (found : Bool) (start : ℕ) (place : Option ℕ) → a ≡ k → b ≡ a → found ≡ false → IfSome k (λ bytes. found ≡ starts_with nat_eq bytes magic) → IfSome a (λ bytes. start ≡ mark_length bytes)
-    → IfSome b (λ bytes. place ≡ xml_place start (front bytes)) → IfSome k (λ bytes. text_format place ≡ format_of bytes)
+pub is-text : (k a b : Option (List ℕ)) (found : Bool) (start : ℕ) (place : Option ℕ) → a ≡ k
+    → b ≡ a → found ≡ false → IfSome k (λ bytes. found ≡ starts_with nat_eq bytes magic)
+    → IfSome a (λ bytes. start ≡ mark_length bytes)
+    → IfSome b (λ bytes. place ≡ xml_place start (front bytes))
+    → IfSome k (λ bytes. text_format place ≡ format_of bytes)
 unfolding format_of
 is-text None a b found start place p q f h m x = tt
 is-text (Some bytes) a b found start place p q f h m x =
     let m' : start ≡ mark_length bytes = rw p at m in
     let x' : place ≡ xml_place start (front bytes) = rw (q ∙ p) at x in
-    ap text_format x' ∙ ap (λ s. text_format (xml_place s (front bytes))) m' ∙ ap (λ b. cond b Binary (text_format (xml_place (mark_length bytes) (front bytes)))) (sym f ∙ h)
+    ap text_format x' ∙ ap (λ s. text_format (xml_place s (front bytes))) m'
+    ∙ ap (λ b. cond b Binary (text_format (xml_place (mark_length bytes) (front bytes))))
+    (sym f ∙ h)

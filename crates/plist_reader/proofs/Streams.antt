@@ -4,7 +4,7 @@ use Rattle.std.specs.Option.{option_map}
 use Rattle.std.specs.Io.KnownBytes.{Consumes, IsAtEnd}
 use Rattle.std.proofs.lemmas.List.{drop-drop, drop_all, drop-take, take-take, take-append-drop, length-take, length-take-le, get_or-take}
 use Rattle.plist_base.specs.Sources.{GivesAt}
-use Rattle.plist_base.specs.Sequences.{from_place}
+use Rattle.plist_base.specs.Sequential.{from_place}
 use Rattle.plist_ascii.specs.Incoming.{GivesByte}
 
 -- ---- one read
@@ -15,32 +15,45 @@ nothing_past p xs h = drop_all p (take (2 ^ 64 - 1) xs) (rw length-take (omega a
 nothing_behind : (p : ℕ) (xs : List ℕ) → length xs ≤ p → from_place p xs ≡ []
 nothing_behind p xs h = drop_all p (take (2 ^ 64 - 1) xs) (rw length-take (omega arith))
 
-same_front : (p n : ℕ) (xs : List ℕ) → p + n ≤ 2 ^ 64 - 1 → take n (drop p xs) ≡ take n (from_place p xs)
+same_front : (p n : ℕ) (xs : List ℕ) → p + n ≤ 2 ^ 64 - 1
+    → take n (drop p xs) ≡ take n (from_place p xs)
 same_front p n xs h =
     let all : p + (2 ^ 64 - 1 - p) ≡ 2 ^ 64 - 1 = omega arith in
     let fits : n ≤ 2 ^ 64 - 1 - p = omega arith in
-    let cut : from_place p xs ≡ take (2 ^ 64 - 1 - p) (drop p xs) = ap (λ k. drop p (take k xs)) (sym all) ∙ drop-take p (2 ^ 64 - 1 - p) xs in
+    let cut : from_place p xs ≡ take (2 ^ 64 - 1 - p) (drop p xs) = ap (λ k. drop p (take k xs))
+    (sym all) ∙ drop-take p (2 ^ 64 - 1 - p) xs in
     sym (ap (take n) cut ∙ take-take n (2 ^ 64 - 1 - p) (drop p xs) fits)
 
 -- the first n bytes that a read gave, and what lies behind them
-read_front : (p n count : ℕ) (xs part : List ℕ) → n ≤ count → p + n ≤ 2 ^ 64 - 1 → take count part ≡ take count (drop p xs) → take n part ++ from_place (p + n) xs ≡ from_place p xs
+read_front : (p n count : ℕ) (xs part : List ℕ) → n ≤ count → p + n ≤ 2 ^ 64 - 1
+    → take count part ≡ take count (drop p xs)
+    → take n part ++ from_place (p + n) xs ≡ from_place p xs
 read_front p n count xs part l room e =
     let front : take n part ≡ take n (from_place p xs) =
-    sym (take-take n count part l) ∙ ap (take n) e ∙ take-take n count (drop p xs) l ∙ same_front p n xs room in
-    ap (λ z. z ++ from_place (p + n) xs) front ∙ ap (λ z. take n (from_place p xs) ++ z) (sym (drop-drop n p (take (2 ^ 64 - 1) xs))) ∙ take-append-drop n (from_place p xs)
+    sym (take-take n count part l) ∙ ap (take n) e ∙ take-take n count (drop p xs) l
+    ∙ same_front p n xs room in
+    ap (λ z. z ++ from_place (p + n) xs) front
+    ∙ ap (λ z. take n (from_place p xs) ++ z) (sym (drop-drop n p (take (2 ^ 64 - 1) xs)))
+    ∙ take-append-drop n (from_place p xs)
 
 pub nothing_held : (from end : ℕ) (window : List ℕ) → end ≤ from → drop from (take end window) ≡ []
 nothing_held from end window h = drop_all from (take end window) (rw length-take (omega arith))
 
 -- after a read the same is to come
-pub read_on : (k now : Option (List ℕ)) (p n count from end : ℕ) (window part : List ℕ) → now ≡ k → end ≤ from → n ≤ count → p + n ≤ 2 ^ 64 - 1 → IfSome k (λ bytes. GivesAt bytes p count part)
-    → option_map (λ bytes. take n part ++ from_place (p + n) bytes) now ≡ option_map (λ bytes. drop from (take end window) ++ from_place p bytes) k
-read_on None now p n count from end window part e none l room g = ap (option_map (λ bytes. take n part ++ from_place (p + n) bytes)) e
+pub read_on : (k now : Option (List ℕ)) (p n count from end : ℕ) (window part : List ℕ) → now ≡ k
+    → end ≤ from → n ≤ count → p + n ≤ 2 ^ 64 - 1 → IfSome k (λ bytes. GivesAt bytes p count part)
+    → option_map (λ bytes. take n part ++ from_place (p + n) bytes) now
+    ≡ option_map (λ bytes. drop from (take end window) ++ from_place p bytes) k
+read_on None now p n count from end window part e none l room g =
+    ap (option_map (λ bytes. take n part ++ from_place (p + n) bytes)) e
 read_on (Some xs) now p n count from end window part e none l room g =
-    rw e (ap Some (read_front p n count xs part l room g.0 ∙ ap (λ z. z ++ from_place p xs) (sym (nothing_held from end window none))))
+    rw e (ap Some (read_front p n count xs part l room g.0
+    ∙ ap (λ z. z ++ from_place p xs) (sym (nothing_held from end window none))))
 
 -- and where it gave nothing, nothing is
-pub read_none : (k now : Option (List ℕ)) (p n count : ℕ) (part : List ℕ) → now ≡ k → (n ≡ 0 → count ≡ 0) → 0 < length part → take n part ≡ [] → n ≤ length part → IfSome k (λ bytes. GivesAt bytes p count part)
+pub read_none : (k now : Option (List ℕ)) (p n count : ℕ) (part : List ℕ) → now ≡ k
+    → (n ≡ 0 → count ≡ 0) → 0 < length part → take n part ≡ [] → n ≤ length part
+    → IfSome k (λ bytes. GivesAt bytes p count part)
     → IsAtEnd (option_map (λ bytes. take n part ++ from_place (p + n) bytes) now)
 read_none None now p n count part e none room z within g = rw e tt
 read_none (Some xs) now p n count part e none room z within g =
@@ -52,31 +65,40 @@ read_none (Some xs) now p n count part e none room z within g =
     ended (inr h) = nothing_behind (p + n) xs (omega (arith, h))
 
 -- where there is no room for a read, nothing is behind what is held
-pub full_none : (k : Option (List ℕ)) (p : ℕ) (hand : List ℕ) → 2 ^ 64 - 1 ≤ p → hand ≡ [] → IsAtEnd (option_map (λ bytes. hand ++ from_place p bytes) k)
+pub full_none : (k : Option (List ℕ)) (p : ℕ) (hand : List ℕ) → 2 ^ 64 - 1 ≤ p → hand ≡ []
+    → IsAtEnd (option_map (λ bytes. hand ++ from_place p bytes) k)
 full_none None p hand h e = tt
 full_none (Some xs) p hand h e = ap (λ z. z ++ from_place p xs) e ∙ nothing_past p xs h
 
 -- ---- what is held
 
 -- the first byte of it
-pub first_held : (from end : ℕ) (window : List ℕ) → from < end → end ≤ length window → drop from (take end window) ≡ get_or window from 0 ∷ drop (from + 1) (take end window)
+pub first_held : (from end : ℕ) (window : List ℕ) → from < end → end ≤ length window
+    → drop from (take end window) ≡ get_or window from 0 ∷ drop (from + 1) (take end window)
 first_held from end window l within =
     let len : length (take end window) ≡ end = length-take-le end window within in
     let next : from + 1 ≡ suc from = omega arith in
-    rw next (drop-cons (take end window) from 0 (omega (arith, len)) ∙ ap (λ b. b ∷ drop (suc from) (take end window)) (get_or-take end window from 0 l))
+    rw next (drop-cons (take end window) from 0 (omega (arith, len))
+    ∙ ap (λ b. b ∷ drop (suc from) (take end window)) (get_or-take end window from 0 l))
 
-pub some_held : (from end : ℕ) (window : List ℕ) → from < end → end ≤ length window → drop from (take end window) ≡ [] → ⊥
+pub some_held : (from end : ℕ) (window : List ℕ) → from < end → end ≤ length window
+    → drop from (take end window) ≡ [] → ⊥
 some_held from end window l within e = let first = first_held from end window l within in cc
 
 -- it comes
-pub one_there : (k old : Option (List ℕ)) (p byte : ℕ) (hand rest : List ℕ) → option_map (λ bytes. hand ++ from_place p bytes) k ≡ old → hand ≡ byte ∷ rest
+pub one_there : (k old : Option (List ℕ)) (p byte : ℕ) (hand rest : List ℕ)
+    → option_map (λ bytes. hand ++ from_place p bytes) k ≡ old → hand ≡ byte ∷ rest
     → GivesByte old (Some byte) (option_map (λ bytes. rest ++ from_place p bytes) k)
 one_there None old p byte hand rest e h = rw (← e) tt
 one_there (Some xs) old p byte hand rest e h = rw (← e) (ap (λ z. z ++ from_place p xs) h)
 
 -- several of them
 pub several_there : (k : Option (List ℕ)) (p from n : ℕ) (all : List ℕ)
-    → Consumes (option_map (λ bytes. drop from all ++ from_place p bytes) k) (option_map (λ bytes. drop (from + n) all ++ from_place p bytes) k) (take n (drop from all))
+    → Consumes (option_map (λ bytes. drop from all ++ from_place p bytes) k)
+    (option_map (λ bytes. drop (from + n) all ++ from_place p bytes) k) (take n (drop from all))
 several_there None p from n all = tt
 several_there (Some xs) p from n all =
-    ap (λ z. z ++ from_place p xs) (sym (take-append-drop n (drop from all)) ∙ ap (λ z. take n (drop from all) ++ z) (drop-drop n from all)) ∙ append_assoc (take n (drop from all)) (drop (from + n) all) (from_place p xs)
+    ap (λ z. z ++ from_place p xs)
+    (sym (take-append-drop n (drop from all))
+    ∙ ap (λ z. take n (drop from all) ++ z) (drop-drop n from all))
+    ∙ append_assoc (take n (drop from all)) (drop (from + n) all) (from_place p xs)

@@ -26,7 +26,8 @@ past_white place bytes = place + prefix_len is_white (drop place bytes)
 
 -- that place, if `<` stands there
 abbrev pub xml_place : (place : ℕ) → List ℕ → Option ℕ
-xml_place place bytes = cond (get_or bytes (past_white place bytes) 0 == 60) (Some (past_white place bytes)) None
+xml_place place bytes =
+    cond (get_or bytes (past_white place bytes) 0 == 60) (Some (past_white place bytes)) None
 
 abbrev pub text_format : Option ℕ → Format
 text_format None = Ascii
@@ -34,7 +35,9 @@ text_format (Some place) = Xml place
 
 -- binary by its first eight bytes, XML by its first byte past white space, else ASCII
 unfoldable pub format_of : List ℕ → Format
-format_of bytes = cond (starts_with nat_eq bytes magic) Binary (text_format (xml_place (mark_length bytes) (front bytes)))
+format_of bytes =
+    cond (starts_with nat_eq bytes magic) Binary
+    (text_format (xml_place (mark_length bytes) (front bytes)))
 
 -- ---- worked examples
 

@@ -1,7 +1,7 @@
 -- What contracts see of a source whose bytes are taken in turn.
 use Rattle.std.specs.Prelude.{ℕ, List, ◌++◌, take, drop, Option}
 use Rattle.std.specs.Option.{option_map}
-use Rattle.plist_base.specs.Sequences.{from_place}
+use Rattle.plist_base.specs.Sequential.{from_place}
 use Rattle.plist_reader.specs.declared.bytes.SourceBytes.{SourceBytes}
 
 -- the source inside
@@ -18,4 +18,5 @@ held reader = drop reader.from (take reader.end reader.window)
 
 -- all bytes that are still to come, where the source's are known
 abbrev pub bytes_left : {R : Type 0} → (R → Option (List ℕ)) → SourceBytes R → Option (List ℕ)
-bytes_left known reader = option_map (λ bytes. held reader ++ from_place reader.place bytes) (known reader.source)
+bytes_left known reader =
+    option_map (λ bytes. held reader ++ from_place reader.place bytes) (known reader.source)

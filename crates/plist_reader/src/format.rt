@@ -2,7 +2,8 @@
 
 ghost use Rattle.std.specs.Prelude.{◌≡◌, ◌+◌, ◌-◌, ◌<◌, nat_eq, slice_get, IfOk, IfErr, IfSome};
 ghost use Rattle.std.specs.List.{starts_with};
-ghost use Rattle.plist_base.specs.Faults.{IsIo, Io, fault_at, fault_of, kind_of, error_kind_of, offset_of};
+ghost use Rattle.plist_base.specs.Faults.{IsIo, Io, fault_at, kind_of, error_kind_of, offset_of};
+ghost use Rattle.plist_base.specs.Outcomes.{OnlyFault};
 ghost use Rattle.plist_base.specs.Sources.{AnswersIo};
 ghost use Rattle.plist_binread.specs.Failures.{HasPlace};
 ghost use Rattle.plist_binread.specs.Container.{magic};
@@ -31,8 +32,8 @@ pub enum Format {
 fn has_magic<S: Source>(source: &mut S) -> Result<bool, Error>
     ensures value { IfOk result (λ found. IfSome (S.known source.old) (λ bytes.
         found ≡ starts_with nat_eq bytes magic)) }
-    ensures refused { IfErr result (λ e. IsIo (kind_of (error_kind_of e))) }
-    ensures offset { IfErr result (λ e. HasPlace (offset_of e)) }
+    ensures refused { IfErr result (λ error. IsIo (kind_of (error_kind_of error))) }
+    ensures offset { IfErr result (λ error. HasPlace (offset_of error)) }
     ensures unchanged { S.known source.new ≡ S.known source.old }
     ensures failures { AnswersIo result (S.failures source.old) (S.failures source.new) }
 {
@@ -52,8 +53,8 @@ fn has_magic<S: Source>(source: &mut S) -> Result<bool, Error>
 fn has_mark<S: Source>(source: &mut S) -> Result<bool, Error>
     ensures value { IfOk result (λ found. IfSome (S.known source.old) (λ bytes.
         found ≡ starts_with nat_eq bytes mark)) }
-    ensures refused { IfErr result (λ e. IsIo (kind_of (error_kind_of e))) }
-    ensures offset { IfErr result (λ e. HasPlace (offset_of e)) }
+    ensures refused { IfErr result (λ error. IsIo (kind_of (error_kind_of error))) }
+    ensures offset { IfErr result (λ error. HasPlace (offset_of error)) }
     ensures unchanged { S.known source.new ≡ S.known source.old }
     ensures failures { AnswersIo result (S.failures source.old) (S.failures source.new) }
 {
@@ -73,8 +74,8 @@ fn has_mark<S: Source>(source: &mut S) -> Result<bool, Error>
 fn mark_length<S: Source>(source: &mut S) -> Result<u64, Error>
     ensures length { IfOk result (λ found. IfSome (S.known source.old) (λ bytes.
         found ≡ mark_length bytes)) }
-    ensures refused { IfErr result (λ e. IsIo (kind_of (error_kind_of e))) }
-    ensures offset { IfErr result (λ e. HasPlace (offset_of e)) }
+    ensures refused { IfErr result (λ error. IsIo (kind_of (error_kind_of error))) }
+    ensures offset { IfErr result (λ error. HasPlace (offset_of error)) }
     ensures unchanged { S.known source.new ≡ S.known source.old }
     ensures failures { AnswersIo result (S.failures source.old) (S.failures source.new) }
 {
@@ -89,7 +90,7 @@ fn mark_length<S: Source>(source: &mut S) -> Result<u64, Error>
 fn byte_at<S: Source>(source: &mut S, place: u64) -> Result<Option<u8>, Error>
     ensures byte { IfOk result (λ byte. IfSome (S.known source.old) (λ bytes.
         byte ≡ slice_get bytes place)) }
-    ensures refused { IfErr result (λ e. fault_of e ≡ fault_at Io place) }
+    ensures refused { OnlyFault result (fault_at Io place) }
     ensures unchanged { S.known source.new ≡ S.known source.old }
     ensures failures { AnswersIo result (S.failures source.old) (S.failures source.new) }
 {
@@ -110,8 +111,8 @@ fn is_white(byte: u8) -> bool
 fn xml_place<S: Source>(source: &mut S, start: u64) -> Result<Option<u64>, Error>
     ensures place { IfOk result (λ found. IfSome (S.known source.old) (λ bytes.
         found ≡ xml_place start (front bytes))) }
-    ensures refused { IfErr result (λ e. IsIo (kind_of (error_kind_of e))) }
-    ensures offset { IfErr result (λ e. HasPlace (offset_of e)) }
+    ensures refused { IfErr result (λ error. IsIo (kind_of (error_kind_of error))) }
+    ensures offset { IfErr result (λ error. HasPlace (offset_of error)) }
     ensures unchanged { S.known source.new ≡ S.known source.old }
     ensures failures { AnswersIo result (S.failures source.old) (S.failures source.new) }
 {
@@ -138,8 +139,8 @@ fn xml_place<S: Source>(source: &mut S, start: u64) -> Result<Option<u64>, Error
 pub fn format_of<S: Source>(source: &mut S) -> Result<Format, Error>
     ensures format { IfOk result (λ format. IfSome (S.known source.old) (λ bytes.
         format ≡ format_of bytes)) }
-    ensures refused { IfErr result (λ e. IsIo (kind_of (error_kind_of e))) }
-    ensures offset { IfErr result (λ e. HasPlace (offset_of e)) }
+    ensures refused { IfErr result (λ error. IsIo (kind_of (error_kind_of error))) }
+    ensures offset { IfErr result (λ error. HasPlace (offset_of error)) }
     ensures unchanged { S.known source.new ≡ S.known source.old }
     ensures failures { AnswersIo result (S.failures source.old) (S.failures source.new) }
 {

@@ -1,7 +1,7 @@
 //! The reader of property lists of either format.
 
 ghost use Rattle.std.specs.Prelude.{◌≡◌, ◌<◌, IfSome, Some};
-ghost use Rattle.plist_reader.specs.Coming.{StateGives, all_steps, steps_of};
+ghost use Rattle.plist_reader.specs.Reader.{StateGives, all_steps, steps_of};
 
 use crate::bytes::SourceBytes;
 use crate::format::{Format, format_of};
@@ -69,7 +69,7 @@ pub struct Reader<R: Source> {
 impl<R: Source> Reader<R> {
     ghost use Rattle.std.specs.Prelude.{◌≡◌};
     ghost use Rattle.std.specs.Option.{option_map};
-    ghost use Rattle.plist_reader.specs.Coming.{to_come, items_of_input, source_of};
+    ghost use Rattle.plist_reader.specs.Reader.{to_come, items_of_input, source_of};
 
     /// A reader over a source. It reads nothing before its first item is asked for.
     pub fn new(alloc: Global, source: R) -> Self
@@ -107,7 +107,7 @@ impl<R: Source> Iterator for Reader<R> {
     type Item = Result<OwnedEvent, Error>;
 
     ghost use Rattle.std.specs.Iterator.{at_most};
-    ghost use Rattle.plist_reader.specs.Coming.{Gives, steps_of};
+    ghost use Rattle.plist_reader.specs.Reader.{Gives, steps_of};
 
     ghost next_gives = { Gives R.known R.failures };
 

@@ -10,9 +10,13 @@ use Rattle.plist_keyed.specs.Errors.{IsFaultOf}
 use Rattle.plist_tool.specs.Archives.{IsRefusedAt}
 use Rattle.plist_tool.specs.Failures.{OfArchive}
 
-pub refused : (root : Value) (key : List ℕ) (objects : List Value) (names : List (List ℕ × Value)) (uid : ℕ) (e : KeyedError) → IsArchiveOf root objects names → IsUidAt key names uid → IsFaultOf (resolved_tree (map tree_of objects) uid) e
+pub refused : (root : Value) (key : List ℕ) (objects : List Value) (names : List (List ℕ × Value))
+    (uid : ℕ) (e : KeyedError) → IsArchiveOf root objects names → IsUidAt key names uid
+    → IsFaultOf (resolved_tree (map tree_of objects) uid) e
     → IsRefusedAt root key (OfArchive e)
 refused root key objects names uid error.NotAnArchive archive at h = absurd h
-refused root key objects names uid (error.UidOutOfRange n) archive at h = (objects, names, uid, archive, at, h)
-refused root key objects names uid (error.RecursiveUid n) archive at h = (objects, names, uid, archive, at, h)
+refused root key objects names uid (error.UidOutOfRange n) archive at h =
+    (objects, names, uid, archive, at, h)
+refused root key objects names uid (error.RecursiveUid n) archive at h =
+    (objects, names, uid, archive, at, h)
 refused root key objects names uid error.OutOfMemory archive at h = tt

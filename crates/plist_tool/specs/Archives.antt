@@ -11,17 +11,22 @@ use Rattle.plist_tool.specs.Failures.{Complaint, OfPlist, OfArchive, NoSuchTop}
 -- the property list is an archive whose key names an object with this tree, or this fault
 abbrev pub IsResolvedAt : (root : Value) → (key : List ℕ) → Result Tree ArchiveFault → Type 0
 IsResolvedAt root key answer =
-    (objects : List Value) × (names : List (List ℕ × Value)) × (uid : ℕ) × IsArchiveOf root objects names × IsUidAt key names uid × (resolved_tree (map tree_of objects) uid ≡ answer)
+    (objects : List Value) × (names : List (List ℕ × Value)) × (uid : ℕ)
+    × IsArchiveOf root objects names × IsUidAt key names uid
+    × (resolved_tree (map tree_of objects) uid ≡ answer)
 
 abbrev pub IsTreeAt : (root : Value) → (key : List ℕ) → Tree → Type 0
 IsTreeAt root key tree = IsResolvedAt root key (Ok tree)
 
 -- it is an archive in which the key names no object
 abbrev pub IsUnnamed : (root : Value) → (key : List ℕ) → Type 0
-IsUnnamed root key = (objects : List Value) × (names : List (List ℕ × Value)) × IsArchiveOf root objects names × ((uid : ℕ) → ¬ (IsUidAt key names uid))
+IsUnnamed root key =
+    (objects : List Value) × (names : List (List ℕ × Value)) × IsArchiveOf root objects names
+    × ((uid : ℕ) → ¬ (IsUidAt key names uid))
 
 -- the complaint says why there is no tree; want of memory may always be why
 abbrev pub IsRefusedAt : (root : Value) → (key : List ℕ) → Complaint → Type 0
 IsRefusedAt root key (OfPlist fault) = ⊥
-IsRefusedAt root key (OfArchive error) = MatchError error (¬ (IsArchive root)) ⊤ (λ fault. IsResolvedAt root key (Err fault))
+IsRefusedAt root key (OfArchive error) =
+    MatchError error (¬ (IsArchive root)) ⊤ (λ fault. IsResolvedAt root key (Err fault))
 IsRefusedAt root key NoSuchTop = IsUnnamed root key

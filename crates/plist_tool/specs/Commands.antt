@@ -29,6 +29,8 @@ asked_of (command.Keyed file key) = Keyed file.now key.now
 
 -- how the program ends where a command answered so: with 0 and no word where it is done, with 1
 -- where it was refused, and then its fault has been told
-abbrev pub EndsWith : {E : Type 0} → (tells : E → Said → Bool → E → Type 0) → Outcome → (status : ℕ) → (old new : E) → Type 0
+abbrev pub EndsWith : {E : Type 0} → (tells : E → Said → Bool → E → Type 0) → Outcome → (status : ℕ)
+    → (old new : E) → Type 0
 EndsWith tells (Ok done) status old new = (status ≡ 0) × (new ≡ old)
-EndsWith tells (Err complaint) status old new = (status ≡ 1) × ((told : Bool) × tells old (Fault complaint) told new)
+EndsWith tells (Err complaint) status old new =
+    (status ≡ 1) × ((told : Bool) × tells old (Fault complaint) told new)

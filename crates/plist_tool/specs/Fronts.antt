@@ -2,10 +2,6 @@
 use Rattle.std.specs.Prelude.{◌≡◌, ℕ, List, ◌++◌, Option}
 use Rattle.std.specs.Io.KnownBytes.{Appends}
 
--- known bytes grew by a beginning of `all`
-abbrev pub AppendsFront : Option (List ℕ) → Option (List ℕ) → (all : List ℕ) → Type 0
-AppendsFront old new all = (sent : List ℕ) × (more : List ℕ) × Appends old new sent × (all ≡ sent ++ more)
-
 -- of the bytes `all`, known bytes grew by a beginning, and the rest of them are `held` back
 abbrev pub PassesOn : Option (List ℕ) → Option (List ℕ) → (all held : List ℕ) → Type 0
 PassesOn old new all held = (sent : List ℕ) × Appends old new sent × (all ≡ sent ++ held)

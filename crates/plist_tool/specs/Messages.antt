@@ -2,7 +2,7 @@
 use Rattle.std.specs.Prelude.{ℕ, Bool, true, false, List, ◌++◌, Option, codes}
 use Rattle.std.specs.Io.KnownBytes.{Appends}
 use Rattle.plist_tool.specs.Failures.{Complaint, complaint_of, text_of_complaint}
-use Rattle.plist_tool.specs.Fronts.{AppendsFront}
+use Rattle.plist_base.specs.Fronts.{AppendsFront}
 use Rattle.plist_tool.specs.declared.messages.Message.{Message}
 use Rattle.plist_tool.specs.declared.messages.Message.TheVariants as message
 
@@ -25,7 +25,8 @@ abbrev pub text_of : Said → List ℕ
 text_of Usage = usage
 text_of (Fault complaint) = codes "Error: " ++ text_of_complaint complaint ++ codes "\n"
 
--- what a writer took of a message: all of it where no write failed, and else of the usage a beginning
+-- what a writer took of a message: all of it where no write failed, and else of the usage a
+-- beginning
 abbrev pub TakesMessage : Said → (told : Bool) → (old new : Option (List ℕ)) → Type 0
 TakesMessage said true old new = Appends old new (text_of said)
 TakesMessage Usage false old new = AppendsFront old new usage

@@ -1,10 +1,15 @@
 -- What printing the items of a file does to a writer, and what it answers.
-use Rattle.std.specs.Prelude.{◌≡◌, ℕ, ◌⊎◌, List, Option, None, Some, ⊤, MatchResult, Result}
+use Rattle.std.specs.Prelude.{◌≡◌, ℕ, ◌⊎◌, List, Option, None, Some, ⊤, IfSome, MatchResult, Result}
 use Rattle.std.specs.Io.KnownBytes.{Appends}
 use Rattle.plist_base.specs.declared.error.Error.{Error}
 use Rattle.plist_base.specs.Faults.{MatchFault, IsFromOutside, kind_of, error_kind_of, fault_of, offset_of}
+use Rattle.plist_base.specs.declared.source.Source.{Ghosts}
 use Rattle.plist_base.specs.Events.{Item}
 use Rattle.plist_base.specs.Sources.{Rises}
+use Rattle.plist_binread.specs.Coming.{source_of, to_come}
+use Rattle.plist_binread.specs.declared.counter.DecodeCounter.{Ghosts as CounterGhosts}
+use Rattle.plist_binread.specs.declared.reader.BinaryReader.{BinaryReader}
+use Rattle.plist_base.specs.Fronts.{AppendsFront}
 use Rattle.plist_tool.specs.Lines.{lines_of, first_fault}
 
 -- there is no fault, and all the lines went out
@@ -15,7 +20,25 @@ PrintsAll items old new = (first_fault items ≡ None) × Appends old new (lines
 -- want of memory, which come from outside, say nothing of the items
 abbrev pub PrintsUntil : Error → List Item → (old new : Option (List ℕ)) → Type 0
 PrintsUntil error items old new =
-    MatchFault (kind_of (error_kind_of error)) ⊤ ⊤ ((first_fault items ≡ Some (fault_of error)) × Appends old new (lines_of items))
+    MatchFault (kind_of (error_kind_of error)) ⊤ ⊤
+    ((first_fault items ≡ Some (fault_of error)) × Appends old new (lines_of items))
+
+-- the same of the items that a reader of known bytes has still to give, with the writer before and
+-- after
+module _ {S C W : Type 0} {g : Ghosts S} {h : CounterGhosts C} (known : S → Option (List ℕ))
+    (contents : W → Option (List ℕ)) (reader : BinaryReader S C g h) (old new : W) where
+  abbrev pub PrintsRest : Type 0
+  PrintsRest = IfSome (known (source_of reader)) (λ bytes.
+      PrintsAll (to_come bytes reader) (contents old) (contents new))
+
+  abbrev pub PrintsRestUntil : Error → Type 0
+  PrintsRestUntil error = IfSome (known (source_of reader)) (λ bytes.
+      PrintsUntil error (to_come bytes reader) (contents old) (contents new))
+
+  -- a beginning of their lines went out
+  abbrev pub SendsFrontOfRest : Type 0
+  SendsFrontOfRest = IfSome (known (source_of reader)) (λ bytes.
+      AppendsFront (contents old) (contents new) (lines_of (to_come bytes reader)))
 
 -- the writer's failure, or want of memory for a line: neither has an offset
 abbrev pub IsOwnFault : Error → Type 0
@@ -24,4 +47,5 @@ IsOwnFault error = (offset_of error ≡ None) × IsFromOutside (kind_of (error_k
 -- the source failed only where the answer is `Io`, and that without an offset may be the writer's
 abbrev pub CountsReads : {A : Type 0} → Result A Error → (old new : ℕ) → Type 0
 CountsReads answer old new = MatchResult answer (λ _. new ≡ old)
-    (λ error. MatchFault (kind_of (error_kind_of error)) (((offset_of error ≡ None) × (new ≡ old)) ⊎ Rises old new) (new ≡ old) (new ≡ old))
+    (λ error. MatchFault (kind_of (error_kind_of error))
+    (((offset_of error ≡ None) × (new ≡ old)) ⊎ Rises old new) (new ≡ old) (new ≡ old))

@@ -5,11 +5,11 @@ ghost use Rattle.plist_tool.specs.Failures.{Outcome, outcome_of};
 ghost use Rattle.plist_tool.specs.Messages.{Usage};
 ghost use Rattle.plist_tool.specs.Commands.{Asked, asked_of, words_for, IsWrong, EndsWith};
 
+use crate::convert::convert_file;
 use crate::failure::Failure;
 use crate::keyed::keyed_file;
 use crate::messages::{Message, Messages};
 use crate::print::print_events;
-use plist::Value;
 use plist_base::{Error, ErrorKind, Seeking};
 use std::alloc::Global;
 use std::fs;
@@ -97,15 +97,9 @@ fn print_file<R: Files, O: Write>(
     }
 }
 
-// Writes the property list of a file to another one, or to itself.
-fn convert_file<R: Files>(rt: &R, alloc: Global, from: &str, to: &str) -> Result<(), Error> {
-    let value = Value::from_file(rt, alloc, from)?;
-    value.to_file_binary(rt, alloc, to)
-}
-
-/// Does what the words after the program's name ask for, and answers the status: 0 where it is done,
-/// 1 after a fault, which is then told on `err`, and 2 for wrong words, for which `err` gets the
-/// usage.
+/// Does what the words after the program's name ask for, and answers the status: 0 where it is
+/// done, 1 after a fault, which is then told on `err`, and 2 for wrong words, for which `err` gets
+/// the usage.
 ///
 /// A failure of `err` changes no status.
 pub fn run_words<R: Commands, O: Write, E: Messages>(
@@ -139,22 +133,11 @@ pub fn run_words<R: Commands, O: Write, E: Messages>(
 #[cfg(test)]
 mod tests {
     use super::*;
+    use crate::saved::{RECURSIVE, put, temporary, words_of};
     use crate::trickle::Trickle;
-    use std::alloc::AllocError;
-    use std::env;
-    use std::env::Env;
-    use std::process::Abort;
     use std::test::Fail;
 
     const USAGE: &str = "Usage: plist_tool print FILE | convert IN OUT | keyed FILE KEY\n";
-
-    fn words_of(alloc: Global, line: &str) -> Result<Vec<String>, AllocError> {
-        let mut words = Vec::new(alloc);
-        for word in line.split_whitespace() {
-            words.push(String::from_str(alloc, word)?)?;
-        }
-        Ok(words)
-    }
 
     #[test]
     fn wrong_words(rt: HostRuntime) -> Result<(), Fail> {
@@ -205,23 +188,17 @@ mod tests {
         Ok(())
     }
 
-    // An array that holds itself.
-    const RECURSIVE: &[u8] = b"bplist00\
-        \xa1\x00\x08\
-        \0\0\0\0\0\0\x01\x01\0\0\0\0\0\0\0\x01\0\0\0\0\0\0\0\0\0\0\0\0\0\0\0\x0a";
-
     // The words that ask to print a file with these bytes, which is made first.
-    fn saved(rt: &HostRuntime, name: &str, bytes: &[u8]) -> Result<Vec<String>, Fail> {
-        let path = env::temp_dir(rt)?.join(rt.alloc(), name)?;
-        fs::write(rt, path.as_str(), bytes)?;
+    fn print_of(rt: &HostRuntime, name: &str, bytes: &[u8]) -> Result<Vec<String>, Fail> {
+        put(rt, name, bytes)?;
         let mut words = words_of(rt.alloc(), "print")?;
-        words.push(path.into_string())?;
+        words.push(temporary(rt, name)?)?;
         Ok(words)
     }
 
     #[test]
     fn a_fault_after_its_lines(rt: HostRuntime) -> Result<(), Fail> {
-        let words = saved(&rt, "plist_tool_recursive.plist", RECURSIVE)?;
+        let words = print_of(&rt, "plist_tool_recursive.plist", RECURSIVE)?;
         let mut out = Vec::new(rt.alloc());
         let mut err = Vec::new(rt.alloc());
         let status = run_words(&rt, rt.alloc(), words.as_slice(), &mut out, &mut err);
@@ -236,7 +213,7 @@ mod tests {
 
     #[test]
     fn a_failing_output(rt: HostRuntime) -> Result<(), Fail> {
-        let words = saved(&rt, "plist_tool_failing_output.plist", RECURSIVE)?;
+        let words = print_of(&rt, "plist_tool_failing_output.plist", RECURSIVE)?;
         let mut out = Trickle::new(rt.alloc(), 5);
         let mut err = Vec::new(rt.alloc());
         let status = run_words(&rt, rt.alloc(), words.as_slice(), &mut out, &mut err);
@@ -244,127 +221,5 @@ mod tests {
         assert_eq!(rt; out.taken.as_slice(), b"Start".as_slice());
         assert_eq!(rt; err.as_slice(), b"Error: Io\n".as_slice());
         Ok(())
-    }
-
-    const SETTINGS: &[u8] = b"{ name = James, age = 42 }";
-
-    const CONVERTED: &[u8] = b"bplist00\
-        \xd2\x01\x02\x03\x04\x54name\x53age\x55James\x10\x2a\x08\x0d\x12\x16\x1c\
-        \0\0\0\0\0\0\x01\x01\0\0\0\0\0\0\0\x05\0\0\0\0\0\0\0\0\0\0\0\0\0\0\0\x1e";
-
-    // A path in the folder for temporary files.
-    fn temporary(rt: &(impl AllocGlobal + Env), name: &str) -> Result<String, Fail> {
-        let path = env::temp_dir(rt)?.join(rt.alloc(), name)?;
-        Ok(path.into_string())
-    }
-
-    fn put(rt: &HostRuntime, name: &str, bytes: &[u8]) -> Result<(), Fail> {
-        fs::write(rt, temporary(rt, name)?.as_str(), bytes)?;
-        Ok(())
-    }
-
-    fn remove(rt: &HostRuntime, name: &str) -> Result<(), Fail> {
-        let _ = fs::remove_file(rt, temporary(rt, name)?.as_str());
-        Ok(())
-    }
-
-    fn assert_holds(
-        rt: &(impl Abort + AllocGlobal + Env + Files),
-        name: &str,
-        expected: &[u8],
-    ) -> Result<(), Fail> {
-        let bytes = fs::read(rt, temporary(rt, name)?.as_str())?;
-        assert_eq!(rt; bytes.as_slice(), expected, "in {name}");
-        Ok(())
-    }
-
-    fn assert_missing(
-        rt: &(impl Abort + AllocGlobal + Env + Files),
-        name: &str,
-    ) -> Result<(), Fail> {
-        let is_there = fs::exists(rt, temporary(rt, name)?.as_str())?;
-        assert!(rt; !is_there, "{name} is there");
-        Ok(())
-    }
-
-    // The status of `convert` of these files is 1 where something is said, and else 0.
-    fn assert_convert(
-        rt: &(impl Abort + AllocGlobal + Env + Files),
-        from: &str,
-        to: &str,
-        said: &[u8],
-    ) -> Result<(), Fail> {
-        let mut words = words_of(rt.alloc(), "convert")?;
-        words.push(temporary(rt, from)?)?;
-        words.push(temporary(rt, to)?)?;
-        let mut out = Vec::new(rt.alloc());
-        let mut err = Vec::new(rt.alloc());
-        let status = run_words(rt, rt.alloc(), words.as_slice(), &mut out, &mut err);
-        assert_eq!(rt; err.as_slice(), said, "at {from}");
-        assert_eq!(rt; status, u8::from(!said.is_empty()), "at {from}");
-        assert!(rt; out.is_empty(), "at {from}");
-        Ok(())
-    }
-
-    #[test]
-    fn converts_to_a_new_file(rt: HostRuntime) -> Result<(), Fail> {
-        put(&rt, "plist_tool_new_in", SETTINGS)?;
-        remove(&rt, "plist_tool_new_out")?;
-        assert_convert(&rt, "plist_tool_new_in", "plist_tool_new_out", b"")?;
-        assert_holds(&rt, "plist_tool_new_out", CONVERTED)?;
-        assert_holds(&rt, "plist_tool_new_in", SETTINGS)
-    }
-
-    // A longer file is cut, and a binary one is read like one in ASCII.
-    #[test]
-    fn converts_a_file_to_itself(rt: HostRuntime) -> Result<(), Fail> {
-        put(&rt, "plist_tool_same", SETTINGS)?;
-        assert_convert(&rt, "plist_tool_same", "plist_tool_same", b"")?;
-        assert_holds(&rt, "plist_tool_same", CONVERTED)?;
-        assert_convert(&rt, "plist_tool_same", "plist_tool_same", b"")?;
-        assert_holds(&rt, "plist_tool_same", CONVERTED)?;
-        put(&rt, "plist_tool_long", &[b' '; 100])?;
-        assert_convert(&rt, "plist_tool_same", "plist_tool_long", b"")?;
-        assert_holds(&rt, "plist_tool_long", CONVERTED)
-    }
-
-    #[test]
-    fn a_fault_leaves_the_other_file(rt: HostRuntime) -> Result<(), Fail> {
-        put(&rt, "plist_tool_faulty", RECURSIVE)?;
-        put(&rt, "plist_tool_stands", b"it stands")?;
-        let said = b"Error: RecursiveObject (offset 8)\n";
-        assert_convert(&rt, "plist_tool_faulty", "plist_tool_stands", said)?;
-        assert_holds(&rt, "plist_tool_stands", b"it stands")?;
-        assert_convert(&rt, "plist_tool_faulty", "plist_tool_faulty", said)?;
-        assert_holds(&rt, "plist_tool_faulty", RECURSIVE)
-    }
-
-    #[test]
-    fn xml_is_refused(rt: HostRuntime) -> Result<(), Fail> {
-        put(&rt, "plist_tool_xml", b" <plist/>")?;
-        remove(&rt, "plist_tool_of_xml")?;
-        let said = b"Error: XmlUnsupported (offset 1)\n";
-        assert_convert(&rt, "plist_tool_xml", "plist_tool_of_xml", said)?;
-        assert_missing(&rt, "plist_tool_of_xml")
-    }
-
-    // It takes no byte.
-    #[test]
-    fn a_full_device(rt: HostRuntime) -> Result<(), Fail> {
-        put(&rt, "plist_tool_for_full", SETTINGS)?;
-        assert_convert(&rt, "plist_tool_for_full", "/dev/full", b"Error: Io\n")
-    }
-
-    #[test]
-    fn files_that_cannot_be_opened(rt: HostRuntime) -> Result<(), Fail> {
-        remove(&rt, "plist_tool_of_none")?;
-        let said = b"Error: Io\n";
-        assert_convert(&rt, "plist_tool_no_folder/in", "plist_tool_of_none", said)?;
-        assert_missing(&rt, "plist_tool_of_none")?;
-        // a folder can be opened, and not read
-        assert_convert(&rt, ".", "plist_tool_of_none", b"Error: Io (offset 0)\n")?;
-        assert_missing(&rt, "plist_tool_of_none")?;
-        put(&rt, "plist_tool_whole", SETTINGS)?;
-        assert_convert(&rt, "plist_tool_whole", "plist_tool_no_folder/out", said)
     }
 }

@@ -35,8 +35,8 @@ fn tree_at(alloc: Global, root: &Value, key: &str) -> Result<Value, Failure>
 /// Prints the tree of the object that the archive in a file names by this key.
 ///
 /// # Errors
-/// Where the file can't be read as a property list, or that is no archive, has no such key, or has no
-/// such tree; and where the tree can't be printed.
+/// Where the file can't be read as a property list, or that is no archive, has no such key, or has
+/// no such tree; and where the tree can't be printed.
 pub fn keyed_file<R: Files, O: Write>(
     rt: &R,
     alloc: Global,
@@ -53,10 +53,10 @@ pub fn keyed_file<R: Files, O: Write>(
 mod tests {
     use super::*;
     use crate::commands::run_words;
+    use crate::saved::{put, temporary, words_of};
     use std::env::Env;
     use std::process::Abort;
     use std::test::Fail;
-    use std::{env, fs};
 
     // An archive of a list of one name; made by Python's `plistlib`, as the other one.
     const LIST: &[u8] = b"\
@@ -73,17 +73,6 @@ mod tests {
     const LINES: &[u8] = b"StartDictionary 2\nString \"name\"\nString \"x\"\nString \"next\"\n\
         String \"$null\"\nEndCollection\n";
 
-    // A path in the folder for temporary files.
-    fn temporary(rt: &(impl AllocGlobal + Env), name: &str) -> Result<String, Fail> {
-        let path = env::temp_dir(rt)?.join(rt.alloc(), name)?;
-        Ok(path.into_string())
-    }
-
-    fn put(rt: &HostRuntime, name: &str, bytes: &[u8]) -> Result<(), Fail> {
-        fs::write(rt, temporary(rt, name)?.as_str(), bytes)?;
-        Ok(())
-    }
-
     // The status of `keyed` of this file and key is 1 where something is said, and else 0.
     fn assert_keyed(
         rt: &(impl Abort + AllocGlobal + Env + Files),
@@ -92,8 +81,7 @@ mod tests {
         printed: &[u8],
         said: &[u8],
     ) -> Result<(), Fail> {
-        let mut words = Vec::new(rt.alloc());
-        words.push(String::from_str(rt.alloc(), "keyed")?)?;
+        let mut words = words_of(rt.alloc(), "keyed")?;
         words.push(temporary(rt, name)?)?;
         words.push(String::from_str(rt.alloc(), key)?)?;
         let mut out = Vec::new(rt.alloc());

@@ -3,19 +3,22 @@
 //! `plist_tool keyed FILE KEY` prints a tree of a keyed archive as `print` prints a file.
 #![tactic(auto)]
 
-ghost use Rattle.std.specs.Prelude.{◌≡◌, ◌≤◌, Bool, IfOk, IfErr, MatchResult};
+ghost use Rattle.std.specs.Prelude.{◌≡◌, ◌≤◌, Bool, IfOk, MatchResult};
 ghost use Rattle.std.specs.Process.{exit_status};
-ghost use Rattle.plist_base.specs.Faults.{OutOfMemory, fault_of, fault_nowhere};
+ghost use Rattle.plist_base.specs.Faults.{fault_of};
+ghost use Rattle.plist_base.specs.Outcomes.{OnlyMemory};
 ghost use Rattle.plist_tool.specs.Failures.{OfPlist};
 ghost use Rattle.plist_tool.specs.Messages.{Fault};
 
 mod commands;
+mod convert;
 mod failure;
 mod keyed;
 mod lines;
 mod messages;
 mod print;
-mod send;
+#[cfg(test)]
+mod saved;
 #[cfg(test)]
 mod trickle;
 mod values;
@@ -32,7 +35,7 @@ use std::{env, io};
 // The words after the program's name; none if one of them isn't UTF-8, since neither a command nor
 // a path has such a word here.
 fn words_given<R: Env + AllocGlobal>(rt: &R) -> Result<Vec<String>, Error>
-    ensures { IfErr result (λ error. fault_of error ≡ fault_nowhere OutOfMemory) }
+    ensures { OnlyMemory result }
 {
     match env::args(rt) {
         Ok(all) => Ok(all.skip(1).collect(rt.alloc())?),
@@ -41,11 +44,11 @@ fn words_given<R: Env + AllocGlobal>(rt: &R) -> Result<Vec<String>, Error>
     }
 }
 
-// Runs the command of the words given, over standard output, to which a command sends its lines many
-// at a time.
+// Runs the command of the words given, over standard output, to which a command sends its lines
+// many at a time.
 fn run<R: Files + Env + Print + AllocGlobal, E: Messages>(rt: &R, err: &mut E) -> Result<u8, Error>
     ensures status { IfOk result (λ status. status ≤ 2) }
-    ensures memory { IfErr result (λ error. fault_of error ≡ fault_nowhere OutOfMemory) }
+    ensures memory { OnlyMemory result }
 {
     let words = words_given(rt)?;
     let mut out = io::writer(rt);

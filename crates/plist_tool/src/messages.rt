@@ -4,7 +4,7 @@ ghost use Rattle.std.specs.Prelude.{Bool, is_ok};
 ghost use Rattle.plist_tool.specs.Messages.{Said, said_of, TakesMessage};
 
 use crate::failure::Failure;
-use crate::send::send;
+use plist_base::send::send;
 use plist_base::{Error, ErrorKind};
 use std::io::Write;
 

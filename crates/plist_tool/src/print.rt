@@ -2,14 +2,15 @@
 
 ghost use Rattle.std.specs.Prelude.{◌≡◌, ◌++◌, IfErr, IfSome, OnErr, OnOk};
 ghost use Rattle.plist_base.specs.Events.{event_of};
-ghost use Rattle.plist_binread.specs.Coming.{event_told, source_of, to_come};
+ghost use Rattle.plist_base.specs.Fronts.{AppendsFront};
+ghost use Rattle.plist_binread.specs.Coming.{event_told, source_of};
 ghost use Rattle.plist_binread.specs.Unfolding.{items_of_file};
 ghost use Rattle.plist_tool.specs.Lines.{line_of, lines_of};
-ghost use Rattle.plist_tool.specs.Fronts.{AppendsFront, PassesOn};
-ghost use Rattle.plist_tool.specs.Printing.{PrintsAll, PrintsUntil, CountsReads, IsOwnFault};
+ghost use Rattle.plist_tool.specs.Fronts.{PassesOn};
+ghost use Rattle.plist_tool.specs.Printing.{PrintsAll, PrintsRest, PrintsRestUntil, PrintsUntil, SendsFrontOfRest, CountsReads, IsOwnFault};
 
 use crate::lines::{most_bytes, push_line};
-use crate::send::{flush, send};
+use plist_base::send::{flush, send};
 use plist_base::{Error, Event, Source};
 use plist_binread::BinaryReader;
 use std::alloc::Global;
@@ -22,7 +23,7 @@ const FULL: usize = 65536;
 fn make_room<W: Write>(writer: &mut W, lines: &mut Vec<u8>, size: usize) -> Result<(), Error>
     ensures passed { OnOk result (PassesOn
         (W.contents writer.old) (W.contents writer.new) lines.old.items lines.new.items) }
-    ensures failed { IfErr result IsOwnFault }
+    ensures fault { IfErr result IsOwnFault }
     ensures front { OnErr result (AppendsFront
         (W.contents writer.old) (W.contents writer.new) lines.old.items) }
 {
@@ -34,13 +35,13 @@ fn make_room<W: Write>(writer: &mut W, lines: &mut Vec<u8>, size: usize) -> Resu
     Ok(())
 }
 
-// Puts the line of an event behind the lines that are held back, which are sent before that where it
-// may not fit. So only a line that is longer than the buffer wants memory, and none is held back
+// Puts the line of an event behind the lines that are held back, which are sent before that where
+// it may not fit. So only a line that is longer than the buffer wants memory, and none is held back
 // then.
 fn pass_line<W: Write>(writer: &mut W, lines: &mut Vec<u8>, event: &Event<'_>) -> Result<(), Error>
     ensures passed { OnOk result (PassesOn (W.contents writer.old) (W.contents writer.new)
         (lines.old.items ++ line_of (event_of event.now)) lines.new.items) }
-    ensures failed { IfErr result IsOwnFault }
+    ensures fault { IfErr result IsOwnFault }
     ensures front { OnErr result (AppendsFront (W.contents writer.old) (W.contents writer.new)
         (lines.old.items ++ line_of (event_of event.now))) }
 {
@@ -57,7 +58,7 @@ fn pass_told<S: Source, W: Write>(
 ) -> Result<(), Error>
     ensures passed { OnOk result (PassesOn (W.contents writer.old) (W.contents writer.new)
         (lines.old.items ++ line_of (event_told reader.now)) lines.new.items) }
-    ensures failed { IfErr result IsOwnFault }
+    ensures fault { IfErr result IsOwnFault }
     ensures front { OnErr result (AppendsFront (W.contents writer.old) (W.contents writer.new)
         (lines.old.items ++ line_of (event_told reader.now))) }
 {
@@ -70,13 +71,11 @@ fn send_lines<S: Source, W: Write>(
     reader: &mut BinaryReader<S>,
     writer: &mut W,
 ) -> Result<(), Error>
-    ensures printed { OnOk result (IfSome (S.known (source_of reader.old)) (λ bytes.
-        PrintsAll (to_come bytes reader.old) (W.contents writer.old) (W.contents writer.new))) }
-    ensures refused { IfErr result (λ error. IfSome (S.known (source_of reader.old)) (λ bytes.
-        PrintsUntil error (to_come bytes reader.old)
-        (W.contents writer.old) (W.contents writer.new))) }
-    ensures sent { IfSome (S.known (source_of reader.old)) (λ bytes. AppendsFront
-        (W.contents writer.old) (W.contents writer.new) (lines_of (to_come bytes reader.old))) }
+    ensures printed { OnOk result
+        (PrintsRest S.known W.contents reader.old writer.old writer.new) }
+    ensures refused { IfErr result
+        (PrintsRestUntil S.known W.contents reader.old writer.old writer.new) }
+    ensures sent { SendsFrontOfRest S.known W.contents reader.old writer.old writer.new }
     ensures unchanged { S.known (source_of reader.new) ≡ S.known (source_of reader.old) }
     ensures failures { CountsReads result
         (S.failures (source_of reader.old)) (S.failures (source_of reader.new)) }
@@ -101,13 +100,11 @@ fn print_items<S: Source, W: Write>(
     reader: &mut BinaryReader<S>,
     writer: &mut W,
 ) -> Result<(), Error>
-    ensures printed { OnOk result (IfSome (S.known (source_of reader.old)) (λ bytes.
-        PrintsAll (to_come bytes reader.old) (W.contents writer.old) (W.contents writer.new))) }
-    ensures refused { IfErr result (λ error. IfSome (S.known (source_of reader.old)) (λ bytes.
-        PrintsUntil error (to_come bytes reader.old)
-        (W.contents writer.old) (W.contents writer.new))) }
-    ensures sent { IfSome (S.known (source_of reader.old)) (λ bytes. AppendsFront
-        (W.contents writer.old) (W.contents writer.new) (lines_of (to_come bytes reader.old))) }
+    ensures printed { OnOk result
+        (PrintsRest S.known W.contents reader.old writer.old writer.new) }
+    ensures refused { IfErr result
+        (PrintsRestUntil S.known W.contents reader.old writer.old writer.new) }
+    ensures sent { SendsFrontOfRest S.known W.contents reader.old writer.old writer.new }
     ensures unchanged { S.known (source_of reader.new) ≡ S.known (source_of reader.old) }
     ensures failures { CountsReads result
         (S.failures (source_of reader.old)) (S.failures (source_of reader.new)) }
@@ -147,7 +144,7 @@ pub fn print_events<S: Source, W: Write>(
 #[cfg(test)]
 mod tests {
     use super::*;
-    use crate::trickle::{Trickle, Unreadable};
+    use crate::trickle::{Trickle, Unreadable, device_kind};
     use plist_base::Seeking;
     use std::io;
     use std::test::Fail;
@@ -188,6 +185,37 @@ mod tests {
         assert_eq!(rt; writer.writes, 21);
         assert_eq!(rt; writer.flushes, 1);
         assert_eq!(rt; writer.flushed, 20);
+    }
+
+    // Forty arrays, each of which holds the next one twice, and an empty one: 2^42 - 2 events.
+    const DOUBLING: &[u8] = b"bplist00\
+        \xa2\x01\x01\xa2\x02\x02\xa2\x03\x03\xa2\x04\x04\xa2\x05\x05\
+        \xa2\x06\x06\xa2\x07\x07\xa2\x08\x08\xa2\x09\x09\xa2\x0a\x0a\
+        \xa2\x0b\x0b\xa2\x0c\x0c\xa2\x0d\x0d\xa2\x0e\x0e\xa2\x0f\x0f\
+        \xa2\x10\x10\xa2\x11\x11\xa2\x12\x12\xa2\x13\x13\xa2\x14\x14\
+        \xa2\x15\x15\xa2\x16\x16\xa2\x17\x17\xa2\x18\x18\xa2\x19\x19\
+        \xa2\x1a\x1a\xa2\x1b\x1b\xa2\x1c\x1c\xa2\x1d\x1d\xa2\x1e\x1e\
+        \xa2\x1f\x1f\xa2\x20\x20\xa2\x21\x21\xa2\x22\x22\xa2\x23\x23\
+        \xa2\x24\x24\xa2\x25\x25\xa2\x26\x26\xa2\x27\x27\xa2\x28\x28\
+        \xa0\x08\x0b\x0e\x11\x14\x17\x1a\x1d\x20\x23\x26\x29\x2c\x2f\x32\x35\x38\x3b\x3e\x41\
+        \x44\x47\x4a\x4d\x50\x53\x56\x59\x5c\x5f\x62\x65\x68\x6b\x6e\x71\x74\x77\x7a\x7d\x80\
+        \0\0\0\0\0\0\x01\x01\0\0\0\0\0\0\0\x29\0\0\0\0\0\0\0\0\0\0\0\0\0\0\0\x81";
+
+    #[test]
+    fn stops_at_the_hundredth_write(rt: HostRuntime) {
+        let mut writer = Trickle::new(rt.alloc(), 99);
+        let answer = print_events(rt.alloc(), DOUBLING, &mut writer);
+        assert_eq!(rt;
+            device_fault(answer),
+            Some((io::ErrorKind::PermissionDenied, None))
+        );
+        assert_eq!(rt; writer.writes, 100);
+        assert_eq!(rt; writer.taken.len(), 99);
+        assert!(rt;
+            writer
+                .taken
+                .starts_with(b"StartArray 2\nStartArray 2\nStartArray 2\n")
+        );
     }
 
     #[test]
@@ -251,5 +279,51 @@ mod tests {
         let line = b"String \"a\\x22\\x5c\\x0a\\xc3\\xa9\"\n";
         assert_eq!(rt; out.as_slice(), line.as_slice());
         Ok(())
+    }
+
+    #[test]
+    fn sends_byte_by_byte(rt: HostRuntime) -> Result<(), Fail> {
+        let mut writer = Trickle::new(rt.alloc(), 100);
+        send(&mut writer, b"")?;
+        send(&mut writer, b"three")?;
+        send(&mut writer, b" words")?;
+        assert_eq!(rt; writer.taken.as_slice(), b"three words".as_slice());
+        assert_eq!(rt; writer.writes, 11);
+        assert_eq!(rt; writer.flushes, 0);
+        Ok(())
+    }
+
+    // The device's own error comes, and no write is tried again.
+    #[test]
+    fn stops_at_a_failure(rt: HostRuntime) {
+        let mut writer = Trickle::new(rt.alloc(), 3);
+        let answer = send(&mut writer, b"three");
+        assert_eq!(rt; device_kind(answer), Some(io::ErrorKind::PermissionDenied));
+        assert_eq!(rt; writer.taken.as_slice(), b"thr".as_slice());
+        assert_eq!(rt; writer.writes, 4);
+    }
+
+    #[test]
+    fn a_write_that_takes_nothing(rt: HostRuntime) {
+        let mut writer = Trickle::new(rt.alloc(), 2);
+        writer.full = None;
+        let answer = send(&mut writer, b"three");
+        assert_eq!(rt; device_kind(answer), Some(io::ErrorKind::WriteZero));
+        assert_eq!(rt; writer.taken.as_slice(), b"th".as_slice());
+        assert_eq!(rt; writer.writes, 3);
+    }
+
+    #[test]
+    fn flushes(rt: HostRuntime) {
+        let mut writer = Trickle::new(rt.alloc(), 0);
+        assert!(rt; flush(&mut writer).is_ok());
+        assert_eq!(rt; writer.flushes, 1);
+        writer.stuck = Some(io::ErrorKind::TimedOut);
+        assert_eq!(rt;
+            device_kind(flush(&mut writer)),
+            Some(io::ErrorKind::TimedOut)
+        );
+        assert_eq!(rt; writer.flushes, 2);
+        assert_eq!(rt; writer.writes, 0);
     }
 }

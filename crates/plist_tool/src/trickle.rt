@@ -1,5 +1,6 @@
 //! Devices for tests: a writer that takes little and can fail, and a file that can't be read.
 
+use plist_base::Error;
 use std::alloc::Global;
 use std::io;
 use std::io::{Read, Seek, SeekFrom, Write};
@@ -58,6 +59,12 @@ impl Write for Trickle {
             None => Ok(()),
         }
     }
+}
+
+/// What the device said.
+pub(crate) fn device_kind(answer: Result<(), Error>) -> Option<io::ErrorKind> {
+    let failure = answer.err()?.into_io().ok()?;
+    Some(failure.kind())
 }
 
 /// A file whose reads fail.

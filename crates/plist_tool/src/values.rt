@@ -1,20 +1,20 @@
 //! Prints the events of a value.
 
-ghost use Rattle.std.specs.Prelude.{Ok, IfErr, OnOk, map};
+ghost use Rattle.std.specs.Prelude.{IfErr, OnOk};
 ghost use Rattle.std.specs.Io.KnownBytes.{Appends};
 ghost use Rattle.plist_base.specs.Bracketing.{bracketing};
 ghost use Rattle.plist_base.specs.Events.{event_of};
+ghost use Rattle.plist_base.specs.Fronts.{AppendsFront};
 ghost use Rattle.plist.specs.Remaining.{remaining_events};
 ghost use Rattle.plist.specs.Views.{tree_of};
-ghost use Rattle.plist_tool.specs.Fronts.{AppendsFront};
-ghost use Rattle.plist_tool.specs.Lines.{line_of, lines_of};
+ghost use Rattle.plist_tool.specs.Lines.{line_of, lines_of_events};
 ghost use Rattle.plist_tool.specs.Printing.{IsOwnFault};
 
 use crate::lines::push_line;
-use crate::send::{flush, send};
 use plist::Value;
 use plist::stream::{Event, Events};
 use plist_base::Error;
+use plist_base::send::{flush, send};
 use std::alloc::Global;
 use std::io::Write;
 
@@ -22,7 +22,7 @@ use std::io::Write;
 fn send_event<W: Write>(writer: &mut W, line: &mut Vec<u8>, event: Event<'_>) -> Result<(), Error>
     ensures sent { OnOk result (Appends
         (W.contents writer.old) (W.contents writer.new) (line_of (event_of event.entry))) }
-    ensures failed { IfErr result IsOwnFault }
+    ensures fault { IfErr result IsOwnFault }
     ensures front { AppendsFront
         (W.contents writer.old) (W.contents writer.new) (line_of (event_of event.entry)) }
 {
@@ -38,10 +38,10 @@ fn send_events<W: Write>(
     writer: &mut W,
 ) -> Result<(), Error>
     ensures printed { OnOk result (Appends (W.contents writer.old) (W.contents writer.new)
-        (lines_of (map Ok (remaining_events events.old)))) }
-    ensures failed { IfErr result IsOwnFault }
+        (lines_of_events (remaining_events events.old))) }
+    ensures fault { IfErr result IsOwnFault }
     ensures sent { AppendsFront (W.contents writer.old) (W.contents writer.new)
-        (lines_of (map Ok (remaining_events events.old))) }
+        (lines_of_events (remaining_events events.old)) }
 {
     let mut line = Vec::new(alloc);
     while let Some(item) = events.next() {
@@ -58,10 +58,10 @@ fn send_events<W: Write>(
 /// went out. A failed flush is an error only where nothing failed before it.
 pub fn print_value<W: Write>(alloc: Global, value: &Value, writer: &mut W) -> Result<(), Error>
     ensures printed { OnOk result (Appends (W.contents writer.old) (W.contents writer.new)
-        (lines_of (map Ok (bracketing (tree_of value.now))))) }
-    ensures failed { IfErr result IsOwnFault }
+        (lines_of_events (bracketing (tree_of value.now)))) }
+    ensures fault { IfErr result IsOwnFault }
     ensures sent { AppendsFront (W.contents writer.old) (W.contents writer.new)
-        (lines_of (map Ok (bracketing (tree_of value.now)))) }
+        (lines_of_events (bracketing (tree_of value.now))) }
 {
     let mut events = value.events(alloc);
     let sent = send_events(alloc, &mut events, writer);
@@ -73,14 +73,8 @@ pub fn print_value<W: Write>(alloc: Global, value: &Value, writer: &mut W) -> Re
 #[cfg(test)]
 mod tests {
     use super::*;
-    use crate::trickle::Trickle;
+    use crate::trickle::{Trickle, device_kind};
     use std::io;
-
-    // What the device said.
-    fn device_kind(answer: Result<(), Error>) -> Option<io::ErrorKind> {
-        let failure = answer.err()?.into_io().ok()?;
-        Some(failure.kind())
-    }
 
     // The flush comes last: the line had been taken then.
     #[test]

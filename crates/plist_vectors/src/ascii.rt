@@ -1,16 +1,18 @@
 //! What `AsciiReader` reads, and its faults.
 
-use crate::support::{Device, Fault, expect_cut, expect_io, must, words_of};
+use crate::support::{By, Device, Fault, expect_io, expect_on_devices, must, words_of};
 use plist_ascii::AsciiReader;
 use plist_base::{Error, OwnedEvent};
 use std::alloc::Global;
 use std::io::ErrorKind;
 use std::process::Abort;
 
-// The items of these bytes.
+// The items of these bytes, and of devices over them.
 fn expect_bytes(rt: &(impl Abort + AllocGlobal), bytes: &[u8], items: &str) {
     let found = words_of(rt, AsciiReader::new(rt.alloc(), bytes));
     assert_eq!(rt; found.as_str(), items);
+    expect_on_devices(rt, By::Ascii, bytes, items);
+    expect_on_devices(rt, By::Sequential, bytes, items);
 }
 
 // The items of this text.
@@ -33,6 +35,8 @@ fn slashes_and_comments(rt: HostRuntime) {
     expect(&rt, "/***/z", "'z'");
     expect(&rt, "/**", "IncompleteComment (offset 3)");
     expect(&rt, "a/*x*/ b", "'a/*x*/' 'b'");
+    let text = "{ a = ('b\\U00e9', /* c */ 0x10); }";
+    expect(&rt, text, "{ 'a' [ 'b\u{e9}' 16 end end");
 }
 
 #[test]
@@ -180,31 +184,6 @@ fn every_short_input_ends(rt: HostRuntime) {
 fn device_of(rt: &(impl Abort + AllocGlobal), text: &str, call: u64, fault: Fault) -> Device {
     let bytes = must(rt, Vec::from_slice(rt.alloc(), text.as_bytes()));
     Device::with_fault(bytes, call, fault)
-}
-
-// Wherever the device fails, the items are a beginning of the text's, then `Io` behind the bytes
-// taken, then nothing. Tells whether it failed.
-fn expect_failure(rt: &(impl Abort + AllocGlobal), text: &str, whole: &str, call: u64) -> bool {
-    let mut device = device_of(rt, text, call, Fault::Fails(ErrorKind::Interrupted));
-    let found = words_of(rt, AsciiReader::new(rt.alloc(), &mut device));
-    if device.failures == 0 {
-        assert_eq!(rt; found.as_str(), whole);
-        return false;
-    }
-    assert_eq!(rt; device.place, call);
-    expect_cut(rt, &device, found.as_str(), whole);
-    true
-}
-
-#[test]
-fn failing_device(rt: HostRuntime) {
-    let text = "{ a = ('b\\U00e9', /* c */ 0x10); }";
-    let whole = "{ 'a' [ 'b\u{e9}' 16 end end";
-    let reads = text.len() as u64 + 1;
-    for call in 0..reads {
-        assert!(rt; expect_failure(&rt, text, whole, call), "at call {call}");
-    }
-    assert!(rt; !expect_failure(&rt, text, whole, reads));
 }
 
 // Nothing more comes, however often it is asked.

@@ -1,14 +1,19 @@
 //! Files that lie about themselves, and what `BinaryReader` says of them.
 
 use crate::support::walk::walk_of;
-use crate::support::{bytes_of, file, file_of, front, must, words_of};
+use crate::support::{
+    By, Device, bytes_of, expect_on_devices, expect_on_shrinking_devices, file, file_of, front,
+    must, words_of,
+};
 use plist_binread::BinaryReader;
 use std::process::Abort;
 
-// The items of these bytes.
+// The items of these bytes, and of devices over them.
 fn expect(rt: &(impl Abort + AllocGlobal), name: &str, bytes: &[u8], items: &str) {
     let found = words_of(rt, BinaryReader::new(rt.alloc(), bytes));
     assert_eq!(rt; found.as_str(), items, "{name}");
+    expect_on_devices(rt, By::Binary, bytes, items);
+    expect_on_shrinking_devices(rt, bytes, items);
 }
 
 // What stands before and behind the first bar of a line.
@@ -32,7 +37,8 @@ fn byte(rt: &impl Abort, number: u64) -> u8 {
 }
 
 // The items of a file that a line tells: what it shows, its objects and table in hexadecimal, the
-// numbers of its trailer (both widths, how many objects, the root, the place of the table), its items.
+// numbers of its trailer (both widths, how many objects, the root, the place of the table), its
+// items.
 fn expect_line(rt: &(impl Abort + AllocGlobal), line: &str) {
     let (name, rest) = cut(rt, line);
     let (body, rest) = cut(rt, rest);
@@ -99,8 +105,8 @@ fn cycles(rt: HostRuntime) {
     expect_lines(&rt, CYCLES);
 }
 
-// Forty arrays, each of the next one twice, and an empty one: 2^42 - 2 events. The first of them come
-// at once.
+// Forty arrays, each of the next one twice, and an empty one: 2^42 - 2 events. The first of them
+// come at once.
 #[test]
 fn a_small_file_that_unfolds_without_end(rt: HostRuntime) {
     let mut body = Vec::new(rt.alloc());
@@ -157,10 +163,15 @@ fn every_front_of_a_file(rt: HostRuntime) {
     }
 }
 
-// The reader agrees with a plain walk on a file one bit of which is turned.
+// The reader agrees with a plain walk on a file one bit of which is turned, at hand and with one
+// byte a call.
 fn expect_as_walked(rt: &(impl Abort + AllocGlobal), bytes: &[u8]) {
+    let walked = walk_of(rt, bytes);
     let found = words_of(rt, BinaryReader::new(rt.alloc(), bytes).take(1000));
-    assert_eq!(rt; found.as_str(), walk_of(rt, bytes).as_str());
+    assert_eq!(rt; found.as_str(), walked.as_str());
+    let mut device = Device::new(must(rt, Vec::from_slice(rt.alloc(), bytes)), u64::MAX);
+    let found = words_of(rt, BinaryReader::new(rt.alloc(), &mut device).take(1000));
+    assert_eq!(rt; found.as_str(), walked.as_str());
 }
 
 #[test]

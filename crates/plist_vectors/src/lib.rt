@@ -29,9 +29,13 @@ mod reading;
 #[cfg(test)]
 mod scalar_texts;
 #[cfg(test)]
+mod sharing;
+#[cfg(test)]
 mod sources;
 #[cfg(test)]
 mod support;
+#[cfg(test)]
+mod uses;
 #[cfg(test)]
 mod values;
 #[cfg(test)]

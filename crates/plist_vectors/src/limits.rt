@@ -1,15 +1,16 @@
 //! How deep and how long what is read may be.
 
-use crate::support::{expect_value, file, must, words_of};
+use crate::support::{By, expect_on_devices, expect_value, file, must, words_of};
 use plist::{Limits, Value};
 use plist_binread::BinaryReader;
 use std::alloc::Global;
 use std::process::Abort;
 
-// The items of these bytes under limits.
+// The items of these bytes under limits, and of devices over them.
 fn expect(rt: &(impl Abort + AllocGlobal), bytes: &[u8], limits: Limits, items: &str) {
     let found = words_of(rt, BinaryReader::with_limits(rt.alloc(), bytes, limits));
     assert_eq!(rt; found.as_str(), items);
+    expect_on_devices(rt, By::Limited(limits), bytes, items);
 }
 
 // An empty array twice in each of two arrays, which are one: fourteen events.

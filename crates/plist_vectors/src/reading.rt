@@ -1,17 +1,20 @@
 //! What `BinaryReader` reads, and its faults.
 
 use crate::support::{
-    Device, Fault, bytes_of, expect_cut, expect_io, file, file_of_object, front, words_of,
+    By, Device, Fault, bytes_of, expect_io, expect_on_devices, expect_on_shrinking_devices, file,
+    file_of_object, front, words_of,
 };
 use plist_base::{Error, OwnedEvent, read_exact_at};
 use plist_binread::BinaryReader;
 use std::io::ErrorKind;
 use std::process::Abort;
 
-// The items of these bytes.
+// The items of these bytes, and of devices over them.
 fn expect(rt: &(impl Abort + AllocGlobal), name: &str, bytes: &[u8], items: &str) {
     let found = words_of(rt, BinaryReader::new(rt.alloc(), bytes));
     assert_eq!(rt; found.as_str(), items, "{name}");
+    expect_on_devices(rt, By::Binary, bytes, items);
+    expect_on_shrinking_devices(rt, bytes, items);
 }
 
 // The items of a file with widths of one byte.
@@ -269,36 +272,10 @@ fn ends_for_good(rt: HostRuntime) {
     expect_end(&rt, b"bplist01", false);
 }
 
-const SHARED: &str = "{2 'a' [1 'x' end 'b' 'a' end";
-
-// A device over the file of those events, with a fault at this call.
+// A device over a file of seven events, with a fault at this call.
 fn device_of(rt: &(impl Abort + AllocGlobal), call: u64, fault: Fault) -> Device {
     let body = "d201020301 5161 5162 a104 5178 080d0f1113";
     Device::with_fault(file(rt, body, [1, 1], [5, 0, 21]), call, fault)
-}
-
-// Wherever the device fails, the items are a beginning of the file's, then `Io` with the place of
-// that read, then nothing. Tells whether it failed.
-fn expect_failure(rt: &(impl Abort + AllocGlobal), call: u64) -> bool {
-    let mut device = device_of(rt, call, Fault::Fails(ErrorKind::Interrupted));
-    let found = words_of(rt, BinaryReader::new(rt.alloc(), &mut device));
-    if device.failures == 0 {
-        assert_eq!(rt; found.as_str(), SHARED);
-        return false;
-    }
-    expect_cut(rt, &device, found.as_str(), SHARED);
-    true
-}
-
-#[test]
-fn failing_device(rt: HostRuntime) {
-    for call in 0..1000 {
-        if !expect_failure(&rt, call) {
-            assert!(rt; call > 50, "a failure at call {call} was lost");
-            return;
-        }
-    }
-    panic!(rt; "the device never stopped failing")
 }
 
 // The reader's first item, behind which nothing comes.

@@ -1,7 +1,8 @@
 //! Sources over a file, and what is read from their front on.
 
-use crate::support::{Device, Disk, Fault, expect_io, must};
+use crate::support::{Device, Disk, Fault, expect_io, file, must, words_of};
 use plist_base::{Seeking, Sequential, Source, read_exact_at};
+use plist_binread::BinaryReader;
 use std::io::{Cursor, ErrorKind, Read};
 use std::process::Abort;
 
@@ -88,8 +89,8 @@ fn expect_calls(rt: &(impl Abort + AllocGlobal), places: &[u32], calls: u64) {
     assert_eq!(rt; source.into_inner().calls, calls, "{places:?}");
 }
 
-// Parts of a file in turn are read once each, two in one slot too (half a MiB apart). A third one of
-// the slot takes the place of the one that was filled first.
+// Parts of a file in turn are read once each, two in one slot too (half a MiB apart). A third one
+// of the slot takes the place of the one that was filled first.
 #[test]
 fn keeps_its_windows(rt: HostRuntime) {
     expect_calls(&rt, &[0, 8_192, 5, 80_000, 8_200, 3, 80_005], 6);
@@ -144,6 +145,46 @@ fn goes_on_after_a_failure(rt: HostRuntime) {
     for call in 0..4 {
         expect_failure(&rt, call);
     }
+}
+
+// The items of a file of seven events that gives a byte a read and fails at this call, with the
+// offset of `Io` left out. Tells whether it failed.
+fn expect_items_of_disk(rt: &(impl Abort + AllocGlobal), windows: bool, call: u64) -> bool {
+    let body = "d201020301 5161 5162 a104 5178 080d0f1113";
+    let whole = "{2 'a' [1 'x' end 'b' 'a' end";
+    let mut disk = Disk::new(file(rt, body, [1, 1], [5, 0, 21]), call);
+    disk.most = 1;
+    let source = match windows {
+        true => Seeking::with_windows(rt.alloc(), &mut disk),
+        false => Seeking::new(&mut disk),
+    };
+    let found = words_of(rt, BinaryReader::new(rt.alloc(), source));
+    if disk.failures == 0 {
+        assert_eq!(rt; found.as_str(), whole);
+        return false;
+    }
+    assert_eq!(rt; disk.calls, call.saturating_add(1));
+    match found.split_once("Io (offset ") {
+        None => panic!(rt; "at call {call} came {found}"),
+        Some((before, _)) => assert!(rt; whole.starts_with(before.trim_end()), "at call {call}"),
+    }
+    true
+}
+
+fn expect_items_of_disks(rt: &(impl Abort + AllocGlobal), windows: bool) {
+    for call in 0..1000 {
+        if !expect_items_of_disk(rt, windows, call) {
+            assert!(rt; call > 20, "a failure at call {call} was lost");
+            return;
+        }
+    }
+    panic!(rt; "the disk never stopped failing")
+}
+
+#[test]
+fn items_of_failing_files(rt: HostRuntime) {
+    expect_items_of_disks(&rt, false);
+    expect_items_of_disks(&rt, true);
 }
 
 // The reader's next bytes, where the buffer has this much room.

@@ -1,7 +1,8 @@
 //! The whole way: what is read of either format, the value of it, and the file of that.
 
 use crate::support::{
-    Device, Fault, bytes_of, expect_cut, expect_io, expect_value, file, must, words_of,
+    By, Device, Fault, bytes_of, expect_io, expect_on_devices, expect_value,
+    expect_value_on_devices, file, must, words_of,
 };
 use plist::Value;
 use plist_base::{Error, OwnedEvent};
@@ -9,10 +10,11 @@ use plist_reader::Reader;
 use std::io::ErrorKind;
 use std::process::Abort;
 
-// The items of these bytes.
+// The items of these bytes, and of devices over them.
 fn expect(rt: &(impl Abort + AllocGlobal), bytes: &[u8], items: &str) {
     let found = words_of(rt, Reader::new(rt.alloc(), bytes));
     assert_eq!(rt; found.as_str(), items);
+    expect_on_devices(rt, By::Either, bytes, items);
 }
 
 #[test]
@@ -23,6 +25,7 @@ fn ascii_is_chosen(rt: HostRuntime) {
     expect(&rt, b"bplist0", "'bplist0'");
     expect(&rt, b"bplist01", "'bplist01'");
     expect(&rt, b"\x0b<", "'\u{b}<'");
+    expect(&rt, b" { a = (b, 5); }", "{ 'a' [ 'b' 5 end end");
 }
 
 #[test]
@@ -30,6 +33,9 @@ fn binary_is_chosen(rt: HostRuntime) {
     expect(&rt, b"bplist00", "UnexpectedEof (offset 8)");
     let bytes = file(&rt, "09 08", [1, 1], [1, 0, 9]);
     expect(&rt, bytes.as_slice(), "true");
+    let body = "d201020301 5161 5162 a104 5178 080d0f1113";
+    let shared = file(&rt, body, [1, 1], [5, 0, 21]);
+    expect(&rt, shared.as_slice(), "{2 'a' [1 'x' end 'b' 'a' end");
 }
 
 #[test]
@@ -38,6 +44,7 @@ fn xml_is_refused(rt: HostRuntime) {
     expect(&rt, b" <plist/>", "XmlUnsupported (offset 1)");
     expect(&rt, b"\xef\xbb\xbf<", "XmlUnsupported (offset 3)");
     expect(&rt, b"\x09\x0a\x0c\x0d\x20<", "XmlUnsupported (offset 5)");
+    expect(&rt, b"\t <plist/>", "XmlUnsupported (offset 2)");
 }
 
 // The value of these bytes.
@@ -48,6 +55,7 @@ fn value_of(rt: &(impl Abort + AllocGlobal), bytes: &[u8]) -> Result<Value, Erro
 // The events of the value of these bytes, or its fault.
 fn expect_read(rt: &(impl Abort + AllocGlobal), bytes: &[u8], wanted: &str) {
     expect_value(rt, value_of(rt, bytes), wanted);
+    expect_value_on_devices(rt, bytes, wanted);
 }
 
 #[test]
@@ -107,44 +115,6 @@ fn ascii_is_converted(rt: HostRuntime) {
     assert_eq!(rt; file.len(), 67);
     expect_file(&rt, b"{ name = James, age = 42 }", file.as_slice());
     expect_file(&rt, file.as_slice(), file.as_slice());
-}
-
-// Over a device that fails at this call the items are a beginning of the whole's, then `Io` with the
-// place of that read, then nothing. Tells whether it failed.
-fn expect_failure(rt: &(impl Abort + AllocGlobal), bytes: &[u8], whole: &str, call: u64) -> bool {
-    let mut device = Device::new(must(rt, Vec::from_slice(rt.alloc(), bytes)), call);
-    let found = words_of(rt, Reader::new(rt.alloc(), &mut device));
-    if device.failures == 0 {
-        assert_eq!(rt; found.as_str(), whole);
-        return false;
-    }
-    expect_cut(rt, &device, found.as_str(), whole);
-    true
-}
-
-// It fails at each call up to the one that is never made, which comes after this many.
-fn expect_failures(rt: &(impl Abort + AllocGlobal), bytes: &[u8], whole: &str, calls: u64) {
-    for call in 0..1000 {
-        if !expect_failure(rt, bytes, whole, call) {
-            assert!(rt; call > calls, "a failure at call {call} was lost");
-            return;
-        }
-    }
-    panic!(rt; "the device never stopped failing")
-}
-
-#[test]
-fn failing_devices(rt: HostRuntime) {
-    let shared = file(
-        &rt,
-        "d201020301 5161 5162 a104 5178 080d0f1113",
-        [1, 1],
-        [5, 0, 21],
-    );
-    let items = "{2 'a' [1 'x' end 'b' 'a' end";
-    expect_failures(&rt, shared.as_slice(), items, 50);
-    expect_failures(&rt, b" { a = (b, 5); }", "{ 'a' [ 'b' 5 end end", 16);
-    expect_failures(&rt, b"\t <plist/>", "XmlUnsupported (offset 2)", 2);
 }
 
 // The only item, if there is one.

@@ -1,11 +1,11 @@
 //! What `BinaryWriter` writes, byte by byte, and that `BinaryReader` reads the same events of it.
 
 use crate::support::{
-    Device, Fault, event_of, expect_answers, expect_io, file, file_of, file_of_object, front, must,
-    text_of, words_of, words_of_value,
+    Device, Fault, event_of, expect_answers, expect_file_on_devices, file, file_of, file_of_object,
+    must, words_of, words_of_value,
 };
 use plist::{Builder, Value};
-use plist_base::{Error, Writer};
+use plist_base::Writer;
 use plist_binread::BinaryReader;
 use plist_binwrite::BinaryWriter;
 use std::io::ErrorKind;
@@ -49,7 +49,7 @@ fn expect(rt: &(impl Abort + AllocGlobal), name: &str, words: &str, bytes: &[u8]
     assert_eq!(rt; read.as_str(), words, "{name}");
 }
 
-// So does the value, and the file the value.
+// So does the value, and the file the value; and on devices the file is sent alike.
 fn expect_value(rt: &(impl Abort + AllocGlobal), name: &str, words: &str, bytes: &[u8]) {
     expect(rt, name, words, bytes);
     let read = Value::from_events(rt.alloc(), BinaryReader::new(rt.alloc(), bytes));
@@ -60,6 +60,8 @@ fn expect_value(rt: &(impl Abort + AllocGlobal), name: &str, words: &str, bytes:
         bytes,
         "the value: {name}"
     );
+    let fault = Fault::Fails(ErrorKind::Interrupted);
+    expect_file_on_devices(rt, words, &value_of(rt, words), bytes, fault);
 }
 
 // So it is with the file of these objects and their table, with widths of one byte.
@@ -315,11 +317,6 @@ fn files_stand_behind_each_other(rt: HostRuntime) {
     expect_written(&rt, "true true", two.as_slice());
 }
 
-// A device that takes bytes, with a fault at this call.
-fn device_of(rt: &(impl Abort + AllocGlobal), call: u64, fault: Fault) -> Device {
-    Device::with_fault(Vec::new(rt.alloc()), call, fault)
-}
-
 // Two files went to the device, a byte a call and a flush behind each, and no call failed.
 fn expect_two_files(rt: &(impl Abort + AllocGlobal), device: &Device) {
     let mut both = one_file(rt);
@@ -354,103 +351,31 @@ fn send(rt: &(impl Abort + AllocGlobal), words: &str, device: &mut Device) {
     must(rt, value_of(rt, words).to_writer_binary(rt.alloc(), device));
 }
 
-// The device fails at this call: these bytes went out, and the writer never asks it again.
-fn expect_failure(rt: &(impl Abort + AllocGlobal), fails_at: u64, bytes: &[u8]) {
-    let device = Device::new(Vec::new(rt.alloc()), fails_at);
-    let mut writer = BinaryWriter::new(rt.alloc(), device);
-    expect_answers(rt, &mut writer, "true true", "Io; WriterFailed");
-    let device = writer.into_inner();
-    assert_eq!(rt; device.bytes.as_slice(), bytes, "at call {fails_at}");
-    assert_eq!(rt; device.failures, 1, "at call {fails_at}");
-    assert_eq!(rt;
-        device.calls,
-        fails_at.saturating_add(1),
-        "at call {fails_at}"
-    );
+// A file of seven events is sent to a device with this fault, at each of its calls in turn.
+fn expect_fault(rt: &(impl Abort + AllocGlobal), fault: Fault) {
+    let words = "{2 'a' [1 'x' end 'b' 'a' end";
+    let body = "d201020301 5161 5162 a104 5178 080d0f1113";
+    let bytes = file(rt, body, [1, 1], [5, 0, 21]);
+    assert_eq!(rt; bytes.len(), 58);
+    expect_file_on_devices(rt, words, &value_of(rt, words), bytes.as_slice(), fault);
 }
 
-#[test]
-fn a_failed_write_ends_the_writer(rt: HostRuntime) {
-    let whole = one_file(&rt);
-    for fails_at in 0..42u32 {
-        let sent = front(whole.as_slice(), fails_at as usize);
-        expect_failure(&rt, u64::from(fails_at), sent);
-    }
-}
-
-#[test]
-fn a_failed_flush_ends_the_writer(rt: HostRuntime) {
-    expect_failure(&rt, 42, one_file(&rt).as_slice());
-}
-
-// A value stands behind what was written before; where the device fails at this call, so many bytes
-// of its file went out, and it isn't asked again.
-fn expect_sent(rt: &(impl Abort + AllocGlobal), fails_at: u64, answer: &str, bytes: &[u8]) {
-    let mut device = device_of(rt, fails_at, Fault::Fails(ErrorKind::Interrupted));
-    must(rt, device.bytes.extend_from_slice(b"before"));
-    let found = text_of(
-        rt,
-        Value::Boolean(true).to_writer_binary(rt.alloc(), &mut device),
-    );
-    assert_eq!(rt; found.as_str(), answer, "at call {fails_at}");
-    let mut wanted = must(rt, Vec::from_slice(rt.alloc(), b"before"));
-    must(rt, wanted.extend_from_slice(bytes));
-    assert_eq!(rt;
-        device.bytes.as_slice(),
-        wanted.as_slice(),
-        "at call {fails_at}"
-    );
-    let calls = fails_at.saturating_add(1).min(43);
-    assert_eq!(rt; device.calls, calls, "at call {fails_at}");
-}
-
-#[test]
-fn a_value_is_sent_whole_or_a_front_of_it(rt: HostRuntime) {
-    let whole = one_file(&rt);
-    for fails_at in 0..42u32 {
-        let sent = front(whole.as_slice(), fails_at as usize);
-        expect_sent(&rt, u64::from(fails_at), "Io", sent);
-    }
-    expect_sent(&rt, 42, "Io", whole.as_slice());
-    expect_sent(&rt, 43, "ok", whole.as_slice());
-}
-
-// What the writer answers to the event `true`.
-fn write_true(writer: &mut BinaryWriter<Device>) -> Result<(), Error> {
-    writer.write_boolean(true)
-}
-
-// With this fault at this call of the device, a writer and a value answer an error of this kind, and
-// don't ask again.
-fn expect_handed_on(rt: &(impl Abort + AllocGlobal), call: u64, fault: Fault, kind: ErrorKind) {
-    let mut writer = BinaryWriter::new(rt.alloc(), device_of(rt, call, fault));
-    expect_io(rt, write_true(&mut writer), kind, None);
-    let device = writer.into_inner();
-    assert_eq!(rt; device.calls, call.saturating_add(1));
-    let mut device = device_of(rt, call, fault);
-    let answer = Value::Boolean(true).to_writer_binary(rt.alloc(), &mut device);
-    expect_io(rt, answer, kind, None);
-    assert_eq!(rt; device.calls, call.saturating_add(1));
-}
-
-// A device's own error is handed on, at a write and at the flush.
+// A device's own error is handed on, at each write and at the flush, and isn't followed by another
+// call.
 #[test]
 fn errors_of_devices(rt: HostRuntime) {
-    for call in [0u64, 5, 42] {
-        for kind in [
-            ErrorKind::Interrupted,
-            ErrorKind::TimedOut,
-            ErrorKind::PermissionDenied,
-            ErrorKind::StorageFull,
-        ] {
-            expect_handed_on(&rt, call, Fault::Fails(kind), kind);
-        }
+    for kind in [
+        ErrorKind::Interrupted,
+        ErrorKind::TimedOut,
+        ErrorKind::PermissionDenied,
+        ErrorKind::StorageFull,
+    ] {
+        expect_fault(&rt, Fault::Fails(kind));
     }
 }
 
 // A device that takes no byte.
 #[test]
 fn nothing_is_taken(rt: HostRuntime) {
-    expect_handed_on(&rt, 0, Fault::MovesNothing, ErrorKind::WriteZero);
-    expect_handed_on(&rt, 5, Fault::MovesNothing, ErrorKind::WriteZero);
+    expect_fault(&rt, Fault::MovesNothing);
 }

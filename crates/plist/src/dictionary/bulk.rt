@@ -1,6 +1,6 @@
 //! Calls that go over all pairs.
 
-ghost use Rattle.std.specs.Prelude.{◌≡◌, ◌≤◌, IfErr, IfOk, OnErr, OnOk, [], IsPermutation, IsSorted, length, map, string_cmp};
+ghost use Rattle.std.specs.Prelude.{◌≡◌, ◌≤◌, IfOk, OnErr, OnOk, [], IsPermutation, IsSorted, length, map, string_cmp};
 ghost use Rattle.std.specs.Cmp.Lexicographic.{slice_cmp};
 ghost use Rattle.std.specs.Ordering.{nat_cmp};
 ghost use Rattle.std.specs.List.{IsDistinct};
@@ -9,7 +9,7 @@ ghost use Rattle.std.specs.Str.{bytes_eq};
 ghost use Rattle.std.specs.Vec.{vec_capacity};
 ghost use Rattle.indexmap.specs.IndexSet.{spare};
 ghost use Rattle.plist.specs.Shown.{shown_owned_pair};
-ghost use Rattle.plist_base.specs.Faults.{OutOfMemory, fault_nowhere, fault_of};
+ghost use Rattle.plist_base.specs.Outcomes.{OnlyMemory};
 
 use crate::dictionary::Pairs;
 use indexmap::IndexSet;
@@ -44,8 +44,8 @@ impl<V> Pairs<V> {
     ///
     /// # Errors
     ///
-    /// `OutOfMemory`: the pairs before the one that found no memory are inserted; that one and those
-    /// behind it are dropped.
+    /// `OutOfMemory`: the pairs before the one that found no memory are inserted; that one and
+    /// those behind it are dropped.
     pub fn extend<I: IntoIterator<Item = (String, V)>>(&mut self, pairs: I) -> Result<(), Error>
     where
         V: Drop,
@@ -53,7 +53,7 @@ impl<V> Pairs<V> {
             → I.IntoIter.can_next iter × IsFinite (I.IntoIter.remaining iter) }
         ensures pairs { (iter : I.IntoIter) × I.into_iter_gives pairs iter
             × ExtendsBy I.IntoIter.next_gives iter self.old result self.new }
-        ensures memory { IfErr result (λ error. fault_of error ≡ fault_nowhere OutOfMemory) }
+        ensures memory { OnlyMemory result }
     {
         let mut rest = pairs.into_iter();
         while let Some((key, value)) = rest.next() {
@@ -80,7 +80,7 @@ impl<V> Pairs<V> {
             → I.IntoIter.can_next iter × IsFinite (I.IntoIter.remaining iter) }
         ensures pairs { IfOk result (λ made. (iter : I.IntoIter) × I.into_iter_gives pairs iter
             × IsMadeOf I.IntoIter.next_gives iter made) }
-        ensures memory { IfErr result (λ error. fault_of error ≡ fault_nowhere OutOfMemory) }
+        ensures memory { OnlyMemory result }
     {
         let mut made = Pairs::new(alloc);
         match made.extend(pairs) {
@@ -99,7 +99,7 @@ impl<V> Pairs<V> {
         V: Drop,
         ensures sorted { OnOk result (IsSorted (slice_cmp nat_cmp) (keys_of self.new)) }
         ensures pairs { OnOk result (IsPermutation self.old self.new) }
-        ensures memory { IfErr result (λ error. fault_of error ≡ fault_nowhere OutOfMemory) }
+        ensures memory { OnlyMemory result }
         ensures unchanged { OnErr result (self.new ≡ self.old) }
     {
         let alloc = self.allocator();

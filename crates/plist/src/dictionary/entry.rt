@@ -82,8 +82,8 @@ impl<'a, V> OccupiedEntry<'a, V> {
         ensures* writes_back { sem 𝓛 (occupied_lends V.row self.entry result) }
         ensures value { entry_value (Occupied self.old) ≡ Some result.now }
     {
-        let at = self.at;
-        self.pairs.value_at(at)
+        let place = self.at;
+        self.pairs.value_at(place)
     }
 
     /// The key's value, to be changed for as long as the dictionary is lent.

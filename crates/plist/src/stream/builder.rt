@@ -5,10 +5,8 @@ ghost use Rattle.plist_base.specs.Bracketing.{AreAlike, bracketing};
 ghost use Rattle.plist_base.specs.Events.{event_of};
 ghost use Rattle.plist_base.specs.Faults.{fault_of};
 ghost use Rattle.plist_base.specs.Writing.{answer_of};
-ghost use Rattle.plist.specs.Building.{IsNested, IsNested-prop, IsUnfinished, complete_tree, events_so_far, nothing_built, refusal_of};
-ghost use Rattle.plist.specs.Partials.{unfinished_of};
-ghost use Rattle.plist.specs.LastWins.{with_pair};
-ghost use Rattle.plist.specs.Steps.{carried_on};
+ghost use Rattle.plist.specs.Building.{IsNested, IsNested-prop, IsUnfinished, complete_tree, events_so_far, nothing_built};
+ghost use Rattle.plist.specs.Partials.{CarriesOn, unfinished_of};
 ghost use Rattle.plist.specs.Views.{tree_of};
 
 use crate::Value;
@@ -33,8 +31,8 @@ pub struct Builder {
 }
 
 impl Builder {
-    ghost use Rattle.plist.specs.Builders.{IsBuildingStep, built_of};
-    ghost use Rattle.plist.specs.Collecting.{IsRefusal, Refuses, Takes, item_by};
+    ghost use Rattle.plist.specs.Builders.{IsBuildingStep, RefusesItem, TakesItem, built_of};
+    ghost use Rattle.plist.specs.Collecting.{item_by};
 
     /// A builder that holds no events.
     pub fn new(alloc: Global) -> Builder
@@ -51,12 +49,9 @@ impl Builder {
     pub(crate) fn take(&mut self, event: Event<'_>) -> Result<(), Error>
         ensures step { IsBuildingStep self.old (event_of event.entry) (answer_of result) self.new }
         ensures carried { OnOk result
-            (carried_on with_pair (built_of self.old).unfinished (event_of event.entry)
-            ≡ Some (built_of self.new).unfinished) }
-        ensures refused { (built_of self.old).failed ≡ false
-            → IfErr result (λ error.
-            IsRefusal (refusal_of (built_of self.old).unfinished (event_of event.entry))
-            (fault_of error)) }
+            (CarriesOn self.old.partial (event_of event.entry) self.new.partial) }
+        ensures refused { (built_of self.old).failed ≡ false → IfErr result (λ error.
+            RefusesItem self.old (Ok (event_of event.entry)) (fault_of error)) }
     {
         if self.failed {
             return Err(ErrorKind::WriterFailed.without_position());
@@ -78,11 +73,9 @@ impl Builder {
     // Takes the event of an item, or passes its fault on.
     pub(crate) fn take_item<E: AnyEvent>(&mut self, item: Result<E, Error>) -> Result<(), Error>
         requires { (built_of self.old).failed ≡ false }
-        ensures taken { OnOk result
-            (Takes (built_of self.old) (item_by E.plain item) (built_of self.new)) }
-        ensures refused { IfErr result
-            (λ error. Refuses (built_of self.old).unfinished (item_by E.plain item)
-            (fault_of error)) }
+        ensures taken { OnOk result (TakesItem self.old (item_by E.plain item) self.new) }
+        ensures refused { IfErr result (λ error.
+            RefusesItem self.old (item_by E.plain item) (fault_of error)) }
     {
         let event = item?;
         event.hand_to(self)
@@ -104,7 +97,8 @@ impl Builder {
             (λ value. complete_tree (built_of self.old).unfinished ≡ Some (tree_of value)) }
         ensures working { OnOk result ((built_of self.old).failed ≡ false) }
         ensures emptied { OnOk result (built_of self.new ≡ nothing_built) }
-        ensures refused { IfErr result (λ error. IsUnfinished (built_of self.old) (fault_of error)) }
+        ensures refused { IfErr result (λ error.
+            IsUnfinished (built_of self.old) (fault_of error)) }
         ensures unchanged { OnErr result (self.new ≡ self.old) }
     {
         let failed = self.failed;
@@ -121,18 +115,16 @@ impl Builder {
 /// An event, whatever it borrows: an [`Event`] of any lifetime.
 pub trait AnyEvent: Drop {
     ghost use Rattle.plist_base.specs.Events.{PlainEvent};
-    ghost use Rattle.plist.specs.Builders.{built_of};
-    ghost use Rattle.plist.specs.Collecting.{Refuses, Takes};
+    ghost use Rattle.plist.specs.Builders.{RefusesItem, TakesItem, built_of};
 
     ghost plain: { Self → PlainEvent };
 
     /// Hands the event to a builder that hasn't failed.
     fn hand_to(self, builder: &mut Builder) -> Result<(), Error>
         requires { (built_of builder.old).failed ≡ false }
-        ensures taken { OnOk result
-            (Takes (built_of builder.old) (Ok (plain self)) (built_of builder.new)) }
-        ensures refused { IfErr result
-            (λ error. Refuses (built_of builder.old).unfinished (Ok (plain self)) (fault_of error)) };
+        ensures taken { OnOk result (TakesItem builder.old (Ok (plain self)) builder.new) }
+        ensures refused { IfErr result (λ error.
+            RefusesItem builder.old (Ok (plain self)) (fault_of error)) };
 }
 
 impl<'a> AnyEvent for Event<'a> {

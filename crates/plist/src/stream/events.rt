@@ -1,9 +1,9 @@
 //! The events of a value.
 
-ghost use Rattle.std.specs.Prelude.{◌≡◌, ◌++◌, ◌∷◌, IfErr, None, OnErr, OnOk, []};
+ghost use Rattle.std.specs.Prelude.{◌≡◌, ◌++◌, ◌∷◌, None, OnErr, OnOk, []};
 ghost use Rattle.plist_base.specs.Bracketing.{bracketing};
 ghost use Rattle.plist_base.specs.Events.{EndCollection};
-ghost use Rattle.plist_base.specs.Faults.{OutOfMemory, fault_nowhere, fault_of};
+ghost use Rattle.plist_base.specs.Outcomes.{OnlyMemory};
 ghost use Rattle.plist.specs.Remaining.{left_of_level, remaining_events};
 ghost use Rattle.plist.specs.Views.{tree_of};
 
@@ -86,7 +86,7 @@ impl<'a> Events<'a> {
         ensures opened { OnOk result
             (remaining_events self.new
             ≡ left_of_level level.entry ++ EndCollection ∷ remaining_events self.old) }
-        ensures memory { IfErr result (λ error. fault_of error ≡ fault_nowhere OutOfMemory) }
+        ensures memory { OnlyMemory result }
         ensures nothing { OnErr result (remaining_events self.new ≡ []) }
     {
         match self.levels.push(level) {

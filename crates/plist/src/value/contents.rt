@@ -30,7 +30,7 @@ impl Value {
             ≡ array_in (tree_of self.now) }
     {
         match self {
-            Value::Array(items) => Some(items),
+            Value::Array(array) => Some(array),
             _ => None,
         }
     }
@@ -43,7 +43,7 @@ impl Value {
             ≡ array_in (tree_of self.old) }
     {
         match self {
-            Value::Array(items) => Some(items),
+            Value::Array(lent) => Some(lent),
             _ => None,
         }
     }
@@ -64,7 +64,7 @@ impl Value {
             ≡ dictionary_in (tree_of self.now) }
     {
         match self {
-            Value::Dictionary(pairs) => Some(pairs),
+            Value::Dictionary(dictionary) => Some(dictionary),
             _ => None,
         }
     }
@@ -77,7 +77,7 @@ impl Value {
             ≡ dictionary_in (tree_of self.old) }
     {
         match self {
-            Value::Dictionary(pairs) => Some(pairs),
+            Value::Dictionary(lent) => Some(lent),
             _ => None,
         }
     }
@@ -191,7 +191,7 @@ impl Value {
         ensures { option_copied result ≡ uid_in (tree_of self.now) }
     {
         match self {
-            Value::Uid(uid) => Some(uid),
+            Value::Uid(lent) => Some(lent),
             _ => None,
         }
     }

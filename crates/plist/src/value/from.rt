@@ -30,27 +30,11 @@ impl From<bool> for Value {
     }
 }
 
-impl<'a> From<&'a bool> for Value {
-    ghost from_gives = { λ flag value. value ≡ made.Boolean flag.now };
-
-    fn from(value: &'a bool) -> Value {
-        Value::Boolean(*value)
-    }
-}
-
 impl From<Date> for Value {
     ghost from_gives = { λ date value. value ≡ made.Date date };
 
     fn from(value: Date) -> Value {
         Value::Date(value)
-    }
-}
-
-impl<'a> From<&'a Date> for Value {
-    ghost from_gives = { λ date value. value ≡ made.Date date.now };
-
-    fn from(value: &'a Date) -> Value {
-        Value::Date(*value)
     }
 }
 
@@ -62,27 +46,11 @@ impl From<i64> for Value {
     }
 }
 
-impl<'a> From<&'a i64> for Value {
-    ghost from_gives = { λ number value. value ≡ made.Integer number.now };
-
-    fn from(value: &'a i64) -> Value {
-        Value::Integer(Integer::from(*value))
-    }
-}
-
 impl From<i32> for Value {
     ghost from_gives = { λ number value. value ≡ made.Integer number };
 
     fn from(value: i32) -> Value {
         Value::Integer(Integer::from(value))
-    }
-}
-
-impl<'a> From<&'a i32> for Value {
-    ghost from_gives = { λ number value. value ≡ made.Integer number.now };
-
-    fn from(value: &'a i32) -> Value {
-        Value::Integer(Integer::from(*value))
     }
 }
 
@@ -94,27 +62,11 @@ impl From<i16> for Value {
     }
 }
 
-impl<'a> From<&'a i16> for Value {
-    ghost from_gives = { λ number value. value ≡ made.Integer number.now };
-
-    fn from(value: &'a i16) -> Value {
-        Value::Integer(Integer::from(*value))
-    }
-}
-
 impl From<i8> for Value {
     ghost from_gives = { λ number value. value ≡ made.Integer number };
 
     fn from(value: i8) -> Value {
         Value::Integer(Integer::from(value))
-    }
-}
-
-impl<'a> From<&'a i8> for Value {
-    ghost from_gives = { λ number value. value ≡ made.Integer number.now };
-
-    fn from(value: &'a i8) -> Value {
-        Value::Integer(Integer::from(*value))
     }
 }
 
@@ -126,27 +78,11 @@ impl From<u64> for Value {
     }
 }
 
-impl<'a> From<&'a u64> for Value {
-    ghost from_gives = { λ number value. value ≡ made.Integer (pos number.now) };
-
-    fn from(value: &'a u64) -> Value {
-        Value::Integer(Integer::from(*value))
-    }
-}
-
 impl From<u32> for Value {
     ghost from_gives = { λ number value. value ≡ made.Integer (pos number) };
 
     fn from(value: u32) -> Value {
         Value::Integer(Integer::from(value))
-    }
-}
-
-impl<'a> From<&'a u32> for Value {
-    ghost from_gives = { λ number value. value ≡ made.Integer (pos number.now) };
-
-    fn from(value: &'a u32) -> Value {
-        Value::Integer(Integer::from(*value))
     }
 }
 
@@ -158,14 +94,6 @@ impl From<u16> for Value {
     }
 }
 
-impl<'a> From<&'a u16> for Value {
-    ghost from_gives = { λ number value. value ≡ made.Integer (pos number.now) };
-
-    fn from(value: &'a u16) -> Value {
-        Value::Integer(Integer::from(*value))
-    }
-}
-
 impl From<u8> for Value {
     ghost from_gives = { λ number value. value ≡ made.Integer (pos number) };
 
@@ -174,18 +102,19 @@ impl From<u8> for Value {
     }
 }
 
-impl<'a> From<&'a u8> for Value {
-    ghost from_gives = { λ number value. value ≡ made.Integer (pos number.now) };
-
-    fn from(value: &'a u8) -> Value {
-        Value::Integer(Integer::from(*value))
-    }
-}
-
 impl From<String> for Value {
     ghost from_gives = { λ text value. value ≡ made.String text };
 
     fn from(value: String) -> Value {
         Value::String(value)
+    }
+}
+
+/// What is lent is copied.
+impl<'a, T: Into<Value> + Copy> From<&'a T> for Value {
+    ghost from_gives = { λ lent value. T.Into.converts lent.now value };
+
+    fn from(value: &'a T) -> Value {
+        (*value).into()
     }
 }

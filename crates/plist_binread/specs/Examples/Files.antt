@@ -16,7 +16,8 @@ digit_value code = if nat_lt code 58 then code - 48 else code - 87
 
 -- the bytes that these digits tell, two a byte; a space may stand between two bytes
 abbrev pub bytes_of_digits : List ℕ → List ℕ
-bytes_of_digits (high ∷ low ∷ rest) = (16 * digit_value high + digit_value low) ∷ bytes_of_digits rest
+bytes_of_digits (high ∷ low ∷ rest) =
+    (16 * digit_value high + digit_value low) ∷ bytes_of_digits rest
 bytes_of_digits rest = []
 
 -- these bytes, in hexadecimal
@@ -46,6 +47,8 @@ file objects t = magic ++ hex objects ++ bytes_of_trailer t
 
 -- what a worked example unfolds, to compute the items of a file
 unfoldable pub worked_files : ⊤
-unfolding head_of object_in unfolding_of items_of_file is_utf8 chars encode utf16_chars real_exponent
-    real_mantissa real_scale parts_in_second parts_of whole_seconds parts_left real_second second_of_bits
+unfolding head_of object_in unfolding_of items_of_file is_utf8 chars encode utf16_chars
+    real_exponent
+    real_mantissa real_scale parts_in_second parts_of whole_seconds parts_left real_second
+    second_of_bits
 worked_files = tt

@@ -13,7 +13,10 @@ use std::process::Abort;
 #[derive(Clone, Copy)]
 pub(crate) enum Fault {
     Fails(ErrorKind),
+    // A read gives nothing; a write takes nothing, and that is a failure.
     MovesNothing,
+    // From there on so many bytes are left to be read.
+    Shrinks(usize),
 }
 
 // It moves one byte a call, but for one call, counting from 0. A second try of that would succeed.
@@ -64,6 +67,10 @@ impl Device {
         }
         match self.fault {
             Fault::MovesNothing => Ok(false),
+            Fault::Shrinks(left) => {
+                self.bytes.truncate(left);
+                Ok(true)
+            }
             Fault::Fails(kind) => {
                 self.failures = self.failures.saturating_add(1);
                 Err(io::Error::from(kind))
@@ -121,7 +128,11 @@ impl Read for Device {
 
 impl Write for Device {
     fn write(&mut self, buf: &[u8]) -> io::Result<usize> {
-        if !self.call(self.moved as u64)? || buf.is_empty() {
+        if !self.call(self.moved as u64)? {
+            self.failures = self.failures.saturating_add(1);
+            return Ok(0);
+        }
+        if buf.is_empty() {
             return Ok(0);
         }
         self.bytes.push(buf[0])?;
@@ -155,13 +166,13 @@ pub(crate) fn expect_io<T: Drop>(
     }
 }
 
-// The device failed once, at its last call and the place of that, and the items are a beginning of
-// the whole and then that fault.
+// The device failed once, at its last call, and behind the items before that stands that fault,
+// with the place of the call.
 pub(crate) fn expect_cut(
     rt: &(impl Abort + AllocGlobal),
     device: &Device,
     items: &str,
-    whole: &str,
+    before: &str,
 ) {
     let call = device.faulty_call;
     assert_eq!(rt; device.failures, 1, "at call {call}");
@@ -169,7 +180,7 @@ pub(crate) fn expect_cut(
     let fault = format!(in rt.alloc(); "Io (offset {})", device.place);
     match items.strip_suffix(must(rt, fault).as_str()) {
         None => panic!(rt; "at call {call} came {items}"),
-        Some(before) => assert!(rt; whole.starts_with(before.trim_end()), "at call {call}"),
+        Some(found) => assert_eq!(rt; found.trim_end(), before.trim_end(), "at call {call}"),
     }
 }
 
@@ -180,6 +191,7 @@ pub(crate) struct Disk {
     // How many bytes one read gives at most.
     pub most: usize,
     pub calls: u64,
+    pub failures: u64,
     fails_at: u64,
 }
 
@@ -189,6 +201,7 @@ impl Disk {
             inner: Cursor::new(bytes),
             most: usize::MAX,
             calls: 0,
+            failures: 0,
             fails_at,
         }
     }
@@ -197,6 +210,7 @@ impl Disk {
         let call = self.calls;
         self.calls = call.saturating_add(1);
         if call == self.fails_at {
+            self.failures = self.failures.saturating_add(1);
             return Err(io::Error::from(ErrorKind::PermissionDenied));
         }
         Ok(())

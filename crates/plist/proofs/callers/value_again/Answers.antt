@@ -12,7 +12,8 @@ returns c =
     let (iter, is, seen) = c.from_events.ensures.shown in
     let value = c.args.value.now in
     record {
-      value = back (tree_of value) (map Ok (remaining_events iter)) (built_tree c.from_events.result) (itself value)
+      value = back (tree_of value) (map Ok (remaining_events iter))
+          (built_tree c.from_events.result) (itself value)
           (ap (λ e. map Ok (remaining_events e)) is ∙ ap (map Ok) c.events.ensures.items)
           (seen events_coming (λ old item new gives. events-show old new item gives));
     }

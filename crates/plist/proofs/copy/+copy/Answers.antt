@@ -14,11 +14,18 @@ use Rattle.plist.proofs.copy.+copy.Goals as goal
 
 pub copy-returns-in_ok-clone-in-Data : goal.copy-returns-in_ok-clone-in-Data
 copy-returns-in_ok-clone-in-Data t c =
-    tree_of-Data c.in_ok-clone-in-Data.field-0 ∙ ap (λ l. Leaf (tree.Data l)) (copies-equal _ (λ x y e. e) c.in-Data.bytes.items c.in_ok-clone-in-Data.field-0.items c.in_ok-clone-in-Data.ensures.cases.0)
+    tree_of-Data c.in_ok-clone-in-Data.field-0
+    ∙ ap (λ l. Leaf (tree.Data l))
+    (copies-equal _ (λ x y e. e) c.in-Data.bytes.items c.in_ok-clone-in-Data.field-0.items
+    c.in_ok-clone-in-Data.ensures.cases.0)
     ∙ sym (tree_of-Data c.in-Data.bytes) ∙ ap tree_of (sym c.in-Data.is)
 
 pub copy_pairs-copy-requires : goal.copy_pairs-copy-requires
-copy_pairs-copy-requires t c = (let d = no-deeper size-Value c.args.pairs.now c.loop-i.i c.pair_at.result.0.now c.pair_at.result.1.now c.pair_at.ensures in omega (arith, c.decreases, d), tt)
+copy_pairs-copy-requires t c = (
+  let d = no-deeper size-Value c.args.pairs.now c.loop-i.i c.pair_at.result.0.now
+      c.pair_at.result.1.now c.pair_at.ensures in omega (arith, c.decreases, d),
+  tt,
+)
 
 pub copy_pairs-loop-i-preserved : goal.copy_pairs-loop-i-preserved
 copy_pairs-loop-i-preserved t c =
@@ -29,13 +36,23 @@ copy_pairs-loop-i-preserved t c =
     let name = c.in_ok-name.name in
     let copied = c.in_ok-copy.field-0 in
     let one : suc i ≡ i + 1 = omega arith in
-    ap tree_pairs c.in-Ok.ensures.pairs ∙ tree_pairs_insert (string_bytes name) copied c.loop-i.copies
+    ap tree_pairs c.in-Ok.ensures.pairs
+    ∙ tree_pairs_insert (string_bytes name) copied c.loop-i.copies
     ∙ ap (λ l. insert_entry bytes_eq l (string_bytes name) (tree_of copied)) c.loop-i.invariant
-    ∙ (λ j. insert_entry bytes_eq (take i (tree_pairs ps)) (c.in_ok-name.ensures.ok j) (c.in_ok-copy.ensures j))
-    ∙ next-last (tree_pairs ps) i k (tree_of v) (once-pairs ps c.pair_count-count.ensures.distinct) (tree-at ps i k v c.pair_at.ensures)
+    ∙ (λ j. insert_entry bytes_eq (take i (tree_pairs ps)) (c.in_ok-name.ensures.ok j)
+    (c.in_ok-copy.ensures j))
+    ∙ next-last (tree_pairs ps) i k (tree_of v) (once-pairs ps c.pair_count-count.ensures.distinct)
+    (tree-at ps i k v c.pair_at.ensures)
     ∙ ap (λ n. take n (tree_pairs ps)) one
 
 pub copy_pairs-returns : goal.copy_pairs-returns
 copy_pairs-returns t c =
     let ps = c.args.pairs.now in
-    c.loop-i.invariant ∙ take-all (tree_pairs ps) c.loop-i.i (omega (arith, c.loop-i-test.false, c.pair_count-count.ensures.count, length-map {B = List ℕ × Tree} ps (λ p. (p.0, tree_of p.1))))
+    c.loop-i.invariant ∙ take-all (tree_pairs ps) c.loop-i.i
+    (omega (
+      arith,
+      c.loop-i-test.false,
+      c.pair_count-count.ensures.count,
+      length-map
+          {B = List ℕ × Tree} ps (λ p. (p.0, tree_of p.1)),
+    ))

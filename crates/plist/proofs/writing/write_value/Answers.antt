@@ -10,17 +10,22 @@ loop-item-init g c = ([], sym c.events-events.ensures.items, refl)
 
 pub loop-item-preserved : goal.loop-item-preserved
 loop-item-preserved g c =
-    one-more g.W.Writer.Step c.args.writer.now c.loop-item.writer c.hand.new.writer (bracketing (tree_of c.args.value.now)) c.loop-item.events c.next.new.self c.in-Some.item
+    one-more g.W.Writer.Step c.args.writer.now c.loop-item.writer c.hand.new.writer
+    (bracketing (tree_of c.args.value.now)) c.loop-item.events c.next.new.self c.in-Some.item
     c.loop-item.invariant c.in-Some.ensures.steps c.in-Ok.ensures
 
 pub returns-in-Err : goal.returns-in-Err
 returns-in-Err g c = record {
   handed =
-      refused g.W.Writer.Step c.args.writer.now c.loop-item.writer c.hand.new.writer (bracketing (tree_of c.args.value.now)) c.loop-item.events c.next.new.self c.in-Some.item (fault_of c.in-Err.error)
+      refused g.W.Writer.Step c.args.writer.now c.loop-item.writer c.hand.new.writer
+      (bracketing (tree_of c.args.value.now)) c.loop-item.events c.next.new.self c.in-Some.item
+      (fault_of c.in-Err.error)
       c.loop-item.invariant c.in-Some.ensures.steps c.in-Err.ensures;
 }
 
 pub returns : goal.returns
 returns g c = record {
-  handed = all-handed g.W.Writer.Step c.args.writer.now c.loop-item.writer (bracketing (tree_of c.args.value.now)) c.loop-item.events c.next.new.self c.loop-item.invariant c.in_default.ensures.steps;
+  handed = all-handed g.W.Writer.Step c.args.writer.now c.loop-item.writer
+      (bracketing (tree_of c.args.value.now)) c.loop-item.events c.next.new.self
+      c.loop-item.invariant c.in_default.ensures.steps;
 }

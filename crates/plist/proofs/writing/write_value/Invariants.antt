@@ -5,4 +5,5 @@ use Rattle.plist.proofs.Handed.{HandedSoFar}
 use Rattle.plist.proofs.writing.write_value.Given as goal
 
 abbrev pub invariant-loop-item : goal.invariant-loop-item
-invariant-loop-item g l = HandedSoFar g.W.Writer.Step l.initial.writer (bracketing (tree_of l.fn.value)) l.events l.writer
+invariant-loop-item g l =
+    HandedSoFar g.W.Writer.Step l.initial.writer (bracketing (tree_of l.fn.value)) l.events l.writer

@@ -9,11 +9,12 @@ not_true false h = refl
 false_true : false ≡ true → ⊥
 false_true e = cc
 
-pub returns-in-Ok-clause-ok : goal.returns-in-Ok-clause-ok
-returns-in-Ok-clause-ok c =
+pub returns-in-Ok-clause-value : goal.returns-in-Ok-clause-value
+returns-in-Ok-clause-value c =
     let same : string_bytes c.in-Ok.text ≡ c.args.bytes.items = ap vec_items c.in-Ok.ensures.ok in
     let text = is_utf8-from_IsUtf8 _ (IsUtf8-string_bytes c.in-Ok.text) in
     (rw same at text, same)
 
-pub returns-clause-err : goal.returns-clause-err
-returns-clause-err c = (not_true _ (λ t. false_true (c.in-Err.ensures.succeeds (IsUtf8-from_is_utf8 _ t))), refl)
+pub returns-clause-fault : goal.returns-clause-fault
+returns-clause-fault c =
+    (not_true _ (λ t. false_true (c.in-Err.ensures.succeeds (IsUtf8-from_is_utf8 _ t))), refl)

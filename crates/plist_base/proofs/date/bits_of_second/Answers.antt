@@ -1,6 +1,6 @@
 use Rattle.std.proofs.Common.{rules, ◌∙◌, w64, FitsSigned, ap}
 use Rattle.std.proofs.lemmas.Int.{to_z-of_z}
-use Rattle.plist_base.specs.DateBits.{whole_bits}
+use Rattle.plist_base.specs.inner.DateBits.{whole_bits}
 use Rattle.plist_base.proofs.DateEncoding.{written_neg, written_pos, exact_neg, exact_pos, ranged}
 use Rattle.plist_base.proofs.date.bits_of_second.Goals as goal
 
@@ -8,7 +8,8 @@ pub returns-then-second-lt0-clause-is : goal.returns-then-second-lt0-clause-is
 returns-then-second-lt0-clause-is c =
     let f : FitsSigned w64 c.args.second = search rules in
     let r = ranged c.args.second _ (simp to_z-of_z at c.in-Some.ensures) in
-    let w = c.bits_of_whole-bits.ensures.is ∙ ap whole_bits (simp to_z-of_z at c.unsigned_abs.ensures.value) in
+    let w = c.bits_of_whole-bits.ensures.is
+    ∙ ap whole_bits (simp to_z-of_z at c.unsigned_abs.ensures.value) in
     let t = simp to_z-of_z at c.if-second-lt0.true in
     (r.0, (written_neg c.args.second _ r.0 t w).0)
 
@@ -16,7 +17,8 @@ pub returns-then-second-lt0-clause-back : goal.returns-then-second-lt0-clause-ba
 returns-then-second-lt0-clause-back c =
     let f : FitsSigned w64 c.args.second = search rules in
     let r = ranged c.args.second _ (simp to_z-of_z at c.in-Some.ensures) in
-    let w = c.bits_of_whole-bits.ensures.is ∙ ap whole_bits (simp to_z-of_z at c.unsigned_abs.ensures.value) in
+    let w = c.bits_of_whole-bits.ensures.is
+    ∙ ap whole_bits (simp to_z-of_z at c.unsigned_abs.ensures.value) in
     let t = simp to_z-of_z at c.if-second-lt0.true in
     let k = written_neg c.args.second _ r.0 t w in (k.1, k.2)
 
@@ -24,7 +26,8 @@ pub returns-else-second-lt0-clause-is : goal.returns-else-second-lt0-clause-is
 returns-else-second-lt0-clause-is c =
     let f : FitsSigned w64 c.args.second = search rules in
     let r = ranged c.args.second _ (simp to_z-of_z at c.in-Some.ensures) in
-    let w = c.bits_of_whole-bits.ensures.is ∙ ap whole_bits (simp to_z-of_z at c.unsigned_abs.ensures.value) in
+    let w = c.bits_of_whole-bits.ensures.is
+    ∙ ap whole_bits (simp to_z-of_z at c.unsigned_abs.ensures.value) in
     let t = simp to_z-of_z at c.if-second-lt0.false in
     (r.0, (written_pos c.args.second _ r.0 t w).0)
 
@@ -32,7 +35,8 @@ pub returns-else-second-lt0-clause-back : goal.returns-else-second-lt0-clause-ba
 returns-else-second-lt0-clause-back c =
     let f : FitsSigned w64 c.args.second = search rules in
     let r = ranged c.args.second _ (simp to_z-of_z at c.in-Some.ensures) in
-    let w = c.bits_of_whole-bits.ensures.is ∙ ap whole_bits (simp to_z-of_z at c.unsigned_abs.ensures.value) in
+    let w = c.bits_of_whole-bits.ensures.is
+    ∙ ap whole_bits (simp to_z-of_z at c.unsigned_abs.ensures.value) in
     let t = simp to_z-of_z at c.if-second-lt0.false in
     let k = written_pos c.args.second _ r.0 t w in (k.1, k.2)
 
@@ -40,7 +44,8 @@ pub returns-then-second-lt0-clause-exact : goal.returns-then-second-lt0-clause-e
 returns-then-second-lt0-clause-exact c =
     let f : FitsSigned w64 c.args.second = search rules in
     let r = ranged c.args.second _ (simp to_z-of_z at c.in-Some.ensures) in
-    let w = c.bits_of_whole-bits.ensures.is ∙ ap whole_bits (simp to_z-of_z at c.unsigned_abs.ensures.value) in
+    let w = c.bits_of_whole-bits.ensures.is
+    ∙ ap whole_bits (simp to_z-of_z at c.unsigned_abs.ensures.value) in
     let t = simp to_z-of_z at c.if-second-lt0.true in
     exact_neg c.args.second _ r.0 t w
 
@@ -48,6 +53,7 @@ pub returns-else-second-lt0-clause-exact : goal.returns-else-second-lt0-clause-e
 returns-else-second-lt0-clause-exact c =
     let f : FitsSigned w64 c.args.second = search rules in
     let r = ranged c.args.second _ (simp to_z-of_z at c.in-Some.ensures) in
-    let w = c.bits_of_whole-bits.ensures.is ∙ ap whole_bits (simp to_z-of_z at c.unsigned_abs.ensures.value) in
+    let w = c.bits_of_whole-bits.ensures.is
+    ∙ ap whole_bits (simp to_z-of_z at c.unsigned_abs.ensures.value) in
     let t = simp to_z-of_z at c.if-second-lt0.false in
     exact_pos c.args.second _ r.0 t w

@@ -11,5 +11,8 @@ pub returns-in-Some : goal.returns-in-Some
 returns-in-Some c =
     let f : FitsSigned w64 c.round_down.result = search rules in
     let ranged = simp to_z-of_z at c.in_range.ensures in
-    let floor = c.round_down.ensures (parts_left c.in-Some.small.mantissa c.in-Some.small.scale) c.is_left.ensures in
-    ranged ∙ ap if_second_of_date floor ∙ second_is c.args.bits _ _ _ c.in-Some.ensures.mantissa c.in-Some.ensures.scale c.whole.ensures.is c.in-Some.ensures.range
+    let floor = c.round_down.ensures (parts_left c.in-Some.small.mantissa c.in-Some.small.scale)
+    c.is_left.ensures in
+    ranged ∙ ap if_second_of_date floor
+    ∙ second_is c.args.bits _ _ _ c.in-Some.ensures.mantissa c.in-Some.ensures.scale
+    c.whole.ensures.is c.in-Some.ensures.range

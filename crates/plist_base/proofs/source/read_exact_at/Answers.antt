@@ -7,5 +7,7 @@ loop-done-preserved g c = record {
   within = search rules;
   same = search rules;
   counts = search rules;
-  filled = fill_more_known _ _ _ _ c.args.place c.loop-done.done _ _ c.loop-done.invariant.same c.loop-done.invariant.within c.in-Ok.ensures.bound c.loop-done.invariant.filled c.in-Ok.ensures.bytes;
+  filled = fill_more_known _ _ _ _ c.args.place c.loop-done.done _ _ c.loop-done.invariant.same
+      c.loop-done.invariant.within c.in-Ok.ensures.bound c.loop-done.invariant.filled
+      c.in-Ok.ensures.bytes;
 }

@@ -6,7 +6,8 @@ invariant-loop-done g l = record {
   within : l.done ≤ length l.buf;
   same : g.S.Source.known l.source ≡ g.S.Source.known l.initial.source;
   counts : g.S.Source.failures l.source ≡ g.S.Source.failures l.initial.source;
-  filled : IfSome (g.S.Source.known l.initial.source) (λ bytes. take l.done l.buf ≡ take l.done (drop l.place bytes));
+  filled : IfSome (g.S.Source.known l.initial.source)
+      (λ bytes. take l.done l.buf ≡ take l.done (drop l.place bytes));
 }
 
 abbrev pub decreases-loop-done : goal.decreases-loop-done

@@ -1,9 +1,14 @@
-use Rattle.std.proofs.Common.{ap, sym, ◌∙◌}
+use Rattle.std.proofs.Common.{ap, sym, ◌∙◌, Some}
 use Rattle.plist_base.specs.declared.real.RealBits.TheVariants.{Eight}
-use Rattle.plist_base.specs.Events.{Real}
+use Rattle.plist_base.specs.Trees.{Real}
+use Rattle.plist_binread.specs.Debt.{single_in}
 use Rattle.plist_binread.specs.Object.{Scalar}
 use Rattle.plist_binread.proofs.lent.lent_real.Goals as goal
 
 pub returns-in-Some : goal.returns-in-Some
 returns-in-Some c =
-    record { lent = λ more. c.in-Some.ensures.content more (λ content. Scalar (Real (Eight content))) ∙ ap Scalar (sym c.hold.ensures) }
+    record {
+      lent = λ more. ap single_in
+          (c.in-Some.ensures.content more (λ content. Scalar (Real (Eight content))))
+          ∙ ap Some (sym c.hold.ensures);
+    }

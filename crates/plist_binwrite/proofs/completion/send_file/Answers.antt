@@ -1,7 +1,7 @@
 use Rattle.std.proofs.Common.{◌≡◌, sym, subst}
 use Rattle.plist_base.specs.Faults.{Io, fault_of, fault_nowhere}
 use Rattle.plist_binwrite.specs.Ending.{file_of}
-use Rattle.plist_binwrite.specs.Held.{evs}
+use Rattle.plist_binwrite.specs.Held.{plain_events}
 use Rattle.plist_binwrite.specs.Outlets.{IsOut}
 use Rattle.plist_binwrite.proofs.Outgoing.{from_empty, from_empty_front}
 use Rattle.plist_binwrite.proofs.Readied.{sends_end, with_objects}
@@ -9,11 +9,17 @@ use Rattle.plist_binwrite.proofs.completion.send_file.Goals as goal
 
 pub returns-in-Ok : goal.returns-in-Ok
 returns-in-Ok g c =
-    sends_end g.W.Write.contents (evs c.args.events.now) c.args.ready.now c.args.writer.now c.put_file.new.writer c.finish.new.writer c.as_slice.result.now c.finish.result c.finish.ensures.sent c.finish.ensures.front c.finish.ensures.failed
-    (λ objects d. subst (λ l. IsOut (g.W.Write.contents c.args.writer.now) (g.W.Write.contents c.put_file.new.writer) l (file_of c.args.ready.now objects)) (sym c.as_slice.ensures.value) (from_empty c.requires.empty (c.in-Ok.ensures objects d)))
+    sends_end g.W.Write.contents (plain_events c.args.events.now) c.args.ready.now c.args.writer.now
+    c.put_file.new.writer c.finish.new.writer c.as_slice.result.now c.finish.result
+    c.finish.ensures.sent c.finish.ensures.front c.finish.ensures.fault
+    (λ objects d. subst (λ l. IsOut (g.W.Write.contents c.args.writer.now)
+    (g.W.Write.contents c.put_file.new.writer) l (file_of c.args.ready.now objects))
+    (sym c.as_slice.ensures.value) (from_empty c.requires.empty (c.in-Ok.ensures objects d)))
 
 pub returns-in-Err : goal.returns-in-Err
 returns-in-Err g c = (
-  with_objects (evs c.args.events.now) c.args.ready.now (fault_of c.in-Err.error ≡ fault_nowhere Io) c.requires.ready (λ objects d. (c.in-Err.ensures objects d).follow.0),
+  with_objects (plain_events c.args.events.now) c.args.ready.now
+      (fault_of c.in-Err.error ≡ fault_nowhere Io) c.requires.ready
+      (λ objects d. (c.in-Err.ensures objects d).follow.0),
   λ objects d. from_empty_front c.requires.empty (c.in-Err.ensures objects d),
 )

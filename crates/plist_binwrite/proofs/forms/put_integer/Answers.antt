@@ -6,4 +6,5 @@ use Rattle.plist_binwrite.proofs.forms.put_integer.Goals as goal
 
 pub returns-in-Some-None : goal.returns-in-Some-None
 returns-in-Some-None g c =
-    puts_as (integer_wide c.args.value c.in-Some-None.number c.in-Some-None.ensures.value (grind (arith, ints, c.in-Some-None.ensures'.fits))) c.put_wide_integer.ensures
+    puts_as (integer_wide c.args.value c.in-Some-None.number c.in-Some-None.ensures.value
+    (grind (arith, ints, c.in-Some-None.ensures'.fits))) c.put_wide_integer.ensures

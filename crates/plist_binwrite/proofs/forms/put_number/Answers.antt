@@ -3,4 +3,6 @@ use Rattle.plist_binwrite.proofs.Outgoing.{puts_as}
 use Rattle.plist_binwrite.proofs.forms.put_number.Goals as goal
 
 pub returns : goal.returns
-returns g c = puts_as (tail_of_digits c.to_be_bytes-digits.result c.args.width c.args.number c.to_be_bytes-digits.ensures c.requires.width) c.put.ensures
+returns g c =
+    puts_as (tail_of_digits c.to_be_bytes-digits.result c.args.width c.args.number
+    c.to_be_bytes-digits.ensures c.requires.width) c.put.ensures

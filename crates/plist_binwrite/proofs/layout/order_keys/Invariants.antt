@@ -4,7 +4,9 @@ use Rattle.plist_binwrite.specs.Planning.{count_of}
 use Rattle.plist_binwrite.proofs.layout.order_keys.Given as goal
 
 abbrev pub invariant-walk : goal.invariant-walk
-invariant-walk l = IsOrder (count_of l.plan) l.order.items l.marks.items × KeepsMarks l.initial.marks.items l.marks.items
+invariant-walk l =
+    IsOrder (count_of l.plan) l.order.items l.marks.items
+    × KeepsMarks l.initial.marks.items l.marks.items
 
 abbrev pub decreases-walk : goal.decreases-walk
 decreases-walk l = length l.events - l.key

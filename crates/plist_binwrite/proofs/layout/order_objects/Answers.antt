@@ -2,42 +2,63 @@ use Rattle.std.proofs.Common.{◌≡◌, ◌≢◌, inl, inr, ℕ, ◌+◌, ◌<
 use Rattle.std.proofs.lemmas.Bool.Decides.{eqb_tells, leb_tells}
 use Rattle.std.proofs.lemmas.List.{length-map}
 use Rattle.std.proofs.Math.ListN.{get_or-eq_default}
-use Rattle.plist_binwrite.specs.Held.{ev, evs, is_stop, event_at, num_of}
+use Rattle.plist_binwrite.specs.Held.{plain_event, plain_events, is_stop, event_at, num_of}
 use Rattle.plist_binwrite.specs.Laying.{IsOrder, KeepsMarks}
-use Rattle.plist_binwrite.specs.Marks.{Ev}
+use Rattle.plist_base.specs.Events.{PlainEvent}
 use Rattle.plist_binwrite.specs.Planning.{count_of, numbers_of}
 use Rattle.plist_binwrite.proofs.Layouts.{order_none, in_order}
 use Rattle.plist_binwrite.proofs.layout.order_objects.Goals as goal
 
-marked_more : (es : List Ev) (numbers old new : List ℕ) (place : ℕ) → KeepsMarks old new → (is_stop (event_at es place) ≡ false → get_or new (num_of numbers place) 0 ≢ 0)
-    → ((p : ℕ) → p < place → is_stop (event_at es p) ≡ false → get_or old (num_of numbers p) 0 ≢ 0) → (p : ℕ) → p < place + 1 → is_stop (event_at es p) ≡ false → get_or new (num_of numbers p) 0 ≢ 0
+marked_more : (es : List PlainEvent) (numbers old new : List ℕ) (place : ℕ) → KeepsMarks old new
+    → (is_stop (event_at es place) ≡ false → get_or new (num_of numbers place) 0 ≢ 0)
+    → ((p : ℕ) → p < place → is_stop (event_at es p) ≡ false → get_or old (num_of numbers p) 0 ≢ 0)
+    → (p : ℕ) → p < place + 1 → is_stop (event_at es p) ≡ false
+    → get_or new (num_of numbers p) 0 ≢ 0
 marked_more es numbers old new place keeps here before p h s =
     elim (eqb_tells p place) [
-      | inl e ↦ subst (λ q. is_stop (event_at es q) ≡ false → get_or new (num_of numbers q) 0 ≢ 0) (sym e.1) here s
+      | inl e ↦ subst (λ q. is_stop (event_at es q) ≡ false
+          → get_or new (num_of numbers q) 0 ≢ 0) (sym e.1) here s
       | inr d ↦ keeps (num_of numbers p) (before p (omega (arith, d.1)) s)
     ]
 
-all_zero : (xs : List ℕ) (n : ℕ) → length xs ≡ n → ((k : ℕ) → k < n → get_or xs k 0 ≡ 0) → (k : ℕ) → get_or xs k 0 ≡ 0
-all_zero xs n e h k = elim (leb_tells n k) [ inl a ↦ get_or-eq_default xs 0 {n = k} (omega (arith, a.1)) | inr b ↦ h k b.1 ]
+all_zero : (xs : List ℕ) (n : ℕ) → length xs ≡ n → ((k : ℕ) → k < n → get_or xs k 0 ≡ 0) → (k : ℕ)
+    → get_or xs k 0 ≡ 0
+all_zero xs n e h k =
+    elim (leb_tells n k) [
+      | inl a ↦ get_or-eq_default xs 0 {n = k}
+          (omega (arith, a.1))
+      | inr b ↦ h k b.1
+    ]
 
 pub loop-place-init : goal.loop-place-init
 loop-place-init c =
     let count = c.len-count.result in
-    let n : c.len-count.result ≡ count_of c.args.plan.now = omega (arith, c.len-count.ensures, c.args.plan.now.numbering.firsts.ok.0) in (
-      subst (λ l. IsOrder (count_of c.args.plan.now) l c.in_ok-places.places.items) (sym c.new-order.ensures.items)
-          (order_none (count_of c.args.plan.now) c.in_ok-places.places.items (c.in_ok-places.ensures.long ∙ n) (all_zero c.in_ok-places.places.items count c.in_ok-places.ensures.long c.in_ok-places.ensures.zero)),
+    let n : c.len-count.result ≡ count_of c.args.plan.now = omega
+    (arith, c.len-count.ensures, c.args.plan.now.numbering.firsts.ok.0) in (
+      subst (λ l. IsOrder (count_of c.args.plan.now) l c.in_ok-places.places.items)
+          (sym c.new-order.ensures.items)
+          (order_none (count_of c.args.plan.now) c.in_ok-places.places.items
+          (c.in_ok-places.ensures.long
+          ∙ n) (all_zero c.in_ok-places.places.items count c.in_ok-places.ensures.long
+          c.in_ok-places.ensures.zero)),
       λ p h s. absurd (omega (arith, h)),
     )
 
 pub loop-place-preserved : goal.loop-place-preserved
 loop-place-preserved c = (
   c.in_ok-order_here.ensures.order,
-  marked_more (evs c.args.events.now) (numbers_of c.args.plan.now) c.loop-place.places.items c.order_here.new.marks.items c.loop-place.place c.in_ok-order_here.ensures.keeps c.in_ok-order_here.ensures.marked c.loop-place.invariant.1,
+  marked_more (plain_events c.args.events.now)
+      (numbers_of c.args.plan.now) c.loop-place.places.items c.order_here.new.marks.items
+      c.loop-place.place c.in_ok-order_here.ensures.keeps c.in_ok-order_here.ensures.marked
+      c.loop-place.invariant.1,
 )
 
 pub returns-clause-all : goal.returns-clause-all
 returns-clause-all c = λ k h.
     let known = c.requires.planned.numbered.known k h in
-    let n : length (evs c.args.events.now) ≡ length c.args.events.now = length-map c.args.events.now ev in
-    in_order (count_of c.args.plan.now) c.loop-place.order.items c.loop-place.places.items k c.loop-place.invariant.0
-    (subst (λ j. get_or c.loop-place.places.items j 0 ≢ 0) known.1 (c.loop-place.invariant.1 _ (omega (arith, n, known.0, c.loop-place-test.false)) known.2))
+    let n : length (plain_events c.args.events.now)
+    ≡ length c.args.events.now = length-map c.args.events.now plain_event in
+    in_order (count_of c.args.plan.now) c.loop-place.order.items c.loop-place.places.items k
+    c.loop-place.invariant.0
+    (subst (λ j. get_or c.loop-place.places.items j 0 ≢ 0) known.1
+    (c.loop-place.invariant.1 _ (omega (arith, n, known.0, c.loop-place-test.false)) known.2))

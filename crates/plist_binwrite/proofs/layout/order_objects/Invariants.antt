@@ -1,9 +1,10 @@
 use Rattle.std.proofs.Common.{◌≡◌, ◌≢◌, ℕ, ◌<◌, get_or, false}
-use Rattle.plist_binwrite.specs.Held.{evs, is_stop, event_at, num_of}
+use Rattle.plist_binwrite.specs.Held.{plain_events, is_stop, event_at, num_of}
 use Rattle.plist_binwrite.specs.Laying.{IsOrder}
 use Rattle.plist_binwrite.specs.Planning.{count_of, numbers_of}
 use Rattle.plist_binwrite.proofs.layout.order_objects.Given as goal
 
 abbrev pub invariant-loop-place : goal.invariant-loop-place
 invariant-loop-place l = IsOrder (count_of l.plan) l.order.items l.places.items
-    × ((p : ℕ) → p < l.place → is_stop (event_at (evs l.events) p) ≡ false → get_or l.places.items (num_of (numbers_of l.plan) p) 0 ≢ 0)
+    × ((p : ℕ) → p < l.place → is_stop (event_at (plain_events l.events) p) ≡ false
+    → get_or l.places.items (num_of (numbers_of l.plan) p) 0 ≢ 0)

@@ -1,6 +1,6 @@
 use Rattle.std.proofs.Common.{◌≡◌, ◌+◌, ◌<◌, ◌^◌, ◌++◌, ◌∷◌, [], length, set, arith, get_or, ◌≤◌, refl, length-append, sym, ap, subst}
 use Rattle.std.proofs.lemmas.List.{length-map}
-use Rattle.plist_binwrite.specs.Held.{ev, evs, num_of}
+use Rattle.plist_binwrite.specs.Held.{plain_event, plain_events, num_of}
 use Rattle.plist_binwrite.specs.PlansBy.{IsPlan, HaveIds}
 use Rattle.plist_binwrite.proofs.PlannedBy.{plan_new}
 use Rattle.plist_binwrite.proofs.Ids.{ids_new, none_yet}
@@ -10,30 +10,55 @@ use Rattle.plist_binwrite.proofs.numbering.number_one.Goals.{After-numbers-2-1}
 count : (c : After-numbers-2-1) → c.len-count.result ≡ length c.args.firsts.now.items
 count c = omega (arith, c.len-count.ensures, c.args.firsts.now.ok.0)
 
-pushed : (c : After-numbers-2-1) → c.push_place.new.places.items ≡ c.args.firsts.now.items ++ c.args.place ∷ []
+pushed : (c : After-numbers-2-1) → c.push_place.new.places.items
+    ≡ c.args.firsts.now.items ++ c.args.place ∷ []
 pushed c = c.in_ok-push_place.ensures.pushed
 
 small : (c : After-numbers-2-1) → length c.args.firsts.now.items + 1 < 2 ^ 64
-small c = omega (arith, ap length (pushed c), length-append c.args.firsts.now.items (c.args.place ∷ []), c.push_place.new.places.ok.0, c.push_place.new.places.ok.1, c.push_place.new.places.small)
+small c =
+    omega (
+      arith,
+      ap length (pushed c),
+      length-append c.args.firsts.now.items
+          (c.args.place ∷ []),
+      c.push_place.new.places.ok.0,
+      c.push_place.new.places.ok.1,
+      c.push_place.new.places.small,
+    )
 
-within : (c : After-numbers-2-1) → c.args.place < length (evs c.args.events.now)
-within c = omega (arith, c.requires.place, length-map c.args.events.now ev)
+within : (c : After-numbers-2-1) → c.args.place < length (plain_events c.args.events.now)
+within c = omega (arith, c.requires.place, length-map c.args.events.now plain_event)
 
-unnumbered : (c : After-numbers-2-1) → length c.args.firsts.now.items ≤ get_or c.args.numbers.now.items c.args.place 0
-unnumbered c = let v = ap (λ l. get_or l c.args.place 0) c.as_slice.ensures.value in omega (arith, c.if-as_slice-place.false, v, c.len.ensures, c.args.firsts.now.ok.0)
+unnumbered : (c : After-numbers-2-1)
+    → length c.args.firsts.now.items ≤ get_or c.args.numbers.now.items c.args.place 0
+unnumbered c =
+    let v = ap (λ l. get_or l c.args.place 0) c.as_slice.ensures.value in omega
+    (arith, c.if-as_slice-place.false, v, c.len.ensures, c.args.firsts.now.ok.0)
 
-without : (c : After-numbers-2-1) → length c.args.firsts.now.items ≤ get_or c.args.ids.now.items (num_of c.args.classes.now c.args.place) 0
-without c = let v = ap (λ l. get_or l (num_of c.args.classes.now c.args.place) 0) c.as_slice-2.ensures.value in omega (arith, c.if-number-len.false, v, c.len-2.ensures, c.args.firsts.now.ok.0)
+without : (c : After-numbers-2-1) → length c.args.firsts.now.items ≤ get_or c.args.ids.now.items
+    (num_of c.args.classes.now c.args.place) 0
+without c =
+    let v = ap (λ l. get_or l (num_of c.args.classes.now c.args.place) 0)
+    c.as_slice-2.ensures.value in omega
+    (arith, c.if-number-len.false, v, c.len-2.ensures, c.args.firsts.now.ok.0)
 
 pub returns-clause-ids : goal.returns-clause-ids
 returns-clause-ids c =
-    subst (λ k. HaveIds c.args.classes.now (set c.args.ids.now.items (num_of c.args.classes.now c.args.place) k) c.push_place.new.places.items) (sym (count c))
-    (subst (λ l. HaveIds c.args.classes.now (set c.args.ids.now.items (num_of c.args.classes.now c.args.place) (length c.args.firsts.now.items)) l) (sym (pushed c))
-    (ids_new c.args.classes.now c.args.ids.now.items c.args.firsts.now.items c.requires.ids c.args.place (omega (arith, c.requires.place, c.requires.long)) (small c) (without c)))
+    subst (λ k. HaveIds c.args.classes.now (set c.args.ids.now.items
+    (num_of c.args.classes.now c.args.place) k) c.push_place.new.places.items) (sym (count c))
+    (subst (λ l. HaveIds c.args.classes.now (set c.args.ids.now.items
+    (num_of c.args.classes.now c.args.place) (length c.args.firsts.now.items)) l) (sym (pushed c))
+    (ids_new c.args.classes.now c.args.ids.now.items c.args.firsts.now.items c.requires.ids
+    c.args.place (omega (arith, c.requires.place, c.requires.long)) (small c) (without c)))
 
 pub returns-clause-plan : goal.returns-clause-plan
 returns-clause-plan c =
-    subst (λ k. IsPlan (evs c.args.events.now) (num_of c.args.classes.now) (set c.args.numbers.now.items c.args.place k) c.push_place.new.places.items) (sym (count c))
-    (subst (λ l. IsPlan (evs c.args.events.now) (num_of c.args.classes.now) (set c.args.numbers.now.items c.args.place (length c.args.firsts.now.items)) l) (sym (pushed c))
-    (plan_new (evs c.args.events.now) (num_of c.args.classes.now) c.args.numbers.now.items c.args.firsts.now.items c.args.place c.requires.plan (within c) (unnumbered c) (small c) (c.if-not-has_item.ensures.yes refl).1
-    (none_yet c.args.classes.now c.args.ids.now.items c.args.firsts.now.items c.requires.ids c.args.place (omega (arith, c.requires.place, c.requires.long)) (small c) (without c))))
+    subst (λ k. IsPlan (plain_events c.args.events.now) (num_of c.args.classes.now)
+    (set c.args.numbers.now.items c.args.place k) c.push_place.new.places.items) (sym (count c))
+    (subst (λ l. IsPlan (plain_events c.args.events.now) (num_of c.args.classes.now)
+    (set c.args.numbers.now.items c.args.place (length c.args.firsts.now.items)) l) (sym (pushed c))
+    (plan_new (plain_events c.args.events.now)
+    (num_of c.args.classes.now) c.args.numbers.now.items c.args.firsts.now.items c.args.place
+    c.requires.plan (within c) (unnumbered c) (small c) (c.if-not-has_item.ensures.yes refl).1
+    (none_yet c.args.classes.now c.args.ids.now.items c.args.firsts.now.items c.requires.ids
+    c.args.place (omega (arith, c.requires.place, c.requires.long)) (small c) (without c))))

@@ -8,9 +8,13 @@ use Rattle.plist_binwrite.proofs.objects.put_array.Goals as goal
 
 pub returns-in-Ok : goal.returns-in-Ok
 returns-in-Ok g c = λ ts s.
-    puts_as (array_is (num_of (numbers_of c.args.plan.now)) c.args.width c.count_items-count.result ts c.args.place (c.count_items-count.ensures.value ts s)) (puts_then c.in-Ok.ensures (c.put_items.ensures ts s))
+    puts_as (array_is (num_of (numbers_of c.args.plan.now)) c.args.width c.count_items-count.result
+    ts c.args.place (c.count_items-count.ensures.value ts s))
+    (puts_then c.in-Ok.ensures (c.put_items.ensures ts s))
 
 pub returns-in-Err : goal.returns-in-Err
 returns-in-Err g c = λ ts s.
-    puts_as (array_is (num_of (numbers_of c.args.plan.now)) c.args.width c.count_items-count.result ts c.args.place (c.count_items-count.ensures.value ts s))
-    (puts_front (table_form c.args.width (map (num_of (numbers_of c.args.plan.now)) (item_places ts (c.args.place + 1)))) c.in-Err.ensures)
+    puts_as (array_is (num_of (numbers_of c.args.plan.now)) c.args.width c.count_items-count.result
+    ts c.args.place (c.count_items-count.ensures.value ts s))
+    (puts_front (table_form c.args.width (map (num_of (numbers_of c.args.plan.now))
+    (item_places ts (c.args.place + 1)))) c.in-Err.ensures)

@@ -1,12 +1,13 @@
 use Rattle.std.proofs.Common.{length, ◌-◌, ◌≤◌}
-use Rattle.plist_base.specs.Trees.{number_of_trees}
-use Rattle.plist_binwrite.specs.Marks.{Trees, SitsItems}
-use Rattle.plist_binwrite.specs.Held.{evs}
+use Rattle.plist_base.specs.Trees.{number_of_trees, Trees}
+use Rattle.plist_binwrite.specs.Standing.{SitsItems}
+use Rattle.plist_binwrite.specs.Held.{plain_events}
 use Rattle.plist_binwrite.proofs.Counting.{Counts}
 use Rattle.plist_binwrite.proofs.size.count_items.Given as goal
 
 abbrev pub invariant-walk : goal.invariant-walk
-invariant-walk l = (l.count ≤ l.place) × ((ts : Trees) → SitsItems (evs l.events) ts l.from → Counts (evs l.events) l.place l.count (number_of_trees ts))
+invariant-walk l = (l.count ≤ l.place) × ((ts : Trees) → SitsItems (plain_events l.events) ts l.from
+    → Counts (plain_events l.events) l.place l.count (number_of_trees ts))
 
 abbrev pub decreases-walk : goal.decreases-walk
 decreases-walk l = length l.events - l.place

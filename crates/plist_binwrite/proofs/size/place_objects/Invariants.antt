@@ -1,10 +1,11 @@
 use Rattle.std.proofs.Common.{◌≡◌, ℕ, length}
 use Rattle.plist_binread.specs.Object.{Object}
-use Rattle.plist_binwrite.specs.Held.{evs, Describes}
+use Rattle.plist_binwrite.specs.Held.{plain_events, Describes}
 use Rattle.plist_binwrite.specs.Planning.{count_of, numbers_of}
 use Rattle.plist_binwrite.proofs.Placing.{Along}
 use Rattle.plist_binwrite.proofs.size.place_objects.Given as goal
 
 abbrev pub invariant-loop-number : goal.invariant-loop-number
 invariant-loop-number l = (length l.places.items ≡ count_of l.plan)
-    × ((objects : ℕ → Object) → Describes (evs l.events) (numbers_of l.plan) objects → Along l.width objects l.order l.places.items l.number-index l.at)
+    × ((objects : ℕ → Object) → Describes (plain_events l.events) (numbers_of l.plan) objects
+    → Along l.width objects l.order l.places.items l.number-index l.at)

@@ -1,37 +1,69 @@
 use Rattle.std.proofs.Common.{◌≡◌, sym, ◌∙◌}
 use Rattle.plist_base.specs.Events.{event_of}
 use Rattle.plist_binwrite.specs.declared.kinds.Kind.TheVariants as kind
-use Rattle.plist_binwrite.specs.Held.{evs, kind_of, event_at, num_of}
+use Rattle.plist_binwrite.specs.Held.{plain_events, kind_of, event_at, num_of}
+use Rattle.plist_binwrite.specs.Forms.{IsWritable, IsWritableScalar}
+use Rattle.plist_binwrite.specs.Numberings.{obj_of}
+use Rattle.plist_binwrite.specs.Sizes.{TellsSize, scalar_size, object_size}
 use Rattle.plist_binwrite.specs.Planning.{count_of, numbers_of}
 use Rattle.plist_binwrite.proofs.Counting.{dictionary_told}
-use Rattle.plist_binwrite.proofs.Placed.{collection_fits, scalar_by, no_kind}
+use Rattle.plist_binwrite.proofs.Formed.{of_scalar}
+use Rattle.plist_binwrite.proofs.Placed.{collection_fits, no_kind}
 use Rattle.plist_binwrite.proofs.Placing.{array_told, few_values}
 use Rattle.plist_binwrite.proofs.Skipping.{read_event}
 use Rattle.plist_binwrite.proofs.size.size_of_object.Goals as goal
 
 pub returns-in-Array-clause-size : goal.returns-in-Array-clause-size
 returns-in-Array-clause-size c = λ t s.
-    array_told c.length_of_collection.result c.args.width c.count_items-count.result t c.args.place s (sym c.kind_at.ensures ∙ c.in-Array.is) c.count_items-count.ensures.value (c.length_of_collection.ensures.value 0xa)
+    array_told c.length_of_collection.result c.args.width c.count_items-count.result t c.args.place
+    s (sym c.kind_at.ensures ∙ c.in-Array.is) c.count_items-count.ensures.value
+    (c.length_of_collection.ensures.value 0xa)
 
 pub returns-in-Array-clause-writable : goal.returns-in-Array-clause-writable
 returns-in-Array-clause-writable c = λ t s.
-    let k : kind_of (event_at (evs c.args.events.now) c.args.place) ≡ kind.Array = sym c.kind_at.ensures ∙ c.in-Array.is in
-    collection_fits (evs c.args.events.now) (numbers_of c.args.plan.now) (count_of c.args.plan.now) c.args.width c.requires.planned.all c.requires.fits t c.args.place s (λ e. no_kind _ kind.Array kind.Scalar k e (λ q. cc))
-    (few_values t c.args.place c.count_items-count.result s c.count_items-count.ensures.small c.count_items-count.ensures.value)
+    let k : kind_of (event_at (plain_events c.args.events.now) c.args.place)
+    ≡ kind.Array = sym c.kind_at.ensures ∙ c.in-Array.is in
+    collection_fits (plain_events c.args.events.now) (numbers_of c.args.plan.now)
+    (count_of c.args.plan.now) c.args.width c.requires.planned.all c.requires.fits t c.args.place s
+    (λ e. no_kind _ kind.Array kind.Scalar k e (λ q. cc))
+    (few_values t c.args.place c.count_items-count.result s c.count_items-count.ensures.small
+    c.count_items-count.ensures.value)
 
 pub returns-in-Dictionary-clause-size : goal.returns-in-Dictionary-clause-size
 returns-in-Dictionary-clause-size c = λ t s.
-    dictionary_told c.length_of_collection-in-Dictionary.result c.args.width c.count_items-count-in-Dictionary.result t c.args.place s (sym c.kind_at.ensures ∙ c.in-Dictionary.is) c.count_items-count-in-Dictionary.ensures.value
+    dictionary_told c.length_of_collection-in-Dictionary.result c.args.width
+    c.count_items-count-in-Dictionary.result t c.args.place s (sym c.kind_at.ensures
+    ∙ c.in-Dictionary.is) c.count_items-count-in-Dictionary.ensures.value
     (c.length_of_collection-in-Dictionary.ensures.value 0xd)
 
 pub returns-in-Dictionary-clause-writable : goal.returns-in-Dictionary-clause-writable
 returns-in-Dictionary-clause-writable c = λ t s.
-    let k : kind_of (event_at (evs c.args.events.now) c.args.place) ≡ kind.Dictionary = sym c.kind_at.ensures ∙ c.in-Dictionary.is in
-    collection_fits (evs c.args.events.now) (numbers_of c.args.plan.now) (count_of c.args.plan.now) c.args.width c.requires.planned.all c.requires.fits t c.args.place s (λ e. no_kind _ kind.Dictionary kind.Scalar k e (λ q. cc))
-    (few_values t c.args.place c.count_items-count-in-Dictionary.result s c.count_items-count-in-Dictionary.ensures.small c.count_items-count-in-Dictionary.ensures.value)
+    let k : kind_of (event_at (plain_events c.args.events.now) c.args.place)
+    ≡ kind.Dictionary = sym c.kind_at.ensures ∙ c.in-Dictionary.is in
+    collection_fits (plain_events c.args.events.now) (numbers_of c.args.plan.now)
+    (count_of c.args.plan.now) c.args.width c.requires.planned.all c.requires.fits t c.args.place s
+    (λ e. no_kind _ kind.Dictionary kind.Scalar k e (λ q. cc))
+    (few_values t c.args.place c.count_items-count-in-Dictionary.result s
+    c.count_items-count-in-Dictionary.ensures.small c.count_items-count-in-Dictionary.ensures.value)
+
+pub returns-in_default-clause-size : goal.returns-in_default-clause-size
+returns-in_default-clause-size c = λ t s.
+    of_scalar (λ x. TellsSize c.length_of_scalar.result (scalar_size x))
+    (λ u. TellsSize c.length_of_scalar.result (object_size c.args.width u)) t c.args.place
+    (event_of c.index-events-place.result) s
+    (read_event c.args.events.now c.args.place c.index-events-place.result c.index-events-place.is
+    c.requires.place)
+    (λ e. c.in_default.not-Array (c.kind_at.ensures ∙ e))
+    (λ e. c.in_default.not-Dictionary (c.kind_at.ensures ∙ e))
+    (λ x h. h) c.length_of_scalar.ensures.value
 
 pub returns-in_default-clause-writable : goal.returns-in_default-clause-writable
 returns-in_default-clause-writable c = λ t s.
-    (scalar_by (num_of (numbers_of c.args.plan.now)) c.args.width t c.args.place (event_of c.index-events-place.result) s
-    (read_event c.args.events.now c.args.place c.index-events-place.result c.index-events-place.is c.requires.place)
-    (λ e. c.in_default.not-Array (c.kind_at.ensures ∙ e)) (λ e. c.in_default.not-Dictionary (c.kind_at.ensures ∙ e)) c.length_of_scalar.ensures.writable).1
+    of_scalar IsWritableScalar (λ u. IsWritable c.args.width
+    (obj_of (num_of (numbers_of c.args.plan.now)) u c.args.place)) t c.args.place
+    (event_of c.index-events-place.result) s
+    (read_event c.args.events.now c.args.place c.index-events-place.result c.index-events-place.is
+    c.requires.place)
+    (λ e. c.in_default.not-Array (c.kind_at.ensures ∙ e))
+    (λ e. c.in_default.not-Dictionary (c.kind_at.ensures ∙ e))
+    (λ x h. h) c.length_of_scalar.ensures.writable

@@ -16,4 +16,12 @@ loop-c-preserved c =
     }
 
 pub returns : goal.returns
-returns c = record { value = omega (arith, c.loop-c.invariant.counted, ap length (units_empty _ c.in-None.ensures.steps.0.0)) }
+returns c =
+    record {
+      value = omega (
+        arith,
+        c.loop-c.invariant.counted,
+        ap length
+            (units_empty _ c.in-None.ensures.steps.0.0),
+      );
+    }

@@ -18,7 +18,8 @@ loop-c-preserved g c =
       (
         held.1.0 ++ flat_map (big_endian 2) (encode_utf16 c.in-Some.c),
         puts_then held.1.1 c.in-Ok.ensures,
-        append_assoc held.1.0 (flat_map (big_endian 2) (encode_utf16 c.in-Some.c)) _ ∙ ap (λ l. held.1.0 ++ l) (sym step) ∙ held.1.2,
+        append_assoc held.1.0 (flat_map (big_endian 2) (encode_utf16 c.in-Some.c)) _
+            ∙ ap (λ l. held.1.0 ++ l) (sym step) ∙ held.1.2,
       ),
     )
 
@@ -27,9 +28,11 @@ returns-in-Err g c =
     let held = c.loop-c.invariant in
     let parts = c.in-Some.ensures.steps.0 in
     let step = unit_bytes_step _ _ c.in-Some.c held.0 parts in
-    puts_as (ap (λ l. held.1.0 ++ l) (sym step) ∙ held.1.2) (puts_then held.1.1 (puts_front _ c.in-Err.ensures))
+    puts_as (ap (λ l. held.1.0 ++ l) (sym step)
+    ∙ held.1.2) (puts_then held.1.1 (puts_front _ c.in-Err.ensures))
 
 pub returns : goal.returns
 returns g c =
     let held = c.loop-c.invariant in
-    puts_as (sym (append-nil held.1.0) ∙ ap (λ l. held.1.0 ++ flat_map (big_endian 2) l) (sym (units_empty _ c.in-None.ensures.steps.0.0)) ∙ held.1.2) held.1.1
+    puts_as (sym (append-nil held.1.0) ∙ ap (λ l. held.1.0 ++ flat_map (big_endian 2) l)
+    (sym (units_empty _ c.in-None.ensures.steps.0.0)) ∙ held.1.2) held.1.1

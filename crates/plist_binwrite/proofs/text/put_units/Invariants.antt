@@ -7,5 +7,7 @@ use Rattle.plist_binwrite.proofs.text.put_units.Given as goal
 abbrev pub invariant-loop-c : goal.invariant-loop-c
 invariant-loop-c g l =
     IsUtf8 (chars_rest l.c-iterator)
-    × ((done : List ℕ) × Puts (g.W.Write.contents l.initial.writer) l.initial.room.items done (Ok tt) (g.W.Write.contents l.writer) l.room.items
-    × (done ++ flat_map (big_endian 2) (units_of (chars_rest l.c-iterator)) ≡ flat_map (big_endian 2) (units_of l.text)))
+    × ((done : List ℕ) × Puts (g.W.Write.contents l.initial.writer) l.initial.room.items done
+    (Ok tt) (g.W.Write.contents l.writer) l.room.items
+    × (done ++ flat_map (big_endian 2) (units_of (chars_rest l.c-iterator))
+    ≡ flat_map (big_endian 2) (units_of l.text)))

@@ -11,7 +11,11 @@ returns-clause-bytes c =
     kept ∙ ap without_white whole
 
 pub returns-clause-spelled : goal.returns-clause-spelled
-returns-clause-spelled c = λ bytes are. spelled c.args.text.now bytes (λ i. let fits = c.type_inv.text i in omega arith) are
+returns-clause-spelled c =
+    λ bytes are. spelled c.args.text.now bytes (λ i. let fits = c.type_inv.text i in omega arith)
+    are
 
 pub returns-in_err-extend_from_slice-clause-spelled : goal.returns-in_err-extend_from_slice-clause-spelled
-returns-in_err-extend_from_slice-clause-spelled c = λ bytes are. spelled c.args.text.now bytes (λ i. let fits = c.type_inv.text i in omega arith) are
+returns-in_err-extend_from_slice-clause-spelled c =
+    λ bytes are. spelled c.args.text.now bytes (λ i. let fits = c.type_inv.text i in omega arith)
+    are

@@ -9,5 +9,7 @@ returns c =
     let date = c.args.date in
     let fits : FitsSigned w16 date.year = omega (arith, signed_arith, date.year_in) in
     let value = simp to_z-of_z at c.unsigned_abs-year.ensures.value in
-    let same : pos c.unsigned_abs-year.result ≡ date.year = ap pos value ∙ abs_pos date.year c.requires.year in
-    printed date c.unsigned_abs-year.result c.args.second same (omega (arith, signed_arith, date.year_in.1, same)) c.requires.second
+    let same : pos c.unsigned_abs-year.result ≡ date.year = ap pos value
+    ∙ abs_pos date.year c.requires.year in
+    printed date c.unsigned_abs-year.result c.args.second same
+    (omega (arith, signed_arith, date.year_in.1, same)) c.requires.second

@@ -15,11 +15,16 @@ returns-in-Ok-clause-read c =
     let start = c.new-walk.result in
     subst (λ l. IsReadFrom l (built_tree c.from_events.result))
     (ap (λ w. items_of (owed w)) is
-    ∙ begun start c.args.objects.now (ap (λ (b : Bor _). b.now) c.new-walk.ensures.objects) c.new-walk.ensures.path c.new-walk.ensures.levels c.enter.new.self c.get.result c.args.uid c.get.ensures c.in-Ok.ensures.entered)
-    (seen (λ walk. Some (items_of (owed walk))) (λ old item new gives. (items_of (owed new), refl, gives)))
+    ∙ begun start c.args.objects.now (ap (λ (b : Bor _). b.now) c.new-walk.ensures.objects)
+    c.new-walk.ensures.path c.new-walk.ensures.levels c.enter.new.self c.get.result c.args.uid
+    c.get.ensures c.in-Ok.ensures.entered)
+    (seen (λ walk. Some (items_of (owed walk)))
+    (λ old item new gives. (items_of (owed new), refl, gives)))
 
 pub returns-in-Err-clause-read : goal.returns-in-Err-clause-read
 returns-in-Err-clause-read c =
     let start = c.new-walk.result in
     fault-read (items_at c.args.objects.now c.args.uid) (fault_of c.in-Err.error)
-    (not-begun start c.args.objects.now (ap (λ (b : Bor _). b.now) c.new-walk.ensures.objects) c.new-walk.ensures.path c.new-walk.ensures.levels c.get.result c.args.uid (fault_of c.in-Err.error) c.get.ensures c.in-Err.ensures.refused)
+    (not-begun start c.args.objects.now (ap (λ (b : Bor _). b.now) c.new-walk.ensures.objects)
+    c.new-walk.ensures.path c.new-walk.ensures.levels c.get.result c.args.uid
+    (fault_of c.in-Err.error) c.get.ensures c.in-Err.ensures.refused)

@@ -6,7 +6,8 @@ abbrev pub invariant-white : goal.invariant-white
 invariant-white g l = record {
   same : g.S.Source.known l.source ≡ g.S.Source.known l.initial.source;
   counts : g.S.Source.failures l.source ≡ g.S.Source.failures l.initial.source;
-  passed : IfSome (g.S.Source.known l.initial.source) (λ bytes. past_white l.start (front bytes) ≡ past_white l.place (front bytes));
+  passed : IfSome (g.S.Source.known l.initial.source)
+      (λ bytes. past_white l.start (front bytes) ≡ past_white l.place (front bytes));
 }
 
 abbrev pub decreases-white : goal.decreases-white

@@ -7,4 +7,5 @@ use Rattle.plist.proofs.dictionary.Pairs.contains_key.Goals as goal
 pub returns : goal.returns
 returns g c =
     let k = c.self.inside in
-    c.contains.ensures ∙ any-rows k.keys.keys k.items.items (bytes_eq c.args.key.now) c.self.invariant.0 ∙ ap (λ l. is_some (lookup (bytes_eq c.args.key.now) l)) c.self.view_is
+    c.contains.ensures ∙ any-rows k.keys.keys k.items.items (bytes_eq c.args.key.now)
+    c.self.invariant.0 ∙ ap (λ l. is_some (lookup (bytes_eq c.args.key.now) l)) c.self.view_is

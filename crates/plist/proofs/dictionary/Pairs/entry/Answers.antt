@@ -7,41 +7,53 @@ use Rattle.plist.proofs.dictionary.Pairs.entry.Goals as goal
 pub returns-in-Some-clause-key : goal.returns-in-Some-clause-key
 returns-in-Some-clause-key g c =
     let ps = c.args.self.now in
-    key-there (string_bytes c.args.key) ps c.in-Some.at (c.in-Some.ensures.1 ∙ ap (λ b. position (bytes_eq b) (keys_of ps)) c.as_str.ensures.value)
+    key-there (string_bytes c.args.key) ps c.in-Some.at
+    (c.in-Some.ensures.1 ∙ ap (λ b. position (bytes_eq b) (keys_of ps)) c.as_str.ensures.value)
 
 pub returns-in-Some-clause-value : goal.returns-in-Some-clause-value
 returns-in-Some-clause-value g c =
     let ps = c.args.self.now in
-    value-there (string_bytes c.args.key) ps c.in-Some.at (c.in-Some.ensures.1 ∙ ap (λ b. position (bytes_eq b) (keys_of ps)) c.as_str.ensures.value)
+    value-there (string_bytes c.args.key) ps c.in-Some.at
+    (c.in-Some.ensures.1 ∙ ap (λ b. position (bytes_eq b) (keys_of ps)) c.as_str.ensures.value)
 
 pub returns-in-Some-clause-kept : goal.returns-in-Some-clause-kept
 returns-in-Some-clause-kept g c =
     let ps = c.args.self.now in
-    kept-there (string_bytes c.args.key) ps c.in-Some.at c.args.key (c.in-Some.ensures.1 ∙ ap (λ b. position (bytes_eq b) (keys_of ps)) c.as_str.ensures.value)
+    kept-there (string_bytes c.args.key) ps c.in-Some.at c.args.key
+    (c.in-Some.ensures.1 ∙ ap (λ b. position (bytes_eq b) (keys_of ps)) c.as_str.ensures.value)
 
 pub returns-in-Some-clause-writes : goal.returns-in-Some-clause-writes
 returns-in-Some-clause-writes g c =
     let ps = c.args.self.now in
-    λ v. keeps_place (string_bytes c.args.key) v ps c.in-Some.at (c.in-Some.ensures.1 ∙ ap (λ b. position (bytes_eq b) (keys_of ps)) c.as_str.ensures.value)
+    λ v. keeps_place (string_bytes c.args.key) v ps c.in-Some.at
+    (c.in-Some.ensures.1 ∙ ap (λ b. position (bytes_eq b) (keys_of ps)) c.as_str.ensures.value)
 
 pub returns-in-Some-clause-removes : goal.returns-in-Some-clause-removes
 returns-in-Some-clause-removes g c =
     let ps = c.args.self.now in
-    λ after is. taken-there (string_bytes c.args.key) ps c.in-Some.at after (c.in-Some.ensures.1 ∙ ap (λ b. position (bytes_eq b) (keys_of ps)) c.as_str.ensures.value) is
+    λ after is. taken-there (string_bytes c.args.key) ps c.in-Some.at after
+    (c.in-Some.ensures.1 ∙ ap (λ b. position (bytes_eq b) (keys_of ps)) c.as_str.ensures.value)
+    is
 
 pub returns-clause-value : goal.returns-clause-value
-returns-clause-value g c = sym (ap (λ b. lookup (bytes_eq b) c.args.self.now) (sym c.as_str.ensures.value) ∙ c.in-None.ensures)
+returns-clause-value g c =
+    sym (ap (λ b. lookup (bytes_eq b) c.args.self.now) (sym c.as_str.ensures.value)
+    ∙ c.in-None.ensures)
 
 pub returns-clause-writes : goal.returns-clause-writes
 returns-clause-writes g c =
     let ps = c.args.self.now in
-    λ v. sym (comes_last (string_bytes c.args.key) v ps (ap (λ b. lookup (bytes_eq b) ps) (sym c.as_str.ensures.value) ∙ c.in-None.ensures))
+    λ v. sym (comes_last (string_bytes c.args.key) v ps
+    (ap (λ b. lookup (bytes_eq b) ps) (sym c.as_str.ensures.value) ∙ c.in-None.ensures))
 
 pub returns-clause-kept : goal.returns-clause-kept
 returns-clause-kept g c =
-    ap (λ o. cond (is_some o) None (Some c.args.key)) (sym (ap (λ b. lookup (bytes_eq b) c.args.self.now) (sym c.as_str.ensures.value) ∙ c.in-None.ensures))
+    ap (λ o. cond (is_some o) None (Some c.args.key))
+    (sym (ap (λ b. lookup (bytes_eq b) c.args.self.now) (sym c.as_str.ensures.value)
+    ∙ c.in-None.ensures))
 
 pub returns-clause-removes : goal.returns-clause-removes
 returns-clause-removes g c =
     let ps = c.args.self.now in
-    λ after is. is ∙ sym (none-taken (string_bytes c.args.key) ps (ap (λ b. lookup (bytes_eq b) ps) (sym c.as_str.ensures.value) ∙ c.in-None.ensures))
+    λ after is. is ∙ sym (none-taken (string_bytes c.args.key) ps
+    (ap (λ b. lookup (bytes_eq b) ps) (sym c.as_str.ensures.value) ∙ c.in-None.ensures))

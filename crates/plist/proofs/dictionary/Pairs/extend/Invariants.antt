@@ -8,7 +8,10 @@ use Rattle.plist.proofs.dictionary.Pairs.extend.Given as goal
 
 abbrev pub invariant-loop-key : goal.invariant-loop-key
 invariant-loop-key g l =
-    it.Ran g.I.IntoIter.Iterator.can_next (EndsFrom g.I.IntoIter.Iterator.remaining) (items_left g.I.IntoIter.Iterator.remaining) g.I.IntoIter.Iterator.next_gives (λ rows. l.self ≡ insert_all bytes_eq l.initial.self (map shown_owned_pair rows)) l.initial.rest l.rest
+    it.Ran g.I.IntoIter.Iterator.can_next (EndsFrom g.I.IntoIter.Iterator.remaining)
+    (items_left g.I.IntoIter.Iterator.remaining) g.I.IntoIter.Iterator.next_gives
+    (λ rows. l.self ≡ insert_all bytes_eq l.initial.self (map shown_owned_pair rows))
+    l.initial.rest l.rest
 
 abbrev pub decreases-loop-key : goal.decreases-loop-key
 decreases-loop-key g l = items_left g.I.IntoIter.Iterator.remaining l.rest

@@ -7,4 +7,6 @@ pub returns-clause-runs : goal.returns-clause-runs
 returns-clause-runs g c = shows_in_order shown_pair
 
 pub returns-clause-distinct : goal.returns-clause-distinct
-returns-clause-distinct g c = let k = c.self.inside in distinct-rows k.keys.keys k.items.items c.self.invariant.0 c.args.self.now c.self.view_is c.self.invariant.1
+returns-clause-distinct g c =
+    let k = c.self.inside in distinct-rows k.keys.keys k.items.items c.self.invariant.0
+    c.args.self.now c.self.view_is c.self.invariant.1

@@ -8,10 +8,13 @@ use Rattle.plist.proofs.dictionary.Pairs.keys.Goals as goal
 pub returns-clause-rest : goal.returns-clause-rest
 returns-clause-rest g c =
     let k = c.self.inside in
-    c.new.ensures ∙ ap (map string_bytes) c.as_slice.ensures.keys ∙ sym (keys-rows k.keys.keys k.items.items c.self.invariant.0) ∙ ap keys_of c.self.view_is
+    c.new.ensures ∙ ap (map string_bytes) c.as_slice.ensures.keys
+    ∙ sym (keys-rows k.keys.keys k.items.items c.self.invariant.0) ∙ ap keys_of c.self.view_is
 
 pub returns-clause-runs : goal.returns-clause-runs
 returns-clause-runs g c = shows_in_order shown_key
 
 pub returns-clause-distinct : goal.returns-clause-distinct
-returns-clause-distinct g c = let k = c.self.inside in distinct-rows k.keys.keys k.items.items c.self.invariant.0 c.args.self.now c.self.view_is c.self.invariant.1
+returns-clause-distinct g c =
+    let k = c.self.inside in distinct-rows k.keys.keys k.items.items c.self.invariant.0
+    c.args.self.now c.self.view_is c.self.invariant.1

@@ -7,19 +7,30 @@ use Rattle.plist.proofs.Rebuilt.{sorted-rows, moved-rows, still-distinct}
 use Rattle.plist.proofs.dictionary.Pairs.sort_keys.Goals as goal
 
 pub rows_of-rows-requires-clause-fits : goal.rows_of-rows-requires-clause-fits
-rows_of-rows-requires-clause-fits g c = omega (arith, c.in_ok-room.ensures.capacity, ap length c.replace.ensures.value, c.pair_count-count.ensures.count)
+rows_of-rows-requires-clause-fits g c =
+    omega (
+      arith,
+      c.in_ok-room.ensures.capacity,
+      ap length c.replace.ensures.value,
+      c.pair_count-count.ensures.count,
+    )
 
 pub pairs_of-requires-clause-distinct : goal.pairs_of-requires-clause-distinct
 pairs_of-requires-clause-distinct g c =
-    let moved = moved-rows c.args.self.now c.rows_of-rows.result.items c.sort_unstable_by.new.self.items (c.rows_of-rows.ensures ∙ c.replace.ensures.value) c.sort_unstable_by.ensures.permutation in
+    let moved = moved-rows c.args.self.now c.rows_of-rows.result.items
+    c.sort_unstable_by.new.self.items (c.rows_of-rows.ensures ∙ c.replace.ensures.value)
+    c.sort_unstable_by.ensures.permutation in
     still-distinct c.args.self.now _ c.pair_count-count.ensures.distinct moved
 
 pub returns-clause-sorted : goal.returns-clause-sorted
 returns-clause-sorted g c =
     sorted-rows c.sort_unstable_by.new.self.items c.pairs_of.result c.pairs_of.ensures
-    (c.sort_unstable_by.ensures.sorted (λ a b. is_lt (string_cmp a.0 b.0)) (ranks_by string_cmp_total (λ e. e.0)) (always_returns_same _ _ _ (λ a r f' k. (ap is_lt k.met, refl))))
+    (c.sort_unstable_by.ensures.sorted (λ a b. is_lt (string_cmp a.0 b.0))
+    (ranks_by string_cmp_total (λ e. e.0))
+    (always_returns_same _ _ _ (λ a r f' k. (ap is_lt k.met, refl))))
 
 pub returns-clause-pairs : goal.returns-clause-pairs
 returns-clause-pairs g c =
     subst (IsPermutation c.args.self.now) (sym c.pairs_of.ensures)
-    (moved-rows c.args.self.now c.rows_of-rows.result.items c.sort_unstable_by.new.self.items (c.rows_of-rows.ensures ∙ c.replace.ensures.value) c.sort_unstable_by.ensures.permutation)
+    (moved-rows c.args.self.now c.rows_of-rows.result.items c.sort_unstable_by.new.self.items
+    (c.rows_of-rows.ensures ∙ c.replace.ensures.value) c.sort_unstable_by.ensures.permutation)

@@ -12,11 +12,28 @@ loop-key-preserved-in-Ok g c =
     let next : rest ≡ (c.in-Some.key, c.in-Some.value) ∷ less = c.in-Some.ensures.steps.0 in
     let put = c.push_reserved.ensures in
     record {
-      same = then-lengths l.keys.keys l.items.items i.same _ c.requires.distinct c.in-Some.key c.in-Some.value rest less next i.all c.insert.new.self.keys c.push_reserved.new.self.items c.in-Ok.ensures.keys put.items;
-      all = then-rows l.keys.keys l.items.items i.same _ c.requires.distinct c.in-Some.key c.in-Some.value rest less next i.all c.insert.new.self.keys c.push_reserved.new.self.items c.in-Ok.ensures.keys put.items;
+      same = then-lengths l.keys.keys l.items.items i.same _ c.requires.distinct c.in-Some.key
+          c.in-Some.value rest less next i.all c.insert.new.self.keys c.push_reserved.new.self.items
+          c.in-Ok.ensures.keys put.items;
+      all = then-rows l.keys.keys l.items.items i.same _ c.requires.distinct c.in-Some.key
+          c.in-Some.value rest less next i.all c.insert.new.self.keys c.push_reserved.new.self.items
+          c.in-Ok.ensures.keys put.items;
       keys = omega (arith, i.keys, ap length next, c.in-Ok.ensures.spare);
-      items = omega (arith, i.items, ap length next, ap length put.items, length-append l.items.items (c.in-Some.value ∷ []), put.capacity);
+      items = omega (
+        arith,
+        i.items,
+        ap length next,
+        ap length put.items,
+        length-append
+            l.items.items (c.in-Some.value ∷ []),
+        put.capacity,
+      );
     }
 
 pub invariant_of-result : goal.invariant_of-result
-invariant_of-result g c = let i = c.loop-key.invariant in (i.same, so-far c.loop-key.keys.keys c.loop-key.items.items i.same _ c.requires.distinct _ i.all)
+invariant_of-result g c =
+    let i = c.loop-key.invariant in (
+      i.same,
+      so-far c.loop-key.keys.keys c.loop-key.items.items i.same _ c.requires.distinct _
+          i.all,
+    )

@@ -5,4 +5,5 @@ use Rattle.plist.proofs.dictionary.bulk.rows_of.Given as goal
 
 abbrev pub invariant-loop-row : goal.invariant-loop-row
 invariant-loop-row g l =
-    (map shown_owned_pair l.rows.items ++ l.row-iterator ≡ l.fn.pairs) × (length l.rows.items + length l.row-iterator ≤ vec_capacity l.rows)
+    (map shown_owned_pair l.rows.items ++ l.row-iterator ≡ l.fn.pairs)
+    × (length l.rows.items + length l.row-iterator ≤ vec_capacity l.rows)

@@ -3,4 +3,6 @@ use Rattle.plist.proofs.Storing.{stored}
 use Rattle.plist.proofs.files.Output.store.Goals as goal
 
 pub returns : goal.returns
-returns g c = stored (tree_of c.args.value.now) c.sync.result c.args.self.now c.to_writer_binary.new.writer c.in_ok-to_writer_binary.ensures.sent c.sync.ensures
+returns g c =
+    stored (tree_of c.args.value.now) c.sync.result c.args.self.now c.to_writer_binary.new.writer
+    c.in_ok-to_writer_binary.ensures.sent c.sync.ensures

@@ -8,5 +8,6 @@ pub returns-in-Ok : goal.returns-in-Ok
 returns-in-Ok c =
     let found = c.in-Some-AfterKey in
     ap (λ root. held_by root (reverse c.push_reserved-in-Some-AfterKey.new.self.items)) c.requires
-    ∙ pair_made _ _ _ _ _ _ _ _ c.pop.ensures.items (found.is ∙ ap Some found.field-0-is) c.push_reserved-in-Some-AfterKey.ensures.items c.in-Ok.ensures.pairs
+    ∙ pair_made _ _ _ _ _ _ _ _ c.pop.ensures.items (found.is ∙ ap Some found.field-0-is)
+    c.push_reserved-in-Some-AfterKey.ensures.items c.in-Ok.ensures.pairs
     (once_from _ (distinct-rows _ _ c.pairs.invariant.0 _ c.pairs.view_is c.pairs.invariant.1))

@@ -1,4 +1,4 @@
-use Rattle.plist_ascii.specs.Coming.{bytes_left, dialect_of, place_of}
+use Rattle.plist_ascii.specs.AsciiReader.{bytes_left, dialect_of, place_of}
 use Rattle.plist_ascii.specs.Texts.{ends_bare}
 use Rattle.plist.specs.Collecting.{built_tree}
 use Rattle.plist.proofs.Shown.{of-ascii, ascii-start, ascii-shows, ascii_coming}
@@ -7,9 +7,17 @@ use Rattle.plist.proofs.value.Value.from_reader_ascii_with_dialect.Goals as goal
 pub returns-clause-value : goal.returns-clause-value
 returns-clause-value g c =
     let reader = c.with_dialect.ensures in
-    of-ascii (ends_bare c.args.dialect) _ _ (built_tree c.collect.result) (ascii-start _ c.args.dialect _ _ _ reader.dialect reader.bytes reader.place)
+    of-ascii (ends_bare c.args.dialect) _ _ (built_tree c.collect.result)
+    (ascii-start _ c.args.dialect _ _ _ reader.dialect reader.bytes reader.place)
     (c.collect.ensures.shown (ascii_coming g.R.Bytes.remaining) (λ old item new gives.
-    ascii-shows (dialect_of old) (dialect_of new) (bytes_left g.R.Bytes.remaining old) (bytes_left g.R.Bytes.remaining new) (place_of old) (place_of new) item gives.dialect gives.items))
+    ascii-shows (dialect_of old) (dialect_of new) (bytes_left g.R.Bytes.remaining old)
+    (bytes_left g.R.Bytes.remaining new) (place_of old) (place_of new) item gives.dialect
+    gives.items))
 
 pub returns-clause-read : goal.returns-clause-read
-returns-clause-read g c = (c.with_dialect.result, c.with_dialect.ensures.inner, c.with_dialect.ensures.dialect, c.collect.ensures.value)
+returns-clause-read g c = (
+  c.with_dialect.result,
+  c.with_dialect.ensures.inner,
+  c.with_dialect.ensures.dialect,
+  c.collect.ensures.value,
+)

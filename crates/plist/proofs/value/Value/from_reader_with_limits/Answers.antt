@@ -1,7 +1,7 @@
 use Rattle.plist_base.specs.Limits.{come_of, inner_of}
 use Rattle.std.specs.Option.{option_map}
 use Rattle.std.proofs.Common.{ap, ◌∙◌}
-use Rattle.plist_reader.specs.Coming.{Gives, items_of_input, to_come}
+use Rattle.plist_reader.specs.Reader.{Gives, items_of_input, to_come}
 use Rattle.plist.specs.Collecting.{built_tree}
 use Rattle.plist.proofs.Shown.{reader-shows}
 use Rattle.plist.proofs.Limiting.{built-within, limited-shows, of-limited}
@@ -10,11 +10,22 @@ use Rattle.plist.proofs.value.Value.from_reader_with_limits.Goals as goal
 pub returns-clause-value : goal.returns-clause-value
 returns-clause-value g c =
     let known = g.R.Source.known in
-    of-limited c.args.limits _ _ items_of_input _ (built_tree c.collect.result) c.new-2.ensures.items (ap (to_come known) c.new-2.ensures.inner ∙ c.new.ensures.items)
-    (c.collect.ensures.shown (λ l. option_map (come_of l) (to_come known (inner_of l))) (limited-shows (Gives known g.R.Source.failures) (to_come known) (λ old item new gives. reader-shows _ _ item gives.items)))
+    of-limited c.args.limits _ _ items_of_input _ (built_tree c.collect.result)
+    c.new-2.ensures.items (ap (to_come known) c.new-2.ensures.inner ∙ c.new.ensures.items)
+    (c.collect.ensures.shown (λ l. option_map (come_of l) (to_come known (inner_of l)))
+    (limited-shows (Gives known g.R.Source.failures) (to_come known)
+    (λ old item new gives. reader-shows _ _ item gives.items)))
 
 pub returns-clause-within : goal.returns-clause-within
-returns-clause-within g c = built-within (Gives g.R.Source.known g.R.Source.failures) c.args.limits c.new-2.result (built_tree c.collect.result) c.new-2.ensures.items c.collect.ensures.value
+returns-clause-within g c =
+    built-within (Gives g.R.Source.known g.R.Source.failures) c.args.limits c.new-2.result
+    (built_tree c.collect.result) c.new-2.ensures.items c.collect.ensures.value
 
 pub returns-clause-read : goal.returns-clause-read
-returns-clause-read g c = (c.new-2.result, c.new-2.ensures.items, ap (to_come g.R.Source.known) c.new-2.ensures.inner ∙ c.new.ensures.items, c.collect.ensures.value)
+returns-clause-read g c = (
+  c.new-2.result,
+  c.new-2.ensures.items,
+  ap (to_come g.R.Source.known) c.new-2.ensures.inner
+      ∙ c.new.ensures.items,
+  c.collect.ensures.value,
+)

@@ -7,15 +7,22 @@ use Rattle.plist.proofs.Gathered.{whole_tree, sends_tree, wants_memory}
 use Rattle.plist.proofs.value.Value.to_writer_binary.Goals as goal
 
 pub complete-requires : goal.complete-requires
-complete-requires g c = record { whole = whole_tree (tree_of c.args.self.now) c.as_slice.result.now (ap (map event_of) c.as_slice.ensures.value ∙ c.in-Ok.ensures.events) }
+complete-requires g c =
+    record {
+      whole = whole_tree (tree_of c.args.self.now) c.as_slice.result.now
+          (ap (map event_of) c.as_slice.ensures.value ∙ c.in-Ok.ensures.events);
+    }
 
 pub returns-in-Ok : goal.returns-in-Ok
 returns-in-Ok g c = record {
-  sent = sends_tree (tree_of c.args.self.now) c.as_slice.result.now (ap (map event_of) c.as_slice.ensures.value ∙ c.in-Ok.ensures.events)
-      g.W.Write.contents c.args.writer.now c.complete.new.writer (answer_of c.complete.result) c.complete.ensures;
+  sent = sends_tree (tree_of c.args.self.now) c.as_slice.result.now
+      (ap (map event_of) c.as_slice.ensures.value ∙ c.in-Ok.ensures.events)
+      g.W.Write.contents c.args.writer.now c.complete.new.writer (answer_of c.complete.result)
+      c.complete.ensures;
 }
 
 pub returns-in-Err : goal.returns-in-Err
 returns-in-Err g c = record {
-  sent = wants_memory g.W.Write.contents (tree_of c.args.self.now) (fault_of c.in-Err.error) c.args.writer.now c.in-Err.ensures.memory;
+  sent = wants_memory g.W.Write.contents (tree_of c.args.self.now) (fault_of c.in-Err.error)
+      c.args.writer.now c.in-Err.ensures.memory;
 }

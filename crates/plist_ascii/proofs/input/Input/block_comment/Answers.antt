@@ -16,7 +16,8 @@ returns-then-closes-clause-answers g c =
       λ xs e.
           let i = c.bytes.invariant.comment xs e in
           let t = some i.1 i.2 in
-          front_from (block_comment xs) _ _ _ _ (i.0 + 1) xs (closing_closed xs i.0 _ i.1 t.0 _ i.3 both.0 t.1 both.1)
+          front_from (block_comment xs) _ _ _ _ (i.0 + 1) xs
+          (closing_closed xs i.0 _ i.1 t.0 _ i.3 both.0 t.1 both.1)
           (t.2 ∙ ap Some (rest_past xs i.0 _ i.1 t.0 _ i.3 t.1)) (omega (arith, place.0, i.4)),
     )
 
@@ -29,8 +30,15 @@ bytes-preserved g c =
       rises = omega (arith, c.bytes.invariant.rises, place.0);
       comment = λ xs e.
           let i = c.bytes.invariant.comment xs e in
-          let t = some i.1 i.2 in
-          (i.0 + 1, t.0, t.2, closing_more xs i.0 _ i.1 t.0 _ _ i.3 t.1 (sym c.closes.ensures ∙ c.if-closes.false) c.is_star-star.ensures, omega (arith, place.0, i.4));
+          let t = some i.1 i.2 in (
+            i.0 + 1,
+            t.0,
+            t.2,
+            closing_more xs i.0 _ i.1 t.0 _ _ i.3 t.1
+                (sym c.closes.ensures ∙ c.if-closes.false) c.is_star-star.ensures,
+            omega
+                (arith, place.0, i.4),
+          );
     }
 
 pub returns-in_default-clause-answers : goal.returns-in_default-clause-answers
@@ -42,6 +50,9 @@ returns-in_default-clause-answers g c =
       λ d xs e.
           let i = c.bytes.invariant.comment xs e in
           let t = c.in_ok-byte.ensures.none none i.1 i.2 in
-          front_from (block_comment xs) _ _ _ _ i.0 xs (closing_open xs i.0 _ i.1 i.3 t.1 ∙ ap (λ k. taken i.0 (Err k)) (kind_said _ IncompleteComment _ c.fault.ensures))
-          (t.0 ∙ ap Some (let r : Closing xs i.0 c.bytes.star i.1 = i.3 in r.rest)) (omega (arith, place, i.4)),
+          front_from (block_comment xs) _ _ _ _ i.0 xs
+          (closing_open xs i.0 _ i.1 i.3 t.1
+          ∙ ap (λ k. taken i.0 (Err k)) (kind_said _ IncompleteComment _ c.fault.ensures))
+          (t.0 ∙ ap Some (let r : Closing xs i.0 c.bytes.star i.1 = i.3 in r.rest))
+          (omega (arith, place, i.4)),
     )

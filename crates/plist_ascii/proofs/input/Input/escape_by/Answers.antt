@@ -1,5 +1,5 @@
 use Rattle.std.proofs.Common.{sym, ◌∙◌}
-use Rattle.plist_ascii.specs.Parts.{piece_bytes}
+use Rattle.plist_ascii.specs.inner.Parts.{piece_bytes}
 use Rattle.plist_ascii.specs.declared.escape.Piece.TheVariants.{Byte}
 use Rattle.plist_ascii.proofs.Answering.{answers_same, answers_here, answers_fault}
 use Rattle.plist_ascii.proofs.Escapes.{escape_octal, escape_simple, escape_bad, not_equal}
@@ -7,11 +7,19 @@ use Rattle.plist_ascii.specs.Escapes.{escape_by, octal}
 use Rattle.plist_ascii.proofs.input.Input.escape_by.Goals as goal
 
 pub returns-then-is_octal-clause-answers : goal.returns-then-is_octal-clause-answers
-returns-then-is_octal-clause-answers g c = answers_same piece_bytes (escape_by c.args.byte) (octal c.args.byte) _ _ _ _ _
-    (λ xs. escape_octal c.args.byte xs (not_equal _ _ c.if-byte-eq85.false) (sym c.is_octal.ensures ∙ c.if-is_octal.true)) c.octal.ensures.answers
+returns-then-is_octal-clause-answers g c =
+    answers_same piece_bytes (escape_by c.args.byte) (octal c.args.byte) _ _ _ _ _
+    (λ xs. escape_octal c.args.byte xs (not_equal _ _ c.if-byte-eq85.false)
+    (sym c.is_octal.ensures ∙ c.if-is_octal.true)) c.octal.ensures.answers
 
 pub returns-in-Some-clause-answers : goal.returns-in-Some-clause-answers
-returns-in-Some-clause-answers g c = answers_here piece_bytes (escape_by c.args.byte) _ _ (Byte c.in-Some.other) (λ xs. escape_simple c.args.byte xs c.in-Some.other (not_equal _ _ c.if-byte-eq85.false) (sym c.is_octal.ensures ∙ c.if-is_octal.false) (sym c.simple_of.ensures ∙ c.in-Some.is))
+returns-in-Some-clause-answers g c =
+    answers_here piece_bytes (escape_by c.args.byte) _ _ (Byte c.in-Some.other)
+    (λ xs. escape_simple c.args.byte xs c.in-Some.other (not_equal _ _ c.if-byte-eq85.false)
+    (sym c.is_octal.ensures ∙ c.if-is_octal.false) (sym c.simple_of.ensures ∙ c.in-Some.is))
 
 pub returns-in-None-clause-answers : goal.returns-in-None-clause-answers
-returns-in-None-clause-answers g c = answers_fault piece_bytes (escape_by c.args.byte) _ _ _ _ c.fault.ensures tt (λ xs. escape_bad c.args.byte xs (not_equal _ _ c.if-byte-eq85.false) (sym c.is_octal.ensures ∙ c.if-is_octal.false) (sym c.simple_of.ensures ∙ c.in-None.is))
+returns-in-None-clause-answers g c =
+    answers_fault piece_bytes (escape_by c.args.byte) _ _ _ _ c.fault.ensures tt
+    (λ xs. escape_bad c.args.byte xs (not_equal _ _ c.if-byte-eq85.false)
+    (sym c.is_octal.ensures ∙ c.if-is_octal.false) (sym c.simple_of.ensures ∙ c.in-None.is))

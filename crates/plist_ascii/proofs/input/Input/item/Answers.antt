@@ -22,7 +22,9 @@ returns-in-Ok-Some-token_by-clause-items g c =
     let i = c.tokens.invariant.going xs e in
     let t = some i.0 i.1 in
     let k = a.1 t.0 t.2 in
-    let s : c.token_by.new.self.taken ≡ c.tokens.self.taken + suc (token_by (stops c.args.stop) (lead_of c.in-Ok-Some.byte) c.in-Ok-Some.byte t.0).bytes = omega (arith, k.2, place.0) in
+    let s : c.token_by.new.self.taken ≡ c.tokens.self.taken
+    + suc (token_by (stops c.args.stop) (lead_of c.in-Ok-Some.byte) c.in-Ok-Some.byte
+    t.0).bytes = omega (arith, k.2, place.0) in
     (_, k.1, going_event _ xs _ i.0 _ _ t.0 i.2 t.1 _ s _ k.0)
 
 pub tokens-preserved : goal.tokens-preserved
@@ -31,13 +33,16 @@ tokens-preserved g c =
     let place = rw c.in-Ok-Some.field-0-is at c.in-Ok-Some.ensures.place in
     let a = rw c.in-Ok-None-token_by.field-0-is at c.in-Ok-None-token_by.ensures.answers in
     record {
-      counts = c.in-Ok-None-token_by.ensures.failures ∙ c.in-Ok-Some.ensures.failures ∙ c.tokens.invariant.counts;
+      counts = c.in-Ok-None-token_by.ensures.failures ∙ c.in-Ok-Some.ensures.failures
+          ∙ c.tokens.invariant.counts;
       rises = omega (arith, c.tokens.invariant.rises, a.0, place.0);
       going = λ xs e.
           let i = c.tokens.invariant.going xs e in
           let t = some i.0 i.1 in
           let k = a.1 t.0 t.2 in
-          let s : c.token_by.new.self.taken ≡ c.tokens.self.taken + suc (token_by (stops c.args.stop) (lead_of c.in-Ok-Some.byte) c.in-Ok-Some.byte t.0).bytes = omega (arith, k.2, place.0) in
+          let s : c.token_by.new.self.taken ≡ c.tokens.self.taken
+          + suc (token_by (stops c.args.stop) (lead_of c.in-Ok-Some.byte) c.in-Ok-Some.byte
+          t.0).bytes = omega (arith, k.2, place.0) in
           (_, k.1, going_skip _ xs _ i.0 _ _ t.0 i.2 t.1 _ s k.0);
     }
 
@@ -62,13 +67,20 @@ returns-in-Err-token_by-clause-items g c =
       | then-is_from_outside w ↦ rw (w.self-is) (
         [],
         w.end.ensures.unread,
-        outside_gets (kind_of (error_kind_of error)) _ _ _ (sym c.is_from_outside.ensures ∙ w.if-is_from_outside.true) refl
-            (λ m. (refl, going_text _ xs _ i.0 _ _ t.0 i.2 t.1 (c.in-Err-token_by.ensures.memory m t.0 t.2))),
+        outside_gets (kind_of (error_kind_of error)) _ _ _
+            (sym c.is_from_outside.ensures ∙ w.if-is_from_outside.true) refl
+            (λ m. (
+              refl,
+              going_text _ xs _ i.0 _ _ t.0 i.2 t.1
+                  (c.in-Err-token_by.ensures.memory m t.0 t.2),
+            )),
       )
       | else-is_from_outside w ↦ (
           let d = sym c.is_from_outside.ensures ∙ w.if-is_from_outside.false in
           let k = a.2 d t.0 t.2 in
-          let s : c.token_by.new.self.taken ≡ c.tokens.self.taken + suc (token_by (stops c.args.stop) (lead_of c.in-Ok-Some.byte) c.in-Ok-Some.byte t.0).bytes = omega (arith, k.2, place.0) in
+          let s : c.token_by.new.self.taken ≡ c.tokens.self.taken
+          + suc (token_by (stops c.args.stop) (lead_of c.in-Ok-Some.byte) c.in-Ok-Some.byte
+          t.0).bytes = omega (arith, k.2, place.0) in
           rw (w.self-is) (
             _,
             k.1,

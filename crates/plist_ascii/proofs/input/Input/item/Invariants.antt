@@ -7,7 +7,8 @@ abbrev pub invariant-tokens : goal.invariant-tokens
 invariant-tokens g l = record {
   rises : l.fn.self.taken ≤ l.self.taken;
   counts : g.R.Bytes.failures l.self.inner ≡ g.R.Bytes.failures l.fn.self.inner;
-  going : Known (unread g.R.Bytes.remaining l.fn.self) (λ xs. (ys : List ℕ) × (unread g.R.Bytes.remaining l.self ≡ Some ys)
+  going : Known (unread g.R.Bytes.remaining l.fn.self)
+      (λ xs. (ys : List ℕ) × (unread g.R.Bytes.remaining l.self ≡ Some ys)
       × Going (stops l.stop) xs l.fn.self.taken ys l.self.taken);
 }
 

@@ -9,4 +9,5 @@ pub returns-then-self-2-clause-next : goal.returns-then-self-2-clause-next
 returns-then-self-2-clause-next g c = λ xs e. full_looks _ _ _ _ xs c.if-self-2.true e
 
 pub returns-in-Some-clause-next : goal.returns-in-Some-clause-next
-returns-in-Some-clause-next g c = λ xs e. held_looks _ _ _ _ _ xs c.if-self.false c.in-Some.is (omega arith) e
+returns-in-Some-clause-next g c =
+    λ xs e. held_looks _ _ _ _ _ xs c.if-self.false c.in-Some.is (omega arith) e

@@ -2,46 +2,59 @@ use Rattle.std.proofs.Common.{◌+◌, ◌++◌, [], arith, take, drop}
 use Rattle.std.proofs.lemmas.Result.{err_from_is_err_and}
 use Rattle.plist_ascii.specs.Taken.{run}
 use Rattle.plist_ascii.specs.Quoted.{ends_run}
-use Rattle.plist_ascii.specs.Parts.{piece_bytes}
+use Rattle.plist_ascii.specs.inner.Parts.{piece_bytes}
 use Rattle.plist_ascii.proofs.Quotes.{part_closes, part_goes_on, part_fails, drop_past_run, text_closes, text_goes_on}
 use Rattle.plist_ascii.proofs.input.Input.part.Goals as goal
 
-pub returns-in-None-clause-ok : goal.returns-in-None-clause-ok
-returns-in-None-clause-ok g c = λ xs e.
+pub returns-in-None-clause-value : goal.returns-in-None-clause-value
+returns-in-None-clause-value g c = λ xs e.
     let quote = c.args.quote in
     let m = run (ends_run quote) xs in
-    let r = c.in_ok-take_run.ensures.ok xs e in
-    let ok = rw c.in-None.is at c.in_ok-piece.ensures.ok in
-    let t = ok (drop m xs) r.1 in
-    (m + t.0, take m xs ++ [], part_closes quote t.0 xs t.1, text_closes _ _ _ r.0, drop_past_run _ m t.0 xs t.2, omega (arith, t.3, r.2))
+    let r = c.in_ok-take_run.ensures.value xs e in
+    let ok = rw c.in-None.is at c.in_ok-piece.ensures.value in
+    let t = ok (drop m xs) r.1 in (
+      m + t.0,
+      take m xs ++ [],
+      part_closes quote t.0 xs t.1,
+      text_closes _ _ _ r.0,
+      drop_past_run _
+          m t.0 xs t.2,
+      omega (arith, t.3, r.2),
+    )
 
-pub returns-in_ok-push_piece-in-Some-clause-ok : goal.returns-in_ok-push_piece-in-Some-clause-ok
-returns-in_ok-push_piece-in-Some-clause-ok g c = λ xs e.
+pub returns-in_ok-push_piece-in-Some-clause-value : goal.returns-in_ok-push_piece-in-Some-clause-value
+returns-in_ok-push_piece-in-Some-clause-value g c = λ xs e.
     let quote = c.args.quote in
     let m = run (ends_run quote) xs in
-    let r = c.in_ok-take_run.ensures.ok xs e in
-    let ok = rw c.in-Some.is at c.in_ok-piece.ensures.ok in
+    let r = c.in_ok-take_run.ensures.value xs e in
+    let ok = rw c.in-Some.is at c.in_ok-piece.ensures.value in
     let t = ok (drop m xs) r.1 in
     let piece = piece_bytes c.in-Some.piece in (
       m + t.0,
       take m xs ++ piece,
       part_goes_on quote t.0 xs piece t.1,
-      text_goes_on _ _ _ _ _ r.0 c.in_ok-push_piece-in-Some.ensures.ok,
+      text_goes_on _ _ _ _ _ r.0 c.in_ok-push_piece-in-Some.ensures.value,
       drop_past_run _ m t.0 xs t.2,
       omega (arith, t.3, r.2),
     )
 
-pub returns-in_err-piece-clause-err : goal.returns-in_err-piece-clause-err
-returns-in_err-piece-clause-err g c =
-    let f = err_from_is_err_and c.from_residual-in_err-piece.result c.from_residual-in_err-piece.ensures.1 in
-    let b = c.in_err-piece.ensures.err in
+pub returns-in_err-piece-clause-fault : goal.returns-in_err-piece-clause-fault
+returns-in_err-piece-clause-fault g c =
+    let f = err_from_is_err_and c.from_residual-in_err-piece.result
+    c.from_residual-in_err-piece.ensures.1 in
+    let b = c.in_err-piece.ensures.fault in
     rw (f.1, f.2) (
       b.0,
       omega (arith, b.1, c.take_run.ensures.place),
       λ d xs e.
           let quote = c.args.quote in
           let m = run (ends_run quote) xs in
-          let r = c.in_ok-take_run.ensures.ok xs e in
-          let t = b.2 d (drop m xs) r.1 in
-          (m + t.0, part_fails quote t.0 xs _ t.1, drop_past_run _ m t.0 xs t.2, omega (arith, t.3, r.2)),
+          let r = c.in_ok-take_run.ensures.value xs e in
+          let t = b.2 d (drop m xs) r.1 in (
+            m + t.0,
+            part_fails quote t.0 xs _ t.1,
+            drop_past_run _ m t.0 xs t.2,
+            omega
+                (arith, t.3, r.2),
+          ),
     )

@@ -3,14 +3,17 @@ use Rattle.plist_ascii.proofs.Runs.{runs_step, runs_part}
 use Rattle.plist_ascii.proofs.input.Input.skip_run.Goals as goal
 
 pub loop-byte-smaller : goal.loop-byte-smaller
-loop-byte-smaller g c = let p = rw c.in-Some.is at c.in_ok-_byte.ensures.place in omega (arith, p, c.skip_at_hand.ensures.place)
+loop-byte-smaller g c =
+    let p = rw c.in-Some.is at c.in_ok-_byte.ensures.place in omega
+    (arith, p, c.skip_at_hand.ensures.place)
 
 pub loop-byte-preserved : goal.loop-byte-preserved
 loop-byte-preserved g c =
     let p = rw c.in-Some.is at c.in_ok-_byte.ensures.place in
     let some = rw c.in-Some.is at c.in_ok-_byte.ensures.some in
     record {
-      counts = c.skip_at_hand.ensures.failures ∙ c.in_ok-_byte.ensures.failures ∙ c.loop-byte.invariant.counts;
+      counts = c.skip_at_hand.ensures.failures ∙ c.in_ok-_byte.ensures.failures
+          ∙ c.loop-byte.invariant.counts;
       rises = omega (arith, p, c.skip_at_hand.ensures.place);
       runs = λ xs e.
           let r = c.loop-byte.invariant.runs xs e in

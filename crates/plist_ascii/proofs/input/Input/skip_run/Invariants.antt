@@ -7,7 +7,8 @@ abbrev pub invariant-loop-byte : goal.invariant-loop-byte
 invariant-loop-byte g l = record {
   rises : l.fn.self.taken ≤ l.self.taken;
   counts : g.R.Bytes.failures l.self.inner ≡ g.R.Bytes.failures l.fn.self.inner;
-  runs : Known (unread g.R.Bytes.remaining l.fn.self) (λ xs. (ys : List ℕ) × (more : List ℕ) × (unread g.R.Bytes.remaining l.self ≡ Some ys)
+  runs : Known (unread g.R.Bytes.remaining l.fn.self)
+      (λ xs. (ys : List ℕ) × (more : List ℕ) × (unread g.R.Bytes.remaining l.self ≡ Some ys)
       × RunsOn (stops l.stop) xs [] l.fn.self.taken ys more l.self.taken);
 }
 

@@ -2,7 +2,10 @@ use Rattle.plist_ascii.proofs.Unread.{first_splits, first_none}
 use Rattle.plist_ascii.proofs.input.Input.take.Goals as goal
 
 pub returns-in-Some-clause-some : goal.returns-in-Some-clause-some
-returns-in-Some-clause-some g c = λ xs e. let h = c.in_ok-byte.ensures.next xs e in (_, first_splits _ _ xs c.in-Some.is h.1, c.advance.ensures.next xs h.0)
+returns-in-Some-clause-some g c =
+    λ xs e. let h = c.in_ok-byte.ensures.next xs e in
+    (_, first_splits _ _ xs c.in-Some.is h.1, c.advance.ensures.next xs h.0)
 
 pub returns-in-None-clause-none : goal.returns-in-None-clause-none
-returns-in-None-clause-none g c = λ _ xs e. let h = c.in_ok-byte.ensures.next xs e in (h.0, first_none _ xs c.in-None.is h.1)
+returns-in-None-clause-none g c =
+    λ _ xs e. let h = c.in_ok-byte.ensures.next xs e in (h.0, first_none _ xs c.in-None.is h.1)

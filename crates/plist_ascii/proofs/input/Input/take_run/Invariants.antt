@@ -7,8 +7,10 @@ abbrev pub invariant-loop-byte : goal.invariant-loop-byte
 invariant-loop-byte g l = record {
   rises : l.initial.self.taken ≤ l.self.taken;
   counts : g.R.Bytes.failures l.self.inner ≡ g.R.Bytes.failures l.initial.self.inner;
-  runs : Known (unread g.R.Bytes.remaining l.initial.self) (λ xs. (ys : List ℕ) × (unread g.R.Bytes.remaining l.self ≡ Some ys)
-      × RunsOn (stops l.stop) xs l.initial.text.items l.initial.self.taken ys l.text.items l.self.taken);
+  runs : Known (unread g.R.Bytes.remaining l.initial.self)
+      (λ xs. (ys : List ℕ) × (unread g.R.Bytes.remaining l.self ≡ Some ys)
+      × RunsOn (stops l.stop) xs l.initial.text.items l.initial.self.taken ys l.text.items
+      l.self.taken);
 }
 
 abbrev pub decreases-loop-byte : goal.decreases-loop-byte

@@ -15,8 +15,11 @@ returns-in-Ok g c =
     let w = rw c.in-Some-Ok.field-0-is at c.in-Some-Ok.ensures.walks in
     record {
       unchanged = w.unchanged;
-      items = event-told (is_new old) (event_in mid.last) (g.R.Source.known (source_of old)) old.limiter c.admit.new.limiter (λ bytes. walk_to_come bytes old) (λ bytes. walk_to_come bytes mid) tt
-          (subst (λ l. AdmitsAny l (event_in mid.last) c.admit.new.limiter) c.step.ensures.limiter c.in-Ok.ensures.ok) w.items;
+      items = event-told (is_new old) (event_in mid.last) (g.R.Source.known (source_of old))
+          old.limiter c.admit.new.limiter (λ bytes. walk_to_come bytes old)
+          (λ bytes. walk_to_come bytes mid) tt
+          (subst (λ l. AdmitsAny l (event_in mid.last) c.admit.new.limiter) c.step.ensures.limiter
+          c.in-Ok.ensures.admitted) w.items;
       failures = w.failures;
       ended = λ e. (let no = w.ended e in absurd (cc));
       ends = tt;
@@ -38,19 +41,27 @@ returns-in-Err g c =
     let mid = c.step.new.self in
     let w = rw c.in-Some-Ok.field-0-is at c.in-Some-Ok.ensures.walks in
     let fault = fault_of c.in-Err.reached in
-    let r = subst (λ l. RefusesAny l (event_in mid.last) fault) c.step.ensures.limiter c.in-Err.ensures.err in
+    let r = subst (λ l. RefusesAny l (event_in mid.last) fault) c.step.ensures.limiter
+    c.in-Err.ensures.refused in
     record {
       unchanged = w.unchanged;
-      items = limit-told (is_new old) (event_in mid.last) (g.R.Source.known (source_of old)) old.limiter c.admit.new.limiter (λ bytes. walk_to_come bytes old) (λ bytes. walk_to_come bytes mid) tt c.in-Err.reached r w.items;
-      failures = refused-other old.limiter (event_in mid.last) fault (Rises (g.R.Source.failures (source_of old)) (g.R.Source.failures (source_of mid))) (g.R.Source.failures (source_of mid) ≡ g.R.Source.failures (source_of old)) (g.R.Source.failures (source_of mid) ≡ g.R.Source.failures (source_of old)) r w.failures;
+      items = limit-told (is_new old) (event_in mid.last) (g.R.Source.known (source_of old))
+          old.limiter c.admit.new.limiter (λ bytes. walk_to_come bytes old)
+          (λ bytes. walk_to_come bytes mid) tt c.in-Err.reached r w.items;
+      failures = refused-other old.limiter (event_in mid.last) fault
+          (Rises (g.R.Source.failures (source_of old)) (g.R.Source.failures (source_of mid)))
+          (g.R.Source.failures (source_of mid) ≡ g.R.Source.failures (source_of old))
+          (g.R.Source.failures (source_of mid) ≡ g.R.Source.failures (source_of old)) r w.failures;
       ended = λ e. (let no = w.ended e in absurd (cc));
       ends = refl;
       begun = refl;
       faults = refused-given 0 (2 ^ 64) old.limiter (event_in mid.last) fault r;
-      closes = λ h. absurd (refused-closes old.limiter (walk_closes old) (event_in mid.last) fault r (λ e. w.closes e) h);
-      head = holds_none _ mid.bounds mid.tags.items _ (λ v. absurd (cc));
+      closes = λ h. absurd (refused-closes old.limiter (walk_closes old) (event_in mid.last) fault r
+          (λ e. w.closes e) h);
+      head = holds_none _ mid.bounds mid.walk.tags.items _ (λ v. absurd (cc));
       nested = w.nested;
-      cached = kept_fault _ (λ bytes. number_to_come bytes old) mid.tags.items c.in-Err.reached (event_in mid.last);
+      cached = kept_fault _ (λ bytes. number_to_come bytes old) mid.walk.tags.items c.in-Err.reached
+          (event_in mid.last);
       marked = w.marked;
       counted = w.counted;
       lists = w.lists;
@@ -64,7 +75,9 @@ returns-in-Some-Err g c =
     let w = rw c.in-Some-Err.field-0-is at c.in-Some-Err.ensures.walks in
     record {
       unchanged = w.unchanged;
-      items = fault-told (is_new old) (event_in new.last) (g.R.Source.known (source_of old)) old.limiter new.limiter (λ bytes. walk_to_come bytes old) (λ bytes. walk_to_come bytes new) c.in-Some-Err.error w.items;
+      items = fault-told (is_new old) (event_in new.last) (g.R.Source.known (source_of old))
+          old.limiter new.limiter (λ bytes. walk_to_come bytes old)
+          (λ bytes. walk_to_come bytes new) c.in-Some-Err.error w.items;
       failures = w.failures;
       ended = w.ended;
       ends = w.ends;
@@ -87,7 +100,9 @@ returns-in-None g c =
     let w = c.in-None.ensures.walks in
     record {
       unchanged = w.unchanged;
-      items = none-told (is_new old) (event_in new.last) (g.R.Source.known (source_of old)) old.limiter new.limiter (λ bytes. walk_to_come bytes old) (λ bytes. walk_to_come bytes new) w.items;
+      items = none-told (is_new old) (event_in new.last) (g.R.Source.known (source_of old))
+          old.limiter new.limiter (λ bytes. walk_to_come bytes old)
+          (λ bytes. walk_to_come bytes new) w.items;
       failures = w.failures;
       ended = w.ended;
       ends = w.ends;

@@ -13,57 +13,72 @@ use Rattle.plist_binread.proofs.reader.BinaryReader.step.Goals as goal
 pub returns-in-Ended-clause-walks : goal.returns-in-Ended-clause-walks
 returns-in-Ended-clause-walks g c = record {
   unchanged = refl;
-  items = rw c.in-Ended.is (nothing_ended _ c.args.self.now.bounds c.args.self.now.frames.items);
+  items = rw c.in-Ended.is (nothing_ended _ c.args.self.now.bounds
+      c.args.self.now.walk.frames.items);
   failures = refl;
   ended = λ _. refl;
   ends = c.in-Ended.is;
   begun = rw c.in-Ended.is refl;
   faults = tt;
   closes = λ e. (let f = c.in-Ended.is in absurd (closes-ended _ _ f e));
-  head = holds_none _ c.args.self.now.bounds c.args.self.now.tags.items _ (λ w. walking-ended _ c.in-Ended.is w);
-  nested = nested _ _ _ c.args.self.now.path c.args.self.now.bounded;
-  cached = rw c.in-Ended.is (kept_end _ (λ bytes. None) c.args.self.now.tags.items (event_in c.args.self.now.last));
-  marked = c.args.self.now.path;
+  head = holds_none _ c.args.self.now.bounds c.args.self.now.walk.tags.items _
+      (λ w. walking-ended _ c.in-Ended.is w);
+  nested = nested _ _ _ c.args.self.now.walk.path c.args.self.now.bounded;
+  cached = rw c.in-Ended.is (kept_end _ (λ bytes. None) c.args.self.now.walk.tags.items
+      (event_in c.args.self.now.last));
+  marked = c.args.self.now.walk.path;
   counted = c.args.self.now.counted;
-  lists = lists _ _ _ _ c.args.self.now.path c.args.self.now.same c.args.self.now.bounded;
+  lists = lists _ _ _ _ c.args.self.now.walk.path c.args.self.now.walk.same c.args.self.now.bounded;
   falls = tt;
 }
 
 pub returns-in-Ok-clause-walks : goal.returns-in-Ok-clause-walks
 returns-in-Ok-clause-walks g c = record {
   unchanged = c.begin.ensures.unchanged;
-  items = rw c.in-Fresh.is (told_event _ true items_of_file (λ bytes. until_fault (owed_by (entries_of bytes c.begin.new.bounds) (reverse c.begin.new.frames.items))) c.in-Ok.event _ c.hold.ensures c.in-Ok.ensures.pays);
+  items = rw c.in-Fresh.is (told_event _ true items_of_file
+      (λ bytes. until_fault (owed_by (entries_of bytes c.begin.new.bounds)
+      (reverse c.begin.new.walk.frames.items))) c.in-Ok.event _ c.hold.ensures
+      c.in-Ok.ensures.pays);
   failures = c.in-Ok.ensures.failures;
   ended = λ e. (let f = c.in-Fresh.is in absurd (cc));
   ends = tt;
   begun = refl;
   faults = tt;
   closes = λ e. absurd (closes-fresh _ _ c.in-Fresh.is e);
-  head = holds_head _ c.begin.new.bounds c.begin.new.tags.items c.begin.new.contents.items (reverse c.begin.new.frames.items) _ c.in-Ok.ensures.known;
-  nested = nested _ _ _ c.begin.ensures.path c.begin.ensures.bounded;
-  cached = rw c.in-Fresh.is (kept_told _ (λ bytes. root_with (head_of bytes)) c.begin.new.tags.items c.in-Ok.event _ c.hold.ensures c.in-Ok.ensures.kept);
-  marked = c.begin.ensures.path;
+  head = holds_head _ c.begin.new.bounds c.begin.new.walk.tags.items c.begin.new.walk.contents.items
+      (reverse c.begin.new.walk.frames.items) _ c.in-Ok.ensures.known;
+  nested = nested _ _ _ c.begin.new.walk.path c.begin.ensures.bounded;
+  cached = rw c.in-Fresh.is (kept_told _ (λ bytes. root_with (head_of bytes))
+      c.begin.new.walk.tags.items c.in-Ok.event _ c.hold.ensures c.in-Ok.ensures.kept);
+  marked = c.begin.new.walk.path;
   counted = c.begin.ensures.counted;
-  lists = lists _ _ _ _ c.begin.ensures.path c.begin.ensures.same c.begin.ensures.bounded;
-  falls = fresh_falls c.args.self.now.state (length c.begin.new.tags.items) (length c.args.self.now.tags.items) c.args.self.now.frames.items c.begin.new.frames.items c.in-Fresh.is c.in-Ok.ensures.falls (omega (arith, c.begin.new.tags.ok, c.begin.new.tags.small));
+  lists = lists _ _ _ _ c.begin.new.walk.path c.begin.new.walk.same c.begin.ensures.bounded;
+  falls = fresh_falls c.args.self.now.state (length c.begin.new.walk.tags.items)
+      (length c.args.self.now.walk.tags.items) c.args.self.now.walk.frames.items
+      c.begin.new.walk.frames.items c.in-Fresh.is c.in-Ok.ensures.falls
+      (omega (arith, c.begin.new.walk.tags.ok, c.begin.new.walk.tags.small));
 }
 
 pub returns-in-Err-clause-walks : goal.returns-in-Err-clause-walks
 returns-in-Err-clause-walks g c = record {
   unchanged = c.begin.ensures.unchanged;
-  items = rw c.in-Fresh.is (first_fault _ c.args.self.now.bounds c.begin.new.bounds c.args.self.now.frames.items c.begin.new.frames.items (λ bytes. owed_by (entries_of bytes c.begin.new.bounds) (reverse c.begin.new.frames.items)) _ c.in-Err.ensures.pays);
+  items = rw c.in-Fresh.is (first_fault _ c.args.self.now.bounds c.begin.new.bounds
+      c.args.self.now.walk.frames.items c.begin.new.walk.frames.items
+      (λ bytes. owed_by (entries_of bytes c.begin.new.bounds)
+      (reverse c.begin.new.walk.frames.items)) _ c.in-Err.ensures.pays);
   failures = c.in-Err.ensures.failures;
   ended = λ e. (let f = c.in-Fresh.is in absurd (cc));
   ends = refl;
   begun = refl;
   faults = given-within 0 (2 ^ 64) false _ c.in-Err.ensures.fault;
   closes = λ e. absurd (closes-fresh _ _ c.in-Fresh.is e);
-  head = holds_none _ c.begin.new.bounds c.begin.new.tags.items _ (λ w. absurd (cc));
-  nested = nested _ _ _ c.begin.ensures.path c.begin.ensures.bounded;
-  cached = rw c.in-Fresh.is (kept_fault _ (λ bytes. root_with (head_of bytes)) c.begin.new.tags.items c.in-Err.error _);
-  marked = c.begin.ensures.path;
+  head = holds_none _ c.begin.new.bounds c.begin.new.walk.tags.items _ (λ w. absurd (cc));
+  nested = nested _ _ _ c.begin.new.walk.path c.begin.ensures.bounded;
+  cached = rw c.in-Fresh.is (kept_fault _ (λ bytes. root_with (head_of bytes))
+      c.begin.new.walk.tags.items c.in-Err.error _);
+  marked = c.begin.new.walk.path;
   counted = c.begin.ensures.counted;
-  lists = lists _ _ _ _ c.begin.ensures.path c.begin.ensures.same c.begin.ensures.bounded;
+  lists = lists _ _ _ _ c.begin.new.walk.path c.begin.new.walk.same c.begin.ensures.bounded;
   falls = rw c.in-Fresh.is (omega (arith));
 }
 
@@ -76,53 +91,68 @@ returns-in-Some-Ok-clause-walks g c = record {
   ends = tt;
   begun = rw c.in-Walking.is refl;
   faults = tt;
-  closes = λ e. (rw c.in-Some-Ok.field-0-is at c.in-Some-Ok.ensures.closes) (rw c.in-Walking.is at e);
-  head = holds_head _ c.args.self.now.bounds c.advance.new.tags.items c.advance.new.contents.items (reverse c.advance.new.frames.items) _ c.advance.ensures.known;
-  nested = nested _ _ _ c.advance.ensures.path (rw c.advance.ensures.size c.args.self.now.bounded);
+  closes = λ e. (rw c.in-Some-Ok.field-0-is at c.in-Some-Ok.ensures.closes)
+      (rw c.in-Walking.is at e);
+  head = holds_head _ c.args.self.now.bounds c.advance.new.walk.tags.items
+      c.advance.new.walk.contents.items (reverse c.advance.new.walk.frames.items) _
+      c.advance.ensures.known;
+  nested = nested _ _ _ c.advance.new.walk.path (rw c.advance.ensures.size c.args.self.now.bounded);
   cached = rw c.in-Walking.is (rw c.in-Some-Ok.field-0-is at c.in-Some-Ok.ensures.kept);
-  marked = c.advance.ensures.path;
+  marked = c.advance.new.walk.path;
   counted = c.advance.ensures.counted;
-  lists = lists _ _ _ _ c.advance.ensures.path c.advance.ensures.same (rw c.advance.ensures.size c.args.self.now.bounded);
-  falls = rw (c.in-Walking.is, c.advance.ensures.size) (rw c.in-Some-Ok.field-0-is at c.in-Some-Ok.ensures.falls).1;
+  lists = lists _ _ _ _ c.advance.new.walk.path c.advance.new.walk.same
+      (rw c.advance.ensures.size c.args.self.now.bounded);
+  falls = rw (c.in-Walking.is, c.advance.ensures.size)
+      (rw c.in-Some-Ok.field-0-is at c.in-Some-Ok.ensures.falls).1;
 }
 
 pub returns-in-Some-Err-clause-walks : goal.returns-in-Some-Err-clause-walks
 returns-in-Some-Err-clause-walks g c = record {
   unchanged = c.advance.ensures.unchanged;
-  items = rw c.in-Walking.is (step_fault _ c.args.self.now.bounds c.args.self.now.frames.items c.advance.new.frames.items _ (rw c.in-Some-Err.field-0-is at c.in-Some-Err.ensures.pays));
+  items = rw c.in-Walking.is (step_fault _ c.args.self.now.bounds c.args.self.now.walk.frames.items
+      c.advance.new.walk.frames.items _
+      (rw c.in-Some-Err.field-0-is at c.in-Some-Err.ensures.pays));
   failures = rw c.in-Some-Err.field-0-is at c.in-Some-Err.ensures.failures;
   ended = λ e. (let f = c.in-Walking.is in absurd (cc));
   ends = refl;
   begun = refl;
-  faults = given-within 0 (2 ^ 64) false _ (from_within _ 0 c.args.self.now.bounds.trailer 0 (2 ^ 64) (rw c.in-Some-Err.field-0-is at c.in-Some-Err.ensures.fault) (omega arith) (omega arith));
-  closes = λ e. absurd ((rw c.in-Some-Err.field-0-is at c.in-Some-Err.ensures.closes) (rw c.in-Walking.is at e));
-  head = holds_none _ c.args.self.now.bounds c.advance.new.tags.items _ (λ w. absurd (cc));
-  nested = nested _ _ _ c.advance.ensures.path (rw c.advance.ensures.size c.args.self.now.bounded);
+  faults = given-within 0 (2 ^ 64) false _
+      (from_within _ 0 c.args.self.now.bounds.trailer 0 (2 ^ 64)
+      (rw c.in-Some-Err.field-0-is at c.in-Some-Err.ensures.fault) (omega arith) (omega arith));
+  closes = λ e. absurd ((rw c.in-Some-Err.field-0-is at c.in-Some-Err.ensures.closes)
+      (rw c.in-Walking.is at e));
+  head = holds_none _ c.args.self.now.bounds c.advance.new.walk.tags.items _ (λ w. absurd (cc));
+  nested = nested _ _ _ c.advance.new.walk.path (rw c.advance.ensures.size c.args.self.now.bounded);
   cached = rw c.in-Walking.is (rw c.in-Some-Err.field-0-is at c.in-Some-Err.ensures.kept);
-  marked = c.advance.ensures.path;
+  marked = c.advance.new.walk.path;
   counted = c.advance.ensures.counted;
-  lists = lists _ _ _ _ c.advance.ensures.path c.advance.ensures.same (rw c.advance.ensures.size c.args.self.now.bounded);
+  lists = lists _ _ _ _ c.advance.new.walk.path c.advance.new.walk.same
+      (rw c.advance.ensures.size c.args.self.now.bounded);
   falls = rw c.in-Walking.is (rw c.in-Some-Err.field-0-is at c.in-Some-Err.ensures.falls).0;
 }
 
 pub returns-in-None-clause-walks : goal.returns-in-None-clause-walks
 returns-in-None-clause-walks g c = record {
   unchanged = c.advance.ensures.unchanged;
-  items = rw c.in-Walking.is (step_nothing _ c.args.self.now.bounds c.args.self.now.frames.items c.advance.new.frames.items c.in-None.ensures.pays);
+  items = rw c.in-Walking.is (step_nothing _ c.args.self.now.bounds
+      c.args.self.now.walk.frames.items c.advance.new.walk.frames.items c.in-None.ensures.pays);
   failures = c.in-None.ensures.failures;
   ended = λ _. refl;
   ends = refl;
   begun = refl;
   faults = tt;
   closes = λ e. absurd (c.in-None.ensures.closes (rw c.in-Walking.is at e));
-  head = holds_none _ c.args.self.now.bounds c.advance.new.tags.items _ (λ w. absurd (cc));
-  nested = nested _ _ _ c.advance.ensures.path (rw c.advance.ensures.size c.args.self.now.bounded);
+  head = holds_none _ c.args.self.now.bounds c.advance.new.walk.tags.items _ (λ w. absurd (cc));
+  nested = nested _ _ _ c.advance.new.walk.path (rw c.advance.ensures.size c.args.self.now.bounded);
   cached = rw c.in-Walking.is c.in-None.ensures.kept;
-  marked = c.advance.ensures.path;
+  marked = c.advance.new.walk.path;
   counted = c.advance.ensures.counted;
-  lists = lists _ _ _ _ c.advance.ensures.path c.advance.ensures.same (rw c.advance.ensures.size c.args.self.now.bounded);
+  lists = lists _ _ _ _ c.advance.new.walk.path c.advance.new.walk.same
+      (rw c.advance.ensures.size c.args.self.now.bounded);
   falls = tt;
 }
 
 pub invariant_of-self-clause-asks : goal.invariant_of-self-clause-asks
-invariant_of-self-clause-asks g c = λ _. known_asks_nothing (g.R.Source.known c.begin.new.source) c.begin.new.bounds c.nothing-self.result c.nothing-self.ensures
+invariant_of-self-clause-asks g c =
+    λ _. known_asks_nothing (g.R.Source.known c.begin.new.source) c.begin.new.bounds
+    c.nothing-self.result c.nothing-self.ensures

@@ -1,19 +1,36 @@
-use Rattle.std.proofs.Common.{rules, refl, sym, subst, Ok}
+use Rattle.std.proofs.Common.{rules, refl, subst, Ok, Err}
 use Rattle.plist_base.specs.Events.{event_of}
+use Rattle.plist_base.specs.Faults.{fault_of}
 use Rattle.plist_binwrite.specs.Pendings.{events_held}
 use Rattle.plist_binwrite.specs.Sending.{Sends}
-use Rattle.plist_binwrite.specs.Taking.{inner_of}
-use Rattle.plist_binwrite.proofs.Takings.{takes_whole, takes_more}
+use Rattle.plist_binwrite.specs.Files.{IsFileOf}
+use Rattle.plist_binwrite.specs.Sizes.{file_size}
+use Rattle.plist_binwrite.specs.Taking.{held_by, failed_of, inner_of}
+use Rattle.plist_binwrite.proofs.Calls.{takes_refused, takes_unsent, takes_whole}
+use Rattle.plist_binwrite.proofs.Unchanged.{same_state}
 use Rattle.plist_binwrite.proofs.writer.BinaryWriter.take.Goals as goal
-use Rattle.plist_binwrite.proofs.writer.BinaryWriter.take.Goals.{then-is_whole+in_default-complete, else-is_whole}
 
-pub returns : goal.returns
-returns g c =
-    elim c.if-is_whole.branch [
-      | then-is_whole+in_default-complete w ↦
-          takes_whole g.W.Write.contents c.args.self.now _ (event_of c.args.event) _ (search rules) (search rules) c.in_default-take.ensures.taken.0 refl (search rules)
-          (subst (λ s. Sends g.W.Write.contents (events_held c.take.new.self) (Ok tt) (inner_of c.args.self.now) s.1.0) (sym w.self-is)
-          (subst (λ l. Sends g.W.Write.contents l (Ok tt) (inner_of c.args.self.now) w.complete.new.writer) w.events.ensures w.in_default-complete.ensures))
-      | else-is_whole w ↦
-          takes_more g.W.Write.contents c.args.self.now _ (event_of c.args.event) _ (search rules) (search rules) c.in_default-take.ensures.taken.1 (search rules) refl (search rules) (search rules)
-    ]
+pub returns-in-Ok-Some : goal.returns-in-Ok-Some
+returns-in-Ok-Some g c =
+    let r = rw c.in-Ok-Some.field-0-is at c.in-Ok-Some.ensures.refused in
+    takes_refused held_by failed_of inner_of IsFileOf file_size g.W.Write.contents
+    c.args.self.now _ (event_of c.args.event) (fault_of c.in-Ok-Some.refusal) (search rules)
+    r.0.0 r.0.1 (same_state c.args.self.now c.offer.new.self r.1 _)
+
+pub returns-in-Err-complete : goal.returns-in-Err-complete
+returns-in-Err-complete g c =
+    let t = c.in-Ok-None.ensures.taken c.in-Ok-None.field-0-is in
+    takes_unsent held_by failed_of inner_of IsFileOf file_size g.W.Write.contents
+    c.args.self.now _ (event_of c.args.event) (events_held c.offer.new.self)
+    (fault_of c.in-Err-complete.error) (search rules) t.0 t.1.0 refl
+    (subst (λ l. Sends g.W.Write.contents l (Err (fault_of c.in-Err-complete.error))
+    (inner_of c.args.self.now) c.complete.new.writer) c.events.ensures c.in-Err-complete.ensures)
+
+pub returns-in_default : goal.returns-in_default
+returns-in_default g c =
+    let t = c.in-Ok-None.ensures.taken c.in-Ok-None.field-0-is in
+    takes_whole held_by failed_of inner_of IsFileOf file_size g.W.Write.contents
+    c.args.self.now _ (event_of c.args.event) (events_held c.offer.new.self) (search rules)
+    t.0 t.1.0 refl c.clear.ensures.events
+    (subst (λ l. Sends g.W.Write.contents l (Ok tt) (inner_of c.args.self.now)
+    c.complete.new.writer) c.events.ensures c.in_default.ensures)

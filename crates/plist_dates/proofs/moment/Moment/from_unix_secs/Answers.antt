@@ -5,14 +5,23 @@ use Rattle.jiff_core.proofs.SignedLemmas.{signed_arith, int_div_euclid-parts}
 use Rattle.jiff_core.specs.Calendar.{IsEpochDay}
 use Rattle.jiff_core.specs.Date.{epoch_day}
 use Rattle.plist_dates.proofs.Years.{before_years, day_of_years, in_years}
+use Rattle.plist_dates.specs.Moments.{moment_text}
+use Rattle.plist_dates.proofs.OneText.{one_text, year_of_text}
 use Rattle.plist_dates.proofs.moment.Moment.from_unix_secs.Goals as goal
 
 pub returns-in-Ok-clause-year : goal.returns-in-Ok-clause-year
 returns-in-Ok-clause-year c =
     let date = c.in-Ok.date in
     let second_fits : FitsSigned w64 c.args.second = search rules in
-    let div : c.div_euclid.result ≡ int_div_euclid c.args.second (pos 86400) = simp to_z-of_z at c.div_euclid.ensures in
-    let day_fits : FitsSigned w64 c.div_euclid.result = omega (arith, signed_arith, div, int_div_euclid-parts c.args.second 86400 (omega arith), second_fits) in
+    let div : c.div_euclid.result ≡ int_div_euclid c.args.second (pos 86400) = simp to_z-of_z at
+    c.div_euclid.ensures in
+    let day_fits : FitsSigned w64 c.div_euclid.result = omega (
+      arith,
+      signed_arith,
+      div,
+      int_div_euclid-parts c.args.second 86400 (omega arith),
+      second_fits,
+    ) in
     let day : epoch_day date ≡ c.div_euclid.result = simp to_z-of_z at c.in-Ok.ensures.value in
     let year_fits : FitsSigned w16 date.year = omega (arith, signed_arith, date.year_in) in
     let test = simp to_z-of_z at c.if-date-ge0.true in
@@ -23,8 +32,15 @@ pub returns-in_default-clause-year : goal.returns-in_default-clause-year
 returns-in_default-clause-year c =
     let date = c.in-Ok.date in
     let second_fits : FitsSigned w64 c.args.second = search rules in
-    let div : c.div_euclid.result ≡ int_div_euclid c.args.second (pos 86400) = simp to_z-of_z at c.div_euclid.ensures in
-    let day_fits : FitsSigned w64 c.div_euclid.result = omega (arith, signed_arith, div, int_div_euclid-parts c.args.second 86400 (omega arith), second_fits) in
+    let div : c.div_euclid.result ≡ int_div_euclid c.args.second (pos 86400) = simp to_z-of_z at
+    c.div_euclid.ensures in
+    let day_fits : FitsSigned w64 c.div_euclid.result = omega (
+      arith,
+      signed_arith,
+      div,
+      int_div_euclid-parts c.args.second 86400 (omega arith),
+      second_fits,
+    ) in
     let day : epoch_day date ≡ c.div_euclid.result = simp to_z-of_z at c.in-Ok.ensures.value in
     let year_fits : FitsSigned w16 date.year = omega (arith, signed_arith, date.year_in) in
     let test = simp to_z-of_z at c.if-date-ge0.false in
@@ -34,7 +50,32 @@ returns-in_default-clause-year c =
 pub returns-in_default-2-clause-year : goal.returns-in_default-2-clause-year
 returns-in_default-2-clause-year c =
     let second_fits : FitsSigned w64 c.args.second = search rules in
-    let div : c.div_euclid.result ≡ int_div_euclid c.args.second (pos 86400) = simp to_z-of_z at c.div_euclid.ensures in
-    let day_fits : FitsSigned w64 c.div_euclid.result = omega (arith, signed_arith, div, int_div_euclid-parts c.args.second 86400 (omega arith), second_fits) in
-    let succeeds = simp to_z-of_z at c.in_default.ensures.succeeds in
-    (λ h. cc h, λ inside. succeeds.1 (subst IsEpochDay (sym div) (day_of_years c.args.second inside)))
+    let div : c.div_euclid.result ≡ int_div_euclid c.args.second (pos 86400) = simp to_z-of_z at
+    c.div_euclid.ensures in
+    let day_fits : FitsSigned w64 c.div_euclid.result = omega (
+      arith,
+      signed_arith,
+      div,
+      int_div_euclid-parts c.args.second 86400 (omega arith),
+      second_fits,
+    ) in
+    let succeeds = simp to_z-of_z at c.in_default.ensures.succeeds in (
+      λ h. cc h,
+      λ inside. succeeds.1
+          (subst IsEpochDay (sym div) (day_of_years c.args.second inside)),
+    )
+
+pub returns-in-Ok-clause-only : goal.returns-in-Ok-clause-only
+returns-in-Ok-clause-only c =
+    let second_fits : FitsSigned w64 c.args.second = search rules in
+    λ other is. one_text c.args.second (moment_text c.moment_of.result) other (search rules) is
+
+pub returns-in_default-clause-only : goal.returns-in_default-clause-only
+returns-in_default-clause-only c =
+    λ other is. let has = (returns-in_default-clause-year c).1 (year_of_text c.args.second other is)
+    in cc
+
+pub returns-in_default-2-clause-only : goal.returns-in_default-2-clause-only
+returns-in_default-2-clause-only c =
+    λ other is. let has = (returns-in_default-2-clause-year c).1
+    (year_of_text c.args.second other is) in cc

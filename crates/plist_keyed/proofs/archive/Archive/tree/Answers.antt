@@ -5,7 +5,12 @@ use Rattle.plist_keyed.proofs.Resolved.{tree-read, error-read}
 use Rattle.plist_keyed.proofs.archive.Archive.tree.Goals as goal
 
 pub returns-in-Ok-clause-value : goal.returns-in-Ok-clause-value
-returns-in-Ok-clause-value c = tree-read (objects_of c.args.self.now) c.as_slice.result.now c.args.uid (tree_of c.in-Ok.value) c.as_slice.ensures.value c.in-Ok.ensures.itself c.in-Ok.ensures.read
+returns-in-Ok-clause-value c =
+    tree-read (objects_of c.args.self.now) c.as_slice.result.now c.args.uid (tree_of c.in-Ok.value)
+    c.as_slice.ensures.value c.in-Ok.ensures.itself c.in-Ok.ensures.read
 
 pub returns-in-Err-clause-fault : goal.returns-in-Err-clause-fault
-returns-in-Err-clause-fault c = error-read (objects_of c.args.self.now) c.as_slice.result.now c.args.uid (fault_of c.in-Err.error) c.told_by.result c.as_slice.ensures.value c.told_by.ensures c.in-Err.ensures.read
+returns-in-Err-clause-fault c =
+    error-read (objects_of c.args.self.now) c.as_slice.result.now c.args.uid
+    (fault_of c.in-Err.error) c.told_by.result c.as_slice.ensures.value c.told_by.ensures
+    c.in-Err.ensures.read

@@ -4,5 +4,7 @@ use Rattle.plist_reader.proofs.bytes.SourceBytesBytes.next_byte.Goals as goal
 
 pub returns-else-self-clause-byte : goal.returns-else-self-clause-byte
 returns-else-self-clause-byte g c =
-    one_there (g.R.Source.known c.fill.new.self.source) _ c.fill.new.self.place _ _ _ c.in-Ok.ensures.bytes
-    (first_held c.fill.new.self.from c.fill.new.self.end c.fill.new.self.window (omega (arith, c.if-self.false)) (omega arith))
+    one_there (g.R.Source.known c.fill.new.self.source) _ c.fill.new.self.place _ _ _
+    c.in-Ok.ensures.bytes
+    (first_held c.fill.new.self.from c.fill.new.self.end c.fill.new.self.window
+    (omega (arith, c.if-self.false)) (omega arith))

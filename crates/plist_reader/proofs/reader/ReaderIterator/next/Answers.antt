@@ -1,19 +1,25 @@
 use Rattle.std.proofs.Common.{sym, subst}
-use Rattle.plist_reader.specs.Coming.{StateGives}
+use Rattle.plist_reader.specs.Reader.{StateGives}
 use Rattle.plist_reader.specs.declared.reader.State.TheVariants.{Binary, Ascii}
 use Rattle.plist_reader.proofs.Giving.{binary-gives, ascii-gives}
 use Rattle.plist_reader.proofs.reader.ReaderIterator.next.Goals as goal
 
 pub returns-in-Binary-clause-steps : goal.returns-in-Binary-clause-steps
 returns-in-Binary-clause-steps g c =
-    subst (λ s. StateGives g.R.Source.known g.R.Source.failures s c.next.result (Binary c.next.new.self)) (sym c.in-Binary.is)
-    (binary-gives g.R.Source.known g.R.Source.failures c.in-Binary.reader c.next.new.self c.next.result c.next.ensures.steps)
+    subst (λ s. StateGives g.R.Source.known g.R.Source.failures s c.next.result
+    (Binary c.next.new.self)) (sym c.in-Binary.is)
+    (binary-gives g.R.Source.known g.R.Source.failures c.in-Binary.reader c.next.new.self
+    c.next.result c.next.ensures.steps)
 
 pub returns-in-Ascii-clause-steps : goal.returns-in-Ascii-clause-steps
 returns-in-Ascii-clause-steps g c =
-    subst (λ s. StateGives g.R.Source.known g.R.Source.failures s c.next-in-Ascii.result (Ascii c.next-in-Ascii.new.self)) (sym c.in-Ascii.is)
-    (ascii-gives g.R.Source.known g.R.Source.failures c.in-Ascii.reader c.next-in-Ascii.new.self c.next-in-Ascii.result c.next-in-Ascii.ensures.steps)
+    subst (λ s. StateGives g.R.Source.known g.R.Source.failures s c.next-in-Ascii.result
+    (Ascii c.next-in-Ascii.new.self)) (sym c.in-Ascii.is)
+    (ascii-gives g.R.Source.known g.R.Source.failures c.in-Ascii.reader c.next-in-Ascii.new.self
+    c.next-in-Ascii.result c.next-in-Ascii.ensures.steps)
 
 pub returns-in-Unread-clause-steps : goal.returns-in-Unread-clause-steps
 returns-in-Unread-clause-steps g c =
-    subst (λ s. StateGives g.R.Source.known g.R.Source.failures s c.first.result c.first.new.self.state) (sym c.in-Unread.is) (c.first.ensures.gives c.in-Unread.field-0 c.in-Unread.is)
+    subst (λ s. StateGives g.R.Source.known g.R.Source.failures s c.first.result
+    c.first.new.self.state) (sym c.in-Unread.is)
+    (c.first.ensures.gives c.in-Unread.field-0 c.in-Unread.is)

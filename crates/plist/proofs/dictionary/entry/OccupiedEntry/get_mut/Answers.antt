@@ -7,10 +7,25 @@ use Rattle.plist.specs.EntryPlaces.{with_entry_value, still_within}
 use Rattle.plist.proofs.dictionary.entry.OccupiedEntry.get_mut.Goals as goal
 
 pub invariant_of-self-lent : goal.invariant_of-self-lent
-invariant_of-self-lent g c = λ w. (rw (length-set c.args.self.now.pairs.now c.args.self.now.at w) c.args.self.now.within, tt)
+invariant_of-self-lent g c =
+    λ w. (rw (length-set c.args.self.now.pairs.now c.args.self.now.at w) c.args.self.now.within, tt)
 
-same_entry : {V : Type 0} (o : OccupiedEntry V) (w : V) (p : o.at < length (set_value_at o.pairs.now o.at w)) → ◌≡◌ {A = OccupiedEntry V} (record { pairs = record o.pairs { now = set_value_at o.pairs.now o.at w }; at = o.at; within = p }) (with_entry_value o w)
-same_entry o w p = let one : IsProp (o.at < length (set_value_at o.pairs.now o.at w)) = hlevel props in λ i. record { pairs = record o.pairs { now = set_value_at o.pairs.now o.at w }; at = o.at; within = one p (still_within o w) i }
+same_entry : {V : Type 0} (o : OccupiedEntry V) (w : V)
+    (p : o.at < length (set_value_at o.pairs.now o.at w))
+    → ◌≡◌ {A = OccupiedEntry V} (record
+    { pairs = record o.pairs { now = set_value_at o.pairs.now o.at w }; at = o.at; within = p })
+    (with_entry_value o w)
+same_entry o w p =
+    let one : IsProp (o.at < length (set_value_at o.pairs.now o.at w)) = hlevel props in λ i. record {
+      pairs = record o.pairs { now = set_value_at o.pairs.now o.at w };
+      at = o.at;
+      within = one p
+          (still_within o w) i;
+    }
 
 pub returns : goal.returns
-returns g c = ((refl, λ w. same_entry c.args.self.now w _), record { writes_back = tt; value = c.value_at.ensures.value })
+returns g c = (
+  (refl, λ w. same_entry c.args.self.now w _),
+  record
+      { writes_back = tt; value = c.value_at.ensures.value },
+)

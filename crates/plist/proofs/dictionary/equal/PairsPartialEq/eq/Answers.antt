@@ -12,7 +12,8 @@ pub returns-then-count-pair_count : goal.returns-then-count-pair_count
 returns-then-count-pair_count g c =
     let a = c.pair_count-count.ensures in
     let b = c.pair_count.ensures in
-    unequal_len bytes_eq nat_list_eq_equiv g.V.PartialEq.eq (as_map c.args.self.now) (as_map c.args.other.now) a.distinct b.distinct
+    unequal_len bytes_eq nat_list_eq_equiv g.V.PartialEq.eq (as_map c.args.self.now)
+    (as_map c.args.other.now) a.distinct b.distinct
     (λ e. c.if-count-pair_count.true (a.count ∙ e ∙ sym b.count))
 
 pub returns-then-not-eq : goal.returns-then-not-eq
@@ -21,9 +22,12 @@ returns-then-not-eq g c =
     let k = c.pair_at.result.0.now in
     let a = c.pair_count-count.ensures in
     let within : i < length c.args.self.now = omega (arith, c.loop-i-test.true, a.count) in
-    let mine = own_value bytes_eq nat_list_eq_equiv c.args.self.now i k _ c.pair_at.ensures a.distinct within in
-    unequal_at bytes_eq nat_list_eq_equiv g.V.PartialEq.eq (as_map c.args.self.now) (as_map c.args.other.now) k
-    ((λ j. option_eq g.V.PartialEq.eq (mine j) (sym c.in-Some.ensures.value j)) ∙ sym c.eq.ensures ∙ c.if-not-eq.true)
+    let mine = own_value bytes_eq nat_list_eq_equiv c.args.self.now i k _ c.pair_at.ensures
+    a.distinct within in
+    unequal_at bytes_eq nat_list_eq_equiv g.V.PartialEq.eq (as_map c.args.self.now)
+    (as_map c.args.other.now) k
+    ((λ j. option_eq g.V.PartialEq.eq (mine j) (sym c.in-Some.ensures.value j)) ∙ sym c.eq.ensures
+    ∙ c.if-not-eq.true)
 
 pub returns-in-None : goal.returns-in-None
 returns-in-None g c =
@@ -31,8 +35,11 @@ returns-in-None g c =
     let k = c.pair_at.result.0.now in
     let a = c.pair_count-count.ensures in
     let within : i < length c.args.self.now = omega (arith, c.loop-i-test.true, a.count) in
-    let mine = own_value bytes_eq nat_list_eq_equiv c.args.self.now i k _ c.pair_at.ensures a.distinct within in
-    unequal_at bytes_eq nat_list_eq_equiv g.V.PartialEq.eq (as_map c.args.self.now) (as_map c.args.other.now) k (λ j. option_eq g.V.PartialEq.eq (mine j) (sym c.in-None.ensures.value j))
+    let mine = own_value bytes_eq nat_list_eq_equiv c.args.self.now i k _ c.pair_at.ensures
+    a.distinct within in
+    unequal_at bytes_eq nat_list_eq_equiv g.V.PartialEq.eq (as_map c.args.self.now)
+    (as_map c.args.other.now) k (λ j. option_eq g.V.PartialEq.eq (mine j)
+    (sym c.in-None.ensures.value j))
 
 pub loop-i-preserved : goal.loop-i-preserved
 loop-i-preserved g c =
@@ -40,15 +47,22 @@ loop-i-preserved g c =
     let k = c.pair_at.result.0.now in
     let a = c.pair_count-count.ensures in
     let within : i < length c.args.self.now = omega (arith, c.loop-i-test.true, a.count) in
-    let mine = own_value bytes_eq nat_list_eq_equiv c.args.self.now i k _ c.pair_at.ensures a.distinct within in
-    let agree = λ (x : List ℕ). option_eq g.V.PartialEq.eq (lookup (bytes_eq x) c.args.self.now) (lookup (bytes_eq x) c.args.other.now) ≡ true in
-    let here : agree k = (λ j. option_eq g.V.PartialEq.eq (mine j) (sym c.in-Some.ensures.value j)) ∙ sym c.eq.ensures ∙ c.if-not-eq.false in
-    below_more (λ n. (d : List ℕ) → agree (get_or (keys_of c.args.self.now) n d)) i c.loop-i.invariant
-    (λ d. subst agree (sym (key_at bytes_eq nat_list_eq_equiv c.args.self.now i k _ c.pair_at.ensures d)) here)
+    let mine = own_value bytes_eq nat_list_eq_equiv c.args.self.now i k _ c.pair_at.ensures
+    a.distinct within in
+    let agree = λ (x : List ℕ). option_eq g.V.PartialEq.eq (lookup (bytes_eq x) c.args.self.now)
+    (lookup (bytes_eq x) c.args.other.now) ≡ true in
+    let here : agree k = (λ j. option_eq g.V.PartialEq.eq (mine j) (sym c.in-Some.ensures.value j))
+    ∙ sym c.eq.ensures ∙ c.if-not-eq.false in
+    below_more (λ n. (d : List ℕ) → agree (get_or (keys_of c.args.self.now) n d)) i
+    c.loop-i.invariant
+    (λ d. subst agree (sym (key_at bytes_eq nat_list_eq_equiv c.args.self.now i k _
+    c.pair_at.ensures d)) here)
 
 pub returns : goal.returns
 returns g c =
     let a = c.pair_count-count.ensures in
     let b = c.pair_count.ensures in
-    equal_by_keys bytes_eq nat_list_eq_equiv g.V.PartialEq.eq (as_map c.args.self.now) (as_map c.args.other.now) a.distinct b.distinct
-    (omega (arith, c.if-count-pair_count.false, a.count, b.count)) (λ k p. c.loop-i.invariant k (omega (arith, c.loop-i-test.false, a.count)))
+    equal_by_keys bytes_eq nat_list_eq_equiv g.V.PartialEq.eq (as_map c.args.self.now)
+    (as_map c.args.other.now) a.distinct b.distinct
+    (omega (arith, c.if-count-pair_count.false, a.count, b.count))
+    (λ k p. c.loop-i.invariant k (omega (arith, c.loop-i-test.false, a.count)))

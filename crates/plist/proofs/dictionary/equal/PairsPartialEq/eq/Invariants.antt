@@ -6,4 +6,5 @@ use Rattle.plist.proofs.dictionary.equal.PairsPartialEq.eq.Given as goal
 
 abbrev pub invariant-loop-i : goal.invariant-loop-i
 invariant-loop-i g l = (k : ℕ) → k < l.i → (d : List ℕ)
-    → option_eq g.V.PartialEq.eq (lookup (bytes_eq (get_or (keys_of l.self) k d)) l.self) (lookup (bytes_eq (get_or (keys_of l.self) k d)) l.other) ≡ true
+    → option_eq g.V.PartialEq.eq (lookup (bytes_eq (get_or (keys_of l.self) k d)) l.self)
+    (lookup (bytes_eq (get_or (keys_of l.self) k d)) l.other) ≡ true

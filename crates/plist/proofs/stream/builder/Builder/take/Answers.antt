@@ -8,5 +8,12 @@ returns-in-Ok-clause-step c =
     let held = c.args.self.now in
     let taken = sym c.in-None.ensures in (
       held.nested,
-      (c.if-self.false, taken, c.if-self.false, carry held.partial.root (reverse held.partial.collections.items) (event_of c.args.event) _ held.nested taken c.in-Ok.ensures),
+      (
+        c.if-self.false,
+        taken,
+        c.if-self.false,
+        carry held.partial.root
+            (reverse held.partial.collections.items) (event_of c.args.event) _ held.nested taken
+            c.in-Ok.ensures,
+      ),
     )

@@ -1,0 +1,237 @@
+-- A second has one date without a fraction.
+use Rattle.std.proofs.Common.{◌≡◌, ℕ, zero, suc, ◌+◌, ◌*◌, ◌/◌, ◌%◌, ◌^◌, ◌<◌, ◌≤◌, max, Bool, true, false, cond, eqb, ℤ, pos, neg_ℤ, Option, None, Some, List, [], ◌∷◌, refl, ap, sym, ◌∙◌, arith, inl, inr}
+use Rattle.std.specs.Prelude.{◌*ℤ◌}
+use Rattle.std.specs.Int.{to_be_bytes, w64}
+use Rattle.std.proofs.Math.Nat.{div-add-mod, eq_of_mul-eq-mul_right, mul-le-mul_right, one-le-pow, pow-le-pow_right}
+use Rattle.std.proofs.lemmas.Bool.{cases_lt}
+use Rattle.std.proofs.lemmas.Bool.Decides.{nat_tests}
+use Rattle.std.proofs.lemmas.Int.{ints}
+use Rattle.std.proofs.lemmas.Nat.{be_bytes_8}
+use Rattle.plist_base.specs.Date.{AreEightBytes, IsDate, IsWhole, date_bytes, date_if, has_fraction, is_negative, parts_in_second, parts_left, parts_of, real_bits, real_exponent, real_mantissa, real_parts, real_scale, real_second, rounded_down, second_of_bits, second_of_bytes, whole_seconds}
+use Rattle.plist_base.proofs.DateRounding.{neg_times, second_kept}
+
+-- ---- without the sign
+
+-- the parts of an exponent and a fraction
+abbrev value : (exponent fraction : ℕ) → ℕ
+value exponent fraction = cond (eqb exponent 0) fraction (2 ^ 52 + fraction) * 2 ^ max 1 exponent
+
+value_zero : (fraction : ℕ) → value 0 fraction ≡ fraction * 2
+value_zero fraction = refl
+
+value_suc : (e fraction : ℕ) → value (suc e) fraction ≡ (2 ^ 52 + fraction) * 2 ^ suc e
+value_suc e fraction =
+    let some : eqb (suc e) 0 ≡ false = grind (arith, nat_tests) in let top : max 1 (suc e)
+    ≡ suc e = omega arith in rw (some, top) refl
+
+power_pos : (k : ℕ) → 0 < 2 ^ k
+power_pos k = let p : 1 ≤ 2 ^ k = one-le-pow k 2 (omega arith) in omega arith
+
+value_low : (e fraction : ℕ) → 2 ^ 53 * 2 ^ e ≤ value (suc e) fraction
+value_low e fraction =
+    let p : 2 ^ 52 * 2 ^ suc e ≤ (2 ^ 52 + fraction) * 2 ^ suc e = mul-le-mul_right (2 ^ suc e)
+    (omega arith) in
+    let q : 2 ^ 53 * 2 ^ e ≡ 2 ^ 52 * 2 ^ suc e = omega arith in
+    rw (value_suc e fraction, q) p
+
+value_high : (e fraction : ℕ) → fraction < 2 ^ 52 → value e fraction < 2 ^ 53 * 2 ^ e
+value_high zero fraction small = omega arith
+value_high (suc e) fraction small =
+    let some = power_pos (suc e) in
+    let next : suc (2 ^ 52 + fraction) * 2 ^ suc e
+    ≤ 2 ^ 53 * 2 ^ suc e = mul-le-mul_right (2 ^ suc e) (omega arith) in
+    let split : suc (2 ^ 52 + fraction) * 2 ^ suc e ≡ (2 ^ 52 + fraction) * 2 ^ suc e
+    + 2 ^ suc e = omega arith in
+    rw (value_suc e fraction) (omega arith)
+
+-- a greater exponent is a greater value
+value_grows : (e d fraction other : ℕ) → fraction < 2 ^ 52 → e < d
+    → value e fraction < value d other
+value_grows e zero fraction other small less = absurd (omega arith)
+value_grows e (suc d) fraction other small less =
+    let high = value_high e fraction small in
+    let low = value_low d other in
+    let powers : 2 ^ e ≤ 2 ^ d = pow-le-pow_right {n = 2} (omega arith) (omega arith) in
+    let between : 2 ^ e * 2 ^ 53 ≤ 2 ^ d * 2 ^ 53 = mul-le-mul_right (2 ^ 53) powers in
+    omega arith
+
+value_fraction : (e fraction other : ℕ) → value e fraction ≡ value e other → fraction ≡ other
+value_fraction zero fraction other same = omega arith
+value_fraction (suc e) fraction other same =
+    let scaled : (2 ^ 52 + fraction) * 2 ^ suc e
+    ≡ (2 ^ 52 + other) * 2 ^ suc e = sym (value_suc e fraction) ∙ same ∙ value_suc e other in
+    let sums = eq_of_mul-eq-mul_right (2 ^ suc e) (power_pos (suc e)) (2 ^ 52 + fraction)
+    (2 ^ 52 + other) scaled in
+    omega arith
+
+value_once : (e d fraction other : ℕ) → fraction < 2 ^ 52 → other < 2 ^ 52
+    → value e fraction ≡ value d other → (e ≡ d) × (fraction ≡ other)
+value_once e d fraction other f o same =
+    elim (cases_lt e d) [
+      | inl less ↦ (let grows = value_grows e d fraction other f less in absurd (omega arith))
+      | inr more ↦
+          elim (cases_lt d e) [
+            | inl less ↦ (let grows = value_grows d e other fraction o less in absurd (omega arith))
+            | inr least ↦ (let is : e ≡ d = omega arith in
+                (is, value_fraction d fraction other (ap (λ k. value k fraction) (sym is) ∙ same)))
+          ]
+    ]
+
+-- ---- with the sign
+
+parts_value : (bits : ℕ) → parts_of (real_mantissa bits) (real_scale bits)
+    ≡ value (real_exponent bits) (bits % 2 ^ 52)
+unfolding parts_of real_mantissa real_scale
+parts_value bits = refl
+
+neg_once : (a b : ℕ) → neg_ℤ (pos a) ≡ neg_ℤ (pos b) → a ≡ b
+neg_once a b same = omega (arith, ints, same)
+
+pos_once : (a b : ℕ) → pos a ≡ pos b → a ≡ b
+pos_once a b same = omega (arith, ints, same)
+
+neg_pos : (a b : ℕ) → neg_ℤ (pos a) ≡ pos b → a ≡ 0
+neg_pos a b same = omega (arith, ints, same)
+
+-- bits with the same sign, exponent and fraction
+bits_same : (a b : ℕ) → a < 2 ^ 64 → b < 2 ^ 64 → is_negative a ≡ is_negative b
+    → real_exponent a ≡ real_exponent b → a % 2 ^ 52 ≡ b % 2 ^ 52 → a ≡ b
+unfolding real_exponent
+bits_same a b sa sb sign exponent fraction =
+    elim (cases_lt a (2 ^ 63)) [
+      | inl la ↦
+          elim (cases_lt b (2 ^ 63)) [
+            | inl lb ↦ omega arith
+            | inr gb ↦ absurd (grind (arith, nat_tests))
+          ]
+      | inr ga ↦
+          elim (cases_lt b (2 ^ 63)) [
+            | inl lb ↦ absurd (grind (arith, nat_tests))
+            | inr gb ↦ omega arith
+          ]
+    ]
+
+zero_exponent : 0 ≡ real_exponent (2 ^ 63)
+unfolding real_exponent
+zero_exponent = refl
+
+-- a value of no parts is zero with a sign, where it has one
+negative_zero : (a : ℕ) → a < 2 ^ 64 → is_negative a ≡ true
+    → value (real_exponent a) (a % 2 ^ 52) ≡ 0 → eqb a (2 ^ 63) ≡ true
+negative_zero a small negative none =
+    let once = value_once (real_exponent a) 0 (a % 2 ^ 52) 0 (omega arith) (omega arith) none in
+    let is : a ≡ 2 ^ 63 = bits_same a (2 ^ 63) small (omega arith) negative (once.0 ∙ zero_exponent)
+    (once.1) in
+    rw is refl
+
+abbrev signed : Bool → ℕ → ℤ
+signed negative parts = cond negative (neg_ℤ (pos parts)) (pos parts)
+
+-- ---- the bits of a value
+
+module _ (a b : ℕ) (small_a : a < 2 ^ 64) (small_b : b < 2 ^ 64) (plain_a : eqb a (2 ^ 63) ≡ false)
+    (plain_b : eqb b (2 ^ 63) ≡ false) where
+  abbrev parts : ℕ → ℕ
+  parts bits = value (real_exponent bits) (bits % 2 ^ 52)
+
+  not_zero : (bits : ℕ) → bits < 2 ^ 64 → eqb bits (2 ^ 63) ≡ false → is_negative bits ≡ true
+      → parts bits ≡ 0 → ⊥
+  not_zero bits small plain negative none =
+      let zero_signed = negative_zero bits small negative none in cc
+
+  same_sign : (c d : Bool) → is_negative a ≡ c → is_negative b ≡ d
+      → signed c (parts a) ≡ signed d (parts b) → c ≡ d
+  same_sign true true is_c is_d same = refl
+  same_sign false false is_c is_d same = refl
+  same_sign true false is_c is_d same =
+      absurd (not_zero a small_a plain_a is_c (neg_pos (parts a) (parts b) same))
+  same_sign false true is_c is_d same =
+      absurd (not_zero b small_b plain_b is_d (neg_pos (parts b) (parts a) (sym same)))
+
+  same_parts : (c d : Bool) → c ≡ d → signed c (parts a) ≡ signed d (parts b) → parts a ≡ parts b
+  same_parts true true is same = neg_once (parts a) (parts b) same
+  same_parts false false is same = pos_once (parts a) (parts b) same
+  same_parts true false is same = absurd (cc)
+  same_parts false true is same = absurd (cc)
+
+  one_real : signed (is_negative a) (parts a) ≡ signed (is_negative b) (parts b) → a ≡ b
+  one_real same =
+      let sign = same_sign (is_negative a) (is_negative b) refl refl same in
+      let once = value_once (real_exponent a) (real_exponent b) (a % 2 ^ 52) (b % 2 ^ 52)
+      (omega arith) (omega arith) (same_parts (is_negative a) (is_negative b) sign same) in
+      bits_same a b small_a small_b sign once.0 once.1
+
+real_is : (bits : ℕ) → real_parts bits
+    ≡ signed (is_negative bits) (value (real_exponent bits) (bits % 2 ^ 52))
+unfolding real_parts
+real_is bits = ap (signed (is_negative bits)) (parts_value bits)
+
+-- ---- a whole second
+
+-- a value with nothing left behind its second is that second
+whole_value : (bits : ℕ) (second : ℤ) → has_fraction bits ≡ false
+    → second_of_bits bits ≡ Some second → real_parts bits ≡ (second *ℤ pos parts_in_second)
+unfolding has_fraction second_of_bits real_parts real_second whole_seconds parts_left
+whole_value bits second whole is =
+    let parts : ℕ = parts_of (real_mantissa bits) (real_scale bits) in
+    let none : parts % parts_in_second ≡ 0 = grind (arith, nat_tests, whole) in
+    let split : parts_in_second * (parts / parts_in_second) + parts % parts_in_second
+    ≡ parts = div-add-mod parts parts_in_second in
+    let all : parts ≡ parts / parts_in_second * parts_in_second = omega arith in
+    let kept = second_kept (eqb (real_exponent bits) 2047) (real_second bits) second is in
+    ap (signed (is_negative bits)) all
+    ∙ times (is_negative bits) (parts / parts_in_second) parts_in_second
+    ∙ ap (λ left. rounded_down (is_negative bits) (parts / parts_in_second) left *ℤ pos
+    parts_in_second) (sym none)
+    ∙ ap (λ (s : ℤ). s *ℤ pos parts_in_second) kept.0
+  where
+    times : (negative : Bool) (whole unit : ℕ)
+        → signed negative (whole * unit) ≡ (rounded_down negative whole 0 *ℤ pos unit)
+    times true whole unit = sym (neg_times whole unit)
+    times false whole unit = refl
+
+-- ---- the bytes
+
+bits_small : (bytes : List ℕ) → AreEightBytes bytes → real_bits bytes < 2 ^ 64
+bits_small bytes are =
+    omega (arith, are.1 0, are.1 1, are.1 2, are.1 3, are.1 4, are.1 5, are.1 6, are.1 7)
+
+-- a date is no zero with a sign
+no_signed_zero : (bytes : List ℕ) → IsDate bytes → eqb (real_bits bytes) (2 ^ 63) ≡ false
+no_signed_zero bytes is = by_second (second_of_bytes bytes) bytes is.1
+  where
+    by_test : (b : Bool) (bytes : List ℕ) → eqb (real_bits bytes) (2 ^ 63) ≡ b
+        → ◌≡◌ {A = Option (List ℕ)} (Some (date_bytes bytes)) (Some bytes) → b ≡ false
+    by_test false bytes is same = refl
+    by_test true bytes is same = absurd (zeros bytes is (some_same (date_bytes bytes) bytes same))
+      where
+        some_same : (x y : List ℕ) → ◌≡◌ {A = Option (List ℕ)} (Some x) (Some y) → x ≡ y
+        some_same x y e = cc
+
+        zeros : (bytes : List ℕ) → eqb (real_bits bytes) (2 ^ 63) ≡ true → date_bytes bytes ≡ bytes
+            → ⊥
+        zeros bytes is same =
+            let are : 0 ∷ 0 ∷ 0 ∷ 0 ∷ 0 ∷ 0 ∷ 0 ∷ 0 ∷ [] ≡ bytes = sym (rw is refl) ∙ same in
+            let none : eqb (real_bits bytes) (2 ^ 63)
+            ≡ false = ap (λ list. eqb (real_bits list) (2 ^ 63)) (sym are) in
+            cc
+
+    by_second : (second : Option ℤ) (bytes : List ℕ) → date_if second bytes ≡ Some bytes
+        → eqb (real_bits bytes) (2 ^ 63) ≡ false
+    by_second None bytes is = absurd (cc)
+    by_second (Some second) bytes is = by_test (eqb (real_bits bytes) (2 ^ 63)) bytes refl is
+
+-- two dates of one second without a fraction
+pub one_date : (second : ℤ) (date other : List ℕ) → IsDate date → IsDate other
+    → IsWhole date → IsWhole other → second_of_bytes date ≡ Some second
+    → second_of_bytes other ≡ Some second → other ≡ date
+one_date second date other is_date is_other whole whole_other is second_other =
+    let same : real_parts (real_bits other) ≡ real_parts (real_bits date) =
+    whole_value (real_bits other) second whole_other second_other
+    ∙ sym (whole_value (real_bits date) second whole is) in
+    let bits : real_bits other ≡ real_bits date =
+    one_real (real_bits other) (real_bits date) (bits_small other is_other.0)
+    (bits_small date is_date.0) (no_signed_zero other is_other) (no_signed_zero date is_date)
+    (sym (real_is (real_bits other)) ∙ same ∙ real_is (real_bits date)) in
+    sym (be_bytes_8 other (real_bits other) is_other.0.0 is_other.0.1 refl)
+    ∙ ap (to_be_bytes w64) bits ∙ be_bytes_8 date (real_bits date) is_date.0.0 is_date.0.1 refl

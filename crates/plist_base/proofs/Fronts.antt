@@ -1,0 +1,53 @@
+-- What a writer holds after some sends.
+use Rattle.std.proofs.Common.{◌≡◌, ℕ, ◌+◌, ◌-◌, List, [], length, take, drop, Option, ap, sym, ◌∙◌, append-nil}
+use Rattle.std.specs.Io.KnownBytes.{Appends, Keeps}
+use Rattle.std.proofs.KnownBytes.{Appends-kept, Appends-trans}
+use Rattle.std.proofs.Math.Seq.{take-add, take-length}
+use Rattle.std.proofs.lemmas.List.{take-append-drop, length-drop}
+use Rattle.plist_base.specs.Fronts.{AppendsFront}
+
+pub Appends-at : (old new : Option (List ℕ)) (xs ys : List ℕ) → xs ≡ ys → Appends old new xs
+    → Appends old new ys
+Appends-at old new xs ys same h = rw (← same) h
+
+-- ---- a beginning of some bytes
+
+pub whole_rest : (bytes : List ℕ) (done : ℕ)
+    → take (length bytes - done) (drop done bytes) ≡ drop done bytes
+whole_rest bytes done =
+    ap (λ count. take count (drop done bytes)) (sym (length-drop done bytes))
+    ∙ take-length (drop done bytes)
+
+pub Appends-part : (a b c : Option (List ℕ)) (bytes : List ℕ) (done count : ℕ)
+    → Appends a b (take done bytes) → Appends b c (take count (drop done bytes))
+    → Appends a c (take (done + count) bytes)
+Appends-part a b c bytes done count h g =
+    Appends-at a c _ _ (sym (take-add done count bytes)) (Appends-trans a b c _ _ h g)
+
+-- a write that failed
+pub front_kept : (a b c : Option (List ℕ)) (bytes : List ℕ) (done : ℕ)
+    → Appends a b (take done bytes) → Keeps b c → AppendsFront a c bytes
+front_kept a b c bytes done h kept = (
+  take done bytes,
+  drop done bytes,
+  Appends-kept a b c _ h kept,
+  sym
+      (take-append-drop done bytes),
+)
+
+-- a write that took nothing
+pub front_none : (a b c : Option (List ℕ)) (bytes : List ℕ) (done : ℕ)
+    → Appends a b (take done bytes) → Appends b c [] → AppendsFront a c bytes
+front_none a b c bytes done h none = (
+  take done bytes,
+  drop done bytes,
+  Appends-at a c _ _ (append-nil (take done bytes))
+      (Appends-trans a b c _ _ h none),
+  sym (take-append-drop done bytes),
+)
+
+-- all of them, and a flush
+pub front_whole : (a b c : Option (List ℕ)) (bytes : List ℕ) → Appends a b bytes → Keeps b c
+    → AppendsFront a c bytes
+front_whole a b c bytes h kept =
+    (bytes, [], Appends-kept a b c bytes h kept, sym (append-nil bytes))

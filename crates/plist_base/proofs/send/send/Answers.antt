@@ -1,0 +1,21 @@
+use Rattle.std.proofs.Common.{rules}
+use Rattle.plist_base.proofs.Fronts.{Appends-part, whole_rest, front_kept, front_none}
+use Rattle.plist_base.proofs.send.send.Goals as goal
+
+pub loop-done-preserved : goal.loop-done-preserved
+loop-done-preserved g c = record {
+  within = let len = rw whole_rest at c.in-Ok.ensures.bound in search (rules, len);
+  sent = Appends-part _ _ _ c.args.bytes.now c.loop-done.done c.in-Ok.count
+      c.loop-done.invariant.sent (rw (whole_rest c.args.bytes.now c.loop-done.done) at
+      c.in-Ok.ensures.bytes);
+}
+
+pub returns-in-Ok-eq0-clause-front : goal.returns-in-Ok-eq0-clause-front
+returns-in-Ok-eq0-clause-front g c =
+    front_none _ _ _ c.args.bytes.now c.loop-done.done c.loop-done.invariant.sent
+    (rw c.in-Ok-eq0.field-0-test at c.in-Ok-eq0.ensures.bytes)
+
+pub returns-in-Err-clause-front : goal.returns-in-Err-clause-front
+returns-in-Err-clause-front g c =
+    front_kept _ _ _ c.args.bytes.now c.loop-done.done c.loop-done.invariant.sent
+    c.in-Err.ensures.bytes

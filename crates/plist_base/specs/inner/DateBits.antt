@@ -1,0 +1,13 @@
+-- The bits that stand for a whole second.
+use Rattle.std.specs.Prelude.{ℕ, ◌+◌, ◌-◌, ◌*◌, ◌^◌, if◌then◌else◌, ◌==◌, ℤ, pos, negsuc}
+use Rattle.std.specs.Int.Count.{count_leading_zeros}
+
+-- the bits of a whole number below 2 ^ 53; its highest bit adds one to the exponent
+unfoldable pub whole_bits : ℕ → ℕ
+whole_bits n =
+    if n == 0 then 0 else (1085 - count_leading_zeros 64 n) * 2 ^ 52
+    + n * 2 ^ (count_leading_zeros 64 n - 11)
+
+unfoldable pub second_bits : ℤ → ℕ
+second_bits (pos n) = whole_bits n
+second_bits (negsuc n) = 2 ^ 63 + whole_bits (n + 1)

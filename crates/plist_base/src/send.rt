@@ -1,0 +1,63 @@
+//! Sends bytes to a writer.
+
+ghost use Rattle.std.specs.Prelude.{OnOk};
+ghost use Rattle.plist_base.specs.Outcomes.{OnlyDevice};
+ghost use Rattle.std.specs.Io.KnownBytes.{Appends, Keeps};
+ghost use Rattle.plist_base.specs.Faults.{Io};
+ghost use Rattle.plist_base.specs.Fronts.{AppendsFront};
+
+use crate::{Error, ErrorKind};
+use std::io;
+use std::io::Write;
+
+/// Sends all the bytes.
+///
+/// # Errors
+/// `Io` without an offset where a write fails or takes no byte; a beginning of the bytes was sent.
+pub fn send<W: Write>(writer: &mut W, bytes: &[u8]) -> Result<(), Error>
+    ensures sent { OnOk result (Appends (W.contents writer.old) (W.contents writer.new) bytes.now) }
+    ensures fault { OnlyDevice result }
+    ensures front { AppendsFront (W.contents writer.old) (W.contents writer.new) bytes.now }
+{
+    let mut done = 0;
+    while done < bytes.len() {
+        match writer.write(&bytes[done..]) {
+            Ok(0) => {
+                let failure = io::Error::from(io::ErrorKind::WriteZero);
+                return Err(ErrorKind::Io(failure).without_position());
+            }
+            Ok(count) => done += count,
+            Err(failure) => return Err(ErrorKind::Io(failure).without_position()),
+        }
+    }
+    Ok(())
+}
+
+/// Has the writer pass on what it holds back.
+///
+/// # Errors
+/// `Io` without an offset where that fails.
+pub fn flush<W: Write>(writer: &mut W) -> Result<(), Error>
+    ensures fault { OnlyDevice result }
+    ensures unchanged { Keeps (W.contents writer.old) (W.contents writer.new) }
+{
+    match writer.flush() {
+        Ok(()) => Ok(()),
+        Err(failure) => Err(ErrorKind::Io(failure).without_position()),
+    }
+}
+
+/// Sends all the bytes, and then has the writer pass on what it holds back.
+///
+/// # Errors
+/// `Io` without an offset where a write fails or takes no byte, and a beginning of the bytes was
+/// sent; or where the flush fails, and all of them were.
+pub fn send_whole<W: Write>(writer: &mut W, bytes: &[u8]) -> Result<(), Error>
+    ensures sent { OnOk result (Appends (W.contents writer.old) (W.contents writer.new) bytes.now) }
+    ensures fault { OnlyDevice result }
+    ensures front { AppendsFront (W.contents writer.old) (W.contents writer.new) bytes.now }
+{
+    send(writer, bytes)?;
+    flush(writer)?;
+    Ok(())
+}

@@ -1,0 +1,87 @@
+//! The walk from one item to the next.
+
+ghost use Rattle.std.specs.Prelude.{◌≡◌, ◌<◌, ◌≤◌, length, true, IfSome, OnOk};
+ghost use Rattle.plist_base.specs.Sources.{ItemCountsIo};
+ghost use Rattle.plist_binread.specs.Debt.{IsKeptTold, closes, entries_of, next_number, weight};
+ghost use Rattle.plist_binread.specs.Lent.{IsAsked, IsToldAs, IsToldEnd, PaysNextTold};
+ghost use Rattle.plist_binread.specs.Told.{event_in};
+ghost use Rattle.plist_binread.specs.Walking.{IsWalkOf, cached_in, objects_of, open_in, owed_in, weight_in};
+ghost use Rattle.plist_binread.specs.Failures.{ItemWithin};
+
+use crate::child::{Asked, read_child};
+use crate::counter::DecodeCounter;
+use crate::enter::enter;
+use crate::near::go_near;
+use crate::table::Bounds;
+use crate::told::Last;
+use crate::walk::{Turn, Walk};
+use plist_base::{Error, Event, OwnedEvent, Source};
+use std::alloc::Global;
+
+// Tells what a slow step gave.
+fn tell(answer: Result<OwnedEvent, Error>, last: &mut Last) -> Option<Result<(), Error>>
+    ensures { IsToldAs answer.entry result (event_in last.new) }
+{
+    match answer {
+        Ok(event) => {
+            last.hold(event);
+            Some(Ok(()))
+        }
+        Err(error) => Some(Err(error)),
+    }
+}
+
+/// Tells the next item of what the open collections owe. What is at hand and right is told at once,
+/// and everything else is read.
+pub fn advance<S: Source, C: DecodeCounter>(
+    alloc: Global,
+    source: &mut S,
+    counter: &mut C,
+    bounds: &Bounds,
+    walk: &mut Walk,
+    asked: &mut Asked,
+    last: &mut Last,
+) -> Option<Result<(), Error>>
+    requires known { IfSome (S.known source.old) (λ bytes. IsWalkOf bytes bounds.now walk.old) }
+    requires counted { C.counts → C.count counter.old ≡ cached_in walk.old }
+    requires asked { IfSome (S.known source.old) (λ bytes. bounds.now.trailer ≤ length bytes →
+        IsAsked bytes bounds.now asked.old) }
+    ensures size { objects_of walk.new ≡ objects_of walk.old }
+    ensures known { IfSome (S.known source.old) (λ bytes. IsWalkOf bytes bounds.now walk.new) }
+    ensures counted { C.counts → C.count counter.new ≡ cached_in walk.new }
+    ensures asked { IfSome (S.known source.old) (λ bytes. bounds.now.trailer ≤ length bytes →
+        IsAsked bytes bounds.now asked.new) }
+    ensures kept { IfSome (S.known source.old) (λ bytes.
+        IsKeptTold (next_number (entries_of bytes bounds.now) (open_in walk.old)) result
+        (event_in last.new) walk.new.tags.items) }
+    ensures closes { closes (open_in walk.old) ≡ true → IsToldEnd result (event_in last.new) }
+    ensures pays { IfSome (S.known source.old) (λ bytes.
+        PaysNextTold (owed_in bytes bounds.now walk.old) result
+        (event_in last.new) (owed_in bytes bounds.now walk.new)) }
+    ensures falls { IfSome result (λ answer. (0 < weight_in walk.old)
+        × OnOk answer (weight (objects_of walk.old) (open_in walk.new) < weight_in walk.old)) }
+    ensures fault { ItemWithin 0 bounds.now.trailer result }
+    ensures unchanged { S.known source.new ≡ S.known source.old }
+    ensures failures { ItemCountsIo result (S.failures source.old) (S.failures source.new) }
+{
+    match walk.turn() {
+        Turn::Done => None,
+        Turn::Closed => {
+            last.hold(Event::EndCollection);
+            Some(Ok(()))
+        }
+        Turn::Child(object, index) => {
+            let at = walk.contents[object as usize];
+            if go_near(source, counter, bounds, walk, asked, last, at, index) {
+                return Some(Ok(()));
+            }
+            match read_child(source, bounds, at, index) {
+                Ok(number) => tell(
+                    enter(alloc, source, counter, bounds, walk, at, number),
+                    last,
+                ),
+                Err(error) => Some(Err(error)),
+            }
+        }
+    }
+}

@@ -1,0 +1,169 @@
+//! Entering an object that is at hand: its first item is told without a read.
+
+ghost use Rattle.std.specs.Prelude.{◌≡◌, ℕ, ◌+◌, ◌^◌, ◌<◌, ◌≤◌, List, [], ◌∷◌, ◌++◌, length, take, drop, get_or, true, false, IfSome, Some};
+ghost use Rattle.std.specs.List.{slice_get};
+ghost use Rattle.plist_binread.specs.Packed.{is_small_event, unmarked};
+ghost use Rattle.plist_binread.specs.Object.{Object, object_in};
+ghost use Rattle.plist_binread.specs.Unfolding.{Entry};
+ghost use Rattle.plist_binread.specs.Debt.{entries_of, weight};
+ghost use Rattle.plist_binread.specs.Lent.{IsAsked, IsLentAs, PaysTold, EntersChild, small_lent};
+ghost use Rattle.plist_binread.specs.Told.{event_in};
+ghost use Rattle.plist_binread.specs.Walking.{IsWalkOf, cached_in, objects_of, open_in, owed_entering, owed_in, weight_entering};
+
+use crate::child::{Asked, lent_before, near_child};
+use crate::counter::DecodeCounter;
+use crate::lent::{Lent, decode_lent};
+use crate::packed::{keep, mark, pack};
+use crate::table::Bounds;
+use crate::told::Last;
+use crate::walk::{Frame, Walk};
+use plist_base::Source;
+
+// Opens a collection of so many children, if there is room.
+fn push_near(frames: &mut Vec<Frame>, object: u64, count: u64) -> bool
+    ensures pushed { result ≡ true → frames.new.items
+        ≡ frames.old.items ++ record { object = object; next = 0; count = count } ∷ [] }
+    ensures unchanged { result ≡ false → frames.new.items ≡ frames.old.items }
+    ensures small { count < 2 ^ 64 }
+{
+    let frame = Frame {
+        object,
+        next: 0,
+        count,
+    };
+    frames.push(frame).is_ok()
+}
+
+// Keeps what was lent and told where it is a small scalar, and opens it where it is a collection.
+// It answers no, and nothing has changed, where room for that is wanted or nothing was lent.
+fn open_lent(walk: &mut Walk, number: u64, lent: Lent, last: &Last) -> bool
+    requires below { number < objects_of walk.old }
+    requires new { get_or walk.old.tags.items number 0 ≡ 0 }
+    ensures size { objects_of walk.new ≡ objects_of walk.old }
+    ensures counted { cached_in walk.new
+        ≡ cached_in walk.old + small_lent lent (event_in last.now) }
+    ensures kept { result ≡ true → (object : Object) → IsLentAs object (event_in last.now) lent →
+        is_small_event (event_in last.now) ≡ true →
+        0 < unmarked (get_or walk.new.tags.items number 0) }
+    ensures falls { result ≡ true → weight (objects_of walk.old) (open_in walk.new)
+        < weight_entering walk.old }
+    ensures pays { result ≡ true → (bytes : List ℕ) (bounds : Bounds) (entry : Entry) →
+        IsWalkOf bytes bounds walk.old → slice_get (entries_of bytes bounds) number ≡ Some entry →
+        IsLentAs entry.object (event_in last.now) lent →
+        ((at : ℕ) → PaysTold (owed_entering bytes bounds walk.old at number)
+        (event_in last.now) (owed_in bytes bounds walk.new))
+        × IsWalkOf bytes bounds walk.new }
+    ensures unchanged { result ≡ false → (walk.new.tags.items ≡ walk.old.tags.items)
+        × (walk.new.contents.items ≡ walk.old.contents.items)
+        × (walk.new.frames.items ≡ walk.old.frames.items) }
+{
+    match lent {
+        Lent::Nothing => false,
+        Lent::Scalar => match pack(&last.lend()) {
+            Some((tag, content)) => {
+                keep(
+                    &mut walk.tags,
+                    &mut walk.contents,
+                    number as usize,
+                    tag,
+                    content,
+                );
+                true
+            }
+            None => true,
+        },
+        Lent::Collection(count) => {
+            if push_near(&mut walk.frames, number, count) {
+                mark(&mut walk.tags, number as usize);
+                return true;
+            }
+            false
+        }
+    }
+}
+
+// Tells the first item of an object where all that it needs is at hand and right. It answers no,
+// and nothing has changed, where it isn't.
+fn enter_near<S: Source, C: DecodeCounter>(
+    source: &S,
+    counter: &mut C,
+    bounds: &Bounds,
+    walk: &mut Walk,
+    last: &mut Last,
+    number: u64,
+) -> bool
+    requires known { IfSome (S.known source.now) (λ bytes. IsWalkOf bytes bounds.now walk.old) }
+    requires counted { C.counts → C.count counter.old ≡ cached_in walk.old }
+    ensures size { objects_of walk.new ≡ objects_of walk.old }
+    ensures counted { C.counts → C.count counter.new ≡ cached_in walk.new }
+    ensures known { result ≡ true → IfSome (S.known source.now) (λ bytes.
+        IsWalkOf bytes bounds.now walk.new) }
+    ensures kept { result ≡ true → IfSome (S.known source.now) (λ _.
+        is_small_event (event_in last.new) ≡ true →
+        0 < unmarked (get_or walk.new.tags.items number 0)) }
+    ensures pays { result ≡ true → IfSome (S.known source.now) (λ bytes. (at : ℕ) →
+        PaysTold (owed_entering bytes bounds.now walk.old at number)
+        (event_in last.new) (owed_in bytes bounds.now walk.new)) }
+    ensures falls { result ≡ true → weight (objects_of walk.old) (open_in walk.new)
+        < weight_entering walk.old }
+    ensures unchanged { result ≡ false → (walk.new.tags.items ≡ walk.old.tags.items)
+        × (walk.new.contents.items ≡ walk.old.contents.items)
+        × (walk.new.frames.items ≡ walk.old.frames.items) }
+{
+    if number >= walk.tags.len() as u64 {
+        return false;
+    }
+    let held = walk.tags[number as usize];
+    let content = walk.contents[number as usize];
+    if held >= 128 {
+        return false;
+    }
+    if held != 0 {
+        return last.recall(held, content);
+    }
+    if content >= bounds.trailer {
+        return false;
+    }
+    let seen = lent_before(source, bounds, content);
+    let room = bounds.trailer - content;
+    let lent = decode_lent(seen, room, bounds.reference_width, counter, last);
+    open_lent(walk, number, lent, last)
+}
+
+/// Tells the first item of a child of the collection at this place, where all that it needs is at
+/// hand and right. It answers no, and nothing has changed, where it isn't.
+pub fn go_near<S: Source, C: DecodeCounter>(
+    source: &S,
+    counter: &mut C,
+    bounds: &Bounds,
+    walk: &mut Walk,
+    asked: &mut Asked,
+    last: &mut Last,
+    at: u64,
+    index: u64,
+) -> bool
+    requires known { IfSome (S.known source.now) (λ bytes. IsWalkOf bytes bounds.now walk.old) }
+    requires counted { C.counts → C.count counter.old ≡ cached_in walk.old }
+    requires asked { IfSome (S.known source.now) (λ bytes. bounds.now.trailer ≤ length bytes →
+        IsAsked bytes bounds.now asked.old) }
+    ensures size { objects_of walk.new ≡ objects_of walk.old }
+    ensures counted { C.counts → C.count counter.new ≡ cached_in walk.new }
+    ensures asked { IfSome (S.known source.now) (λ bytes. bounds.now.trailer ≤ length bytes →
+        IsAsked bytes bounds.now asked.new) }
+    ensures known { result ≡ true → IfSome (S.known source.now) (λ bytes.
+        IsWalkOf bytes bounds.now walk.new) }
+    ensures enters { result ≡ true → IfSome (S.known source.now) (λ bytes.
+        EntersChild (entries_of bytes bounds.now) (object_in bounds.now.reference_width
+        (drop at (take bounds.now.trailer bytes))) index (objects_of walk.old)
+        (open_in walk.old) (event_in last.new) walk.new.tags.items (open_in walk.new)) }
+    ensures falls { result ≡ true → weight (objects_of walk.old) (open_in walk.new)
+        < weight_entering walk.old }
+    ensures unchanged { result ≡ false → (walk.new.tags.items ≡ walk.old.tags.items)
+        × (walk.new.contents.items ≡ walk.old.contents.items)
+        × (walk.new.frames.items ≡ walk.old.frames.items) }
+{
+    match near_child(source, bounds, asked, at, index) {
+        Some(number) => enter_near(source, counter, bounds, walk, last, number),
+        None => false,
+    }
+}

@@ -1,0 +1,106 @@
+//! Where a walk stands: the collections that are open, and what is held of each object.
+
+ghost use Rattle.std.specs.Prelude.{◌≡◌, ℕ, ◌^◌, ◌<◌, List, [], ◌∷◌, ◌++◌, length, reverse, true, OnOk, OnErr};
+ghost use Rattle.plist_base.specs.Outcomes.{OnlyMemory};
+ghost use Rattle.std.proofs.Props.{props};
+ghost use Rattle.plist_binread.specs.declared.walk.Turn.TheVariants.{Closed};
+ghost use Rattle.plist_binread.specs.Debt.{IsOpen, IsWithin, Lightens, Turns, closes, entries_of};
+
+use crate::packed::unmark;
+use crate::table::Bounds;
+use plist_base::Error;
+use std::alloc::Global;
+
+/// An open collection.
+#[derive(Clone, Copy)]
+pub struct Frame {
+    /// The number of its object.
+    pub object: u64,
+    /// How many of its children have been entered.
+    pub next: u64,
+    /// How many children it has.
+    pub count: u64,
+}
+
+/// What the innermost collection asks for.
+#[derive(Clone, Copy)]
+pub enum Turn {
+    /// Nothing is open.
+    Done,
+    /// It had no more children and was closed.
+    Closed,
+    /// The child of this place among the children of this object.
+    Child(u64, u64),
+}
+
+/// Where a walk over a file's objects stands.
+#[derive(Drop)]
+pub struct Walk {
+    /// Of each object by its number, what kind of content is held of it, and whether it is open.
+    pub tags: Vec<u8>,
+    /// Of each object its place, or all of a small scalar.
+    pub contents: Vec<u64>,
+    /// The open collections, the innermost one last.
+    pub frames: Vec<Frame>,
+    ghost same: { length contents.items ≡ length tags.items } by { Prim.hlevel props },
+    ghost path: { IsOpen tags.items (reverse frames.items) } by { Prim.hlevel props },
+}
+
+impl Walk {
+    ghost use Rattle.plist_binread.specs.Walking.{IsEmpty, IsWalkOf, cached_in, objects_of, open_in};
+
+    /// No object is held.
+    pub fn new(alloc: Global) -> Self
+        ensures { IsEmpty result }
+    {
+        Walk {
+            tags: Vec::new(alloc),
+            contents: Vec::new(alloc),
+            frames: Vec::new(alloc),
+        }
+    }
+
+    /// Takes the next child of the innermost collection, or closes it where it has no more.
+    pub fn turn(&mut self) -> Turn
+        ensures size { objects_of self.new ≡ objects_of self.old }
+        ensures counted { cached_in self.new ≡ cached_in self.old }
+        ensures within { IsWithin self.new.tags.items result }
+        ensures closes { closes (open_in self.old) ≡ true → result ≡ Closed }
+        ensures owed { (bytes : List ℕ) (bounds : Bounds) → IsWalkOf bytes bounds self.old →
+            Turns (entries_of bytes bounds) (open_in self.old) result (open_in self.new)
+            × IsWalkOf bytes bounds self.new }
+        ensures weight { (count : ℕ) →
+            Lightens count (open_in self.old) result (open_in self.new) }
+    {
+        let depth = self.frames.len();
+        if depth == 0 {
+            return Turn::Done;
+        }
+        let frame = &mut self.frames[depth - 1];
+        if frame.next < frame.count {
+            let index = frame.next;
+            frame.next += 1;
+            return Turn::Child(frame.object, index);
+        }
+        let object = frame.object;
+        unmark(&mut self.tags, object as usize);
+        let _ = self.frames.pop();
+        Turn::Closed
+    }
+}
+
+/// Opens a collection of so many children.
+pub fn push_frame(frames: &mut Vec<Frame>, object: u64, count: u64) -> Result<(), Error>
+    ensures value { OnOk result (frames.new.items
+        ≡ frames.old.items ++ record { object = object; next = 0; count = count } ∷ []) }
+    ensures small { count < 2 ^ 64 }
+    ensures memory { OnlyMemory result }
+    ensures unchanged { OnErr result (frames.new.items ≡ frames.old.items) }
+{
+    frames.push(Frame {
+        object,
+        next: 0,
+        count,
+    })?;
+    Ok(())
+}

@@ -1,0 +1,209 @@
+-- A plan by classes is a numbering: each number has one object.
+use Rattle.std.proofs.Common.{◌≡◌, ◌⊎◌, inl, inr, ℕ, ◌+◌, ◌<◌, ◌≤◌, false, List, [], ◌∷◌, length, get_or, refl, ap, sym, ◌∙◌, subst, arith}
+use Rattle.std.proofs.lemmas.Bool.Decides.{leb_tells}
+use Rattle.plist_base.specs.Events.{PlainEvent}
+use Rattle.plist_base.specs.Faults.{ObjectOffsetTooLarge}
+use Rattle.plist_base.specs.Trees as trees
+use Rattle.plist_base.specs.Trees.{Scalar, Tree, Leaf, Array, Dictionary, Trees, NoTrees, TreeAnd, Members, NoMembers, MemberAnd}
+use Rattle.plist_binread.specs.Object as obj
+use Rattle.plist_binread.specs.Object.{Object}
+use Rattle.plist_binwrite.specs.Classes.{AreClasses}
+use Rattle.plist_binwrite.specs.Held.{is_stop, event_at, num_of, AllNumbered, Describes}
+use Rattle.plist_binwrite.specs.Numberings.{refs, pairs, obj_of, IsNumbering}
+use Rattle.plist_binwrite.specs.PlansBy.{IsPlan}
+use Rattle.plist_binwrite.specs.Standing.{size, Sits, SitsItems, SitsPairs}
+use Rattle.plist_binwrite.proofs.Sitting.{sits_items, sits_pairs, sits_item, sits_next, sits_key, sits_value, sits_next_pair}
+use Rattle.plist_binwrite.proofs.Skipping.{begins, sits_within, size_positive}
+
+the_scalar : (x y : Scalar) → obj.Scalar x ≡ obj.Scalar y → x ≡ y
+the_scalar x y p = cc
+
+the_text : (k l : List ℕ) → trees.String k ≡ trees.String l → k ≡ l
+the_text k l p = cc
+
+the_items : (a b : List ℕ) → obj.Array a ≡ obj.Array b → a ≡ b
+the_items a b p = cc
+
+the_pairs : (a b : List (ℕ × ℕ)) → obj.Dictionary a ≡ obj.Dictionary b → a ≡ b
+the_pairs a b p = cc
+
+cons_is : {A : Type 0} (a b : A) (xs ys : List A) → a ∷ xs ≡ b ∷ ys → (a ≡ b) × (xs ≡ ys)
+cons_is a b xs ys p = (cc, cc)
+
+module _ (es : List PlainEvent) (class : ℕ → ℕ) (c : AreClasses es class) where
+  mutual
+    -- places of one class have one tree
+    pub sound : (t u : Tree) (p q : ℕ) → Sits es t p → Sits es u q → class p ≡ class q → t ≡ u
+    sound (Leaf x) (Leaf y) p q s r e =
+        ap Leaf (the_scalar x y (c.object (Leaf x) (Leaf y) p q s r e))
+    sound (Leaf x) (Array us) p q s r e = let k = c.object (Leaf x) (Array us) p q s r e in cc
+    sound (Leaf x) (Dictionary ns) p q s r e =
+        let k = c.object (Leaf x) (Dictionary ns) p q s r e in cc
+    sound (Array ts) (Leaf y) p q s r e = let k = c.object (Array ts) (Leaf y) p q s r e in cc
+    sound (Array ts) (Array us) p q s r e =
+        ap Array (sound_items ts us (p + 1) (q + 1) (sits_items s) (sits_items r)
+        (the_items _ _ (c.object (Array ts) (Array us) p q s r e)))
+    sound (Array ts) (Dictionary ns) p q s r e =
+        let k = c.object (Array ts) (Dictionary ns) p q s r e in cc
+    sound (Dictionary ms) (Leaf y) p q s r e =
+        let k = c.object (Dictionary ms) (Leaf y) p q s r e in cc
+    sound (Dictionary ms) (Array us) p q s r e =
+        let k = c.object (Dictionary ms) (Array us) p q s r e in cc
+    sound (Dictionary ms) (Dictionary ns) p q s r e =
+        ap Dictionary (sound_pairs ms ns (p + 1) (q + 1) (sits_pairs s) (sits_pairs r)
+        (the_pairs _ _ (c.object (Dictionary ms) (Dictionary ns) p q s r e)))
+
+    sound_items : (ts us : Trees) (p q : ℕ) → SitsItems es ts p → SitsItems es us q
+        → refs class ts p ≡ refs class us q → ts ≡ us
+    sound_items NoTrees NoTrees p q s r e = refl
+    sound_items NoTrees (TreeAnd u us) p q s r e = cc
+    sound_items (TreeAnd t ts) NoTrees p q s r e = cc
+    sound_items (TreeAnd t ts) (TreeAnd u us) p q s r e =
+        let k = cons_is (class p) (class q) (refs class ts (p + size t))
+        (refs class us (q + size u)) e in
+        let first = sound t u p q (sits_item s) (sits_item r) k.0 in
+        let more = sound_items ts us (p + size t) (q + size u) (sits_next s) (sits_next r) k.1 in
+        λ i. TreeAnd (first i) (more i)
+
+    sound_pairs : (ms ns : Members) (p q : ℕ) → SitsPairs es ms p → SitsPairs es ns q
+        → pairs class ms p ≡ pairs class ns q → ms ≡ ns
+    sound_pairs NoMembers NoMembers p q s r e = refl
+    sound_pairs NoMembers (MemberAnd l u ns) p q s r e = cc
+    sound_pairs (MemberAnd k t ms) NoMembers p q s r e = cc
+    sound_pairs (MemberAnd k t ms) (MemberAnd l u ns) p q s r e =
+        let h = cons_is (class p, class (p + 1)) (class q, class (q + 1))
+        (pairs class ms (p + 1 + size t)) (pairs class ns (q + 1 + size u)) e in
+        let key = the_text k l (the_scalar _ _
+        (c.object (Leaf (trees.String k)) (Leaf (trees.String l)) p q
+        (sits_key s) (sits_key r) (ap (λ d. d.0) h.0))) in
+        let first = sound t u (p + 1) (q + 1) (sits_value s) (sits_value r) (ap (λ d. d.1) h.0) in
+        let more = sound_pairs ms ns (p + 1 + size t) (q + 1 + size u) (sits_next_pair s)
+        (sits_next_pair r) h.1 in
+        λ i. MemberAnd (key i) (first i) (more i)
+
+  module _ (num : ℕ → ℕ)
+      (same : (t u : Tree) (p q : ℕ) → Sits es t p → Sits es u q → class p ≡ class q
+      → num p ≡ num q) where
+    mutual
+      -- trees whose places have one class have one object by the numbers, too
+      num_obj : (t : Tree) (p q : ℕ) → Sits es t p → Sits es t q
+          → obj_of class t p ≡ obj_of class t q → obj_of num t p ≡ obj_of num t q
+      num_obj (Leaf x) p q s r e = refl
+      num_obj (Array ts) p q s r e =
+          ap obj.Array (num_items ts (p + 1) (q + 1) (sits_items s) (sits_items r)
+          (the_items _ _ e))
+      num_obj (Dictionary ms) p q s r e =
+          ap obj.Dictionary (num_pairs ms (p + 1) (q + 1) (sits_pairs s) (sits_pairs r)
+          (the_pairs _ _ e))
+
+      num_items : (ts : Trees) (p q : ℕ) → SitsItems es ts p → SitsItems es ts q
+          → refs class ts p ≡ refs class ts q → refs num ts p ≡ refs num ts q
+      num_items NoTrees p q s r e = refl
+      num_items (TreeAnd t ts) p q s r e =
+          let h = cons_is (class p) (class q) (refs class ts (p + size t))
+          (refs class ts (q + size t)) e in
+          let a = same t t p q (sits_item s) (sits_item r) h.0 in
+          let b = num_items ts (p + size t) (q + size t) (sits_next s) (sits_next r) h.1 in
+          λ i. a i ∷ b i
+
+      num_pairs : (ms : Members) (p q : ℕ) → SitsPairs es ms p → SitsPairs es ms q
+          → pairs class ms p ≡ pairs class ms q → pairs num ms p ≡ pairs num ms q
+      num_pairs NoMembers p q s r e = refl
+      num_pairs (MemberAnd k t ms) p q s r e =
+          let h = cons_is (class p, class (p + 1)) (class q, class (q + 1))
+          (pairs class ms (p + 1 + size t)) (pairs class ms (q + 1 + size t)) e in
+          let key = Leaf (trees.String k) in
+          let a = same (Leaf (trees.String k)) (Leaf (trees.String k)) p q (sits_key s) (sits_key r)
+          (ap (λ d. d.0) h.0) in
+          let b = same t t (p + 1) (q + 1) (sits_value s) (sits_value r) (ap (λ d. d.1) h.0) in
+          let more = num_pairs ms (p + 1 + size t) (q + 1 + size t) (sits_next_pair s)
+          (sits_next_pair r) h.1 in
+          λ i. (a i, b i) ∷ more i
+
+    pub one_object : (t u : Tree) (p q : ℕ) → Sits es t p → Sits es u q → class p ≡ class q
+        → obj_of num t p ≡ obj_of num u q
+    one_object t u p q s r e =
+        let k : t ≡ u = sound t u p q s r e in
+        subst (λ v. Sits es v q → obj_of class t p ≡ obj_of class v q
+        → obj_of num t p ≡ obj_of num v q)
+        k (λ r o. num_obj t p q s r o) r (c.object t u p q s r e)
+
+-- What a plan says of the numbers: it is a numbering.
+pub record Numbered (es : List PlainEvent) (numbers : List ℕ) (count : ℕ) : Type 0 where
+  pub rank : ℕ → ℕ
+  pub objects : ℕ → Object
+  pub describes : Describes es numbers objects
+  pub numbering : IsNumbering es (num_of numbers) rank count objects
+
+module _ (es : List PlainEvent) (class : ℕ → ℕ) (numbers firsts : List ℕ)
+    (plan : IsPlan es class numbers firsts)
+    (all : AllNumbered es numbers (length firsts)) where
+  pub number_below : (t : Tree) (p : ℕ) → Sits es t p → num_of numbers p < length firsts
+  number_below t p s = all p (omega (arith, sits_within s, size_positive t)) (begins t p s)
+
+  first_class : (t : Tree) (p : ℕ) → Sits es t p
+      → class (get_or firsts (num_of numbers p) 0) ≡ class p
+  first_class t p s =
+      plan.same p (omega (arith, sits_within s, size_positive t)) (number_below t p s)
+
+  -- places of one number have one class, and places of one class one number
+  pub number_apart : (t u : Tree) (p q : ℕ) → Sits es t p → Sits es u q
+      → num_of numbers p ≡ num_of numbers q → class p ≡ class q
+  number_apart t u p q s r e =
+      sym (first_class t p s) ∙ ap (λ k. class (get_or firsts k 0)) e ∙ first_class u q r
+
+  pub number_same : (t u : Tree) (p q : ℕ) → Sits es t p → Sits es u q → class p ≡ class q
+      → num_of numbers p ≡ num_of numbers q
+  number_same t u p q s r e =
+      plan.apart (num_of numbers p) (num_of numbers q) (number_below t p s) (number_below u q r)
+      (first_class t p s ∙ e ∙ sym (first_class u q r))
+
+  module _ (c : AreClasses es class)
+      (found : (p : ℕ) → p < length es → is_stop (event_at es p) ≡ false
+      → (u : Tree) × Sits es u p) where
+    tree_of : (k : ℕ) → k < length firsts → (u : Tree) × Sits es u (get_or firsts k 0)
+    tree_of k h = let n = plan.known k h in found (get_or firsts k 0) n.0 n.2
+
+    cut : (k : ℕ) → (k < length firsts) ⊎ (length firsts ≤ k)
+    cut k = elim (leb_tells (length firsts) k) [ inl h ↦ inr h.1 | inr h ↦ inl h.1 ]
+
+    object_of : (k : ℕ) → (k < length firsts) ⊎ (length firsts ≤ k) → Object
+    object_of k (inl h) = obj_of (num_of numbers) (tree_of k h).0 (get_or firsts k 0)
+    object_of k (inr h) = obj.Faulty ObjectOffsetTooLarge
+
+    rank_of : (k : ℕ) → (k < length firsts) ⊎ (length firsts ≤ k) → ℕ
+    rank_of k (inl h) = size (tree_of k h).0
+    rank_of k (inr h) = 0
+
+    object_is : (t : Tree) (p : ℕ) → Sits es t p
+        → (d : (num_of numbers p < length firsts) ⊎ (length firsts ≤ num_of numbers p))
+        → object_of (num_of numbers p) d ≡ obj_of (num_of numbers) t p
+    unfolding object_of
+    object_is t p s (inl h) =
+        let f = tree_of (num_of numbers p) h in
+        one_object es class c (num_of numbers) number_same f.0 t
+        (get_or firsts (num_of numbers p) 0) p f.1 s
+        (first_class t p s)
+    object_is t p s (inr h) = absurd (omega (arith, number_below t p s))
+
+    rank_is : (t : Tree) (p : ℕ) → Sits es t p
+        → (d : (num_of numbers p < length firsts) ⊎ (length firsts ≤ num_of numbers p))
+        → rank_of (num_of numbers p) d ≡ size t
+    unfolding rank_of
+    rank_is t p s (inl h) =
+        let f = tree_of (num_of numbers p) h in
+        ap size (sound es class c f.0 t (get_or firsts (num_of numbers p) 0) p f.1 s
+        (first_class t p s))
+    rank_is t p s (inr h) = absurd (omega (arith, number_below t p s))
+
+    pub numbered : Numbered es numbers (length firsts)
+    numbered = record {
+      rank = λ k. rank_of k (cut k);
+      objects = λ k. object_of k (cut k);
+      describes = λ t p s. object_is t p s (cut (num_of numbers p));
+      numbering = record {
+        below = number_below;
+        ranked = λ t p s. rank_is t p s (cut (num_of numbers p));
+        holds = λ t p s. object_is t p s (cut (num_of numbers p));
+      };
+    }

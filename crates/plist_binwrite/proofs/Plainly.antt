@@ -1,0 +1,55 @@
+-- A file by the plain writer's classes is the tree's file.
+use Rattle.std.proofs.Common.{◌≡◌, ℕ, ◌^◌, ◌<◌, nat_eq, List, [], Option, Err, Ok, refl, sym, ap, ◌∙◌, subst, append-nil}
+use Rattle.std.specs.List.{IsDistinct}
+use Rattle.plist_base.specs.declared.event.Event.{Event}
+use Rattle.plist_base.specs.Bracketing.{bracketing, shape, AreWhole}
+use Rattle.plist_base.specs.Faults.{Fault, OutOfMemory, fault_nowhere}
+use Rattle.plist_base.specs.Trees.{Tree}
+use Rattle.plist_base.specs.Writing.{Answer}
+use Rattle.plist_binwrite.specs.Classes.{IsFileBy, SendsBy, size_by}
+use Rattle.plist_binwrite.specs.Files.{IsFileOf}
+use Rattle.plist_binwrite.specs.Held.{plain_events}
+use Rattle.plist_binwrite.specs.Scalars.{AreOwners}
+use Rattle.plist_binwrite.specs.Sending.{Sends}
+use Rattle.plist_binwrite.specs.Sizes.{file_size}
+use Rattle.plist_binwrite.proofs.Least.{least}
+use Rattle.plist_binwrite.proofs.Owned.{owned_count, owned_size, entered_once}
+use Rattle.plist_binwrite.proofs.Sends.{sends_as}
+use Rattle.plist_binwrite.proofs.Unhinted.{plain_shape}
+
+owned_file : (class : ℕ → ℕ) (count : ℕ) (tree : Tree) (file : List ℕ)
+    → AreOwners (shape tree) class count → IsFileBy class tree file → IsFileOf tree file
+owned_file class count tree file o f = record {
+  written = f.written;
+  once = record {
+    events = bracketing tree;
+    faultless = f.written.items;
+    distinct = subst (λ l. IsDistinct nat_eq l) (sym f.numbered.entered)
+        (entered_once (shape tree) class f.numbered.numbers count o f.numbered.apart tree
+        (record { rest = []; is = sym (append-nil (shape tree)) }));
+  };
+  count = λ head is. f.count head is ∙ owned_count class count tree o;
+  least = least tree;
+  size = f.size ∙ owned_size class count tree o;
+  fits = subst (λ n. n < 2 ^ 64) (owned_size class count tree o) f.fits;
+}
+
+pub sends_plainly : {W : Type 0} (contents : W → Option (List ℕ)) (events : List Event) (class : ℕ
+    → ℕ) (count : ℕ) (answer : Answer) (old new : W) → AreOwners (plain_events events) class count
+    → SendsBy class contents (plain_events events) answer old new
+    → Sends contents (plain_events events) answer old new
+sends_plainly contents events class count answer old new o s =
+    sends_as (IsFileBy class) IsFileOf (size_by class) file_size (plain_events events)
+    (λ tree alike file f. owned_file class count tree file
+    (subst (λ es. AreOwners es class count) (plain_shape events tree alike) o) f)
+    (λ tree alike. owned_size class count tree
+    (subst (λ es. AreOwners es class count) (plain_shape events tree alike) o))
+    contents answer old new s
+
+-- memory was refused before anything was planned
+pub sends_nothing : {W : Type 0} (contents : W
+    → Option (List ℕ)) (events : List Event) (fault : Fault) (old new : W)
+    → fault ≡ fault_nowhere OutOfMemory → new ≡ old
+    → Sends contents (plain_events events) (Err fault) old new
+sends_nothing contents events fault old new is same =
+    subst (λ f. Sends contents (plain_events events) (Err f) old new) (sym is) (refl, same)

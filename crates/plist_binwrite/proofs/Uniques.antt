@@ -1,0 +1,107 @@
+-- Lists of which one of each kind is kept, seen through a function; and facts that hold all along a
+-- list.
+use Rattle.std.proofs.Common.{◌≡◌, inl, inr, ℕ, Bool, true, false, cond, ◌||◌, eqb, List, [], ◌∷◌, ◌++◌, map, refl, ap, sym, ◌∙◌, subst}
+use Rattle.std.specs.List.{AllByRecursion}
+use Rattle.std.specs.Set.{is_member, unique_keys}
+use Rattle.std.proofs.lemmas.Bool.Decides.{eqb_tells}
+
+-- ---- along a list
+
+module _ {A : Type 0} (P : A → Type 0) where
+  pub all_both : (a b : List A) → AllByRecursion P a → AllByRecursion P b
+      → AllByRecursion P (a ++ b)
+  all_both [] b p q = q
+  all_both (x ∷ a) b p q = (p.0, all_both a b p.1 q)
+
+  pub all_left : (a b : List A) → AllByRecursion P (a ++ b) → AllByRecursion P a
+  all_left [] b p = tt
+  all_left (x ∷ a) b p = (p.0, all_left a b p.1)
+
+  pub all_right : (a b : List A) → AllByRecursion P (a ++ b) → AllByRecursion P b
+  all_right [] b p = p
+  all_right (x ∷ a) b p = all_right a b p.1
+
+  pub all_from : (R : A → Type 0) → ((x : A) → R x → P x) → (xs : List A) → AllByRecursion R xs
+      → AllByRecursion P xs
+  all_from R h [] a = tt
+  all_from R h (x ∷ xs) a = (h x a.0, all_from R h xs a.1)
+
+  all_kept : (b : Bool) (x : A) (xs : List A) → P x → AllByRecursion P xs
+      → AllByRecursion P (cond b xs (x ∷ xs))
+  all_kept true x xs p a = a
+  all_kept false x xs p a = (p, a)
+
+  -- what is kept is of the list
+  pub all_unique : (eq : A → A → Bool) (xs : List A) → AllByRecursion P xs
+      → AllByRecursion P (unique_keys eq xs)
+  all_unique eq [] a = tt
+  all_unique eq (x ∷ xs) a =
+      all_kept (is_member eq xs x) x (unique_keys eq xs) a.0 (all_unique eq xs a.1)
+
+-- ---- numbers in a list
+
+or_later : (a b : Bool) → b ≡ true → a || b ≡ true
+or_later true b h = refl
+or_later false b h = h
+
+module _ {A : Type 0} (f : A → ℕ) where
+  self_later : (n : ℕ) (ns : List ℕ) (xs : List A)
+      → AllByRecursion (λ a. is_member eqb ns (f a) ≡ true) xs
+      → AllByRecursion (λ a. is_member eqb (n ∷ ns) (f a) ≡ true) xs
+  self_later n ns [] a = tt
+  self_later n ns (x ∷ xs) a =
+      (or_later (eqb (f x) n) (is_member eqb ns (f x)) a.0, self_later n ns xs a.1)
+
+  -- each number of a list is in it
+  pub members_self : (xs : List A) → AllByRecursion (λ a. is_member eqb (map f xs) (f a) ≡ true) xs
+  members_self [] = tt
+  members_self (x ∷ xs) = (
+    elim (eqb_tells (f x) (f x)) [
+      | inl e ↦ ap
+          (λ b. b || is_member eqb (map f xs) (f x)) e.0
+      | inr d ↦ absurd (d.1 refl)
+    ],
+    self_later (f x) (map f xs) xs (members_self xs),
+  )
+
+  -- and what holds of them all holds of one that is in it
+  pub member_has : (P : ℕ → Type 0) (xs : List A) (q : ℕ) → AllByRecursion (λ a. P (f a)) xs
+      → is_member eqb (map f xs) q ≡ true → P q
+  member_has P [] q a h = absurd (cc)
+  member_has P (x ∷ xs) q a h =
+      elim (eqb_tells q (f x)) [
+        | inl e ↦ subst P (sym e.1) a.0
+        | inr d ↦ member_has P xs q a.1 (sym (ap (λ b. b || is_member eqb (map f xs) q) d.0) ∙ h)
+      ]
+
+pub eqb_both : (a b c d : ℕ) → (a ≡ b → c ≡ d) → (c ≡ d → a ≡ b) → eqb a b ≡ eqb c d
+eqb_both a b c d h k =
+    elim (eqb_tells a b) [
+      | inl e ↦ elim (eqb_tells c d) [ inl f ↦ e.0 ∙ sym f.0 | inr f ↦ absurd (f.1 (h e.1)) ]
+      | inr e ↦ elim (eqb_tells c d) [ inl f ↦ absurd (e.1 (k f.1)) | inr f ↦ e.0 ∙ sym f.0 ]
+    ]
+
+-- ---- one of each kind
+
+module _ {A B : Type 0} (eqa : A → A → Bool) (eqb : B → B → Bool) (f : A → B) (P : A → Type 0)
+    (same : (a b : A) → P a → P b → eqa a b ≡ eqb (f a) (f b)) where
+  member_seen : (xs : List A) (x : A) → P x → AllByRecursion P xs
+      → is_member eqa xs x ≡ is_member eqb (map f xs) (f x)
+  member_seen [] x p a = refl
+  member_seen (y ∷ xs) x p a = λ i. same x y p a.0 i || member_seen xs x p a.1 i
+
+  seen_cond : (b c : Bool) (us : List A) (x : A) (vs : List B) → b ≡ c → map f us ≡ vs
+      → map f (cond b us (x ∷ us)) ≡ cond c vs (f x ∷ vs)
+  seen_cond true true us x vs e h = h
+  seen_cond true false us x vs e h = absurd (cc)
+  seen_cond false true us x vs e h = absurd (cc)
+  seen_cond false false us x vs e h = ap (λ l. f x ∷ l) h
+
+  -- where two tests agree, they keep the same
+  pub unique_seen : (xs : List A) → AllByRecursion P xs
+      → map f (unique_keys eqa xs) ≡ unique_keys eqb (map f xs)
+  unique_seen [] a = refl
+  unique_seen (x ∷ xs) a =
+      seen_cond (is_member eqa xs x) (is_member eqb (map f xs) (f x)) (unique_keys eqa xs) x
+      (unique_keys eqb (map f xs))
+      (member_seen xs x a.0 a.1) (unique_seen xs a.1)

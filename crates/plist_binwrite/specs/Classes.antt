@@ -1,0 +1,91 @@
+-- Classes of the places where trees begin, and a file that has one object for each class.
+use Rattle.std.specs.Prelude.{◌≡◌, ◌⊎◌, ℕ, ◌+◌, ◌^◌, ◌<◌, ◌≤◌, Bool, List, [], ◌∷◌, ◌++◌, length, nat_eq, Option}
+use Rattle.std.specs.Set.{unique_keys}
+use Rattle.plist_base.specs.Bracketing.{shape}
+use Rattle.plist_base.specs.Events.{PlainEvent}
+use Rattle.plist_base.specs.Faults.{Fault, OutOfMemory, PlistTooLarge, fault_nowhere}
+use Rattle.plist_base.specs.Trees.{Tree, Leaf, Array, Dictionary, Trees, NoTrees, TreeAnd, Members, NoMembers, MemberAnd, String}
+use Rattle.plist_base.specs.Writing.{Answer}
+use Rattle.plist_binread.specs.Visits.{visits}
+use Rattle.plist_binwrite.specs.Counts.{HasObjects}
+use Rattle.plist_binwrite.specs.Numberings.{obj_of, trace}
+use Rattle.plist_binwrite.specs.SendingAs.{Sends}
+use Rattle.plist_binwrite.specs.Sizes.{total, object_size, size_with}
+use Rattle.plist_binwrite.specs.Standing.{size, Sits}
+use Rattle.plist_binwrite.specs.Walks.{collections}
+use Rattle.plist_binwrite.specs.Written.{IsWrittenAs, reference_width}
+
+-- places of one class have one object, whose references are the classes of its children
+pub record AreClasses (es : List PlainEvent) (class : ℕ → ℕ) : Type 0 where
+  pub object : (t u : Tree) (p q : ℕ) → Sits es t p → Sits es u q → class p ≡ class q
+      → obj_of class t p ≡ obj_of class u q
+
+-- ---- what is met
+
+-- a tree and all that is in it, each with the place of its first event; a key is a text
+abbrev mutual
+  pub met : Tree → ℕ → List (ℕ × Tree)
+  met (Leaf scalar) p = (p, Leaf scalar) ∷ []
+  met (Array items) p = (p, Array items) ∷ met_in_items items (p + 1)
+  met (Dictionary pairs) p = (p, Dictionary pairs) ∷ met_in_pairs pairs (p + 1)
+
+  pub met_in_items : Trees → ℕ → List (ℕ × Tree)
+  met_in_items NoTrees p = []
+  met_in_items (TreeAnd tree trees) p = met tree p ++ met_in_items trees (p + size tree)
+
+  pub met_in_pairs : Members → ℕ → List (ℕ × Tree)
+  met_in_pairs NoMembers p = []
+  met_in_pairs (MemberAnd key tree pairs) p =
+      (p, Leaf (String key)) ∷ (met tree (p + 1) ++ met_in_pairs pairs (p + 1 + size tree))
+
+module _ (class : ℕ → ℕ) where
+  abbrev pub same_class : ℕ × Tree → ℕ × Tree → Bool
+  same_class a b = nat_eq (class a.0) (class b.0)
+
+  -- one of each class that is met
+  abbrev pub kept : Tree → List (ℕ × Tree)
+  kept tree = unique_keys same_class (met tree 0)
+
+  -- how many objects a file has that has one for each class
+  abbrev pub count_by : Tree → ℕ
+  count_by tree = length (kept tree)
+
+  -- how many bytes its objects have together, and the whole file
+  abbrev pub objects_by : (width : ℕ) → Tree → ℕ
+  objects_by width tree = total (λ one. object_size width one.1) (kept tree)
+
+  abbrev pub size_by : Tree → ℕ
+  size_by tree = size_with (count_by tree) (objects_by (reference_width (count_by tree)) tree)
+
+  -- numbers of the places, one class for each, by which the file's collections are entered
+  pub record IsNumberedBy (tree : Tree) (file : List ℕ) : Type 0 where
+    pub numbers : ℕ → ℕ
+    pub apart : (t u : Tree) (p q : ℕ) → Sits (shape tree) t p → Sits (shape tree) u q
+        → numbers p ≡ numbers q → class p ≡ class q
+    pub entered : visits file ≡ trace numbers collections tree 0
+
+  -- a file of the tree with one object for each class
+  pub record IsFileBy (tree : Tree) (file : List ℕ) : Type 0 where
+    pub written : IsWrittenAs tree file
+    pub numbered : IsNumberedBy tree file
+    pub count : HasObjects file (count_by tree)
+    pub size : length file ≡ size_by tree
+    pub fits : size_by tree < 2 ^ 64
+
+  -- a file of the tree whose events these are has less than 2^64 bytes, or doesn't
+  abbrev pub Fits : List PlainEvent → Type 0
+  Fits es = (tree : Tree) → es ≡ shape tree → size_by tree < 2 ^ 64
+
+  abbrev pub IsOversized : List PlainEvent → Type 0
+  IsOversized es = (tree : Tree) → es ≡ shape tree → 2 ^ 64 ≤ size_by tree
+
+  -- why no file is planned: for want of memory, or it doesn't fit
+  abbrev pub IsUnplanned : List PlainEvent → Fault → Type 0
+  IsUnplanned es fault =
+      (fault ≡ fault_nowhere OutOfMemory)
+      ⊎ ((fault ≡ fault_nowhere PlistTooLarge) × IsOversized es)
+
+  -- what sending the file of whole events does
+  module _ {W : Type 0} (contents : W → Option (List ℕ)) where
+    abbrev pub SendsBy : List PlainEvent → Answer → (old new : W) → Type 0
+    SendsBy events answer old new = Sends IsFileBy size_by contents events answer old new

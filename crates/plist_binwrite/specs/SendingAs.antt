@@ -1,0 +1,43 @@
+-- What goes out at the end of a property list, for any kind of file and its size.
+use Rattle.std.specs.Prelude.{◌≡◌, ℕ, ◌^◌, ◌≤◌, List, Option, None, Ok, Err}
+use Rattle.std.specs.Io.KnownBytes.{Appends}
+use Rattle.plist_base.specs.Bracketing.{bracketing, AreAlike, AreComplete}
+use Rattle.plist_base.specs.Events.{PlainEvent}
+use Rattle.plist_base.specs.Faults.{FaultKind, Io, OutOfMemory, PlistTooLarge}
+use Rattle.plist_base.specs.Fronts.{AppendsFront}
+use Rattle.plist_base.specs.Trees.{Tree}
+use Rattle.plist_base.specs.Writing.{Answer}
+
+module _ (IsFile : Tree → List ℕ → Type 0) (size : Tree → ℕ) where
+  -- the events are all of a tree's, and this is a file of it
+  abbrev pub IsFileOfEvents : List PlainEvent → List ℕ → Type 0
+  IsFileOfEvents events file =
+      AreComplete events × ((tree : Tree) → AreAlike events (bracketing tree) → IsFile tree file)
+
+  -- the events are all of a tree's, and a file of it would have 2^64 bytes or more
+  abbrev pub IsTooLarge : List PlainEvent → Type 0
+  IsTooLarge events =
+      AreComplete events
+      × ((tree : Tree) → AreAlike events (bracketing tree) → 2 ^ 64 ≤ size tree)
+
+  module _ {W : Type 0} (contents : W → Option (List ℕ)) where
+    -- a file of the tree whose events these are went out
+    abbrev pub SendsFile : (events : List PlainEvent) (old new : W) → Type 0
+    SendsFile events old new =
+        (file : List ℕ) × IsFileOfEvents events file × Appends (contents old) (contents new) file
+
+    -- what went out where the call failed: of a device's fault a beginning of a file, else nothing,
+    -- and what takes the bytes is the same
+    abbrev pub FailsWith : FaultKind → (events : List PlainEvent) (old new : W) → Type 0
+    FailsWith Io events old new =
+        (file : List ℕ) × IsFileOfEvents events file
+        × AppendsFront (contents old) (contents new) file
+    FailsWith PlistTooLarge events old new = IsTooLarge events × (new ≡ old)
+    FailsWith OutOfMemory events old new = new ≡ old
+    FailsWith kind events old new = ⊥
+
+    -- what sending the file of whole events does
+    abbrev pub Sends : (events : List PlainEvent) → Answer → (old new : W) → Type 0
+    Sends events (Ok done) old new = SendsFile events old new
+    Sends events (Err fault) old new =
+        (fault.offset ≡ None) × FailsWith fault.kind events old new

@@ -1,0 +1,355 @@
+-- A second of the years 0 to 9999 has one text.
+use Rattle.std.proofs.Common.{◌≡◌, ℕ, zero, suc, ◌+◌, ◌-◌, ◌*◌, ◌/◌, ◌%◌, ◌<◌, Bool, true, false, cond, ◌&&◌, eqb, List, [], ◌∷◌, ◌++◌, length, ℤ, pos, ◌+ℤ◌, ◌-ℤ◌, ◌*ℤ◌, Option, None, Some, slice_index, refl, sym, ap, subst, ◌∙◌, arith}
+use Rattle.std.proofs.lemmas.Bool.{eqb-true}
+use Rattle.std.proofs.lemmas.Bool.Decides.{nat_tests}
+use Rattle.std.specs.Char.{is_ascii_digit}
+use Rattle.std.specs.Int.{IsInRange, is_in_range}
+use Rattle.std.specs.Prelude.{nat_lt, ◌==◌, ◌||◌}
+use Rattle.jiff_core.specs.Calendar.{days_from_civil, days_in_month}
+use Rattle.jiff_core.specs.Date.{epoch_day}
+use Rattle.jiff_core.specs.declared.civil.date.Date.{Date}
+use Rattle.jiff_core.proofs.DateLemmas.{epoch_day_injective}
+use Rattle.jiff_core.proofs.SignedLemmas.{signed_arith}
+use Rattle.plist_dates.specs.DateText.{day_in, day_number, four_at, has_marks, moment, of_both, of_three, offset, second_of_day, time_in, two_at, two_digits, unix_second_of_text, zone_in, HasFourDigitYear, IsTextOfSecond}
+use Rattle.plist_dates.proofs.Years.{second_in_years}
+
+-- ---- what an answer was made of
+
+abbrev IsSome : {A : Type 0} → Option A → A → Type 0
+IsSome {A} option value = ◌≡◌ {A = Option A} option (Some value)
+
+some_same : {A : Type 0} (x y : A) → IsSome (Some x) y → x ≡ y
+some_same x y is = cc
+
+both_true : (a b : Bool) → (a && b) ≡ true → (a ≡ true) × (b ≡ true)
+both_true true b is = (refl, is)
+both_true false b is = cc is
+
+by_test : {A : Type 0} (b : Bool) (option : Option A) (value : A)
+    → IsSome (cond b option None) value → (b ≡ true) × IsSome option value
+by_test true option value is = (refl, is)
+by_test false option value is = absurd (cc)
+
+record Both {A : Type 0} (a b : Option ℕ) (make : ℕ → ℕ → Option A) (value : A) : Type 0 where
+  x : ℕ
+  y : ℕ
+  is_x : IsSome a x
+  is_y : IsSome b y
+  made : IsSome (make x y) value
+
+both : {A : Type 0} (a b : Option ℕ) (make : ℕ → ℕ → Option A) (value : A)
+    → IsSome (of_both a b make) value → Both a b make value
+both (Some a) (Some b) make value is = record { x = a; y = b; is_x = refl; is_y = refl; made = is }
+both None b make value is = absurd (cc)
+both (Some a) None make value is = absurd (cc)
+
+record Three {A : Type 0} (a b c : Option ℕ) (make : ℕ → ℕ → ℕ → Option A) (value : A) : Type 0
+  where
+    x : ℕ
+    is_x : IsSome a x
+    rest : Both b c (make x) value
+
+three : {A : Type 0} (a b c : Option ℕ) (make : ℕ → ℕ → ℕ → Option A) (value : A)
+    → IsSome (of_three a b c make) value → Three a b c make value
+three (Some a) b c make value is = record { x = a; is_x = refl; rest = both b c (make a) value is }
+three None b c make value is = absurd (cc)
+
+record Moment (day : Option ℤ) (time : Option ℕ) (zone : Option ℤ) (second : ℤ) : Type 0 where
+  d : ℤ
+  t : ℕ
+  z : ℤ
+  is_d : IsSome day d
+  is_t : IsSome time t
+  is_z : IsSome zone z
+  is : ((d *ℤ pos 86400 +ℤ pos t) -ℤ z) ≡ second
+
+moment_made : (day : Option ℤ) (time : Option ℕ) (zone : Option ℤ) (second : ℤ)
+    → IsSome (moment day time zone) second → Moment day time zone second
+moment_made (Some d) (Some t) (Some z) second is =
+    record {
+      d = d;
+      t = t;
+      z = z;
+      is_d = refl;
+      is_t = refl;
+      is_z = refl;
+      is = some_same _ second is;
+    }
+moment_made None time offset second is = absurd (cc)
+moment_made (Some d) None offset second is = absurd (cc)
+moment_made (Some d) (Some t) None second is = absurd (cc)
+
+-- ---- the digits
+
+digit_is : (code : ℕ) → is_ascii_digit code ≡ true → IsInRange 48 57 code
+digit_is code is = grind (arith, nat_tests, is)
+
+-- both digits of a number
+record Digits (tens ones n : ℕ) : Type 0 where
+  small : n < 100
+  high : tens ≡ 48 + n / 10
+  low : ones ≡ 48 + n % 10
+
+digits : (tens ones n : ℕ) → IsSome (two_digits tens ones) n → Digits tens ones n
+unfolding two_digits
+digits tens ones n is =
+    let test = by_test _ _ n is in
+    let both_are = both_true (is_ascii_digit tens) (is_ascii_digit ones) test.0 in
+    let t = digit_is tens both_are.0 in
+    let o = digit_is ones both_are.1 in
+    let value : (tens - 48) * 10 + (ones - 48) ≡ n = some_same _ n test.1 in
+    let th = t.0 in let tl = t.1 in let oh = o.0 in let ol = o.1 in
+    record { small = omega arith; high = omega arith; low = omega arith }
+
+-- ---- the numbers
+
+in_range : (low high n : ℕ) → is_in_range low high n ≡ true → IsInRange low high n
+in_range low high n is = grind (arith, nat_tests, is)
+
+-- a day of the calendar
+record Day (year month day : ℕ) (number : ℤ) : Type 0 where
+  in_year : IsInRange 1 12 month
+  in_month : IsInRange 1 (days_in_month (pos year) month) day
+  is : days_from_civil (pos year) month day ≡ number
+
+day_made : (year month day : ℕ) (number : ℤ) → IsSome (day_number year month day) number
+    → Day year month day number
+unfolding day_number
+day_made year month day number is =
+    let test = by_test _ _ number is in
+    let both_are = both_true (is_in_range 1 12 month) _ test.0 in
+    record {
+      in_year = in_range 1 12 month both_are.0;
+      in_month = in_range 1
+          (days_in_month (pos year) month) day both_are.1;
+      is = some_same _ number test.1;
+    }
+
+-- a second of a day
+record Time (hour minute second time : ℕ) : Type 0 where
+  hours : hour < 24
+  minutes : minute < 60
+  seconds : second < 60
+  is : hour * 3600 + minute * 60 + second ≡ time
+
+time_made : (hour minute second time : ℕ) → IsSome (second_of_day hour minute second) time
+    → Time hour minute second time
+unfolding second_of_day
+time_made hour minute second time is =
+    let test = by_test _ _ time is in
+    let all : (nat_lt hour 24 && nat_lt minute 60 && nat_lt second 60) ≡ true = test.0 in
+    record {
+      hours = grind (arith, nat_tests, all);
+      minutes = grind (arith, nat_tests, all);
+      seconds = grind (arith, nat_tests, all);
+      is = some_same _ time test.1;
+    }
+
+-- ---- the elements of a text
+
+abbrev front : (count from : ℕ) → List ℕ → List ℕ
+front zero from text = []
+front (suc count) from text = slice_index text from ∷ front count (suc from) text
+
+front_behind : (count from x : ℕ) (text : List ℕ)
+    → front count (suc from) (x ∷ text) ≡ front count from text
+front_behind zero from x text = refl
+front_behind (suc count) from x text =
+    ap (λ rest. slice_index text from ∷ rest) (front_behind count (suc from) x text)
+
+-- a text is its elements
+elements : (count : ℕ) (text : List ℕ) → length text ≡ count → text ≡ front count 0 text
+elements zero [] is = refl
+elements zero (x ∷ text) is = absurd (omega (arith, is))
+elements (suc count) [] is = absurd (omega (arith, is))
+elements (suc count) (x ∷ text) is =
+    ap (λ rest. x ∷ rest) (elements count text (omega (arith, is))
+    ∙ sym (front_behind count 0 x text))
+
+-- where the marks stand
+record Marks (text : List ℕ) : Type 0 where
+  year : slice_index text 4 ≡ 45
+  month : slice_index text 7 ≡ 45
+  hour : slice_index text 13 ≡ 58
+  minute : slice_index text 16 ≡ 58
+
+marks : (text : List ℕ) → has_marks text ≡ true → Marks text
+marks text is = record {
+  year = grind (arith, nat_tests, is);
+  month = grind (arith, nat_tests, is);
+  hour = grind (arith, nat_tests, is);
+  minute = grind (arith, nat_tests, is);
+}
+
+-- with `Z` in its place, it ends there, in UTC
+zone_made : (text : List ℕ) (zone : ℤ) → slice_index text 19 ≡ 90 → IsSome (zone_in text) zone
+    → (length text ≡ 20) × (zone ≡ pos 0)
+zone_made text zone letter is = by_length (eqb (length text) 20) refl
+  where
+    no_sign : (sign hours minutes : ℕ) → sign ≡ 90 → IsSome (offset sign hours minutes) zone → ⊥
+    no_sign sign hours minutes z some =
+        let made : IsSome (cond (nat_lt hours 24 && nat_lt minutes 60) None None) zone = rw z at
+        some in
+        let never = (by_test (nat_lt hours 24 && nat_lt minutes 60) None zone made).1 in cc
+
+    by_length : (b : Bool) → eqb (length text) 20 ≡ b → (length text ≡ 20) × (zone ≡ pos 0)
+    by_length true all =
+        let inner : IsSome (cond ((slice_index text 19 == 90) || (slice_index text 19 == 122))
+        (Some (pos 0)) None) zone = rw all at is in
+        (eqb-true (length text) 20 all, sym (some_same (pos 0) zone (by_test _ _ zone inner).1))
+    by_length false not_all =
+        let longer : IsSome (cond ((length text == 25) && (slice_index text 22 == 58))
+        (of_both (two_at text 20) (two_at text 23) (offset (slice_index text 19))) None) zone =
+        rw not_all at is in
+        let parts = both (two_at text 20) (two_at text 23) (offset (slice_index text 19)) zone
+        (by_test _ _ zone longer).1 in
+        absurd (no_sign (slice_index text 19) parts.x parts.y letter parts.made)
+
+-- ---- one text
+
+abbrev two_text : ℕ → List ℕ
+two_text n = (48 + n / 10) ∷ (48 + n % 10) ∷ []
+
+abbrev text_of : (century year month day hour minute second : ℕ) → List ℕ
+text_of century year month day hour minute second =
+    two_text century ++ (two_text year ++ 45 ∷ (two_text month ++ 45 ∷ (two_text day
+    ++ 84 ∷ (two_text hour ++ 58 ∷ (two_text minute ++ 58 ∷ (two_text second ++ 90 ∷ []))))))
+
+-- the numbers of the text of a second
+record Numbers (second : ℤ) (text : List ℕ) : Type 0 where
+  century : ℕ
+  year : ℕ
+  month : ℕ
+  day : ℕ
+  hour : ℕ
+  minute : ℕ
+  seconds : ℕ
+  century_small : century < 100
+  year_small : year < 100
+  date : Day (century * 100 + year) month day
+      (days_from_civil (pos (century * 100 + year)) month day)
+  time : Time hour minute seconds (hour * 3600 + minute * 60 + seconds)
+  is : (days_from_civil (pos (century * 100 + year)) month day *ℤ pos 86400 +ℤ pos
+      (hour * 3600 + minute * 60 + seconds)) ≡ second
+  text_is : text ≡ text_of century year month day hour minute seconds
+
+less_none : (d z : ℤ) (t : ℕ) (s : ℤ) → z ≡ pos 0 → ((d *ℤ pos 86400 +ℤ pos t) -ℤ z) ≡ s
+    → (d *ℤ pos 86400 +ℤ pos t) ≡ s
+less_none d z t s none is = omega (arith, signed_arith, none, is)
+
+numbers : (second : ℤ) (text : List ℕ) → IsTextOfSecond second text → Numbers second text
+unfolding unix_second_of_text
+numbers second text is =
+    let test = by_test (has_marks text) (moment (day_in text) (time_in text) (zone_in text)) second
+    is.spells in
+    let m = marks text test.0 in
+    let parts = moment_made (day_in text) (time_in text) (zone_in text) second test.1 in
+    let z = zone_made text parts.z is.utc parts.is_z in
+    let d = three (four_at text 0) (two_at text 5) (two_at text 8) day_number parts.d parts.is_d in
+    let y = both (two_at text 0) (two_at text 2) (λ high low. Some (high * 100 + low)) d.x d.is_x in
+    let t = three (two_at text 11) (two_at text 14) (two_at text 17) second_of_day parts.t
+    parts.is_t in
+    let year_is : y.x * 100 + y.y ≡ d.x = some_same _ d.x y.made in
+    let date = day_made d.x d.rest.x d.rest.y parts.d d.rest.made in
+    let time = time_made t.x t.rest.x t.rest.y parts.t t.rest.made in
+    let c0 = digits _ _ y.x y.is_x in
+    let c1 = digits _ _ y.y y.is_y in
+    let c2 = digits _ _ d.rest.x d.rest.is_x in
+    let c3 = digits _ _ d.rest.y d.rest.is_y in
+    let c4 = digits _ _ t.x t.is_x in
+    let c5 = digits _ _ t.rest.x t.rest.is_x in
+    let c6 = digits _ _ t.rest.y t.rest.is_y in
+    let number : days_from_civil (pos (y.x * 100 + y.y)) d.rest.x d.rest.y
+    ≡ parts.d = ap (λ n. days_from_civil (pos n) d.rest.x d.rest.y) year_is ∙ date.is in
+    let written : front 20 0 text ≡ text_of y.x y.y d.rest.x d.rest.y t.x t.rest.x t.rest.y =
+    λ k.
+    c0.high k ∷ c0.low k ∷ c1.high k ∷ c1.low k ∷ m.year k ∷ c2.high k ∷ c2.low k ∷ m.month k
+    ∷ c3.high k ∷ c3.low k
+    ∷ is.letter k ∷ c4.high k ∷ c4.low k ∷ m.hour k ∷ c5.high k ∷ c5.low k ∷ m.minute k ∷ c6.high k
+    ∷ c6.low k ∷ is.utc k ∷ [] in
+    record {
+      century = y.x;
+      year = y.y;
+      month = d.rest.x;
+      day = d.rest.y;
+      hour = t.x;
+      minute = t.rest.x;
+      seconds = t.rest.y;
+      century_small = c0.small;
+      year_small = c1.small;
+      date = record {
+        in_year = date.in_year;
+        in_month = subst
+            (λ n. IsInRange 1 (days_in_month (pos n) d.rest.x) d.rest.y) (sym year_is)
+            date.in_month;
+        is = refl;
+      };
+      time = record {
+        hours = time.hours;
+        minutes = time.minutes;
+        seconds = time.seconds;
+        is = refl;
+      };
+      is = ap (λ n. n *ℤ pos 86400 +ℤ pos (t.x * 3600 + t.rest.x * 60 + t.rest.y)) number
+          ∙ ap (λ n. parts.d *ℤ pos 86400 +ℤ pos n) time.is
+          ∙ less_none parts.d parts.z parts.t second z.1 parts.is;
+      text_is = elements 20 text z.0 ∙ written;
+    }
+
+-- the date of these numbers
+date_of : (second : ℤ) (text : List ℕ) → Numbers second text → Date
+date_of second text n = record {
+  year = pos (n.century * 100 + n.year);
+  month = n.month;
+  day = n.day;
+  year_in = (
+    let c = n.century_small in let y = n.year_small in omega (arith, signed_arith),
+    let c =
+        n.century_small in let y = n.year_small in omega (arith, signed_arith),
+  );
+  month_in = n.date.in_year;
+  day_in = n.date.in_month;
+}
+
+-- a second that has a text is one of the years 0 to 9999
+pub year_of_text : (second : ℤ) (text : List ℕ) → IsTextOfSecond second text
+    → HasFourDigitYear second
+unfolding date_of
+year_of_text second text is =
+    let n = numbers second text is in
+    let h = n.time.hours in let m = n.time.minutes in let s = n.time.seconds in
+    second_in_years second (date_of second text n) (n.hour * 3600 + n.minute * 60 + n.seconds) n.is
+    (omega arith) (omega (arith, signed_arith))
+
+-- days and seconds of a day are apart
+apart : (d e : ℤ) (t u : ℕ) (second : ℤ) → t < 86400 → u < 86400
+    → (d *ℤ pos 86400 +ℤ pos t) ≡ second → (e *ℤ pos 86400 +ℤ pos u) ≡ second → (d ≡ e) × (t ≡ u)
+apart d e t u second small other is_d is_e =
+    (omega (arith, signed_arith, is_d, is_e), omega (arith, signed_arith, is_d, is_e))
+
+pub one_text : (second : ℤ) (text other : List ℕ) → IsTextOfSecond second text
+    → IsTextOfSecond second other → other ≡ text
+unfolding date_of
+one_text second text other is is_other =
+    let n = numbers second text is in
+    let k = numbers second other is_other in
+    let th = n.time.hours in let tm = n.time.minutes in let ts = n.time.seconds in
+    let uh = k.time.hours in let um = k.time.minutes in let us = k.time.seconds in
+    let day_time = apart (epoch_day (date_of second text n)) (epoch_day (date_of second other k))
+    (n.hour * 3600 + n.minute * 60 + n.seconds) (k.hour * 3600 + k.minute * 60 + k.seconds)
+    second (omega arith) (omega arith) n.is k.is in
+    let dates = epoch_day_injective (date_of second text n) (date_of second other k) day_time.0 in
+    let times = day_time.1 in
+    let years : n.century * 100 + n.year ≡ k.century * 100
+    + k.year = omega (arith, signed_arith, dates.0) in
+    let cs = n.century_small in let ys = n.year_small in let cs_other = k.century_small in
+    let ys_other = k.year_small in
+    let century : k.century ≡ n.century = omega arith in
+    let year : k.year ≡ n.year = omega arith in
+    let hour : k.hour ≡ n.hour = omega arith in
+    let minute : k.minute ≡ n.minute = omega arith in
+    let seconds : k.seconds ≡ n.seconds = omega arith in
+    k.text_is
+    ∙ (λ i. text_of (century i) (year i) (sym dates.1 i) (sym dates.2 i) (hour i) (minute i)
+    (seconds i))
+    ∙ sym n.text_is

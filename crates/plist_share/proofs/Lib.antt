@@ -1,0 +1,10 @@
+pub mod Meaning
+pub mod Parsing
+pub mod Least
+pub mod Classed
+pub mod Alike
+pub mod Found
+pub mod Telling
+pub mod Shares
+pub mod Sent
+pub mod Unchanged

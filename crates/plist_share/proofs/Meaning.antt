@@ -1,0 +1,148 @@
+-- The one tree that a number stands for in a table of objects.
+use Rattle.std.proofs.Common.{◌≡◌, ℕ, ◌<◌, List, [], ◌∷◌, ◌++◌, length, Some, refl, sym, ap, ◌∙◌, subst}
+use Rattle.std.specs.Prelude.{slice_get, ⊤}
+use Rattle.std.specs.List.{AllByRecursion}
+use Rattle.std.proofs.lemmas.Option.{slice_get_within}
+use Rattle.plist_base.specs.Trees as trees
+use Rattle.plist_base.specs.Trees.{Tree, Leaf, Array, Dictionary, Trees, NoTrees, TreeAnd, Members, NoMembers, MemberAnd}
+use Rattle.plist_binread.specs.Object as obj
+use Rattle.plist_binread.specs.Object.{Object}
+use Rattle.plist_binread.specs.Unfolding.{Entry}
+use Rattle.plist_share.specs.Distinct.{subtrees, subtrees_of_items, subtrees_of_pairs}
+
+pub some_is : {A : Type 0} (a b : A) → Some a ≡ Some b → a ≡ b
+some_is a b p = cc
+
+module _ (table : List Entry) where
+  -- the number's object
+  pub record Stands (number : ℕ) (object : Object) : Type 0 where
+    pub entry : Entry
+    pub found : slice_get table number ≡ Some entry
+    pub is : entry.object ≡ object
+
+  -- the number stands for the tree
+  abbrev mutual
+    pub Means : Tree → ℕ → Type 0
+    Means (Leaf x) i = Stands i (obj.Scalar x)
+    Means (Array ts) i = (refs : List ℕ) × Stands i (obj.Array refs) × MeansItems ts refs
+    Means (Dictionary ms) i =
+        (pairs : List (ℕ × ℕ)) × Stands i (obj.Dictionary pairs) × MeansPairs ms pairs
+
+    pub MeansItems : Trees → List ℕ → Type 0
+    MeansItems NoTrees [] = ⊤
+    MeansItems NoTrees (c ∷ cs) = ⊥
+    MeansItems (TreeAnd t ts) [] = ⊥
+    MeansItems (TreeAnd t ts) (c ∷ cs) = Means t c × MeansItems ts cs
+
+    pub MeansPairs : Members → List (ℕ × ℕ) → Type 0
+    MeansPairs NoMembers [] = ⊤
+    MeansPairs NoMembers (p ∷ ps) = ⊥
+    MeansPairs (MemberAnd k t ms) [] = ⊥
+    MeansPairs (MemberAnd k t ms) (p ∷ ps) =
+        Stands p.0 (obj.Scalar (trees.String k)) × Means t p.1 × MeansPairs ms ps
+
+  pub one_object : {i : ℕ} {a b : Object} → Stands i a → Stands i b → a ≡ b
+  one_object s t =
+      sym s.is ∙ ap (λ (e : Entry). e.object) (some_is s.entry t.entry (sym s.found ∙ t.found))
+      ∙ t.is
+
+  the_scalar : (x y : trees.Scalar) → obj.Scalar x ≡ obj.Scalar y → x ≡ y
+  the_scalar x y p = cc
+
+  the_items : (a b : List ℕ) → obj.Array a ≡ obj.Array b → b ≡ a
+  the_items a b p = cc
+
+  the_pairs : (a b : List (ℕ × ℕ)) → obj.Dictionary a ≡ obj.Dictionary b → b ≡ a
+  the_pairs a b p = cc
+
+  the_text : (k l : List ℕ) → trees.String k ≡ trees.String l → k ≡ l
+  the_text k l p = cc
+
+  other : {A : Type 0} (a b : Object) → a ≡ b → (a ≡ b → ⊥) → A
+  other a b p h = absurd (h p)
+
+  mutual
+    -- no number stands for two trees
+    pub one_tree : (t u : Tree) (i : ℕ) → Means t i → Means u i → t ≡ u
+    one_tree (Leaf x) (Leaf y) i m n = ap Leaf (the_scalar x y (one_object m n))
+    one_tree (Leaf x) (Array us) i m n = let p = one_object m n.1 in cc
+    one_tree (Leaf x) (Dictionary ns) i m n = let p = one_object m n.1 in cc
+    one_tree (Array ts) (Leaf y) i m n = let p = one_object m.1 n in cc
+    one_tree (Array ts) (Array us) i m n =
+        ap Array (one_items ts us m.0 m.2
+        (subst (MeansItems us) (the_items _ _ (one_object m.1 n.1)) n.2))
+    one_tree (Array ts) (Dictionary ns) i m n = let p = one_object m.1 n.1 in cc
+    one_tree (Dictionary ms) (Leaf y) i m n = let p = one_object m.1 n in cc
+    one_tree (Dictionary ms) (Array us) i m n = let p = one_object m.1 n.1 in cc
+    one_tree (Dictionary ms) (Dictionary ns) i m n =
+        ap Dictionary (one_pairs ms ns m.0 m.2
+        (subst (MeansPairs ns) (the_pairs _ _ (one_object m.1 n.1)) n.2))
+
+    one_items : (ts us : Trees) (refs : List ℕ) → MeansItems ts refs → MeansItems us refs → ts ≡ us
+    one_items NoTrees NoTrees refs m n = refl
+    one_items NoTrees (TreeAnd u us) [] m n = absurd n
+    one_items NoTrees (TreeAnd u us) (c ∷ cs) m n = absurd m
+    one_items (TreeAnd t ts) NoTrees [] m n = absurd m
+    one_items (TreeAnd t ts) NoTrees (c ∷ cs) m n = absurd n
+    one_items (TreeAnd t ts) (TreeAnd u us) [] m n = absurd m
+    one_items (TreeAnd t ts) (TreeAnd u us) (c ∷ cs) m n =
+        λ i. TreeAnd (one_tree t u c m.0 n.0 i) (one_items ts us cs m.1 n.1 i)
+
+    one_pairs : (ms ns : Members) (pairs : List (ℕ × ℕ)) → MeansPairs ms pairs → MeansPairs ns pairs
+        → ms ≡ ns
+    one_pairs NoMembers NoMembers pairs m n = refl
+    one_pairs NoMembers (MemberAnd l u ns) [] m n = absurd n
+    one_pairs NoMembers (MemberAnd l u ns) (p ∷ ps) m n = absurd m
+    one_pairs (MemberAnd k t ms) NoMembers [] m n = absurd m
+    one_pairs (MemberAnd k t ms) NoMembers (p ∷ ps) m n = absurd n
+    one_pairs (MemberAnd k t ms) (MemberAnd l u ns) [] m n = absurd m
+    one_pairs (MemberAnd k t ms) (MemberAnd l u ns) (p ∷ ps) m n =
+        λ i. MemberAnd (the_text k l (the_scalar _ _ (one_object m.0 n.0)) i)
+        (one_tree t u p.1 m.1 n.1 i) (one_pairs ms ns ps m.2 n.2 i)
+
+  -- a tree's number, below the number of objects
+  pub record Numbered (tree : Tree) : Type 0 where
+    pub number : ℕ
+    pub means : Means tree number
+    pub below : number < length table
+
+  stands_below : (i : ℕ) (o : Object) → Stands i o → i < length table
+  stands_below i o s = slice_get_within table i s.entry s.found
+
+  means_below : (t : Tree) (i : ℕ) → Means t i → i < length table
+  means_below (Leaf x) i m = stands_below i _ m
+  means_below (Array ts) i m = stands_below i _ m.1
+  means_below (Dictionary ms) i m = stands_below i _ m.1
+
+  numbered : (t : Tree) (i : ℕ) → Means t i → Numbered t
+  numbered t i m = record { number = i; means = m; below = means_below t i m }
+
+  all-append : {A : Type 0} (P : A → Type 0) (xs ys : List A) → AllByRecursion P xs
+      → AllByRecursion P ys → AllByRecursion P (xs ++ ys)
+  all-append P [] ys a b = b
+  all-append P (x ∷ xs) ys a b = (a.0, all-append P xs ys a.1 b)
+
+  mutual
+    -- each subtree has one
+    pub all_numbered : (t : Tree) (i : ℕ) → Means t i → AllByRecursion Numbered (subtrees t)
+    all_numbered (Leaf x) i m = (numbered (Leaf x) i m, tt)
+    all_numbered (Array ts) i m = (numbered (Array ts) i m, items_numbered ts m.0 m.2)
+    all_numbered (Dictionary ms) i m = (numbered (Dictionary ms) i m, pairs_numbered ms m.0 m.2)
+
+    items_numbered : (ts : Trees) (refs : List ℕ) → MeansItems ts refs
+        → AllByRecursion Numbered (subtrees_of_items ts)
+    items_numbered NoTrees refs m = tt
+    items_numbered (TreeAnd t ts) [] m = absurd m
+    items_numbered (TreeAnd t ts) (c ∷ cs) m =
+        all-append Numbered (subtrees t) (subtrees_of_items ts) (all_numbered t c m.0)
+        (items_numbered ts cs m.1)
+
+    pairs_numbered : (ms : Members) (pairs : List (ℕ × ℕ)) → MeansPairs ms pairs
+        → AllByRecursion Numbered (subtrees_of_pairs ms)
+    pairs_numbered NoMembers pairs m = tt
+    pairs_numbered (MemberAnd k t ms) [] m = absurd m
+    pairs_numbered (MemberAnd k t ms) (p ∷ ps) m = (
+      numbered (Leaf (trees.String k)) p.0 m.0,
+      all-append Numbered (subtrees t)
+          (subtrees_of_pairs ms) (all_numbered t p.1 m.1) (pairs_numbered ms ps m.2),
+    )

@@ -1,0 +1,91 @@
+-- One object for each class is one for each different subtree.
+use Rattle.std.proofs.Common.{◌≡◌, inl, inr, ℕ, ◌+◌, ◌^◌, ◌<◌, true, nat_eq, List, [], ◌∷◌, ◌++◌, length, map, refl, sym, ap, ◌∙◌, subst}
+use Rattle.std.specs.Set.{unique_keys}
+use Rattle.std.proofs.lemmas.Bool.Decides.{eqb_tells}
+use Rattle.std.proofs.lemmas.List.{length-map, map-append}
+use Rattle.plist_base.specs.Events.{PlainEvent}
+use Rattle.plist_base.specs.Trees.{Tree, Leaf, Array, Dictionary, Trees, NoTrees, TreeAnd, Members, NoMembers, MemberAnd, String}
+use Rattle.plist_binwrite.specs.Classes.{met, met_in_items, met_in_pairs, same_class, kept, count_by, objects_by, size_by, IsFileBy}
+use Rattle.plist_binwrite.specs.Sizes.{total, object_size, size_with}
+use Rattle.plist_binwrite.specs.Standing.{size, Sits}
+use Rattle.plist_binwrite.specs.Written.{reference_width}
+use Rattle.plist_binwrite.proofs.Kept.{Stands, met_stand}
+use Rattle.plist_binwrite.proofs.Uniques.{unique_seen}
+use Rattle.plist_share.specs.Distinct.{tree_eq, subtrees, subtrees_of_items, subtrees_of_pairs, distinct_subtrees}
+use Rattle.plist_share.specs.Keys.{TellTrees}
+use Rattle.plist_share.specs.SharedFiles.{IsSharedFileOf}
+use Rattle.plist_share.specs.SharedSizes.{shared_objects_size, shared_file_size}
+use Rattle.plist_share.proofs.Least.{tree_same, least}
+use Rattle.plist_share.proofs.Telling.{tree_other}
+
+abbrev tree_met : ℕ × Tree → Tree
+tree_met a = a.1
+
+-- what is met are the subtrees
+mutual
+  trees_met : (t : Tree) (p : ℕ) → map tree_met (met t p) ≡ subtrees t
+  trees_met (Leaf x) p = refl
+  trees_met (Array ts) p = ap (λ l. Array ts ∷ l) (trees_met_in_items ts (p + 1))
+  trees_met (Dictionary ms) p = ap (λ l. Dictionary ms ∷ l) (trees_met_in_pairs ms (p + 1))
+
+  trees_met_in_items : (ts : Trees) (p : ℕ)
+      → map tree_met (met_in_items ts p) ≡ subtrees_of_items ts
+  trees_met_in_items NoTrees p = refl
+  trees_met_in_items (TreeAnd t ts) p =
+      let first = trees_met t p in
+      let more = trees_met_in_items ts (p + size t) in
+      map-append tree_met (met t p) (met_in_items ts (p + size t)) ∙ (λ i. first i ++ more i)
+
+  trees_met_in_pairs : (ms : Members) (p : ℕ)
+      → map tree_met (met_in_pairs ms p) ≡ subtrees_of_pairs ms
+  trees_met_in_pairs NoMembers p = refl
+  trees_met_in_pairs (MemberAnd k t ms) p =
+      let first = trees_met t (p + 1) in
+      let more = trees_met_in_pairs ms (p + 1 + size t) in
+      ap (λ l. Leaf (String k) ∷ l) (map-append tree_met (met t (p + 1))
+      (met_in_pairs ms (p + 1 + size t)) ∙ (λ i. first i ++ more i))
+
+total_trees : (weight : Tree → ℕ) (xs : List (ℕ × Tree))
+    → total (λ a. weight a.1) xs ≡ total weight (map tree_met xs)
+total_trees weight [] = refl
+total_trees weight (x ∷ xs) = ap (λ n. weight x.1 + n) (total_trees weight xs)
+
+module _ (es : List PlainEvent) (class : ℕ → ℕ) (told : TellTrees es class) where
+  told_alike : (a b : ℕ × Tree) → Sits es a.1 a.0 → Sits es b.1 b.0
+      → nat_eq (class a.0) (class b.0) ≡ tree_eq a.1 b.1
+  told_alike a b s r =
+      elim (eqb_tells (class a.0) (class b.0)) [
+        | inl y ↦ y.0 ∙ sym (subst (λ w. tree_eq a.1 w ≡ true) ((told a.1 b.1 a.0 b.0 s r).0 y.1)
+            (tree_same a.1))
+        | inr n ↦ n.0 ∙ sym (tree_other a.1 b.1 (λ e. n.1 ((told a.1 b.1 a.0 b.0 s r).1 e)))
+      ]
+
+  module _ (t : Tree) (s : Sits es t 0) where
+    trees_kept : map tree_met (kept class t) ≡ unique_keys tree_eq (subtrees t)
+    trees_kept =
+        unique_seen (same_class class) tree_eq tree_met (Stands es) told_alike (met t 0)
+        (met_stand es t 0 s) ∙ ap (unique_keys tree_eq) (trees_met t 0)
+
+    pub count_is : count_by class t ≡ distinct_subtrees t
+    count_is = sym (length-map (kept class t) tree_met) ∙ ap length trees_kept
+
+    objects_are : (width : ℕ) → objects_by class width t ≡ shared_objects_size width t
+    objects_are width =
+        total_trees (object_size width) (kept class t) ∙ ap (total (object_size width)) trees_kept
+
+    pub size_is : size_by class t ≡ shared_file_size t
+    size_is =
+        let objects : objects_by class (reference_width (count_by class t)) t
+        ≡ shared_objects_size (reference_width (distinct_subtrees t)) t = objects_are
+        (reference_width (count_by class t))
+        ∙ ap (λ n. shared_objects_size (reference_width n) t) count_is in
+        λ i. size_with (count_is i) (objects i)
+
+    pub shared_file : (file : List ℕ) → IsFileBy class t file → IsSharedFileOf t file
+    shared_file file f = record {
+      written = f.written;
+      count = λ head is. f.count head is ∙ count_is;
+      least = least t;
+      size = f.size ∙ size_is;
+      fits = subst (λ n. n < 2 ^ 64) size_is f.fits;
+    }

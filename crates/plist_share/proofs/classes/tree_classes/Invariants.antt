@@ -1,0 +1,18 @@
+use Rattle.std.proofs.Common.{◌≡◌, ◌≤◌, ℕ, length}
+use Rattle.plist_binwrite.specs.Held.{plain_events, num_of}
+use Rattle.plist_binwrite.specs.Scalars.{AreApart, AreOwners}
+use Rattle.plist_share.specs.Keys.{HaveClasses, keys_seen}
+use Rattle.plist_share.proofs.classes.tree_classes.Given as goal
+
+abbrev pub invariant-back : goal.invariant-back
+invariant-back l = record {
+  have : (scalar : ℕ → ℕ) × AreOwners (plain_events l.events) scalar (length l.events)
+      × HaveClasses (num_of l.classes.items) (length l.events) scalar (plain_events l.events)
+      (keys_seen l.collections.keys) l.place;
+  long : length l.classes.items ≡ length l.events;
+  within : l.place ≤ length l.events;
+  apart : AreApart (keys_seen l.collections.keys);
+}
+
+abbrev pub decreases-back : goal.decreases-back
+decreases-back l = l.place

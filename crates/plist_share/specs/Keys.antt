@@ -1,0 +1,52 @@
+-- What contracts see of collections by the classes of their children.
+use Rattle.std.specs.Prelude.{◌≡◌, ◌↔◌, ℕ, ◌+◌, ◌<◌, ◌≤◌, Bool, true, false, List, ◌++◌, length, map, Some, slice_get}
+use Rattle.plist_base.specs.Events.{PlainEvent}
+use Rattle.plist_base.specs.Trees.{Tree, Leaf, Array, Dictionary}
+use Rattle.plist_binwrite.specs.Held.{keys_in, values_in}
+use Rattle.plist_binwrite.specs.Standing.{Sits}
+use Rattle.plist_share.specs.declared.classes.Collection.{Collection}
+
+-- a collection: whether it is a dictionary, and the classes of its children
+abbrev pub Key : Type 0
+Key = Bool × List ℕ
+
+abbrev pub key_of : Collection → Key
+key_of collection = (collection.is_dictionary, collection.children.items)
+
+abbrev pub keys_seen : List Collection → List Key
+keys_seen collections = map key_of collections
+
+-- keys came behind, and those before stayed
+pub record Extends (old new : List Key) : Type 0 where
+  pub keeps : (i : ℕ) → i < length old → slice_get new i ≡ slice_get old i
+  pub grows : length old ≤ length new
+
+-- ---- the classes of trees
+
+module _ (class : ℕ → ℕ) (count : ℕ) where
+  -- a collection by the classes of its children, a dictionary's keys before its values
+  abbrev pub key_by : (is_dictionary : Bool) → Tree → ℕ → Key
+  key_by is_dictionary t p = (is_dictionary, map class (keys_in t p) ++ map class (values_in t p))
+
+  -- a collection's class: behind so many others, the place of its key
+  abbrev pub IsIndexed : List Key → (is_dictionary : Bool) → Tree → ℕ → ℕ → Type 0
+  IsIndexed keys is_dictionary t p c =
+      (i : ℕ) × (c ≡ count + i) × (slice_get keys i ≡ Some (key_by is_dictionary t p))
+
+  module _ (scalar : ℕ → ℕ) where
+    -- the class that a tree at a place has; a scalar's is known
+    abbrev pub IsClass : List Key → Tree → ℕ → ℕ → Type 0
+    IsClass keys (Leaf x) p c = c ≡ scalar p
+    IsClass keys (Array items) p c = IsIndexed keys false (Array items) p c
+    IsClass keys (Dictionary pairs) p c = IsIndexed keys true (Dictionary pairs) p c
+
+    -- from this place on each tree has its class, and before it nothing has changed
+    pub record HaveClasses (es : List PlainEvent) (keys : List Key) (from : ℕ) : Type 0 where
+      pub behind : (t : Tree) (p : ℕ) → from ≤ p → Sits es t p → IsClass keys t p (class p)
+      pub before : (p : ℕ) → p < from → class p ≡ scalar p
+      pub below : (p : ℕ) → p < length es → class p < count + length keys
+
+-- two places have one class exactly where the same tree begins
+abbrev pub TellTrees : List PlainEvent → (class : ℕ → ℕ) → Type 0
+TellTrees es class =
+    (t u : Tree) (p q : ℕ) → Sits es t p → Sits es u q → (class p ≡ class q) ↔ (t ≡ u)

@@ -1,0 +1,13 @@
+-- What sending a tree's shared file does.
+use Rattle.std.specs.Prelude.{ℕ, List, Option}
+use Rattle.plist_base.specs.Events.{PlainEvent}
+use Rattle.plist_base.specs.Writing.{Answer}
+use Rattle.plist_binwrite.specs.SendingAs as any
+use Rattle.plist_share.specs.SharedFiles.{IsSharedFileOf}
+use Rattle.plist_share.specs.SharedSizes.{shared_file_size}
+
+module _ {W : Type 0} (contents : W → Option (List ℕ)) where
+  -- what sending the shared file of whole events does
+  abbrev pub Sends : (events : List PlainEvent) → Answer → (old new : W) → Type 0
+  Sends events answer old new =
+      any.Sends IsSharedFileOf shared_file_size contents events answer old new

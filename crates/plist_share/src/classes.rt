@@ -1,0 +1,193 @@
+//! Classes of the trees among events: two events have one class exactly where the same tree begins.
+
+ghost use Rattle.std.specs.Prelude.{◌≡◌, ◌+◌, ◌<◌, ◌++◌, ℕ, Some, false, true, length, map, slice_get, IfOk, OnOk};
+ghost use Rattle.plist_base.specs.Outcomes.{OnlyMemory};
+ghost use Rattle.plist_base.specs.Faults.{OutOfMemory};
+ghost use Rattle.plist_base.specs.Trees.{Tree};
+ghost use Rattle.plist_binwrite.specs.Classes.{AreClasses};
+ghost use Rattle.plist_binwrite.specs.Held.{plain_events, IsSkips, AllBelow, keys_in, values_in, num_of};
+ghost use Rattle.plist_binwrite.specs.Scalars.{AreApart};
+ghost use Rattle.plist_binwrite.specs.Standing.{Sits};
+ghost use Rattle.plist_share.specs.Keys.{HaveClasses, TellTrees, IsIndexed, Extends, key_of, keys_seen};
+
+use indexmap::IndexSet;
+use plist_base::{Error, ErrorKind, Event};
+use plist_binwrite::children::children;
+use plist_binwrite::classes::classes_of;
+use plist_binwrite::kinds::{Kind, kind_at, push_place};
+use std::alloc::Global;
+
+// A collection by its kind and the classes of its children, a dictionary's keys before its values.
+#[derive(PartialEq, Eq, Hash, Drop)]
+pub struct Collection {
+    pub is_dictionary: bool,
+    pub children: Vec<usize>,
+}
+
+// The index of a collection: that of its equal which came before, or a new one.
+fn index_of(collections: &mut IndexSet<Collection>, collection: Collection) -> Result<usize, Error>
+    ensures stored { IfOk result (λ index. slice_get (keys_seen collections.new.keys) index
+        ≡ Some (key_of collection)) }
+    ensures below { IfOk result (λ index. index < length (keys_seen collections.new.keys)) }
+    ensures extends { OnOk result (Extends (keys_seen collections.old.keys)
+        (keys_seen collections.new.keys)) }
+    ensures apart { OnOk result (AreApart (keys_seen collections.new.keys)) }
+    ensures memory { OnlyMemory result }
+{
+    match collections.insert_full(collection) {
+        Ok((index, _)) => return Ok(index),
+        Err(_) => return Err(ErrorKind::OutOfMemory.without_position()),
+    }
+}
+
+// Appends the classes of the events at these places.
+fn push_classes(found: &mut Vec<usize>, classes: &[usize], places: &[usize]) -> Result<(), Error>
+    requires { AllBelow (length classes.now) places.now }
+    ensures pushed { OnOk result (found.new.items
+        ≡ found.old.items ++ map (num_of classes.now) places.now) }
+    ensures memory { OnlyMemory result }
+{
+    for place in places {
+        push_place(found, classes[*place])?;
+    }
+    Ok(())
+}
+
+// The classes of the children of the collection that begins here.
+fn classes_within(
+    alloc: Global,
+    events: &[Event<'_>],
+    skips: &[usize],
+    classes: &[usize],
+    place: usize,
+) -> Result<Vec<usize>, Error>
+    requires skips { IsSkips (plain_events events.now) skips.now 0 }
+    requires place { place < length events.now }
+    requires long { length classes.now ≡ length events.now }
+    ensures classes { IfOk result (λ found. (t : Tree) → Sits (plain_events events.now) t place
+        → found.items ≡ map (num_of classes.now) (keys_in t place)
+        ++ map (num_of classes.now) (values_in t place)) }
+    ensures memory { OnlyMemory result }
+{
+    let mut keys = Vec::new(alloc);
+    let mut values = Vec::new(alloc);
+    children(events, skips, place, &mut keys, &mut values)?;
+    let mut found = Vec::new(alloc);
+    push_classes(&mut found, classes, keys.as_slice())?;
+    push_classes(&mut found, classes, values.as_slice())?;
+    Ok(found)
+}
+
+// The class of the collection that begins here: those of collections lie behind the ones of scalars.
+fn class_of_collection(
+    alloc: Global,
+    events: &[Event<'_>],
+    skips: &[usize],
+    classes: &[usize],
+    place: usize,
+    is_dictionary: bool,
+    collections: &mut IndexSet<Collection>,
+) -> Result<usize, Error>
+    requires skips { IsSkips (plain_events events.now) skips.now 0 }
+    requires place { place < length events.now }
+    requires long { length classes.now ≡ length events.now }
+    ensures class { IfOk result (λ class. (t : Tree) → Sits (plain_events events.now) t place
+        → IsIndexed (num_of classes.now) (length events.now)
+        (keys_seen collections.new.keys) is_dictionary t place class) }
+    ensures below { IfOk result (λ class. class < length events.now
+        + length (keys_seen collections.new.keys)) }
+    ensures extends { OnOk result (Extends (keys_seen collections.old.keys)
+        (keys_seen collections.new.keys)) }
+    ensures apart { OnOk result (AreApart (keys_seen collections.new.keys)) }
+    ensures memory { OnlyMemory result }
+{
+    let children = classes_within(alloc, events, skips, classes, place)?;
+    let collection = Collection {
+        is_dictionary,
+        children,
+    };
+    let index = index_of(collections, collection)?;
+    match events.len().checked_add(index) {
+        Some(class) => Ok(class),
+        None => Err(ErrorKind::OutOfMemory.without_position()),
+    }
+}
+
+// Gives the tree that begins here its class, if a collection does; a scalar has one.
+fn give_class(
+    alloc: Global,
+    events: &[Event<'_>],
+    skips: &[usize],
+    place: usize,
+    classes: &mut Vec<usize>,
+    collections: &mut IndexSet<Collection>,
+) -> Result<(), Error>
+    requires skips { IsSkips (plain_events events.now) skips.now 0 }
+    requires place { place < length events.now }
+    requires long { length classes.old.items ≡ length events.now }
+    requires apart { AreApart (keys_seen collections.old.keys) }
+    ensures classes { OnOk result ((scalar : ℕ → ℕ) → HaveClasses (num_of classes.old.items)
+        (length events.now) scalar
+        (plain_events events.now) (keys_seen collections.old.keys) (place + 1)
+        → HaveClasses (num_of classes.new.items) (length events.now) scalar
+        (plain_events events.now) (keys_seen collections.new.keys) place) }
+    ensures long { OnOk result (length classes.new.items ≡ length events.now) }
+    ensures apart { OnOk result (AreApart (keys_seen collections.new.keys)) }
+    ensures memory { OnlyMemory result }
+{
+    match kind_at(events, place) {
+        Kind::Array => {
+            let found = classes.as_slice();
+            let class = class_of_collection(
+                alloc,
+                events,
+                skips,
+                found,
+                place,
+                false,
+                collections,
+            )?;
+            classes[place] = class;
+            Ok(())
+        }
+        Kind::Dictionary => {
+            let found = classes.as_slice();
+            let class = class_of_collection(alloc, events, skips, found, place, true, collections)?;
+            classes[place] = class;
+            Ok(())
+        }
+        _ => Ok(()),
+    }
+}
+
+/// The classes of events, and how many numbers they lie below.
+#[derive(Drop)]
+pub struct Classes {
+    pub of: Vec<usize>,
+    pub count: usize,
+}
+
+/// The classes of the trees that begin among the events of a tree, found from the inside outwards.
+///
+/// # Errors
+/// `OutOfMemory`, without an offset.
+pub fn tree_classes(alloc: Global, events: &[Event<'_>], skips: &[usize]) -> Result<Classes, Error>
+    requires skips { IsSkips (plain_events events.now) skips.now 0 }
+    ensures long { IfOk result (λ r. length r.of.items ≡ length events.now) }
+    ensures below { IfOk result (λ r. AllBelow r.count r.of.items) }
+    ensures objects { IfOk result (λ r. AreClasses (plain_events events.now) (num_of r.of.items)) }
+    ensures trees { IfOk result (λ r. TellTrees (plain_events events.now) (num_of r.of.items)) }
+    ensures memory { OnlyMemory result }
+{
+    let mut classes = classes_of(alloc, events)?;
+    let mut collections = IndexSet::new(alloc);
+    let mut place = events.len();
+    'back: while place > 0 {
+        place -= 1;
+        give_class(alloc, events, skips, place, &mut classes, &mut collections)?;
+    }
+    match events.len().checked_add(collections.len()) {
+        Some(count) => Ok(Classes { of: classes, count }),
+        None => Err(ErrorKind::OutOfMemory.without_position()),
+    }
+}

@@ -1,0 +1,3 @@
+-- What contracts of the examples speak of.
+pub mod Settings
+pub mod Roots

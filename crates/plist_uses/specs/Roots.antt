@@ -1,0 +1,14 @@
+-- What the root of an archive is.
+use Rattle.std.specs.Prelude.{◌≡◌, ℕ, List, Ok, codes, map}
+use Rattle.plist_base.specs.Trees.{Tree}
+use Rattle.plist_keyed.specs.Archives.{resolved_tree}
+use Rattle.plist_keyed.specs.Contents.{IsArchiveOf, IsUidAt}
+use Rattle.plist.specs.declared.value.Value.{Value}
+use Rattle.plist.specs.Views.{tree_of}
+
+-- the tree of the Uid that stands at `root` among the names of the archive
+abbrev pub IsRootOf : (archive : Value) → (root : Tree) → Type 0
+IsRootOf archive root =
+    (objects : List Value) × (names : List (List ℕ × Value)) × (uid : ℕ)
+    × IsArchiveOf archive objects names × IsUidAt (codes "root") names uid
+    × (resolved_tree (map tree_of objects) uid ≡ Ok root)

@@ -1,0 +1,20 @@
+-- What contracts see of settings.
+use Rattle.std.specs.Prelude.{ℕ, List, Option, Ok, IfSome}
+use Rattle.plist_base.specs.Trees.{Tree, Dictionary}
+use Rattle.plist.specs.declared.value.Value.{Value}
+use Rattle.plist.specs.Inputs.{IsReadFrom}
+use Rattle.plist.specs.Views.{pair_trees}
+use Rattle.plist_reader.specs.Reader.{items_of_input}
+use Rattle.plist_uses.specs.declared.settings.Settings.{Settings}
+
+-- the names with their settings, in order
+abbrev pub pairs_of : Settings → List (List ℕ × Value)
+pairs_of settings = settings.pairs
+
+-- the property list of the settings
+abbrev pub tree_in : Settings → Tree
+tree_in settings = Dictionary (pair_trees settings.pairs)
+
+-- where the bytes of a file are known, their items are those of this property list
+abbrev pub IsReadOf : (known : Option (List ℕ)) → Tree → Type 0
+IsReadOf known tree = IfSome known (λ bytes. IsReadFrom (items_of_input bytes) (Ok tree))

@@ -1,0 +1,26 @@
+//! The root of a keyed archive.
+
+ghost use Rattle.std.specs.Prelude.{IfOk, IfSome};
+ghost use Rattle.plist.specs.Views.{tree_of};
+ghost use Rattle.plist_uses.specs.Roots.{IsRootOf};
+
+use plist::Value;
+use plist_keyed::{Archive, KeyedError};
+use std::alloc::Global;
+
+/// The object that an archive names `root`, with each Uid in it replaced by what it names; none
+/// where it names no root.
+///
+/// # Errors
+///
+/// Those of [`Archive::open`] and [`Archive::tree`].
+pub fn root_of(alloc: Global, archive: &Value) -> Result<Option<Value>, KeyedError>
+    ensures root { IfOk result (λ found. IfSome found (λ root.
+        IsRootOf archive.now (tree_of root))) }
+{
+    let opened = Archive::open(archive)?;
+    match opened.top("root") {
+        Some(uid) => Ok(Some(opened.tree(alloc, uid)?)),
+        None => Ok(None),
+    }
+}

@@ -1,0 +1,100 @@
+//! A settings store: one dictionary in a file.
+
+ghost use Rattle.std.specs.Prelude.{◌≡◌, IfOk, OnErr, OnOk, string_bytes};
+ghost use Rattle.std.specs.Map.{lookup};
+ghost use Rattle.std.specs.Option.{option_copied};
+ghost use Rattle.std.specs.Str.{bytes_eq};
+ghost use Rattle.indexmap.specs.IndexMap.{insert_entry};
+ghost use Rattle.plist_base.specs.Writing.{answer_of};
+ghost use Rattle.plist.specs.Sent.{SendsTree};
+ghost use Rattle.plist.specs.Views.{tree_of};
+ghost use Rattle.plist_uses.specs.Settings.{IsReadOf, pairs_of, tree_in};
+
+use plist::stream::Source;
+use plist::{Dictionary, Error, Value};
+use std::alloc::Global;
+use std::io::Write;
+
+/// Settings by name, in the order in which the names came first.
+#[derive(Drop)]
+pub struct Settings {
+    pairs: Dictionary,
+}
+
+/// Why there are no settings.
+#[derive(Debug, Drop)]
+pub enum SettingsError {
+    /// The file has a fault, or a read of it failed.
+    Fault(Error),
+    /// The property list is no dictionary.
+    NoDictionary,
+}
+
+impl From<Error> for SettingsError {
+    ghost use Rattle.std.specs.Prelude.{◌≡◌};
+    ghost use Rattle.plist_uses.specs.declared.settings.SettingsError.TheVariants as made;
+
+    ghost from_gives = { λ error failure. failure ≡ made.Fault error };
+
+    fn from(error: Error) -> SettingsError {
+        SettingsError::Fault(error)
+    }
+}
+
+// The value of a file.
+fn value_in<R: Source>(alloc: Global, file: R) -> Result<Value, Error>
+    ensures read { IfOk result (λ value. IsReadOf (R.known file) (tree_of value)) }
+{
+    let value = Value::from_reader(alloc, file)?;
+    Ok(value)
+}
+
+impl Settings {
+    /// The settings of a file, binary or in ASCII.
+    ///
+    /// # Errors
+    ///
+    /// `Fault` with the error of [`Value::from_reader`], and `NoDictionary`.
+    pub fn open<R: Source>(alloc: Global, file: R) -> Result<Settings, SettingsError>
+        ensures opened { IfOk result (λ settings. IsReadOf (R.known file) (tree_in settings)) }
+    {
+        let value = value_in(alloc, file)?;
+        match value {
+            Value::Dictionary(pairs) => Ok(Settings { pairs }),
+            _ => Err(SettingsError::NoDictionary),
+        }
+    }
+
+    /// The setting of a name, if there is one.
+    pub fn get(&self, name: &str) -> Option<&Value>
+        ensures { option_copied result ≡ lookup (bytes_eq name.now) (pairs_of self.now) }
+    {
+        self.pairs.get(name)
+    }
+
+    /// Sets a name, and leaves the others and their order. The old setting goes.
+    ///
+    /// # Errors
+    ///
+    /// Name and setting come back where memory is wanting, and nothing changes.
+    pub fn set(&mut self, name: String, setting: Value) -> Result<(), (String, Value)>
+        ensures done { OnOk result (pairs_of self.new
+            ≡ insert_entry bytes_eq (pairs_of self.old) (string_bytes name) setting) }
+        ensures unchanged { OnErr result (pairs_of self.new ≡ pairs_of self.old) }
+    {
+        let _old = self.pairs.insert(name, setting)?;
+        Ok(())
+    }
+
+    /// Writes the settings as a binary file.
+    ///
+    /// # Errors
+    ///
+    /// Those of [`Value::to_writer_binary`].
+    pub fn save<W: Write>(self, alloc: Global, writer: &mut W) -> Result<(), Error>
+        ensures sent { SendsTree W.contents (tree_in self)
+            (answer_of result) writer.old writer.new }
+    {
+        Value::Dictionary(self.pairs).to_writer_binary(alloc, writer)
+    }
+}

@@ -1,0 +1,338 @@
+"""What the calls of `refused_calls.py` answer with ample memory, and what with too little.
+
+Everything here is worked out by hand, or by Python's `plistlib` and dictionaries.
+"""
+import datetime
+import itertools
+import pathlib
+import plistlib
+import struct
+
+VECTORS = pathlib.Path(__file__).resolve().parents[2] / "crates/plist_vectors/src"
+WANT, FAILED = "OutOfMemory", "WriterFailed"
+
+
+# ---- values as words
+
+def words_of(value):
+    """The events of a value."""
+    if value is True or value is False:
+        return ["true" if value else "false"]
+    if isinstance(value, int):
+        return [str(value)]
+    if isinstance(value, float):
+        return ["real:" + struct.pack(">d", value).hex()]
+    if isinstance(value, str):
+        return [f"'{value}'"]
+    if isinstance(value, bytes):
+        return [f"<{value.hex()}>"]
+    if isinstance(value, plistlib.UID):
+        return [f"uid:{value.data}"]
+    if isinstance(value, datetime.datetime):
+        return [f"date:{int((value - datetime.datetime(2001, 1, 1)).total_seconds())}"]
+    if isinstance(value, list):
+        below = [word for item in value for word in words_of(item)]
+        return [f"[{len(value)}", *below, "end"]
+    below = [word for pair in value.items() for item in pair for word in words_of(item)]
+    return [f"{{{len(value)}", *below, "end"]
+
+
+def joined(value):
+    return " ".join(words_of(value))
+
+
+def cuts(items, may_want):
+    """Want of memory in the place of each item where it may come, behind the items before."""
+    return {" ".join([*items[:i], WANT]) for i, item in enumerate(items) if may_want(i, item)}
+
+
+def in_binary(i, item):
+    return i == 0 or item[0] in "[{'<" or "Utf" in item
+
+
+def in_ascii(_, item):
+    return item not in ("[", "{", "end") and not item.startswith("IncompleteComment")
+
+
+def file_of(body, count, table, root=0, widths=b"\1\1"):
+    """A file whose objects and table these are."""
+    numbers = b"".join(number.to_bytes(8, "big") for number in (count, root, table))
+    return b"bplist00" + bytes.fromhex(body) + bytes(6) + widths + numbers
+
+
+MOMENT = datetime.datetime(2001, 1, 1, 0, 0, 5)
+VALUE = {
+    "name": "a text of more than eight bytes",
+    "list": [1, True, 2.5, b"some bytes, more than eight", b"", plistlib.UID(4), MOMENT, "é",
+             [["deep"], {}]],
+    "again": "short",
+}
+# without blanks in its texts, so that its words can be told apart
+SIMPLE = {"name": "text", "list": [1, True, b"\0\xff", plistlib.UID(4), "é", [["deep"], {}]],
+          "again": "text"}
+BINARY = plistlib.dumps(VALUE, fmt=plistlib.FMT_BINARY, sort_keys=False)
+ASCII = (b"{ name = 'a quoted text, and a longer one'; "
+         b"list = (1, two, /* no */ { deep = \"\\U00e9\"; }); }")
+ASCII_ITEMS = ["{", "'name'", "'a quoted text, and a longer one'", "'list'", "[", "1", "'two'",
+               "{", "'deep'", "'é'", "end", "end", "end"]
+ASCII_VALUE = {"name": "a quoted text, and a longer one", "list": [1, "two", {"deep": "é"}]}
+FAULTY = b'("ab\\9cd" \'x\' /*'
+FAULTY_ITEMS = ["[", "InvalidUtf8AsciiStream (offset 6)", "'cd\"'", "'x'",
+                "IncompleteComment (offset 16)"]
+PAIRS = "{ 'a' [ 'x' end 'b' 'a' end"
+PAIRS_FILE = file_of("d201020301 5161 5162 a104 5178 080d0f1113", 5, 21)
+TRUE_FILE = file_of("0908", 1, 9)
+
+
+# ---- calls that grow
+
+def readers(counts, folder):
+    def sweep(names, content, items, may_want):
+        path = folder / "input"
+        path.write_bytes(content)
+        for name in names:
+            counts.sweep(name, str(path), " ".join(items), cuts(items, may_want))
+
+    binary = ["BinaryReader", "limited BinaryReader", "seeking BinaryReader",
+              "windows BinaryReader", "Reader", "limited Reader"]
+    sweep(binary, BINARY, words_of(VALUE), in_binary)
+    surrogate = ["[2", "'a'", "InvalidUtf16String (offset 13)"]
+    sweep(binary, file_of("a201025161 62d83d0041 080b0d", 3, 18), surrogate, in_binary)
+    no_text = ["[1", "InvalidUtf8String (offset 10)"]
+    sweep(binary, file_of("a10151ff 080a", 2, 12), no_text, in_binary)
+    cut = BINARY[:-5]
+    width = f"InvalidTrailerObjectOffsetSize (offset {len(cut) - 32})"
+    sweep(binary, cut, [width], in_binary)
+    sweep(["AsciiReader", "Reader", "limited Reader"], ASCII, ASCII_ITEMS, in_ascii)
+    sweep(["AsciiReader", "Reader", "tight AsciiReader"], FAULTY, FAULTY_ITEMS, in_ascii)
+    # limits end the items at the first fault
+    sweep(["limited Reader"], FAULTY, FAULTY_ITEMS[:2], in_ascii)
+    sweep(["tight AsciiReader"], b"{a=b\n}", ["{", "'a'", "'b'", "end"], in_ascii)
+    for value in (SIMPLE, ["x"], "x"):
+        counts.sweep("Events", joined(value), joined(value),
+                     cuts(words_of(value), lambda i, item: item[0] in "[{"))
+
+
+def failures(count):
+    """The answers to so many events, of which each in turn finds no memory."""
+    for i in range(count):
+        yield "; ".join(["ok"] * i + [WANT] + [FAILED] * (count - i - 1)) + "; "
+
+
+def writers(counts):
+    simple = joined(SIMPLE)
+    builds = [(simple, simple), ("{ 'k' 1 'x' 2 'k' 3 end", "{2 'k' 3 'x' 2 end"), ("'a'", "'a'"),
+              ("[ 1 end", "[1 1 end")]
+    for words, built in builds:
+        count = len(words.split(" "))
+        wants = {f"{answers}| {FAILED}" for answers in failures(count)}
+        counts.sweep("Builder", words, "ok; " * count + "| " + built, wants)
+    # the file of an earlier plist stands before
+    count = len(PAIRS.split(" "))
+    wants = {f"{answers}\nok | {TRUE_FILE.hex()}" for answers in failures(count)}
+    both = (TRUE_FILE + PAIRS_FILE).hex()
+    counts.sweep("BinaryWriter", PAIRS, "ok; " * count + f"\nok | {both}", wants)
+
+
+def values(counts, folder):
+    path, simple = folder / "input", joined(SIMPLE)
+    inputs = [(BINARY, joined(VALUE)), (ASCII, joined(ASCII_VALUE)), (TRUE_FILE, "true"),
+              (b"", "UnexpectedEndOfEventStream")]
+    for name in ("from_reader", "from_reader_with_limits", "from_file"):
+        for content, words in inputs:
+            path.write_bytes(content)
+            counts.sweep(name, str(path), words, {WANT})
+    path.write_bytes(ASCII)
+    counts.sweep("from_reader_ascii", str(path), joined(ASCII_VALUE), {WANT})
+    path.write_bytes(b"{a=b;c=(1\n)\n}")
+    tight = joined({"a": "b", "c": [1]})
+    counts.sweep("from_reader_ascii_with_dialect", str(path), tight, {WANT})
+    counts.sweep("from_events", simple, simple, {WANT})
+    behind = "ExpectedEndOfEventStream { found: String }"
+    counts.sweep("from_events", "'a' 'b'", behind, {WANT})
+    counts.sweep("clone of a value", simple, f"{simple} | {simple}", {f"{WANT} | {simple}"})
+    counts.sweep("try_from_str", "some text", "'some text'", {WANT})
+    # bytes that stood before stay
+    counts.sweep("to_writer_binary", PAIRS, "ok | 07" + PAIRS_FILE.hex(), {f"{WANT} | 07"})
+    # where the events find no memory, the builder has got none of them
+    wants = {f"{WANT} | {FAILED}", f"{WANT} | UnexpectedEndOfEventStream"}
+    counts.sweep("write_value to a Builder", simple, f"ok | {simple}", wants)
+    sent = "ok | " + PAIRS_FILE.hex()
+    counts.sweep("write_value to a BinaryWriter", PAIRS, sent, {f"{WANT} | "})
+
+
+def files(counts, folder):
+    out = folder / "out"
+
+    def state():
+        return out.read_bytes() if out.exists() else None
+
+    old = b"an older file"
+    counts.sweep("to_file_binary", str(out), "ok", {WANT}, lambda: out.write_bytes(old), state,
+                 old, PAIRS_FILE)
+    counts.sweep("to_file_binary", str(out), "ok", {WANT}, lambda: out.unlink(missing_ok=True),
+                 state, None, PAIRS_FILE)
+
+
+def dictionaries(counts):
+    inserts = [("insert", "v"), ("or_insert", 2), ("or_insert_with", 2), ("insert of an entry", 2)]
+    for name, value in inserts:
+        for size in (0, 1, 2, 3, 4, 7, 8, 14, 15, 28, 29):
+            old = {f"k{i}": i for i in range(size)}
+            counts.sweep(name, joined(old), "ok | " + joined({**old, "new": "v"}),
+                         {"back new 'v' | " + joined(old)})
+        # a key that is there needs none
+        there = {"a": 1, "new": 2}
+        counts.still(name, joined(there), "ok | " + joined({**there, "new": value}))
+    old = {"a": 1, "b": 2}
+    state, states = dict(old), []
+    for key in "bcadefg":
+        states.append(joined(state))
+        state[key] = True
+    wants = {f"{WANT} | {words}" for words in states}
+    counts.sweep("extend", joined(old), "ok | " + joined(state), wants)
+    made = joined(dict.fromkeys("bcadefg", True))
+    counts.sweep("from_pairs", "-", f"{made} | {{0 end", {f"{WANT} | {{0 end"})
+    old = {"b": 2, "a": [1], "c": {"z": 1, "y": 2}}
+    words, ordered = joined(old), joined(dict(sorted(old.items())))
+    counts.sweep("sort_keys", words, f"ok | {ordered}", {f"{WANT} | {words}"})
+    counts.sweep("clone of a dictionary", words, f"{words} | {words}", {f"{WANT} | {words}"})
+
+
+def scalars(counts):
+    counts.sweep("text of a date", "-619446474", "1981-05-16T11:32:06Z", {WANT})
+    counts.sweep("text of a date", "-378683424000", "YearOutOfRange", {WANT})
+    zeros, lines = "00" * 52, "A" * 68 + "\nAA=="
+    counts.sweep("text of data", zeros, lines, {WANT})
+    counts.sweep("data of a text", lines, zeros, {WANT})
+    counts.sweep("data of a text", "A", "Decode", {WANT})
+    counts.sweep("clone of data", "00ff", "00ff", {WANT})
+    for word in ("'text'", "<00ff>"):
+        counts.sweep("clone of an event", word, word, {WANT})
+        counts.sweep("into_owned", word, word, {WANT})
+    objects = "{ '$objects' [ '$null' [ uid:2 { 'k' uid:2 end end 'x' end '$top' { end end"
+    counts.sweep("tree", objects, "[2 'x' {1 'k' 'x' end end", {WANT})
+    cycle = "{ '$objects' [ '$null' [ uid:1 end end '$top' { end end"
+    counts.sweep("tree", cycle, "RecursiveUid(1)", {WANT})
+
+
+# ---- files that lie
+
+def lying_files():
+    """The files of the tables of `plist_vectors` that lie about themselves, and their items."""
+    for line in (VECTORS / "hostile.rt").read_text().splitlines():
+        parts = [part.strip() for part in line.removesuffix('";').split(" | ")]
+        if len(parts) == 4:
+            offset_width, width, count, root, table = map(int, parts[2].split())
+            yield file_of(parts[1], count, table, root, bytes((offset_width, width))), parts[3]
+
+
+def lies(counts, folder):
+    path = folder / "input"
+    for content, items in lying_files():
+        path.write_bytes(content)
+        words = items.split(" ")
+        events = list(itertools.takewhile(lambda word: not word[0].isupper(), words))
+        fault = items.removeprefix(" ".join(events)).strip()
+        for name in ("BinaryReader", "Reader"):
+            counts.bounded(name, str(path), len(content), items)
+            counts.sweep(name, str(path), items, cuts([*events, fault], in_binary))
+        counts.bounded("from_reader", str(path), len(content), fault)
+
+
+# ---- calls that take no memory
+
+def still_readers(counts, folder):
+    def still(name, content, words):
+        path = folder / "input"
+        path.write_bytes(content)
+        counts.still(name, str(path), words)
+
+    def fault(digits, table, kind):
+        still("later items", file_of(f"a101 {digits} 080a", 2, table), f"true {kind} (offset 10)")
+
+    still("AsciiReader", b"({ // c\n/* d */ }); = ,\t)", "[ { end end end")
+    still("AsciiReader", b"( /*", "[ IncompleteComment (offset 4)")
+    still("AsciiReader", b"", "")
+    small = [5, -1, True, 2.5, plistlib.UID(4), MOMENT]
+    later = "true " + " ".join(words_of(small)[1:])
+    still("later items", plistlib.dumps(small, fmt=plistlib.FMT_BINARY), later)
+    still("later items", TRUE_FILE, "true ")
+    missing = "true 5 ObjectReferenceTooLarge (offset 8)"
+    still("later items", file_of("a20105 1005 080b", 2, 13), missing)
+    still("later items", file_of("a100 08", 1, 10), "true RecursiveObject (offset 8)")
+    fault("88", 11, "UnknownObjectType(136)")
+    fault("00", 11, "NullObjectUnimplemented")
+    fault("0f", 11, "FillObjectUnimplemented")
+    fault("337ff0000000000000", 19, "OverflowOrNanDate")
+    fault("14" + "ff" * 16, 27, "IntegerOutOfRange")
+    fault("13", 11, "ObjectOffsetTooLarge")
+
+
+def refusal(expected, found):
+    return f"UnexpectedEventType {{ expected: {expected}, found: {found} }}; "
+
+
+def still_writers(counts):
+    counts.still("finish", "[ 'a' { 'k' 1 end end", "[2 'a' {1 'k' 1 end end")
+    counts.still("finish", "[ 'a'", "UnexpectedEndOfEventStream")
+    key, place, end = "DictionaryKeyOrEndCollection", "ValueOrStartCollection", "EndCollection"
+    kinds = ["Integer", "StartArray", "StartDictionary", "Boolean", "Data", "Date", "Real", "Uid"]
+    refused = "".join(refusal(key, kind) for kind in kinds)
+    for name in ("a Builder", "a BinaryWriter"):
+        events = "{ | 1 [ { true <> date:0 real:00000000 uid:1"
+        counts.still(f"refused by {name}", events, refused)
+    counts.still("refused by a Builder", "{ 'k' | end", refusal(place, end))
+    counts.still("refused by a BinaryWriter", "{ 'k' | end", refusal(key, end))
+    counts.still("refused by a BinaryWriter", "true | end", refusal(place, end))
+    behind = "".join(f"ExpectedEndOfEventStream {{ found: {kind} }}; "
+                     for kind in ("String", "StartArray", end))
+    counts.still("refused by a Builder", "'a' | 'b' [ end", behind)
+
+
+def still_values(counts):
+    counts.still("new", "-", "made")
+    counts.still("later events", "[ 1 true uid:4 'x' <00> end", "[5 1 true uid:4 'x' <00> end")
+    counts.still("into and out of a Value", "-", "Some(7) Some(4) true true")
+    counts.still("Dictionary", "{ 'a' 1 'b' 2 'c' 3 'd' 4 end",
+                 "true false true false 2 2 2 2 true | {2 'd' 4 'c' true end")
+    counts.still("entries", "{ 'a' 1 'b' 2 'c' 3 end", "Some(1) true false | {2 'c' 3 'b' 9 end")
+    archive = "{ '$objects' [ '$null' 'x' end '$top' { 'root' uid:1 end end"
+    counts.still("Archive", archive, "Some(1) 'x'")
+    kinds = [("[ 1 [ 'x' end end", "Some(2)"), ("{ 'a' 1 'b' { end end", "Some(2)"),
+             ("true", "Some(true)"), ("<00ff>", "Some(2)"), ("-5", "Some(-5)"),
+             ("18446744073709551615", "Some(18446744073709551615)"), ("'text'", "Some(4)"),
+             ("uid:9", "Some(9)"), ("date:-5", "Some(-5)"), ("real:3fc00000", "true")]
+    for place, (words, shown) in enumerate(kinds):
+        answers = ["true", *["None"] * 9, "false"]
+        answers[place + 1] = shown
+        counts.still("Value", words, " ".join(answers))
+
+
+def still_scalars(counts):
+    largest = "18446744073709551615"
+    counts.still("Integer", largest, f"{largest} {largest} None Some({largest}) false")
+    counts.still("Integer", "-5", "-5 -5 Some(-5) None false")
+    counts.still("Integer", "0x0x10", "16 16 Some(16) Some(16) false")
+    counts.still("Integer", "x", " None None false")
+    counts.still("Data", "00ff", "2 0707")
+    counts.still("Event", "'text' 'text'", "true (String, String)")
+    counts.still("Event", "'text' <74657874>", "false (String, Data)")
+    others = "true false true"
+    zone = f"Some((-3600, 978303600)) {others}"
+    counts.still("Date", "2001-01-01T00:00:00+01:00", zone)
+    counts.still("Date", "1900-02-29T00:00:00Z", f"None {others}")
+
+
+def run(counts, folder):
+    readers(counts, folder)
+    writers(counts)
+    values(counts, folder)
+    files(counts, folder)
+    dictionaries(counts)
+    scalars(counts)
+    lies(counts, folder)
+    still_readers(counts, folder)
+    still_writers(counts)
+    still_values(counts)
+    still_scalars(counts)
