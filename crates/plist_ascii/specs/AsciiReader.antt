@@ -1,6 +1,7 @@
 -- What contracts see of a reader: the bytes that it has still to take, and the items that they
 -- give.
-use Rattle.std.specs.Prelude.{◌≡◌, ℕ, ◌-◌, ◌^◌, ◌<◌, ◌≤◌, Bool, true, false, List, [], ◌∷◌, drop, Option, None, Some, Result, Ok, Err, MatchOption, MatchResult, ⊤}
+use Rattle.std.specs.Prelude.{◌≡◌, ℕ, ◌-◌, ◌^◌, ◌<◌, ◌≤◌, Bool, true, false, List, [], ◌∷◌, take, drop, Option, None, Some, Result, Ok, Err, IfSome, MatchOption, MatchResult, ⊤}
+use Rattle.std.specs.Option.{option_map}
 use Rattle.plist_base.specs.declared.error.Error.{Error}
 use Rattle.plist_base.specs.declared.event.Event.{Event}
 use Rattle.plist_base.specs.Faults.{MatchFault, kind_of, error_kind_of, fault_of}
@@ -11,7 +12,7 @@ use Rattle.plist_ascii.specs.Texts.{ends_bare}
 use Rattle.plist_ascii.specs.Ascii.{placed, placed_items, items_of_ascii, BeginsWithText}
 use Rattle.plist_ascii.specs.Kinds.{IsAsciiItem, ItemBehindBracket}
 use Rattle.plist_ascii.specs.Incoming.{ItemCountsIo}
-use Rattle.plist_ascii.specs.Unread.{unread, Known, IsAt}
+use Rattle.plist_ascii.specs.Unread.{within, unread, Known, IsAt}
 
 -- the reader inside
 abbrev pub inner_of : {R : Type 0} → AsciiReader R → R
@@ -40,6 +41,15 @@ HasEnded reader = reader.input.ended ≡ true
 -- the bytes not yet taken, where they are known; none once the reader has ended
 abbrev pub bytes_left : {R : Type 0} → (R → Option (List ℕ)) → AsciiReader R → Option (List ℕ)
 bytes_left known reader = unread known reader.input
+
+-- as many of a device's bytes as are ever taken
+abbrev pub readable : Option (List ℕ) → Option (List ℕ)
+readable known = option_map (λ bytes. take (2 ^ 64 - 1) bytes) known
+
+-- the device inside holds what the reader had left, without the byte that was looked at
+abbrev pub HoldsLeft : {R : Type 0} → AsciiReader R → (R → Option (List ℕ)) → R → Type 0
+HoldsLeft reader known inner = IfSome (known inner) (λ bytes.
+    bytes_left known reader ≡ Some (within (looked_at reader) (place_of reader) bytes))
 
 -- From place p on the items begin with this one, which ends at place q; the others are those of the
 -- rest, which are the bytes from q on.

@@ -1,5 +1,5 @@
 -- What a read of a byte leaves, and what it tells of its failures.
-use Rattle.std.specs.Prelude.{◌≡◌, ℕ, List, [], ◌∷◌, Option, None, Some, Result, MatchOption, MatchResult, ⊤}
+use Rattle.std.specs.Prelude.{◌≡◌, ℕ, List, [], ◌∷◌, take, Option, None, Some, Result, MatchOption, MatchResult, ⊤}
 use Rattle.std.specs.Io.KnownBytes.{Consumes, IsAtEnd}
 use Rattle.plist_base.specs.declared.error.Error.{Error}
 use Rattle.plist_base.specs.Faults.{MatchFault, kind_of, error_kind_of}
@@ -9,6 +9,10 @@ use Rattle.plist_base.specs.Sources.{Rises}
 abbrev pub GivesByte : Option (List ℕ) → Option ℕ → Option (List ℕ) → Type 0
 GivesByte old None new = Consumes old new [] × IsAtEnd new
 GivesByte old (Some byte) new = Consumes old new (byte ∷ [])
+
+-- known bytes lose the first `count` of those at hand
+abbrev pub LosesFirst : (count : ℕ) → (held : List ℕ) → Option (List ℕ) → Option (List ℕ) → Type 0
+LosesFirst count held old new = Consumes old new (take count held)
 
 -- the count of failures rose, or stands at its top, where it is told
 abbrev pub RisesIfTold : Option ℕ → Option ℕ → Type 0

@@ -32,6 +32,10 @@ abbrev pub number_or_text : List ℕ → Option ℤ → Scalar
 number_or_text text (Some number) = Integer number
 number_or_text text None = String text
 
+-- the same, by the text alone
+abbrev pub scalar_of_text : List ℕ → Scalar
+scalar_of_text text = number_or_text text (integer_of_text text)
+
 -- what a text gives, which must be UTF-8
 abbrev pub utf8_or_fault : List ℕ → Scalar → Result (Option PlainEvent) FaultKind
 utf8_or_fault text scalar =
@@ -39,7 +43,7 @@ utf8_or_fault text scalar =
 
 -- what a bare text means
 unfoldable pub bare_event : List ℕ → Result (Option PlainEvent) FaultKind
-bare_event text = utf8_or_fault text (number_or_text text (integer_of_text text))
+bare_event text = utf8_or_fault text (scalar_of_text text)
 
 -- what a quoted text means
 unfoldable pub quoted_event : List ℕ → Result (Option PlainEvent) FaultKind

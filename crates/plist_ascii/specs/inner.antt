@@ -1,2 +1,3 @@
 -- What bodies and proofs speak of, and no public clause.
 pub mod Parts
+pub mod Inputs

@@ -1,8 +1,7 @@
 //! Where the bytes come from.
 
-ghost use Rattle.std.specs.Prelude.{◌≡◌, ◌≤◌, ℕ, List, [], length, take, Option, None, IfOk};
-ghost use Rattle.std.specs.Io.KnownBytes.{Consumes};
-ghost use Rattle.plist_ascii.specs.Incoming.{GivesByte, CountsFailure};
+ghost use Rattle.std.specs.Prelude.{◌≡◌, ◌≤◌, ℕ, List, [], length, Option, None, IfOk};
+ghost use Rattle.plist_ascii.specs.Incoming.{GivesByte, CountsFailure, LosesFirst};
 
 use std::io;
 use std::io::Read;
@@ -21,8 +20,7 @@ pub trait Bytes {
 
     /// The next byte, or `None` at the end.
     fn next_byte(&mut self) -> Result<Option<u8>, io::Error>
-        ensures byte { IfOk result (λ byte.
-            GivesByte (remaining self.old) byte (remaining self.new)) }
+        ensures byte { IfOk result (λ b. GivesByte (remaining self.old) b (remaining self.new)) }
         ensures failures { CountsFailure result (failures self.old) (failures self.new) };
 
     /// The bytes that are at hand: they are the next ones, and taking them reads nothing.
@@ -32,8 +30,7 @@ pub trait Bytes {
     /// Takes the first `count` of the bytes at hand.
     fn pass(&mut self, count: usize)
         requires within { count ≤ length (held self.old) }
-        ensures bytes { Consumes (remaining self.old) (remaining self.new)
-            (take count (held self.old)) }
+        ensures bytes { LosesFirst count (held self.old) (remaining self.old) (remaining self.new) }
         ensures failures { failures self.new ≡ failures self.old };
 }
 

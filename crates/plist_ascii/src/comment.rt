@@ -1,14 +1,10 @@
 //! Comments.
 
-ghost use Rattle.std.specs.Prelude.{◌≡◌, ◌≢◌, ◌+◌, ◌≤◌, ◌==◌, ◌&&◌, drop, Some, None, Ok, Err, IfOk, IfErr, OnOk};
-ghost use Rattle.std.specs.Option.{option_map};
+ghost use Rattle.std.specs.Prelude.{◌≡◌, ◌≢◌, ◌≤◌, ◌==◌, ◌&&◌, Some, None, Ok, Err, IfOk, IfErr, OnOk};
 ghost use Rattle.plist_base.specs.Faults.{Io, OutOfMemory, fault_at, kind_of, error_kind_of};
 ghost use Rattle.plist_base.specs.Outcomes.{OnlyFault};
-ghost use Rattle.plist_base.specs.Events.{event_of};
-ghost use Rattle.plist_ascii.specs.Taken.{run};
 ghost use Rattle.plist_ascii.specs.Comments.{line_comment, block_comment};
-ghost use Rattle.plist_ascii.specs.Incoming.{AnswersIo};
-ghost use Rattle.plist_ascii.specs.Unread.{unread, Known, stops, Answers};
+ghost use Rattle.plist_ascii.specs.inner.Inputs.{CountsFailed, SkipsRun, GivesToken};
 
 use crate::bytes::Bytes;
 use crate::input::{Input, Stop};
@@ -31,13 +27,10 @@ fn is_star(byte: u8) -> bool
 impl<R: Bytes> Input<R> {
     // Takes the bytes up to a stop.
     fn skip_run(&mut self, stop: Stop) -> Result<(), Error>
-        ensures value { OnOk result (Known (unread R.remaining self.old) (λ xs.
-            (unread R.remaining self.new ≡ Some (drop (run (stops stop) xs) xs))
-            × (self.new.taken ≡ self.old.taken + run (stops stop) xs))) }
+        ensures value { OnOk result (SkipsRun R.remaining stop self.old self.new) }
         ensures fault { OnlyFault result (fault_at Io self.new.taken) }
         ensures place { self.old.taken ≤ self.new.taken }
-        ensures failures { AnswersIo result
-            (R.failures self.old.inner) (R.failures self.new.inner) }
+        ensures failures { CountsFailed R.failures self.old result self.new }
     {
         while let Some(_byte) = self.take_unless(stop)? {
             self.skip_at_hand(stop);
@@ -47,13 +40,10 @@ impl<R: Bytes> Input<R> {
 
     /// Takes a comment up to its line's end, whose slashes have been taken.
     pub fn line_comment(&mut self) -> Result<Option<OwnedEvent>, Error>
-        ensures answers { Answers (option_map event_of) line_comment
-            (unread R.remaining self.old) self.old.taken
-            (unread R.remaining self.new) self.new.taken result }
+        ensures answers { GivesToken R.remaining line_comment self.old result self.new }
         ensures memory { IfErr result (λ error. kind_of (error_kind_of error) ≢ OutOfMemory) }
         ensures nothing { IfOk result (λ event. event ≡ None) }
-        ensures failures { AnswersIo result
-            (R.failures self.old.inner) (R.failures self.new.inner) }
+        ensures failures { CountsFailed R.failures self.old result self.new }
     {
         self.skip_run(Stop::LineEnd)?;
         Ok(None)
@@ -61,13 +51,10 @@ impl<R: Bytes> Input<R> {
 
     /// Takes a comment up to and with its `*/`, whose opening has been taken.
     pub fn block_comment(&mut self) -> Result<Option<OwnedEvent>, Error>
-        ensures answers { Answers (option_map event_of) block_comment
-            (unread R.remaining self.old) self.old.taken
-            (unread R.remaining self.new) self.new.taken result }
+        ensures answers { GivesToken R.remaining block_comment self.old result self.new }
         ensures memory { IfErr result (λ error. kind_of (error_kind_of error) ≢ OutOfMemory) }
         ensures nothing { IfOk result (λ event. event ≡ None) }
-        ensures failures { AnswersIo result
-            (R.failures self.old.inner) (R.failures self.new.inner) }
+        ensures failures { CountsFailed R.failures self.old result self.new }
     {
         let mut star = false;
         'bytes: loop {

@@ -1,14 +1,12 @@
 //! Escapes in quoted texts.
 
-ghost use Rattle.std.specs.Prelude.{◌≡◌, ◌+◌, ◌*◌, ◌<◌, ◌≤◌, ◌&&◌, ◌||◌, ◌==◌, [], ◌∷◌, nat_le, nat_lt, None, Some, Ok, Err, true, false, MatchOption, encode_utf8};
-ghost use Rattle.std.specs.Char.{is_digit, digit_value};
+ghost use Rattle.std.specs.Prelude.{◌≡◌, ◌+◌, ◌*◌, ◌<◌, ◌≤◌, ◌&&◌, ◌||◌, ◌==◌, [], ◌∷◌, nat_le, nat_lt, None, Some, Ok, Err, true, false, MatchOption};
+ghost use Rattle.std.specs.Char.{is_digit};
 ghost use Rattle.std.specs.Char.Utf16.{is_high_surrogate, is_low_surrogate};
 ghost use Rattle.plist_base.specs.Faults.{InvalidOctalString, InvalidUtf16String};
-ghost use Rattle.plist_ascii.specs.Taken.{taken};
 ghost use Rattle.plist_ascii.specs.Escapes.{simple_escape, octal, octal_char, octal_text, unit, unit_of, is_surrogate, pair_text, first_unit, second_unit, second_letter, second_digits, unicode, escape, escape_by};
-ghost use Rattle.plist_ascii.specs.Incoming.{AnswersIo};
-ghost use Rattle.plist_ascii.specs.Unread.{unread, Answers};
-ghost use Rattle.plist_ascii.specs.inner.Parts.{piece_bytes};
+ghost use Rattle.plist_ascii.specs.inner.Inputs.{CountsFailed, GivesPiece, GivesUnit};
+ghost use Rattle.plist_ascii.specs.inner.Parts.{IsDigitOf, IsCharOfUnit, IsCharOr};
 
 use crate::bytes::Bytes;
 use crate::input::Input;
@@ -62,8 +60,7 @@ fn simple_of(byte: u8) -> Option<u8>
 // The value of a digit.
 fn digit(byte: u8, radix: u32) -> Option<u32>
     requires radix { (2 ≤ radix) × (radix ≤ 36) }
-    ensures { MatchOption result (is_digit byte radix ≡ false)
-        (λ d. (is_digit byte radix ≡ true) × (d ≡ digit_value byte) × (d < radix)) }
+    ensures { MatchOption result (is_digit byte radix ≡ false) (IsDigitOf byte radix) }
 {
     char::from(byte).to_digit(radix)
 }
@@ -95,9 +92,7 @@ fn octal_char(number: u32) -> Option<char>
 
 // The character of three octal digits.
 fn octal_of(first: u8, second: u8, third: u8) -> Option<char>
-    ensures { MatchOption result
-        (octal_text (first ∷ second ∷ third ∷ []) ≡ Err InvalidOctalString)
-        (λ c. octal_text (first ∷ second ∷ third ∷ []) ≡ Ok (encode_utf8 c)) }
+    ensures { IsCharOr InvalidOctalString (octal_text (first ∷ second ∷ third ∷ [])) result }
 {
     let a = digit(first, 8)?;
     let b = digit(second, 8)?;
@@ -118,8 +113,7 @@ fn unit_of(first: u8, second: u8, third: u8, fourth: u8) -> Option<u16>
 
 // The character of a unit, which no surrogate has.
 fn lone_char(unit: u16) -> Option<char>
-    ensures { MatchOption result (is_surrogate unit ≡ true)
-        (λ c. (is_surrogate unit ≡ false) × (c ≡ unit)) }
+    ensures { MatchOption result (is_surrogate unit ≡ true) (IsCharOfUnit unit) }
 {
     char::from_u32(u32::from(unit))
 }
@@ -140,8 +134,7 @@ fn is_pair(high: u16, low: u16) -> bool
 
 // The character of a surrogate pair.
 fn pair_char(high: u16, low: u16) -> Option<char>
-    ensures { MatchOption result (pair_text high (Some low) ≡ Err InvalidUtf16String)
-        (λ c. pair_text high (Some low) ≡ Ok (encode_utf8 c)) }
+    ensures { IsCharOr InvalidUtf16String (pair_text high (Some low)) result }
 {
     if !is_pair(high, low) {
         return None;
@@ -152,11 +145,8 @@ fn pair_char(high: u16, low: u16) -> Option<char>
 impl<R: Bytes> Input<R> {
     /// Takes an escape, whose backslash has been taken.
     pub fn escape(&mut self) -> Result<Piece, Error>
-        ensures answers { Answers piece_bytes escape
-            (unread R.remaining self.old) self.old.taken
-            (unread R.remaining self.new) self.new.taken result }
-        ensures failures { AnswersIo result
-            (R.failures self.old.inner) (R.failures self.new.inner) }
+        ensures answers { GivesPiece R.remaining escape self.old result self.new }
+        ensures failures { CountsFailed R.failures self.old result self.new }
     {
         let byte = self.must_take()?;
         self.escape_by(byte)
@@ -164,11 +154,8 @@ impl<R: Bytes> Input<R> {
 
     // Takes the rest of an escape, whose first byte has been taken.
     fn escape_by(&mut self, byte: u8) -> Result<Piece, Error>
-        ensures answers { Answers piece_bytes (escape_by byte)
-            (unread R.remaining self.old) self.old.taken
-            (unread R.remaining self.new) self.new.taken result }
-        ensures failures { AnswersIo result
-            (R.failures self.old.inner) (R.failures self.new.inner) }
+        ensures answers { GivesPiece R.remaining (escape_by byte) self.old result self.new }
+        ensures failures { CountsFailed R.failures self.old result self.new }
     {
         if byte == b'U' {
             return self.unicode();
@@ -184,11 +171,8 @@ impl<R: Bytes> Input<R> {
 
     // Takes the second and third byte of an octal escape.
     fn octal(&mut self, first: u8) -> Result<Piece, Error>
-        ensures answers { Answers piece_bytes (octal first)
-            (unread R.remaining self.old) self.old.taken
-            (unread R.remaining self.new) self.new.taken result }
-        ensures failures { AnswersIo result
-            (R.failures self.old.inner) (R.failures self.new.inner) }
+        ensures answers { GivesPiece R.remaining (octal first) self.old result self.new }
+        ensures failures { CountsFailed R.failures self.old result self.new }
     {
         let second = self.must_take()?;
         let third = self.must_take()?;
@@ -200,11 +184,8 @@ impl<R: Bytes> Input<R> {
 
     // Takes the four digits of a unit.
     fn unit(&mut self) -> Result<Option<u16>, Error>
-        ensures answers { Answers (λ u. u) unit
-            (unread R.remaining self.old) self.old.taken
-            (unread R.remaining self.new) self.new.taken result }
-        ensures failures { AnswersIo result
-            (R.failures self.old.inner) (R.failures self.new.inner) }
+        ensures answers { GivesUnit R.remaining unit self.old result self.new }
+        ensures failures { CountsFailed R.failures self.old result self.new }
     {
         let a = self.must_take()?;
         let b = self.must_take()?;
@@ -215,11 +196,8 @@ impl<R: Bytes> Input<R> {
 
     // Takes what follows `\U`.
     fn unicode(&mut self) -> Result<Piece, Error>
-        ensures answers { Answers piece_bytes unicode
-            (unread R.remaining self.old) self.old.taken
-            (unread R.remaining self.new) self.new.taken result }
-        ensures failures { AnswersIo result
-            (R.failures self.old.inner) (R.failures self.new.inner) }
+        ensures answers { GivesPiece R.remaining unicode self.old result self.new }
+        ensures failures { CountsFailed R.failures self.old result self.new }
     {
         let unit = self.unit()?;
         self.first_unit(unit)
@@ -227,11 +205,8 @@ impl<R: Bytes> Input<R> {
 
     // Takes what follows the digits of the first unit.
     fn first_unit(&mut self, unit: Option<u16>) -> Result<Piece, Error>
-        ensures answers { Answers piece_bytes (first_unit unit)
-            (unread R.remaining self.old) self.old.taken
-            (unread R.remaining self.new) self.new.taken result }
-        ensures failures { AnswersIo result
-            (R.failures self.old.inner) (R.failures self.new.inner) }
+        ensures answers { GivesPiece R.remaining (first_unit unit) self.old result self.new }
+        ensures failures { CountsFailed R.failures self.old result self.new }
     {
         let Some(unit) = unit else {
             return Err(self.fault(ErrorKind::InvalidUtf16String));
@@ -244,11 +219,8 @@ impl<R: Bytes> Input<R> {
 
     // Takes the backslash of the second unit, and what follows it.
     fn second_unit(&mut self, high: u16) -> Result<Piece, Error>
-        ensures answers { Answers piece_bytes (second_unit high)
-            (unread R.remaining self.old) self.old.taken
-            (unread R.remaining self.new) self.new.taken result }
-        ensures failures { AnswersIo result
-            (R.failures self.old.inner) (R.failures self.new.inner) }
+        ensures answers { GivesPiece R.remaining (second_unit high) self.old result self.new }
+        ensures failures { CountsFailed R.failures self.old result self.new }
     {
         if self.must_take()? == b'\\' {
             return self.second_letter(high);
@@ -258,11 +230,8 @@ impl<R: Bytes> Input<R> {
 
     // Takes the letter of the second unit if it stands there, and what follows it.
     fn second_letter(&mut self, high: u16) -> Result<Piece, Error>
-        ensures answers { Answers piece_bytes (second_letter high)
-            (unread R.remaining self.old) self.old.taken
-            (unread R.remaining self.new) self.new.taken result }
-        ensures failures { AnswersIo result
-            (R.failures self.old.inner) (R.failures self.new.inner) }
+        ensures answers { GivesPiece R.remaining (second_letter high) self.old result self.new }
+        ensures failures { CountsFailed R.failures self.old result self.new }
     {
         match self.look()? {
             Some(byte) if is_unit_letter(byte) => {
@@ -275,11 +244,8 @@ impl<R: Bytes> Input<R> {
 
     // Takes the digits of the second unit.
     fn second_digits(&mut self, high: u16) -> Result<Piece, Error>
-        ensures answers { Answers piece_bytes (second_digits high)
-            (unread R.remaining self.old) self.old.taken
-            (unread R.remaining self.new) self.new.taken result }
-        ensures failures { AnswersIo result
-            (R.failures self.old.inner) (R.failures self.new.inner) }
+        ensures answers { GivesPiece R.remaining (second_digits high) self.old result self.new }
+        ensures failures { CountsFailed R.failures self.old result self.new }
     {
         let low = self.unit()?;
         match low.and_then(|low| pair_char(high, low)) {

@@ -1,13 +1,13 @@
 //! Bytes that are taken one by one, with one byte looked at ahead, or in one go where they are at
 //! hand.
 
-ghost use Rattle.std.specs.Prelude.{◌≡◌, ◌⊎◌, ℕ, ◌+◌, ◌-◌, ◌^◌, ◌<◌, ◌≤◌, List, [], ◌∷◌, length, take, drop, None, Some, Ok, true, false, IfOk, IfSome, IfErr, OnOk, IsSome, MatchOption};
-ghost use Rattle.plist_base.specs.Faults.{Io, UnclosedString, fault_of, fault_at, kind_of, error_kind_of};
+ghost use Rattle.std.specs.Prelude.{◌≡◌, ◌+◌, ◌-◌, ◌^◌, ◌<◌, ◌≤◌, [], length, take, None, Some, Ok, true, false, IfOk, IfErr, OnOk, IsSome};
+ghost use Rattle.plist_base.specs.Faults.{Io, UnclosedString, fault_of, fault_at, kind_of};
 ghost use Rattle.plist_base.specs.Outcomes.{OnlyFault, OnlyMemory};
 ghost use Rattle.plist_ascii.specs.Taken.{run};
 ghost use Rattle.plist_ascii.specs.Texts.{ends_bare};
-ghost use Rattle.plist_ascii.specs.Incoming.{AnswersIo};
-ghost use Rattle.plist_ascii.specs.Unread.{unread, Known, first, stops, Takes, TakesPart, IsAt, is_from_outside};
+ghost use Rattle.plist_ascii.specs.Unread.{unread, stops};
+ghost use Rattle.plist_ascii.specs.inner.Inputs.{CountsFailed, IfCame, LooksAt, CanTake, TakesNoMore, DropsOne, TakesByte, HasNone, IsStopped, TakesPlain, IsOneOn, CountsByte, IsUnclosed, SkipsSome, AddsSome};
 
 use crate::bytes::Bytes;
 use crate::dialect::Dialect;
@@ -120,15 +120,12 @@ impl<R: Bytes> Input<R> {
         requires going { self.old.ended ≡ false }
         requires room { self.old.taken < 2 ^ 64 - 1 }
         requires none { self.old.peeked ≡ None }
-        ensures next { IfOk result (λ byte. Known (unread R.remaining self.old) (λ xs.
-            (unread R.remaining self.new ≡ Some xs) × (byte ≡ first xs))) }
-        ensures held { IfOk result (λ byte. IfSome byte (λ _.
-            (self.new.peeked ≡ byte) × (self.new.ended ≡ false) × (self.new.taken < 2 ^ 64 - 1))) }
+        ensures next { IfOk result (λ byte. LooksAt R.remaining self.old byte self.new) }
+        ensures held { IfOk result (CanTake self.new) }
         ensures end { IfOk result (λ byte. byte ≡ None → self.new.ended ≡ true) }
         ensures fault { OnlyFault result (fault_at Io self.new.taken) }
         ensures place { self.new.taken ≡ self.old.taken }
-        ensures failures { AnswersIo result
-            (R.failures self.old.inner) (R.failures self.new.inner) }
+        ensures failures { CountsFailed R.failures self.old result self.new }
     {
         match self.inner.next_byte() {
             Ok(Some(byte)) => {
@@ -145,18 +142,13 @@ impl<R: Bytes> Input<R> {
 
     /// The next byte, which isn't taken.
     pub fn look(&mut self) -> Result<Option<u8>, Error>
-        ensures next { IfOk result (λ byte. Known (unread R.remaining self.old) (λ xs.
-            (unread R.remaining self.new ≡ Some xs) × (byte ≡ first xs))) }
-        ensures held { IfOk result (λ byte. IfSome byte (λ _.
-            (self.new.peeked ≡ byte) × (self.new.ended ≡ false) × (self.new.taken < 2 ^ 64 - 1))) }
-        ensures end { IfOk result (λ byte. byte ≡ None →
-            (self.new.ended ≡ true) ⊎ (self.new.taken ≡ 2 ^ 64 - 1)) }
-        ensures unasked { (self.old.ended ≡ true) ⊎ (self.old.taken ≡ 2 ^ 64 - 1)
-            → (result ≡ Ok None) × (self.new ≡ self.old) }
+        ensures next { IfOk result (λ byte. LooksAt R.remaining self.old byte self.new) }
+        ensures held { IfOk result (CanTake self.new) }
+        ensures end { IfOk result (λ byte. byte ≡ None → TakesNoMore self.new) }
+        ensures unasked { TakesNoMore self.old → (result ≡ Ok None) × (self.new ≡ self.old) }
         ensures fault { OnlyFault result (fault_at Io self.new.taken) }
         ensures place { self.new.taken ≡ self.old.taken }
-        ensures failures { AnswersIo result
-            (R.failures self.old.inner) (R.failures self.new.inner) }
+        ensures failures { CountsFailed R.failures self.old result self.new }
     {
         if self.ended {
             return Ok(None);
@@ -175,8 +167,7 @@ impl<R: Bytes> Input<R> {
         requires some { IsSome self.old.peeked }
         requires going { self.old.ended ≡ false }
         requires room { self.old.taken < 2 ^ 64 - 1 }
-        ensures next { Known (unread R.remaining self.old) (λ xs.
-            unread R.remaining self.new ≡ Some (drop 1 xs)) }
+        ensures next { DropsOne R.remaining self.old self.new }
         ensures looked { self.new.peeked ≡ None }
         ensures place { self.new.taken ≡ self.old.taken + 1 }
         ensures inner { self.new.inner ≡ self.old.inner }
@@ -187,17 +178,12 @@ impl<R: Bytes> Input<R> {
 
     /// Takes the next byte, unless it ends the run.
     pub fn take_unless(&mut self, stop: Stop) -> Result<Option<u8>, Error>
-        ensures some { IfOk result (λ o. IfSome o (λ c. Known (unread R.remaining self.old) (λ xs.
-            (ys : List ℕ) × (xs ≡ c ∷ ys) × (unread R.remaining self.new ≡ Some ys)
-            × (stops stop c ≡ false)))) }
-        ensures none { IfOk result (λ o. o ≡ None → Known (unread R.remaining self.old) (λ xs.
-            (unread R.remaining self.new ≡ Some xs) × (run (stops stop) xs ≡ 0))) }
+        ensures some { IfCame result (λ c. TakesPlain R.remaining stop self.old c self.new) }
+        ensures none { IfOk result (λ o. o ≡ None → IsStopped R.remaining stop self.old self.new) }
         ensures fault { OnlyFault result (fault_at Io self.new.taken) }
-        ensures place { IfOk result (λ o. MatchOption o (self.new.taken ≡ self.old.taken)
-            (λ _. (self.new.taken ≡ self.old.taken + 1) × (self.new.taken < 2 ^ 64))) }
+        ensures place { IfOk result (λ o. CountsByte self.old o self.new) }
         ensures unchanged { IfErr result (λ _. self.new.taken ≡ self.old.taken) }
-        ensures failures { AnswersIo result
-            (R.failures self.old.inner) (R.failures self.new.inner) }
+        ensures failures { CountsFailed R.failures self.old result self.new }
     {
         match self.look()? {
             Some(byte) => {
@@ -213,9 +199,7 @@ impl<R: Bytes> Input<R> {
 
     /// Takes bytes that are at hand, up to a stop.
     pub fn skip_at_hand(&mut self, stop: Stop)
-        ensures bytes { Known (unread R.remaining self.old) (λ xs. (part : List ℕ)
-            × TakesPart (stops stop) self.old.taken []
-            (unread R.remaining self.new) self.new.taken part xs) }
+        ensures bytes { SkipsSome R.remaining stop self.old self.new }
         ensures place { self.old.taken ≤ self.new.taken }
         ensures failures { R.failures self.new.inner ≡ R.failures self.old.inner }
     {
@@ -232,9 +216,7 @@ impl<R: Bytes> Input<R> {
 
     /// Takes bytes that are at hand, up to a stop, and appends them.
     pub fn take_at_hand(&mut self, stop: Stop, text: &mut Vec<u8>) -> Result<(), Error>
-        ensures value { OnOk result (Known (unread R.remaining self.old)
-            (TakesPart (stops stop) self.old.taken text.old.items
-            (unread R.remaining self.new) self.new.taken text.new.items)) }
+        ensures value { OnOk result (AddsSome R.remaining stop self.old text.old self.new text.new) }
         ensures fault { OnlyMemory result }
         ensures place { self.old.taken ≤ self.new.taken }
         ensures failures { R.failures self.new.inner ≡ R.failures self.old.inner }
@@ -255,17 +237,13 @@ impl<R: Bytes> Input<R> {
 
     /// Takes the next byte.
     pub fn take(&mut self) -> Result<Option<u8>, Error>
-        ensures some { IfOk result (λ o. IfSome o (λ c.
-            Takes (unread R.remaining self.old) c (unread R.remaining self.new))) }
-        ensures looked { IfOk result (λ o. IfSome o (λ _. self.new.peeked ≡ None)) }
-        ensures none { IfOk result (λ o. o ≡ None → Known (unread R.remaining self.old) (λ xs.
-            (unread R.remaining self.new ≡ Some xs) × (xs ≡ []))) }
+        ensures some { IfCame result (λ c. TakesByte R.remaining self.old c self.new) }
+        ensures looked { IfCame result (λ _. self.new.peeked ≡ None) }
+        ensures none { IfOk result (λ o. o ≡ None → HasNone R.remaining self.old self.new) }
         ensures fault { OnlyFault result (fault_at Io self.new.taken) }
-        ensures place { IfOk result (λ o. MatchOption o (self.new.taken ≡ self.old.taken)
-            (λ _. (self.new.taken ≡ self.old.taken + 1) × (self.new.taken < 2 ^ 64))) }
+        ensures place { IfOk result (λ o. CountsByte self.old o self.new) }
         ensures unchanged { IfErr result (λ _. self.new.taken ≡ self.old.taken) }
-        ensures failures { AnswersIo result
-            (R.failures self.old.inner) (R.failures self.new.inner) }
+        ensures failures { CountsFailed R.failures self.old result self.new }
     {
         match self.look()? {
             Some(byte) => {
@@ -278,18 +256,11 @@ impl<R: Bytes> Input<R> {
 
     /// Takes the next byte of a quoted text, which must be there.
     pub fn must_take(&mut self) -> Result<u8, Error>
-        ensures value { IfOk result (λ c.
-            Takes (unread R.remaining self.old) c (unread R.remaining self.new)) }
-        ensures place { OnOk result ((self.new.taken ≡ self.old.taken + 1)
-            × (self.new.taken < 2 ^ 64)) }
+        ensures value { IfOk result (λ c. TakesByte R.remaining self.old c self.new) }
+        ensures place { OnOk result (IsOneOn self.old self.new) }
         ensures unchanged { IfErr result (λ _. self.new.taken ≡ self.old.taken) }
-        ensures fault { IfErr result (λ error. IsAt (fault_of error) self.new.taken
-            × (is_from_outside (kind_of (error_kind_of error)) ≡ false →
-            (fault_of error ≡ fault_at UnclosedString self.new.taken)
-            × Known (unread R.remaining self.old) (λ xs.
-            (unread R.remaining self.new ≡ Some xs) × (xs ≡ [])))) }
-        ensures failures { AnswersIo result
-            (R.failures self.old.inner) (R.failures self.new.inner) }
+        ensures fault { IfErr result (IsUnclosed R.remaining self.old self.new) }
+        ensures failures { CountsFailed R.failures self.old result self.new }
     {
         match self.take()? {
             Some(byte) => Ok(byte),

@@ -1,14 +1,12 @@
 //! Quoted texts.
 
-ghost use Rattle.std.specs.Prelude.{◌≡◌, ℕ, List, ◌+◌, ◌^◌, ◌<◌, ◌≤◌, ◌++◌, drop, Some, Ok, Err, true, false, IfOk, IfErr, OnOk, vec_items};
-ghost use Rattle.plist_base.specs.Faults.{fault_of, kind_of, error_kind_of};
+ghost use Rattle.std.specs.Prelude.{◌≡◌, ◌+◌, ◌<◌, ◌++◌, Some, Ok, Err, true, false, IfOk, IfErr, OnOk};
 ghost use Rattle.plist_base.specs.Outcomes.{OnlyMemory};
 ghost use Rattle.plist_base.specs.Events.{event_of};
 ghost use Rattle.plist_ascii.specs.Quoted.{quoted, quoted_token};
-ghost use Rattle.plist_ascii.specs.inner.Parts.{piece_bytes, Parts, PartFails, Ends, EndFails};
+ghost use Rattle.plist_ascii.specs.inner.Parts.{piece_bytes, PartFails, EndFails};
 ghost use Rattle.plist_ascii.specs.Kinds.{IsTextEvent};
-ghost use Rattle.plist_ascii.specs.Incoming.{AnswersIo};
-ghost use Rattle.plist_ascii.specs.Unread.{unread, Known, IsAt, is_from_outside, Answers};
+ghost use Rattle.plist_ascii.specs.inner.Inputs.{CountsFailed, IsFurther, TakesEnd, Quotes, FailsBehind, GivesOne, GivesText};
 
 use crate::bytes::Bytes;
 use crate::escape::Piece;
@@ -36,20 +34,10 @@ fn push_piece(text: &mut Vec<u8>, piece: Piece) -> Result<(), Error>
 impl<R: Bytes> Input<R> {
     // Takes what stands behind a run of plain bytes: the closing quote, or an escape.
     fn run_end(&mut self, quote: u8) -> Result<Option<Piece>, Error>
-        ensures value { IfOk result (λ piece. Known (unread R.remaining self.old) (λ xs. (n : ℕ)
-            × Ends quote xs piece n × (unread R.remaining self.new ≡ Some (drop n xs))
-            × (self.new.taken ≡ self.old.taken + n))) }
-        ensures rises { OnOk result ((self.old.taken < self.new.taken)
-            × (self.old.taken < 2 ^ 64)) }
-        ensures fault { IfErr result (λ error. IsAt (fault_of error) self.new.taken
-            × (self.old.taken ≤ self.new.taken)
-            × (is_from_outside (kind_of (error_kind_of error)) ≡ false →
-            Known (unread R.remaining self.old) (λ xs. (n : ℕ)
-            × EndFails quote xs (kind_of (error_kind_of error)) n
-            × (unread R.remaining self.new ≡ Some (drop n xs))
-            × (self.new.taken ≡ self.old.taken + n)))) }
-        ensures failures { AnswersIo result
-            (R.failures self.old.inner) (R.failures self.new.inner) }
+        ensures value { IfOk result (TakesEnd R.remaining quote self.old self.new) }
+        ensures rises { OnOk result (IsFurther self.old self.new) }
+        ensures fault { IfErr result (FailsBehind R.remaining (EndFails quote) self.old self.new) }
+        ensures failures { CountsFailed R.failures self.old result self.new }
     {
         if self.must_take()? == quote {
             return Ok(None);
@@ -60,22 +48,10 @@ impl<R: Bytes> Input<R> {
 
     // Takes a run of plain bytes and what stands behind it. Says whether the text is closed.
     fn part(&mut self, quote: u8, text: &mut Vec<u8>) -> Result<bool, Error>
-        ensures value { IfOk result (λ closed. Known (unread R.remaining self.old) (λ xs. (n : ℕ)
-            × (part : List ℕ) × Parts quote xs closed n part
-            × (text.new.items ≡ text.old.items ++ part)
-            × (unread R.remaining self.new ≡ Some (drop n xs))
-            × (self.new.taken ≡ self.old.taken + n))) }
-        ensures rises { OnOk result ((self.old.taken < self.new.taken)
-            × (self.old.taken < 2 ^ 64)) }
-        ensures fault { IfErr result (λ error. IsAt (fault_of error) self.new.taken
-            × (self.old.taken ≤ self.new.taken)
-            × (is_from_outside (kind_of (error_kind_of error)) ≡ false →
-            Known (unread R.remaining self.old) (λ xs. (n : ℕ)
-            × PartFails quote xs (kind_of (error_kind_of error)) n
-            × (unread R.remaining self.new ≡ Some (drop n xs))
-            × (self.new.taken ≡ self.old.taken + n)))) }
-        ensures failures { AnswersIo result
-            (R.failures self.old.inner) (R.failures self.new.inner) }
+        ensures value { IfOk result (Quotes R.remaining quote self.old text.old self.new text.new) }
+        ensures rises { OnOk result (IsFurther self.old self.new) }
+        ensures fault { IfErr result (FailsBehind R.remaining (PartFails quote) self.old self.new) }
+        ensures failures { CountsFailed R.failures self.old result self.new }
     {
         self.take_run(Stop::Quoted(quote), text)?;
         match self.run_end(quote)? {
@@ -89,11 +65,8 @@ impl<R: Bytes> Input<R> {
 
     // Takes the bytes of a text up to and with its closing quote.
     fn quoted(&mut self, alloc: Global, quote: u8) -> Result<Vec<u8>, Error>
-        ensures answers { Answers vec_items (quoted quote)
-            (unread R.remaining self.old) self.old.taken
-            (unread R.remaining self.new) self.new.taken result }
-        ensures failures { AnswersIo result
-            (R.failures self.old.inner) (R.failures self.new.inner) }
+        ensures answers { GivesText R.remaining (quoted quote) self.old result self.new }
+        ensures failures { CountsFailed R.failures self.old result self.new }
     {
         let mut text = Vec::new(alloc);
         'parts: loop {
@@ -105,12 +78,9 @@ impl<R: Bytes> Input<R> {
 
     /// Takes a quoted text, whose opening quote has been taken.
     pub fn quoted_text(&mut self, alloc: Global, quote: u8) -> Result<OwnedEvent, Error>
-        ensures answers { Answers (λ e. Some (event_of e)) (quoted_token quote)
-            (unread R.remaining self.old) self.old.taken
-            (unread R.remaining self.new) self.new.taken result }
+        ensures answers { GivesOne R.remaining (quoted_token quote) self.old result self.new }
         ensures kinds { IfOk result (λ event. IsTextEvent (event_of event)) }
-        ensures failures { AnswersIo result
-            (R.failures self.old.inner) (R.failures self.new.inner) }
+        ensures failures { CountsFailed R.failures self.old result self.new }
     {
         let text = self.quoted(alloc, quote)?;
         match quoted_event(text) {

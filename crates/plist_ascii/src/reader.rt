@@ -1,11 +1,11 @@
 //! The reader of ASCII property lists.
 
-ghost use Rattle.std.specs.Prelude.{◌≡◌, ℕ, ◌-◌, ◌^◌, ◌<◌, List, take, None, Some, true, IfSome};
+ghost use Rattle.std.specs.Prelude.{◌≡◌, ◌-◌, ◌<◌, take, None, Some, true, IfSome};
 ghost use Rattle.plist_base.specs.Faults.{kind_of, error_kind_of};
 ghost use Rattle.plist_ascii.specs.Kinds.{IsAsciiItem, ItemBehindBracket};
-ghost use Rattle.plist_ascii.specs.Incoming.{ItemCountsIo};
-ghost use Rattle.plist_ascii.specs.Unread.{unread, Known, stops, is_from_outside};
-ghost use Rattle.plist_ascii.specs.AsciiReader.{GivesItem, Rises, FaultIsAt, EndsAfter, bytes_to_come};
+ghost use Rattle.plist_ascii.specs.Unread.{is_from_outside};
+ghost use Rattle.plist_ascii.specs.AsciiReader.{Rises, FaultIsAt, EndsAfter, readable, HoldsLeft};
+ghost use Rattle.plist_ascii.specs.inner.Inputs.{ItemCountsFailed, GivesFirst, to_come_of};
 
 use crate::bytes::Bytes;
 use crate::dialect::Dialect;
@@ -23,9 +23,7 @@ fn is_from_outside(error: &Error) -> bool
 impl<R: Bytes> Input<R> {
     // Takes tokens up to the first that gives an item.
     fn item(&mut self, alloc: Global, stop: Stop) -> Option<Result<OwnedEvent, Error>>
-        ensures items { Known (unread R.remaining self.old) (λ xs. (ys : List ℕ)
-            × (unread R.remaining self.new ≡ Some ys)
-            × GivesItem (stops stop) xs self.old.taken result ys self.new.taken) }
+        ensures items { GivesFirst R.remaining stop self.old result self.new }
         ensures rises { Rises result self.old.taken self.new.taken }
         ensures offset { FaultIsAt result self.new.taken }
         ensures kinds { IsAsciiItem result }
@@ -33,10 +31,8 @@ impl<R: Bytes> Input<R> {
         ensures ended { self.old.ended ≡ true → result ≡ None }
         ensures unasked { self.old.ended ≡ true → self.new.inner ≡ self.old.inner }
         ensures ends { EndsAfter result (self.new.ended ≡ true) }
-        ensures falls { IfSome result (λ _. bytes_to_come self.new.ended self.new.taken
-            < bytes_to_come self.old.ended self.old.taken) }
-        ensures failures { ItemCountsIo result
-            (R.failures self.old.inner) (R.failures self.new.inner) }
+        ensures falls { IfSome result (λ _. to_come_of self.new < to_come_of self.old) }
+        ensures failures { ItemCountsFailed R.failures self.old result self.new }
     {
         if self.has_ended() {
             return None;
@@ -91,16 +87,13 @@ pub struct AsciiReader<R> {
 }
 
 impl<R: Bytes> AsciiReader<R> {
-    ghost use Rattle.std.specs.Prelude.{◌≡◌, ◌-◌, ◌^◌, take, None, IfSome, Some};
-    ghost use Rattle.std.specs.Option.{option_map};
-    ghost use Rattle.plist_ascii.specs.Unread.{within};
+    ghost use Rattle.std.specs.Prelude.{◌≡◌, ◌-◌, take, None, IfSome, Some};
     ghost use Rattle.plist_ascii.specs.Ascii.{OnlyBareTextsDiffer};
     ghost use Rattle.plist_ascii.specs.AsciiReader.{bytes_left, dialect_of, inner_of, looked_at, place_of, HasEnded};
 
     /// A lax reader over a device's bytes. It reads nothing before its first item is asked for.
     pub fn new(alloc: Global, inner: R) -> Self
-        ensures bytes { bytes_left R.remaining result
-            ≡ option_map (λ bytes. take (2 ^ 64 - 1) bytes) (R.remaining inner) }
+        ensures bytes { bytes_left R.remaining result ≡ readable (R.remaining inner) }
         ensures place { place_of result ≡ 0 }
         ensures inner { inner_of result ≡ inner }
         ensures looked_at { looked_at result ≡ None }
@@ -114,8 +107,7 @@ impl<R: Bytes> AsciiReader<R> {
     ///
     /// In the tight dialect `{a=b}` gives a dictionary's start, `a`, `b` and an end.
     pub fn with_dialect(alloc: Global, inner: R, dialect: Dialect) -> Self
-        ensures bytes { bytes_left R.remaining result
-            ≡ option_map (λ bytes. take (2 ^ 64 - 1) bytes) (R.remaining inner) }
+        ensures bytes { bytes_left R.remaining result ≡ readable (R.remaining inner) }
         ensures place { place_of result ≡ 0 }
         ensures inner { inner_of result ≡ inner }
         ensures looked_at { looked_at result ≡ None }
@@ -134,8 +126,7 @@ impl<R: Bytes> AsciiReader<R> {
     /// That byte is lost. Behind a bracket or a quoted text none is.
     pub fn into_inner(self) -> R
         ensures inner { result ≡ inner_of self }
-        ensures bytes { (HasEnded self → ⊥) → IfSome (R.remaining result) (λ bytes.
-            bytes_left R.remaining self ≡ Some (within (looked_at self) (place_of self) bytes)) }
+        ensures bytes { (HasEnded self → ⊥) → HoldsLeft self R.remaining result }
     {
         self.input.into_inner()
     }

@@ -1,14 +1,12 @@
 //! Tokens.
 
-ghost use Rattle.std.specs.Prelude.{◌≡◌, None, Some, IfOk, IfSome, IfErr};
-ghost use Rattle.std.specs.Option.{option_map};
-ghost use Rattle.plist_base.specs.Faults.{OutOfMemory, kind_of, error_kind_of};
+ghost use Rattle.std.specs.Prelude.{◌≡◌, None, Some, IfErr};
 ghost use Rattle.plist_base.specs.Events.{event_of};
 ghost use Rattle.plist_ascii.specs.Comments.{slash};
-ghost use Rattle.plist_ascii.specs.Ascii.{lead_of, token_by, WantsMemory};
-ghost use Rattle.plist_ascii.specs.Kinds.{IsTextEvent, IsAsciiEvent, BehindBracket};
-ghost use Rattle.plist_ascii.specs.Incoming.{AnswersIo};
-ghost use Rattle.plist_ascii.specs.Unread.{unread, Known, stops, Answers};
+ghost use Rattle.plist_ascii.specs.Ascii.{lead_of, token_by};
+ghost use Rattle.plist_ascii.specs.Kinds.{IsTextEvent, IsAsciiEvent};
+ghost use Rattle.plist_ascii.specs.Unread.{stops};
+ghost use Rattle.plist_ascii.specs.inner.Inputs.{CountsFailed, IfCame, token_until, GivesToken, WantsForText, StopsAtBracket};
 
 use crate::bytes::Bytes;
 use crate::input::{Input, Stop};
@@ -52,14 +50,10 @@ fn lead_of(byte: u8) -> Lead
 impl<R: Bytes> Input<R> {
     // Takes what a slash begins.
     fn slash(&mut self, alloc: Global, stop: Stop) -> Result<Option<OwnedEvent>, Error>
-        ensures answers { Answers (option_map event_of) (slash (stops stop))
-            (unread R.remaining self.old) self.old.taken
-            (unread R.remaining self.new) self.new.taken result }
-        ensures memory { IfErr result (λ error. kind_of (error_kind_of error) ≡ OutOfMemory →
-            Known (unread R.remaining self.old) (λ xs. WantsMemory (slash (stops stop) xs).gives)) }
-        ensures kinds { IfOk result (λ event. IfSome event (λ e. IsTextEvent (event_of e))) }
-        ensures failures { AnswersIo result
-            (R.failures self.old.inner) (R.failures self.new.inner) }
+        ensures answers { GivesToken R.remaining (slash (stops stop)) self.old result self.new }
+        ensures memory { IfErr result (WantsForText R.remaining (slash (stops stop)) self.old) }
+        ensures kinds { IfCame result (λ e. IsTextEvent (event_of e)) }
+        ensures failures { CountsFailed R.failures self.old result self.new }
     {
         match self.look()? {
             Some(b'/') => {
@@ -85,17 +79,11 @@ impl<R: Bytes> Input<R> {
         stop: Stop,
         byte: u8,
     ) -> Result<Option<OwnedEvent>, Error>
-        ensures answers { Answers (option_map event_of) (token_by (stops stop) (lead_of byte) byte)
-            (unread R.remaining self.old) self.old.taken
-            (unread R.remaining self.new) self.new.taken result }
-        ensures memory { IfErr result (λ error. kind_of (error_kind_of error) ≡ OutOfMemory →
-            Known (unread R.remaining self.old) (λ xs.
-            WantsMemory (token_by (stops stop) (lead_of byte) byte xs).gives)) }
-        ensures kinds { IfOk result (λ event. IfSome event (λ e. IsAsciiEvent (event_of e))) }
-        ensures brackets { self.old.peeked ≡ None → IfOk result (λ event. IfSome event (λ e.
-            BehindBracket (event_of e) (self.new.peeked ≡ None))) }
-        ensures failures { AnswersIo result
-            (R.failures self.old.inner) (R.failures self.new.inner) }
+        ensures answers { GivesToken R.remaining (token_until stop byte) self.old result self.new }
+        ensures memory { IfErr result (WantsForText R.remaining (token_until stop byte) self.old) }
+        ensures kinds { IfCame result (λ e. IsAsciiEvent (event_of e)) }
+        ensures brackets { self.old.peeked ≡ None → IfCame result (StopsAtBracket self.new) }
+        ensures failures { CountsFailed R.failures self.old result self.new }
     {
         match lead_of(byte) {
             Lead::ArrayStart => Ok(Some(Event::StartArray(None))),

@@ -23,6 +23,16 @@ level_behind (StartDictionary length) level = level + 1
 level_behind EndCollection level = level - 1
 level_behind event level = level
 
+-- so many collections are open behind an event that isn't one collection too many
+abbrev pub IsLevelBehind : (depth level : ℕ) → PlainEvent → (behind : ℕ) → Type 0
+IsLevelBehind depth level event behind =
+    (behind ≡ level_behind event level) × ((opens event && nat_le depth level) ≡ false)
+
+-- the event is one collection too many, which is the limit that it reaches
+abbrev pub IsTooDeep : (depth level : ℕ) → PlainEvent → Limit → Type 0
+IsTooDeep depth level event reached =
+    (reached ≡ limit.Depth) × ((opens event && nat_le depth level) ≡ true)
+
 -- why an event can't come where so many have come and so many collections are open: it is one too
 -- many, or else it would open one collection too many
 abbrev pub limit_at : Limits → (came level : ℕ) → PlainEvent → Option Limit
@@ -64,6 +74,10 @@ abbrev pub Refuses : Limiter → PlainEvent → Fault → Type 0
 Refuses limiter event fault =
     (limit : Limit) × (fault ≡ fault_nowhere (LimitReached limit))
     × ((items : List Item) → under limiter (Ok event ∷ items) ≡ Err fault ∷ [])
+
+-- the same of the limit alone
+abbrev pub RefusesBy : Limiter → PlainEvent → Limit → Type 0
+RefusesBy limiter event limit = Refuses limiter event (fault_nowhere (LimitReached limit))
 
 -- may one more event come?
 abbrev pub has_room : Limiter → Bool

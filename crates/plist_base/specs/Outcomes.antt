@@ -1,5 +1,6 @@
--- Words for what a call answers: which faults alone it refuses with.
-use Rattle.std.specs.Prelude.{◌≡◌, Result, IfErr}
+-- Words for what a call answers: which faults alone it refuses with, and what it makes of known
+-- bytes.
+use Rattle.std.specs.Prelude.{◌≡◌, ℕ, List, Option, Result, IfOk, IfErr, IfSome}
 use Rattle.plist_base.specs.declared.error.Error.{Error}
 use Rattle.plist_base.specs.Faults.{Fault, Io, OutOfMemory, fault_nowhere, fault_of}
 
@@ -14,3 +15,17 @@ OnlyMemory answer = OnlyFault answer (fault_nowhere OutOfMemory)
 -- the only refusal is a device's, without a place
 abbrev pub OnlyDevice : {A : Type 0} → Result A Error → Type 0
 OnlyDevice answer = OnlyFault answer (fault_nowhere Io)
+
+-- where the bytes are known, this is so of them and of what was answered
+abbrev pub IfRead : {A E : Type 0} → Result A E → (known : Option (List ℕ)) → (List ℕ → A → Type 0)
+    → Type 0
+IfRead answer known P = IfOk answer (λ value. IfSome known (λ bytes. P bytes value))
+
+-- where the bytes are known, they mean what was answered
+abbrev pub DecodesBy : {A E : Type 0} → Result A E → (known : Option (List ℕ)) → (List ℕ → A) → Type 0
+DecodesBy answer known meaning = IfRead answer known (λ bytes value. value ≡ meaning bytes)
+
+-- where the bytes are known, this is so of them and of the fault
+abbrev pub IfRefused : {A : Type 0} → Result A Error → (known : Option (List ℕ))
+    → (List ℕ → Fault → Type 0) → Type 0
+IfRefused answer known P = IfErr answer (λ error. IfSome known (λ bytes. P bytes (fault_of error)))

@@ -1,7 +1,7 @@
 -- What a call of a source leaves and gives, and what a reader makes of its failures.
 use Rattle.std.specs.Prelude.{◌≡◌, ℕ, ◌+◌, ◌-◌, ◌^◌, ◌<◌, ◌≤◌, ◌⊎◌, List, length, take, drop, Option, None, Some, IfSome, MatchResult, MatchOption, Result, ⊤}
 use Rattle.plist_base.specs.declared.error.Error.{Error}
-use Rattle.plist_base.specs.Faults.{FaultKind, Fault, UnexpectedEof, Io, MatchFault, kind_of, error_kind_of}
+use Rattle.plist_base.specs.Faults.{FaultKind, Fault, UnexpectedEof, Io, IsIo, MatchFault, kind_of, error_kind_of}
 
 -- the count of failures rose by one, or stands at its top
 abbrev pub Rises : ℕ → ℕ → Type 0
@@ -56,3 +56,7 @@ pub record FailsReading (place size : ℕ) (fault : Fault) : Type 0 where
 abbrev pub EndsTooEarly : List ℕ → Fault → Type 0
 EndsTooEarly bytes fault =
     fault.kind ≡ UnexpectedEof → IfSome fault.offset (λ place. length bytes ≤ place)
+
+-- where all of them are there, a read of `size` bytes from a place on fails by the device alone
+abbrev pub IsIoWithin : (place size : ℕ) → List ℕ → Fault → Type 0
+IsIoWithin place size bytes fault = place + size ≤ length bytes → IsIo fault.kind

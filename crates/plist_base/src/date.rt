@@ -1,8 +1,8 @@
 //! Dates.
 
-ghost use Rattle.std.specs.Prelude.{◌≡◌, ℕ, ◌^◌, ◌<◌, ◌≤◌, ◌↔◌, not, ◌==◌, true, false, pos, ℤ, ◌*ℤ◌, ◌-ℤ◌, Some, None, IsSome, IfSome, IsErr, IfOk, IfErr, List, MatchOption};
-ghost use Rattle.plist_base.specs.Date.{IsDate, IsSecondOf, IsSecondOfDate, IsWhole, date_bytes, date_of_bytes, has_fraction, if_second_of_date, is_no_number, is_second_of_date, parts_in_second, parts_left, plist_epoch, real_bits, real_exponent, real_mantissa, real_parts, real_scale, rounded_down, second_of_bits, second_of_bytes, whole_seconds};
-ghost use Rattle.plist_base.specs.inner.DateBits.{second_bits, whole_bits};
+ghost use Rattle.std.specs.Prelude.{◌≡◌, ℕ, ◌^◌, ◌<◌, ◌≤◌, ◌↔◌, not, ◌==◌, false, pos, ℤ, ◌*ℤ◌, ◌-ℤ◌, Some, None, IsSome, IfSome, IsErr, IfOk, IfErr, List, MatchOption};
+ghost use Rattle.plist_base.specs.Date.{IsDate, IsSecondOf, IsSecondOfDate, IsWhole, date_bytes, date_of_bytes, has_fraction, if_second_of_date, is_second_of_date, parts_in_second, parts_left, plist_epoch, real_bits, real_exponent, real_mantissa, real_parts, real_scale, rounded_down, second_of_bits, second_of_bytes, whole_seconds, HasNoSecond, IsExactly, IsOnlyAt, IsWholeAt};
+ghost use Rattle.plist_base.specs.inner.DateBits.{whole_bits, AreBitsAt};
 
 use crate::ErrorKind;
 use std::marker::Model;
@@ -47,8 +47,7 @@ impl Date {
         ensures bytes { IfOk result (λ date. date ≡ date_bytes bytes) }
         ensures refused { IsErr result ↔ (date_of_bytes bytes ≡ None) }
         ensures error { IfErr result (λ kind. kind ≡ ErrorKind.OverflowOrNanDate) }
-        ensures no_second { IfErr result (λ _. is_no_number (real_bits bytes) ≡ false →
-            (second : ℤ) → IsSecondOf second (real_bits bytes) → IsSecondOfDate second → ⊥) }
+        ensures no_second { IfErr result (λ _. HasNoSecond bytes) }
     {
         let bits = u64::from_be_bytes(bytes);
         if second_of_bits(bits).is_none() {
@@ -75,11 +74,9 @@ impl Date {
         ensures in_range { IsSome result ↔ IsSecondOfDate second }
         ensures second { IfSome result (λ date. second_of_bytes date ≡ Some second) }
         ensures whole { IfSome result (λ date. IsWhole date) }
-        ensures exact { IfSome result (λ date.
-            real_parts (real_bits date) ≡ (second *ℤ pos parts_in_second)) }
+        ensures exact { IfSome result (IsExactly second) }
         ensures date { IfSome result (λ date. IsDate date) }
-        ensures only { IfSome result (λ date. (other : List ℕ) → IsDate other → IsWhole other →
-            second_of_bytes other ≡ Some second → other ≡ date) }
+        ensures only { IfSome result (IsOnlyAt second) }
     {
         match bits_of_second(second) {
             None => None,
@@ -93,14 +90,11 @@ impl Date {
     /// dates.
     pub fn from_unix_secs(second: i64) -> Option<Date>
         ensures in_range { IsSome result ↔ IsSecondOfDate (second -ℤ plist_epoch) }
-        ensures second { IfSome result (λ date.
-            second_of_bytes date ≡ Some (second -ℤ plist_epoch)) }
+        ensures second { IfSome result (λ d. second_of_bytes d ≡ Some (second -ℤ plist_epoch)) }
         ensures whole { IfSome result (λ date. IsWhole date) }
-        ensures exact { IfSome result (λ date.
-            real_parts (real_bits date) ≡ ((second -ℤ plist_epoch) *ℤ pos parts_in_second)) }
+        ensures exact { IfSome result (IsExactly (second -ℤ plist_epoch)) }
         ensures date { IfSome result (λ date. IsDate date) }
-        ensures only { IfSome result (λ date. (other : List ℕ) → IsDate other → IsWhole other →
-            second_of_bytes other ≡ Some (second -ℤ plist_epoch) → other ≡ date) }
+        ensures only { IfSome result (IsOnlyAt (second -ℤ plist_epoch)) }
     {
         match second.checked_sub(PLIST_EPOCH) {
             None => None,
@@ -269,10 +263,8 @@ fn bits_of_whole(number: u64) -> u64
 }
 
 fn bits_of_second(second: i64) -> Option<u64>
-    ensures is { MatchOption result (is_second_of_date second ≡ false) (λ bits.
-        (is_second_of_date second ≡ true) × (bits ≡ second_bits second)) }
-    ensures back { IfSome result (λ bits.
-        (second_of_bits bits ≡ Some second) × (has_fraction bits ≡ false)) }
+    ensures is { MatchOption result (is_second_of_date second ≡ false) (AreBitsAt second) }
+    ensures back { IfSome result (IsWholeAt second) }
     ensures exact { IfSome result (λ bits. real_parts bits ≡ (second *ℤ pos parts_in_second)) }
 {
     match in_range(second) {

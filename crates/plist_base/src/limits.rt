@@ -1,9 +1,9 @@
 //! How much of a property list is read.
 
-ghost use Rattle.std.specs.Prelude.{◌≡◌, ◌&&◌, nat_le, true, false, IfOk, IfErr, OnOk};
+ghost use Rattle.std.specs.Prelude.{◌≡◌, IfOk, IfErr, OnOk};
 ghost use Rattle.plist_base.specs.Events.{event_of};
-ghost use Rattle.plist_base.specs.Faults.{LimitReached, fault_nowhere, fault_of, limit_name};
-ghost use Rattle.plist_base.specs.Limits.{Admits, Refuses, level_behind, limited_items, opens, under};
+ghost use Rattle.plist_base.specs.Faults.{LimitReached, fault_of, limit_name};
+ghost use Rattle.plist_base.specs.Limits.{Admits, Refuses, level_behind, limited_items, under, IsLevelBehind, IsTooDeep, RefusesBy};
 
 use crate::{Error, ErrorKind, Event};
 
@@ -39,10 +39,8 @@ impl Limit {
 
 // How many collections are open behind an event, where so many were open before it.
 fn level_behind(depth: u64, level: u64, event: &Event<'_>) -> Result<u64, Limit>
-    ensures value { IfOk result (λ behind. (behind ≡ level_behind (event_of event.now) level)
-        × ((opens (event_of event.now) && nat_le depth level) ≡ false)) }
-    ensures refused { IfErr result (λ limit. (limit ≡ Limit.Depth)
-        × ((opens (event_of event.now) && nat_le depth level) ≡ true)) }
+    ensures value { IfOk result (IsLevelBehind depth level (event_of event.now)) }
+    ensures refused { IfErr result (IsTooDeep depth level (event_of event.now)) }
 {
     match event {
         Event::StartArray(_) | Event::StartDictionary(_) => {
@@ -81,8 +79,7 @@ impl Limiter {
     // Why an event can't come, if it can't: one that is too many is told first.
     fn count(&mut self, event: &Event<'_>) -> Result<(), Limit>
         ensures admitted { OnOk result (Admits self.old (event_of event.now) self.new) }
-        ensures refused { IfErr result (λ limit.
-            Refuses self.old (event_of event.now) (fault_nowhere (LimitReached limit))) }
+        ensures refused { IfErr result (RefusesBy self.old (event_of event.now)) }
     {
         if self.came >= self.limits.items {
             return Err(Limit::Items);
@@ -98,8 +95,7 @@ impl Limiter {
     /// `LimitReached`, without an offset.
     pub fn admit(&mut self, event: &Event<'_>) -> Result<(), Error>
         ensures admitted { OnOk result (Admits self.old (event_of event.now) self.new) }
-        ensures refused { IfErr result (λ error.
-            Refuses self.old (event_of event.now) (fault_of error)) }
+        ensures refused { IfErr result (λ e. Refuses self.old (event_of event.now) (fault_of e)) }
     {
         match self.count(event) {
             Ok(()) => Ok(()),

@@ -1,8 +1,9 @@
 //! Where a reader takes its bytes from.
 
-ghost use Rattle.std.specs.Prelude.{◌≡◌, ℕ, ◌+◌, ◌-◌, ◌^◌, ◌<◌, ◌≤◌, List, length, take, drop, None, Some, Option, IfOk, IfErr, IfSome, OnOk};
-ghost use Rattle.plist_base.specs.Faults.{IsIo, kind_of, error_kind_of, fault_of};
-ghost use Rattle.plist_base.specs.Sources.{CountsFailure, GivesAt, LiesAt, AnswersIo, FailsReading, EndsTooEarly};
+ghost use Rattle.std.specs.Prelude.{◌≡◌, ℕ, ◌+◌, ◌-◌, ◌^◌, ◌<◌, ◌≤◌, List, length, drop, None, Some, Option, IfOk, IfErr, IfSome, OnOk};
+ghost use Rattle.plist_base.specs.Faults.{fault_of};
+ghost use Rattle.plist_base.specs.Sources.{CountsFailure, GivesAt, LiesAt, AnswersIo, FailsReading, EndsTooEarly, IsIoWithin};
+ghost use Rattle.plist_base.specs.Outcomes.{IfRead, DecodesBy, IfRefused};
 
 use crate::{Error, ErrorKind};
 use std::io;
@@ -18,8 +19,7 @@ pub trait Source: Drop {
 
     /// The number of bytes.
     fn size(&mut self) -> Result<u64, io::Error>
-        ensures length { IfOk result (λ size. IfSome (known self.old) (λ bytes.
-            size ≡ length bytes)) }
+        ensures length { DecodesBy result (known self.old) length }
         ensures unchanged { known self.new ≡ known self.old }
         ensures failures { CountsFailure result (failures self.old) (failures self.new) };
 
@@ -27,8 +27,7 @@ pub trait Source: Drop {
     /// give fewer than there are, but none only where the buffer is empty or no byte is left.
     fn read_at(&mut self, place: u64, buf: &mut [u8]) -> Result<usize, io::Error>
         ensures bound { IfOk result (λ count. count ≤ length buf.new) }
-        ensures bytes { IfOk result (λ count. IfSome (known self.old) (λ bytes.
-            GivesAt bytes place count buf.new)) }
+        ensures bytes { IfRead result (known self.old) (λ bytes n. GivesAt bytes place n buf.new) }
         ensures unchanged { known self.new ≡ known self.old }
         ensures failures { CountsFailure result (failures self.old) (failures self.new) };
 
@@ -121,13 +120,10 @@ impl Source for Vec<u8> {
 /// that read. The buffer may then hold a beginning of the bytes.
 pub fn read_exact_at<S: Source>(source: &mut S, place: u64, buf: &mut [u8]) -> Result<(), Error>
     requires { place + length buf.old < 2 ^ 64 }
-    ensures bytes { OnOk result (IfSome (S.known source.old) (λ bytes.
-        buf.new ≡ take (length buf.new) (drop place bytes))) }
+    ensures bytes { OnOk result (IfSome (S.known source.old) (λ b. LiesAt b place buf.new)) }
     ensures fault { IfErr result (λ error. FailsReading place (length buf.old) (fault_of error)) }
-    ensures short { IfErr result (λ error. IfSome (S.known source.old) (λ bytes.
-        EndsTooEarly bytes (fault_of error))) }
-    ensures refused { IfErr result (λ error. IfSome (S.known source.old) (λ bytes.
-        place + length buf.old ≤ length bytes → IsIo (kind_of (error_kind_of error)))) }
+    ensures short { IfRefused result (S.known source.old) EndsTooEarly }
+    ensures refused { IfRefused result (S.known source.old) (IsIoWithin place (length buf.old)) }
     ensures unchanged { S.known source.new ≡ S.known source.old }
     ensures failures { AnswersIo result (S.failures source.old) (S.failures source.new) }
 {

@@ -1,5 +1,6 @@
 -- The text of data: lines of base64 (RFC 4648, section 4).
-use Rattle.std.specs.Prelude.{◌≡◌, ℕ, ◌*◌, not, List, [], length, map, take, drop, replicate, ◌++◌, ◌∷◌, Option, None, Some, Err, refl, codes, ⊤}
+use Rattle.std.specs.Prelude.{◌≡◌, ℕ, ◌*◌, not, List, [], length, map, take, drop, replicate, ◌++◌, ◌∷◌, Option, None, Some, Err, String, string_bytes, refl, codes, ⊤}
+use Rattle.std.specs.declared.alloc.Global.{Global}
 use Rattle.std.specs.List.{filter, join_with_byte, range_with_len}
 use Rattle.std.specs.Char.{is_ascii_whitespace}
 use Rattle.std.specs.Int.{div_ceil}
@@ -14,6 +15,10 @@ use Rattle.plist_data.specs.declared.data.InvalidXmlData.TheVariants.{Decode, Ou
 -- data once new bytes are written over its own: just these, since there are as many
 abbrev pub overwritten : (bytes new : List ℕ) → List ℕ
 overwritten bytes new = take (length bytes) (new ++ drop (length new) bytes)
+
+-- nothing of the data is left
+abbrev pub IsAllNew : (bytes new : List ℕ) → Type 0
+IsAllNew bytes new = overwritten bytes new ≡ new
 
 -- ---- what is written
 
@@ -43,6 +48,15 @@ without_white text = filter (λ byte. not (is_ascii_whitespace byte)) text
 -- the bytes whose padded base64 that is, or none
 unfoldable pub data_of_text : List ℕ → Option (List ℕ)
 data_of_text text = decoded_of standard (without_white text)
+
+-- the text is read as these bytes exactly where it is their base64, but for white space
+abbrev pub IsReadWhereSpelled : (text bytes : List ℕ) → Type 0
+IsReadWhereSpelled text bytes =
+    (data_of_text text ≡ Some bytes) ↔ (without_white text ≡ encode_of standard bytes)
+
+-- these bytes stand behind the text
+abbrev pub GrowsBy : List ℕ → (old new : String Global) → Type 0
+GrowsBy bytes old new = string_bytes new ≡ string_bytes old ++ bytes
 
 -- the refusal of a text: the fault of decoding it, whose places count what is left without white
 -- space

@@ -1,12 +1,12 @@
 //! Data, and its text.
 
-ghost use Rattle.std.specs.Prelude.{◌≡◌, ◌↔◌, List, ℕ, length, Some, Ok, IfOk, IfErr, OnOk, ◌++◌, string_bytes};
+ghost use Rattle.std.specs.Prelude.{◌≡◌, List, ℕ, length, Some, Ok, IfOk, IfErr, OnOk, string_bytes};
 ghost use Rattle.std.specs.Borrow.{Array, Lends, sem, u8};
 ghost use Rattle.base64.specs.Engines.{standard};
 ghost use Rattle.base64.specs.GeneralPurpose.{IsBytes, IsDecodeFailure, decode_of, encode_of};
 ghost use Rattle.plist_base.specs.Faults.{OutOfMemory};
 ghost use Rattle.plist_base.specs.Outcomes.{OnlyMemory};
-ghost use Rattle.plist_data.specs.DataText.{IsFaultOf, IsNoData, data_of_text, data_text, overwritten, without_white};
+ghost use Rattle.plist_data.specs.DataText.{IsFaultOf, IsNoData, data_of_text, data_text, overwritten, without_white, IsReadWhereSpelled, IsAllNew, GrowsBy};
 ghost use Rattle.plist_data.specs.contracts.data.Data.{the_row};
 
 use base64::engine::general_purpose::STANDARD;
@@ -64,8 +64,7 @@ impl Data {
         ensures data { IfOk result (λ found. data_of_text text.now ≡ Some found) }
         ensures fault { IfErr result (λ refusal. IsFaultOf text.now refusal) }
         ensures no_data { IfErr result (λ refusal. IsNoData text.now refusal) }
-        ensures spelled { (bytes : List ℕ) → IsBytes bytes → (data_of_text text.now ≡ Some bytes)
-            ↔ (without_white text.now ≡ encode_of standard bytes) }
+        ensures spelled { (bytes : List ℕ) → IsBytes bytes → IsReadWhereSpelled text.now bytes }
     {
         let symbols = dark_bytes(alloc, text)?;
         let bytes = decoded(alloc, &symbols)?;
@@ -97,8 +96,7 @@ impl Data {
     pub fn as_mut(&mut self) -> &mut [u8]
         ensures* writes_back { sem 𝓛 (Lends the_row (Array u8 0) self.entry result (overwritten self.old)) }
         ensures value { result.now ≡ self.old }
-        ensures new_bytes { (bytes : List ℕ) → length bytes ≡ length self.old →
-            overwritten self.old bytes ≡ bytes }
+        ensures new_bytes { (new : List ℕ) → length new ≡ length self.old → IsAllNew self.old new }
     {
         self.bytes.as_mut_slice()
     }
@@ -120,8 +118,7 @@ impl Data {
 // A text without its white space.
 fn dark_bytes(alloc: Global, text: &str) -> Result<Vec<u8>, AllocError>
     ensures bytes { IfOk result (λ dark. dark.items ≡ without_white text.now) }
-    ensures spelled { (bytes : List ℕ) → IsBytes bytes → (data_of_text text.now ≡ Some bytes)
-        ↔ (without_white text.now ≡ encode_of standard bytes) }
+    ensures spelled { (bytes : List ℕ) → IsBytes bytes → IsReadWhereSpelled text.now bytes }
 {
     let mut bytes = Vec::new(alloc);
     bytes.extend_from_slice(text.as_bytes())?;
@@ -139,8 +136,7 @@ fn decoded(alloc: Global, symbols: &[u8]) -> Result<Vec<u8>, DecodeAllocError>
 
 // Puts the base64 of some bytes behind a text.
 fn push_base64(text: &mut String, bytes: &[u8]) -> Result<(), AllocError>
-    ensures { OnOk result
-        (string_bytes text.new ≡ string_bytes text.old ++ encode_of standard bytes.now) }
+    ensures { OnOk result (GrowsBy (encode_of standard bytes.now) text.old text.new) }
 {
     STANDARD.encode_string(bytes, text)
 }

@@ -1,5 +1,5 @@
 -- The text of a moment.
-use Rattle.std.specs.Prelude.{ℕ, ◌-◌, ◌^◌, List, [], ◌∷◌, ◌++◌}
+use Rattle.std.specs.Prelude.{◌≡◌, ℕ, ◌-◌, ◌^◌, List, [], ◌∷◌, ◌++◌, Option, MatchOption}
 use Rattle.std.specs.Fmt.{format_spec, styled_decimal}
 use Rattle.plist_dates.specs.declared.moment.Moment.{Moment}
 
@@ -14,3 +14,7 @@ moment_text moment =
     ∷ (two_places moment.month ++ 45 ∷ (two_places moment.day
     ++ 84 ∷ (two_places moment.hour ++ 58
     ∷ (two_places moment.minute ++ 58 ∷ (two_places moment.second ++ 90 ∷ []))))))
+
+-- there is a moment, and this is its text
+abbrev pub Prints : Option Moment → List ℕ → Type 0
+Prints moment text = MatchOption moment ⊥ (λ m. text ≡ moment_text m)

@@ -1,9 +1,9 @@
 //! Moments, and their texts.
 
-ghost use Rattle.std.specs.Prelude.{◌≡◌, ◌↔◌, List, ℕ, ◌<◌, ◌≤ℤ◌, ◌+ℤ◌, ◌*ℤ◌, pos, Some, IsSome, IfSome, MatchOption};
+ghost use Rattle.std.specs.Prelude.{◌↔◌, List, ℕ, ◌<◌, ◌≤ℤ◌, ◌+ℤ◌, ◌*ℤ◌, pos, Some, IsSome, IfSome};
 ghost use Rattle.jiff_core.specs.Date.{epoch_day};
 ghost use Rattle.plist_dates.specs.DateText.{HasFourDigitYear, IsTextOfSecond};
-ghost use Rattle.plist_dates.specs.Moments.{moment_text};
+ghost use Rattle.plist_dates.specs.Moments.{moment_text, Prints};
 
 use jiff_core::civil::Date;
 use std::fmt;
@@ -28,8 +28,7 @@ impl Moment {
     pub fn from_unix_secs(second: i64) -> Option<Moment>
         ensures year { IsSome result ↔ HasFourDigitYear second }
         ensures text { IfSome result (λ moment. IsTextOfSecond second (moment_text moment)) }
-        ensures only { (other : List ℕ) → IsTextOfSecond second other →
-            MatchOption result ⊥ (λ moment. other ≡ moment_text moment) }
+        ensures only { (other : List ℕ) → IsTextOfSecond second other → Prints result other }
     {
         match Date::from_unix_epoch_day(second.div_euclid(SECONDS_A_DAY)) {
             Ok(date) if date.year >= 0 => Some(moment_of(

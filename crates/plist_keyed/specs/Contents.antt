@@ -9,6 +9,8 @@ use Rattle.plist.specs.declared.value.Value.{Value}
 use Rattle.plist.specs.declared.value.Value.TheVariants as value
 use Rattle.plist.specs.Views.{tree_of}
 use Rattle.plist_keyed.specs.declared.archive.Archive.{Archive}
+use Rattle.plist_keyed.specs.declared.error.KeyedError.{KeyedError}
+use Rattle.plist_keyed.specs.declared.error.KeyedError.TheVariants as keyed_error
 
 -- the objects, by number
 abbrev pub objects_of : Archive → List Value
@@ -27,9 +29,17 @@ abbrev pub IsArrayAt : (key : List ℕ) → (pairs : List (List ℕ × Value)) �
     → Type 0
 IsArrayAt key pairs array = lookup (bytes_eq key) pairs ≡ Some (value.Array array)
 
+-- none does
+abbrev pub HasNoArrayAt : (key : List ℕ) → (pairs : List (List ℕ × Value)) → Type 0
+HasNoArrayAt key pairs = (array : Vec Value Global) → ¬ (IsArrayAt key pairs array)
+
 -- the dictionary of these pairs stands at the key
 abbrev pub IsDictionaryAt : (key : List ℕ) → (pairs others : List (List ℕ × Value)) → Type 0
 IsDictionaryAt key pairs others = lookup (bytes_eq key) pairs ≡ Some (value.Dictionary others)
+
+-- none does
+abbrev pub HasNoDictionaryAt : (key : List ℕ) → (pairs : List (List ℕ × Value)) → Type 0
+HasNoDictionaryAt key pairs = (others : List (List ℕ × Value)) → ¬ (IsDictionaryAt key pairs others)
 
 -- the Uid stands at the key
 abbrev pub IsUidAt : (key : List ℕ) → (pairs : List (List ℕ × Value)) → (uid : ℕ) → Type 0
@@ -48,3 +58,11 @@ IsArchiveOf root objects names =
 abbrev pub IsArchive : (root : Value) → Type 0
 IsArchive root =
     (objects : List Value) × (names : List (List ℕ × Value)) × IsArchiveOf root objects names
+
+-- the archive is that of the property list
+abbrev pub IsOpenedOf : (root : Value) → Archive → Type 0
+IsOpenedOf root archive = IsArchiveOf root (objects_of archive) (names_of archive)
+
+-- the property list is no archive, which is what the error says
+abbrev pub IsNoArchive : (root : Value) → KeyedError → Type 0
+IsNoArchive root error = (error ≡ keyed_error.NotAnArchive) × ¬ (IsArchive root)

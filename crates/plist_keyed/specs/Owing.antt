@@ -17,7 +17,7 @@ use Rattle.plist_keyed.specs.declared.walk.Move.{Move}
 use Rattle.plist_keyed.specs.declared.walk.Move.TheVariants as move
 use Rattle.plist_keyed.specs.declared.walk.Walk.{Walk}
 use Rattle.plist_keyed.specs.Archives.{number_of_uid}
-use Rattle.plist_keyed.specs.Walks.{Step, items_of, steps_of, steps_at}
+use Rattle.plist_keyed.specs.Walks.{Step, items_of, steps_of, steps_of_event, steps_at}
 
 -- the events of each object
 abbrev pub objects_seen : List Value → List (List PlainEvent)
@@ -102,6 +102,15 @@ Pays before (Ok done) after = Moves before done after
 Pays before (Err error) after =
     (length after < length before)
     × MatchFault (fault_of error).kind ⊤ ⊤ (before ≡ Some (Err (fault_of error)) ∷ after)
+
+-- where a Uid was to be followed, the first step into what it finds is taken
+abbrev pub Enters : Walk → ℕ → Walk → Type 0
+Enters old uid new = follow old uid ++ owed old ≡ None ∷ owed new
+
+-- the first step of an event and of what is owed behind it is taken
+abbrev pub PaysFor : Walk → PlainEvent → Result Move Error → Walk → Type 0
+PaysFor old event answer new =
+    Pays (steps_of_event (follow old) event ++ owed old) answer (owed new)
 
 -- the items that are to come begin with this one
 abbrev pub Gives : Walk → Option (Result Event Error) → Walk → Type 0

@@ -1,10 +1,10 @@
 //! An archive: its objects, and the names of some of them.
 
-ghost use Rattle.std.specs.Prelude.{◌≡◌, ℕ, List, Ok, IfErr, IfOk, IfSome, IsNone, slice_get};
+ghost use Rattle.std.specs.Prelude.{◌≡◌, ℕ, Ok, IfErr, IfOk, IfSome, IsNone, slice_get};
 ghost use Rattle.std.specs.declared.alloc.Global.{Global};
 ghost use Rattle.std.specs.declared.vec.Vec.{Vec};
 ghost use Rattle.std.specs.Option.{option_copied};
-ghost use Rattle.plist_keyed.specs.Contents.{IsArchive, IsArchiveOf, IsArrayAt, IsDictionaryAt, IsUidAt, names_of, objects_of, trees_of};
+ghost use Rattle.plist_keyed.specs.Contents.{IsArrayAt, IsDictionaryAt, IsUidAt, names_of, objects_of, trees_of, HasNoArrayAt, HasNoDictionaryAt, IsOpenedOf, IsNoArchive};
 ghost use Rattle.plist.specs.Views.{tree_of};
 ghost use Rattle.plist_keyed.specs.Archives.{resolved_tree};
 ghost use Rattle.plist_keyed.specs.Errors.{IsFaultOf};
@@ -27,8 +27,7 @@ pub struct Archive<'a> {
 // The array at a key.
 fn array_at<'a>(pairs: &'a Dictionary, key: &str) -> Option<&'a Vec<Value>>
     ensures found { IfSome result (λ array. IsArrayAt key.now pairs.now array.now) }
-    ensures missing { IsNone result →
-        (array : Vec Value Global) → ¬ (IsArrayAt key.now pairs.now array) }
+    ensures missing { IsNone result → HasNoArrayAt key.now pairs.now }
 {
     match pairs.get(key) {
         Some(Value::Array(array)) => Some(array),
@@ -39,8 +38,7 @@ fn array_at<'a>(pairs: &'a Dictionary, key: &str) -> Option<&'a Vec<Value>>
 // The dictionary at a key.
 fn dictionary_at<'a>(pairs: &'a Dictionary, key: &str) -> Option<&'a Dictionary>
     ensures found { IfSome result (λ others. IsDictionaryAt key.now pairs.now others.now) }
-    ensures missing { IsNone result →
-        (others : List (List ℕ × Value)) → ¬ (IsDictionaryAt key.now pairs.now others) }
+    ensures missing { IsNone result → HasNoDictionaryAt key.now pairs.now }
 {
     match pairs.get(key) {
         Some(Value::Dictionary(others)) => Some(others),
@@ -56,10 +54,8 @@ impl<'a> Archive<'a> {
     /// `NotAnArchive` unless the property list is a dictionary whose `$objects` is an array and
     /// whose `$top` is a dictionary.
     pub fn open(root: &'a Value) -> Result<Archive<'a>, KeyedError>
-        ensures archive { IfOk result (λ archive.
-            IsArchiveOf root.now (objects_of archive) (names_of archive)) }
-        ensures refused { IfErr result (λ error.
-            (error ≡ KeyedError.NotAnArchive) × ¬ (IsArchive root.now)) }
+        ensures archive { IfOk result (IsOpenedOf root.now) }
+        ensures refused { IfErr result (IsNoArchive root.now) }
     {
         let Value::Dictionary(pairs) = root else {
             return Err(KeyedError::NotAnArchive);
@@ -111,8 +107,7 @@ impl<'a> Archive<'a> {
     /// - `RecursiveUid` for a Uid that is met while its own object is open.
     /// - `OutOfMemory`, wherever a growth was refused.
     pub fn tree(&self, alloc: Global, uid: Uid) -> Result<Value, KeyedError>
-        ensures value { IfOk result (λ value.
-            resolved_tree (trees_of self.now) uid ≡ Ok (tree_of value)) }
+        ensures value { IfOk result (λ v. resolved_tree (trees_of self.now) uid ≡ Ok (tree_of v)) }
         ensures fault { IfErr result (IsFaultOf (resolved_tree (trees_of self.now) uid)) }
     {
         match value_at(alloc, self.objects.as_slice(), uid) {

@@ -1,6 +1,6 @@
 //! The walk over an archive, by a list of the open places of its own.
 
-ghost use Rattle.std.specs.Prelude.{◌≡◌, ◌++◌, ◌∷◌, ◌<◌, [], false, length, None, OnErr, OnOk, OnSome, IfErr, nat_eq, slice_get};
+ghost use Rattle.std.specs.Prelude.{◌≡◌, ◌<◌, [], false, length, None, OnErr, OnOk, OnSome, IfErr, nat_eq, slice_get};
 ghost use Rattle.std.specs.Option.{option_copied};
 ghost use Rattle.plist_base.specs.Events.{event_of};
 ghost use Rattle.plist_base.specs.Faults.{fault_of};
@@ -10,7 +10,7 @@ ghost use Rattle.plist.specs.Collecting.{built_tree};
 ghost use Rattle.plist.specs.Inputs.{IsReadFrom};
 ghost use Rattle.plist.specs.LastWins.{last_wins};
 ghost use Rattle.plist.specs.Views.{tree_of};
-ghost use Rattle.plist_keyed.specs.Owing.{items_at, uid_in};
+ghost use Rattle.plist_keyed.specs.Owing.{items_at, uid_in, Enters, PaysFor};
 
 use indexmap::IndexSet;
 use plist::stream::{Event, Events};
@@ -53,7 +53,6 @@ struct Walk<'a> {
 
 impl<'a> Walk<'a> {
     ghost use Rattle.plist_keyed.specs.Owing.{FailsAt, Gives, IsKept, IsOpened, IsWalk, Pays, follow, owed};
-    ghost use Rattle.plist_keyed.specs.Walks.{steps_of_event};
 
     fn new(alloc: Global, objects: &'a [Value]) -> Walk<'a>
         ensures objects { result.objects ≡ objects.entry }
@@ -93,8 +92,7 @@ impl<'a> Walk<'a> {
         requires { IsWalk self.old }
         ensures path { IsWalk self.new }
         ensures objects { self.new.objects ≡ self.old.objects }
-        ensures entered { OnOk result
-            (follow self.old uid ++ owed self.old ≡ None ∷ owed self.new) }
+        ensures entered { OnOk result (Enters self.old uid self.new) }
         ensures refused { IfErr result (λ error. FailsAt (follow self.old uid) (fault_of error)) }
         ensures unchanged { OnErr result (owed self.new ≡ owed self.old) }
     {
@@ -112,8 +110,7 @@ impl<'a> Walk<'a> {
         requires { IsWalk self.old }
         ensures path { IsWalk self.new }
         ensures objects { self.new.objects ≡ self.old.objects }
-        ensures pays { Pays (steps_of_event (follow self.old) (event_of event.entry) ++ owed self.old)
-            result (owed self.new) }
+        ensures pays { PaysFor self.old (event_of event.entry) result self.new }
     {
         match uid_of(&event) {
             None => Ok(Move::Gave(event)),

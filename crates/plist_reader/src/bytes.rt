@@ -1,7 +1,8 @@
 //! A source's bytes, from its first one on.
 
-ghost use Rattle.std.specs.Prelude.{◌≡◌, ◌≤◌, Some, IfOk, IfSome, slice_get};
+ghost use Rattle.std.specs.Prelude.{◌≡◌, ◌≤◌, Some, slice_get};
 ghost use Rattle.plist_base.specs.Sources.{CountsFailure};
+ghost use Rattle.plist_base.specs.Outcomes.{DecodesBy};
 
 use plist_ascii::Bytes;
 use plist_base::Source;
@@ -9,8 +10,7 @@ use std::io;
 
 /// The byte at a place, if there is one.
 pub fn read_byte<S: Source>(source: &mut S, place: u64) -> Result<Option<u8>, io::Error>
-    ensures byte { IfOk result (λ byte. IfSome (S.known source.old) (λ bytes.
-        byte ≡ slice_get bytes place)) }
+    ensures byte { DecodesBy result (S.known source.old) (λ bytes. slice_get bytes place) }
     ensures unchanged { S.known source.new ≡ S.known source.old }
     ensures failures { CountsFailure result (S.failures source.old) (S.failures source.new) }
 {

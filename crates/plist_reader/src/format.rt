@@ -1,9 +1,9 @@
 //! Which format some bytes have.
 
-ghost use Rattle.std.specs.Prelude.{◌≡◌, ◌+◌, ◌-◌, ◌<◌, nat_eq, slice_get, IfOk, IfErr, IfSome};
+ghost use Rattle.std.specs.Prelude.{◌≡◌, ◌+◌, ◌-◌, ◌<◌, nat_eq, slice_get, IfErr};
 ghost use Rattle.std.specs.List.{starts_with};
 ghost use Rattle.plist_base.specs.Faults.{IsIo, Io, fault_at, kind_of, error_kind_of, offset_of};
-ghost use Rattle.plist_base.specs.Outcomes.{OnlyFault};
+ghost use Rattle.plist_base.specs.Outcomes.{OnlyFault, DecodesBy};
 ghost use Rattle.plist_base.specs.Sources.{AnswersIo};
 ghost use Rattle.plist_binread.specs.Failures.{HasPlace};
 ghost use Rattle.plist_binread.specs.Container.{magic};
@@ -30,8 +30,7 @@ pub enum Format {
 
 // Do the bytes begin with the magic?
 fn has_magic<S: Source>(source: &mut S) -> Result<bool, Error>
-    ensures value { IfOk result (λ found. IfSome (S.known source.old) (λ bytes.
-        found ≡ starts_with nat_eq bytes magic)) }
+    ensures value { DecodesBy result (S.known source.old) (λ b. starts_with nat_eq b magic) }
     ensures refused { IfErr result (λ error. IsIo (kind_of (error_kind_of error))) }
     ensures offset { IfErr result (λ error. HasPlace (offset_of error)) }
     ensures unchanged { S.known source.new ≡ S.known source.old }
@@ -51,8 +50,7 @@ fn has_magic<S: Source>(source: &mut S) -> Result<bool, Error>
 
 // Do the bytes begin with the mark of the byte order?
 fn has_mark<S: Source>(source: &mut S) -> Result<bool, Error>
-    ensures value { IfOk result (λ found. IfSome (S.known source.old) (λ bytes.
-        found ≡ starts_with nat_eq bytes mark)) }
+    ensures value { DecodesBy result (S.known source.old) (λ b. starts_with nat_eq b mark) }
     ensures refused { IfErr result (λ error. IsIo (kind_of (error_kind_of error))) }
     ensures offset { IfErr result (λ error. HasPlace (offset_of error)) }
     ensures unchanged { S.known source.new ≡ S.known source.old }
@@ -72,8 +70,7 @@ fn has_mark<S: Source>(source: &mut S) -> Result<bool, Error>
 
 // How many bytes the mark of the byte order takes.
 fn mark_length<S: Source>(source: &mut S) -> Result<u64, Error>
-    ensures length { IfOk result (λ found. IfSome (S.known source.old) (λ bytes.
-        found ≡ mark_length bytes)) }
+    ensures length { DecodesBy result (S.known source.old) mark_length }
     ensures refused { IfErr result (λ error. IsIo (kind_of (error_kind_of error))) }
     ensures offset { IfErr result (λ error. HasPlace (offset_of error)) }
     ensures unchanged { S.known source.new ≡ S.known source.old }
@@ -88,8 +85,7 @@ fn mark_length<S: Source>(source: &mut S) -> Result<u64, Error>
 
 // The byte at a place, if there is one.
 fn byte_at<S: Source>(source: &mut S, place: u64) -> Result<Option<u8>, Error>
-    ensures byte { IfOk result (λ byte. IfSome (S.known source.old) (λ bytes.
-        byte ≡ slice_get bytes place)) }
+    ensures byte { DecodesBy result (S.known source.old) (λ bytes. slice_get bytes place) }
     ensures refused { OnlyFault result (fault_at Io place) }
     ensures unchanged { S.known source.new ≡ S.known source.old }
     ensures failures { AnswersIo result (S.failures source.old) (S.failures source.new) }
@@ -109,8 +105,7 @@ fn is_white(byte: u8) -> bool
 
 // Where the first byte past white space is `<`, its place.
 fn xml_place<S: Source>(source: &mut S, start: u64) -> Result<Option<u64>, Error>
-    ensures place { IfOk result (λ found. IfSome (S.known source.old) (λ bytes.
-        found ≡ xml_place start (front bytes))) }
+    ensures place { DecodesBy result (S.known source.old) (λ b. xml_place start (front b)) }
     ensures refused { IfErr result (λ error. IsIo (kind_of (error_kind_of error))) }
     ensures offset { IfErr result (λ error. HasPlace (offset_of error)) }
     ensures unchanged { S.known source.new ≡ S.known source.old }
@@ -137,8 +132,7 @@ fn xml_place<S: Source>(source: &mut S, start: u64) -> Result<Option<u64>, Error
 /// # Errors
 /// `Io` where a read failed, with its place.
 pub fn format_of<S: Source>(source: &mut S) -> Result<Format, Error>
-    ensures format { IfOk result (λ format. IfSome (S.known source.old) (λ bytes.
-        format ≡ format_of bytes)) }
+    ensures format { DecodesBy result (S.known source.old) format_of }
     ensures refused { IfErr result (λ error. IsIo (kind_of (error_kind_of error))) }
     ensures offset { IfErr result (λ error. HasPlace (offset_of error)) }
     ensures unchanged { S.known source.new ≡ S.known source.old }

@@ -7,6 +7,7 @@ use Rattle.plist_base.specs.declared.source.Source.{Ghosts}
 use Rattle.plist_base.specs.Events.{Item}
 use Rattle.plist_base.specs.Sources.{Rises}
 use Rattle.plist_binread.specs.Coming.{source_of, to_come}
+use Rattle.plist_binread.specs.Unfolding.{items_of_file}
 use Rattle.plist_binread.specs.declared.counter.DecodeCounter.{Ghosts as CounterGhosts}
 use Rattle.plist_binread.specs.declared.reader.BinaryReader.{BinaryReader}
 use Rattle.plist_base.specs.Fronts.{AppendsFront}
@@ -31,14 +32,29 @@ module _ {S C W : Type 0} {g : Ghosts S} {h : CounterGhosts C} (known : S → Op
   PrintsRest = IfSome (known (source_of reader)) (λ bytes.
       PrintsAll (to_come bytes reader) (contents old) (contents new))
 
-  abbrev pub PrintsRestUntil : Error → Type 0
-  PrintsRestUntil error = IfSome (known (source_of reader)) (λ bytes.
+  abbrev pub EndsRest : Error → Type 0
+  EndsRest error = IfSome (known (source_of reader)) (λ bytes.
       PrintsUntil error (to_come bytes reader) (contents old) (contents new))
 
   -- a beginning of their lines went out
   abbrev pub SendsFrontOfRest : Type 0
   SendsFrontOfRest = IfSome (known (source_of reader)) (λ bytes.
       AppendsFront (contents old) (contents new) (lines_of (to_come bytes reader)))
+
+-- the same of all the items of a source's file
+module _ {S W : Type 0} (known : S → Option (List ℕ)) (contents : W → Option (List ℕ)) (source : S)
+    (old new : W) where
+  abbrev pub PrintsFile : Type 0
+  PrintsFile = IfSome (known source) (λ bytes.
+      PrintsAll (items_of_file bytes) (contents old) (contents new))
+
+  abbrev pub EndsFile : Error → Type 0
+  EndsFile error = IfSome (known source) (λ bytes.
+      PrintsUntil error (items_of_file bytes) (contents old) (contents new))
+
+  abbrev pub SendsFrontOfFile : Type 0
+  SendsFrontOfFile = IfSome (known source) (λ bytes.
+      AppendsFront (contents old) (contents new) (lines_of (items_of_file bytes)))
 
 -- the writer's failure, or want of memory for a line: neither has an offset
 abbrev pub IsOwnFault : Error → Type 0
@@ -49,3 +65,15 @@ abbrev pub CountsReads : {A : Type 0} → Result A Error → (old new : ℕ) →
 CountsReads answer old new = MatchResult answer (λ _. new ≡ old)
     (λ error. MatchFault (kind_of (error_kind_of error))
     (((offset_of error ≡ None) × (new ≡ old)) ⊎ Rises old new) (new ≡ old) (new ≡ old))
+
+-- the same of the source inside a reader
+abbrev pub CountsReadsOf : {S C A : Type 0} {g : Ghosts S} {h : CounterGhosts C} → (failures : S → ℕ)
+    → BinaryReader S C g h → Result A Error → BinaryReader S C g h → Type 0
+CountsReadsOf failures old answer new =
+    CountsReads answer (failures (source_of old)) (failures (source_of new))
+
+-- the same of a source that the call has left so, with its known bytes
+abbrev pub LeavesSource : {S A : Type 0} → (known : S → Option (List ℕ)) → (failures : S → ℕ) → S
+    → Result A Error → S → Type 0
+LeavesSource known failures source answer left =
+    (known left ≡ known source) × CountsReads answer (failures source) (failures left)

@@ -29,8 +29,7 @@ pub enum Command<'a> {
 
 /// The command that the words ask for, or `None` if they are no command.
 pub fn command_of(words: &[String]) -> Option<Command<'_>>
-    ensures found { IfSome result (λ command.
-        map string_bytes words.now ≡ words_for (asked_of command)) }
+    ensures found { IfSome result (λ c. map string_bytes words.now ≡ words_for (asked_of c)) }
     ensures wrong { IsNone result ↔ IsWrong (map string_bytes words.now) }
 {
     match words {

@@ -1,13 +1,12 @@
 //! Prints the events of a source.
 
-ghost use Rattle.std.specs.Prelude.{◌≡◌, ◌++◌, IfErr, IfSome, OnErr, OnOk};
+ghost use Rattle.std.specs.Prelude.{◌≡◌, ◌++◌, IfErr, OnErr, OnOk};
 ghost use Rattle.plist_base.specs.Events.{event_of};
 ghost use Rattle.plist_base.specs.Fronts.{AppendsFront};
 ghost use Rattle.plist_binread.specs.Coming.{event_told, source_of};
-ghost use Rattle.plist_binread.specs.Unfolding.{items_of_file};
-ghost use Rattle.plist_tool.specs.Lines.{line_of, lines_of};
-ghost use Rattle.plist_tool.specs.Fronts.{PassesOn};
-ghost use Rattle.plist_tool.specs.Printing.{PrintsAll, PrintsRest, PrintsRestUntil, PrintsUntil, SendsFrontOfRest, CountsReads, IsOwnFault};
+ghost use Rattle.plist_tool.specs.Lines.{line_of};
+ghost use Rattle.plist_tool.specs.Fronts.{PassesOn, MakesRoom, SendsFront};
+ghost use Rattle.plist_tool.specs.Printing.{PrintsRest, SendsFrontOfRest, IsOwnFault, EndsRest, PrintsFile, EndsFile, SendsFrontOfFile, CountsReadsOf, LeavesSource};
 
 use crate::lines::{most_bytes, push_line};
 use plist_base::send::{flush, send};
@@ -21,11 +20,9 @@ const FULL: usize = 65536;
 
 // Sends what is held back where a line of so many bytes may not fit behind it.
 fn make_room<W: Write>(writer: &mut W, lines: &mut Vec<u8>, size: usize) -> Result<(), Error>
-    ensures passed { OnOk result (PassesOn
-        (W.contents writer.old) (W.contents writer.new) lines.old.items lines.new.items) }
+    ensures passed { OnOk result (MakesRoom W.contents writer.old lines.old writer.new lines.new) }
     ensures fault { IfErr result IsOwnFault }
-    ensures front { OnErr result (AppendsFront
-        (W.contents writer.old) (W.contents writer.new) lines.old.items) }
+    ensures front { OnErr result (SendsFront W.contents writer.old lines.old.items writer.new) }
 {
     if size <= FULL.saturating_sub(lines.len()) {
         return Ok(());
@@ -71,14 +68,11 @@ fn send_lines<S: Source, W: Write>(
     reader: &mut BinaryReader<S>,
     writer: &mut W,
 ) -> Result<(), Error>
-    ensures printed { OnOk result
-        (PrintsRest S.known W.contents reader.old writer.old writer.new) }
-    ensures refused { IfErr result
-        (PrintsRestUntil S.known W.contents reader.old writer.old writer.new) }
+    ensures printed { OnOk result (PrintsRest S.known W.contents reader.old writer.old writer.new) }
+    ensures refused { IfErr result (EndsRest S.known W.contents reader.old writer.old writer.new) }
     ensures sent { SendsFrontOfRest S.known W.contents reader.old writer.old writer.new }
     ensures unchanged { S.known (source_of reader.new) ≡ S.known (source_of reader.old) }
-    ensures failures { CountsReads result
-        (S.failures (source_of reader.old)) (S.failures (source_of reader.new)) }
+    ensures failures { CountsReadsOf S.failures reader.old result reader.new }
 {
     let mut lines = Vec::with_capacity(alloc, FULL)?;
     while let Some(item) = reader.advance() {
@@ -100,14 +94,11 @@ fn print_items<S: Source, W: Write>(
     reader: &mut BinaryReader<S>,
     writer: &mut W,
 ) -> Result<(), Error>
-    ensures printed { OnOk result
-        (PrintsRest S.known W.contents reader.old writer.old writer.new) }
-    ensures refused { IfErr result
-        (PrintsRestUntil S.known W.contents reader.old writer.old writer.new) }
+    ensures printed { OnOk result (PrintsRest S.known W.contents reader.old writer.old writer.new) }
+    ensures refused { IfErr result (EndsRest S.known W.contents reader.old writer.old writer.new) }
     ensures sent { SendsFrontOfRest S.known W.contents reader.old writer.old writer.new }
     ensures unchanged { S.known (source_of reader.new) ≡ S.known (source_of reader.old) }
-    ensures failures { CountsReads result
-        (S.failures (source_of reader.old)) (S.failures (source_of reader.new)) }
+    ensures failures { CountsReadsOf S.failures reader.old result reader.new }
 {
     let sent = send_lines(alloc, reader, writer);
     let flushed = flush(writer);
@@ -127,15 +118,11 @@ pub fn print_events<S: Source, W: Write>(
     source: S,
     writer: &mut W,
 ) -> Result<(), Error>
-    ensures printed { OnOk result (IfSome (S.known source) (λ bytes.
-        PrintsAll (items_of_file bytes) (W.contents writer.old) (W.contents writer.new))) }
-    ensures refused { IfErr result (λ error. IfSome (S.known source) (λ bytes.
-        PrintsUntil error (items_of_file bytes) (W.contents writer.old) (W.contents writer.new))) }
-    ensures sent { IfSome (S.known source) (λ bytes. AppendsFront
-        (W.contents writer.old) (W.contents writer.new) (lines_of (items_of_file bytes))) }
+    ensures printed { OnOk result (PrintsFile S.known W.contents source writer.old writer.new) }
+    ensures refused { IfErr result (EndsFile S.known W.contents source writer.old writer.new) }
+    ensures sent { SendsFrontOfFile S.known W.contents source writer.old writer.new }
     // `left` is the source as the call left it
-    ensures failures { (left : S) × (S.known left ≡ S.known source)
-        × CountsReads result (S.failures source) (S.failures left) }
+    ensures failures { (left : S) × LeavesSource S.known S.failures source result left }
 {
     let mut reader = BinaryReader::new(alloc, source);
     print_items(alloc, &mut reader, writer)

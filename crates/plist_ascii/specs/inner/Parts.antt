@@ -1,6 +1,12 @@
--- What has been taken of a quoted text: escapes, and parts that end at one.
-use Rattle.std.specs.Prelude.{◌≡◌, ℕ, Bool, true, false, List, [], ◌∷◌, drop, Option, None, Some, Ok, Err, encode_utf8}
-use Rattle.plist_base.specs.Faults.{FaultKind}
+-- What has been taken of a text: its characters, escapes, and parts that end at one.
+use Rattle.std.specs.Prelude.{◌≡◌, ℕ, ◌<◌, Bool, true, false, List, [], ◌∷◌, drop, Option, None, Some, Result, Ok, Err, MatchOption, encode_utf8, string_bytes}
+use Rattle.std.specs.Char.{is_digit, digit_value}
+use Rattle.std.specs.Str.{is_utf8}
+use Rattle.std.specs.declared.alloc.Global.{Global}
+use Rattle.std.specs.declared.string.String.{String}
+use Rattle.plist_base.specs.declared.error.ErrorKind.{ErrorKind}
+use Rattle.plist_base.specs.Faults.{FaultKind, InvalidUtf8AsciiStream, kind_of}
+use Rattle.plist_ascii.specs.Escapes.{is_surrogate}
 use Rattle.plist_ascii.specs.declared.escape.Piece.{Piece}
 use Rattle.plist_ascii.specs.declared.escape.Piece.TheVariants as piece
 use Rattle.plist_ascii.specs.Taken.{Taken, taken}
@@ -10,6 +16,28 @@ use Rattle.plist_ascii.specs.Quoted.{behind, run_end, quoted_by}
 abbrev pub piece_bytes : Piece → List ℕ
 piece_bytes (piece.Byte byte) = byte ∷ []
 piece_bytes (piece.Char c) = encode_utf8 c
+
+-- these bytes are UTF-8, and the text's
+abbrev pub IsTextOf : List ℕ → String Global → Type 0
+IsTextOf bytes text = (is_utf8 bytes ≡ true) × (string_bytes text ≡ bytes)
+
+-- these bytes aren't UTF-8, which is the fault
+abbrev pub IsNoText : List ℕ → ErrorKind → Type 0
+IsNoText bytes kind = (is_utf8 bytes ≡ false) × (kind_of kind ≡ InvalidUtf8AsciiStream)
+
+-- the byte is a digit, of this value
+abbrev pub IsDigitOf : (byte radix value : ℕ) → Type 0
+IsDigitOf byte radix value =
+    (is_digit byte radix ≡ true) × (value ≡ digit_value byte) × (value < radix)
+
+-- the unit is no surrogate, and this character
+abbrev pub IsCharOfUnit : (unit c : ℕ) → Type 0
+IsCharOfUnit unit c = (is_surrogate unit ≡ false) × (c ≡ unit)
+
+-- the outcome is the character's bytes, or this fault where there is none
+abbrev pub IsCharOr : FaultKind → Result (List ℕ) FaultKind → Option ℕ → Type 0
+IsCharOr fault outcome char =
+    MatchOption char (outcome ≡ Err fault) (λ c. outcome ≡ Ok (encode_utf8 c))
 
 -- From these bytes n were taken, which stand for `part`; behind them the text is closed, or goes
 -- on.

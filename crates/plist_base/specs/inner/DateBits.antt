@@ -1,6 +1,7 @@
 -- The bits that stand for a whole second.
-use Rattle.std.specs.Prelude.{ℕ, ◌+◌, ◌-◌, ◌*◌, ◌^◌, if◌then◌else◌, ◌==◌, ℤ, pos, negsuc}
+use Rattle.std.specs.Prelude.{◌≡◌, ℕ, ◌+◌, ◌-◌, ◌*◌, ◌^◌, true, if◌then◌else◌, ◌==◌, ℤ, pos, negsuc}
 use Rattle.std.specs.Int.Count.{count_leading_zeros}
+use Rattle.plist_base.specs.Date.{is_second_of_date}
 
 -- the bits of a whole number below 2 ^ 53; its highest bit adds one to the exponent
 unfoldable pub whole_bits : ℕ → ℕ
@@ -11,3 +12,7 @@ whole_bits n =
 unfoldable pub second_bits : ℤ → ℕ
 second_bits (pos n) = whole_bits n
 second_bits (negsuc n) = 2 ^ 63 + whole_bits (n + 1)
+
+-- the bits are those of the second, which is one of a date
+abbrev pub AreBitsAt : ℤ → (bits : ℕ) → Type 0
+AreBitsAt second bits = (is_second_of_date second ≡ true) × (bits ≡ second_bits second)
