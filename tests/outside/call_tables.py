@@ -79,8 +79,14 @@ ASCII_VALUE = {"name": "a quoted text, and a longer one", "list": [1, "two", {"d
 FAULTY = b'("ab\\9cd" \'x\' /*'
 FAULTY_ITEMS = ["[", "InvalidUtf8AsciiStream (offset 6)", "'cd\"'", "'x'",
                 "IncompleteComment (offset 16)"]
+KINDS = {"[": "StartArray", "{": "StartDictionary", "'": "String", "<": "Data", "t": "Boolean",
+         "r": "Real", "u": "Uid", "d": "Date", "e": "EndCollection"}
 PAIRS = "{ 'a' [ 'x' end 'b' 'a' end"
 PAIRS_FILE = file_of("d201020301 5161 5162 a104 5178 080d0f1113", 5, 21)
+# an array and a dictionary, each of them twice
+TWICE = "[ { 'k' [ 'x' end end [ 'x' end { 'k' [ 'x' end end end"
+TWICE_FILE = file_of("a3010201 d10302 516b a104 5178 080c110f13", 5, 21)
+ROOT = "{ '$objects' [ '$null' { 'name' uid:2 end 'x' end '$top' { 'root' uid:1 end end"
 TRUE_FILE = file_of("0908", 1, 9)
 
 
@@ -103,6 +109,7 @@ def readers(counts, folder):
     cut = BINARY[:-5]
     width = f"InvalidTrailerObjectOffsetSize (offset {len(cut) - 32})"
     sweep(binary, cut, [width], in_binary)
+    advances(counts, folder / "input")
     sweep(["AsciiReader", "Reader", "limited Reader"], ASCII, ASCII_ITEMS, in_ascii)
     sweep(["AsciiReader", "Reader", "tight AsciiReader"], FAULTY, FAULTY_ITEMS, in_ascii)
     # limits end the items at the first fault
@@ -111,6 +118,15 @@ def readers(counts, folder):
     for value in (SIMPLE, ["x"], "x"):
         counts.sweep("Events", joined(value), joined(value),
                      cuts(words_of(value), lambda i, item: item[0] in "[{"))
+
+
+def advances(counts, path):
+    path.write_bytes(BINARY)
+    words = words_of(VALUE)
+    kinds = [KINDS.get(word[0], "Integer") for word in words]
+    wants = {"".join(f"{kind} " for kind in kinds[:i]) + WANT
+             for i, word in enumerate(words) if in_binary(i, word)}
+    counts.sweep("advancing BinaryReader", str(path), "".join(f"{kind} " for kind in kinds), wants)
 
 
 def failures(count):
@@ -132,6 +148,11 @@ def writers(counts):
     wants = {f"{answers}\nok | {TRUE_FILE.hex()}" for answers in failures(count)}
     both = (TRUE_FILE + PAIRS_FILE).hex()
     counts.sweep("BinaryWriter", PAIRS, "ok; " * count + f"\nok | {both}", wants)
+    for words, file in ((PAIRS, PAIRS_FILE), (TWICE, TWICE_FILE)):
+        count = len(words.split(" "))
+        wants = {f"{answers}\nok | {TRUE_FILE.hex()}" for answers in failures(count)}
+        both = (TRUE_FILE + file).hex()
+        counts.sweep("SharingWriter", words, "ok; " * count + f"\nok | {both}", wants)
 
 
 def values(counts, folder):
@@ -142,6 +163,8 @@ def values(counts, folder):
         for content, words in inputs:
             path.write_bytes(content)
             counts.sweep(name, str(path), words, {WANT})
+    path.write_bytes(BINARY)
+    counts.sweep("value_of_binary", str(path), joined(VALUE), {WANT})
     path.write_bytes(ASCII)
     counts.sweep("from_reader_ascii", str(path), joined(ASCII_VALUE), {WANT})
     path.write_bytes(b"{a=b;c=(1\n)\n}")
@@ -150,7 +173,8 @@ def values(counts, folder):
     counts.sweep("from_events", simple, simple, {WANT})
     behind = "ExpectedEndOfEventStream { found: String }"
     counts.sweep("from_events", "'a' 'b'", behind, {WANT})
-    counts.sweep("clone of a value", simple, f"{simple} | {simple}", {f"{WANT} | {simple}"})
+    for name in ("clone of a value", "value_again"):
+        counts.sweep(name, simple, f"{simple} | {simple}", {f"{WANT} | {simple}"})
     counts.sweep("try_from_str", "some text", "'some text'", {WANT})
     # bytes that stood before stay
     counts.sweep("to_writer_binary", PAIRS, "ok | 07" + PAIRS_FILE.hex(), {f"{WANT} | 07"})
@@ -159,6 +183,8 @@ def values(counts, folder):
     counts.sweep("write_value to a Builder", simple, f"ok | {simple}", wants)
     sent = "ok | " + PAIRS_FILE.hex()
     counts.sweep("write_value to a BinaryWriter", PAIRS, sent, {f"{WANT} | "})
+    sent = "ok | " + TWICE_FILE.hex()
+    counts.sweep("write_value to a SharingWriter", TWICE, sent, {f"{WANT} | "})
 
 
 def files(counts, folder):
@@ -175,11 +201,13 @@ def files(counts, folder):
 
 
 def dictionaries(counts):
-    inserts = [("insert", "v"), ("or_insert", 2), ("or_insert_with", 2), ("insert of an entry", 2)]
-    for name, value in inserts:
+    # what stands at a new key behind each call, and what at one that was there
+    inserts = [("insert", "v", "v"), ("or_insert", "v", 2), ("or_insert_with", "v", 2),
+               ("insert of an entry", "v", 2), ("set_by_entry", 7, 7), ("set_by_made_entry", 7, 7)]
+    for name, added, value in inserts:
         for size in (0, 1, 2, 3, 4, 7, 8, 14, 15, 28, 29):
             old = {f"k{i}": i for i in range(size)}
-            counts.sweep(name, joined(old), "ok | " + joined({**old, "new": "v"}),
+            counts.sweep(name, joined(old), "ok | " + joined({**old, "new": added}),
                          {"back new 'v' | " + joined(old)})
         # a key that is there needs none
         there = {"a": 1, "new": 2}
@@ -206,6 +234,8 @@ def scalars(counts):
     counts.sweep("text of data", zeros, lines, {WANT})
     counts.sweep("data of a text", lines, zeros, {WANT})
     counts.sweep("data of a text", "A", "Decode", {WANT})
+    counts.sweep("data_again", zeros, zeros, {WANT})
+    counts.sweep("date_again", "-619446474", "-619446474", {WANT})
     counts.sweep("clone of data", "00ff", "00ff", {WANT})
     for word in ("'text'", "<00ff>"):
         counts.sweep("clone of an event", word, word, {WANT})
@@ -214,6 +244,21 @@ def scalars(counts):
     counts.sweep("tree", objects, "[2 'x' {1 'k' 'x' end end", {WANT})
     cycle = "{ '$objects' [ '$null' [ uid:1 end end '$top' { end end"
     counts.sweep("tree", cycle, "RecursiveUid(1)", {WANT})
+
+
+def uses(counts, folder):
+    path = folder / "input"
+    path.write_bytes(PAIRS_FILE)
+    file = PAIRS_FILE.hex()
+    counts.sweep("Settings::open", str(path), f"ok | {file}", {WANT})
+    counts.sweep("Settings::save", str(path), f"ok | {file}", {f"{WANT} | "})
+    changed = file_of("d3010203040105 5161 5162 536e6577 a106 5178 1007 080f1113171b19", 7, 29)
+    counts.sweep("Settings::set", str(path), f"ok | {changed.hex()}", {f"back | {file}"})
+    counts.sweep("convert", str(path), f"ok | {file}", {f"{WANT} | "})
+    counts.sweep("read_upload", str(path), joined({"a": ["x"], "b": "a"}), {WANT})
+    path.write_bytes(ASCII)
+    counts.sweep("read_upload", str(path), joined(ASCII_VALUE), {WANT})
+    counts.sweep("root_of", ROOT, "{1 'name' 'x' end", {WANT})
 
 
 # ---- files that lie
@@ -251,6 +296,8 @@ def still_readers(counts, folder):
     def fault(digits, table, kind):
         still("later items", file_of(f"a101 {digits} 080a", 2, table), f"true {kind} (offset 10)")
 
+    for content, told in ((TRUE_FILE, "binary"), (b" <plist", "XML"), (b"{}", "ASCII")):
+        still("format_of", content, told)
     still("AsciiReader", b"({ // c\n/* d */ }); = ,\t)", "[ { end end end")
     still("AsciiReader", b"( /*", "[ IncompleteComment (offset 4)")
     still("AsciiReader", b"", "")
@@ -279,12 +326,13 @@ def still_writers(counts):
     key, place, end = "DictionaryKeyOrEndCollection", "ValueOrStartCollection", "EndCollection"
     kinds = ["Integer", "StartArray", "StartDictionary", "Boolean", "Data", "Date", "Real", "Uid"]
     refused = "".join(refusal(key, kind) for kind in kinds)
-    for name in ("a Builder", "a BinaryWriter"):
+    for name in ("a Builder", "a BinaryWriter", "a SharingWriter"):
         events = "{ | 1 [ { true <> date:0 real:00000000 uid:1"
         counts.still(f"refused by {name}", events, refused)
     counts.still("refused by a Builder", "{ 'k' | end", refusal(place, end))
-    counts.still("refused by a BinaryWriter", "{ 'k' | end", refusal(key, end))
-    counts.still("refused by a BinaryWriter", "true | end", refusal(place, end))
+    for name in ("a BinaryWriter", "a SharingWriter"):
+        counts.still(f"refused by {name}", "{ 'k' | end", refusal(key, end))
+        counts.still(f"refused by {name}", "true | end", refusal(place, end))
     behind = "".join(f"ExpectedEndOfEventStream {{ found: {kind} }}; "
                      for kind in ("String", "StartArray", end))
     counts.still("refused by a Builder", "'a' | 'b' [ end", behind)
@@ -331,6 +379,7 @@ def run(counts, folder):
     files(counts, folder)
     dictionaries(counts)
     scalars(counts)
+    uses(counts, folder)
     lies(counts, folder)
     still_readers(counts, folder)
     still_writers(counts)

@@ -99,8 +99,8 @@ def program(folder):
         shutil.copy(file, source / file.stem)
     words = CRATES / "plist_vectors/src/support/words.rt"
     shutil.copy(words, source / "support/words.rt")
-    lines.append("calls: plist_base plist_data plist_binread plist_binwrite plist_ascii "
-                 "plist_reader plist plist_keyed hex")
+    lines.append("calls: plist_base plist_data plist_binread plist_binwrite plist_share plist_ascii "
+                 "plist_reader plist plist_keyed plist_uses hex")
     (root / "crates.txt").write_text("\n".join(lines) + "\n")
     subprocess.run(["rt", "run", "--", "none", "none"], cwd=source.parent, stdout=sys.stderr)
     return source.parent / "out/calls"
