@@ -1,5 +1,5 @@
 -- The text of data: lines of base64 (RFC 4648, section 4).
-use Rattle.std.specs.Prelude.{◌≡◌, ℕ, ◌*◌, not, List, [], length, map, take, drop, replicate, ◌++◌, ◌∷◌, Option, None, Some, Err, String, string_bytes, refl, codes, ⊤}
+use Rattle.std.specs.Prelude.{◌≡◌, ◌↔◌, ℕ, ◌*◌, not, List, [], length, map, take, drop, replicate, ◌++◌, ◌∷◌, Option, None, Some, Err, String, string_bytes, refl, codes, ⊤}
 use Rattle.std.specs.declared.alloc.Global.{Global}
 use Rattle.std.specs.List.{filter, join_with_byte, range_with_len}
 use Rattle.std.specs.Char.{is_ascii_whitespace}
