@@ -22,3 +22,4 @@ pub mod Inserted
 pub mod Retained
 pub mod Extended
 pub mod Rebuilt
+pub mod Dropping

@@ -28,3 +28,4 @@ pub mod Bulk
 pub mod Contents
 pub mod Rows
 pub mod Limiting
+pub mod Weights

@@ -182,6 +182,14 @@ impl<V> Pairs<V> {
     {
         Values::new(self.items.as_slice())
     }
+
+    // The values, without their keys.
+    pub(crate) fn into_items(self) -> Vec<V>
+        ensures { result.items ≡ values_of self }
+    {
+        let Pairs { keys: _keys, items } = self;
+        items
+    }
 }
 
 /// The pairs, in their order.

@@ -1,11 +1,12 @@
 //! Values of property lists.
 
-ghost use Rattle.std.specs.Prelude.{◌≡◌, IfOk, IfSome};
+ghost use Rattle.std.specs.Prelude.{◌≡◌, ◌+◌, IfOk, IfSome, MatchOption, option_map, string_bytes};
 ghost use Rattle.std.specs.Iterator.{IsFinite};
 ghost use Rattle.plist_base.specs.Bracketing.{AreAlike, bracketing};
 ghost use Rattle.plist_base.specs.Writing.{answer_of};
 ghost use Rattle.plist.specs.Sent.{SendsTree};
 ghost use Rattle.plist.specs.Collecting.{Collects, built_tree};
+ghost use Rattle.plist.specs.Contents.{array_in, data_in, dictionary_in, text_in};
 ghost use Rattle.plist.specs.Inputs.{AnswersAsSeen, IsReadFrom};
 ghost use Rattle.plist.specs.ReadBy.{IsReadAsAscii, IsReadBy};
 ghost use Rattle.plist.specs.ReadingBack.{ReadsBack};
@@ -19,15 +20,18 @@ ghost use Rattle.plist_base.specs.Trees.{Leaf, String, Tree};
 ghost use Rattle.plist.specs.LastWins.{AreLastValues, Rows, last_values, last_wins};
 ghost use Rattle.plist.specs.Limiting.{IsReadUnder, IsWithin};
 ghost use Rattle.plist.specs.Remaining.{remaining_events};
-ghost use Rattle.plist.specs.Views.{kind_of_tree, tree_of};
+ghost use Rattle.plist.specs.Views.{item_trees, kind_of_tree, pair_trees, tree_of};
+ghost use Rattle.plist.specs.Weights.{weight, weights};
 
 mod contents;
+mod dropping;
 mod from;
 
 use crate::Dictionary;
 use crate::collect::collect;
 use crate::copy::copy;
 use crate::stream::{AnyEvent, Events};
+use crate::value::dropping::joined;
 use crate::writing::collect_events;
 use plist_ascii::{AsciiReader, Bytes, Dialect};
 use plist_base::{Date, Error, EventKind, Integer, Limited, Limits, RealBits, Source, Uid};
@@ -37,7 +41,10 @@ use std::alloc::Global;
 use std::io::Write;
 
 /// A property list: a scalar, an array, or a dictionary.
-#[derive(Debug, Drop)]
+///
+/// A value is dropped without recursion and without memory, however deep it is. So a pattern can't
+/// take the content out of one by value: [`Value::into_array`] and the like do.
+#[derive(Debug)]
 pub enum Value {
     /// Values in order.
     Array(Vec<Value>),
@@ -59,7 +66,86 @@ pub enum Value {
     Uid(Uid),
 }
 
+impl Drop for Value {
+    fn drop(self) {
+        let Some(mut left) = self.into_children() else {
+            return;
+        };
+        while let Some(value) = left.pop() {
+            match value.into_children() {
+                None => {}
+                Some(below) => left = joined(left, below),
+            }
+        }
+        left.destroy_empty();
+    }
+}
+
 impl Value {
+    ghost use Rattle.plist.specs.declared.value.Value.TheVariants as made;
+
+    // What a collection holds, without its keys; a scalar is dropped.
+    fn into_children(self) -> Option<Vec<Value>>
+        ensures { MatchOption result (weight self ≡ 1)
+            (λ items. weight self ≡ 1 + weights items.items) }
+    {
+        match self {
+            Value::Array(items) => Some(items),
+            Value::Dictionary(pairs) => Some(pairs.into_items()),
+            Value::Boolean(_) => None,
+            Value::Data(_) => None,
+            Value::Date(_) => None,
+            Value::Real(_) => None,
+            Value::Integer(_) => None,
+            Value::String(_) => None,
+            Value::Uid(_) => None,
+        }
+    }
+
+    /// The array, if the value is one.
+    pub fn into_array(self) -> Option<Vec<Value>>
+        ensures value { option_map (λ items. item_trees items.items) result ≡ array_in (tree_of self) }
+        ensures made { IfSome result (λ items. self ≡ made.Array items) }
+    {
+        match self {
+            Value::Array(array) => Some(array),
+            _ => None,
+        }
+    }
+
+    /// The dictionary, if the value is one.
+    pub fn into_dictionary(self) -> Option<Dictionary>
+        ensures value { option_map pair_trees result ≡ dictionary_in (tree_of self) }
+        ensures made { IfSome result (λ pairs. self ≡ made.Dictionary pairs) }
+    {
+        match self {
+            Value::Dictionary(pairs) => Some(pairs),
+            _ => None,
+        }
+    }
+
+    /// The bytes of data, if the value is data.
+    pub fn into_data(self) -> Option<Vec<u8>>
+        ensures value { option_map (λ bytes. bytes.items) result ≡ data_in (tree_of self) }
+        ensures made { IfSome result (λ bytes. self ≡ made.Data bytes) }
+    {
+        match self {
+            Value::Data(bytes) => Some(bytes),
+            _ => None,
+        }
+    }
+
+    /// The text, if the value is one.
+    pub fn into_string(self) -> Option<String>
+        ensures value { option_map string_bytes result ≡ text_in (tree_of self) }
+        ensures made { IfSome result (λ text. self ≡ made.String text) }
+    {
+        match self {
+            Value::String(text) => Some(text),
+            _ => None,
+        }
+    }
+
     /// The events of the value, depth first.
     pub fn events(&self, alloc: Global) -> Events<'_>
         ensures items { remaining_events result ≡ bracketing (tree_of self.now) }

@@ -59,9 +59,9 @@ impl Settings {
         ensures opened { IfOk result (λ settings. IsReadOf (R.known file) (tree_in settings)) }
     {
         let value = value_in(alloc, file)?;
-        match value {
-            Value::Dictionary(pairs) => Ok(Settings { pairs }),
-            _ => Err(SettingsError::NoDictionary),
+        match value.into_dictionary() {
+            Some(pairs) => Ok(Settings { pairs }),
+            None => Err(SettingsError::NoDictionary),
         }
     }
 

@@ -15,16 +15,6 @@ impl Value {
     ghost use Rattle.plist.specs.declared.value.Value.TheVariants as made;
 
     /// The array, if the value is one.
-    pub fn into_array(self) -> Option<Vec<Value>>
-        ensures { option_map (λ items. item_trees items.items) result ≡ array_in (tree_of self) }
-    {
-        match self {
-            Value::Array(items) => Some(items),
-            _ => None,
-        }
-    }
-
-    /// The array, if the value is one.
     pub fn as_array(&self) -> Option<&Vec<Value>>
         ensures { option_map (λ items. item_trees items.now.items) result
             ≡ array_in (tree_of self.now) }
@@ -44,16 +34,6 @@ impl Value {
     {
         match self {
             Value::Array(lent) => Some(lent),
-            _ => None,
-        }
-    }
-
-    /// The dictionary, if the value is one.
-    pub fn into_dictionary(self) -> Option<Dictionary>
-        ensures { option_map pair_trees result ≡ dictionary_in (tree_of self) }
-    {
-        match self {
-            Value::Dictionary(pairs) => Some(pairs),
             _ => None,
         }
     }
@@ -88,16 +68,6 @@ impl Value {
     {
         match self {
             Value::Boolean(value) => Some(*value),
-            _ => None,
-        }
-    }
-
-    /// The bytes of data, if the value is data.
-    pub fn into_data(self) -> Option<Vec<u8>>
-        ensures { option_map (λ bytes. bytes.items) result ≡ data_in (tree_of self) }
-    {
-        match self {
-            Value::Data(bytes) => Some(bytes),
             _ => None,
         }
     }
@@ -157,16 +127,6 @@ impl Value {
     }
 
     /// The text, if the value is one.
-    pub fn into_string(self) -> Option<String>
-        ensures { option_map string_bytes result ≡ text_in (tree_of self) }
-    {
-        match self {
-            Value::String(text) => Some(text),
-            _ => None,
-        }
-    }
-
-    /// The text, if the value is one.
     pub fn as_string(&self) -> Option<&str>
         ensures { option_copied result ≡ text_in (tree_of self.now) }
     {
@@ -180,8 +140,8 @@ impl Value {
     pub fn into_uid(self) -> Option<Uid>
         ensures { result ≡ uid_in (tree_of self) }
     {
-        match self {
-            Value::Uid(uid) => Some(uid),
+        match &self {
+            Value::Uid(uid) => Some(*uid),
             _ => None,
         }
     }

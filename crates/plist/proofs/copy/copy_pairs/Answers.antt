@@ -2,33 +2,15 @@ use Rattle.std.proofs.Common.{◌≡◌, ◌+◌, ℕ, suc, List, take, string_b
 use Rattle.std.specs.Str.{bytes_eq}
 use Rattle.std.proofs.lemmas.List.{length-map}
 use Rattle.indexmap.specs.IndexMap.{insert_entry}
-use Rattle.plist_base.specs.Trees as tree
-use Rattle.plist_base.specs.Trees.{Leaf, Tree}
-use Rattle.plist.specs.declared.value.Value.{size-Value}
+use Rattle.plist_base.specs.Trees.{Tree}
 use Rattle.plist.specs.Views.{tree_of, tree_pairs}
-use Rattle.plist.proofs.TreeOf.{tree_of-Data, tree_pairs_insert}
+use Rattle.plist.proofs.TreeOf.{tree_pairs_insert}
 use Rattle.plist.proofs.SameTrees.{once-pairs}
-use Rattle.plist.proofs.Depths.{no-deeper}
-use Rattle.plist.proofs.Copies.{copies-equal, take-all, tree-at, next-last}
-use Rattle.plist.proofs.copy.+copy.Goals as goal
+use Rattle.plist.proofs.Copies.{take-all, tree-at, next-last}
+use Rattle.plist.proofs.copy.copy_pairs.Goals as goal
 
-pub copy-returns-in_ok-clone-in-Data : goal.copy-returns-in_ok-clone-in-Data
-copy-returns-in_ok-clone-in-Data t c =
-    tree_of-Data c.in_ok-clone-in-Data.field-0
-    ∙ ap (λ l. Leaf (tree.Data l))
-    (copies-equal _ (λ x y e. e) c.in-Data.bytes.items c.in_ok-clone-in-Data.field-0.items
-    c.in_ok-clone-in-Data.ensures.cases.0)
-    ∙ sym (tree_of-Data c.in-Data.bytes) ∙ ap tree_of (sym c.in-Data.is)
-
-pub copy_pairs-copy-requires : goal.copy_pairs-copy-requires
-copy_pairs-copy-requires t c = (
-  let d = no-deeper size-Value c.args.pairs.now c.loop-i.i c.pair_at.result.0.now
-      c.pair_at.result.1.now c.pair_at.ensures in omega (arith, c.decreases, d),
-  tt,
-)
-
-pub copy_pairs-loop-i-preserved : goal.copy_pairs-loop-i-preserved
-copy_pairs-loop-i-preserved t c =
+pub loop-i-preserved : goal.loop-i-preserved
+loop-i-preserved c =
     let ps = c.args.pairs.now in
     let i = c.loop-i.i in
     let k = c.pair_at.result.0.now in
@@ -45,8 +27,8 @@ copy_pairs-loop-i-preserved t c =
     (tree-at ps i k v c.pair_at.ensures)
     ∙ ap (λ n. take n (tree_pairs ps)) one
 
-pub copy_pairs-returns : goal.copy_pairs-returns
-copy_pairs-returns t c =
+pub returns : goal.returns
+returns c =
     let ps = c.args.pairs.now in
     c.loop-i.invariant ∙ take-all (tree_pairs ps) c.loop-i.i
     (omega (

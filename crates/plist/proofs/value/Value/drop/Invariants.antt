@@ -1,0 +1,5 @@
+use Rattle.plist.specs.Weights.{to_drop}
+use Rattle.plist.proofs.value.Value.drop.Given as goal
+
+abbrev pub decreases-loop-value : goal.decreases-loop-value
+decreases-loop-value l = to_drop l.left.items

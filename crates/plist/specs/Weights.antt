@@ -1,0 +1,35 @@
+-- How much of a value there is to drop.
+use Rattle.std.specs.Prelude.{◌≡◌, ◌<◌, ◌≤◌, ◌⊎◌, ℕ, ◌+◌, ◌*◌, List, [], ◌∷◌, map, sum, length}
+use Rattle.std.specs.Map.{values_of}
+use Rattle.plist.specs.declared.value.Value.{Value, fold-Value}
+use Rattle.plist.specs.declared.value.Value.TheOpen.{Value-F}
+
+abbrev pub weight_step : Value-F ℕ → ℕ
+weight_step (Value-F.Array items) = 1 + sum items.items
+weight_step (Value-F.Dictionary pairs) = 1 + sum (values_of pairs)
+weight_step other = 1
+
+-- how many values a value holds, itself among them
+abbrev pub weight : Value → ℕ
+weight = fold-Value ℕ weight_step
+
+abbrev pub weights : List Value → ℕ
+weights values = sum (map weight values)
+
+-- the values behind the first
+abbrev pub others : List Value → List Value
+others [] = []
+others (value ∷ values) = values
+
+-- What falls as values are dropped: there are fewer, or as many, of which fewer stand behind the
+-- first.
+abbrev pub to_drop : List Value → ℕ
+to_drop values = weights values * weights values + weights (others values)
+
+-- One list of the values of two, of which a collection held the second: fewer than there were with
+-- the collection, or as many, and no more behind the first than the collection held.
+abbrev pub IsLess : (joined left below : List Value) → Type 0
+IsLess joined left below =
+    (weights joined < weights left + 1 + weights below)
+    ⊎ ((0 < length left) × (weights joined ≡ weights left + 1 + weights below)
+    × (weights (others joined) ≤ weights below))

@@ -1,0 +1,35 @@
+//! How a value is dropped: the values that are left stand in one list, which hangs as an array in
+//! the next one, in the place of a value for which the other had room.
+
+ghost use Rattle.std.specs.Prelude.{◌<◌, length};
+ghost use Rattle.std.specs.Vec.{vec_capacity};
+ghost use Rattle.plist.specs.Weights.{IsLess};
+
+use crate::Value;
+use std::mem;
+
+/// One list of the values that are left and of those that a collection held.
+///
+/// It takes no memory: the collection was taken out of the first list, so there is room for one
+/// value, and then there is in the second.
+pub(super) fn joined(mut left: Vec<Value>, mut below: Vec<Value>) -> Vec<Value>
+    requires { length left.items < vec_capacity left }
+    ensures { IsLess result.items left.items below.items }
+{
+    if left.is_empty() {
+        left.destroy_empty();
+        return below;
+    }
+    let Some(last) = below.pop() else {
+        below.destroy_empty();
+        return left;
+    };
+    left.push_reserved(last);
+    if below.is_empty() {
+        below.destroy_empty();
+        return left;
+    }
+    let first = mem::replace(&mut below[0], Value::Array(left));
+    below.push_reserved(first);
+    below
+}
