@@ -30,64 +30,80 @@ pub trait Writer: Sealed {
 
     ghost Step: { Self → PlainEvent → Answer → Self → Type 0 };
 
+    /// Writes an event. Each other call writes the event that it names.
+    fn write(&mut self, event: Event<'_>) -> Result<(), Error>
+        ensures { Step self.old (event_of event.entry) (answer_of result) self.new };
+
     /// Begins an array.
     fn write_start_array(&mut self, length: Option<u64>) -> Result<(), Error>
-        ensures { Step self.old (events.StartArray length) (answer_of result) self.new };
+        ensures { Step self.old (events.StartArray length) (answer_of result) self.new }
+    {
+        self.write(Event::StartArray(length))
+    }
 
     /// Begins a dictionary.
     fn write_start_dictionary(&mut self, length: Option<u64>) -> Result<(), Error>
-        ensures { Step self.old (events.StartDictionary length) (answer_of result) self.new };
+        ensures { Step self.old (events.StartDictionary length) (answer_of result) self.new }
+    {
+        self.write(Event::StartDictionary(length))
+    }
 
     /// Ends the innermost array or dictionary.
     fn write_end_collection(&mut self) -> Result<(), Error>
-        ensures { Step self.old events.EndCollection (answer_of result) self.new };
+        ensures { Step self.old events.EndCollection (answer_of result) self.new }
+    {
+        self.write(Event::EndCollection)
+    }
 
     /// Writes a truth value.
     fn write_boolean(&mut self, value: bool) -> Result<(), Error>
-        ensures { Step self.old (Single (scalar.Boolean value)) (answer_of result) self.new };
+        ensures { Step self.old (Single (scalar.Boolean value)) (answer_of result) self.new }
+    {
+        self.write(Event::Boolean(value))
+    }
 
     /// Writes bytes.
     fn write_data(&mut self, bytes: CowSlice<'_, u8>) -> Result<(), Error>
         ensures { Step self.old (Single (scalar.Data (cow_slice_items bytes.entry)))
-            (answer_of result) self.new };
+            (answer_of result) self.new }
+    {
+        self.write(Event::Data(bytes))
+    }
 
     /// Writes a moment.
     fn write_date(&mut self, date: Date) -> Result<(), Error>
-        ensures { Step self.old (Single (scalar.Date date)) (answer_of result) self.new };
+        ensures { Step self.old (Single (scalar.Date date)) (answer_of result) self.new }
+    {
+        self.write(Event::Date(date))
+    }
 
     /// Writes a whole number.
     fn write_integer(&mut self, value: Integer) -> Result<(), Error>
-        ensures { Step self.old (Single (scalar.Integer value)) (answer_of result) self.new };
+        ensures { Step self.old (Single (scalar.Integer value)) (answer_of result) self.new }
+    {
+        self.write(Event::Integer(value))
+    }
 
     /// Writes the bytes of a real.
     fn write_real(&mut self, bits: RealBits) -> Result<(), Error>
-        ensures { Step self.old (Single (scalar.Real bits)) (answer_of result) self.new };
+        ensures { Step self.old (Single (scalar.Real bits)) (answer_of result) self.new }
+    {
+        self.write(Event::Real(bits))
+    }
 
     /// Writes a text, or a key.
     fn write_string(&mut self, text: CowStr<'_>) -> Result<(), Error>
         ensures { Step self.old (Single (scalar.String (cow_str_bytes text.entry)))
-            (answer_of result) self.new };
+            (answer_of result) self.new }
+    {
+        self.write(Event::String(text))
+    }
 
     /// Writes the number of an object in a keyed archive.
     fn write_uid(&mut self, uid: Uid) -> Result<(), Error>
-        ensures { Step self.old (Single (scalar.Uid uid)) (answer_of result) self.new };
-
-    /// Writes an event.
-    fn write(&mut self, event: Event<'_>) -> Result<(), Error>
-        ensures { Step self.old (event_of event.entry) (answer_of result) self.new }
+        ensures { Step self.old (Single (scalar.Uid uid)) (answer_of result) self.new }
     {
-        match event {
-            Event::StartArray(length) => self.write_start_array(length),
-            Event::StartDictionary(length) => self.write_start_dictionary(length),
-            Event::EndCollection => self.write_end_collection(),
-            Event::Boolean(value) => self.write_boolean(value),
-            Event::Data(bytes) => self.write_data(bytes),
-            Event::Date(date) => self.write_date(date),
-            Event::Integer(value) => self.write_integer(value),
-            Event::Real(bits) => self.write_real(bits),
-            Event::String(text) => self.write_string(text),
-            Event::Uid(uid) => self.write_uid(uid),
-        }
+        self.write(Event::Uid(uid))
     }
 
     // While it hasn't failed, its answer is decided by what it holds and the event.

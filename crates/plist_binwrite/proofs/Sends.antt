@@ -1,5 +1,5 @@
 -- What sending a file does.
-use Rattle.std.proofs.Common.{◌≡◌, inl, inr, ℕ, ◌^◌, ◌≤◌, List, Option, Ok, Err, sym, ap, ◌∙◌, subst, refl}
+use Rattle.std.proofs.Common.{◌≡◌, inl, inr, ℕ, ◌^◌, ◌≤◌, List, Option, Ok, Err, sym, ◌∙◌, subst, refl}
 use Rattle.plist_base.specs.declared.event.Event.{Event}
 use Rattle.plist_base.specs.Bracketing.{bracketing, AreAlike, AreWhole, AreComplete}
 use Rattle.plist_base.specs.Events.{PlainEvent}
@@ -8,7 +8,7 @@ use Rattle.plist_base.specs.Fronts.{AppendsFront}
 use Rattle.plist_base.specs.Trees.{Tree}
 use Rattle.plist_base.specs.Writing.{Answer}
 use Rattle.plist_base.proofs.Grammar.{complete_of_whole, whole_alike}
-use Rattle.plist_binwrite.specs.Classes.{IsFileBy, IsUnplanned, SendsBy, size_by}
+use Rattle.plist_binwrite.specs.Classes.{IsUnplanned, SendsBy}
 use Rattle.plist_binwrite.specs.Held.{plain_events}
 use Rattle.plist_binwrite.specs.SendingAs.{IsFileOfEvents, FailsWith, Sends}
 use Rattle.plist_binwrite.proofs.Unhinted.{plain_shape}

@@ -1,29 +1,67 @@
--- What a call of the writer does: what it holds then, whether it has failed, and what went out.
-use Rattle.std.specs.Prelude.{ℕ, Bool, List, Option}
+-- What a call of a writer does: what it holds then, whether it has failed, and what went out.
+use Rattle.std.specs.Prelude.{◌≡◌, ◌⊎◌, ℕ, Bool, true, false, List, [], ◌∷◌, ◌++◌, Option, None, Ok, Err, MatchBool}
 use Rattle.std.specs.declared.io.traits.Write.{Ghosts}
+use Rattle.plist_base.specs.Bracketing.{unhinted, AreWhole, CanContinue}
 use Rattle.plist_base.specs.Events.{PlainEvent}
-use Rattle.plist_base.specs.Writing.{Answer}
-use Rattle.plist_binwrite.specs.declared.writer.BinaryWriter.{BinaryWriter}
-use Rattle.plist_binwrite.specs.Files.{IsFileOf}
-use Rattle.plist_binwrite.specs.Pendings.{events_held}
-use Rattle.plist_binwrite.specs.Sizes.{file_size}
-use Rattle.plist_binwrite.specs.WriterSteps as steps
+use Rattle.plist_base.specs.Faults.{WriterFailed, fault_nowhere}
+use Rattle.plist_base.specs.Trees.{Tree}
+use Rattle.plist_base.specs.Writing.{Answer, MatchKind}
+use Rattle.plist_binwrite.specs.declared.shared.Sharing.{Ghosts as SharingGhosts}
+use Rattle.plist_binwrite.specs.declared.writer.FileWriter.{FileWriter}
+use Rattle.plist_binwrite.specs.SendingAs.{SendsFile, FailsWith}
+use Rattle.plist_binwrite.specs.Pendings.{events_held, refusal_of}
 
 -- the events taken of the open property list, without the lengths of starts
-abbrev pub held_by : {W : Type 0} {g : Ghosts W} → BinaryWriter W g → List PlainEvent
+abbrev pub held_by : {W S : Type 0} {g : Ghosts W} {h : SharingGhosts S} → FileWriter W S g h
+    → List PlainEvent
 held_by writer = events_held writer.pending
 
 -- has the writer failed?
-abbrev pub failed_of : {W : Type 0} {g : Ghosts W} → BinaryWriter W g → Bool
+abbrev pub failed_of : {W S : Type 0} {g : Ghosts W} {h : SharingGhosts S} → FileWriter W S g h
+    → Bool
 failed_of writer = writer.has_failed
 
 -- what takes the bytes
-abbrev pub inner_of : {W : Type 0} {g : Ghosts W} → BinaryWriter W g → W
+abbrev pub inner_of : {W S : Type 0} {g : Ghosts W} {h : SharingGhosts S} → FileWriter W S g h → W
 inner_of writer = writer.writer
 
-module _ {W : Type 0} {g : Ghosts W} (contents : W → Option (List ℕ)) where
-  -- a call
-  abbrev pub Takes : (before : BinaryWriter W g) → PlainEvent → Answer → (after : BinaryWriter W g)
+-- where it is told which bytes are a file of a tree, and how many such a file has
+module _ {W S : Type 0} {g : Ghosts W} {h : SharingGhosts S} (IsFile : Tree → List ℕ → Type 0)
+    (size : Tree → ℕ) (contents : W → Option (List ℕ)) where
+  -- the events held and this one are a tree's: a file of it went out, and nothing is held
+  abbrev pub Completes : (before : FileWriter W S g h) → PlainEvent
+      → (after : FileWriter W S g h) → Type 0
+  Completes before event after =
+      SendsFile IsFile size contents (held_by before ++ event ∷ []) (inner_of before)
+      (inner_of after)
+      × (held_by after ≡ [])
+
+  -- they are no tree's yet: the event is held, and nothing went out
+  abbrev pub Holds : (before : FileWriter W S g h) → PlainEvent → (after : FileWriter W S g h)
       → Type 0
+  Holds before event after =
+      (AreWhole (held_by before ++ event ∷ []) → ⊥)
+      × (held_by after ≡ held_by before ++ unhinted event ∷ [])
+      × (inner_of after ≡ inner_of before)
+
+  -- a call before the writer has failed
+  abbrev pub TakesEvent : (before : FileWriter W S g h) → PlainEvent → Answer
+      → (after : FileWriter W S g h) → Type 0
+  TakesEvent before event (Ok done) after =
+      CanContinue (held_by before) event × (failed_of after ≡ false)
+      × (Completes before event after ⊎ Holds before event after)
+  TakesEvent before event (Err fault) after = (fault.offset ≡ None) × MatchKind fault.kind
+      ((CanContinue (held_by before) event → ⊥) × (fault ≡ refusal_of (held_by before) event)
+      × (after ≡ before))
+      (CanContinue (held_by before) event × (failed_of after ≡ true)
+      × FailsWith IsFile size contents fault.kind (held_by before ++ event ∷ [])
+      (inner_of before) (inner_of after))
+      ⊥
+
+  -- a call
+  abbrev pub Takes : (before : FileWriter W S g h) → PlainEvent → Answer
+      → (after : FileWriter W S g h) → Type 0
   Takes before event answer after =
-      steps.Takes held_by failed_of inner_of IsFileOf file_size contents before event answer after
+      MatchBool (failed_of before)
+      ((answer ≡ Err (fault_nowhere WriterFailed)) × (after ≡ before))
+      (TakesEvent before event answer after)

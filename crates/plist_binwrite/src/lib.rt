@@ -17,6 +17,7 @@ pub mod outlet;
 pub mod pending;
 mod plan;
 mod scalar;
+mod shared;
 mod size;
 pub mod skips;
 mod text;
@@ -25,4 +26,5 @@ mod writer;
 
 pub use completion::{complete, complete_by_class};
 pub use plist_base::send::send_whole;
-pub use writer::BinaryWriter;
+pub use shared::{EqualScalars, Sharing};
+pub use writer::{BinaryWriter, FileWriter};

@@ -1,15 +1,15 @@
-//! The writer of binary property lists.
+//! The writers of binary property lists.
 
 ghost use Rattle.std.specs.Prelude.{◌≡◌, false};
 ghost use Rattle.std.proofs.Props.{props};
 ghost use Rattle.plist_binwrite.specs.Pendings.{is_whole};
 
-use crate::completion::complete;
 use crate::pending::Pending;
-use plist_base::{Date, Error, ErrorKind, Event, Integer, RealBits, Sealed, Uid, Writer};
+use crate::shared::{EqualScalars, Sharing};
+use plist_base::{Error, ErrorKind, Event, Sealed, Writer};
 use std::alloc::Global;
-use std::borrow::{CowSlice, CowStr};
 use std::io::Write;
+use std::marker::PhantomData;
 
 /// Writes binary property lists, one behind the other, to what takes bytes.
 ///
@@ -23,20 +23,23 @@ use std::io::Write;
 /// `Io` come only for an event that can follow those held, and the writer has failed then: each
 /// later event answers `WriterFailed`. After `PlistTooLarge` and `OutOfMemory` no byte of the
 /// property list went out; after `Io` a beginning of its file did, all of it where the flush failed.
+pub type BinaryWriter<W> = FileWriter<W, EqualScalars>;
+
+/// Writes binary property lists, one behind the other, in which equal trees are one object as its
+/// [`Sharing`] says. [`BinaryWriter`] says what a call does, and when it is refused.
 #[derive(Drop)]
-pub struct BinaryWriter<W: Write> {
+pub struct FileWriter<W: Write, S: Sharing> {
     writer: W,
     alloc: Global,
     pending: Pending,
     has_failed: bool,
+    sharing: PhantomData<S>,
     ghost between: { has_failed ≡ false → is_whole pending ≡ false } by { Prim.hlevel props },
 }
 
-impl<W: Write> BinaryWriter<W> {
+impl<W: Write, S: Sharing> FileWriter<W, S> {
     ghost use Rattle.std.specs.Prelude.{◌≡◌, [], false};
-    ghost use Rattle.plist_base.specs.Events.{event_of};
-    ghost use Rattle.plist_base.specs.Writing.{answer_of};
-    ghost use Rattle.plist_binwrite.specs.Taking.{Takes, held_by, failed_of, inner_of};
+    ghost use Rattle.plist_binwrite.specs.Taking.{held_by, failed_of, inner_of};
 
     /// A writer that holds no events. It takes no memory, and sends nothing.
     pub fn new(alloc: Global, writer: W) -> Self
@@ -44,11 +47,12 @@ impl<W: Write> BinaryWriter<W> {
         ensures failed { failed_of result ≡ false }
         ensures inner { inner_of result ≡ writer }
     {
-        BinaryWriter {
+        FileWriter {
             writer,
             alloc,
             pending: Pending::new(alloc),
             has_failed: false,
+            sharing: PhantomData,
         }
     }
 
@@ -56,13 +60,24 @@ impl<W: Write> BinaryWriter<W> {
     pub fn into_inner(self) -> W
         ensures inner { result ≡ inner_of self }
     {
-        let BinaryWriter { writer, .. } = self;
+        let FileWriter { writer, .. } = self;
         writer
     }
+}
 
-    fn take(&mut self, event: Event<'_>) -> Result<(), Error>
-        ensures { Takes W.contents self.old (event_of event.entry) (answer_of result) self.new }
-    {
+impl<W: Write, S: Sharing> Sealed for FileWriter<W, S> {}
+
+impl<W: Write, S: Sharing> Writer for FileWriter<W, S> {
+    ghost use Rattle.plist_binwrite.specs.Taking.{Takes, held_by, failed_of};
+    ghost use Rattle.plist_binwrite.specs.Laws.{takes_law, takes_failed};
+
+    ghost held = { held_by };
+
+    ghost failed = { failed_of };
+
+    ghost Step = { Takes S.IsFile S.size W.contents };
+
+    fn write(&mut self, event: Event<'_>) -> Result<(), Error> {
         if self.has_failed {
             return Err(ErrorKind::WriterFailed.without_position());
         }
@@ -76,7 +91,7 @@ impl<W: Write> BinaryWriter<W> {
         }
         if self.pending.is_whole() {
             self.has_failed = true;
-            if let Err(error) = complete(self.alloc, self.pending.events(), &mut self.writer) {
+            if let Err(error) = S::complete(self.alloc, self.pending.events(), &mut self.writer) {
                 return Err(error);
             }
             self.pending.clear();
@@ -84,61 +99,8 @@ impl<W: Write> BinaryWriter<W> {
         }
         Ok(())
     }
-}
 
-impl<W: Write> Sealed for BinaryWriter<W> {}
+    ghost law = { takes_law S.IsFile S.size W.contents };
 
-impl<W: Write> Writer for BinaryWriter<W> {
-    ghost use Rattle.plist_binwrite.specs.Taking.{Takes, held_by, failed_of};
-    ghost use Rattle.plist_binwrite.specs.Laws.{takes_law, takes_failed};
-
-    ghost held = { held_by };
-
-    ghost failed = { failed_of };
-
-    ghost Step = { Takes W.contents };
-
-    fn write_start_array(&mut self, length: Option<u64>) -> Result<(), Error> {
-        self.take(Event::StartArray(length))
-    }
-
-    fn write_start_dictionary(&mut self, length: Option<u64>) -> Result<(), Error> {
-        self.take(Event::StartDictionary(length))
-    }
-
-    fn write_end_collection(&mut self) -> Result<(), Error> {
-        self.take(Event::EndCollection)
-    }
-
-    fn write_boolean(&mut self, value: bool) -> Result<(), Error> {
-        self.take(Event::Boolean(value))
-    }
-
-    fn write_data(&mut self, bytes: CowSlice<'_, u8>) -> Result<(), Error> {
-        self.take(Event::Data(bytes))
-    }
-
-    fn write_date(&mut self, date: Date) -> Result<(), Error> {
-        self.take(Event::Date(date))
-    }
-
-    fn write_integer(&mut self, value: Integer) -> Result<(), Error> {
-        self.take(Event::Integer(value))
-    }
-
-    fn write_real(&mut self, bits: RealBits) -> Result<(), Error> {
-        self.take(Event::Real(bits))
-    }
-
-    fn write_string(&mut self, text: CowStr<'_>) -> Result<(), Error> {
-        self.take(Event::String(text))
-    }
-
-    fn write_uid(&mut self, uid: Uid) -> Result<(), Error> {
-        self.take(Event::Uid(uid))
-    }
-
-    ghost law = { takes_law W.contents };
-
-    ghost law_of_failed = { takes_failed W.contents };
+    ghost law_of_failed = { takes_failed S.IsFile S.size W.contents };
 }

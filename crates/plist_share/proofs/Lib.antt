@@ -7,4 +7,3 @@ pub mod Found
 pub mod Telling
 pub mod Shares
 pub mod Sent
-pub mod Unchanged

@@ -4,5 +4,3 @@ pub mod SharedFiles
 pub mod Examples
 pub mod Keys
 pub mod Sharing
-pub mod Taking
-pub mod Laws

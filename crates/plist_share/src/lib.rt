@@ -8,4 +8,5 @@ mod classes;
 mod completion;
 mod writer;
 
+pub use completion::EqualTrees;
 pub use writer::SharingWriter;

@@ -11,9 +11,8 @@ ghost use Rattle.plist.specs.Views.{tree_of};
 
 use crate::Value;
 use crate::partial::Partial;
-use plist_base::{Date, Error, ErrorKind, Event, Integer, RealBits, Sealed, Uid, Writer};
+use plist_base::{Error, ErrorKind, Event, Sealed, Writer};
 use std::alloc::Global;
-use std::borrow::{CowSlice, CowStr};
 
 /// Builds a value from its events.
 ///
@@ -150,44 +149,8 @@ impl Writer for Builder {
 
     ghost Step = { IsBuildingStep };
 
-    fn write_start_array(&mut self, length: Option<u64>) -> Result<(), Error> {
-        self.take(Event::StartArray(length))
-    }
-
-    fn write_start_dictionary(&mut self, length: Option<u64>) -> Result<(), Error> {
-        self.take(Event::StartDictionary(length))
-    }
-
-    fn write_end_collection(&mut self) -> Result<(), Error> {
-        self.take(Event::EndCollection)
-    }
-
-    fn write_boolean(&mut self, value: bool) -> Result<(), Error> {
-        self.take(Event::Boolean(value))
-    }
-
-    fn write_data(&mut self, bytes: CowSlice<'_, u8>) -> Result<(), Error> {
-        self.take(Event::Data(bytes))
-    }
-
-    fn write_date(&mut self, date: Date) -> Result<(), Error> {
-        self.take(Event::Date(date))
-    }
-
-    fn write_integer(&mut self, value: Integer) -> Result<(), Error> {
-        self.take(Event::Integer(value))
-    }
-
-    fn write_real(&mut self, bits: RealBits) -> Result<(), Error> {
-        self.take(Event::Real(bits))
-    }
-
-    fn write_string(&mut self, text: CowStr<'_>) -> Result<(), Error> {
-        self.take(Event::String(text))
-    }
-
-    fn write_uid(&mut self, uid: Uid) -> Result<(), Error> {
-        self.take(Event::Uid(uid))
+    fn write(&mut self, event: Event<'_>) -> Result<(), Error> {
+        self.take(event)
     }
 
     ghost law = { building_law };

@@ -5,7 +5,7 @@ use Rattle.plist_binwrite.specs.Classes.{AreClasses}
 use Rattle.plist_binwrite.specs.Held.{AllBelow, plain_events, num_of}
 use Rattle.plist_share.specs.Keys.{TellTrees}
 use Rattle.plist_share.proofs.Sent.{sends_shared, sends_nothing}
-use Rattle.plist_share.proofs.completion.complete.Goals as goal
+use Rattle.plist_share.proofs.completion.EqualTreesSharing.complete.Goals as goal
 
 pub complete_by_class-requires : goal.complete_by_class-requires
 complete_by_class-requires g c =

@@ -1,0 +1,52 @@
+//! Which equal trees of a property list are one object of its file.
+
+ghost use Rattle.std.specs.Prelude.{List, ℕ};
+ghost use Rattle.plist_base.specs.Bracketing.{AreWhole};
+ghost use Rattle.plist_base.specs.Trees.{Tree};
+ghost use Rattle.plist_base.specs.Writing.{answer_of};
+ghost use Rattle.plist_binwrite.specs.Files.{IsFileOf};
+ghost use Rattle.plist_binwrite.specs.Held.{plain_events};
+ghost use Rattle.plist_binwrite.specs.SendingAs.{Sends};
+ghost use Rattle.plist_binwrite.specs.Sizes.{file_size};
+
+use crate::completion;
+use plist_base::{Error, Event};
+use std::alloc::Global;
+use std::io::Write;
+
+/// Which equal trees of a property list are one object of its file.
+pub trait Sharing: Drop {
+    /// What is a file of a tree?
+    ghost IsFile: { Tree → List ℕ → Type 0 };
+    /// How many bytes it has.
+    ghost size: { Tree → ℕ };
+
+    /// Plans the file of the events of a whole property list, sends it and flushes. All memory is
+    /// taken before the first byte is sent.
+    ///
+    /// # Errors
+    /// `PlistTooLarge` where the file would have 2^64 bytes or more, and `OutOfMemory`, before a byte
+    /// was sent; `Io` after a beginning of the file was.
+    fn complete<W: Write>(alloc: Global, events: &[Event<'_>], writer: &mut W) -> Result<(), Error>
+        requires whole { AreWhole (plain_events events.now) }
+        ensures { Sends IsFile size W.contents (plain_events events.now) (answer_of result)
+            writer.old writer.new };
+}
+
+/// Equal scalars are one object, and each collection is one of its own.
+#[derive(Drop)]
+pub struct EqualScalars;
+
+impl Sharing for EqualScalars {
+    ghost IsFile = { IsFileOf };
+
+    ghost size = { file_size };
+
+    fn complete<W: Write>(
+        alloc: Global,
+        events: &[Event<'_>],
+        writer: &mut W,
+    ) -> Result<(), Error> {
+        completion::complete(alloc, events, writer)
+    }
+}
