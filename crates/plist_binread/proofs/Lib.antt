@@ -12,6 +12,7 @@ pub mod Markers
 pub mod Marks
 pub mod Opened
 pub mod Packing
+pub mod Staying
 pub mod Steps
 pub mod Taken
 pub mod Turned

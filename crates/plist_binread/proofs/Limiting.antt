@@ -1,5 +1,5 @@
 -- What limits make of one call.
-use Rattle.std.proofs.Common.{◌≡◌, ℕ, ◌+◌, Bool, true, false, cond, List, [], ◌∷◌, length, Option, None, Some, Ok, Err, IfSome, MatchBool, refl, sym, ap, ◌∙◌, subst, arith}
+use Rattle.std.proofs.Common.{◌≡◌, ℕ, ◌+◌, Bool, true, false, cond, List, [], ◌∷◌, length, reverse, Option, None, Some, Ok, Err, IfSome, MatchBool, refl, sym, ap, ◌∙◌, subst, arith}
 use Rattle.std.specs.Prelude.{not, nat_le, ◌&&◌}
 use Rattle.std.specs.Option.{is_some}
 use Rattle.plist_base.specs.declared.error.Error.{Error}
@@ -12,7 +12,12 @@ use Rattle.plist_base.specs.Faults.{FaultKind, Fault, Io, OutOfMemory, LimitReac
 use Rattle.plist_base.specs.Limits.{AdmitsAny, RefusesAny, event_or_limit, has_room, level_behind, limit_at, limited_from, under, under_any}
 use Rattle.plist_base.specs.Sources.{IsPlaceWithin}
 use Rattle.plist_binread.specs.Coming.{TellsItem, has_room_in}
-use Rattle.plist_binread.specs.Debt.{IsOwed, WantsMemory}
+use Rattle.plist_binread.specs.declared.reader.State.{State}
+use Rattle.plist_binread.specs.declared.reader.State.TheVariants.{Fresh, Walking, Ended}
+use Rattle.plist_binread.specs.declared.table.Bounds.{Bounds}
+use Rattle.plist_binread.specs.declared.walk.Frame.{Frame}
+use Rattle.plist_binread.specs.Lent.{PaysTold}
+use Rattle.plist_binread.specs.Debt.{IsOwed, WantsMemory, entries_of, is_fresh, is_walking, owed_by, still_owed}
 use Rattle.plist_binread.specs.Failures.{FailsWithin, HasPlace, IsGivenWithin, MatchGiven, MatchReader}
 
 -- ---- where a fault is
@@ -178,6 +183,22 @@ module _ (new : Bool) (told : PlainEvent) where
   limit-told None old now before after x error r h = tt
   limit-told (Some bytes) old now before after x error r h =
       limit-item old now (before bytes) (after bytes) error r h
+
+-- an event that is told where there are no limits
+pub near-told : (known : Option (List ℕ)) (state : State) (bounds : Bounds) (fs gs : List Frame)
+    (limiter : Option Limiter) (told : PlainEvent) → state ≡ Walking → limiter ≡ None
+    → IfSome known (λ bytes. PaysTold (owed_by (entries_of bytes bounds) (reverse fs)) told
+    (owed_by (entries_of bytes bounds) (reverse gs)))
+    → IfSome known (λ bytes. TellsItem {A = Unit {0}} (is_fresh state)
+    (under_any limiter (still_owed bytes state bounds fs)) (Some (Ok (tt {0}))) told
+    (under_any limiter (still_owed bytes state bounds gs)))
+near-told None state bounds fs gs limiter told is none pays = tt
+near-told (Some bytes) Walking bounds fs gs None told is none pays = pays
+near-told (Some bytes) Walking bounds fs gs (Some limiter) told is none pays = absurd (cc)
+near-told (Some bytes) Fresh bounds fs gs limiter told is none pays =
+    let no : false ≡ true = ap is_walking is in absurd (cc)
+near-told (Some bytes) Ended bounds fs gs limiter told is none pays =
+    let no : false ≡ true = ap is_walking is in absurd (cc)
 
 -- ---- an end that comes
 

@@ -10,7 +10,7 @@ use Rattle.plist_binread.specs.declared.walk.Frame.{Frame}
 use Rattle.plist_binread.specs.Packed.{Remarked}
 use Rattle.plist_binread.specs.Unfolding.{Entry, unfolding_of, until_fault}
 use Rattle.plist_binread.specs.declared.table.Bounds.{Bounds}
-use Rattle.plist_binread.specs.Debt.{path_of, IsOpen, IsKnown, children_at, place_at, entries_of, owed_by, IsOwed, next_number, steps, weight, closes}
+use Rattle.plist_binread.specs.Debt.{path_of, IsOpen, IsKnown, children_at, place_at, entries_of, owed_by, IsOwed, next_number, steps, weight, closes, given_back}
 
 -- frames as they are kept, and as they are spoken of
 pub record Splits (xs : List Frame) (n : ℕ) (f g : Frame) : Type 0 where
@@ -49,6 +49,10 @@ pub splits : (xs : List Frame) (n : ℕ) (f g : Frame) → 0 < n → n ≡ lengt
     → f ≡ get_or xs (n - 1) f → Splits xs n f g
 splits xs n f g pos len is = splits_from xs (reverse xs) n f g refl pos len is
 
+-- frames that are the same from the innermost one on
+pub same_frames : (xs ys : List Frame) → reverse xs ≡ reverse ys → xs ≡ ys
+same_frames xs ys e = sym (reverse-reverse xs) ∙ ap reverse e ∙ reverse-reverse ys
+
 -- the frame after its next child was taken
 abbrev pub after : Frame → Frame
 after f = record { object = f.object; next = f.next + 1; count = f.count }
@@ -57,6 +61,22 @@ pub child_path : (tags : List ℕ) (f : Frame) (fs : List Frame) → IsOpen tags
     → IsOpen tags (after f ∷ fs)
 child_path tags f fs o =
     record { distinct = o.distinct; below = o.below; marks = o.marks; uncached = o.uncached }
+
+-- the frame with another number of its next child
+abbrev pub with_next : Frame → ℕ → Frame
+with_next f n = record { object = f.object; next = n; count = f.count }
+
+pub next_path : (tags : List ℕ) (f : Frame) (n : ℕ) (fs : List Frame) → IsOpen tags (f ∷ fs)
+    → IsOpen tags (with_next f n ∷ fs)
+next_path tags f n fs o =
+    record { distinct = o.distinct; below = o.below; marks = o.marks; uncached = o.uncached }
+
+-- the child that was taken is given back
+pub taken_back : (f : Frame) (below : List Frame) → given_back (after f ∷ below) ≡ f ∷ below
+taken_back f below = ap (λ n. with_next f n ∷ below) (plus_less f.next)
+  where
+    plus_less : (n : ℕ) → n + 1 - 1 ≡ n
+    plus_less n = omega arith
 
 child_flat : (step : ℕ → List Item) (xs : List ℕ) (more : List Item) (i x : ℕ) → i < length xs
     → x ≡ get_or xs i x → flat_map step (drop i xs) ++ more ≡ step x

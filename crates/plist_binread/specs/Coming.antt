@@ -17,7 +17,9 @@ use Rattle.plist_binread.specs.declared.reader.State.TheVariants.{Ended}
 use Rattle.plist_binread.specs.declared.walk.Frame.{Frame}
 use Rattle.plist_binread.specs.declared.counter.DecodeCounter.{Ghosts as CounterGhosts}
 use Rattle.plist_binread.specs.Lent.{IsToldEnd}
-use Rattle.plist_binread.specs.Told.{event_in}
+use Rattle.plist_binread.specs.Told.{event_in, event_with}
+use Rattle.plist_binread.specs.declared.told.Told.{Told}
+use Rattle.std.specs.String.{string_bytes}
 use Rattle.plist_binread.specs.Debt.{IsOpen, still_owed, number_owed, cached_count, places_of, AreBoundsOf, IsKept, IsKeptTold, is_fresh, is_walking, ends_next, IsOwed, WantsMemory, steps_left}
 
 -- the source inside
@@ -173,6 +175,20 @@ abbrev pub event_told : {R C : Type 0} {g : Ghosts R} {h : CounterGhosts C} → 
     → PlainEvent
 event_told reader = event_in reader.last
 
+-- the text, and the data, that were told last
+abbrev pub text_told : {R C : Type 0} {g : Ghosts R} {h : CounterGhosts C} → BinaryReader R C g h
+    → List ℕ
+text_told reader = string_bytes reader.last.text
+
+abbrev pub data_told : {R C : Type 0} {g : Ghosts R} {h : CounterGhosts C} → BinaryReader R C g h
+    → List ℕ
+data_told reader = reader.last.data.items
+
+-- the event that its smallest form tells
+abbrev pub event_as : {R C : Type 0} {g : Ghosts R} {h : CounterGhosts C} → BinaryReader R C g h
+    → Told → PlainEvent
+event_as reader told = event_with reader.last told
+
 -- as `GivesItem`, where the item is told: the event is `told`
 abbrev pub TellsItem : {A : Type 0} → (new : Bool) (before : List Item) → Option (Result A Error)
     → (told : PlainEvent) → (after : List Item) → Type 0
@@ -232,3 +248,20 @@ abbrev pub Walks : {A R C : Type 0} {g : Ghosts R} {h : CounterGhosts C}
     → Type 0
 Walks known failed counts count old item new =
     TellsBy walk_to_come walk_closes (λ _. false) known failed counts count old item new
+
+-- one call of `advance` that tells an event
+abbrev pub TellsOne : {R C : Type 0} {g : Ghosts R} {h : CounterGhosts C}
+    (known : R → Option (List ℕ)) (failed : R → ℕ) (counts : Type 0) (count : C → ℕ)
+    (old new : BinaryReader R C g h) → Type 0
+TellsOne known failed counts count old new =
+    Tells {A = Unit {0}} known failed counts count old (Some (Ok (tt {0}))) new
+
+-- all that is said of what is to come stays as it was
+pub record Stays {R C : Type 0} {g : Ghosts R} {h : CounterGhosts C} (old new : BinaryReader R C g h)
+    : Type 0 where
+  pub source : new.source ≡ old.source
+  pub state : new.state ≡ old.state
+  pub bounds : new.bounds ≡ old.bounds
+  pub tags : new.walk.tags.items ≡ old.walk.tags.items
+  pub frames : new.walk.frames.items ≡ old.walk.frames.items
+  pub limiter : new.limiter ≡ old.limiter

@@ -8,7 +8,7 @@ use Rattle.plist_binread.specs.declared.lent.Lent.{Lent}
 use Rattle.plist_binread.specs.declared.lent.Lent.TheVariants as lent
 use Rattle.plist_binread.specs.declared.table.Bounds.{Bounds}
 use Rattle.plist_binread.specs.Container.{number_at}
-use Rattle.plist_binread.specs.Debt.{IsCollection, ReadsChild, Explains, single_in, children_in, path_of, owed_by}
+use Rattle.plist_binread.specs.Debt.{IsCollection, IsKeptTold, ReadsChild, Explains, single_in, children_in, path_of, owed_by}
 use Rattle.plist_binread.specs.declared.walk.Frame.{Frame}
 use Rattle.plist_binread.specs.Object.{Object, object_in}
 use Rattle.plist_binread.specs.Packed.{is_small_event, unmarked}
@@ -67,6 +67,10 @@ EntersChild table object index count old told tags new =
     × (is_small_event told ≡ true → 0 < unmarked (get_or tags number 0))
     × ((at : ℕ) → PaysTold (unfolding_of table (count - length old) (path_of old) at number
     ++ owed_by table old) told (owed_by table new))
+
+-- the object of this number is cached if the event that is told is small
+abbrev pub IsKeptNear : Option ℕ → (told : PlainEvent) → (tags : List ℕ) → Type 0
+IsKeptNear number told tags = IsKeptTold {A = Unit {0}} number (Some (Ok (tt {0}))) told tags
 
 -- an end is told
 abbrev pub IsToldEnd : {A : Type 0} → Option (Result A Error) → (told : PlainEvent) → Type 0

@@ -1,16 +1,24 @@
 -- The event that a reader told last, whose text or data it holds in room of its own.
+use Rattle.std.specs.Prelude.{pos, Some}
 use Rattle.std.specs.String.{string_bytes}
-use Rattle.plist_base.specs.Events.{PlainEvent, Single, event_of}
-use Rattle.plist_base.specs.Trees.{Data, String}
+use Rattle.plist_base.specs.Events.{PlainEvent, StartArray, StartDictionary, EndCollection, Single, event_of}
+use Rattle.plist_base.specs.Trees as trees
 use Rattle.plist_binread.specs.declared.told.Last.{Last}
 use Rattle.plist_binread.specs.declared.told.Told.{Told}
 use Rattle.plist_binread.specs.declared.told.Told.TheVariants as told
 
--- what contracts see of it
+-- what contracts see of an event that is told, where others, texts and data are those of `last`
+abbrev pub event_with : Last → Told → PlainEvent
+event_with last told.Held = event_of last.held
+event_with last told.Text = Single (trees.String (string_bytes last.text))
+event_with last told.Data = Single (trees.Data last.data.items)
+event_with last (told.Array length) = StartArray (Some length)
+event_with last (told.Dictionary length) = StartDictionary (Some length)
+event_with last told.End = EndCollection
+event_with last (told.Boolean value) = Single (trees.Boolean value)
+event_with last (told.Unsigned number) = Single (trees.Integer (pos number))
+event_with last (told.Uid number) = Single (trees.Uid number)
+
+-- the same of what was told last
 abbrev pub event_in : Last → PlainEvent
 event_in last = event_with last last.told
-  where
-    event_with : Last → Told → PlainEvent
-    event_with last told.Held = event_of last.held
-    event_with last told.Text = Single (String (string_bytes last.text))
-    event_with last told.Data = Single (Data last.data.items)

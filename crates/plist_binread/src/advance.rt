@@ -1,9 +1,10 @@
 //! The walk from one item to the next.
 
-ghost use Rattle.std.specs.Prelude.{◌≡◌, ◌<◌, ◌≤◌, length, true, IfSome, OnOk};
+ghost use Rattle.std.specs.Prelude.{◌≡◌, ◌<◌, ◌≤◌, length, true, false, IfSome, OnOk};
+ghost use Rattle.plist_base.specs.Events.{EndCollection};
 ghost use Rattle.plist_base.specs.Sources.{ItemCountsIo};
 ghost use Rattle.plist_binread.specs.Debt.{IsKeptTold, closes, entries_of, next_number, weight};
-ghost use Rattle.plist_binread.specs.Lent.{IsAsked, IsToldAs, IsToldEnd, PaysNextTold};
+ghost use Rattle.plist_binread.specs.Lent.{IsAsked, IsKeptNear, IsToldAs, IsToldEnd, PaysNextTold, PaysTold};
 ghost use Rattle.plist_binread.specs.Told.{event_in};
 ghost use Rattle.plist_binread.specs.Walking.{IsWalkOf, cached_in, objects_of, open_in, owed_in, weight_in};
 ghost use Rattle.plist_binread.specs.Failures.{ItemWithin};
@@ -13,7 +14,7 @@ use crate::counter::DecodeCounter;
 use crate::enter::enter;
 use crate::near::go_near;
 use crate::table::Bounds;
-use crate::told::Last;
+use crate::told::{Last, Told};
 use crate::walk::{Turn, Walk};
 use plist_base::{Error, Event, OwnedEvent, Source};
 use std::alloc::Global;
@@ -28,6 +29,56 @@ fn tell(answer: Result<OwnedEvent, Error>, last: &mut Last) -> Option<Result<(),
             Some(Ok(()))
         }
         Err(error) => Some(Err(error)),
+    }
+}
+
+/// Tells the next item of what the open collections owe, where all that it needs is at hand and
+/// right. It answers no, and nothing has changed, where it isn't.
+pub fn advance_near<S: Source, C: DecodeCounter>(
+    source: &S,
+    counter: &mut C,
+    bounds: &Bounds,
+    walk: &mut Walk,
+    asked: &mut Asked,
+    last: &mut Last,
+) -> bool
+    requires known { IfSome (S.known source.now) (λ bytes. IsWalkOf bytes bounds.now walk.old) }
+    requires counted { C.counts → C.count counter.old ≡ cached_in walk.old }
+    requires asked { IfSome (S.known source.now) (λ bytes. bounds.now.trailer ≤ length bytes →
+        IsAsked bytes bounds.now asked.old) }
+    ensures size { objects_of walk.new ≡ objects_of walk.old }
+    ensures known { IfSome (S.known source.now) (λ bytes. IsWalkOf bytes bounds.now walk.new) }
+    ensures counted { C.counts → C.count counter.new ≡ cached_in walk.new }
+    ensures asked { IfSome (S.known source.now) (λ bytes. bounds.now.trailer ≤ length bytes →
+        IsAsked bytes bounds.now asked.new) }
+    ensures kept { result ≡ true → IfSome (S.known source.now) (λ bytes.
+        IsKeptNear (next_number (entries_of bytes bounds.now) (open_in walk.old))
+        (event_in last.new) walk.new.tags.items) }
+    ensures closes { result ≡ true → closes (open_in walk.old) ≡ true →
+        event_in last.new ≡ EndCollection }
+    ensures pays { result ≡ true → IfSome (S.known source.now) (λ bytes.
+        PaysTold (owed_in bytes bounds.now walk.old)
+        (event_in last.new) (owed_in bytes bounds.now walk.new)) }
+    ensures falls { result ≡ true →
+        weight (objects_of walk.old) (open_in walk.new) < weight_in walk.old }
+    ensures unchanged { result ≡ false → (walk.new.tags.items ≡ walk.old.tags.items)
+        × (walk.new.contents.items ≡ walk.old.contents.items)
+        × (open_in walk.new ≡ open_in walk.old) }
+{
+    match walk.turn() {
+        Turn::Done => false,
+        Turn::Closed => {
+            last.tell(Told::End);
+            true
+        }
+        Turn::Child(object, index) => {
+            let at = walk.contents[object as usize];
+            if go_near(source, counter, bounds, walk, asked, last, at, index) {
+                return true;
+            }
+            walk.give_back();
+            false
+        }
     }
 }
 

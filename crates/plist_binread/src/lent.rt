@@ -13,9 +13,8 @@ ghost use Rattle.plist_binread.specs.Told.{event_in};
 use crate::counter::DecodeCounter;
 use crate::extent::number_width;
 use crate::numbers::number_from;
-use crate::packed::is_small;
-use crate::told::Last;
-use plist_base::{Date, Event, Integer, RealBits, Uid};
+use crate::told::{Last, Told};
+use plist_base::{Date, Event, RealBits};
 
 /// What lies whole in lent bytes.
 #[derive(Clone, Copy)]
@@ -97,7 +96,7 @@ fn lent_unsigned(rest: &[u8], width: usize, last: &mut Last) -> Lent
 {
     match lent_number(rest, width) {
         Some(number) => {
-            last.hold(Event::Integer(Integer::from(number)));
+            last.tell(Told::Unsigned(number));
             Lent::Scalar
         }
         None => Lent::Nothing,
@@ -109,10 +108,7 @@ fn lent_signed(rest: &[u8], last: &mut Last) -> Lent
         (meaning_of_front 8 signed_integer (rest.now ++ more)) (event_in last.new) result }
 {
     match lent_number(rest, 8) {
-        Some(number) => {
-            last.hold(Event::Integer(Integer::from(number.cast_signed())));
-            Lent::Scalar
-        }
+        Some(number) => last.tell_signed(number),
         None => Lent::Nothing,
     }
 }
@@ -125,7 +121,7 @@ fn lent_uid(rest: &[u8], width: usize, last: &mut Last) -> Lent
 {
     match lent_number(rest, width) {
         Some(number) => {
-            last.hold(Event::Uid(Uid::new(number)));
+            last.tell(Told::Uid(number));
             Lent::Scalar
         }
         None => Lent::Nothing,
@@ -223,7 +219,7 @@ fn lent_array(marker: u8, rest: &[u8], room: u64, width: usize, last: &mut Last)
 {
     match lent_count(marker, rest, room, width as u64) {
         Some(count) => {
-            last.hold(Event::StartArray(Some(count)));
+            last.tell(Told::Array(count));
             Lent::Collection(count)
         }
         None => Lent::Nothing,
@@ -240,7 +236,7 @@ fn lent_dictionary(marker: u8, rest: &[u8], room: u64, width: usize, last: &mut 
     match lent_count(marker, rest, room, 2 * width as u64) {
         Some(count) => match count.checked_mul(2) {
             Some(children) => {
-                last.hold(Event::StartDictionary(Some(count)));
+                last.tell(Told::Dictionary(count));
                 Lent::Collection(children)
             }
             None => Lent::Nothing,
@@ -258,8 +254,8 @@ fn lent_behind(marker: u8, rest: &[u8], room: u64, width: usize, last: &mut Last
         (event_in last.new) result }
 {
     match marker {
-        0x08 => last.hold_scalar(Event::Boolean(false)),
-        0x09 => last.hold_scalar(Event::Boolean(true)),
+        0x08 => last.tell_boolean(false),
+        0x09 => last.tell_boolean(true),
         0x10 => lent_unsigned(rest, 1, last),
         0x11 => lent_unsigned(rest, 2, last),
         0x12 => lent_unsigned(rest, 4, last),
@@ -280,7 +276,7 @@ fn is_small_lent(lent: Lent, last: &Last) -> bool
     ensures { cond result 1 0 ≡ small_lent lent (event_in last.now) }
 {
     match lent {
-        Lent::Scalar => is_small(&last.lend()),
+        Lent::Scalar => last.is_small(),
         _ => false,
     }
 }

@@ -13,7 +13,7 @@ ghost use Rattle.plist_binread.specs.Walking.{IsWalkOf, cached_in, objects_of, o
 use crate::child::{Asked, lent_before, near_child};
 use crate::counter::DecodeCounter;
 use crate::lent::{Lent, decode_lent};
-use crate::packed::{keep, mark, pack};
+use crate::packed::{keep, mark};
 use crate::table::Bounds;
 use crate::told::Last;
 use crate::walk::{Frame, Walk};
@@ -59,7 +59,7 @@ fn open_lent(walk: &mut Walk, number: u64, lent: Lent, last: &Last) -> bool
 {
     match lent {
         Lent::Nothing => false,
-        Lent::Scalar => match pack(&last.lend()) {
+        Lent::Scalar => match last.pack() {
             Some((tag, content)) => {
                 keep(
                     &mut walk.tags,

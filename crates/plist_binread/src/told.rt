@@ -1,28 +1,44 @@
 //! The event that was told last.
 
-ghost use Rattle.std.specs.Prelude.{◌≡◌, Some, true};
+ghost use Rattle.std.specs.Prelude.{◌≡◌, ◌<◌, Some, true, false, IfSome, MatchOption};
 ghost use Rattle.std.specs.Str.{IsUtf8};
 ghost use Rattle.plist_base.specs.Events.{Single, event_of};
-ghost use Rattle.plist_base.specs.Trees.{Data as DataScalar, String as StringScalar};
+ghost use Rattle.plist_base.specs.Trees.{Boolean as BooleanScalar, Data as DataScalar, Integer as IntegerScalar, String as StringScalar};
 ghost use Rattle.plist_binread.specs.declared.lent.Lent.TheVariants.{Scalar as ScalarLent};
-ghost use Rattle.plist_binread.specs.Packed.{cached, single};
-ghost use Rattle.plist_binread.specs.Told.{event_in};
+ghost use Rattle.plist_binread.specs.Object.{signed};
+ghost use Rattle.plist_binread.specs.Packed.{cached, is_small_event, scalar_of, single};
+ghost use Rattle.plist_binread.specs.Told.{event_in, event_with};
 
 use crate::lent::Lent;
+use crate::packed::{is_small, pack};
 use plist_base::{Event, Integer, OwnedEvent, RealBits, Uid};
 use std::alloc::Global;
 use std::borrow::{CowSlice, CowStr};
 use std::mem;
 
-/// Where an event's content is held.
+/// An event that was told, without a content that is longer than eight bytes.
+///
+/// It is as small as it can be, since one is made for each item.
 #[derive(Clone, Copy)]
 pub enum Told {
-    /// In the event.
+    /// A date, a real or a negative number, which is lent.
     Held,
-    /// In the room for a text.
+    /// A text, which is lent.
     Text,
-    /// In the room for data.
+    /// Data, which is lent.
     Data,
+    /// An array of so many items begins.
+    Array(u64),
+    /// A dictionary of so many pairs begins.
+    Dictionary(u64),
+    /// The innermost array or dictionary ends.
+    End,
+    /// A truth value.
+    Boolean(bool),
+    /// A whole number that isn't negative.
+    Unsigned(u64),
+    /// The number of a Uid.
+    Uid(u64),
 }
 
 /// The event that was told last. The rooms for its text and data serve all events in turn.
@@ -75,6 +91,12 @@ impl Last {
             Told::Held => lend(&self.held),
             Told::Text => Event::String(CowStr::Borrowed(self.text.as_str())),
             Told::Data => Event::Data(CowSlice::Borrowed(self.data.as_slice())),
+            Told::Array(length) => Event::StartArray(Some(length)),
+            Told::Dictionary(length) => Event::StartDictionary(Some(length)),
+            Told::End => Event::EndCollection,
+            Told::Boolean(value) => Event::Boolean(value),
+            Told::Unsigned(number) => Event::Integer(Integer::from(number)),
+            Told::Uid(number) => Event::Uid(Uid::new(number)),
         }
     }
 
@@ -92,6 +114,12 @@ impl Last {
                 let data = mem::replace(&mut self.data, Vec::new(alloc));
                 Event::Data(CowSlice::Owned(data))
             }
+            Told::Array(length) => Event::StartArray(Some(length)),
+            Told::Dictionary(length) => Event::StartDictionary(Some(length)),
+            Told::End => Event::EndCollection,
+            Told::Boolean(value) => Event::Boolean(value),
+            Told::Unsigned(number) => Event::Integer(Integer::from(number)),
+            Told::Uid(number) => Event::Uid(Uid::new(number)),
         }
     }
 
@@ -103,12 +131,32 @@ impl Last {
         self.told = Told::Held;
     }
 
-    /// Tells this scalar.
-    pub fn hold_scalar(&mut self, event: OwnedEvent) -> Lent
-        ensures told { event_in self.new ≡ event_of event.entry }
+    /// Tells this event.
+    pub fn tell(&mut self, told: Told)
+        ensures { event_in self.new ≡ event_with self.new told }
+    {
+        self.told = told;
+    }
+
+    /// Tells the whole number that these 64 bits spell with their sign.
+    pub fn tell_signed(&mut self, bits: u64) -> Lent
+        ensures told { event_in self.new ≡ Single (IntegerScalar (signed 64 bits)) }
         ensures scalar { result ≡ ScalarLent }
     {
-        self.hold(event);
+        if bits < 1 << 63 {
+            self.tell(Told::Unsigned(bits));
+        } else {
+            self.hold(Event::Integer(Integer::from(bits.cast_signed())));
+        }
+        Lent::Scalar
+    }
+
+    /// Tells this truth value.
+    pub fn tell_boolean(&mut self, value: bool) -> Lent
+        ensures told { event_in self.new ≡ Single (BooleanScalar value) }
+        ensures scalar { result ≡ ScalarLent }
+    {
+        self.tell(Told::Boolean(value));
         Lent::Scalar
     }
 
@@ -136,6 +184,36 @@ impl Last {
         self.data.extend_from_slice(bytes).is_ok()
     }
 
+    /// Is it a scalar that can be cached?
+    pub fn is_small(&self) -> bool
+        ensures { result ≡ is_small_event (event_in self.now) }
+    {
+        match self.told {
+            Told::Boolean(_) | Told::Unsigned(_) | Told::Uid(_) => true,
+            Told::Text => self.text.as_str().len() <= 8,
+            Told::Data => self.data.len() <= 8,
+            Told::Held => is_small(&self.held),
+            Told::Array(_) | Told::Dictionary(_) | Told::End => false,
+        }
+    }
+
+    /// The tag and the content of a scalar, if it is small enough.
+    pub fn pack(&self) -> Option<(u8, u64)>
+        ensures scalar { MatchOption result (is_small_event (event_in self.now) ≡ false)
+            (λ packed. single (scalar_of packed.0 packed.1) ≡ Some (event_in self.now)) }
+        ensures small { IfSome result (λ packed. is_small_event (event_in self.now) ≡ true) }
+        ensures tag { IfSome result (λ packed. (0 < packed.0) × (packed.0 < 128)) }
+    {
+        match self.told {
+            Told::Boolean(false) => Some((1, 0)),
+            Told::Boolean(true) => Some((2, 0)),
+            Told::Unsigned(number) => Some((3, number)),
+            Told::Uid(number) => Some((7, number)),
+            Told::Array(_) | Told::Dictionary(_) | Told::End => None,
+            Told::Held | Told::Text | Told::Data => pack(&self.lend()),
+        }
+    }
+
     /// Tells the scalar that a tag and a content hold, if they hold one and there is room for it.
     pub fn recall(&mut self, tag: u8, content: u64) -> bool
         ensures { result ≡ true → single (cached tag content) ≡ Some (event_in self.new) }
@@ -144,12 +222,12 @@ impl Last {
         match tag % 128 {
             packed @ 8..=16 => return self.tell_data(&bytes[..usize::from(packed - 8)]),
             packed @ 17..=25 => return self.tell_text(&bytes[..usize::from(packed - 17)]),
-            1 => self.hold(Event::Boolean(false)),
-            2 => self.hold(Event::Boolean(true)),
-            3 => self.hold(Event::Integer(Integer::from(content))),
+            1 => self.tell(Told::Boolean(false)),
+            2 => self.tell(Told::Boolean(true)),
+            3 => self.tell(Told::Unsigned(content)),
             4 => self.hold(Event::Integer(Integer::from(content.cast_signed()))),
             5 => self.hold(Event::Real(RealBits::Eight(bytes))),
-            7 => self.hold(Event::Uid(Uid::new(content))),
+            7 => self.tell(Told::Uid(content)),
             _ => return false,
         }
         true

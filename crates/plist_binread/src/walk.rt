@@ -4,7 +4,7 @@ ghost use Rattle.std.specs.Prelude.{◌≡◌, ℕ, ◌^◌, ◌<◌, List, [], 
 ghost use Rattle.plist_base.specs.Outcomes.{OnlyMemory};
 ghost use Rattle.std.proofs.Props.{props};
 ghost use Rattle.plist_binread.specs.declared.walk.Turn.TheVariants.{Closed};
-ghost use Rattle.plist_binread.specs.Debt.{IsOpen, IsWithin, Lightens, Turns, closes, entries_of};
+ghost use Rattle.plist_binread.specs.Debt.{CanGiveBack, IsOpen, IsWithin, Lightens, Turns, closes, entries_of, given_back};
 
 use crate::packed::unmark;
 use crate::table::Bounds;
@@ -71,6 +71,9 @@ impl Walk {
             × IsWalkOf bytes bounds self.new }
         ensures weight { (count : ℕ) →
             Lightens count (open_in self.old) result (open_in self.new) }
+        ensures contents { self.new.contents.items ≡ self.old.contents.items }
+        ensures back { CanGiveBack result self.old.tags.items self.new.tags.items
+            (open_in self.old) (open_in self.new) }
     {
         let depth = self.frames.len();
         if depth == 0 {
@@ -86,6 +89,20 @@ impl Walk {
         unmark(&mut self.tags, object as usize);
         let _ = self.frames.pop();
         Turn::Closed
+    }
+
+    /// Gives the child back that was taken last.
+    pub fn give_back(&mut self)
+        ensures tags { self.new.tags.items ≡ self.old.tags.items }
+        ensures contents { self.new.contents.items ≡ self.old.contents.items }
+        ensures frames { open_in self.new ≡ given_back (open_in self.old) }
+    {
+        let depth = self.frames.len();
+        if depth == 0 {
+            return;
+        }
+        let frame = &mut self.frames[depth - 1];
+        frame.next = frame.next.saturating_sub(1);
     }
 }
 

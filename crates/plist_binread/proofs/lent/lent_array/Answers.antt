@@ -7,6 +7,6 @@ pub returns-in-Some : goal.returns-in-Some
 returns-in-Some c = record {
   lent = λ more whole.
       let found = c.in-Some.ensures.count more whole in
-      rw c.hold.ensures (array_lent c.args.width c.in-Some.count found.0
+      rw c.tell.ensures (array_lent c.args.width c.in-Some.count found.0
       (length_in c.args.marker (c.args.rest.now ++ more)) c.requires.width found.1 found.2);
 }

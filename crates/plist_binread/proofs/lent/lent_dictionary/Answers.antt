@@ -9,6 +9,6 @@ returns-in-Some-checked_mul c = record {
       let found = c.in-Some.ensures.count more whole in
       let twice : c.in-Some-checked_mul.children
       ≡ 2 * c.in-Some.count = omega (arith, c.in-Some-checked_mul.ensures) in
-      rw (c.hold.ensures, twice) (dictionary_lent c.args.width c.in-Some.count found.0
+      rw (c.tell.ensures, twice) (dictionary_lent c.args.width c.in-Some.count found.0
       (length_in c.args.marker (c.args.rest.now ++ more)) c.requires.width.0 found.1 found.2);
 }

@@ -8,6 +8,6 @@ pub returns-in-Some : goal.returns-in-Some
 returns-in-Some c =
     record {
       lent = λ more. ap single_in
-          (c.in-Some.ensures.value more (λ n. Scalar (Uid n))
-          ∙ ap (λ n. Scalar (Uid n)) (sym c.new.ensures)) ∙ ap Some (sym c.hold.ensures);
+          (c.in-Some.ensures.value more (λ n. Scalar (Uid n)))
+          ∙ ap Some (sym c.tell.ensures);
     }

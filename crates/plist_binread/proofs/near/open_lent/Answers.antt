@@ -15,7 +15,7 @@ returns-in-Some-clause-counted c =
     c.keep.new.tags.items c.requires.below (ap unmarked c.requires.new) c.in-Some.ensures.tag.0
     c.keep.ensures.tags
     ∙ ap (λ b. cached_count c.args.walk.now.tags.items + cond {A = ℕ} b 1 0)
-    (sym (rw c.lend.ensures at c.in-Some.ensures.small)))
+    (sym c.in-Some.ensures.small))
 
 pub returns-in-Some-clause-falls : goal.returns-in-Some-clause-falls
 returns-in-Some-clause-falls c =
@@ -37,20 +37,20 @@ returns-in-Some-clause-pays c = λ _ bytes bounds entry k is decoded.
           c.args.walk.now.contents.items _ k c.args.number c.in-Some.tag c.in-Some.content
           c.keep.new.tags.items (event_in c.args.last.now) c.requires.below c.args.walk.now.same
           c.in-Some.ensures.tag.0 c.keep.ensures.tags
-          (rw c.lend.ensures at c.in-Some.ensures.scalar)
+          c.in-Some.ensures.scalar
           (ap (λ found. single (scalar_at found)) is ∙ scalar)),
     )
 
-pub returns-in-Scalar-clause-falls : goal.returns-in-Scalar-clause-falls
-returns-in-Scalar-clause-falls c =
+pub returns-in-None-clause-falls : goal.returns-in-None-clause-falls
+returns-in-None-clause-falls c =
     λ _. omega (
       arith,
       steps_positive
           (length c.args.walk.now.tags.items - length c.args.walk.now.frames.items),
     )
 
-pub returns-in-Scalar-clause-pays : goal.returns-in-Scalar-clause-pays
-returns-in-Scalar-clause-pays c = λ _ bytes bounds entry k is decoded. (
+pub returns-in-None-clause-pays : goal.returns-in-None-clause-pays
+returns-in-None-clause-pays c = λ _ bytes bounds entry k is decoded. (
   (λ at. pays_scalar (entries_of bytes bounds) c.args.walk.now.tags.items
       (as_many bytes bounds _ _ _ k) _ _ at c.args.number entry
       (sym (length-reverse c.args.walk.now.frames.items)) c.args.walk.now.path c.requires.below is

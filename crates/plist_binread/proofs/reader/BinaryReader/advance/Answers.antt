@@ -1,119 +1,12 @@
-use Rattle.std.proofs.Common.{◌≡◌, ◌^◌, refl, subst, arith}
-use Rattle.plist_base.specs.Faults.{fault_of}
-use Rattle.plist_base.specs.Limits.{AdmitsAny, RefusesAny}
-use Rattle.plist_base.specs.Sources.{Rises}
-use Rattle.plist_binread.specs.Coming.{is_limited, is_new, number_to_come, source_of, walk_closes, walk_to_come}
-use Rattle.plist_binread.specs.Told.{event_in}
-use Rattle.plist_binread.proofs.Limiting.{event-told, fault-told, limit-told, none-told, refused-closes, refused-given, refused-other, still-given, walk-closes}
-use Rattle.plist_binread.proofs.Taken.{holds_none, kept_fault}
+use Rattle.plist_binread.proofs.Staying.{tells_stayed}
 use Rattle.plist_binread.proofs.reader.BinaryReader.advance.Goals as goal
 
-pub returns-in-Ok : goal.returns-in-Ok
-returns-in-Ok g c =
-    let old = c.args.self.now in
-    let mid = c.step.new.self in
-    let w = rw c.in-Some-Ok.field-0-is at c.in-Some-Ok.ensures.walks in
-    record {
-      unchanged = w.unchanged;
-      items = event-told (is_new old) (event_in mid.last) (g.R.Source.known (source_of old))
-          old.limiter c.admit.new.limiter (λ bytes. walk_to_come bytes old)
-          (λ bytes. walk_to_come bytes mid) tt
-          (subst (λ l. AdmitsAny l (event_in mid.last) c.admit.new.limiter) c.step.ensures.limiter
-          c.in-Ok.ensures.admitted) w.items;
-      failures = w.failures;
-      ended = λ e. (let no = w.ended e in absurd (cc));
-      ends = tt;
-      begun = w.begun;
-      faults = tt;
-      closes = λ h. w.closes (walk-closes old.limiter (walk_closes old) h);
-      head = w.head;
-      nested = w.nested;
-      cached = w.cached;
-      marked = w.marked;
-      counted = w.counted;
-      lists = w.lists;
-      falls = w.falls;
-    }
+pub returns-then-advance_near : goal.returns-then-advance_near
+returns-then-advance_near g c = c.advance_near.ensures.tells c.if-advance_near.true
 
-pub returns-in-Err : goal.returns-in-Err
-returns-in-Err g c =
-    let old = c.args.self.now in
-    let mid = c.step.new.self in
-    let w = rw c.in-Some-Ok.field-0-is at c.in-Some-Ok.ensures.walks in
-    let fault = fault_of c.in-Err.reached in
-    let r = subst (λ l. RefusesAny l (event_in mid.last) fault) c.step.ensures.limiter
-    c.in-Err.ensures.refused in
-    record {
-      unchanged = w.unchanged;
-      items = limit-told (is_new old) (event_in mid.last) (g.R.Source.known (source_of old))
-          old.limiter c.admit.new.limiter (λ bytes. walk_to_come bytes old)
-          (λ bytes. walk_to_come bytes mid) tt c.in-Err.reached r w.items;
-      failures = refused-other old.limiter (event_in mid.last) fault
-          (Rises (g.R.Source.failures (source_of old)) (g.R.Source.failures (source_of mid)))
-          (g.R.Source.failures (source_of mid) ≡ g.R.Source.failures (source_of old))
-          (g.R.Source.failures (source_of mid) ≡ g.R.Source.failures (source_of old)) r w.failures;
-      ended = λ e. (let no = w.ended e in absurd (cc));
-      ends = refl;
-      begun = refl;
-      faults = refused-given 0 (2 ^ 64) old.limiter (event_in mid.last) fault r;
-      closes = λ h. absurd (refused-closes old.limiter (walk_closes old) (event_in mid.last) fault r
-          (λ e. w.closes e) h);
-      head = holds_none _ mid.bounds mid.walk.tags.items _ (λ v. absurd (cc));
-      nested = w.nested;
-      cached = kept_fault _ (λ bytes. number_to_come bytes old) mid.walk.tags.items c.in-Err.reached
-          (event_in mid.last);
-      marked = w.marked;
-      counted = w.counted;
-      lists = w.lists;
-      falls = let falls = w.falls in omega (arith, falls);
-    }
-
-pub returns-in-Some-Err : goal.returns-in-Some-Err
-returns-in-Some-Err g c =
-    let old = c.args.self.now in
-    let new = c.step.new.self in
-    let w = rw c.in-Some-Err.field-0-is at c.in-Some-Err.ensures.walks in
-    record {
-      unchanged = w.unchanged;
-      items = fault-told (is_new old) (event_in new.last) (g.R.Source.known (source_of old))
-          old.limiter new.limiter (λ bytes. walk_to_come bytes old)
-          (λ bytes. walk_to_come bytes new) c.in-Some-Err.error w.items;
-      failures = w.failures;
-      ended = w.ended;
-      ends = w.ends;
-      begun = w.begun;
-      faults = still-given 0 (2 ^ 64) (is_limited old) (fault_of c.in-Some-Err.error) w.faults;
-      closes = λ h. w.closes (walk-closes old.limiter (walk_closes old) h);
-      head = w.head;
-      nested = w.nested;
-      cached = w.cached;
-      marked = w.marked;
-      counted = w.counted;
-      lists = w.lists;
-      falls = w.falls;
-    }
-
-pub returns-in-None : goal.returns-in-None
-returns-in-None g c =
-    let old = c.args.self.now in
-    let new = c.step.new.self in
-    let w = c.in-None.ensures.walks in
-    record {
-      unchanged = w.unchanged;
-      items = none-told (is_new old) (event_in new.last) (g.R.Source.known (source_of old))
-          old.limiter new.limiter (λ bytes. walk_to_come bytes old)
-          (λ bytes. walk_to_come bytes new) w.items;
-      failures = w.failures;
-      ended = w.ended;
-      ends = w.ends;
-      begun = w.begun;
-      faults = tt;
-      closes = λ h. w.closes (walk-closes old.limiter (walk_closes old) h);
-      head = w.head;
-      nested = w.nested;
-      cached = w.cached;
-      marked = w.marked;
-      counted = w.counted;
-      lists = w.lists;
-      falls = tt;
-    }
+pub returns : goal.returns
+returns g c =
+    tells_stayed g.R.Source.known g.R.Source.failures g.C.DecodeCounter.counts
+    g.C.DecodeCounter.count c.args.self.now c.advance_near.new.self c.advance_far.new.self
+    c.advance_far.result (c.advance_near.ensures.stays c.if-advance_near.false)
+    c.advance_far.ensures

@@ -1,5 +1,5 @@
-use Rattle.std.proofs.Common.{arith, ◌∙◌, false, sym}
-use Rattle.plist_binread.proofs.Turned.{splits, after, child_path, child_owed, closed_owed, child_weight, closes-none, closes-child}
+use Rattle.std.proofs.Common.{arith, ◌∙◌, false, sym, refl}
+use Rattle.plist_binread.proofs.Turned.{splits, after, child_path, child_owed, closed_owed, child_weight, closes-none, closes-child, taken_back}
 use Rattle.plist_binread.proofs.Opened.{IsOpen-pop, first_below, first_uncached, cached_count-mark}
 use Rattle.plist_binread.proofs.walk.Walk.turn.Goals as goal
 
@@ -83,3 +83,10 @@ returns-then-frame-clause-closes c =
     (after c.index_mut-frame.result.now) (omega arith)
     (c.len-depth.ensures ∙ c.args.self.now.frames.ok.0) c.index_mut-frame.ensures.value in
     λ e. absurd (closes-child c.args.self.now.frames.items _ _ s.whole c.if-frame.true e)
+
+pub returns-then-frame-clause-back : goal.returns-then-frame-clause-back
+returns-then-frame-clause-back c =
+    let s = splits c.args.self.now.frames.items c.len-depth.result c.index_mut-frame.result.now
+    (after c.index_mut-frame.result.now) (omega arith)
+    (c.len-depth.ensures ∙ c.args.self.now.frames.ok.0) c.index_mut-frame.ensures.value in
+    (refl, rw (s.whole, s.changed) (taken_back c.index_mut-frame.result.now s.below))
