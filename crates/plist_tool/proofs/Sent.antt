@@ -1,7 +1,7 @@
 -- What a writer holds after some sends.
-use Rattle.std.proofs.Common.{◌≡◌, ℕ, List, [], ◌∷◌, ◌++◌, Option, Result, Ok, Err, OnErr, ap, sym, ◌∙◌, append_assoc, append-nil}
+use Rattle.std.proofs.Common.{◌≡◌, ℕ, List, [], ◌∷◌, ◌++◌, Option, Result, Ok, Err, OnErr, ap, refl, sym, ◌∙◌, append_assoc, append-nil}
 use Rattle.std.specs.Io.KnownBytes.{Appends}
-use Rattle.std.proofs.KnownBytes.{Appends-trans}
+use Rattle.std.proofs.KnownBytes.{Appends-nil, Appends-trans}
 use Rattle.plist_base.specs.Events.{PlainEvent, Item}
 use Rattle.plist_tool.specs.Lines.{line_of, lines_of, first_fault}
 use Rattle.plist_base.specs.Fronts.{AppendsFront}
@@ -93,3 +93,11 @@ pub sent_all : (a b c : Option (List ℕ)) (held : List ℕ) (all left : List It
 sent_all a b c held all left h none sent =
     Appends-at a c _ _ (sym (h.lines ∙ ap (λ bytes. (h.sent ++ held) ++ bytes) none
     ∙ append-nil (h.sent ++ held))) (Appends-trans a b c _ _ h.appended sent)
+
+-- a line was put behind those that are held back
+pub passes_near : (a : Option (List ℕ)) (all held : List ℕ) → held ≡ all → PassesOn a a all held
+passes_near a all held same = ([], Appends-nil a, sym same)
+
+-- nothing went out
+pub front_none : (a : Option (List ℕ)) (bytes : List ℕ) → AppendsFront a a bytes
+front_none a bytes = ([], bytes, Appends-nil a, refl)

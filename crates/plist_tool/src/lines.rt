@@ -1,12 +1,14 @@
 //! The line of each event.
 
-ghost use Rattle.std.specs.Prelude.{◌≡◌, ◌++◌, ◌<◌, true, OnOk};
-ghost use Rattle.std.specs.Fmt.{signed_decimal};
+ghost use Rattle.std.specs.Prelude.{◌≡◌, ◌++◌, ◌<◌, true, OnOk, codes};
+ghost use Rattle.std.specs.Fmt.{decimal, signed_decimal};
 ghost use Rattle.plist_base.specs.Events.{event_of};
+ghost use Rattle.plist_binread.specs.Coming.{event_told};
 ghost use Rattle.plist_tool.specs.Lines.{hexadecimal, hexadecimal_digit, stands_for_itself, text_of_byte, text_of_bytes, text_of_data, text_of_date, text_of_real, text_of_start, words_of, line_of};
 
 use itoa::Buffer;
-use plist_base::{Date, Event, Integer, RealBits};
+use plist_base::{Date, Event, Integer, RealBits, Source};
+use plist_binread::{BinaryReader, Told};
 use std::alloc::AllocError;
 
 fn hexadecimal_digit_of(value: u8) -> u8
@@ -131,6 +133,25 @@ fn push_start(line: &mut Vec<u8>, word: &[u8], length: Option<u64>) -> Result<()
     line.extend_from_slice(Buffer::new().format(length).as_bytes())
 }
 
+// A text between its quotes.
+fn push_string(line: &mut Vec<u8>, text: &str) -> Result<(), AllocError>
+    ensures { OnOk result (line.new.items
+        ≡ line.old.items ++ codes "String \"" ++ text_of_bytes text.now ++ codes "\"") }
+{
+    line.extend_from_slice(b"String \"")?;
+    push_text(line, text.as_bytes())?;
+    line.push(b'"')?;
+    Ok(())
+}
+
+// A number behind its word.
+fn push_number(line: &mut Vec<u8>, word: &[u8], number: u64) -> Result<(), AllocError>
+    ensures { OnOk result (line.new.items ≡ line.old.items ++ word.now ++ decimal number) }
+{
+    line.extend_from_slice(word)?;
+    line.extend_from_slice(Buffer::new().format(number).as_bytes())
+}
+
 fn push_words(line: &mut Vec<u8>, event: &Event<'_>) -> Result<(), AllocError>
     ensures { OnOk result (line.new.items ≡ line.old.items ++ words_of (event_of event.now)) }
 {
@@ -156,12 +177,7 @@ fn push_words(line: &mut Vec<u8>, event: &Event<'_>) -> Result<(), AllocError>
             line.extend_from_slice(b"Real ")?;
             push_real(line, *real)
         }
-        Event::String(text) => {
-            line.extend_from_slice(b"String \"")?;
-            push_text(line, text.as_str().as_bytes())?;
-            line.push(b'"')?;
-            Ok(())
-        }
+        Event::String(text) => push_string(line, text.as_str()),
         Event::Uid(uid) => {
             line.extend_from_slice(b"Uid ")?;
             line.extend_from_slice(Buffer::new().format(uid.get()).as_bytes())
@@ -188,6 +204,51 @@ pub fn push_line(line: &mut Vec<u8>, event: &Event<'_>) -> Result<(), AllocError
     push_words(line, event)?;
     line.push(b'\n')?;
     Ok(())
+}
+
+// The words of the event that a reader told last.
+fn push_told_words<S: Source>(
+    line: &mut Vec<u8>,
+    reader: &BinaryReader<S>,
+) -> Result<(), AllocError>
+    ensures { OnOk result (line.new.items ≡ line.old.items ++ words_of (event_told reader.now)) }
+{
+    match reader.told() {
+        Told::Array(length) => push_start(line, b"StartArray", Some(length)),
+        Told::Dictionary(length) => push_start(line, b"StartDictionary", Some(length)),
+        Told::End => line.extend_from_slice(b"EndCollection"),
+        Told::Boolean(true) => line.extend_from_slice(b"Boolean true"),
+        Told::Boolean(false) => line.extend_from_slice(b"Boolean false"),
+        Told::Unsigned(number) => push_number(line, b"Integer ", number),
+        Told::Uid(number) => push_number(line, b"Uid ", number),
+        Told::Text => push_string(line, reader.text()),
+        Told::Data => {
+            line.extend_from_slice(b"Data")?;
+            push_data(line, reader.data())
+        }
+        Told::Held => push_words(line, &reader.event()),
+    }
+}
+
+/// The line of the event that a reader told last has at most so many bytes, where they are that
+/// many.
+pub fn most_told<S: Source>(reader: &BinaryReader<S>) -> usize {
+    match reader.told() {
+        Told::Text => reader.text().len().saturating_mul(4).saturating_add(64),
+        Told::Data => reader.data().len().saturating_mul(2).saturating_add(64),
+        _ => 64,
+    }
+}
+
+/// Appends the line of the event that a reader told last, with its LF.
+///
+/// # Errors
+/// Where a growth is refused. The buffer may then hold a part of the line.
+pub fn push_told<S: Source>(line: &mut Vec<u8>, reader: &BinaryReader<S>) -> Result<(), AllocError>
+    ensures { OnOk result (line.new.items ≡ line.old.items ++ line_of (event_told reader.now)) }
+{
+    push_told_words(line, reader)?;
+    line.extend_from_slice(b"\n")
 }
 
 #[cfg(test)]

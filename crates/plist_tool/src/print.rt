@@ -1,6 +1,6 @@
 //! Prints the events of a source.
 
-ghost use Rattle.std.specs.Prelude.{◌≡◌, ◌++◌, IfErr, OnErr, OnOk};
+ghost use Rattle.std.specs.Prelude.{◌≡◌, ◌++◌, true, false, IfErr, IfOk, OnErr, OnOk};
 ghost use Rattle.plist_base.specs.Events.{event_of};
 ghost use Rattle.plist_base.specs.Fronts.{AppendsFront};
 ghost use Rattle.plist_binread.specs.Coming.{event_told, source_of};
@@ -8,11 +8,11 @@ ghost use Rattle.plist_tool.specs.Lines.{line_of};
 ghost use Rattle.plist_tool.specs.Fronts.{PassesOn, MakesRoom, SendsFront};
 ghost use Rattle.plist_tool.specs.Printing.{PrintsRest, SendsFrontOfRest, IsOwnFault, EndsRest, PrintsFile, EndsFile, SendsFrontOfFile, CountsReadsOf, LeavesSource};
 
-use crate::lines::{most_bytes, push_line};
+use crate::lines::{most_bytes, most_told, push_line, push_told};
 use plist_base::send::{flush, send};
 use plist_base::{Error, Event, Source};
 use plist_binread::BinaryReader;
-use std::alloc::Global;
+use std::alloc::{AllocError, Global};
 use std::io::Write;
 
 // Lines are held back until the next one may not fit behind them in so many bytes.
@@ -47,7 +47,24 @@ fn pass_line<W: Write>(writer: &mut W, lines: &mut Vec<u8>, event: &Event<'_>) -
     Ok(())
 }
 
-// The same of the event that a reader told last.
+// Puts the line of the event that a reader told last behind the lines that are held back, if it fits
+// there.
+fn push_near<S: Source>(lines: &mut Vec<u8>, reader: &BinaryReader<S>) -> Result<bool, AllocError>
+    ensures pushed { IfOk result (λ fits. fits ≡ true →
+        lines.new.items ≡ lines.old.items ++ line_of (event_told reader.now)) }
+    ensures unchanged { IfOk result (λ fits. fits ≡ false →
+        lines.new.items ≡ lines.old.items) }
+{
+    if most_told(reader) > FULL.saturating_sub(lines.len()) {
+        return Ok(false);
+    }
+    push_told(lines, reader)?;
+    Ok(true)
+}
+
+// The same of the event that a reader told last. It stands apart, since most lines fit.
+#[cold]
+#[inline(never)]
 fn pass_told<S: Source, W: Write>(
     writer: &mut W,
     lines: &mut Vec<u8>,
@@ -77,7 +94,11 @@ fn send_lines<S: Source, W: Write>(
     let mut lines = Vec::with_capacity(alloc, FULL)?;
     while let Some(item) = reader.advance() {
         match item {
-            Ok(()) => pass_told(writer, &mut lines, reader)?,
+            Ok(()) => {
+                if !push_near(&mut lines, reader)? {
+                    pass_told(writer, &mut lines, reader)?;
+                }
+            }
             Err(error) => {
                 send(writer, lines.as_slice())?;
                 return Err(error);

@@ -1,5 +1,6 @@
 use Rattle.std.proofs.Common.{rules}
 use Rattle.plist_binread.specs.Coming.{is_new, to_come, event_told}
+use Rattle.plist_tool.proofs.Sent.{passes_near, front_none}
 use Rattle.plist_tool.proofs.Steps.{step_more, step_part, step_fault, step_held}
 use Rattle.plist_tool.proofs.print.send_lines.Goals as goal
 
@@ -10,17 +11,38 @@ loop-item-preserved g c = record {
   so_far = step_more _ _ _ _ _ _ (λ bytes. to_come bytes c.args.reader.now)
       (λ bytes. to_come bytes c.loop-item.reader) (λ bytes. to_come bytes c.advance.new.self)
       (is_new c.loop-item.reader) (event_told c.advance.new.self) c.in-Some.item
-      c.pass_told.new.lines.items c.loop-item.invariant.unchanged c.loop-item.invariant.so_far
-      c.in-Some.ensures.items (search rules) c.in_ok-pass_told-in-Ok.ensures.passed;
+      c.push_near.new.lines.items c.loop-item.invariant.unchanged c.loop-item.invariant.so_far
+      c.in-Some.ensures.items (search rules)
+      (passes_near _ _ _ (c.in_ok-push_near-in-Ok.ensures.pushed (search rules)));
 }
+
+pub loop-item-preserved-in_ok-pass_told-in-Ok : goal.loop-item-preserved-in_ok-pass_told-in-Ok
+loop-item-preserved-in_ok-pass_told-in-Ok g c =
+    let same = c.in_ok-push_near-in-Ok.ensures.unchanged (search rules) in
+    record {
+      unchanged = search rules;
+      failures = search rules;
+      so_far = step_more _ _ _ _ _ _ (λ bytes. to_come bytes c.args.reader.now)
+          (λ bytes. to_come bytes c.loop-item.reader) (λ bytes. to_come bytes c.advance.new.self)
+          (is_new c.loop-item.reader) (event_told c.advance.new.self) c.in-Some.item
+          c.pass_told.new.lines.items c.loop-item.invariant.unchanged
+          c.loop-item.invariant.so_far c.in-Some.ensures.items (search rules)
+          (rw same at c.in_ok-pass_told-in-Ok.ensures.passed);
+    }
+
+pub returns-in_err-push_near-in-Ok-clause-sent : goal.returns-in_err-push_near-in-Ok-clause-sent
+returns-in_err-push_near-in-Ok-clause-sent g c =
+    step_held _ _ _ _ c.loop-item.lines.items (λ bytes. to_come bytes c.args.reader.now)
+    (λ bytes. to_come bytes c.loop-item.reader) c.loop-item.invariant.so_far (front_none _ _)
 
 pub returns-in_err-pass_told-in-Ok-clause-sent : goal.returns-in_err-pass_told-in-Ok-clause-sent
 returns-in_err-pass_told-in-Ok-clause-sent g c =
+    let same = c.in_ok-push_near-in-Ok.ensures.unchanged (search rules) in
     step_part _ _ _ _ _ c.loop-item.lines.items (λ bytes. to_come bytes c.args.reader.now)
     (λ bytes. to_come bytes c.loop-item.reader) (λ bytes. to_come bytes c.advance.new.self)
     (is_new c.loop-item.reader) (event_told c.advance.new.self) c.in-Some.item
     c.loop-item.invariant.unchanged c.loop-item.invariant.so_far
-    c.in-Some.ensures.items (search rules) c.in_err-pass_told-in-Ok.ensures.front
+    c.in-Some.ensures.items (search rules) (rw same at c.in_err-pass_told-in-Ok.ensures.front)
 
 pub returns-in_err-send-in-Err-clause-sent : goal.returns-in_err-send-in-Err-clause-sent
 returns-in_err-send-in-Err-clause-sent g c =
