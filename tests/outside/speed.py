@@ -12,7 +12,8 @@ A second table is of reading from memory into events with texts of their own: `B
 slice (tests/outside/items, which is proved and built in a copy of its crates by the kit's `rt`)
 beside the crate's. Between them system calls are counted, by `strace` where it is there.
 
-Usage: speed.py [MEGABYTES ..]      1, 10 and 50 where none are named.
+Usage: speed.py [MEGABYTES ..]      1, 10 and 50 where none are named
+       speed.py --plot FILE         the picture of the printed tables that stand in a file, as SVG
 """
 import datetime
 import math
@@ -25,6 +26,8 @@ import subprocess
 import sys
 import tempfile
 import time
+
+import plot
 
 HERE = pathlib.Path(__file__).resolve().parent
 PLIST_TOOL = HERE.parents[1] / "plist_tool"
@@ -182,21 +185,29 @@ def peer(folder):
     return source / "target/release/peer" if built.returncode == 0 else None
 
 
-def items_program(folder):
-    """The program over `BinaryReader`, built in a repository of its own, where the kit is there."""
+def built(folder, name, crates, uses, words):
+    """A program of this folder, proved and built in a repository of its own, where the kit is there.
+
+    `crates` are those that it stands on, `uses` those that it names; it is run once on the words."""
     if shutil.which("rt") is None:
         return None
-    crates = HERE.parents[1] / "crates"
-    root = folder / "items"
-    for crate in ("plist_dates", "plist_base", "plist_binread"):
-        shutil.copytree(crates / crate, root / "crates" / crate)
-    (root / "crates/items/src").mkdir(parents=True)
-    shutil.copy(HERE / "items/main.rt.in", root / "crates/items/src/main.rt")
-    (root / "crates.txt").write_text("plist_dates: jiff_core\nplist_base: plist_dates\nplist_binread: plist_base\n"
-                                     "items: plist_base plist_binread\n")
-    subprocess.run(["rt", "run", "--", "no_such_file"], cwd=root / "crates/items", capture_output=True)
-    built = root / "crates/items/out/items"
-    return built if built.exists() else None
+    top, root = HERE.parents[1], folder / name
+    for crate in crates:
+        shutil.copytree(top / "crates" / crate, root / "crates" / crate, ignore=shutil.ignore_patterns("incremental"))
+    source = root / "crates" / name / "src"
+    source.mkdir(parents=True)
+    shutil.copy(HERE / name / "main.rt.in", source / "main.rt")
+    lines = (top / "crates.txt").read_text().splitlines()
+    kept = [line for line in lines if line.split(":")[0] in crates]
+    (root / "crates.txt").write_text("\n".join([*kept, f"{name}: {uses}", ""]))
+    subprocess.run(["rt", "run", "--", *words], cwd=source.parent, stdout=sys.stderr)
+    program = source.parent / "out" / name
+    return program if program.exists() else None
+
+
+def items_program(folder):
+    """The program over `BinaryReader`."""
+    return built(folder, "items", ("plist_dates", "plist_base", "plist_binread"), "plist_base plist_binread", ["no_such_file"])
 
 
 def programs(crate):
@@ -362,5 +373,7 @@ def main(words):
 if __name__ == "__main__":
     if sys.argv[1:2] == ["--make"]:
         made(*sys.argv[2:])
+    elif sys.argv[1:2] == ["--plot"]:
+        print(plot.picture(pathlib.Path(sys.argv[2]).read_text()), end="")
     else:
         main(sys.argv[1:])
