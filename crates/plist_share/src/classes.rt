@@ -24,6 +24,13 @@ pub struct Collection {
     pub children: Vec<usize>,
 }
 
+// The places of a collection's keys and values; its room serves one collection after the other.
+#[derive(Drop)]
+pub struct Places {
+    pub keys: Vec<usize>,
+    pub values: Vec<usize>,
+}
+
 // The index of a collection: that of its equal which came before, or a new one.
 fn index_of(collections: &mut IndexSet<Collection>, collection: Collection) -> Result<usize, Error>
     ensures stored { IfOk result (λ index. slice_get (keys_seen collections.new.keys) index
@@ -60,6 +67,7 @@ fn classes_within(
     skips: &[usize],
     classes: &[usize],
     place: usize,
+    places: &mut Places,
 ) -> Result<Vec<usize>, Error>
     requires skips { IsSkips (plain_events events.now) skips.now 0 }
     requires place { place < length events.now }
@@ -69,12 +77,10 @@ fn classes_within(
         ++ map (num_of classes.now) (values_in t place)) }
     ensures memory { OnlyMemory result }
 {
-    let mut keys = Vec::new(alloc);
-    let mut values = Vec::new(alloc);
-    children(events, skips, place, &mut keys, &mut values)?;
+    children(events, skips, place, &mut places.keys, &mut places.values)?;
     let mut found = Vec::new(alloc);
-    push_classes(&mut found, classes, keys.as_slice())?;
-    push_classes(&mut found, classes, values.as_slice())?;
+    push_classes(&mut found, classes, places.keys.as_slice())?;
+    push_classes(&mut found, classes, places.values.as_slice())?;
     Ok(found)
 }
 
@@ -85,6 +91,7 @@ fn class_of_collection(
     skips: &[usize],
     classes: &[usize],
     place: usize,
+    places: &mut Places,
     is_dictionary: bool,
     collections: &mut IndexSet<Collection>,
 ) -> Result<usize, Error>
@@ -101,7 +108,7 @@ fn class_of_collection(
     ensures apart { OnOk result (AreApart (keys_seen collections.new.keys)) }
     ensures memory { OnlyMemory result }
 {
-    let children = classes_within(alloc, events, skips, classes, place)?;
+    let children = classes_within(alloc, events, skips, classes, place, places)?;
     let collection = Collection {
         is_dictionary,
         children,
@@ -119,6 +126,7 @@ fn give_class(
     events: &[Event<'_>],
     skips: &[usize],
     place: usize,
+    places: &mut Places,
     classes: &mut Vec<usize>,
     collections: &mut IndexSet<Collection>,
 ) -> Result<(), Error>
@@ -144,6 +152,7 @@ fn give_class(
                 skips,
                 found,
                 place,
+                places,
                 false,
                 collections,
             )?;
@@ -152,7 +161,16 @@ fn give_class(
         }
         Kind::Dictionary => {
             let found = classes.as_slice();
-            let class = class_of_collection(alloc, events, skips, found, place, true, collections)?;
+            let class = class_of_collection(
+                alloc,
+                events,
+                skips,
+                found,
+                place,
+                places,
+                true,
+                collections,
+            )?;
             classes[place] = class;
             Ok(())
         }
@@ -181,10 +199,22 @@ pub fn tree_classes(alloc: Global, events: &[Event<'_>], skips: &[usize]) -> Res
 {
     let mut classes = classes_of(alloc, events)?;
     let mut collections = IndexSet::new(alloc);
+    let mut places = Places {
+        keys: Vec::new(alloc),
+        values: Vec::new(alloc),
+    };
     let mut place = events.len();
     'back: while place > 0 {
         place -= 1;
-        give_class(alloc, events, skips, place, &mut classes, &mut collections)?;
+        give_class(
+            alloc,
+            events,
+            skips,
+            place,
+            &mut places,
+            &mut classes,
+            &mut collections,
+        )?;
     }
     match events.len().checked_add(collections.len()) {
         Some(count) => Ok(Classes { of: classes, count }),
