@@ -158,7 +158,7 @@ SHAPES = {"integers": integers, "distinct texts": distinct_texts, "repeated text
           "settings": settings, "blobs": blobs}
 LEVELS = {"10^5 levels": lambda: levels(10**5), "10^6 levels": lambda: levels(10**6)}
 SHARING = {"doubling, 2^17 arrays": lambda: doubling(16), "doubling, 2^20 arrays": lambda: doubling(19)}
-OTHERS = {**LEVELS, **SHARING, "one object": lambda: doubling(0), "settings by plistlib": lambda: settings_by_plistlib(10_000_000)}
+OTHERS = {**LEVELS, **SHARING, "settings by plistlib": lambda: settings_by_plistlib(10_000_000)}
 
 
 def make(path, shape, *size):
@@ -306,8 +306,9 @@ def print_growth(points):
 
 
 def print_table(path, sizes, known):
-    make(path, "one object")
-    # what the program holds beside what it holds of the objects
+    # what the program holds beside what it holds of the objects: a file of few, whose events take long
+    # enough for the program to be looked at
+    make(path, "doubling, 2^17 arrays")
     memory = (measure([*known["plist_tool"], path]) or (0, 0))[1] + WINDOWS
     heading(["shape", "bytes", *known, "bytes an object"])
     grown = {}
