@@ -1,5 +1,5 @@
 -- A call that comes behind one that left all that is to come as it was.
-use Rattle.std.proofs.Common.{◌≡◌, ℕ, List, Option, Result, IfSome, MatchOption, subst, sym, ap, ◌∙◌}
+use Rattle.std.proofs.Common.{ℕ, List, Option, Result}
 use Rattle.plist_base.specs.declared.error.Error.{Error}
 use Rattle.plist_base.specs.declared.source.Source.{Ghosts}
 use Rattle.plist_binread.specs.declared.counter.DecodeCounter.{Ghosts as CounterGhosts}

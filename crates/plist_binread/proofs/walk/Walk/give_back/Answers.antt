@@ -1,5 +1,4 @@
 use Rattle.std.proofs.Common.{arith, ap, ◌∙◌, ◌∷◌}
-use Rattle.plist_binread.specs.Debt.{given_back}
 use Rattle.plist_binread.proofs.Turned.{splits, next_path, with_next}
 use Rattle.plist_binread.proofs.walk.Walk.give_back.Goals as goal
 
