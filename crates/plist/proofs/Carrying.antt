@@ -9,7 +9,7 @@ use Rattle.std.proofs.lemmas.List.{map-append}
 use Rattle.plist.specs.LastWins.{Rows, with_pair, last_values, last_wins, last_wins_in_items, last_wins_in_pairs}
 use Rattle.plist.specs.Building.{OpenCollection, InArray, InDictionary, AfterKey, Unfinished, NotBegun, Within, Complete, last_wins_in_rows, last_wins_within, last_wins_so_far}
 use Rattle.plist.specs.Steps.{and_pair, and_tree, begun, in_array, in_dictionary, carried_on}
-use Rattle.plist.proofs.Keeping.{Settled, settled-inserts, last-values-once, once-inserts, last-wins-twice}
+use Rattle.plist.proofs.Keeping.{Settled}
 
 pub map-snoc : {A B : Type 0} (f : A → B) (xs : List A) (x : A)
     → map f (xs ++ x ∷ []) ≡ map f xs ++ f x ∷ []
@@ -91,38 +91,3 @@ pub map-fixed : (ps : Rows) → Settled ps → map (λ p. (p.0, last_wins p.1)) 
 map-fixed [] d = refl
 map-fixed (p ∷ ps) d =
     ap (λ t. (p.0, t) ∷ map (λ q. (q.0, last_wins q.1)) ps) d.0 ∙ ap (λ l. p ∷ l) (map-fixed ps d.1)
-
-map-settled : (ps : Rows) → Settled (map (λ p. (p.0, last_wins p.1)) ps)
-map-settled [] = tt
-map-settled (p ∷ ps) = (last-wins-twice p.1, map-settled ps)
-
-rows-twice : (ps : Rows) → last_wins_in_rows (last_wins_in_rows ps) ≡ last_wins_in_rows ps
-rows-twice ps =
-    let r = map (λ p. (p.0, last_wins p.1)) ps in
-    ap last_values (map-fixed (last_values r) (settled-inserts [] r tt (map-settled ps)))
-    ∙ last-values-once (last_values r) (once-inserts [] r tt)
-
-items-twice : (ts : List Tree) → map last_wins (map last_wins ts) ≡ map last_wins ts
-items-twice [] = refl
-items-twice (t ∷ ts) =
-    ap (λ u. u ∷ map last_wins (map last_wins ts)) (last-wins-twice t)
-    ∙ ap (λ l. last_wins t ∷ l) (items-twice ts)
-
-within-twice : (c : OpenCollection) → last_wins_within (last_wins_within c) ≡ last_wins_within c
-within-twice (InArray ts) = ap InArray (items-twice ts)
-within-twice (InDictionary ps) = ap InDictionary (rows-twice ps)
-within-twice (AfterKey ps k) = ap (λ l. AfterKey l k) (rows-twice ps)
-
-outer-twice : (outer : List OpenCollection)
-    → map last_wins_within (map last_wins_within outer) ≡ map last_wins_within outer
-outer-twice [] = refl
-outer-twice (c ∷ outer) =
-    ap (λ d. d ∷ map last_wins_within (map last_wins_within outer)) (within-twice c)
-    ∙ ap (λ l. last_wins_within c ∷ l) (outer-twice outer)
-
-pub so-far-twice : (u : Unfinished) → last_wins_so_far (last_wins_so_far u) ≡ last_wins_so_far u
-so-far-twice NotBegun = refl
-so-far-twice (Within c outer) =
-    ap (λ d. Within d (map last_wins_within (map last_wins_within outer))) (within-twice c)
-    ∙ ap (Within (last_wins_within c)) (outer-twice outer)
-so-far-twice (Complete t) = ap Complete (last-wins-twice t)

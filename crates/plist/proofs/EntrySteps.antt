@@ -1,5 +1,5 @@
 -- What is written at a place of a list of pairs.
-use Rattle.std.proofs.Common.{◌≡◌, ℕ, zero, suc, List, [], ◌∷◌, ◌++◌, length, refl, ap, sym, ◌∙◌, Some, None, cond, Result, Ok, Err, OnErr}
+use Rattle.std.proofs.Common.{◌≡◌, ℕ, zero, suc, List, [], ◌∷◌, ◌++◌, length, refl, ap, sym, ◌∙◌, Some, None, cond}
 use Rattle.std.specs.Prelude.{slice_get, Option, position, Bool, true, false, is_some, get_or, swap_remove, if◌then◌else◌}
 use Rattle.std.proofs.lemmas.List.Quantifiers.{position-Some}
 use Rattle.std.proofs.lemmas.Option.{slice_get-get_or}
@@ -39,11 +39,6 @@ pub read_pushed : {K X : Type 0} (ps new : List (K × X)) (k : K) (v r : X) (n :
 read_pushed ps new k v r n e is read =
     some_same r v (read ∙ ap (λ l. slice_get (values_of l) n) e
     ∙ ap (λ m. slice_get (values_of (ps ++ (k, v) ∷ [])) m) is ∙ get_last ps k v)
-
-pub none_refused : {T E : Type 0} (A : Type 0) (r : Result T E)
-    → OnErr r (◌≡◌ {A = Option A} None None)
-none_refused A (Ok x) = tt
-none_refused A (Err e) = refl
 
 some_none : {A B : Type 0} (x : A) → Some x ≡ None → B
 some_none x e = cc

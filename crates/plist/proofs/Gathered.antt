@@ -1,6 +1,5 @@
 -- The events of a value are gathered, and their file goes out.
-use Rattle.std.proofs.Common.{◌≡◌, ℕ, List, [], ◌∷◌, ◌++◌, Option, None, Some, Ok, Err, map, refl, sym, ap, ◌∙◌, subst, append_assoc, append-nil}
-use Rattle.std.proofs.lemmas.List.{map-append}
+use Rattle.std.proofs.Common.{◌≡◌, ℕ, List, ◌++◌, Option, Ok, Err, map, refl, sym, ap, ◌∙◌, subst}
 use Rattle.plist_base.specs.declared.event.Event.{Event}
 use Rattle.plist_base.specs.Bracketing.{bracketing, unhinted, AreAlike, AreWhole}
 use Rattle.plist_base.specs.Events.{PlainEvent, event_of}
@@ -11,26 +10,12 @@ use Rattle.plist_binwrite.specs.Held.{plain_events}
 use Rattle.plist_binwrite.specs.Sending.{Sends, FailsWith}
 use Rattle.plist_binwrite.proofs.Unhinted.{plain_is, plain_twice}
 use Rattle.plist.specs.declared.stream.events.Events.{Events}
-use Rattle.plist.specs.Remaining.{remaining_events, GivesEvent}
+use Rattle.plist.specs.Remaining.{remaining_events}
 use Rattle.plist.specs.Sent.{StopsSending, SendsTree}
 
 -- what was gathered, and then what is left
 abbrev pub GatheredSoFar : List PlainEvent → List Event → Events → Type 0
 GatheredSoFar all gathered left = map event_of gathered ++ remaining_events left ≡ all
-
-pub one_gathered : (all : List PlainEvent) (old new : List Event) (before after : Events)
-    (e : Event) → GatheredSoFar all old before → GivesEvent before (Some (Ok e)) after
-    → new ≡ old ++ e ∷ [] → GatheredSoFar all new after
-one_gathered all old new before after e h g n =
-    ap (λ l. map event_of l ++ remaining_events after) n
-    ∙ ap (λ l. l ++ remaining_events after) (map-append event_of old (e ∷ []))
-    ∙ append_assoc (map event_of old) (event_of e ∷ []) (remaining_events after)
-    ∙ ap (λ l. map event_of old ++ l) (sym g.0) ∙ h
-
-pub all_gathered : (all : List PlainEvent) (es : List Event) (before after : Events)
-    → GatheredSoFar all es before → GivesEvent before None after → map event_of es ≡ all
-all_gathered all es before after h g =
-    sym (append-nil (map event_of es)) ∙ ap (λ l. map event_of es ++ l) (sym g.0) ∙ h
 
 -- ---- sending them
 

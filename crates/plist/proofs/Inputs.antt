@@ -117,7 +117,7 @@ no-tree-error all events error more is tree (others, same, alike) =
     never [] p = cc
     never (x ∷ es) p = cc
 
-some-kind : {A : Type 0} (k : FaultKind) → Some k ≡ None → A
+pub some-kind : {A : Type 0} (k : FaultKind) → Some k ≡ None → A
 some-kind k p = cc
 
 no-tree-event : (all : List Item) (events : List PlainEvent) (held : Unfinished) (e : PlainEvent)
@@ -203,10 +203,6 @@ reads-refused None o n given item built fault is r h k = tt
 reads-refused (Some all) o n given item built fault is (left, e, t) h k =
     let g = goes-at o n left given e h in
     stops-given all left g.0 item built fault (subst (λ x. BeginsWith left x g.0) is g.2) t k
-
-pub takes-fine : (x : Item) (old new : Built) → Takes old x new → new.failed ≡ false
-takes-fine (Ok e) old new k = k.1
-takes-fine (Err f) old new k = absurd k
 
 -- ---- the whole
 

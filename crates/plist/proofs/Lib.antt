@@ -10,6 +10,7 @@ pub mod Collected
 pub mod Inputs
 pub mod Shown
 pub mod Limiting
+pub mod LimitedNests
 pub mod ReadingBack
 pub mod Handed
 pub mod Storing

@@ -117,23 +117,6 @@ module _ {X : Type 0} (A : X → Bool → Type 0) where
         apart = refl;
       }
 
-  pub kept-length : (old now : List X) (i kept : ℕ) → KeptSoFar old now i kept
-      → (length now ≡ length old) × (kept ≤ i)
-  kept-length old now i kept k =
-      let front = items_where_true k.answers k.done in (
-        omega (
-          arith,
-          ap length k.old_is,
-          ap length k.now_is,
-          length-append k.done k.todo,
-          length-append front (k.gap ++ k.todo),
-          length-append k.gap k.todo,
-          k.apart,
-        ),
-        omega
-            (arith, k.kept_is, k.at, k.apart),
-      )
-
   -- the next item is the first to do
   next-is : (front todo : List X) (x : X) → slice_get (front ++ todo) (length front) ≡ Some x
       → (rest : List X) × (todo ≡ x ∷ rest)

@@ -1,11 +1,10 @@
 -- The tree of a value, kind by kind.
-use Rattle.std.proofs.Common.{◌≡◌, ℕ, ℤ, Bool, true, false, if◌then◌else◌, List, [], ◌∷◌, refl, sym, ap, ◌∙◌, String, string_bytes, Vec, Global}
-use Rattle.plist_base.specs.declared.real.RealBits.{RealBits}
+use Rattle.std.proofs.Common.{◌≡◌, ℕ, Bool, true, false, if◌then◌else◌, List, [], ◌∷◌, refl, sym, ap, ◌∙◌, Vec, Global}
 use Rattle.plist_base.specs.Trees as tree
 use Rattle.plist_base.specs.Trees.{Tree, Leaf}
 use Rattle.plist.specs.declared.value.Value.{Value, Value-F, fold-roll-Value}
 use Rattle.plist.specs.declared.value.Value.TheVariants as value
-use Rattle.plist.specs.declared.value.Value.TheVariants.{rolls-Array, rolls-Dictionary, rolls-Boolean, rolls-Data, rolls-Date, rolls-Real, rolls-Integer, rolls-String, rolls-Uid}
+use Rattle.plist.specs.declared.value.Value.TheVariants.{rolls-Array, rolls-Dictionary, rolls-Data}
 use Rattle.std.specs.Str.{bytes_eq}
 use Rattle.indexmap.specs.IndexMap.{insert_entry}
 use Rattle.plist.specs.LastWins.{with_pair}
@@ -22,35 +21,10 @@ tree_of-Dictionary pairs =
     ap tree_of (sym (rolls-Dictionary pairs))
     ∙ fold-roll-Value Tree tree_step (Value-F.Dictionary pairs)
 
-pub tree_of-Boolean : (b : Bool) → tree_of (value.Boolean b) ≡ Leaf (tree.Boolean b)
-tree_of-Boolean b =
-    ap tree_of (sym (rolls-Boolean b)) ∙ fold-roll-Value Tree tree_step (Value-F.Boolean b)
-
 pub tree_of-Data : (bytes : Vec ℕ Global)
     → tree_of (value.Data bytes) ≡ Leaf (tree.Data bytes.items)
 tree_of-Data bytes =
     ap tree_of (sym (rolls-Data bytes)) ∙ fold-roll-Value Tree tree_step (Value-F.Data bytes)
-
-pub tree_of-Date : (bytes : List ℕ) → tree_of (value.Date bytes) ≡ Leaf (tree.Date bytes)
-tree_of-Date bytes =
-    ap tree_of (sym (rolls-Date bytes)) ∙ fold-roll-Value Tree tree_step (Value-F.Date bytes)
-
-pub tree_of-Real : (bits : RealBits) → tree_of (value.Real bits) ≡ Leaf (tree.Real bits)
-tree_of-Real bits =
-    ap tree_of (sym (rolls-Real bits)) ∙ fold-roll-Value Tree tree_step (Value-F.Real bits)
-
-pub tree_of-Integer : (n : ℤ) → tree_of (value.Integer n) ≡ Leaf (tree.Integer n)
-tree_of-Integer n =
-    ap tree_of (sym (rolls-Integer n)) ∙ fold-roll-Value Tree tree_step (Value-F.Integer n)
-
-pub tree_of-String : (text : String Global)
-    → tree_of (value.String text) ≡ Leaf (tree.String (string_bytes text))
-tree_of-String text =
-    ap tree_of (sym (rolls-String text)) ∙ fold-roll-Value Tree tree_step (Value-F.String text)
-
-pub tree_of-Uid : (number : ℕ) → tree_of (value.Uid number) ≡ Leaf (tree.Uid number)
-tree_of-Uid number =
-    ap tree_of (sym (rolls-Uid number)) ∙ fold-roll-Value Tree tree_step (Value-F.Uid number)
 
 insert-choice : (k : List ℕ) (v : Value) (p : List ℕ × Value) (ps : List (List ℕ × Value))
     (b : Bool) → tree_pairs (insert_entry bytes_eq ps k v) ≡ with_pair (tree_pairs ps) k (tree_of v)

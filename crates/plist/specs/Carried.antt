@@ -51,7 +51,7 @@ no_held : {A : Type 0} (b : Unfinished) → None ≡ Some b → A
 no_held b e = cc
 
 -- the same events behind the same others, up to lengths
-alike-behind : (front left right : List PlainEvent) → AreAlike left right
+pub alike-behind : (front left right : List PlainEvent) → AreAlike left right
     → AreAlike (front ++ left) (front ++ right)
 alike-behind front left right p =
     map-append unhinted front left ∙ ap (λ l. map unhinted front ++ l) p

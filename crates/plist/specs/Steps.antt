@@ -51,9 +51,3 @@ module _ (add : Rows → List ℕ → Tree → Rows) where
   carried_through unfinished [] = Some unfinished
   carried_through unfinished (event ∷ events) =
       option_and_then (λ after. carried_through after events) (carried_on unfinished event)
-
-  -- what is held after a tree
-  abbrev pub and_value : Tree → Unfinished → Unfinished
-  and_value tree NotBegun = Complete tree
-  and_value tree (Within collection outer) = and_tree tree (collection ∷ outer)
-  and_value tree (Complete other) = Complete other

@@ -1,12 +1,11 @@
 -- How the answers of the parts of a token make the answer of the whole.
 use Rattle.std.proofs.Common.{◌≡◌, ℕ, ◌+◌, ◌≤◌, Bool, true, false, List, [], ◌∷◌, drop, Option, Some, Result, Ok, Err, refl, sym, ap, subst, ◌∙◌, arith}
-use Rattle.std.proofs.lemmas.List.{drop-drop}
 use Rattle.plist_base.specs.declared.error.Error.{Error}
-use Rattle.plist_base.specs.Faults.{FaultKind, Io, OutOfMemory, UnclosedString, fault_of, fault_at, fault_nowhere, kind_of, error_kind_of}
+use Rattle.plist_base.specs.Faults.{FaultKind, UnclosedString, fault_of, fault_at, kind_of, error_kind_of}
 use Rattle.plist_ascii.specs.Taken.{Taken, taken, past_one, past, past_outcome, followed}
 use Rattle.plist_ascii.specs.Kinds.{IsFaultOfBytes}
 use Rattle.plist_ascii.specs.Unread.{Known, Takes, TakesFront, Answers, IsAt, is_from_outside}
-use Rattle.plist_ascii.proofs.Inside.{kind_said, is_at_inside, is_at_io, is_at_memory, outside_io, outside_memory}
+use Rattle.plist_ascii.proofs.Inside.{kind_said, is_at_inside}
 
 differ : {b : Bool} → b ≡ true → b ≡ false → ⊥
 differ e h = cc
@@ -101,25 +100,6 @@ module _ {X A : Type 0} (view : X → A) where
         (ap Err (kind_said f UnclosedString q b.0), k.0 ∙ ap Some k.1, omega arith)),
   )
 
-  -- a fault from outside
-  pub answers_outside : (front : List ℕ → Taken A) (old : Option (List ℕ)) (p : ℕ)
-      (new : Option (List ℕ)) (q : ℕ) (f : Error)
-      → IsAt (fault_of f) q × (is_from_outside (kind_of (error_kind_of f)) ≡ true) → p ≤ q
-      → Answers view front old p new q (Err f)
-  answers_outside front old p new q f h le = (h.0, le, λ d. absurd (differ h.1 d))
-
-  pub answers_io : (front : List ℕ → Taken A) (old : Option (List ℕ)) (p : ℕ)
-      (new : Option (List ℕ)) (q : ℕ) (f : Error)
-      → fault_of f ≡ fault_at Io q → p ≤ q → Answers view front old p new q (Err f)
-  answers_io front old p new q f h le =
-      answers_outside front old p new q f (is_at_io f q h, outside_io f q h) le
-
-  pub answers_memory : (front : List ℕ → Taken A) (old : Option (List ℕ)) (p : ℕ)
-      (new : Option (List ℕ)) (q : ℕ) (f : Error)
-      → fault_of f ≡ fault_nowhere OutOfMemory → p ≤ q → Answers view front old p new q (Err f)
-  answers_memory front old p new q f h le =
-      answers_outside front old p new q f (is_at_memory f q h, outside_memory f h) le
-
 pub front_from : {A : Type 0} (t : Taken A) (g : Result A FaultKind) (new : Option (List ℕ))
     (p q n : ℕ) (xs : List ℕ) → t ≡ taken n g → new ≡ Some (drop n xs) → q ≡ p + n
     → TakesFront t g new p q xs
@@ -151,51 +131,3 @@ module _ {A B : Type 0} (front : List ℕ → Taken A) (next : A → List ℕ �
   followed_ok : (xs : List ℕ) (t : Taken A) (a : A) → t.gives ≡ Ok a
       → followed xs t next ≡ past t.bytes (next a (drop t.bytes xs))
   followed_ok xs t a e = ap (λ g. past_outcome xs t.bytes g next) e
-
-  followed_err : (xs : List ℕ) (t : Taken A) (k : FaultKind) → t.gives ≡ Err k
-      → followed xs t next ≡ taken t.bytes (Err k)
-  followed_err xs t k e = ap (λ g. past_outcome xs t.bytes g next) e
-
-  front_then : (xs : List ℕ) (t : Taken A) (a : A) (mid : Option (List ℕ)) (p m : ℕ)
-      (g : Result B FaultKind) (new : Option (List ℕ)) (q : ℕ)
-      → TakesFront t (Ok a) mid p m xs
-      → TakesFront (next a (drop t.bytes xs)) g new m q (drop t.bytes xs)
-      → TakesFront (followed xs t next) g new p q xs
-  front_then xs t a mid p m g new q f h =
-      let P : Taken B → Type 0 = λ z. TakesFront z g new p q xs in
-      let n = (next a (drop t.bytes xs)).bytes in
-      let place : m ≡ p + t.bytes = f.2 in
-      let end : q ≡ m + n = h.2 in
-      subst P (sym (followed_ok xs t a f.0))
-      (h.0, h.1 ∙ ap Some (drop-drop n t.bytes xs), omega arith)
-
-  pub answers_then : {X Y : Type 0} (view : X → A) (show : Y → B) (old : Option (List ℕ)) (p : ℕ)
-      (mid : Option (List ℕ)) (m : ℕ) (x : X) (new : Option (List ℕ)) (q : ℕ) (r : Result Y Error)
-      → Answers view front old p mid m (Ok x) → Answers show (next (view x)) mid m new q r
-      → Answers show (λ xs. followed xs (front xs) next) old p new q r
-  answers_then {X} {Y} view show old p mid m x new q (Ok y) a b = (
-    let low : p ≤ m = a.0 in let high : m
-        ≤ q = b.0 in omega arith,
-    λ xs e. let f = a.1 xs e in front_then xs (front xs) (view x)
-        mid p m _ new q f (b.1 (drop (front xs).bytes xs) f.1),
-  )
-  answers_then {X} {Y} view show old p mid m x new q (Err f) a b = (
-    b.0,
-    let low : p ≤ m = a.0 in let high : m
-        ≤ q = b.1 in omega arith,
-    λ d xs e. let f = a.1 xs e in front_then xs (front xs) (view x)
-        mid p m _ new q f (b.2 d (drop (front xs).bytes xs) f.1),
-  )
-
-  pub answers_then_fails : {X Y : Type 0} (view : X → A) (show : Y → B) (old : Option (List ℕ))
-      (p : ℕ) (new : Option (List ℕ)) (q : ℕ) (f : Error)
-      → Answers view front old p new q (Err f)
-      → Answers show (λ xs. followed xs (front xs) next) old p new q (Err f)
-  answers_then_fails {X} {Y} view show old p new q f a = (
-    a.0,
-    a.1,
-    λ d xs e.
-        let b = a.2 d xs e in
-        front_from (followed xs (front xs) next) (Err (kind_of (error_kind_of f))) new p q
-        (front xs).bytes xs (followed_err xs (front xs) _ b.0) b.1 b.2,
-  )

@@ -53,14 +53,6 @@ pub record Closing (xs : List ℕ) (k : ℕ) (star : Bool) (ys : List ℕ) : Typ
   pub rest : ys ≡ drop k xs
   pub count : k + length ys ≡ length xs
 
-plus_none : (o : Option ℕ) → o ≡ option_map (λ n. 0 + n) o
-plus_none None = refl
-plus_none (Some n) = ap Some (let e : n ≡ 0 + n = omega arith in e)
-
-pub closing_start : (xs : List ℕ) → Closing xs 0 false xs
-closing_start xs =
-    record { all = plus_none (close_from false xs); rest = refl; count = omega arith }
-
 plus_suc : (k : ℕ) (o : Option ℕ)
     → option_map (λ n. k + n) (option_map suc o) ≡ option_map (λ n. k + 1 + n) o
 plus_suc k None = refl

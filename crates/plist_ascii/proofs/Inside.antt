@@ -1,7 +1,7 @@
 -- Faults in the bytes, and faults from outside.
 use Rattle.std.proofs.Common.{◌≡◌, ℕ, true, false, Some, refl, sym, ap, subst}
 use Rattle.plist_base.specs.declared.error.Error.{Error}
-use Rattle.plist_base.specs.Faults.{Fault, FaultKind, Io, OutOfMemory, MatchFault, fault_of, fault_at, fault_nowhere, kind_of, error_kind_of}
+use Rattle.plist_base.specs.Faults.{Fault, FaultKind, Io, OutOfMemory, MatchFault, fault_of, fault_at, kind_of, error_kind_of}
 use Rattle.plist_ascii.specs.Kinds.{IsFaultOfBytes, IsAsciiFault}
 use Rattle.plist_ascii.specs.Unread.{IsAt, is_from_outside}
 
@@ -48,21 +48,6 @@ pub kind_at : (kind : FaultKind) (A B C : Type 0) → MatchFault kind A B (IsFau
 kind_at Io A B C h = tt
 kind_at OutOfMemory A B C h = tt
 kind_at kind A B C h = h.0
-
-pub is_at_io : (f : Error) (place : ℕ) → fault_of f ≡ fault_at Io place → IsAt (fault_of f) place
-is_at_io f place e = let P : Fault → Type 0 = λ fault. IsAt fault place in subst P (sym e) refl
-
-pub is_at_memory : (f : Error) (place : ℕ) → fault_of f ≡ fault_nowhere OutOfMemory
-    → IsAt (fault_of f) place
-is_at_memory f place e = let P : Fault → Type 0 = λ fault. IsAt fault place in subst P (sym e) refl
-
-pub outside_io : (f : Error) (place : ℕ) → fault_of f ≡ fault_at Io place
-    → is_from_outside (kind_of (error_kind_of f)) ≡ true
-outside_io f place e = ap (λ fault. is_from_outside fault.kind) e
-
-pub outside_memory : (f : Error) → fault_of f ≡ fault_nowhere OutOfMemory
-    → is_from_outside (kind_of (error_kind_of f)) ≡ true
-outside_memory f e = ap (λ fault. is_from_outside fault.kind) e
 
 -- the place of a fault in the bytes
 fault_by : (fault : Fault) (place : ℕ) → fault.offset ≡ Some place

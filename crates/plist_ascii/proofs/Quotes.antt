@@ -132,14 +132,6 @@ front_none : (r : Result (List ℕ) FaultKind) → r ≡ with_front [] r
 front_none (Ok text) = refl
 front_none (Err k) = refl
 
-behind_none : (t : Taken (List ℕ)) → t ≡ behind 0 [] t
-behind_none t =
-    let n : t.bytes ≡ 0 + t.bytes = omega arith in ap (λ n. taken n t.gives) n
-    ∙ ap (taken (0 + t.bytes)) (front_none t.gives)
-
-pub quoting_start : (quote : ℕ) (xs text : List ℕ) → text ≡ [] → Quoting quote xs text 0 xs
-quoting_start quote xs text e = record { all = rw e (behind_none (quoted quote xs)); rest = refl }
-
 pub quoting_more : (quote : ℕ) (xs text : List ℕ) (k n : ℕ) (ys part longer : List ℕ)
     → Quoting quote xs text k ys
     → ((more : List ℕ → Taken (List ℕ))

@@ -1,5 +1,5 @@
 -- A run of bytes that is taken one by one, or several in one go.
-use Rattle.std.proofs.Common.{◌≡◌, ℕ, suc, ◌+◌, Bool, false, cond, List, [], ◌∷◌, ◌++◌, length, take, drop, refl, sym, ap, ◌∙◌, arith, append_assoc, append-nil}
+use Rattle.std.proofs.Common.{◌≡◌, ℕ, suc, ◌+◌, Bool, false, cond, List, [], ◌∷◌, ◌++◌, length, take, drop, refl, sym, ap, ◌∙◌, arith, append_assoc}
 use Rattle.std.proofs.lemmas.Bool.{eq-eqb}
 use Rattle.std.proofs.lemmas.List.Folds.{prefix_len-append}
 use Rattle.std.proofs.Math.Seq.{take-append-add, drop-append-add}
@@ -15,9 +15,6 @@ pub record RunsOn (stop : ℕ → Bool) (xs old : List ℕ) (p : ℕ) (ys more :
 pub run_more : (stop : ℕ → Bool) (c : ℕ) (ys : List ℕ) → stop c ≡ false
     → run stop (c ∷ ys) ≡ suc (run stop ys)
 run_more stop c ys h = rw h (omega arith)
-
-pub runs_start : (stop : ℕ → Bool) (xs text : List ℕ) (p : ℕ) → RunsOn stop xs text p xs text p
-runs_start stop xs text p = record { text = refl; rest = refl; place = refl }
 
 pub runs_step : (stop : ℕ → Bool) (xs text : List ℕ) (p : ℕ) (ys zs more longer : List ℕ)
     (q r c : ℕ) → RunsOn stop xs text p ys more q
@@ -59,16 +56,3 @@ runs_part stop xs text p ys part zs more longer q r on e h l s =
       place = let place : q + run stop ys ≡ p + run stop xs =
           on.place in omega (arith, n, s, place);
     }
-
--- at a stop
-pub runs_end : (stop : ℕ → Bool) (xs text : List ℕ) (p : ℕ) (ys more : List ℕ) (q : ℕ)
-    → RunsOn stop xs text p ys more q → run stop ys ≡ 0
-    → (more ≡ text ++ take (run stop xs) xs) × (ys ≡ drop (run stop xs) xs) × (q ≡ p + run stop xs)
-runs_end stop xs text p ys more q on z =
-    let none : take (run stop ys) ys ≡ [] = rw z refl in
-    let all : drop (run stop ys) ys ≡ ys = rw z refl in (
-      sym (append-nil more) ∙ ap (λ z. more ++ z) (sym none) ∙ on.text,
-      sym all
-          ∙ on.rest,
-      let place : q + run stop ys ≡ p + run stop xs = on.place in omega arith,
-    )

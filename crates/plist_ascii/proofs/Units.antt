@@ -1,9 +1,9 @@
 -- Bytes that must be taken, one by one, and the units of UTF-16 that they spell.
-use Rattle.std.proofs.Common.{◌≡◌, ℕ, suc, true, false, List, [], ◌∷◌, length, Option, None, Some, Result, refl}
+use Rattle.std.proofs.Common.{◌≡◌, ℕ, suc, true, false, List, [], ◌∷◌, Option, None, Some, Result, refl}
 use Rattle.std.specs.Option.{option_map}
 use Rattle.plist_base.specs.Faults.{FaultKind}
 use Rattle.std.specs.Prelude.{◌==◌, ◌||◌}
-use Rattle.plist_ascii.specs.Taken.{past_one, front, front_gives, needs}
+use Rattle.plist_ascii.specs.Taken.{past_one, front_gives}
 use Rattle.plist_ascii.specs.Escapes.{second_letter, second_digits, bad_unit}
 
 module _ {A : Type 0} (meaning : List ℕ → Result A FaultKind) where
@@ -12,11 +12,6 @@ module _ {A : Type 0} (meaning : List ℕ → Result A FaultKind) where
       ≡ past_one (front_gives n l o (λ ds. meaning (c ∷ ds)))
   needs_past_by n l c None = refl
   needs_past_by n l c (Some ds) = refl
-
-  -- one of them was taken
-  pub needs_past : (n c : ℕ) (xs : List ℕ)
-      → needs (suc n) (c ∷ xs) meaning ≡ past_one (needs n xs (λ ds. meaning (c ∷ ds)))
-  needs_past n c xs = needs_past_by n (length xs) c (front n xs)
 
 -- the letter of the second unit
 

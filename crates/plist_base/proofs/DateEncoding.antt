@@ -209,7 +209,7 @@ back_neg n h =
           (omega arith),
     )
 
-some_same : (a b : ℤ) → ◌≡◌ {A = Option ℤ} (Some a) (Some b) → a ≡ b
+pub some_same : (a b : ℤ) → ◌≡◌ {A = Option ℤ} (Some a) (Some b) → a ≡ b
 some_same a b e = cc
 
 none_not : (a : ℤ) → ◌≡◌ {A = Option ℤ} (Some a) None → ⊥

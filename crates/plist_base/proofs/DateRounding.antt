@@ -6,6 +6,7 @@ use Rattle.std.specs.Int.Signed.{le_z}
 use Rattle.std.proofs.lemmas.Bool.Decides.{nat_tests}
 use Rattle.std.proofs.lemmas.Int.{ints}
 use Rattle.plist_base.specs.Date.{IsSecondOf, real_exponent, real_mantissa, real_scale, real_parts, parts_in_second, parts_of, whole_seconds, parts_left, real_second, rounded_down, is_negative, is_second_of_date, if_second_of_date, IsSecondOfDate, second_of_bits, date_if, is_no_number}
+use Rattle.plist_base.proofs.DateEncoding.{some_same}
 
 -- d parts make a second
 abbrev Bounds : ℤ → ℤ → ℕ → Type 0
@@ -75,9 +76,6 @@ second_is_greatest bits =
     (div-add-mod v parts_in_second) (mod-lt v second_pos)
 
 -- ---- a date's second
-
-some_same : (a b : ℤ) → ◌≡◌ {A = Option ℤ} (Some a) (Some b) → a ≡ b
-some_same a b e = cc
 
 none_not : (a : ℤ) → ◌≡◌ {A = Option ℤ} None (Some a) → ⊥
 none_not a e = absurd (cc)

@@ -23,7 +23,7 @@ factored m q c hq hc =
       ap (λ k. k % (q * c)) e ∙ mod-mul-add (m / q) (q * c) (m % q * c) small,
     )
 
-power_pos : (k : ℕ) → 0 < 2 ^ k
+pub power_pos : (k : ℕ) → 0 < 2 ^ k
 power_pos k = let p : 1 ≤ 2 ^ k = one-le-pow k 2 (omega arith) in omega arith
 
 pub whole_shifted : (m e : ℕ) → e < 1075 → whole_seconds m e ≡ m / 2 ^ (1075 - e)

@@ -2,13 +2,14 @@
 use Rattle.std.proofs.Common.{◌≡◌, ℕ, zero, suc, ◌+◌, ◌*◌, ◌/◌, ◌%◌, ◌^◌, ◌<◌, ◌≤◌, max, Bool, true, false, cond, eqb, ℤ, pos, neg_ℤ, Option, None, Some, List, [], ◌∷◌, refl, ap, sym, ◌∙◌, arith, inl, inr}
 use Rattle.std.specs.Prelude.{◌*ℤ◌}
 use Rattle.std.specs.Int.{to_be_bytes, w64}
-use Rattle.std.proofs.Math.Nat.{div-add-mod, eq_of_mul-eq-mul_right, mul-le-mul_right, one-le-pow, pow-le-pow_right}
+use Rattle.std.proofs.Math.Nat.{div-add-mod, eq_of_mul-eq-mul_right, mul-le-mul_right, pow-le-pow_right}
 use Rattle.std.proofs.lemmas.Bool.{cases_lt}
 use Rattle.std.proofs.lemmas.Bool.Decides.{nat_tests}
 use Rattle.std.proofs.lemmas.Int.{ints}
 use Rattle.std.proofs.lemmas.Nat.{be_bytes_8}
 use Rattle.plist_base.specs.Date.{AreEightBytes, IsDate, IsWhole, date_bytes, date_if, has_fraction, is_negative, parts_in_second, parts_left, parts_of, real_bits, real_exponent, real_mantissa, real_parts, real_scale, real_second, rounded_down, second_of_bits, second_of_bytes, whole_seconds}
 use Rattle.plist_base.proofs.DateRounding.{neg_times, second_kept}
+use Rattle.plist_base.proofs.DateShifts.{power_pos}
 
 -- ---- without the sign
 
@@ -23,9 +24,6 @@ value_suc : (e fraction : ℕ) → value (suc e) fraction ≡ (2 ^ 52 + fraction
 value_suc e fraction =
     let some : eqb (suc e) 0 ≡ false = grind (arith, nat_tests) in let top : max 1 (suc e)
     ≡ suc e = omega arith in rw (some, top) refl
-
-power_pos : (k : ℕ) → 0 < 2 ^ k
-power_pos k = let p : 1 ≤ 2 ^ k = one-le-pow k 2 (omega arith) in omega arith
 
 value_low : (e fraction : ℕ) → 2 ^ 53 * 2 ^ e ≤ value (suc e) fraction
 value_low e fraction =

@@ -5,12 +5,10 @@ use Rattle.plist_base.specs.Date.{IsDate, IsSecondOfDate, IsWhole, plist_epoch, 
 use Rattle.plist_base.specs.DateTexts.{HasTextYear, IsDateText, IsInUtc}
 use Rattle.plist_dates.specs.DateText.{HasFourDigitYear, IsTextOfSecond, unix_second_of_text}
 use Rattle.plist_base.proofs.DateRounding.{date_has_second, second_facts}
+use Rattle.plist_base.proofs.DateEncoding.{some_same}
 
 back_to_unix : (second : ℤ) → ((second -ℤ plist_epoch) +ℤ plist_epoch) ≡ second
 back_to_unix second = omega (arith, ints)
-
-some_same : (a b : ℤ) → ◌≡◌ {A = Option ℤ} (Some a) (Some b) → a ≡ b
-some_same a b e = cc
 
 pub unix_year : (date : List ℕ) (second : ℤ) → second_of_bytes date ≡ Some (second -ℤ plist_epoch)
     → HasTextYear date → HasFourDigitYear second

@@ -24,11 +24,5 @@ pub MatchFault-from_io : (kind : FaultKind) (A B C : Type 0) → IsIo kind → A
 MatchFault-from_io kind A B C h a =
     MatchFault-weaker kind (λ _. a) (λ none. absurd none) (λ none. absurd none) h
 
--- nor is a fault from outside
-pub MatchFault-from_outside : (kind : FaultKind) (A B C : Type 0) → IsFromOutside kind → A → B
-    → MatchFault kind A B C
-MatchFault-from_outside kind A B C h a b =
-    MatchFault-weaker kind (λ _. a) (λ _. b) (λ none. absurd none) h
-
 pub IsFromOutside-from_io : (kind : FaultKind) → IsIo kind → IsFromOutside kind
 IsFromOutside-from_io kind h = MatchFault-from_io kind ⊤ ⊤ ⊥ h tt

@@ -1,3 +1,4 @@
 -- What bodies and proofs speak of, and no public clause.
 pub mod Wants
 pub mod DateBits
+pub mod Paths

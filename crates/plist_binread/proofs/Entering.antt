@@ -16,7 +16,8 @@ use Rattle.plist_binread.specs.Lent.{IsLentAs, IsToldAs, PaysTold, PaysNextTold,
 use Rattle.plist_binread.specs.Object.{Object, object_in}
 use Rattle.plist_binread.specs.Packed.{is_small_event, is_marked, unmarked, cached, single}
 use Rattle.plist_binread.specs.Unfolding.{Entry, unfolding_of}
-use Rattle.plist_binread.proofs.Known.{Turned, as_many, entry_of, entry_there, held_scalar, place_is, child_is}
+use Rattle.plist_binread.proofs.Known.{as_many, entry_of, entry_there, held_scalar, place_is}
+use Rattle.plist_binread.proofs.KnownTurns.{Turned, child_is}
 use Rattle.plist_binread.proofs.Steps.{pays_scalar}
 
 -- what is owed where an object is to be entered goes on with this event

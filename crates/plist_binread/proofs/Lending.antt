@@ -12,18 +12,11 @@ use Rattle.plist_binread.specs.declared.child.Asked.{Asked}
 use Rattle.plist_binread.specs.Container.{number_of, number_at, numbers_of}
 use Rattle.plist_binread.specs.Debt.{IsCollection, ReadsChild, children_in}
 use Rattle.plist_binread.specs.Lent.{IsSlots, IsAsked, slot_of}
-use Rattle.plist_binread.specs.Object.{Object, Array, Faulty, dictionary, layout_of, length_in, meaning_of_front, meaning_counted, object_behind, object_in}
+use Rattle.plist_binread.specs.Object.{Object, Array, Faulty, dictionary, layout_of, length_in, meaning_counted, object_behind, object_in}
 use Rattle.plist_binread.proofs.Children.{length-numbers, get_or-numbers, length-dictionary, key, value, known_array, known_dictionary}
 use Rattle.plist_binread.proofs.Columns.{take-drop-take, take-take-le}
 use Rattle.plist_binread.proofs.Extents.{leb_short, number_at-take}
 use Rattle.plist_binread.proofs.Markers.{layout-array, layout-dictionary, object_in-beyond}
-
--- the content of a fixed size
-pub front_lent : (xs more : List ℕ) (w : ℕ) (meaning : List ℕ → Object) → w ≤ length xs
-    → meaning_of_front w meaning (xs ++ more) ≡ meaning (take w xs)
-front_lent xs more w meaning h =
-    let enough : w ≤ length (xs ++ more) = omega (arith, length-append xs more) in
-    rw (le-leb w (length (xs ++ more)) enough) (ap meaning (take-append-le w xs more h))
 
 -- a length in the marker
 pub length_short : (m : ℕ) (ys : List ℕ) → m % 16 < 15 → length_in m ys ≡ Some (m % 16, ys)
@@ -43,14 +36,6 @@ length_long m byte w xs more high width h =
           more h,
       drop-append-le w xs more h,
     ) refl
-
--- the content of a text or data
-pub bytes_lent : (count : ℕ) (behind more : List ℕ) (found : Option (ℕ × List ℕ))
-    (meaning : List ℕ → Object) → found ≡ Some (count, behind ++ more) → count ≤ length behind
-    → meaning_counted 1 (λ _. meaning) found ≡ meaning (take count behind)
-bytes_lent count behind more found meaning is h =
-    let one : count * 1 ≡ count = omega arith in
-    rw (is, one) (front_lent behind more count meaning h)
 
 -- the object behind a marker
 pub object_lent : (w m : ℕ) (xs ys : List ℕ) → xs ≡ m ∷ ys

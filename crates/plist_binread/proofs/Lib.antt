@@ -7,6 +7,7 @@ pub mod Extents
 pub mod Failing
 pub mod Heads
 pub mod Known
+pub mod KnownTurns
 pub mod Lending
 pub mod Markers
 pub mod Marks

@@ -8,7 +8,7 @@ use Rattle.plist_base.specs.declared.limits.Limit.TheVariants as limit
 use Rattle.plist_base.specs.declared.limits.Limiter.{Limiter}
 use Rattle.plist_base.specs.Events.{PlainEvent, Item, StartArray, StartDictionary, EndCollection, Single}
 use Rattle.plist_base.specs.Trees.{Data, String}
-use Rattle.plist_base.specs.Faults.{FaultKind, Fault, Io, OutOfMemory, LimitReached, MatchFault, fault_of, fault_nowhere, kind_of, error_kind_of}
+use Rattle.plist_base.specs.Faults.{FaultKind, Fault, LimitReached, MatchFault, fault_of, fault_nowhere, kind_of, error_kind_of}
 use Rattle.plist_base.specs.Limits.{AdmitsAny, RefusesAny, event_or_limit, has_room, level_behind, limit_at, limited_from, under, under_any}
 use Rattle.plist_base.specs.Sources.{IsPlaceWithin}
 use Rattle.plist_binread.specs.Coming.{TellsItem, has_room_in}
@@ -19,6 +19,7 @@ use Rattle.plist_binread.specs.declared.walk.Frame.{Frame}
 use Rattle.plist_binread.specs.Lent.{PaysTold}
 use Rattle.plist_binread.specs.Debt.{IsOwed, WantsMemory, entries_of, is_fresh, is_walking, owed_by, still_owed}
 use Rattle.plist_binread.specs.Failures.{FailsWithin, HasPlace, IsGivenWithin, MatchGiven, MatchReader}
+use Rattle.plist_base.proofs.Refusals.{MatchFault-weaker}
 
 -- ---- where a fault is
 
@@ -117,12 +118,6 @@ either-under : (new : Bool) (limiter : Option Limiter) (items : List Item)
 either-under true limiter items h = owed-under limiter items h
 either-under false limiter items h = wants-under limiter items h
 
-weaker : (kind : FaultKind) {A B C A' B' C' : Type 0} → (A → A') → (B → B') → (C → C')
-    → MatchFault kind A B C → MatchFault kind A' B' C'
-weaker Io f g h x = f x
-weaker OutOfMemory f g h x = g x
-weaker kind f g h x = h x
-
 module _ (new : Bool) (told : PlainEvent) where
   pub none-told : (known : Option (List ℕ)) (old now : Option Limiter)
       (before after : List ℕ → List Item)
@@ -142,7 +137,7 @@ module _ (new : Bool) (told : PlainEvent) where
   fault-told None old now before after error h = tt
   fault-told (Some bytes) old now before after error h = (
     ap (under_any now) h.0 ∙ none-under now,
-    weaker (kind_of (error_kind_of error))
+    MatchFault-weaker (kind_of (error_kind_of error))
         (owed-under old (before bytes)) (either-under new old (before bytes))
         (λ b. ap (under_any old) b ∙ fault-under old (fault_of error)) h.1,
   )

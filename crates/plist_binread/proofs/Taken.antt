@@ -1,5 +1,5 @@
 -- One call of a reader.
-use Rattle.std.proofs.Common.{◌≡◌, ℕ, ◌≤◌, arith, List, length, reverse, true, false, Option, None, Some, Result, Ok, Err, IfSome, MatchOption, refl, ap, sym, ◌∙◌, Bool}
+use Rattle.std.proofs.Common.{◌≡◌, ℕ, ◌≤◌, arith, List, length, reverse, true, false, Option, None, Some, Result, Ok, Err, IfSome, MatchOption, refl, ap, sym, Bool}
 use Rattle.std.proofs.lemmas.List.{length-reverse}
 use Rattle.plist_base.specs.declared.error.Error.{Error}
 use Rattle.plist_base.specs.declared.event.Event.{Event}
@@ -53,12 +53,6 @@ lists None tags contents fs path same bounded = tt
 lists (Some bytes) tags contents fs path same bounded =
     (bounded, omega arith, omega (arith, open_below tags fs path))
 
--- where nothing comes next, nothing is kept
-pub kept_nothing : (known : Option (List ℕ)) (tags : List ℕ)
-    → IfSome known (λ bytes. IsKept None None tags)
-kept_nothing None tags = tt
-kept_nothing (Some bytes) tags = tt
-
 -- what was to come and what is to come, over known bytes, by the item that was taken
 
 pub nothing_ended : (known : Option (List ℕ)) (bounds : Bounds) (fs : List Frame)
@@ -87,12 +81,6 @@ module _ (known : Option (List ℕ)) (bounds : Bounds) (fs gs : List Frame) wher
   StepGives item state =
       IfSome known (λ bytes. GivesItem (is_fresh Walking) (still_owed bytes Walking bounds fs) item
       (still_owed bytes state bounds gs))
-
-pub step_event : (known : Option (List ℕ)) (bounds : Bounds) (fs gs : List Frame) (event : Event)
-    → StepPays known bounds fs gs (Some (Ok event))
-    → StepGives known bounds fs gs (Some (Ok event)) Walking
-step_event None bounds fs gs event pays = tt
-step_event (Some bytes) bounds fs gs event pays = pays
 
 pub step_fault : (known : Option (List ℕ)) (bounds : Bounds) (fs gs : List Frame) (e : Error)
     → StepPays known bounds fs gs (Some (Err e)) → StepGives known bounds fs gs (Some (Err e)) Ended
@@ -162,8 +150,3 @@ abbrev event_at : Option (Result Event Error) → PlainEvent
 event_at None = EndCollection
 event_at (Some (Ok event)) = event_of event
 event_at (Some (Err e)) = EndCollection
-
-pub told_end : (event : Event) (told : PlainEvent) → told ≡ event_of event
-    → ◌≡◌ {A = Option (Result Event Error)} (Some (Ok event)) (Some (Ok variant.EndCollection))
-    → told ≡ EndCollection
-told_end event told is h = is ∙ ap event_at h

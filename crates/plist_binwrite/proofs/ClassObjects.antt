@@ -1,5 +1,5 @@
 -- A plan by classes is a numbering: each number has one object.
-use Rattle.std.proofs.Common.{◌≡◌, ◌⊎◌, inl, inr, ℕ, ◌+◌, ◌<◌, ◌≤◌, false, List, [], ◌∷◌, length, get_or, refl, ap, sym, ◌∙◌, subst, arith}
+use Rattle.std.proofs.Common.{◌≡◌, ◌⊎◌, inl, inr, ℕ, ◌+◌, ◌<◌, ◌≤◌, false, List, ◌∷◌, length, get_or, refl, ap, sym, ◌∙◌, subst, arith}
 use Rattle.std.proofs.lemmas.Bool.Decides.{leb_tells}
 use Rattle.plist_base.specs.Events.{PlainEvent}
 use Rattle.plist_base.specs.Faults.{ObjectOffsetTooLarge}
@@ -18,16 +18,16 @@ use Rattle.plist_binwrite.proofs.Skipping.{begins, sits_within, size_positive}
 the_scalar : (x y : Scalar) → obj.Scalar x ≡ obj.Scalar y → x ≡ y
 the_scalar x y p = cc
 
-the_text : (k l : List ℕ) → trees.String k ≡ trees.String l → k ≡ l
+pub the_text : (k l : List ℕ) → trees.String k ≡ trees.String l → k ≡ l
 the_text k l p = cc
 
-the_items : (a b : List ℕ) → obj.Array a ≡ obj.Array b → a ≡ b
+pub the_items : (a b : List ℕ) → obj.Array a ≡ obj.Array b → a ≡ b
 the_items a b p = cc
 
-the_pairs : (a b : List (ℕ × ℕ)) → obj.Dictionary a ≡ obj.Dictionary b → a ≡ b
+pub the_pairs : (a b : List (ℕ × ℕ)) → obj.Dictionary a ≡ obj.Dictionary b → a ≡ b
 the_pairs a b p = cc
 
-cons_is : {A : Type 0} (a b : A) (xs ys : List A) → a ∷ xs ≡ b ∷ ys → (a ≡ b) × (xs ≡ ys)
+pub cons_is : {A : Type 0} (a b : A) (xs ys : List A) → a ∷ xs ≡ b ∷ ys → (a ≡ b) × (xs ≡ ys)
 cons_is a b xs ys p = (cc, cc)
 
 module _ (es : List PlainEvent) (class : ℕ → ℕ) (c : AreClasses es class) where

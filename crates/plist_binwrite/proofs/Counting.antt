@@ -1,17 +1,17 @@
 -- The sizes that a pass over the events tells.
-use Rattle.std.proofs.Common.{◌≡◌, ◌⊎◌, inl, inr, ℕ, zero, suc, ◌+◌, ◌*◌, ◌/◌, ◌^◌, ◌<◌, ◌≤◌, Bool, false, true, List, [], ◌∷◌, ◌++◌, length, flat_map, get_or, take, Option, None, Some, SomeIff, refl, ap, sym, ◌∙◌, subst, arith, length-append}
+use Rattle.std.proofs.Common.{◌≡◌, ◌⊎◌, inl, inr, ℕ, ◌+◌, ◌*◌, ◌/◌, ◌^◌, ◌<◌, ◌≤◌, Bool, false, true, List, [], ◌∷◌, ◌++◌, length, flat_map, Option, None, Some, SomeIff, refl, ap, sym, ◌∙◌, subst, arith, length-append}
 use Rattle.std.proofs.lemmas.Bool.{cases_lt}
 use Rattle.plist_base.specs.Trees.{number_of_trees, number_of_members, Tree, Leaf, Array, Dictionary, Trees, NoTrees, TreeAnd, Members, NoMembers, MemberAnd}
 use Rattle.plist_binwrite.specs.declared.kinds.Kind.TheVariants as kind
 use Rattle.plist_base.specs.Events.{PlainEvent, StartArray, EndCollection, Single}
-use Rattle.plist_base.specs.Bracketing.{shape, shape_of_items}
+use Rattle.plist_base.specs.Bracketing.{shape_of_items}
 use Rattle.plist_binwrite.specs.Standing.{size, Sits, SitsItems}
 use Rattle.plist_binwrite.specs.Forms.{big_endian, length_form, units_of, is_ascii_text, text_form}
 use Rattle.plist_binwrite.specs.Sizes.{TellsSize, object_size}
 use Rattle.plist_binwrite.specs.Held.{is_stop, kind_of, event_at}
 use Rattle.plist_binwrite.proofs.Sitting.{sits_pairs, sits_item, sits_next}
 use Rattle.plist_binwrite.proofs.Placed.{no_kind}
-use Rattle.plist_binwrite.proofs.Reading.{length-table}
+use Rattle.plist_binwrite.proofs.ReadingNumbers.{length-table}
 use Rattle.plist_binwrite.proofs.Skipping.{first_event, begins, sits_within, size_positive, as_items, pairs_as_items}
 
 pub told_if : (told : Option ℕ) (size : ℕ) → SomeIff told (size < 2 ^ 64) size → TellsSize told size

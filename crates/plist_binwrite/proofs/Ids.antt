@@ -74,13 +74,3 @@ module _ (cs ids fs : List ℕ) (have : HaveIds cs ids fs) (p : ℕ) (lt : p < l
         → get_or fs k 0 ≡ p
     none_yet k h e = let s : get_or ids (num_of cs p) 0 ≡ k = ap (λ q. get_or ids q 0) (sym e)
         ∙ have.complete k h in absurd (omega (arith, s))
-
--- before any number
-pub ids_none : (cs ids : List ℕ) → AllBelow (length ids) cs
-    → ((c : ℕ) → c < length ids → get_or ids c 0 ≡ 2 ^ 64 - 1) → HaveIds cs ids []
-ids_none cs ids below all = record {
-  below = below;
-  sound = λ c l h. absurd (omega (arith, all c l));
-  complete = λ k h. absurd (omega arith);
-  free = λ c l. inr (all c l);
-}

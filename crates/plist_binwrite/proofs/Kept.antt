@@ -1,5 +1,5 @@
 -- The classes met are the numbers of a plan: as many, and of as many bytes.
-use Rattle.std.proofs.Common.{◌≡◌, inl, inr, ℕ, ◌+◌, ◌<◌, ◌≤◌, Bool, true, false, eqb, List, [], ◌∷◌, ◌++◌, length, get_or, map, refl, ap, sym, ◌∙◌, subst, arith, append-nil}
+use Rattle.std.proofs.Common.{◌≡◌, ℕ, ◌+◌, ◌<◌, true, false, eqb, List, [], length, get_or, map, ap, sym, ◌∙◌, subst, arith, append-nil}
 use Rattle.std.specs.List.{AllByRecursion, IsDistinct, list_any, range_with_len}
 use Rattle.std.specs.Set.{is_member, unique_keys}
 use Rattle.std.proofs.lemmas.Bool.Decides.{eqb_tells}
@@ -18,7 +18,6 @@ use Rattle.plist_binwrite.specs.Standing.{size, Sits, SitsItems, SitsPairs}
 use Rattle.plist_binwrite.specs.Written.{bodies}
 use Rattle.plist_binwrite.proofs.ClassObjects.{number_below, number_apart, number_same}
 use Rattle.plist_binwrite.proofs.Inside.{inside, one_tree}
-use Rattle.plist_binwrite.proofs.Placed.{sits_at}
 use Rattle.plist_binwrite.proofs.Sitting.{sits_items, sits_pairs, sits_item, sits_next, sits_key, sits_value, sits_next_pair}
 use Rattle.plist_binwrite.proofs.Sized.{form_size, total_bodies}
 use Rattle.plist_binwrite.proofs.Totals.{same_total, unique_member, unique_distinct, range_member, member_range, range_distinct, both_ways, total-map, total_equal, total_one, total_range}

@@ -58,19 +58,6 @@ pub puts_as : {a b : Option (List ℕ)} {held k xs ys : List ℕ} {answer : Answ
     → Puts a held xs answer b k → Puts a held ys answer b k
 puts_as {a} {b} {held} {k} {xs} {ys} {answer} e p = subst (λ l. Puts a held l answer b k) e p
 
--- the bytes wait
-pub puts_waits : (a : Option (List ℕ)) (held xs holds : List ℕ) → holds ≡ held ++ xs
-    → Puts a held xs (Ok tt) a holds
-puts_waits a held xs holds e =
-    record {
-      follow = λ first done out. record {
-        sent = out.sent;
-        went = out.went;
-        is = ap
-            (λ l. l ++ xs) out.is ∙ append_assoc out.sent held xs ∙ ap (λ l. out.sent ++ l) (sym e);
-      };
-    }
-
 -- what waited goes out
 puts_drain : (a : Option (List ℕ)) (held : List ℕ) (b : Option (List ℕ)) → Appends a b held
     → Puts a held [] (Ok tt) b []
@@ -168,11 +155,6 @@ pub last_part : (xs : List ℕ) (i : ℕ) → length xs ≤ i → i ≤ length x
 last_part xs i h k = let e : i ≡ length xs = omega arith in ap (λ n. take n xs) e ∙ take-length xs
 
 -- ---- the end
-
-pub out_sent : (first a b : Option (List ℕ)) (held done : List ℕ) → Appends a b held
-    → IsOut first a held done → Appends first b done
-out_sent first a b held done h out =
-    subst (Appends first b) (sym out.is) (Appends-trans first a b out.sent held out.went h)
 
 pub out_front : (first a b : Option (List ℕ)) (held done : List ℕ) → AppendsFront a b held
     → IsOut first a held done → AppendsFront first b done

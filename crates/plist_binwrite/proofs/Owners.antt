@@ -1,11 +1,11 @@
 -- Classes of events.
-use Rattle.std.proofs.Common.{◌≡◌, ◌⊎◌, inl, inr, ℕ, zero, suc, ◌<◌, ◌≤◌, true, false, List, [], ◌∷◌, length, get_or, Some, refl, ap, sym, ◌∙◌, arith}
+use Rattle.std.proofs.Common.{◌≡◌, ◌⊎◌, inl, inr, ℕ, zero, suc, ◌<◌, ◌≤◌, true, false, List, [], ◌∷◌, length, Some, refl, ap, sym, ◌∙◌, arith}
 use Rattle.std.specs.Prelude.{slice_get}
 use Rattle.plist_base.specs.Events.{Single, PlainEvent, StartArray, StartDictionary, EndCollection}
 use Rattle.plist_base.specs.Trees.{Scalar}
 use Rattle.plist_binwrite.specs.Held.{event_at, kind_of}
 use Rattle.plist_binwrite.specs.declared.kinds.Kind.TheVariants as kind
-use Rattle.plist_binwrite.specs.Scalars.{Owner, owner, own, shared, alone, AreApart, HaveClasses, AreOwners, is_leaf}
+use Rattle.plist_binwrite.specs.Scalars.{owner, own, shared, alone, AreApart, HaveClasses, AreOwners, is_leaf}
 
 pub get_below : {K : Type 0} (keys : List K) (i : ℕ) (k : K) → slice_get keys i ≡ Some k
     → i < length keys

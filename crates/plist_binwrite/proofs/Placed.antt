@@ -1,15 +1,15 @@
 -- Steps of a layout.
-use Rattle.std.proofs.Common.{◌≡◌, ℕ, suc, ◌+◌, ◌^◌, ◌<◌, ◌≤◌, false, None, List, [], ◌∷◌, ◌++◌, length, map, refl, ap, sym, ◌∙◌, arith, append-nil}
+use Rattle.std.proofs.Common.{◌≡◌, ℕ, suc, ◌+◌, ◌^◌, ◌<◌, ◌≤◌, false, List, [], ◌∷◌, length, map, refl, ap, sym, ◌∙◌, arith, append-nil}
 use Rattle.std.specs.List.{AllByRecursion}
 use Rattle.plist_base.specs.Events.{PlainEvent, Single, StartArray, StartDictionary, EndCollection}
 use Rattle.plist_base.specs.Trees as trees
 use Rattle.plist_binwrite.specs.declared.kinds.Kind.{Kind}
 use Rattle.plist_binwrite.specs.declared.kinds.Kind.TheVariants as kind
 use Rattle.plist_base.specs.Trees.{Scalar, Tree, Leaf, Array, Dictionary, Trees, NoTrees, TreeAnd, Members, NoMembers, MemberAnd}
-use Rattle.plist_base.specs.Bracketing.{unhinted, shape, shape_of_items, shape_of_pairs}
+use Rattle.plist_base.specs.Bracketing.{unhinted, shape}
 use Rattle.plist_binwrite.specs.Standing.{size, Sits, SitsItems, SitsPairs}
 use Rattle.plist_binwrite.specs.Numberings.{refs, pairs, obj_of}
-use Rattle.plist_binwrite.specs.Forms.{form, length_form, table_form, keys_of, values_of, IsWritable, AllFit}
+use Rattle.plist_binwrite.specs.Forms.{keys_of, values_of, IsWritable, AllFit}
 use Rattle.plist_binwrite.specs.Held.{is_stop, kind_of, event_at, item_places, key_places, value_places, keys_in, values_in, num_of, AllNumbered, IsBracketed}
 use Rattle.plist_binwrite.proofs.Sitting.{sits_items, sits_pairs, sits_item, sits_next, sits_key, sits_value, sits_next_pair}
 use Rattle.plist_binwrite.proofs.Skipping.{first_event, begins, sits_within, size_positive}
@@ -75,37 +75,6 @@ module _ (num : ℕ → ℕ) where
   length-pairs : (ms : Members) (q : ℕ) → length (pairs num ms q) ≡ length (value_places ms q)
   length-pairs NoMembers q = refl
   length-pairs (MemberAnd k t ms) q = ap suc (length-pairs ms (q + 1 + size t))
-
-  -- the form of a collection, by the places of its children
-  abbrev pub form_by : (w high : ℕ) → Tree → ℕ → List ℕ
-  form_by w high t p =
-      length_form high (length (values_in t p)) ++ (table_form w
-      (map num (keys_in t p)) ++ table_form w (map num (values_in t p)))
-
-  pub array_by : {es : List PlainEvent} (w : ℕ) (t : Tree) (p : ℕ) → Sits es t p
-      → kind_of (event_at es p) ≡ kind.Array → form_by w 0xa t p ≡ form w (obj_of num t p)
-  array_by {es} w (Leaf x) p s k =
-      absurd (no_kind (kind_of (event_at es p)) kind.Array kind.Scalar k
-      (ap kind_of (first_event es p (Single x) s.rest s.is)) (λ e. cc))
-  array_by {es} w (Array ts) p s k =
-      sym (λ i. length_form 0xa (length-refs ts (p + 1) i) ++ table_form w (refs_are ts (p + 1) i))
-  array_by {es} w (Dictionary ms) p s k =
-      absurd (no_kind (kind_of (event_at es p)) kind.Array kind.Dictionary k
-      (ap kind_of (first_event es p (StartDictionary None)
-      ((shape_of_pairs ms ++ EndCollection ∷ []) ++ s.rest) s.is)) (λ e. cc))
-
-  pub dictionary_by : {es : List PlainEvent} (w : ℕ) (t : Tree) (p : ℕ) → Sits es t p
-      → kind_of (event_at es p) ≡ kind.Dictionary → form_by w 0xd t p ≡ form w (obj_of num t p)
-  dictionary_by {es} w (Leaf x) p s k =
-      absurd (no_kind (kind_of (event_at es p)) kind.Dictionary kind.Scalar k
-      (ap kind_of (first_event es p (Single x) s.rest s.is)) (λ e. cc))
-  dictionary_by {es} w (Array ts) p s k =
-      absurd (no_kind (kind_of (event_at es p)) kind.Dictionary kind.Array k
-      (ap kind_of (first_event es p (StartArray None)
-      ((shape_of_items ts ++ EndCollection ∷ []) ++ s.rest) s.is)) (λ e. cc))
-  dictionary_by {es} w (Dictionary ms) p s k =
-      sym (λ i. length_form 0xd (length-pairs ms (p + 1) i) ++ (table_form w
-      (keys_are ms (p + 1) i) ++ table_form w (values_are ms (p + 1) i)))
 
 -- a collection whose children are numbered can be written
 pub collection_fits : (es : List PlainEvent) (numbers : List ℕ) (count w : ℕ)

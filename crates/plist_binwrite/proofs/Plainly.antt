@@ -1,8 +1,8 @@
 -- A file by the plain writer's classes is the tree's file.
-use Rattle.std.proofs.Common.{◌≡◌, ℕ, ◌^◌, ◌<◌, nat_eq, List, [], Option, Err, Ok, refl, sym, ap, ◌∙◌, subst, append-nil}
+use Rattle.std.proofs.Common.{◌≡◌, ℕ, ◌^◌, ◌<◌, nat_eq, List, [], Option, Err, refl, sym, ◌∙◌, subst, append-nil}
 use Rattle.std.specs.List.{IsDistinct}
 use Rattle.plist_base.specs.declared.event.Event.{Event}
-use Rattle.plist_base.specs.Bracketing.{bracketing, shape, AreWhole}
+use Rattle.plist_base.specs.Bracketing.{bracketing, shape}
 use Rattle.plist_base.specs.Faults.{Fault, OutOfMemory, fault_nowhere}
 use Rattle.plist_base.specs.Trees.{Tree}
 use Rattle.plist_base.specs.Writing.{Answer}

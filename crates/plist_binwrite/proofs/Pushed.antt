@@ -1,6 +1,6 @@
 -- What is appended form by form.
-use Rattle.std.proofs.Common.{◌≡◌, ℕ, zero, suc, ◌+◌, ◌*◌, ◌/◌, ◌^◌, ◌<◌, ◌≤◌, ℤ, pos, negsuc, ◌≤ℤ◌, ◌<ℤ◌, List, [], ◌∷◌, ◌++◌, length, refl, arith}
-use Rattle.std.specs.Int.{cast_unsigned, w64, byte_at}
+use Rattle.std.proofs.Common.{◌≡◌, ℕ, zero, suc, ◌+◌, ◌*◌, ◌/◌, ◌^◌, ◌<◌, ◌≤◌, ℤ, pos, negsuc, ◌≤ℤ◌, List, [], ◌∷◌, ◌++◌, length, refl, arith}
+use Rattle.std.specs.Int.{byte_at}
 use Rattle.std.proofs.lemmas.Bool.{lt-ltb, le-ltb}
 use Rattle.std.proofs.lemmas.Int.{ints}
 use native.Mathlib.Nat.{div-eq_of_lt}
@@ -15,14 +15,6 @@ pub length_long : (high count : ℕ) → 15 ≤ count
     → length_form high count ≡ (high * 16 + 15) ∷ natural_form count
 unfolding length_form
 length_long high count h = rw (le-ltb count 15 h) refl
-
-pub integer_small : (z : ℤ) (n : ℕ) → pos n ≡ z → z <ℤ pos (2 ^ 63)
-    → natural_form n ≡ integer_form z
-integer_small (pos m) n e h =
-    let same : n ≡ m = omega (arith, ints, e) in
-    let small : m < 2 ^ 63 = omega (arith, ints) in
-    rw (same, lt-ltb m (2 ^ 63) small) refl
-integer_small (negsuc m) n e h = absurd (omega (arith, ints, e))
 
 high_zero : (k n : ℕ) → n < 256 ^ k → byte_at k n ≡ 0
 high_zero zero n h = omega arith
@@ -48,11 +40,6 @@ integer_wide (pos m) n e h =
     let large : 2 ^ 63 ≤ m = omega (arith, ints) in
     rw (same, le-ltb m (2 ^ 63) large) refl
 integer_wide (negsuc m) n e h = absurd (omega (arith, ints, e))
-
-pub integer_negative : (z : ℤ) → z <ℤ pos 0 → 0x13 ∷ big_endian 8 (cast_unsigned w64 z)
-    ≡ integer_form z
-integer_negative (pos m) h = absurd (omega (arith, ints))
-integer_negative (negsuc m) h = refl
 
 -- the table and the trailer behind the objects
 pub ending_is : (places : List ℕ) (table w r n : ℕ) → w ≡ offset_width table

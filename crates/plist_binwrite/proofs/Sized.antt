@@ -1,5 +1,5 @@
 -- The bytes of the objects, by number, and of one object's form.
-use Rattle.std.proofs.Common.{◌≡◌, ℕ, ◌+◌, ◌*◌, ◌<◌, ◌≤◌, true, eqb, List, [], ◌∷◌, ◌++◌, length, refl, ap, sym, ◌∙◌, arith, length-append}
+use Rattle.std.proofs.Common.{◌≡◌, ℕ, ◌+◌, ◌*◌, ◌<◌, true, eqb, List, [], ◌∷◌, ◌++◌, length, refl, ap, ◌∙◌, arith, length-append}
 use Rattle.std.specs.List.{IsDistinct, list_any, range_with_len}
 use Rattle.std.specs.Set.{is_member}
 use Rattle.std.proofs.lemmas.Bool.Decides.{eqb_tells}
@@ -9,7 +9,8 @@ use Rattle.plist_binwrite.specs.Forms.{form, length_form, table_form, keys_of, v
 use Rattle.plist_binwrite.specs.Numberings.{refs, pairs, obj_of}
 use Rattle.plist_binwrite.specs.Sizes.{total, array_size, dictionary_size, object_size}
 use Rattle.plist_binwrite.specs.Written.{bodies}
-use Rattle.plist_binwrite.proofs.Reading.{length-table, length-keys_of, length-values_of}
+use Rattle.plist_binwrite.proofs.Reading.{length-keys_of, length-values_of}
+use Rattle.plist_binwrite.proofs.ReadingNumbers.{length-table}
 use Rattle.plist_binwrite.proofs.Totals.{same_total, range_member, member_range, range_distinct, both_ways}
 use Rattle.plist_binwrite.proofs.Unfold.{length-refs, length-pairs}
 

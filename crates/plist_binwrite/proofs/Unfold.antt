@@ -1,10 +1,11 @@
 -- A numbered list of events is what its objects unfold to.
-use Rattle.std.proofs.Common.{◌≡◌, inl, inr, ℕ, suc, ◌+◌, ◌-◌, ◌<◌, ◌≤◌, Bool, true, false, ◌||◌, eqb, List, [], ◌∷◌, ◌++◌, length, map, Some, Ok, refl, ap, sym, ◌∙◌, arith, length-append}
-use Rattle.std.specs.List.{list_any, flat_map, IsDistinct, AllByRecursion}
-use Rattle.std.proofs.lemmas.Map.Steps.{length-le_from_distinct_below}
+use Rattle.std.proofs.Common.{◌≡◌, inl, inr, ℕ, suc, ◌+◌, ◌-◌, ◌<◌, ◌≤◌, false, ◌||◌, eqb, List, [], ◌∷◌, ◌++◌, length, map, Some, Ok, refl, ap, sym, ◌∙◌, arith, length-append}
+use Rattle.std.specs.List.{list_any, flat_map, AllByRecursion}
 use Rattle.std.proofs.lemmas.Bool.{lt-ltb}
 use Rattle.std.proofs.lemmas.Bool.Decides.{eqb_tells}
 use Rattle.std.proofs.lemmas.List.{map-append}
+use Rattle.plist_base.specs.inner.Paths.{IsPath}
+use Rattle.plist_base.proofs.Paths.{path_push, path_room}
 use Rattle.plist_base.specs.Bracketing.{bracketing, bracketing_of_items, bracketing_of_pairs, shape, shape_of_items, shape_of_pairs}
 use Rattle.plist_base.specs.Events as events
 use Rattle.plist_base.specs.Events.{PlainEvent, EndCollection, Single}
@@ -27,36 +28,6 @@ pub length-pairs : (num : ℕ → ℕ) (ms : Members) (q : ℕ)
 length-pairs num NoMembers q = refl
 length-pairs num (MemberAnd k t ms) q = let e : suc (length (pairs num ms (q + 1 + size t)))
     ≡ 1 + number_of_members ms = omega (arith, length-pairs num ms (q + 1 + size t)) in e
-
--- the objects of a path, each below the count and none twice
-pub record IsPath (count : ℕ) (path : List ℕ) : Type 0 where
-  pub distinct : IsDistinct eqb path
-  pub below : (q : ℕ) → list_any (eqb q) path ≡ true → q < count
-
-or_false : (a b : Bool) → a || b ≡ false → (a ≡ false) × (b ≡ false)
-or_false true b h = absurd (cc)
-or_false false b h = (refl, h)
-
-none_equal : (i : ℕ) (xs : List ℕ) → list_any (eqb i) xs ≡ false
-    → AllByRecursion (λ y. eqb i y ≡ false) xs
-none_equal i [] h = tt
-none_equal i (x ∷ xs) h =
-    let k = or_false (eqb i x) (list_any (eqb i) xs) h in (k.0, none_equal i xs k.1)
-
-pub path_none : (count : ℕ) → IsPath count []
-unfolding IsDistinct
-path_none count = record { distinct = tt; below = λ q any. absurd (cc) }
-
-pub path_push : {count : ℕ} {path : List ℕ} (i : ℕ) → IsPath count path → i < count
-    → list_any (eqb i) path ≡ false → IsPath count (i ∷ path)
-unfolding IsDistinct
-path_push {count} {path} i o h new = record {
-  distinct = (none_equal i path new, o.distinct);
-  below = λ q any. elim (eqb_tells q i) [ inl e ↦ rw e.1 h | inr e ↦ o.below q (rw (e.0) at any) ];
-}
-
-pub path_room : {count : ℕ} {path : List ℕ} → IsPath count path → length path ≤ count
-path_room {count} {path} o = length-le_from_distinct_below path count o.distinct o.below
 
 module _ {A : Type 0} (s : Shown A) (count : ℕ) (place : ℕ → ℕ) (object : ℕ → Object) where
   walk_step : (room : ℕ) (path : List ℕ) (at i : ℕ) → i < count → list_any (eqb i) path ≡ false

@@ -4,7 +4,7 @@ use Rattle.plist_base.specs.declared.event.Event.{Event}
 use Rattle.plist_base.specs.Bracketing.{bracketing, shape, unhinted, AreAlike, AreWhole}
 use Rattle.plist_base.specs.Events.{event_of}
 use Rattle.plist_base.specs.Trees.{Tree}
-use Rattle.plist_base.proofs.Grammar.{all-unhinted-twice, shape-is}
+use Rattle.plist_base.proofs.Stacks.{all-unhinted-twice, shape-is}
 use Rattle.plist_binwrite.specs.Held.{plain_event, plain_events, IsBracketed}
 
 pub plain_is : (es : List Event) → plain_events es ≡ map unhinted (map event_of es)

@@ -4,6 +4,7 @@ use Rattle.std.proofs.Common.{◌≡◌, inl, inr, ℕ, Bool, true, false, cond,
 use Rattle.std.specs.List.{AllByRecursion}
 use Rattle.std.specs.Set.{is_member, unique_keys}
 use Rattle.std.proofs.lemmas.Bool.Decides.{eqb_tells}
+use Rattle.plist_base.proofs.Paths.{any_later}
 
 -- ---- along a list
 
@@ -40,17 +41,13 @@ module _ {A : Type 0} (P : A → Type 0) where
 
 -- ---- numbers in a list
 
-or_later : (a b : Bool) → b ≡ true → a || b ≡ true
-or_later true b h = refl
-or_later false b h = h
-
 module _ {A : Type 0} (f : A → ℕ) where
   self_later : (n : ℕ) (ns : List ℕ) (xs : List A)
       → AllByRecursion (λ a. is_member eqb ns (f a) ≡ true) xs
       → AllByRecursion (λ a. is_member eqb (n ∷ ns) (f a) ≡ true) xs
   self_later n ns [] a = tt
   self_later n ns (x ∷ xs) a =
-      (or_later (eqb (f x) n) (is_member eqb ns (f x)) a.0, self_later n ns xs a.1)
+      (any_later (eqb (f x) n) (is_member eqb ns (f x)) a.0, self_later n ns xs a.1)
 
   -- each number of a list is in it
   pub members_self : (xs : List A) → AllByRecursion (λ a. is_member eqb (map f xs) (f a) ≡ true) xs

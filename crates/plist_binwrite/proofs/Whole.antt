@@ -17,8 +17,10 @@ use Rattle.plist_binwrite.specs.Laying.{IsLaid, closed}
 use Rattle.plist_binwrite.specs.Numberings.{trace, IsNumbering}
 use Rattle.plist_binwrite.specs.Walks.{Shown, all_items, collections, walk}
 use Rattle.plist_binwrite.proofs.Layouts.{length-magic, found_place, object_there}
-use Rattle.plist_binwrite.proofs.Reading.{form_read, numbers_back, length-table}
-use Rattle.plist_binwrite.proofs.Unfold.{path_none, unfolds, trace_is, no_fault}
+use Rattle.plist_binwrite.proofs.Reading.{form_read}
+use Rattle.plist_binwrite.proofs.ReadingNumbers.{numbers_back, length-table}
+use Rattle.plist_base.proofs.Paths.{path_none}
+use Rattle.plist_binwrite.proofs.Unfold.{unfolds, trace_is, no_fault}
 use Rattle.plist_binwrite.proofs.Walked.{place_in, object_of, walk_items, walk_visits}
 use Rattle.plist_binwrite.proofs.Widths.{IsWidth, one, two, four, eight, cases_width, number_back, width_holds}
 

@@ -1,5 +1,5 @@
 -- A planned file, and what sending it does.
-use Rattle.std.specs.Prelude.{◌≡◌, ℕ, ◌^◌, ◌<◌, List, length, Option, Ok, Err}
+use Rattle.std.specs.Prelude.{◌≡◌, ℕ, List, length, Option, Ok, Err}
 use Rattle.std.specs.Io.KnownBytes.{Appends}
 use Rattle.plist_base.specs.Faults.{Io, fault_nowhere}
 use Rattle.plist_base.specs.Writing.{Answer}

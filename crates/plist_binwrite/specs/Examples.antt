@@ -3,7 +3,7 @@ use Rattle.std.specs.Prelude.{◌≡◌, pos, negsuc, true, [], ◌∷◌, refl}
 use Rattle.std.specs.Str.{chars, is_utf8}
 use lib.Utf8.{encode}
 use Rattle.plist_base.specs.Trees as trees
-use Rattle.plist_base.specs.Trees.{Tree, Leaf, Array, Dictionary, trees_of, members_of}
+use Rattle.plist_base.specs.Trees.{Leaf, Array, Dictionary, trees_of, members_of}
 use Rattle.plist_binread.specs.Container.{head_of}
 use Rattle.plist_binread.specs.Object.{object_in}
 use Rattle.plist_binread.specs.Visits.{visits_of, visits}

@@ -12,6 +12,7 @@ use Rattle.jiff_core.proofs.DateLemmas.{epoch_day_injective}
 use Rattle.jiff_core.proofs.SignedLemmas.{signed_arith}
 use Rattle.plist_dates.specs.DateText.{day_in, day_number, four_at, has_marks, moment, of_both, of_three, offset, second_of_day, time_in, two_at, two_digits, unix_second_of_text, zone_in, HasFourDigitYear, IsTextOfSecond}
 use Rattle.plist_dates.proofs.Years.{second_in_years}
+use Rattle.plist_dates.proofs.Printing.{two_text}
 
 -- ---- what an answer was made of
 
@@ -206,9 +207,6 @@ zone_made text zone letter is = by_length (eqb (length text) 20) refl
         absurd (no_sign (slice_index text 19) parts.x parts.y letter parts.made)
 
 -- ---- one text
-
-abbrev two_text : ℕ → List ℕ
-two_text n = (48 + n / 10) ∷ (48 + n % 10) ∷ []
 
 abbrev text_of : (century year month day hour minute second : ℕ) → List ℕ
 text_of century year month day hour minute second =

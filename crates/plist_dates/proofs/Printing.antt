@@ -17,7 +17,7 @@ use Rattle.plist_dates.specs.Moments.{moment_text, two_places}
 
 -- ---- two digits
 
-abbrev two_text : ℕ → List ℕ
+abbrev pub two_text : ℕ → List ℕ
 two_text n = (48 + n / 10) ∷ (48 + n % 10) ∷ []
 
 glyph : (d : ℕ) → d < 10 → digit_glyph false d ≡ 48 + d

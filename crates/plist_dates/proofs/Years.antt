@@ -1,10 +1,10 @@
 -- Which seconds lie in the years 0 to 9999.
 use Rattle.std.proofs.Common.{◌≡◌, ℕ, ℤ, pos, ◌+ℤ◌, ◌*ℤ◌, ◌<ℤ◌, ◌≤ℤ◌, ◌<◌, inl, inr, refl, arith}
-use Rattle.std.specs.Int.{int_div_euclid, int_rem_euclid}
+use Rattle.std.specs.Int.{int_div_euclid}
 use Rattle.jiff_core.specs.Calendar.{days_from_civil, IsEpochDay}
 use Rattle.jiff_core.specs.Date.{epoch_day}
 use Rattle.jiff_core.specs.declared.civil.date.Date.{Date}
-use Rattle.jiff_core.proofs.SignedLemmas.{signed_arith, int_div_euclid-parts, int_rem_euclid-parts}
+use Rattle.jiff_core.proofs.SignedLemmas.{signed_arith, int_div_euclid-parts}
 use Rattle.jiff_core.proofs.DateLemmas.{cases_date, epoch_day-lt, epoch_day_range, epoch_day_same, days_from_civil-max}
 use Rattle.plist_dates.specs.DateText.{HasFourDigitYear}
 
@@ -76,10 +76,3 @@ day_of_years second inside =
       omega
           (arith, signed_arith, inside.1, days_from_civil-max),
     )
-
--- a second is that of its day
-pub whole_second : (second : ℤ) (day : ℤ) (rest : ℕ) → day ≡ int_div_euclid second (pos 86400)
-    → pos rest ≡ int_rem_euclid second (pos 86400) → (day *ℤ pos 86400 +ℤ pos rest) ≡ second
-whole_second second day rest is_day is_rest =
-    let parts = int_rem_euclid-parts second 86400 (omega arith) in
-    omega (arith, signed_arith, is_day, is_rest)

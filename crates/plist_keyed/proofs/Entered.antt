@@ -1,9 +1,7 @@
 -- Which objects of an archive are open, and what is owed once one is entered or left.
-use Rattle.std.proofs.Common.{◌≡◌, ℕ, zero, suc, ◌-◌, ◌<◌, ◌≤◌, inl, inr, Bool, true, false, ◌||◌, nat_eq, List, [], ◌∷◌, ◌++◌, length, map, reverse, Option, Some, None, Err, refl, ap, sym, ◌∙◌, append_assoc, arith}
+use Rattle.std.proofs.Common.{◌≡◌, ℕ, zero, suc, ◌-◌, ◌<◌, Bool, true, false, ◌||◌, nat_eq, List, [], ◌∷◌, ◌++◌, length, map, reverse, Option, Some, None, Err, refl, ap, sym, ◌∙◌, append_assoc, arith}
 use Rattle.std.specs.Prelude.{slice_get, option_map}
-use Rattle.std.specs.List.{list_any, AllByRecursion, IsDistinct}
-use Rattle.std.proofs.lemmas.Map.Steps.{length-le_from_distinct_below}
-use Rattle.std.proofs.lemmas.Bool.Decides.{eqb_tells}
+use Rattle.std.specs.List.{list_any}
 use Rattle.std.proofs.lemmas.List.{reverse-append}
 use Rattle.std.proofs.lemmas.List.Folds.{list_any-append}
 use Rattle.std.proofs.lemmas.Option.{slice_get-map, slice_get_within}
@@ -14,61 +12,10 @@ use Rattle.plist.specs.declared.value.Value.{Value}
 use Rattle.plist.specs.Remaining.{remaining_events}
 use Rattle.plist.specs.Views.{tree_of}
 use Rattle.plist_keyed.specs.Archives.{UidOutOfRange, RecursiveUid}
-use Rattle.plist_keyed.specs.Walks.{Step, told, steps_of, steps_found, steps_at}
-use Rattle.plist_keyed.specs.Owing.{IsPath, follow_in, objects_seen, owed_by}
-
-or_false : (a b : Bool) → a || b ≡ false → (a ≡ false) × (b ≡ false)
-or_false true b h = absurd (cc)
-or_false false b h = (refl, h)
-
-none_equal : (i : ℕ) (xs : List ℕ) → list_any (nat_eq i) xs ≡ false
-    → AllByRecursion (λ y. nat_eq i y ≡ false) xs
-none_equal i [] h = tt
-none_equal i (x ∷ xs) h =
-    let k = or_false (nat_eq i x) (list_any (nat_eq i) xs) h in (k.0, none_equal i xs k.1)
-
-below_cons : (i n q : ℕ) (xs : List ℕ) → i < n → ((p : ℕ) → list_any (nat_eq p) xs ≡ true → p < n)
-    → list_any (nat_eq q) (i ∷ xs) ≡ true → q < n
-below_cons i n q xs h all any =
-    elim (eqb_tells q i) [
-      | inl e ↦ rw e.1 h
-      | inr e ↦ all q (rw e.0 at any)
-    ]
-
--- nothing is open at first
-pub IsPath-none : (n : ℕ) → IsPath n []
-unfolding IsDistinct
-IsPath-none n = record { distinct = tt; below = λ q any. absurd (cc) }
-
--- one more object may be opened
-pub IsPath-push : (n uid : ℕ) (path : List ℕ) → IsPath n path → uid < n
-    → list_any (nat_eq uid) path ≡ false → IsPath n (uid ∷ path)
-unfolding IsDistinct
-IsPath-push n uid path o h new = record {
-  distinct = (none_equal uid path new, o.distinct);
-  below = λ q any. below_cons uid n q path h o.below any;
-}
-
-any_later : (a b : Bool) → b ≡ true → a || b ≡ true
-any_later true b h = refl
-any_later false b h = h
-
--- what is left when the innermost one is left
-pub IsPath-pop : (n uid : ℕ) (path : List ℕ) → IsPath n (uid ∷ path) → IsPath n path
-unfolding IsDistinct
-IsPath-pop n uid path o = record {
-  distinct = o.distinct.1;
-  below = λ q any. o.below q (any_later (nat_eq q uid) (list_any (nat_eq q) path) any);
-}
-
--- there is room for an object that isn't open
-has_room : (n uid : ℕ) (path : List ℕ) → IsPath n path → uid < n
-    → list_any (nat_eq uid) path ≡ false → length path < n
-unfolding IsDistinct
-has_room n uid path o h new =
-    let k : length (uid ∷ path) ≤ n = length-le_from_distinct_below (uid ∷ path) n
-    (none_equal uid path new, o.distinct) (λ q any. below_cons uid n q path h o.below any) in
-    omega (arith, k)
+use Rattle.plist_keyed.specs.inner.Walks.{Step, told, steps_of, steps_found, steps_at}
+use Rattle.plist_base.specs.inner.Paths.{IsPath}
+use Rattle.plist_base.proofs.Paths.{path_rises}
+use Rattle.plist_keyed.specs.inner.Owing.{follow_in, objects_seen, owed_by}
 
 or_comm : (a b : Bool) → a || (b || false) ≡ b || a
 or_comm true true = refl
@@ -117,7 +64,7 @@ module _ (objects : List (List PlainEvent)) where
       ∷ owed_by objects (level ∷ levels) (uid ∷ path)
   opened levels path uid level es o at new left =
       let room = length objects - suc (length path) in
-      let fits : length path < length objects = has_room (length objects) uid path o
+      let fits : length path < length objects = path_rises uid o
       (slice_get_within objects uid es at) new in
       let e : length objects - length path ≡ suc room = omega (arith, fits) in
       let inside = steps_of (steps_at objects room (uid ∷ path)) in

@@ -13,7 +13,8 @@ use Rattle.plist_base.specs.Trees.{Scalar, Tree, Leaf, Array, Dictionary, Trees,
 use Rattle.plist_base.specs.Bracketing.{bracketing, bracketing_of_items, bracketing_of_pairs, unhinted, AreAlike}
 use Rattle.plist_base.proofs.Grammar.{alike_with}
 use Rattle.plist_keyed.specs.Archives.{ArchiveFault, UidOutOfRange, RecursiveUid, and_then, replaced, replaced_items, replaced_pairs, number_of_uid, tree_found, resolved}
-use Rattle.plist_keyed.specs.Walks.{Step, told, items_of, steps_of_event, steps_of, steps_found, steps_at}
+use Rattle.plist_keyed.specs.inner.Walks.{Step, told, items_of, steps_of_event, steps_of, steps_found, steps_at}
+use Rattle.plist.specs.Carried.{alike-behind}
 
 pub items_of-append : (a b : List Step) → items_of (a ++ b) ≡ items_of a ++ items_of b
 items_of-append [] b = refl
@@ -41,12 +42,6 @@ GivesItems answer items = AreItemsOf bracketing_of_items answer items
 
 abbrev GivesPairs : Result Members ArchiveFault → List Item → Type 0
 GivesPairs answer items = AreItemsOf bracketing_of_pairs answer items
-
-alike-behind : (front left right : List PlainEvent) → AreAlike left right
-    → AreAlike (front ++ left) (front ++ right)
-alike-behind front left right p =
-    map-append unhinted front left ∙ ap (λ l. map unhinted front ++ l) p
-    ∙ sym (map-append unhinted front right)
 
 -- some events, and then those before a fault
 both : (front es : List PlainEvent) (fault : ArchiveFault) (more ys : List Item)

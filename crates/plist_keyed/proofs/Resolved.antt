@@ -13,8 +13,8 @@ use Rattle.plist.specs.Views.{tree_of}
 use Rattle.plist_keyed.specs.declared.error.KeyedError.{KeyedError}
 use Rattle.plist_keyed.specs.Archives.{resolved_tree}
 use Rattle.plist_keyed.specs.Errors.{IsFaultOf, error_told}
-use Rattle.plist_keyed.specs.Owing.{items_at, objects_seen}
-use Rattle.plist_keyed.specs.Walks.{items_of, steps_at}
+use Rattle.plist_keyed.specs.inner.Owing.{items_at, objects_seen}
+use Rattle.plist_keyed.specs.inner.Walks.{items_of, steps_at}
 use Rattle.plist_keyed.proofs.Expanding.{Gives, uid-gives}
 use Rattle.plist_keyed.proofs.Settled.{settled}
 use Rattle.plist_keyed.proofs.Told.{tree-told, fault-told}

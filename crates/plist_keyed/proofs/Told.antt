@@ -14,9 +14,10 @@ use Rattle.plist.specs.LastWins.{last_wins}
 use Rattle.plist.specs.OneTree.{one_tree}
 use Rattle.plist_keyed.specs.Archives.{ArchiveFault, UidOutOfRange, RecursiveUid}
 use Rattle.plist_keyed.specs.Errors.{MatchError, IsFaultOf, error_by, error_told}
-use Rattle.plist_keyed.specs.Walks.{told}
+use Rattle.plist_keyed.specs.inner.Walks.{told}
 use Rattle.plist_base.proofs.Grammar.{alike_with}
 use Rattle.plist_keyed.proofs.Expanding.{Begins, Gives}
+use Rattle.plist.proofs.Inputs.{some-kind}
 
 head_is : (e f : PlainEvent) (es fs : List Item) → Ok e ∷ es ≡ Ok f ∷ fs → (e ≡ f) × (es ≡ fs)
 head_is e f es fs p = (cc, cc)
@@ -61,9 +62,6 @@ stands (x ∷ es) (y ∷ events) f more next p =
     let q = head_is x y (map Ok es ++ Err f ∷ more) (map Ok events ++ next) p in
     one-more x y es events f more next q.0 (stands es events f more next q.1)
 
-some_kind : {A : Type 0} (k : FaultKind) → Some k ≡ None → A
-some_kind k p = cc
-
 -- an event that can come next is refused for want of memory alone
 accepted : (held : Unfinished) (x : PlainEvent) (fault : Fault) → IsNested held
     → CanContinue (events_so_far held) x → IsRefusal (refusal_of held x) fault
@@ -73,7 +71,7 @@ accepted held x fault ok can r = by (refusal_of held x) refl r
     by : (o : Option FaultKind) → refusal_of held x ≡ o → IsRefusal o fault
         → fault ≡ fault_nowhere OutOfMemory
     by None q h = h
-    by (Some kind) q h = absurd (refused-ends held x ok (λ n. some_kind kind (sym q ∙ n)) can)
+    by (Some kind) q h = absurd (refused-ends held x ok (λ n. some-kind kind (sym q ∙ n)) can)
 
 -- an event before the fault can come next
 can-come : (held : Unfinished) (es events : List PlainEvent) (x : PlainEvent)

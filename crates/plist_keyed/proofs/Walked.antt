@@ -12,13 +12,14 @@ use Rattle.plist_base.specs.Faults.{Fault, MatchFault}
 use Rattle.plist_base.proofs.Refusals.{MatchFault-weaker}
 use Rattle.plist.specs.declared.stream.events.Events.{Events}
 use Rattle.plist.specs.declared.value.Value.{Value}
-use Rattle.plist.specs.Remaining.{remaining_events, BeginsWithStart}
+use Rattle.plist.specs.Remaining.{remaining_events}
 use Rattle.plist.specs.Views.{tree_of}
 use Rattle.plist_keyed.specs.declared.walk.Walk.{Walk}
 use Rattle.plist_keyed.specs.Archives.{UidOutOfRange, RecursiveUid}
-use Rattle.plist_keyed.specs.Walks.{Step, told, items_of, steps_of_event, steps_of, steps_at}
-use Rattle.plist_keyed.specs.Owing.{FailsAt, IsKept, IsOpened, IsWalk, follow, follow_in, items_at, levels_of, objects_seen, owed, owed_by, path_of, uid_in}
-use Rattle.plist_keyed.proofs.Entered.{IsPath-none, IsPath-push, IsPath-pop, any_reversed, opened, out_of_range, recursive, reverse-snoc, some_step}
+use Rattle.plist_keyed.specs.inner.Walks.{Step, told, items_of, steps_of_event, steps_of, steps_at}
+use Rattle.plist_keyed.specs.inner.Owing.{FailsAt, IsKept, IsOpened, IsWalk, follow, follow_in, items_at, levels_of, objects_seen, owed, owed_by, path_of, uid_in}
+use Rattle.plist_base.proofs.Paths.{path_none, path_push, path_pop}
+use Rattle.plist_keyed.proofs.Entered.{any_reversed, opened, out_of_range, recursive, reverse-snoc, some_step}
 
 -- a key that isn't there goes last
 pub added : (keys new : List ℕ) (uid : ℕ) → new ≡ insert_key nat_eq keys uid
@@ -59,7 +60,7 @@ module _ (old new : Walk) (uid : ℕ) (object : Value) (o : IsWalk old)
       → IsOpened old uid object new → IsWalk new
   opened-walk n e lt (same, keys, (level, items, is)) =
       rw (same, keys, reverse-snoc old.path.keys uid, items, reverse-snoc old.levels.items level) (
-        IsPath-push (length (objects_seen old.objects.now)) uid (path_of old) o.0
+        path_push uid o.0
             (subst (λ k. uid < k) e lt) off_path,
         ap suc o.1,
       )
@@ -80,25 +81,7 @@ module _ (old new : Walk) (uid : ℕ) (object : Value) (o : IsWalk old)
   entered-owes (Ok a) h = opened-owes h
   entered-owes (Err e) h = tt
 
-pub kept-owes : {A : Type 0} (r : Result A Error) (old new : Walk) → OnErr r (IsKept old new)
-    → OnErr r (owed new ≡ owed old)
-kept-owes (Ok a) old new h = tt
-kept-owes (Err e) old new (same, keys, items) = rw (same, keys, items) refl
-
-pub same-objects : {A : Type 0} (r : Result A Error) (old new : Walk) (uid : ℕ) (object : Value)
-    → OnOk r (IsOpened old uid object new) → OnErr r (IsKept old new) → new.objects ≡ old.objects
-same-objects (Ok a) old new uid object h k = h.0
-same-objects (Err e) old new uid object h k = k.0
-
 -- ---- an event
-
-pub plain_steps : (f : ℕ → List Step) (e : PlainEvent) (more : List Step) → uid_in e ≡ None
-    → steps_of_event f e ++ more ≡ Some (Ok e) ∷ more
-plain_steps f (StartArray n) more h = refl
-plain_steps f (StartDictionary n) more h = refl
-plain_steps f EndCollection more h = refl
-plain_steps f (Single x) more h =
-    ap (λ uid. option_map_or f uid (Some (Ok (Single x)) ∷ []) ++ more) h
 
 pub uid_steps : (f : ℕ → List Step) (e : PlainEvent) (uid : ℕ) → uid_in e ≡ Some uid
     → steps_of_event f e ≡ f uid
@@ -152,30 +135,6 @@ module _ (objects : List (List PlainEvent)) where
   closes left below uid path is =
       ap (λ l. steps_of (follow_in objects (uid ∷ path)) l ++ None ∷ owed_by objects below path) is
 
-  start-steps : (f : ℕ → List Step) (es : List PlainEvent) → BeginsWithStart es
-      → 0 < length (steps_of f es)
-  start-steps f [] h = absurd h
-  start-steps f (StartArray n ∷ es) h = omega arith
-  start-steps f (StartDictionary n ∷ es) h = omega arith
-  start-steps f (EndCollection ∷ es) h = absurd h
-  start-steps f (Single x ∷ es) h = absurd h
-
-  -- its start isn't given, and nothing is left of it
-  loses : (left after : Events) (below : List Events) (path : List ℕ)
-      → length (left ∷ below) ≡ length path → BeginsWithStart (remaining_events left)
-      → remaining_events after ≡ []
-      → length (owed_by objects (after ∷ below) path) < length (owed_by objects (left ∷ below) path)
-  loses left after below [] n begins none = absurd (omega (arith, n))
-  loses left after below (uid ∷ path) n begins none =
-      let f = follow_in objects (uid ∷ path) in
-      let some : 0 < length (steps_of f (remaining_events left)) = start-steps f
-      (remaining_events left) begins in
-      rw (
-        none,
-        length-append (steps_of f (remaining_events left))
-            (None ∷ owed_by objects below path),
-      ) (omega (arith, some))
-
 -- the innermost place is another one, on the same path
 module _ (old new : Walk) (left after : Events) (below : List Events) (o : IsWalk old)
     (same : new.objects ≡ old.objects) (keys : new.path.keys ≡ old.path.keys)
@@ -186,9 +145,6 @@ module _ (old new : Walk) (left after : Events) (below : List Events) (o : IsWal
 
     as_many : length (left ∷ reverse below) ≡ length (path_of old)
     as_many = sym (ap length had_first) ∙ o.1
-
-    pub still-walk : IsWalk new
-    still-walk = rw (same, keys, has, reverse-snoc below after) (o.0, as_many)
 
     same_follow : follow new ≡ follow old
     same_follow = λ i. follow_in (objects_seen (same i).now) (reverse (keys i))
@@ -206,14 +162,6 @@ module _ (old new : Walk) (left after : Events) (below : List Events) (o : IsWal
         ap (λ l. owed_by (objects_seen old.objects.now) l (path_of old)) had_first
         ∙ takes (objects_seen old.objects.now) left after (reverse below) (path_of old) e as_many is
         ∙ (λ i. steps_of_event (sym same_follow i) e ++ sym new_owed i)
-
-    pub lost-owes : BeginsWithStart (remaining_events left) → remaining_events after ≡ []
-        → length (owed new) < length (owed old)
-    lost-owes begins none =
-        rw (same, keys, has, had, reverse-snoc below after, reverse-snoc below left)
-        (loses (objects_seen old.objects.now) left after (reverse below) (path_of old) as_many
-        begins
-        none)
 
 -- ---- leaving an object
 
@@ -245,16 +193,10 @@ module _ (old new : Walk) (left : Events) (r : Option ℕ) (o : IsWalk old)
       let n : suc (length (levels_of new)) ≡ suc (length (path_of new)) = sym (ap length had_left)
       ∙ o.1 ∙ ap length was.1 in
       rw same (
-        IsPath-pop (length (objects_seen old.objects.now)) was.0 (path_of new)
+        path_pop was.0 (path_of new)
             (rw was.1 at o.0),
         omega (arith, n),
       )
-
-  pub left-owes : remaining_events left ≡ [] → owed old ≡ None ∷ owed new
-  left-owes none =
-      rw same
-      ((λ i. owed_by (objects_seen old.objects.now) (had_left i) (was.1 i))
-      ∙ closes (objects_seen old.objects.now) left (levels_of new) was.0 (path_of new) none)
 
 -- ---- the end
 
@@ -262,16 +204,12 @@ no_items : {A : Type 0} (xs : List A) → length xs ≡ 0 → xs ≡ []
 no_items [] h = refl
 no_items (x ∷ xs) h = absurd (omega (arith, h))
 
--- nothing is open
-pub done-owes : (walk : Walk) → length walk.levels.items ≡ 0 → owed walk ≡ []
-done-owes walk n = rw (no_items walk.levels.items n) refl
-
 -- ---- the beginning
 
 module _ (start : Walk) (objects : List Value) (seen : start.objects.now ≡ objects)
     (keys : start.path.keys ≡ []) (items : start.levels.items ≡ []) where
   pub begins-walk : IsWalk start
-  begins-walk = rw (keys, items) (IsPath-none (length (objects_seen start.objects.now)), refl)
+  begins-walk = rw (keys, items) (path_none (length (objects_seen start.objects.now)), refl)
 
   start-owed : owed start ≡ []
   start-owed = rw items refl

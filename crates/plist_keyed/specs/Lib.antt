@@ -2,5 +2,4 @@ pub mod Archives
 pub mod Examples
 pub mod Contents
 pub mod Errors
-pub mod Walks
-pub mod Owing
+pub mod inner

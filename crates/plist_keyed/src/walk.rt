@@ -10,7 +10,7 @@ ghost use Rattle.plist.specs.Collecting.{built_tree};
 ghost use Rattle.plist.specs.Inputs.{IsReadFrom};
 ghost use Rattle.plist.specs.LastWins.{last_wins};
 ghost use Rattle.plist.specs.Views.{tree_of};
-ghost use Rattle.plist_keyed.specs.Owing.{items_at, uid_in, Enters, PaysFor};
+ghost use Rattle.plist_keyed.specs.inner.Owing.{items_at, uid_in, Enters, PaysFor};
 
 use indexmap::IndexSet;
 use plist::stream::{Event, Events};
@@ -52,7 +52,7 @@ struct Walk<'a> {
 }
 
 impl<'a> Walk<'a> {
-    ghost use Rattle.plist_keyed.specs.Owing.{FailsAt, Gives, IsKept, IsOpened, IsWalk, Pays, follow, owed};
+    ghost use Rattle.plist_keyed.specs.inner.Owing.{FailsAt, Gives, IsKept, IsOpened, IsWalk, Pays, follow, owed};
 
     fn new(alloc: Global, objects: &'a [Value]) -> Walk<'a>
         ensures objects { result.objects ≡ objects.entry }
@@ -169,7 +169,7 @@ impl<'a> Iterator for Walk<'a> {
     type Item = Result<Event<'a>, Error>;
 
     ghost use Rattle.std.specs.Iterator.{at_most};
-    ghost use Rattle.plist_keyed.specs.Owing.{Gives, IsWalk, owed};
+    ghost use Rattle.plist_keyed.specs.inner.Owing.{Gives, IsWalk, owed};
 
     ghost can_next = { IsWalk };
 

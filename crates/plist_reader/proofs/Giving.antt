@@ -13,7 +13,7 @@ use Rattle.plist_base.specs.Faults.{FaultKind, Io, OutOfMemory, MatchFault, kind
 use Rattle.plist_base.specs.Sequential.{from_place}
 use Rattle.plist_reader.specs.Streams.{bytes_left, source_of, place_of, held}
 use Rattle.plist_base.specs.Sources.{ItemCountsIo, IsPlaceWithin}
-use Rattle.plist_reader.proofs.MatchFaults.{MatchFault-weaker, MatchFault-all}
+use Rattle.plist_base.proofs.Refusals.{MatchFault-weaker, MatchFault-all}
 use Rattle.plist_binread.specs.declared.reader.BinaryReader.{BinaryReader}
 use Rattle.plist_binread.specs.declared.counter.Uncounted.{Uncounted}
 use Rattle.plist_binread.specs.contracts.counter.UncountedDecodeCounter.TheImpl.{ghosts}

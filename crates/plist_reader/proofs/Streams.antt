@@ -6,14 +6,9 @@ use Rattle.std.proofs.lemmas.List.{drop-drop, drop_all, drop-take, take-take, ta
 use Rattle.plist_base.specs.Sources.{GivesAt}
 use Rattle.plist_base.specs.Sequential.{from_place}
 use Rattle.plist_ascii.specs.Incoming.{GivesByte}
+use Rattle.plist_base.proofs.Places.{nothing_past, nothing_after}
 
 -- ---- one read
-
-nothing_past : (p : ℕ) (xs : List ℕ) → 2 ^ 64 - 1 ≤ p → from_place p xs ≡ []
-nothing_past p xs h = drop_all p (take (2 ^ 64 - 1) xs) (rw length-take (omega arith))
-
-nothing_behind : (p : ℕ) (xs : List ℕ) → length xs ≤ p → from_place p xs ≡ []
-nothing_behind p xs h = drop_all p (take (2 ^ 64 - 1) xs) (rw length-take (omega arith))
 
 same_front : (p n : ℕ) (xs : List ℕ) → p + n ≤ 2 ^ 64 - 1
     → take n (drop p xs) ≡ take n (from_place p xs)
@@ -62,7 +57,7 @@ read_none (Some xs) now p n count part e none room z within g =
   where
     ended : (length part ≡ 0) ⊎ (length xs ≤ p) → from_place (p + n) xs ≡ []
     ended (inl h) = absurd (let no : ⊥ = omega (arith, h, room) in no)
-    ended (inr h) = nothing_behind (p + n) xs (omega (arith, h))
+    ended (inr h) = nothing_after (p + n) xs (omega (arith, h))
 
 -- where there is no room for a read, nothing is behind what is held
 pub full_none : (k : Option (List ℕ)) (p : ℕ) (hand : List ℕ) → 2 ^ 64 - 1 ≤ p → hand ≡ []

@@ -20,7 +20,7 @@ truth_same : (a : Bool) → beq a a ≡ true
 truth_same true = refl
 truth_same false = refl
 
-parts : (a b : Bool) → (a && b) ≡ true → (a ≡ true) × (b ≡ true)
+pub parts : (a b : Bool) → (a && b) ≡ true → (a ≡ true) × (b ≡ true)
 parts true b h = (refl, h)
 parts false b h = cc
 

@@ -5,7 +5,6 @@ use Rattle.std.proofs.lemmas.Bool.Decides.{eqb_tells}
 use Rattle.std.proofs.lemmas.List.{length-map}
 use Rattle.std.proofs.lemmas.Option.{slice_get_within}
 use Rattle.plist_binread.specs.Object as obj
-use Rattle.plist_binread.specs.Object.{Object}
 use Rattle.plist_base.specs.Trees.{Scalar, Tree, Leaf, Array, Dictionary, Trees, NoTrees, TreeAnd, Members, NoMembers, MemberAnd}
 use Rattle.plist_base.specs.Events.{PlainEvent}
 use Rattle.plist_binwrite.specs.Standing.{size, Sits}
@@ -13,20 +12,17 @@ use Rattle.plist_binwrite.specs.Numberings.{refs, pairs, obj_of}
 use Rattle.plist_binwrite.specs.Held.{item_places, key_places, value_places, keys_in, values_in}
 use Rattle.std.proofs.Common.{set}
 use Rattle.std.proofs.lemmas.List.{get_or-set_same, get_or-set_other}
-use Rattle.plist_binwrite.specs.declared.kinds.Kind.{Kind}
 use Rattle.plist_binwrite.specs.declared.kinds.Kind.TheVariants as kind
 use Rattle.plist_base.specs.Events.{StartArray, StartDictionary, EndCollection, Single}
 use Rattle.plist_base.specs.Bracketing.{shape_of_items, shape_of_pairs}
 use Rattle.plist_binwrite.specs.Held.{kind_of, event_at, num_of}
 use Rattle.plist_binwrite.proofs.Skipping.{first_event, sits_within, size_positive}
 use Rattle.plist_binwrite.specs.Classes.{AreClasses}
-use Rattle.plist_binwrite.proofs.ClassObjects.{sound}
+use Rattle.plist_binwrite.proofs.ClassObjects.{sound, cons_is}
 use Rattle.plist_share.proofs.Classed.{complete}
 use Rattle.plist_binwrite.specs.Scalars.{AreOwners, AreApart, owner, own, shared}
 use Rattle.plist_share.specs.Keys.{Key, IsIndexed, IsClass, HaveClasses, Extends, TellTrees}
-
-cons_is : {A : Type 0} (a b : A) (xs ys : List A) → a ∷ xs ≡ b ∷ ys → (a ≡ b) × (xs ≡ ys)
-cons_is a b xs ys p = (cc, cc)
+use Rattle.plist_binwrite.proofs.Placed.{no_kind}
 
 some_is : (a b : Key) → Some a ≡ Some b → a ≡ b
 some_is a b p = cc
@@ -259,9 +255,6 @@ module _ (class after : ℕ → ℕ) (lo : ℕ) (agree : (q : ℕ) → lo ≤ q 
     kept k.0 (slice_get_within keys k.0 _ k.2) ∙ k.2
         ∙ ap (λ l. Some (true, l)) (sym (children_agree (Dictionary ms) p h)),
   )
-
-no_kind : (v a b : Kind) → v ≡ a → v ≡ b → (a ≡ b → ⊥) → ⊥
-no_kind v a b p q h = h (sym p ∙ q)
 
 module _ (es : List PlainEvent) (scalar class : ℕ → ℕ) (count : ℕ) (keys : List Key) where
   -- where an array begins, or a dictionary, the class is one of a collection

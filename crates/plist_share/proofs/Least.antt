@@ -1,5 +1,5 @@
 -- No file of a tree has fewer objects than the tree has different subtrees.
-use Rattle.std.proofs.Common.{◌≡◌, inl, inr, ℕ, suc, ◌<◌, ◌≤◌, pos, negsuc, Bool, true, false, cond, ◌&&◌, ◌||◌, nat_eq, List, [], ◌∷◌, length, map, take, Result, Ok, Err, refl, sym, ap, ◌∙◌, subst, append-nil, add-zero}
+use Rattle.std.proofs.Common.{◌≡◌, inl, inr, ℕ, suc, ◌<◌, ◌≤◌, pos, negsuc, Bool, true, false, cond, ◌&&◌, nat_eq, List, [], ◌∷◌, length, map, take, Result, Ok, Err, refl, sym, ap, ◌∙◌, subst, append-nil, add-zero}
 use Rattle.std.specs.List.{list_any, AllByRecursion, IsDistinct}
 use Rattle.std.specs.Set.{unique_keys, is_member}
 use Rattle.std.specs.Str.{bytes_eq}
@@ -18,7 +18,8 @@ use Rattle.plist_binread.specs.Unfolding.{Entry, table_of, unfolding_of, until_f
 use Rattle.plist_binwrite.specs.Counts.{scalar_eq}
 use Rattle.plist_share.specs.Distinct.{tree_eq, trees_eq, members_eq, subtrees, distinct_subtrees, HasAtLeast, IsLeast}
 use Rattle.plist_share.proofs.Meaning.{Means, Numbered, one_tree, all_numbered}
-use Rattle.plist_share.proofs.Parsing.{path_none, unfolding_parses}
+use Rattle.plist_base.proofs.Paths.{path_none, or_false}
+use Rattle.plist_share.proofs.Parsing.{unfolding_parses}
 
 -- ---- a tree is equal to itself
 
@@ -72,15 +73,11 @@ all_unique eq P (x ∷ xs) a = by (is_member eq xs x) (all_unique eq P xs a.1)
     by true rest = rest
     by false rest = (a.0, rest)
 
-or_parts : (a b : Bool) → a || b ≡ false → (a ≡ false) × (b ≡ false)
-or_parts true b h = absurd (cc)
-or_parts false b h = (refl, h)
-
 no_member : {A : Type 0} (eq : A → A → Bool) (x : A) (xs : List A) → is_member eq xs x ≡ false
     → AllByRecursion (λ y. eq x y ≡ false) xs
 no_member eq x [] h = tt
 no_member eq x (y ∷ xs) h =
-    let k = or_parts (eq x y) (is_member eq xs x) h in (k.0, no_member eq x xs k.1)
+    let k = or_false (eq x y) (is_member eq xs x) h in (k.0, no_member eq x xs k.1)
 
 one_more : {A : Type 0} (eq : A → A → Bool) (x : A) (xs : List A) (b : Bool) → is_member eq xs x ≡ b
     → IsDistinct eq (unique_keys eq xs)

@@ -2,11 +2,10 @@
 use Rattle.std.proofs.Common.{◌≡◌, ℕ, zero, suc, Bool, true, false, nat_eq, List, [], ◌∷◌, ◌++◌, length, map, Option, Some, None, Ok, Err, refl, sym, ap, ◌∙◌, append_assoc}
 use Rattle.std.specs.Prelude.{slice_get}
 use Rattle.std.specs.List.{list_any, flat_map}
-use Rattle.std.proofs.Common.{inl, inr, ◌+◌, ◌<◌, ◌≤◌, ◌||◌, arith}
-use Rattle.std.specs.List.{AllByRecursion, IsDistinct}
-use Rattle.std.proofs.lemmas.Map.Steps.{length-le_from_distinct_below}
-use Rattle.std.proofs.lemmas.Bool.Decides.{eqb_tells}
+use Rattle.std.proofs.Common.{◌+◌, ◌≤◌, arith}
 use Rattle.std.proofs.lemmas.Option.{slice_get_within}
+use Rattle.plist_base.specs.inner.Paths.{IsPath}
+use Rattle.plist_base.proofs.Paths.{path_push, path_room}
 use Rattle.plist_base.specs.Faults.{Fault}
 use Rattle.plist_base.specs.Events.{PlainEvent, EndCollection, Single, Item}
 use Rattle.plist_base.specs.Trees as trees
@@ -139,36 +138,6 @@ module _ (table : List Entry) (child : ℕ → List Item) where
     object_begins place (obj.Array refs) xs ys p = cc
     object_begins place (obj.Dictionary pairs) xs ys p = cc
     object_begins place (obj.Faulty kind) xs ys p = cc
-
--- the objects of a path, each below the count and none twice
-pub record IsPath (count : ℕ) (path : List ℕ) : Type 0 where
-  pub distinct : IsDistinct nat_eq path
-  pub below : (q : ℕ) → list_any (nat_eq q) path ≡ true → q < count
-
-or_false : (a b : Bool) → a || b ≡ false → (a ≡ false) × (b ≡ false)
-or_false true b h = absurd (cc)
-or_false false b h = (refl, h)
-
-none_equal : (i : ℕ) (xs : List ℕ) → list_any (nat_eq i) xs ≡ false
-    → AllByRecursion (λ y. nat_eq i y ≡ false) xs
-none_equal i [] h = tt
-none_equal i (x ∷ xs) h =
-    let k = or_false (nat_eq i x) (list_any (nat_eq i) xs) h in (k.0, none_equal i xs k.1)
-
-pub path_none : (count : ℕ) → IsPath count []
-unfolding IsDistinct
-path_none count = record { distinct = tt; below = λ q any. absurd (cc) }
-
-pub path_push : {count : ℕ} {path : List ℕ} (i : ℕ) → IsPath count path → i < count
-    → list_any (nat_eq i) path ≡ false → IsPath count (i ∷ path)
-unfolding IsDistinct
-path_push {count} {path} i o h new = record {
-  distinct = (none_equal i path new, o.distinct);
-  below = λ q any. elim (eqb_tells q i) [ inl e ↦ rw e.1 h | inr e ↦ o.below q (rw (e.0) at any) ];
-}
-
-pub path_room : {count : ℕ} {path : List ℕ} → IsPath count path → length path ≤ count
-path_room {count} {path} o = length-le_from_distinct_below path count o.distinct o.below
 
 module _ (table : List Entry) where
   -- what a reference finds

@@ -8,10 +8,7 @@ use Rattle.plist_binwrite.specs.Counts.{scalar_eq}
 use Rattle.plist_binwrite.proofs.Counted.{scalars_tell}
 use Rattle.plist_share.specs.Distinct.{tree_eq, trees_eq, members_eq}
 use Rattle.plist_share.proofs.Least.{tree_same}
-
-both_parts : (a b : Bool) → (a && b) ≡ true → (a ≡ true) × (b ≡ true)
-both_parts true b h = (refl, h)
-both_parts false b h = cc
+use Rattle.plist_share.proofs.Alike.{parts}
 
 from_true : {A : Type 0} (eq : A → A → Bool) (a b : A) → ((eq a b ≡ true) × (a ≡ b))
     ⊎ ((eq a b ≡ false) × (a ≡ b → ⊥)) → eq a b ≡ true → a ≡ b
@@ -34,7 +31,7 @@ mutual
   trees_true NoTrees (TreeAnd u us) h = cc
   trees_true (TreeAnd t ts) NoTrees h = cc
   trees_true (TreeAnd t ts) (TreeAnd u us) h =
-      let p = both_parts (tree_eq t u) (trees_eq ts us) h in
+      let p = parts (tree_eq t u) (trees_eq ts us) h in
       let a = tree_true t u p.0 in
       let b = trees_true ts us p.1 in
       λ i. TreeAnd (a i) (b i)
@@ -44,8 +41,8 @@ mutual
   members_true NoMembers (MemberAnd l u ns) h = cc
   members_true (MemberAnd k t ms) NoMembers h = cc
   members_true (MemberAnd k t ms) (MemberAnd l u ns) h =
-      let p = both_parts (bytes_eq k l) (tree_eq t u && members_eq ms ns) h in
-      let q = both_parts (tree_eq t u) (members_eq ms ns) p.1 in
+      let p = parts (bytes_eq k l) (tree_eq t u && members_eq ms ns) h in
+      let q = parts (tree_eq t u) (members_eq ms ns) p.1 in
       let a = (bytes_eq-Decides k l).0 p.0 in
       let b = tree_true t u q.0 in
       let c = members_true ms ns q.1 in

@@ -6,7 +6,7 @@ use Rattle.std.specs.declared.alloc.Global.{Global}
 use Rattle.std.specs.declared.vec.Vec.{Vec}
 use Rattle.plist_base.specs.declared.error.Error.{Error}
 use Rattle.plist_base.specs.declared.event.Event.{Event}
-use Rattle.plist_base.specs.Events.{PlainEvent, event_of}
+use Rattle.plist_base.specs.Events.{event_of}
 use Rattle.plist_base.specs.Faults.{FaultKind, OutOfMemory, UnclosedString, fault_of, fault_at, kind_of, error_kind_of}
 use Rattle.plist_ascii.specs.declared.escape.Piece.{Piece}
 use Rattle.plist_ascii.specs.declared.input.Input.{Input}

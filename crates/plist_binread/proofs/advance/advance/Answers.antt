@@ -4,7 +4,7 @@ use Rattle.std.proofs.lemmas.Result.{on_ok_weaker}
 use Rattle.plist_binread.specs.declared.walk.Turn.TheVariants.{Done, Closed, Child}
 use Rattle.plist_binread.specs.Debt.{entries_of, next_number, owed_by}
 use Rattle.plist_binread.proofs.Steps.{steps_positive}
-use Rattle.plist_binread.proofs.Known.{known_turned, known_after, known_done, known_closed, known_child_entered, known_child_kept, known_child_failed}
+use Rattle.plist_binread.proofs.KnownTurns.{known_turned, known_after, known_done, known_closed, known_child_entered, known_child_kept, known_child_failed}
 use Rattle.plist_binread.proofs.Entering.{known_child_told, known_child_cached, known_fault_kept, told_pays, told_kept, told_falls, told_within, told_counts}
 use Rattle.plist_binread.proofs.advance.advance.Goals as goal
 

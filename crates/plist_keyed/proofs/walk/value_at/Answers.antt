@@ -3,8 +3,8 @@ use Rattle.std.specs.Borrow.{Bor}
 use Rattle.plist_base.specs.Faults.{fault_of}
 use Rattle.plist.specs.Collecting.{built_tree}
 use Rattle.plist.specs.Inputs.{IsReadFrom}
-use Rattle.plist_keyed.specs.Owing.{items_at, owed}
-use Rattle.plist_keyed.specs.Walks.{items_of}
+use Rattle.plist_keyed.specs.inner.Owing.{items_at, owed}
+use Rattle.plist_keyed.specs.inner.Walks.{items_of}
 use Rattle.plist_keyed.proofs.Told.{fault-read}
 use Rattle.plist_keyed.proofs.Walked.{begun, not-begun}
 use Rattle.plist_keyed.proofs.walk.value_at.Goals as goal

@@ -1,6 +1,6 @@
 use Rattle.std.proofs.Common.{◌≡◌, ◌≤◌, length}
-use Rattle.plist_keyed.specs.Owing.{IsWalk, owed}
-use Rattle.plist_keyed.specs.Walks.{items_of}
+use Rattle.plist_keyed.specs.inner.Owing.{IsWalk, owed}
+use Rattle.plist_keyed.specs.inner.Walks.{items_of}
 use Rattle.plist_keyed.proofs.walk.Walk.advance.Given as goal
 
 abbrev pub invariant-steps : goal.invariant-steps

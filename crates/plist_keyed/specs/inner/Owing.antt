@@ -1,10 +1,10 @@
 -- What a walk over an archive still owes. Lists of open places have the innermost one first.
-use Rattle.std.specs.Prelude.{◌≡◌, ℕ, ◌-◌, ◌<◌, true, List, [], ◌∷◌, ◌++◌, length, map, Option, Some, None, Result, Ok, Err, nat_eq, reverse, ⊤}
-use Rattle.std.specs.List.{list_any, IsDistinct}
+use Rattle.std.specs.Prelude.{◌≡◌, ℕ, ◌-◌, ◌<◌, List, [], ◌∷◌, ◌++◌, length, map, Option, Some, None, Result, Ok, Err, reverse, ⊤}
 use Rattle.std.specs.Option.{option_map}
 use Rattle.plist_base.specs.declared.error.Error.{Error}
 use Rattle.plist_base.specs.declared.event.Event.{Event}
 use Rattle.plist_base.specs.Bracketing.{bracketing}
+use Rattle.plist_base.specs.inner.Paths.{IsPath}
 use Rattle.plist_base.specs.Events.{PlainEvent, Single, Item, event_of}
 use Rattle.plist_base.specs.Faults.{Fault, MatchFault, fault_of}
 use Rattle.plist.specs.declared.stream.events.Events.{Events}
@@ -17,7 +17,7 @@ use Rattle.plist_keyed.specs.declared.walk.Move.{Move}
 use Rattle.plist_keyed.specs.declared.walk.Move.TheVariants as move
 use Rattle.plist_keyed.specs.declared.walk.Walk.{Walk}
 use Rattle.plist_keyed.specs.Archives.{number_of_uid}
-use Rattle.plist_keyed.specs.Walks.{Step, items_of, steps_of, steps_of_event, steps_at}
+use Rattle.plist_keyed.specs.inner.Walks.{Step, items_of, steps_of, steps_of_event, steps_at}
 
 -- the events of each object
 abbrev pub objects_seen : List Value → List (List PlainEvent)
@@ -32,11 +32,6 @@ items_at objects uid =
 abbrev pub uid_in : PlainEvent → Option ℕ
 uid_in (Single scalar) = number_of_uid scalar
 uid_in event = None
-
--- the Uids on the path are different ones of these many objects
-pub record IsPath (count : ℕ) (path : List ℕ) : Type 0 where
-  pub distinct : IsDistinct nat_eq path
-  pub below : (uid : ℕ) → list_any (nat_eq uid) path ≡ true → uid < count
 
 module _ (objects : List (List PlainEvent)) where
   -- the steps of a Uid behind the path

@@ -1,0 +1,66 @@
+-- Which objects are open, and how many: those of a path are different numbers below a count.
+use Rattle.std.proofs.Common.{◌≡◌, ℕ, suc, ◌<◌, ◌≤◌, inl, inr, Bool, true, false, ◌||◌, nat_eq, List, [], ◌∷◌, length, refl, arith}
+use Rattle.std.specs.List.{list_any, AllByRecursion, IsDistinct}
+use Rattle.std.proofs.lemmas.Map.Steps.{length-le_from_distinct_below}
+use Rattle.std.proofs.lemmas.Bool.Decides.{eqb_tells}
+use Rattle.plist_base.specs.inner.Paths.{IsPath}
+
+pub or_false : (a b : Bool) → a || b ≡ false → (a ≡ false) × (b ≡ false)
+or_false true b h = absurd (cc)
+or_false false b h = (refl, h)
+
+pub none_equal : (i : ℕ) (xs : List ℕ) → list_any (nat_eq i) xs ≡ false
+    → AllByRecursion (λ y. nat_eq i y ≡ false) xs
+none_equal i [] h = tt
+none_equal i (x ∷ xs) h =
+    let k = or_false (nat_eq i x) (list_any (nat_eq i) xs) h in (k.0, none_equal i xs k.1)
+
+pub any_none : (i : ℕ) (xs : List ℕ) → AllByRecursion (λ y. nat_eq i y ≡ false) xs
+    → list_any (nat_eq i) xs ≡ false
+any_none i [] h = refl
+any_none i (x ∷ xs) h = rw (h.0, any_none i xs h.1) refl
+
+pub below_cons : (i n q : ℕ) (xs : List ℕ) → i < n
+    → ((p : ℕ) → list_any (nat_eq p) xs ≡ true → p < n) → list_any (nat_eq q) (i ∷ xs) ≡ true
+    → q < n
+below_cons i n q xs h all any =
+    elim (eqb_tells q i) [
+      | inl e ↦ rw e.1 h
+      | inr e ↦ all q (rw e.0 at any)
+    ]
+
+-- nothing is open at first
+pub path_none : (count : ℕ) → IsPath count []
+unfolding IsDistinct
+path_none count = record { distinct = tt; below = λ q any. absurd (cc) }
+
+-- one more object may be opened
+pub path_push : {count : ℕ} {path : List ℕ} (i : ℕ) → IsPath count path → i < count
+    → list_any (nat_eq i) path ≡ false → IsPath count (i ∷ path)
+unfolding IsDistinct
+path_push {count} {path} i o h new = record {
+  distinct = (none_equal i path new, o.distinct);
+  below = λ q any. below_cons i count q path h o.below any;
+}
+
+pub any_later : (a b : Bool) → b ≡ true → a || b ≡ true
+any_later true b h = refl
+any_later false b h = h
+
+-- what is left when the innermost one is left
+pub path_pop : {count : ℕ} (i : ℕ) (path : List ℕ) → IsPath count (i ∷ path) → IsPath count path
+unfolding IsDistinct
+path_pop i path o = record {
+  distinct = o.distinct.1;
+  below = λ q any. o.below q (any_later (nat_eq q i) (list_any (nat_eq q) path) any);
+}
+
+-- no more are open than there are
+pub path_room : {count : ℕ} {path : List ℕ} → IsPath count path → length path ≤ count
+path_room {count} {path} o = length-le_from_distinct_below path count o.distinct o.below
+
+-- there is room for an object that isn't open
+pub path_rises : {count : ℕ} {path : List ℕ} (i : ℕ) → IsPath count path → i < count
+    → list_any (nat_eq i) path ≡ false → length path < count
+path_rises {count} {path} i o h new =
+    let k : suc (length path) ≤ count = path_room (path_push i o h new) in omega (arith, k)

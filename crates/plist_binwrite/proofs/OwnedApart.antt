@@ -1,0 +1,289 @@
+-- The owner of a tree, and what is met, apart by kind and at places that rise.
+use Rattle.std.proofs.Common.{◌≡◌, inl, inr, ℕ, ◌+◌, ◌<◌, ◌≤◌, Bool, true, false, eqb, None, List, [], ◌∷◌, ◌++◌, length, refl, ap, sym, ◌∙◌, subst, arith, length-append}
+use Rattle.std.specs.List.{AllByRecursion}
+use Rattle.std.proofs.lemmas.Bool.Decides.{eqb_tells}
+use Rattle.std.proofs.lemmas.List.{length-map}
+use Rattle.plist_base.specs.Bracketing.{shape, shape_of_items, shape_of_pairs}
+use Rattle.plist_base.specs.Events.{PlainEvent, StartArray, StartDictionary, EndCollection, Single}
+use Rattle.plist_base.specs.Trees as trees
+use Rattle.plist_base.specs.Trees.{Scalar, Tree, Leaf, Array, Dictionary, Trees, NoTrees, TreeAnd, Members, NoMembers, MemberAnd}
+use Rattle.plist_binread.specs.Object as obj
+use Rattle.plist_binwrite.specs.Classes.{AreClasses, met, met_in_items, met_in_pairs, same_class}
+use Rattle.plist_binwrite.specs.Counts.{collections_in, collections_in_items, collections_in_pairs, scalars_in, scalars_in_items, scalars_in_pairs}
+use Rattle.plist_base.specs.declared.event.Event.{Event}
+use Rattle.plist_binwrite.specs.Held.{plain_event, plain_events, num_of, AllBelow}
+use Rattle.plist_binwrite.specs.Numberings.{obj_of}
+use Rattle.plist_binwrite.specs.Scalars.{Owner, shared, alone, own, owner, AreOwners}
+use Rattle.plist_binwrite.specs.Standing.{size, Sits}
+use Rattle.plist_binwrite.proofs.Counted.{owner_eq, owners_tell}
+use Rattle.plist_binwrite.proofs.Inside.{one_tree}
+use Rattle.plist_binwrite.proofs.Kept.{Stands}
+use Rattle.plist_binwrite.proofs.Skipping.{first_event, sits_within, size_positive}
+use Rattle.plist_binwrite.proofs.Totals.{both_ways}
+use Rattle.plist_binwrite.proofs.Uniques.{all_both, all_from}
+
+-- ---- the owner of a tree
+
+abbrev pub own_tree : Tree → ℕ → Owner
+own_tree (Leaf x) p = shared x
+own_tree (Array ts) p = alone p
+own_tree (Dictionary ms) p = alone p
+
+pub owner_is : {es : List PlainEvent} (t : Tree) (p : ℕ) → Sits es t p → owner es p ≡ own_tree t p
+owner_is {es} (Leaf x) p s = ap (λ e. own e p) (first_event es p (Single x) s.rest s.is)
+owner_is {es} (Array ts) p s =
+    ap (λ e. own e p) (first_event es p (StartArray None)
+    ((shape_of_items ts ++ EndCollection ∷ []) ++ s.rest) s.is)
+owner_is {es} (Dictionary ms) p s =
+    ap (λ e. own e p) (first_event es p (StartDictionary None)
+    ((shape_of_pairs ms ++ EndCollection ∷ []) ++ s.rest) s.is)
+
+-- trees of one owner have one object
+module _ (es : List PlainEvent) (num : ℕ → ℕ) where
+  here : (u v : Tree) (p q : ℕ) → q ≡ p → Sits es u p → Sits es v q
+      → obj_of num v q ≡ obj_of num u p
+  here u v p q e s r =
+      let k = one_tree v u p (subst (λ i. Sits es v i) e r) s in λ i. obj_of num (k i) (e i)
+
+  same_owner : (u v : Tree) (p q : ℕ) → own_tree v q ≡ own_tree u p → Sits es u p → Sits es v q
+      → obj_of num v q ≡ obj_of num u p
+  same_owner (Leaf x) (Leaf y) p q e s r = let k : y ≡ x = cc in ap (λ v. obj.Scalar v) k
+  same_owner (Leaf x) (Array vs) p q e s r = absurd (cc)
+  same_owner (Leaf x) (Dictionary vs) p q e s r = absurd (cc)
+  same_owner (Array us) (Leaf y) p q e s r = absurd (cc)
+  same_owner (Array us) (Array vs) p q e s r = let k : q
+      ≡ p = cc in here (Array us) (Array vs) p q k s r
+  same_owner (Array us) (Dictionary vs) p q e s r = let k : q
+      ≡ p = cc in here (Array us) (Dictionary vs) p q k s r
+  same_owner (Dictionary us) (Leaf y) p q e s r = absurd (cc)
+  same_owner (Dictionary us) (Array vs) p q e s r = let k : q
+      ≡ p = cc in here (Dictionary us) (Array vs) p q k s r
+  same_owner (Dictionary us) (Dictionary vs) p q e s r = let k : q
+      ≡ p = cc in here (Dictionary us) (Dictionary vs) p q k s r
+
+module _ (es : List PlainEvent) (class : ℕ → ℕ) (count : ℕ) (o : AreOwners es class count) where
+  within : (t : Tree) (p : ℕ) → Sits es t p → p < length es
+  within t p s = omega (arith, sits_within s, size_positive t)
+
+  pub class_owner : (t u : Tree) (p q : ℕ) → Sits es t p → Sits es u q → class p ≡ class q
+      → own_tree t p ≡ own_tree u q
+  class_owner t u p q s r e =
+      sym (owner_is t p s) ∙ o.sound p q (within t p s) (within u q r) e ∙ owner_is u q r
+
+  owner_class : (t u : Tree) (p q : ℕ) → Sits es t p → Sits es u q → own_tree t p ≡ own_tree u q
+      → class p ≡ class q
+  owner_class t u p q s r e =
+      o.complete p q (within t p s) (within u q r) (owner_is t p s ∙ e ∙ sym (owner_is u q r))
+
+  pub owners_classes : AreClasses es class
+  owners_classes =
+      record {
+        object = λ t u p q s r e. same_owner es class u t q p
+            (class_owner t u p q s r e) r s;
+      }
+
+  -- classes are the same where owners are
+  pub classes_tell : (a b : ℕ × Tree) → Stands es a → Stands es b
+      → same_class class a b ≡ owner_eq (own_tree a.1 a.0) (own_tree b.1 b.0)
+  classes_tell a b s r =
+      both_ways (same_class class a b) (owner_eq (own_tree a.1 a.0) (own_tree b.1 b.0))
+      (λ h. elim (eqb_tells (class a.0) (class b.0)) [
+        | inl e ↦ elim (owners_tell (own_tree a.1 a.0)
+            (own_tree b.1 b.0)) [
+              | inl t ↦ t.0
+              | inr f ↦ absurd
+                  (f.1 (class_owner a.1 b.1 a.0 b.0 s r e.1))
+            ]
+        | inr d ↦ not_both (eqb (class a.0) (class b.0)) h d.0
+      ])
+      (λ h. elim (owners_tell (own_tree a.1 a.0) (own_tree b.1 b.0)) [
+        | inl t ↦ elim (eqb_tells (class a.0) (class b.0)) [
+          | inl e ↦ e.0
+          | inr d ↦ absurd
+              (d.1 (owner_class a.1 b.1 a.0 b.0 s r t.1))
+        ]
+        | inr f ↦ not_both (owner_eq (own_tree a.1 a.0) (own_tree b.1 b.0)) h f.0
+      ])
+    where
+      not_both : {A : Type 0} (b : Bool) → b ≡ true → b ≡ false → A
+      not_both b p q = cc
+
+-- their classes are below the count
+pub owners_below : (events : List Event) (classes : List ℕ) (count : ℕ)
+    → length classes ≡ length events → AreOwners (plain_events events) (num_of classes) count
+    → AllBelow count classes
+owners_below events classes count long o i h = o.below i
+    (let n : length (plain_events events) ≡ length events = length-map events plain_event in omega
+    (arith, n, long, h))
+
+-- ---- what is met, apart by kind
+
+abbrev pub One : Type 0
+One = ℕ × Tree
+
+abbrev pub owned_eq : One → One → Bool
+owned_eq a b = owner_eq (own_tree a.1 a.0) (own_tree b.1 b.0)
+
+abbrev pub collected : List One → List Tree
+collected [] = []
+collected ((p, Leaf x) ∷ ones) = collected ones
+collected ((p, Array ts) ∷ ones) = Array ts ∷ collected ones
+collected ((p, Dictionary ms) ∷ ones) = Dictionary ms ∷ collected ones
+
+abbrev pub collected_at : List One → List ℕ
+collected_at [] = []
+collected_at ((p, Leaf x) ∷ ones) = collected_at ones
+collected_at ((p, Array ts) ∷ ones) = p ∷ collected_at ones
+collected_at ((p, Dictionary ms) ∷ ones) = p ∷ collected_at ones
+
+abbrev pub texts : List One → List Scalar
+texts [] = []
+texts ((p, Leaf x) ∷ ones) = x ∷ texts ones
+texts ((p, Array ts) ∷ ones) = texts ones
+texts ((p, Dictionary ms) ∷ ones) = texts ones
+
+collected-append : (a b : List One) → collected (a ++ b) ≡ collected a ++ collected b
+collected-append [] b = refl
+collected-append ((p, Leaf x) ∷ a) b = collected-append a b
+collected-append ((p, Array ts) ∷ a) b = ap (λ l. Array ts ∷ l) (collected-append a b)
+collected-append ((p, Dictionary ms) ∷ a) b = ap (λ l. Dictionary ms ∷ l) (collected-append a b)
+
+pub collected_at-append : (a b : List One) → collected_at (a ++ b) ≡ collected_at a ++ collected_at b
+collected_at-append [] b = refl
+collected_at-append ((p, Leaf x) ∷ a) b = collected_at-append a b
+collected_at-append ((p, Array ts) ∷ a) b = ap (λ l. p ∷ l) (collected_at-append a b)
+collected_at-append ((p, Dictionary ms) ∷ a) b = ap (λ l. p ∷ l) (collected_at-append a b)
+
+texts-append : (a b : List One) → texts (a ++ b) ≡ texts a ++ texts b
+texts-append [] b = refl
+texts-append ((p, Leaf x) ∷ a) b = ap (λ l. x ∷ l) (texts-append a b)
+texts-append ((p, Array ts) ∷ a) b = texts-append a b
+texts-append ((p, Dictionary ms) ∷ a) b = texts-append a b
+
+mutual
+  pub collected_is : (t : Tree) (p : ℕ) → collected (met t p) ≡ collections_in t
+  collected_is (Leaf x) p = refl
+  collected_is (Array ts) p = ap (λ l. Array ts ∷ l) (collected_items ts (p + 1))
+  collected_is (Dictionary ms) p = ap (λ l. Dictionary ms ∷ l) (collected_pairs ms (p + 1))
+
+  collected_items : (ts : Trees) (p : ℕ) → collected (met_in_items ts p) ≡ collections_in_items ts
+  collected_items NoTrees p = refl
+  collected_items (TreeAnd t ts) p =
+      collected-append (met t p) (met_in_items ts (p + size t))
+      ∙ (λ i. collected_is t p i ++ collected_items ts (p + size t) i)
+
+  collected_pairs : (ms : Members) (p : ℕ) → collected (met_in_pairs ms p) ≡ collections_in_pairs ms
+  collected_pairs NoMembers p = refl
+  collected_pairs (MemberAnd k t ms) p =
+      collected-append (met t (p + 1)) (met_in_pairs ms (p + 1 + size t))
+      ∙ (λ i. collected_is t (p + 1) i ++ collected_pairs ms (p + 1 + size t) i)
+
+mutual
+  pub texts_are : (t : Tree) (p : ℕ) → texts (met t p) ≡ scalars_in t
+  texts_are (Leaf x) p = refl
+  texts_are (Array ts) p = texts_of_items ts (p + 1)
+  texts_are (Dictionary ms) p = texts_of_pairs ms (p + 1)
+
+  texts_of_items : (ts : Trees) (p : ℕ) → texts (met_in_items ts p) ≡ scalars_in_items ts
+  texts_of_items NoTrees p = refl
+  texts_of_items (TreeAnd t ts) p =
+      texts-append (met t p) (met_in_items ts (p + size t))
+      ∙ (λ i. texts_are t p i ++ texts_of_items ts (p + size t) i)
+
+  texts_of_pairs : (ms : Members) (p : ℕ) → texts (met_in_pairs ms p) ≡ scalars_in_pairs ms
+  texts_of_pairs NoMembers p = refl
+  texts_of_pairs (MemberAnd k t ms) p =
+      ap (λ l. trees.String k ∷ l) (texts-append (met t (p + 1)) (met_in_pairs ms (p + 1 + size t))
+      ∙ (λ i. texts_are t (p + 1) i ++ texts_of_pairs ms (p + 1 + size t) i))
+
+-- ---- places rise
+
+abbrev pub Rising : List One → Type 0
+Rising [] = Unit {0}
+Rising (one ∷ ones) = AllByRecursion (λ later. one.0 < later.0) ones × Rising ones
+
+abbrev pub Between : ℕ → ℕ → One → Type 0
+Between lo hi one = (lo ≤ one.0) × (one.0 < hi)
+
+rising_both : (m : ℕ) (a b : List One) → Rising a → Rising b → AllByRecursion (λ one. one.0 < m) a
+    → AllByRecursion (λ one. m ≤ one.0) b → Rising (a ++ b)
+rising_both m [] b ra rb low high = rb
+rising_both m (one ∷ a) b ra rb low high = (
+  all_both (λ later. one.0 < later.0) a b ra.0
+      (all_from (λ later. one.0 < later.0) (λ later. m ≤ later.0)
+      (λ later h. omega (arith, h, low.0)) b high),
+  rising_both m a b ra.1 rb low.1 high,
+)
+
+wider : (a b c d : ℕ) → c ≤ a → b ≤ d → (ones : List One) → AllByRecursion (Between a b) ones
+    → AllByRecursion (Between c d) ones
+wider a b c d h k ones x =
+    all_from (Between c d) (Between a b) (λ one w.
+    (omega (arith, w.0, h), omega (arith, w.1, k))) ones x
+
+-- what stands from one place to another, in order
+pub record Spread (lo hi : ℕ) (ones : List One) : Type 0 where
+  between : AllByRecursion (Between lo hi) ones
+  pub rising : Rising ones
+
+spread_both : (a b c : ℕ) (xs ys : List One) → a ≤ b → b ≤ c → Spread a b xs → Spread b c ys
+    → Spread a c (xs ++ ys)
+spread_both a b c xs ys h k p q = record {
+  between =
+      all_both (Between a c) xs ys (wider a b a c (omega arith) k xs p.between)
+      (wider b c a c h (omega arith) ys q.between);
+  rising =
+      rising_both b xs ys p.rising q.rising (all_from (λ one. one.0 < b) (Between a b)
+      (λ one w. w.1) xs p.between) (all_from (λ one. b ≤ one.0) (Between b c)
+      (λ one w. w.0) ys q.between);
+}
+
+spread_first : (p end hi : ℕ) (t : Tree) (ones : List One) → p + 1 ≤ end → end ≤ hi
+    → Spread (p + 1) end ones → Spread p hi ((p, t) ∷ ones)
+spread_first p end hi t ones a b s = record {
+  between =
+      ((omega arith, omega (arith, a, b)), wider (p + 1) end p hi (omega arith) b ones s.between);
+  rising = (
+    all_from (λ later. p < later.0) (Between (p + 1) end)
+        (λ later w. omega (arith, w.0)) ones s.between,
+    s.rising,
+  );
+}
+
+mutual
+  pub spread : (t : Tree) (p : ℕ) → Spread p (p + size t) (met t p)
+  spread (Leaf x) p = record { between = ((omega arith, omega arith), tt); rising = (tt, tt) }
+  spread (Array ts) p =
+      spread_first p (p + 1 + length (shape_of_items ts)) (p + size (Array ts)) (Array ts)
+      (met_in_items ts (p + 1)) (omega arith)
+      (omega (arith, length-append (shape_of_items ts) (EndCollection ∷ [])))
+      (spread_items ts (p + 1))
+  spread (Dictionary ms) p =
+      spread_first p (p + 1 + length (shape_of_pairs ms)) (p + size (Dictionary ms)) (Dictionary ms)
+      (met_in_pairs ms (p + 1)) (omega arith)
+      (omega (arith, length-append (shape_of_pairs ms) (EndCollection ∷ [])))
+      (spread_pairs ms (p + 1))
+
+  spread_items : (ts : Trees) (p : ℕ) → Spread p (p + length (shape_of_items ts))
+      (met_in_items ts p)
+  spread_items NoTrees p = record { between = tt; rising = tt }
+  spread_items (TreeAnd t ts) p =
+      let e : p + size t + length (shape_of_items ts)
+      ≡ p + length (shape t ++ shape_of_items ts) = omega
+      (arith, length-append (shape t) (shape_of_items ts)) in
+      subst (λ k. Spread p k (met_in_items (TreeAnd t ts) p)) e
+      (spread_both p (p + size t) (p + size t + length (shape_of_items ts)) (met t p)
+      (met_in_items ts (p + size t)) (omega arith) (omega arith) (spread t p)
+      (spread_items ts (p + size t)))
+
+  spread_pairs : (ms : Members) (p : ℕ) → Spread p (p + length (shape_of_pairs ms))
+      (met_in_pairs ms p)
+  spread_pairs NoMembers p = record { between = tt; rising = tt }
+  spread_pairs (MemberAnd k t ms) p =
+      spread_first p (p + 1 + size t + length (shape_of_pairs ms))
+      (p + length (shape_of_pairs (MemberAnd k t ms))) (Leaf (trees.String k))
+      (met t (p + 1) ++ met_in_pairs ms (p + 1 + size t)) (omega arith)
+      (omega (arith, length-append (shape t) (shape_of_pairs ms)))
+      (spread_both (p + 1) (p + 1 + size t) (p + 1 + size t + length (shape_of_pairs ms))
+      (met t (p + 1)) (met_in_pairs ms (p + 1 + size t)) (omega arith) (omega arith)
+      (spread t (p + 1)) (spread_pairs ms (p + 1 + size t)))
