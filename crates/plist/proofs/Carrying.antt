@@ -8,7 +8,7 @@ use Rattle.plist_base.specs.Trees.{Tree, Leaf, Array, Dictionary, trees_of, memb
 use Rattle.std.proofs.lemmas.List.{map-append}
 use Rattle.plist.specs.LastWins.{Rows, with_pair, last_values, last_wins, last_wins_in_items, last_wins_in_pairs}
 use Rattle.plist.specs.Building.{OpenCollection, InArray, InDictionary, AfterKey, Unfinished, NotBegun, Within, Complete, last_wins_in_rows, last_wins_within, last_wins_so_far}
-use Rattle.plist.specs.Steps.{and_pair, and_tree, begun, in_array, in_dictionary, carried_on}
+use Rattle.plist.specs.inner.Steps.{and_pair, and_tree, begun, in_array, in_dictionary, carried_on}
 use Rattle.plist.proofs.Keeping.{Settled}
 
 pub map-snoc : {A B : Type 0} (f : A → B) (xs : List A) (x : A)

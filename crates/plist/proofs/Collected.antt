@@ -9,14 +9,14 @@ use Rattle.plist_base.specs.Bracketing.{unhinted, AreAlike}
 use Rattle.std.proofs.lemmas.List.{map-append}
 use Rattle.plist.specs.LastWins.{with_pair, last_wins}
 use Rattle.plist.specs.Building.{Unfinished, NotBegun, Within, Complete, Built, IsNested, nothing_built, complete_tree, events_so_far, last_wins_so_far, refusal_of, IsUnfinishedFor, IsUnfinished}
-use Rattle.plist.specs.Steps.{and_pair, carried_on}
-use Rattle.plist.specs.Following.{complete, refusal-last}
+use Rattle.plist.specs.inner.Steps.{and_pair, carried_on}
+use Rattle.plist.specs.inner.Following.{complete, refusal-last}
 use Rattle.std.specs.Prelude.{IfOk, IfErr}
 use Rattle.plist_base.specs.Faults.{fault_of}
 use Rattle.plist.specs.declared.value.Value.{Value}
 use Rattle.plist.specs.Views.{tree_of}
 use Rattle.plist.specs.Collecting.{IsBuiltFrom, IsRefusal, Takes, Refuses, built_tree}
-use Rattle.plist.specs.Carried.{carried-nested, carried-events}
+use Rattle.plist.specs.inner.Carried.{carried-nested, carried-events}
 use Rattle.plist.proofs.Carrying.{carried-last}
 
 -- what is held are the events of the items, with the last value of each key

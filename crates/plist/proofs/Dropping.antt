@@ -1,5 +1,5 @@
 -- Why dropping a value ends.
-use Rattle.std.proofs.Common.{◌≡◌, ℕ, zero, suc, ◌<◌, ◌≤◌, ◌+◌, ◌-◌, ◌*◌, List, [], ◌∷◌, ◌++◌, length, inl, inr, ap, sym, ◌∙◌, refl, arith, get_or, slice_set}
+use Rattle.std.proofs.Common.{◌≡◌, ℕ, suc, ◌<◌, ◌≤◌, ◌+◌, ◌-◌, ◌*◌, List, [], ◌∷◌, ◌++◌, length, inl, inr, ap, ◌∙◌, arith}
 use Rattle.std.proofs.lemmas.Grind.{common_steps}
 use Rattle.plist.specs.declared.value.Value.{Value}
 use Rattle.plist.specs.Weights.{weight, weights, others, to_drop, IsLess}

@@ -10,7 +10,7 @@ use Rattle.plist_binwrite.specs.Held.{plain_events}
 use Rattle.plist_binwrite.specs.Sending.{Sends, FailsWith}
 use Rattle.plist_binwrite.proofs.Unhinted.{plain_is, plain_twice}
 use Rattle.plist.specs.declared.stream.events.Events.{Events}
-use Rattle.plist.specs.Remaining.{remaining_events}
+use Rattle.plist.specs.Events.{remaining_events}
 use Rattle.plist.specs.Sent.{StopsSending, SendsTree}
 
 -- what was gathered, and then what is left

@@ -7,7 +7,7 @@ use Rattle.plist_base.specs.Faults.{Fault, fault_of}
 use Rattle.plist_base.specs.Writing.{Answer}
 use Rattle.plist.specs.declared.stream.events.Events.{Events}
 use Rattle.plist.specs.Handing.{Took, Hands, HandsItem}
-use Rattle.plist.specs.Remaining.{remaining_events, GivesEvent}
+use Rattle.plist.specs.Events.{remaining_events, GivesEvent}
 
 no_answer : {A : Type 0} (done : Unit {0}) (fault : Fault) → ◌≡◌ {A = Answer} (Ok done) (Err fault)
     → A

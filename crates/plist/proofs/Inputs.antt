@@ -10,13 +10,13 @@ use Rattle.plist_base.specs.Trees.{Tree}
 use Rattle.plist_base.specs.Bracketing.{bracketing, unhinted, AreAlike}
 use Rattle.plist.specs.declared.value.Value.{Value}
 use Rattle.plist.specs.Building.{Unfinished, NotBegun, Built, IsNested, nothing_built, complete_tree, events_so_far, last_wins_so_far, refusal_of, IsUnfinishedFor, IsUnfinished}
-use Rattle.plist.specs.Carried.{carried-nested, carried-events}
+use Rattle.plist.specs.inner.Carried.{carried-nested, carried-events}
 use Rattle.plist.specs.Collecting.{IsRefusal, Takes, Refuses, built_tree}
-use Rattle.plist.specs.Following.{refused-ends, refusal-last, complete}
+use Rattle.plist.specs.inner.Following.{refused-ends, refusal-last, complete}
 use Rattle.plist.specs.Inputs.{AreOf, IsReadFrom, Answers, BeginsWith, GoesOn, GivesBack}
 use Rattle.plist.specs.LastWins.{with_pair, last_wins}
-use Rattle.plist.specs.OneTree.{one_tree}
-use Rattle.plist.specs.Steps.{and_pair, carried_on}
+use Rattle.plist.specs.inner.OneTree.{one_tree}
+use Rattle.plist.specs.inner.Steps.{and_pair, carried_on}
 use Rattle.plist.specs.Views.{tree_of}
 use Rattle.plist.proofs.Carrying.{carried-last}
 use Rattle.plist.proofs.Collected.{from_last, alike-more, complete_last}

@@ -12,8 +12,8 @@ use Rattle.plist.specs.declared.partial.Open.TheVariants as run
 use Rattle.plist.specs.Partials.{open_of, held_by}
 use Rattle.plist.specs.Views.{tree_of, tree_step, tree_pairs}
 use Rattle.plist.proofs.Keeping.{Settled, SettledItems, settled-items, settled-dictionary, settled-inserts, last-values-once, once-inserts}
-use Rattle.plist.specs.Steps.{and_pair, carried_on}
-use Rattle.plist.specs.Carried.{carried-taken, carried-nested, carried-events}
+use Rattle.plist.specs.inner.Steps.{and_pair, carried_on}
+use Rattle.plist.specs.inner.Carried.{carried-taken, carried-nested, carried-events}
 use Rattle.plist.proofs.Carrying.{map-fixed, carried-last}
 
 abbrev IsItself : Value → Type 0

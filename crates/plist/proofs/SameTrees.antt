@@ -10,8 +10,8 @@ use Rattle.std_collections.specs.HashMap.Eq.{get_from_hash_map_eq, hash_map_eq_f
 use Rattle.plist_base.specs.Trees.{Tree, Dictionary, members_of}
 use Rattle.plist.specs.declared.value.Value.{Value}
 use Rattle.plist.specs.Same.{AreSameAt, same, same_items, first_value, same_pairs}
-use Rattle.plist.specs.Sameness.{dict_to, dict_from, same_by}
-use Rattle.plist.specs.PairsSame.{as_map}
+use Rattle.plist.specs.inner.Sameness.{dict_to, dict_from, same_by}
+use Rattle.plist.specs.inner.PairsSame.{as_map}
 use Rattle.plist.specs.Views.{tree_of, tree_pairs, item_trees, pair_trees}
 use Rattle.plist.proofs.Keeping.{Lacks, EachOnce, last-values-once}
 

@@ -15,7 +15,7 @@ use Rattle.plist_ascii.specs.Unread.{Known}
 use Rattle.plist_base.specs.declared.source.Source.{Ghosts}
 use Rattle.plist_binread.specs.declared.counter.DecodeCounter.{Ghosts as CounterGhosts}
 use Rattle.plist_binread.specs.declared.reader.BinaryReader.{BinaryReader}
-use Rattle.plist_binread.specs.Coming as binary
+use Rattle.plist_binread.specs.BinaryReader as binary
 use Rattle.plist_binread.specs.Unfolding.{items_of_file}
 use Rattle.plist_reader.specs.Reader as reader
 use Rattle.plist_reader.specs.Reader.{items_of_input}
@@ -23,7 +23,7 @@ use Rattle.plist_reader.specs.Formats.{front}
 use Rattle.plist.specs.declared.stream.events.Events.{Events}
 use Rattle.plist.specs.Collecting.{item_by}
 use Rattle.plist.specs.Inputs.{IsReadFrom, Answers, BeginsWith, GoesOn}
-use Rattle.plist.specs.Remaining.{GivesEvent, remaining_events}
+use Rattle.plist.specs.Events.{GivesEvent, remaining_events}
 use Rattle.plist_base.proofs.Refusals.{MatchFault-weaker, MatchFault-at}
 
 abbrev Given : Type 0

@@ -11,7 +11,7 @@ use Rattle.plist.specs.declared.value.Value.{Value}
 use Rattle.plist.specs.Building.{InDictionary, Within}
 use Rattle.plist.specs.LastWins.{with_pair, last_values}
 use Rattle.plist.specs.Partials.{open_of, held_by}
-use Rattle.plist.specs.Steps.{and_tree}
+use Rattle.plist.specs.inner.Steps.{and_tree}
 use Rattle.plist.specs.Views.{tree_of, tree_pairs}
 use Rattle.plist.proofs.TreeOf.{tree_pairs_insert}
 use Rattle.plist.proofs.Keeping.{Lacks, EachOnce, once-insert, last-values-once}

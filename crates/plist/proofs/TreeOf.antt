@@ -1,10 +1,10 @@
 -- The tree of a value, kind by kind.
 use Rattle.std.proofs.Common.{◌≡◌, ℕ, Bool, true, false, if◌then◌else◌, List, [], ◌∷◌, refl, sym, ap, ◌∙◌, Vec, Global}
 use Rattle.plist_base.specs.Trees as tree
-use Rattle.plist_base.specs.Trees.{Tree, Leaf}
+use Rattle.plist_base.specs.Trees.{Tree}
 use Rattle.plist.specs.declared.value.Value.{Value, Value-F, fold-roll-Value}
 use Rattle.plist.specs.declared.value.Value.TheVariants as value
-use Rattle.plist.specs.declared.value.Value.TheVariants.{rolls-Array, rolls-Dictionary, rolls-Data}
+use Rattle.plist.specs.declared.value.Value.TheVariants.{rolls-Array, rolls-Dictionary}
 use Rattle.std.specs.Str.{bytes_eq}
 use Rattle.indexmap.specs.IndexMap.{insert_entry}
 use Rattle.plist.specs.LastWins.{with_pair}
@@ -20,11 +20,6 @@ pub tree_of-Dictionary : (pairs : List (List ℕ × Value))
 tree_of-Dictionary pairs =
     ap tree_of (sym (rolls-Dictionary pairs))
     ∙ fold-roll-Value Tree tree_step (Value-F.Dictionary pairs)
-
-pub tree_of-Data : (bytes : Vec ℕ Global)
-    → tree_of (value.Data bytes) ≡ Leaf (tree.Data bytes.items)
-tree_of-Data bytes =
-    ap tree_of (sym (rolls-Data bytes)) ∙ fold-roll-Value Tree tree_step (Value-F.Data bytes)
 
 insert-choice : (k : List ℕ) (v : Value) (p : List ℕ × Value) (ps : List (List ℕ × Value))
     (b : Bool) → tree_pairs (insert_entry bytes_eq ps k v) ≡ with_pair (tree_pairs ps) k (tree_of v)

@@ -9,7 +9,7 @@ use Rattle.plist_base.specs.Bracketing.{bracketing, AreAlike}
 use Rattle.plist.specs.declared.value.Value.{Value}
 use Rattle.plist.specs.Building.{Unfinished, IsNested, Built, events_so_far, refusal_of}
 use Rattle.plist.specs.LastWins.{with_pair, last_wins}
-use Rattle.plist.specs.Steps.{carried_on}
+use Rattle.plist.specs.inner.Steps.{carried_on}
 use Rattle.plist.specs.Views.{tree_of}
 
 -- what contracts see of an item whose event is seen by `plain`

@@ -3,7 +3,7 @@ use Rattle.std.specs.Prelude.{◌≡◌, ◌⊎◌, List, [], ◌∷◌, ◌++�
 use Rattle.plist_base.specs.Events.{PlainEvent, Item}
 use Rattle.plist_base.specs.Faults.{Fault, fault_nowhere, OutOfMemory}
 use Rattle.plist_base.specs.Writing.{Answer}
-use Rattle.plist.specs.Remaining.{BeginsWithStart}
+use Rattle.plist.specs.Events.{BeginsWithStart}
 
 module _ {S : Type 0} (Step : S → PlainEvent → Answer → S → Type 0) where
   -- the writer took these events, one step for each

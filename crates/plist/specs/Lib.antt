@@ -4,14 +4,9 @@ pub mod Shown
 pub mod LastWins
 pub mod Views
 pub mod Building
-pub mod Steps
-pub mod Carried
-pub mod OneTree
-pub mod Following
 pub mod Partials
-pub mod Builders
-pub mod Laws
-pub mod Remaining
+pub mod Builder
+pub mod Events
 pub mod Collecting
 pub mod Inputs
 pub mod ReadingBack
@@ -20,8 +15,6 @@ pub mod Sent
 pub mod Stored
 pub mod ReadBy
 pub mod Same
-pub mod Sameness
-pub mod PairsSame
 pub mod EntryLends
 pub mod EntryPlaces
 pub mod Bulk
@@ -29,3 +22,4 @@ pub mod Contents
 pub mod Rows
 pub mod Limiting
 pub mod Weights
+pub mod inner

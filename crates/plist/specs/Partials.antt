@@ -7,7 +7,7 @@ use Rattle.plist.specs.declared.partial.Partial.{Partial}
 use Rattle.plist.specs.declared.value.Value.{Value}
 use Rattle.plist.specs.Building.{OpenCollection, InArray, InDictionary, AfterKey, Unfinished, NotBegun, Within, Complete}
 use Rattle.plist.specs.LastWins.{last_values, with_pair}
-use Rattle.plist.specs.Steps.{carried_on}
+use Rattle.plist.specs.inner.Steps.{carried_on}
 use Rattle.plist.specs.Views.{tree_of, tree_pairs}
 
 -- an open collection with its trees; a dictionary's keys stand once each, so its last values are

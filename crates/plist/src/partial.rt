@@ -8,7 +8,7 @@ ghost use Rattle.plist_base.specs.Trees as scalar;
 ghost use Rattle.plist.specs.Building.{NotBegun, Within, complete_tree, refusal_of, refusal_of_key, refusal_of_value};
 ghost use Rattle.plist.specs.LastWins.{with_pair};
 ghost use Rattle.plist.specs.Partials.{CarriesOn, collections_of, open_of, unfinished_of};
-ghost use Rattle.plist.specs.Steps.{and_tree};
+ghost use Rattle.plist.specs.inner.Steps.{and_tree};
 ghost use Rattle.plist.specs.Views.{tree_of};
 
 use crate::{Dictionary, Value};

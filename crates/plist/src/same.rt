@@ -10,7 +10,7 @@ use crate::{Dictionary, Value};
 /// Equal kinds with the same content: arrays by place, dictionaries by key, whatever the order.
 impl PartialEq for Value {
     ghost use Rattle.std.specs.Cmp.{partial_equiv_from_equiv};
-    ghost use Rattle.plist.specs.Sameness.{same_by_equiv};
+    ghost use Rattle.plist.specs.inner.Sameness.{same_by_equiv};
 
     ghost eq = { λ a b. same (tree_of a) (tree_of b) };
 
@@ -22,7 +22,7 @@ impl PartialEq for Value {
 }
 
 impl Eq for Value {
-    ghost use Rattle.plist.specs.Sameness.{same_by_equiv};
+    ghost use Rattle.plist.specs.inner.Sameness.{same_by_equiv};
 
     ghost laws = { same_by_equiv tree_of };
 }

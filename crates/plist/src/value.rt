@@ -19,7 +19,7 @@ ghost use Rattle.plist_base.specs.Outcomes.{OnlyMemory};
 ghost use Rattle.plist_base.specs.Trees.{Leaf, String, Tree};
 ghost use Rattle.plist.specs.LastWins.{AreLastValues, Rows, last_values, last_wins};
 ghost use Rattle.plist.specs.Limiting.{IsReadUnder, IsWithin};
-ghost use Rattle.plist.specs.Remaining.{remaining_events};
+ghost use Rattle.plist.specs.Events.{remaining_events};
 ghost use Rattle.plist.specs.Views.{item_trees, kind_of_tree, pair_trees, tree_of};
 ghost use Rattle.plist.specs.Weights.{weight, weights};
 

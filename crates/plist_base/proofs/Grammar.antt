@@ -1,7 +1,6 @@
 -- The stack of what is wanted takes exactly the events that can go on to a tree's.
 use Rattle.std.proofs.Common.{◌≡◌, List, [], ◌∷◌, ◌++◌, Option, Some, None, map, refl, sym, ap, ◌∙◌, append_assoc, append-nil, option_and_then}
 use Rattle.plist_base.specs.Events.{PlainEvent, StartArray, StartDictionary, EndCollection, Single}
-use Rattle.plist_base.specs.Trees as trees
 use Rattle.plist_base.specs.Trees.{Tree}
 use Rattle.plist_base.specs.Bracketing.{shape, bracketing, unhinted, AreAlike, AreWhole, AreComplete, CanContinue, ContinueAlike}
 use Rattle.plist_base.specs.inner.Wants.{Want, OneValue, Items, Pairs, change_of, changed, step, steps, wanted_after}

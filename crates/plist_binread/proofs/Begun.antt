@@ -15,8 +15,9 @@ use Rattle.plist_binread.specs.Container.{Head, head_of}
 use Rattle.plist_binread.specs.Object.{Object}
 use Rattle.plist_binread.specs.Unfolding.{table_of, items_of, unfolding_of, until_fault, items_with, items_of_file}
 use Rattle.plist_binread.specs.declared.table.Bounds.{Bounds}
-use Rattle.plist_binread.specs.Debt.{path_of, owed_by, entries_of, places_with, places_of, IsHeld, IsKnown, IsKept, IsOwed, WantsMemory, Pays}
-use Rattle.plist_binread.specs.Tables.{head_seen}
+use Rattle.plist_binread.specs.Debt.{path_of, owed_by, entries_of, places_with, places_of, IsHeld, IsKnown, IsOwed, WantsMemory, Pays}
+use Rattle.plist_binread.specs.Turning.{IsKept}
+use Rattle.plist_binread.specs.inner.Tables.{head_seen}
 use Rattle.plist_binread.proofs.Steps.{slice_get-within, slice_get-beyond, items_beyond, items_step, owed_at}
 use Rattle.plist_binread.proofs.Opened.{get_or-zeros}
 use Rattle.plist_binread.proofs.Known.{found}

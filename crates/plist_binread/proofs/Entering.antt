@@ -11,7 +11,8 @@ use Rattle.plist_binread.specs.declared.walk.Frame.{Frame}
 use Rattle.plist_binread.specs.declared.walk.Turn.TheVariants.{Child}
 use Rattle.plist_binread.specs.declared.lent.Lent.{Lent}
 use Rattle.plist_binread.specs.declared.table.Bounds.{Bounds}
-use Rattle.plist_binread.specs.Debt.{IsOpen, IsKnown, IsKept, IsKeptTold, Pays, ReadsChild, next_number, children_at, place_at, entries_of, owed_by, path_of}
+use Rattle.plist_binread.specs.Debt.{IsOpen, IsKnown, Pays, next_number, children_at, place_at, entries_of, owed_by, path_of}
+use Rattle.plist_binread.specs.Turning.{IsKept, IsKeptTold, ReadsChild}
 use Rattle.plist_binread.specs.Lent.{IsLentAs, IsToldAs, PaysTold, PaysNextTold, EntersChild}
 use Rattle.plist_binread.specs.Object.{Object, object_in}
 use Rattle.plist_binread.specs.Packed.{is_small_event, is_marked, unmarked, cached, single}

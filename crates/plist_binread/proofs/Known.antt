@@ -16,7 +16,8 @@ use Rattle.plist_binread.specs.declared.table.Bounds.{Bounds}
 use Rattle.plist_binread.specs.Object.{Object, object_in}
 use Rattle.plist_binread.specs.Packed.{is_marked, unmarked, scalar_of, cached, single, IsTextOrData, Retagged, Remarked}
 use Rattle.plist_binread.specs.Unfolding.{Entry, unfolding_of, until_fault}
-use Rattle.plist_binread.specs.Debt.{IsCollection, IsDecodedAs, IsRefusedAs, place_at, scalar_at, scalar_in, path_of, IsOpen, HoldsPlaceOr, IsHeld, IsKnown, places_of, entries_of, owed_by, Explains, Pays}
+use Rattle.plist_binread.specs.Debt.{place_at, scalar_at, path_of, IsOpen, HoldsPlaceOr, IsHeld, IsKnown, places_of, entries_of, owed_by, Explains, Pays}
+use Rattle.plist_binread.specs.Decoding.{IsCollection, IsDecodedAs, IsRefusedAs, scalar_in}
 use Rattle.plist_binread.proofs.Steps.{slice_get-within, slice_get-beyond, length-table_of, collection_count, items_beyond, items_open, pays_scalar, pays_refused, refused_cached}
 
 not_zero : (t : ℕ) → 0 < t → nat_eq t 0 ≡ false

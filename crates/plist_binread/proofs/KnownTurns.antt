@@ -13,7 +13,8 @@ use Rattle.plist_binread.specs.declared.table.Bounds.{Bounds}
 use Rattle.plist_binread.specs.Object.{object_in}
 use Rattle.plist_binread.specs.Packed.{unmarked}
 use Rattle.plist_binread.specs.Unfolding.{until_fault}
-use Rattle.plist_binread.specs.Debt.{IsKept, ReadsChild, Turns, next_number, place_at, children_at, IsKnown, entries_of, owed_by, Explains, Pays}
+use Rattle.plist_binread.specs.Debt.{next_number, place_at, children_at, IsKnown, entries_of, owed_by, Explains, Pays}
+use Rattle.plist_binread.specs.Turning.{IsKept, ReadsChild, Turns}
 use Rattle.plist_binread.proofs.Known.{Entered, as_many, entry_of, entry_there, held_place, second}
 
 -- ---- one turn of the walk

@@ -10,7 +10,8 @@ use Rattle.std.proofs.Math.Nat.{mul-le-mul_right}
 use Rattle.plist_binread.specs.declared.table.Bounds.{Bounds}
 use Rattle.plist_binread.specs.declared.child.Asked.{Asked}
 use Rattle.plist_binread.specs.Container.{number_of, number_at, numbers_of}
-use Rattle.plist_binread.specs.Debt.{IsCollection, ReadsChild, children_in}
+use Rattle.plist_binread.specs.Turning.{ReadsChild}
+use Rattle.plist_binread.specs.Decoding.{IsCollection, children_in}
 use Rattle.plist_binread.specs.Lent.{IsSlots, IsAsked, slot_of}
 use Rattle.plist_binread.specs.Object.{Object, Array, Faulty, dictionary, layout_of, length_in, meaning_counted, object_behind, object_in}
 use Rattle.plist_binread.proofs.Children.{length-numbers, get_or-numbers, length-dictionary, key, value, known_array, known_dictionary}

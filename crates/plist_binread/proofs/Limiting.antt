@@ -11,13 +11,15 @@ use Rattle.plist_base.specs.Trees.{Data, String}
 use Rattle.plist_base.specs.Faults.{FaultKind, Fault, LimitReached, MatchFault, fault_of, fault_nowhere, kind_of, error_kind_of}
 use Rattle.plist_base.specs.Limits.{AdmitsAny, RefusesAny, event_or_limit, has_room, level_behind, limit_at, limited_from, under, under_any}
 use Rattle.plist_base.specs.Sources.{IsPlaceWithin}
-use Rattle.plist_binread.specs.Coming.{TellsItem, has_room_in}
+use Rattle.plist_binread.specs.BinaryReader.{has_room_in}
+use Rattle.plist_binread.specs.Telling.{TellsItem}
 use Rattle.plist_binread.specs.declared.reader.State.{State}
 use Rattle.plist_binread.specs.declared.reader.State.TheVariants.{Fresh, Walking, Ended}
 use Rattle.plist_binread.specs.declared.table.Bounds.{Bounds}
 use Rattle.plist_binread.specs.declared.walk.Frame.{Frame}
 use Rattle.plist_binread.specs.Lent.{PaysTold}
-use Rattle.plist_binread.specs.Debt.{IsOwed, WantsMemory, entries_of, is_fresh, is_walking, owed_by, still_owed}
+use Rattle.plist_binread.specs.Debt.{IsOwed, WantsMemory, entries_of, owed_by, still_owed}
+use Rattle.plist_binread.specs.Turning.{is_fresh, is_walking}
 use Rattle.plist_binread.specs.Failures.{FailsWithin, HasPlace, IsGivenWithin, MatchGiven, MatchReader}
 use Rattle.plist_base.proofs.Refusals.{MatchFault-weaker}
 

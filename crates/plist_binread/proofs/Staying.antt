@@ -4,7 +4,7 @@ use Rattle.plist_base.specs.declared.error.Error.{Error}
 use Rattle.plist_base.specs.declared.source.Source.{Ghosts}
 use Rattle.plist_binread.specs.declared.counter.DecodeCounter.{Ghosts as CounterGhosts}
 use Rattle.plist_binread.specs.declared.reader.BinaryReader.{BinaryReader}
-use Rattle.plist_binread.specs.Coming.{Stays, Tells}
+use Rattle.plist_binread.specs.Telling.{Stays, Tells}
 
 pub tells_stayed : {A R C : Type 0} {g : Ghosts R} {h : CounterGhosts C}
     (known : R → Option (List ℕ)) (failed : R → ℕ) (counts : Type 0) (count : C → ℕ)

@@ -3,7 +3,6 @@ use Rattle.std.proofs.Common.{◌≡◌, ℕ, ◌≤◌, arith, List, length, re
 use Rattle.std.proofs.lemmas.List.{length-reverse}
 use Rattle.plist_base.specs.declared.error.Error.{Error}
 use Rattle.plist_base.specs.declared.event.Event.{Event}
-use Rattle.plist_base.specs.declared.event.Event.TheVariants as variant
 use Rattle.plist_base.specs.Events.{PlainEvent, EndCollection, Item, event_of}
 use Rattle.plist_binread.specs.declared.walk.Frame.{Frame}
 use Rattle.plist_binread.specs.Unfolding.{until_fault}
@@ -11,8 +10,10 @@ use Rattle.plist_binread.specs.declared.reader.State.{State}
 use Rattle.plist_binread.specs.declared.reader.State.TheVariants.{Fresh, Walking, Ended}
 use Rattle.plist_binread.specs.declared.table.Bounds.{Bounds}
 use Rattle.plist_binread.specs.Container.{head_of}
-use Rattle.plist_binread.specs.Coming.{GivesItem, TellsItem, AreWithin}
-use Rattle.plist_binread.specs.Debt.{IsOpen, IsKnown, AreBoundsOf, IsKept, IsKeptTold, places_of, is_fresh, is_walking, ends_next, still_owed, owed_by, entries_of, PaysNext}
+use Rattle.plist_binread.specs.BinaryReader.{GivesItem, AreWithin}
+use Rattle.plist_binread.specs.Telling.{TellsItem}
+use Rattle.plist_binread.specs.Debt.{IsOpen, IsKnown, AreBoundsOf, places_of, still_owed, owed_by, entries_of, PaysNext}
+use Rattle.plist_binread.specs.Turning.{IsKept, IsKeptTold, is_fresh, is_walking, ends_next}
 use Rattle.plist_binread.proofs.Begun.{Begins}
 use Rattle.plist_binread.proofs.Opened.{IsOpen-length}
 

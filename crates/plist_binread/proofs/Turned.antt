@@ -10,7 +10,8 @@ use Rattle.plist_binread.specs.declared.walk.Frame.{Frame}
 use Rattle.plist_binread.specs.Packed.{Remarked}
 use Rattle.plist_binread.specs.Unfolding.{Entry, unfolding_of, until_fault}
 use Rattle.plist_binread.specs.declared.table.Bounds.{Bounds}
-use Rattle.plist_binread.specs.Debt.{path_of, IsOpen, IsKnown, children_at, place_at, entries_of, owed_by, IsOwed, next_number, steps, weight, closes, given_back}
+use Rattle.plist_binread.specs.Debt.{path_of, IsOpen, IsKnown, children_at, place_at, entries_of, owed_by, IsOwed, next_number, steps, weight}
+use Rattle.plist_binread.specs.Turning.{closes, given_back}
 
 -- frames as they are kept, and as they are spoken of
 pub record Splits (xs : List Frame) (n : ℕ) (f g : Frame) : Type 0 where

@@ -1,91 +1,21 @@
 -- What a reader in the middle of its walk still owes. A list of frames has the innermost one first.
-use Rattle.std.specs.Prelude.{◌≡◌, ℕ, zero, suc, ◌+◌, ◌-◌, ◌*◌, ◌^◌, ◌<◌, ◌≤◌, Bool, true, false, not, List, [], ◌∷◌, ◌++◌, length, take, drop, reverse, nat_eq, nat_lt, cond, get_or, Result, Ok, Err, Option, None, Some, MatchBool, MatchResult, MatchOption, IfOk, ⊤}
+use Rattle.std.specs.Prelude.{◌≡◌, ℕ, zero, suc, ◌+◌, ◌-◌, ◌*◌, ◌^◌, ◌<◌, ◌≤◌, Bool, true, List, [], ◌∷◌, ◌++◌, length, take, drop, reverse, nat_eq, nat_lt, cond, get_or, Result, Ok, Err, Option, None, Some, MatchBool, MatchResult, MatchOption, ⊤}
 use Rattle.std.specs.List.{list_any, flat_map, IsDistinct, AllByRecursion, slice_get}
 use Rattle.plist_base.specs.declared.error.Error.{Error}
 use Rattle.plist_base.specs.declared.event.Event.{Event}
-use Rattle.plist_base.specs.Faults.{Fault, FaultKind, IsIo, InvalidUtf8String, InvalidUtf16String, LimitReached, MatchFault, kind_of, error_kind_of, offset_of, fault_of}
-use Rattle.plist_base.specs.Events.{PlainEvent, StartArray, StartDictionary, EndCollection, Single, Item, event_of}
+use Rattle.plist_base.specs.Faults.{Fault, FaultKind, InvalidUtf8String, InvalidUtf16String, LimitReached, MatchFault, kind_of, error_kind_of, fault_of}
+use Rattle.plist_base.specs.Events.{StartArray, StartDictionary, EndCollection, Single, Item, event_of}
 use Rattle.plist_base.specs.Trees as trees
 use Rattle.plist_base.specs.Trees.{Data, String}
 use Rattle.plist_binread.specs.declared.walk.Frame.{Frame}
-use Rattle.plist_binread.specs.declared.walk.Turn.{Turn}
-use Rattle.plist_binread.specs.declared.walk.Turn.TheVariants as turn
-use Rattle.plist_binread.specs.declared.object.Decoded.{Decoded}
-use Rattle.plist_binread.specs.declared.object.Decoded.TheVariants as decoded
 use Rattle.plist_binread.specs.declared.table.Bounds.{Bounds}
-use Rattle.plist_binread.specs.declared.enter.Found.{Found}
-use Rattle.plist_binread.specs.declared.enter.Found.TheVariants as found
 use Rattle.plist_binread.specs.Container.{Head, head_of}
-use Rattle.plist_binread.specs.Packed.{is_small_event, is_marked, unmarked, cached, single}
+use Rattle.plist_binread.specs.Packed.{is_marked, unmarked, cached}
 use Rattle.plist_binread.specs.declared.reader.State.{State}
 use Rattle.plist_binread.specs.declared.reader.State.TheVariants.{Fresh, Walking, Ended}
-use Rattle.plist_binread.specs.Object.{Object, Scalar, Array, Dictionary, Faulty, children_of}
+use Rattle.plist_binread.specs.Object.{Scalar}
 use Rattle.plist_binread.specs.Unfolding.{Entry, table_of, unfolding_of, until_fault, items_of_file}
-
--- ---- what was decoded
-
--- the numbers of an object's children in the order of the walk
-abbrev pub children_in : Object → List ℕ
-children_in (Array items) = items
-children_in (Dictionary pairs) = children_of pairs
-children_in (Scalar scalar) = []
-children_in (Faulty kind) = []
-
--- a collection of this start and so many children
-abbrev pub IsCollection : Object → PlainEvent → (count : ℕ) → Type 0
-IsCollection (Array items) start count =
-    (start ≡ StartArray (Some (length items))) × (length items ≡ count)
-IsCollection (Dictionary pairs) start count =
-    (start ≡ StartDictionary (Some (length pairs))) × (length (children_of pairs) ≡ count)
-IsCollection (Scalar scalar) start count = ⊥
-IsCollection (Faulty kind) start count = ⊥
-
--- the scalar of an object that is one
-abbrev pub scalar_in : Object → Option trees.Scalar
-scalar_in (Scalar scalar) = Some scalar
-scalar_in (Array items) = None
-scalar_in (Dictionary pairs) = None
-scalar_in (Faulty kind) = None
-
--- its event
-abbrev pub single_in : Object → Option PlainEvent
-single_in object = single (scalar_in object)
-
--- what was decoded is this object
-abbrev pub IsDecodedAs : Object → Decoded → Type 0
-IsDecodedAs object (decoded.Scalar event) = single_in object ≡ Some (event_of event)
-IsDecodedAs object (decoded.Collection start count) = IsCollection object (event_of start) count
-
--- how many small objects were decoded
-abbrev pub small_in : Decoded → ℕ
-small_in (decoded.Scalar event) = cond (is_small_event (event_of event)) 1 0
-small_in (decoded.Collection start count) = 0
-
-abbrev pub small_decoded : Result Decoded Error → ℕ
-small_decoded (Ok decoded) = small_in decoded
-small_decoded (Err error) = 0
-
--- an object for which memory is wanted: a text, data, or a collection
-abbrev pub GrowsAt : Object → Type 0
-GrowsAt (Scalar (String text)) = ⊤
-GrowsAt (Scalar (Data bytes)) = ⊤
-GrowsAt (Scalar scalar) = ⊥
-GrowsAt (Array items) = ⊤
-GrowsAt (Dictionary pairs) = ⊤
-GrowsAt (Faulty InvalidUtf8String) = ⊤
-GrowsAt (Faulty InvalidUtf16String) = ⊤
-GrowsAt (Faulty kind) = ⊥
-
--- the object at a place was refused: it is this fault, or a device failed, or memory was wanted for
--- it
-abbrev pub IsRefusedAs : Object → (place : ℕ) → Error → Type 0
-IsRefusedAs object place error =
-    MatchFault (kind_of (error_kind_of error)) ⊤ (GrowsAt object)
-    ((object ≡ Faulty (kind_of (error_kind_of error))) × (offset_of error ≡ Some place))
-
-abbrev pub Decodes : Object → (place : ℕ) → Result Decoded Error → Type 0
-Decodes object place answer =
-    MatchResult answer (λ d. IsDecodedAs object d) (λ e. IsRefusedAs object place e)
+use Rattle.plist_binread.specs.Decoding.{children_in, scalar_in}
 
 -- ---- the path
 
@@ -253,105 +183,3 @@ next_number table [] = None
 next_number table (frame ∷ below) =
     cond (nat_lt frame.next frame.count)
     (Some (get_or (children_at (slice_get table frame.object)) frame.next 0)) None
-
--- ---- what the innermost frame asks for
-
-abbrev pub Turns : List Entry → List Frame → Turn → List Frame → Type 0
-Turns table old turn.Done new = (old ≡ []) × (new ≡ [])
-Turns table old turn.Closed new = owed_by table old ≡ Ok EndCollection ∷ owed_by table new
-Turns table old (turn.Child object index) new =
-    (owed_by table old ≡ unfolding_of table (length table - length new) (path_of new)
-    (place_at (slice_get table object)) (get_or (children_at (slice_get table object)) index 0)
-    ++ owed_by table new)
-    × (index < length (children_at (slice_get table object)))
-    × IsOwed (until_fault (owed_by table old))
-    × (next_number table old ≡ Some (get_or (children_at (slice_get table object)) index 0))
-
-abbrev pub Lightens : (count : ℕ) → List Frame → Turn → List Frame → Type 0
-Lightens count old turn.Done new = Unit {0}
-Lightens count old turn.Closed new = weight count old ≡ weight count new + 1
-Lightens count old (turn.Child object index) new =
-    weight count old ≡ weight count new + steps (count - length new)
-
--- the frames before the innermost one's last child was taken
-abbrev pub given_back : List Frame → List Frame
-given_back [] = []
-given_back (frame ∷ below) =
-    record { object = frame.object; next = frame.next - 1; count = frame.count } ∷ below
-
--- a child that was taken can be given back, and where nothing is open nothing has changed
-abbrev pub CanGiveBack : Turn → (old_tags new_tags : List ℕ) → (old new : List Frame) → Type 0
-CanGiveBack turn.Done old_tags new_tags old new = (new_tags ≡ old_tags) × (new ≡ old)
-CanGiveBack turn.Closed old_tags new_tags old new = Unit {0}
-CanGiveBack (turn.Child object index) old_tags new_tags old new =
-    (new_tags ≡ old_tags) × (given_back new ≡ old)
-
-abbrev pub is_fresh : State → Bool
-is_fresh Fresh = true
-is_fresh Walking = false
-is_fresh Ended = false
-
-abbrev pub is_walking : State → Bool
-is_walking Fresh = false
-is_walking Walking = true
-is_walking Ended = false
-
--- has the innermost collection no child left?
-abbrev pub closes : List Frame → Bool
-closes [] = false
-closes (frame ∷ below) = not (nat_lt frame.next frame.count)
-
--- does an end come next?
-abbrev pub ends_next : State → List Frame → Bool
-ends_next Fresh frames = false
-ends_next Walking frames = closes (reverse frames)
-ends_next Ended frames = false
-
--- ---- what is looked up and read
-
--- what was found by a tag and a content: a scalar, or the place of an object that isn't cached
-abbrev pub IsFound : (tag content : ℕ) → Found → Type 0
-IsFound tag content (found.Scalar event) =
-    (0 < unmarked tag) × (single (cached tag content) ≡ Some (event_of event))
-IsFound tag content (found.Place place) = (unmarked tag ≡ 0) × (place ≡ content)
-
--- a child's number, where the object has so many
-abbrev pub ReadsChild : Object → (index : ℕ) → Result ℕ Error → Type 0
-ReadsChild object index answer =
-    index < length (children_in object)
-    → MatchResult answer (λ number. number ≡ get_or (children_in object) index 0)
-    (λ error. IsIo (kind_of (error_kind_of error)))
-
--- a child that is asked for is one of an open object that isn't cached
-abbrev pub IsWithin : (tags : List ℕ) → Turn → Type 0
-IsWithin tags (turn.Child object index) =
-    (object < length tags) × (unmarked (get_or tags object 0) ≡ 0)
-IsWithin tags _ = Unit {0}
-
--- ---- which object comes next
-
--- the number of the root of a file with this head
-abbrev pub root_with : Result Head Fault → Option ℕ
-root_with (Ok head) = Some head.root
-root_with (Err fault) = None
-
--- the number of the object that comes next
-abbrev pub number_owed : List ℕ → State → Bounds → List Frame → Option ℕ
-number_owed bytes Fresh bounds frames = root_with (head_of bytes)
-number_owed bytes Walking bounds frames = next_number (entries_of bytes bounds) (reverse frames)
-number_owed bytes Ended bounds frames = None
-
--- the object is cached if the event that it gave is small
-abbrev pub IsKept : Option ℕ → Option (Result Event Error) → (tags : List ℕ) → Type 0
-IsKept None item tags = ⊤
-IsKept (Some number) item tags =
-    MatchOption item ⊤ (λ answer. IfOk answer
-    (λ event. is_small_event (event_of event) ≡ true → 0 < unmarked (get_or tags number 0)))
-
--- the same of an event that is told
-abbrev pub IsKeptTold : {A : Type 0} → Option ℕ → Option (Result A Error) → (told : PlainEvent)
-    → (tags : List ℕ) → Type 0
-IsKeptTold None item told tags = ⊤
-IsKeptTold (Some number) item told tags =
-    MatchOption item ⊤ (λ answer. IfOk answer
-    (λ _. is_small_event told ≡ true → 0 < unmarked (get_or tags number 0)))

@@ -8,7 +8,9 @@ use Rattle.plist_binread.specs.declared.lent.Lent.{Lent}
 use Rattle.plist_binread.specs.declared.lent.Lent.TheVariants as lent
 use Rattle.plist_binread.specs.declared.table.Bounds.{Bounds}
 use Rattle.plist_binread.specs.Container.{number_at}
-use Rattle.plist_binread.specs.Debt.{IsCollection, IsKeptTold, ReadsChild, Explains, single_in, children_in, path_of, owed_by}
+use Rattle.plist_binread.specs.Debt.{Explains, path_of, owed_by}
+use Rattle.plist_binread.specs.Turning.{IsKeptTold, ReadsChild}
+use Rattle.plist_binread.specs.Decoding.{IsCollection, single_in, children_in}
 use Rattle.plist_binread.specs.declared.walk.Frame.{Frame}
 use Rattle.plist_binread.specs.Object.{Object, object_in}
 use Rattle.plist_binread.specs.Packed.{is_small_event, unmarked}

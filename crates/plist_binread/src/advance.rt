@@ -3,7 +3,8 @@
 ghost use Rattle.std.specs.Prelude.{◌≡◌, ◌<◌, ◌≤◌, length, true, false, IfSome, OnOk};
 ghost use Rattle.plist_base.specs.Events.{EndCollection};
 ghost use Rattle.plist_base.specs.Sources.{ItemCountsIo};
-ghost use Rattle.plist_binread.specs.Debt.{IsKeptTold, closes, entries_of, next_number, weight};
+ghost use Rattle.plist_binread.specs.Debt.{entries_of, next_number, weight};
+ghost use Rattle.plist_binread.specs.Turning.{IsKeptTold, closes};
 ghost use Rattle.plist_binread.specs.Lent.{IsAsked, IsKeptNear, IsToldAs, IsToldEnd, PaysNextTold, PaysTold};
 ghost use Rattle.plist_binread.specs.Told.{event_in};
 ghost use Rattle.plist_binread.specs.Walking.{IsWalkOf, cached_in, objects_of, open_in, owed_in, weight_in};

@@ -7,7 +7,8 @@ ghost use Rattle.plist_base.specs.Events.{event_of};
 ghost use Rattle.plist_base.specs.Sources.{AnswersIo};
 ghost use Rattle.plist_binread.specs.Unfolding.{until_fault, items_of_file};
 ghost use Rattle.plist_binread.specs.Container.{head_of};
-ghost use Rattle.plist_binread.specs.Debt.{IsKept, IsOwed, places_of, root_with, steps};
+ghost use Rattle.plist_binread.specs.Debt.{IsOwed, places_of, steps};
+ghost use Rattle.plist_binread.specs.Turning.{IsKept, root_with};
 ghost use Rattle.plist_binread.specs.Failures.{ErrWithin};
 ghost use Rattle.plist_binread.specs.Walking.{IsEmpty, IsWalkOf, cached_in, objects_of, owed_in, weight_in};
 

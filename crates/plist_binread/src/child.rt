@@ -4,8 +4,8 @@ ghost use Rattle.std.specs.Prelude.{◌≡◌, ℕ, ◌-◌, ◌*◌, ◌<◌, �
 ghost use Rattle.plist_base.specs.Sources.{AnswersIo};
 ghost use Rattle.plist_binread.specs.Container.{numbers_of};
 ghost use Rattle.plist_binread.specs.Object.{Array, dictionary, length_in, meaning_counted, layout_of, object_behind, object_in};
-ghost use Rattle.plist_binread.specs.Places.{bytes_behind};
-ghost use Rattle.plist_binread.specs.Debt.{ReadsChild};
+ghost use Rattle.plist_binread.specs.inner.Places.{bytes_behind};
+ghost use Rattle.plist_binread.specs.Turning.{ReadsChild};
 ghost use Rattle.plist_binread.specs.Lent.{IsSlots, IsAsked, slot_of};
 ghost use Rattle.plist_binread.specs.Failures.{ErrWithin};
 

@@ -9,7 +9,9 @@ ghost use Rattle.plist_base.specs.Sources.{AnswersIo};
 ghost use Rattle.plist_binread.specs.Packed.{is_small_event, is_marked, unmarked};
 ghost use Rattle.plist_binread.specs.Object.{Object};
 ghost use Rattle.plist_binread.specs.Unfolding.{Entry, unfolding_of, until_fault};
-ghost use Rattle.plist_binread.specs.Debt.{IsDecodedAs, IsFound, IsKept, IsKnown, IsOpen, entries_of, Explains, Pays, owed_by, path_of, small_in, weight};
+ghost use Rattle.plist_binread.specs.Debt.{IsKnown, IsOpen, entries_of, Explains, Pays, owed_by, path_of, weight};
+ghost use Rattle.plist_binread.specs.Turning.{IsFound, IsKept};
+ghost use Rattle.plist_binread.specs.Decoding.{IsDecodedAs, small_in};
 ghost use Rattle.plist_binread.specs.Walking.{IsWalkOf, cached_in, objects_of, open_in, owed_entering, owed_in, weight_entering};
 ghost use Rattle.plist_binread.specs.Failures.{ErrWithin};
 

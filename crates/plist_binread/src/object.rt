@@ -4,8 +4,8 @@ ghost use Rattle.std.specs.Prelude.{◌≡◌, ◌+◌, ◌*◌, ◌<◌, ◌≤
 ghost use Rattle.plist_base.specs.Sources.{AnswersIo};
 ghost use Rattle.plist_binread.specs.Container.{numbers_of};
 ghost use Rattle.plist_binread.specs.Object.{Array, dictionary, layout_of, length_in, meaning_counted, object_behind, object_in};
-ghost use Rattle.plist_binread.specs.Places.{bytes_behind};
-ghost use Rattle.plist_binread.specs.Debt.{Decodes, small_in, small_decoded};
+ghost use Rattle.plist_binread.specs.inner.Places.{bytes_behind};
+ghost use Rattle.plist_binread.specs.Decoding.{Decodes, small_in, small_decoded};
 ghost use Rattle.plist_binread.specs.Failures.{ErrWithin};
 
 use crate::counter::DecodeCounter;

@@ -73,7 +73,7 @@ impl Table {
     ghost use Rattle.plist_base.specs.Sources.{AnswersIo};
     ghost use Rattle.plist_binread.specs.Failures.{ErrWithin};
     ghost use Rattle.plist_binread.specs.Container.{trailer_in, head_with, head_of};
-    ghost use Rattle.plist_binread.specs.Tables.{head_seen};
+    ghost use Rattle.plist_binread.specs.inner.Tables.{head_seen};
 
     /// Reads the table of a file.
     pub fn read<S: Source>(alloc: Global, source: &mut S) -> Result<Self, Error>

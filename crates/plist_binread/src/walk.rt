@@ -4,7 +4,8 @@ ghost use Rattle.std.specs.Prelude.{◌≡◌, ℕ, ◌^◌, ◌<◌, List, [], 
 ghost use Rattle.plist_base.specs.Outcomes.{OnlyMemory};
 ghost use Rattle.std.proofs.Props.{props};
 ghost use Rattle.plist_binread.specs.declared.walk.Turn.TheVariants.{Closed};
-ghost use Rattle.plist_binread.specs.Debt.{CanGiveBack, IsOpen, IsWithin, Lightens, Turns, closes, entries_of, given_back};
+ghost use Rattle.plist_binread.specs.Debt.{IsOpen, entries_of};
+ghost use Rattle.plist_binread.specs.Turning.{CanGiveBack, IsWithin, Lightens, Turns, closes, given_back};
 
 use crate::packed::unmark;
 use crate::table::Bounds;

@@ -1,5 +1,5 @@
 -- Each way through a call of a writer.
-use Rattle.std.proofs.Common.{◌≡◌, inl, inr, ℕ, Bool, true, false, List, [], ◌∷◌, ◌++◌, Option, Ok, Err, MatchBool, refl, sym, ap, ◌∙◌, subst, map}
+use Rattle.std.proofs.Common.{◌≡◌, inl, ℕ, Bool, true, false, List, [], ◌∷◌, ◌++◌, Option, Ok, Err, MatchBool, refl, sym, ap, ◌∙◌, subst, map}
 use Rattle.std.specs.declared.io.traits.Write.{Ghosts}
 use Rattle.plist_base.specs.Bracketing.{unhinted, AreAlike, CanContinue}
 use Rattle.plist_base.specs.Events.{PlainEvent}
@@ -8,10 +8,10 @@ use Rattle.plist_base.specs.Trees.{Tree}
 use Rattle.plist_base.specs.Writing.{Answer, MatchKind}
 use Rattle.plist_base.proofs.Grammar.{alike_last}
 use Rattle.plist_binwrite.specs.SendingAs.{Sends, FailsWith}
-use Rattle.plist_binwrite.specs.Pendings.{TellsWhole, refusal_of}
+use Rattle.plist_binwrite.specs.Pendings.{refusal_of}
 use Rattle.plist_binwrite.specs.declared.shared.Sharing.{Ghosts as SharingGhosts}
 use Rattle.plist_binwrite.specs.declared.writer.FileWriter.{FileWriter}
-use Rattle.plist_binwrite.specs.Taking.{Takes, TakesEvent, held_by, failed_of, inner_of}
+use Rattle.plist_binwrite.specs.FileWriter.{Takes, TakesEvent, held_by, failed_of, inner_of}
 use Rattle.plist_binwrite.proofs.Sends.{sends_alike}
 
 still : (b : Bool) (x y : Type 0) → b ≡ false → y → MatchBool b x y
@@ -21,10 +21,6 @@ still false x y e h = h
 down : (b : Bool) (x y : Type 0) → b ≡ true → x → MatchBool b x y
 down true x y e h = h
 down false x y e h = absurd (cc)
-
-told_more : (b : Bool) (x y : Type 0) → b ≡ false → MatchBool b x y → y
-told_more true x y e h = absurd (cc)
-told_more false x y e h = h
 
 -- the events held with one more are those handed in, but for a length
 last_alike : (held events : List PlainEvent) (event : PlainEvent)
@@ -60,13 +56,6 @@ module _ {W : Type 0} (IsFile : Tree → List ℕ → Type 0) (size : Tree → �
         still (failed_of before) _ _ h (subst (λ f. DoesEvent (Err f)) (sym is)
         (refl, (none, refl, same)))
 
-    pub takes_memory : (fault : Fault) → failed_of before ≡ false → CanContinue (held_by before) event
-        → fault ≡ fault_nowhere OutOfMemory → failed_of after ≡ true → inner_of after ≡ inner_of before
-        → Does (Err fault)
-    takes_memory fault h can is lost same =
-        still (failed_of before) _ _ h (subst (λ f. DoesEvent (Err f)) (sym is)
-        (refl, (can, lost, same)))
-
     pub takes_unsent : (events : List PlainEvent) (fault : Fault) → failed_of before ≡ false
         → CanContinue (held_by before) event → events ≡ held_by before ++ unhinted event ∷ []
         → failed_of after ≡ true
@@ -89,10 +78,3 @@ module _ {W : Type 0} (IsFile : Tree → List ℕ → Type 0) (size : Tree → �
         let s = sends_alike IsFile size contents events (held_by before ++ event ∷ []) (Ok tt)
         (inner_of before) (inner_of after) (last_alike (held_by before) events event are) sends in
         still (failed_of before) _ _ h (can, up, inl (s, none))
-
-    pub takes_more : (told : Bool) → failed_of before ≡ false → CanContinue (held_by before) event
-        → TellsWhole told (held_by before ++ event ∷ []) → told ≡ false
-        → failed_of after ≡ false → held_by after ≡ held_by before ++ unhinted event ∷ []
-        → inner_of after ≡ inner_of before → Does (Ok tt)
-    takes_more told h can tells not up holds same =
-        still (failed_of before) _ _ h (can, up, inr (told_more told _ _ not tells, holds, same))

@@ -10,7 +10,7 @@ use Rattle.plist_binread.specs.Object.{Object}
 use Rattle.plist_binwrite.specs.Classes.{AreClasses}
 use Rattle.plist_binwrite.specs.Held.{is_stop, event_at, num_of, AllNumbered, Describes}
 use Rattle.plist_binwrite.specs.Numberings.{refs, pairs, obj_of, IsNumbering}
-use Rattle.plist_binwrite.specs.PlansBy.{IsPlan}
+use Rattle.plist_binwrite.specs.inner.PlansBy.{IsPlan}
 use Rattle.plist_binwrite.specs.Standing.{size, Sits, SitsItems, SitsPairs}
 use Rattle.plist_binwrite.proofs.Sitting.{sits_items, sits_pairs, sits_item, sits_next, sits_key, sits_value, sits_next_pair}
 use Rattle.plist_binwrite.proofs.Skipping.{begins, sits_within, size_positive}

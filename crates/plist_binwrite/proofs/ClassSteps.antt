@@ -7,7 +7,7 @@ use Rattle.plist_base.specs.Events.{Single, PlainEvent}
 use Rattle.plist_base.specs.Trees.{Scalar}
 use Rattle.plist_base.specs.Bracketing.{unhinted}
 use Rattle.plist_binwrite.specs.Held.{event_at, num_of}
-use Rattle.plist_binwrite.specs.Scalars.{HaveClasses, is_leaf}
+use Rattle.plist_binwrite.specs.inner.Scalars.{HaveClasses, is_leaf}
 use Rattle.plist_binwrite.proofs.Owners.{get_below, not_leaf}
 use Rattle.plist_binwrite.proofs.Placed.{scalar_is}
 

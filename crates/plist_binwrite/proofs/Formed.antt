@@ -8,7 +8,7 @@ use Rattle.plist_binwrite.specs.Held.{IfScalar, kind_of, event_at, item_places, 
 use Rattle.plist_base.specs.Bracketing.{unhinted, shape_of_items, shape_of_pairs}
 use Rattle.plist_binwrite.specs.Standing.{Sits, SitsItems, SitsPairs}
 use Rattle.plist_binwrite.specs.Numberings.{obj_of}
-use Rattle.plist_binwrite.proofs.Counting.{twice}
+use Rattle.plist_binwrite.proofs.SizePasses.{twice}
 use Rattle.plist_binwrite.proofs.Placed.{no_kind, scalar_is, refs_are, keys_are, values_are}
 use Rattle.plist_binwrite.proofs.Sitting.{sits_items, sits_pairs}
 use Rattle.plist_binwrite.proofs.Skipping.{first_event, as_items, pairs_as_items}

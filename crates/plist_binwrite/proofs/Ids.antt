@@ -5,7 +5,7 @@ use Rattle.std.proofs.lemmas.List.{get_or-set_same, get_or-set_other, length-set
 use Rattle.std.proofs.Math.Seq.{get_or-append_seam}
 use Rattle.std.proofs.Math.ListN.{get_or-append}
 use Rattle.plist_binwrite.specs.Held.{AllBelow, num_of}
-use Rattle.plist_binwrite.specs.PlansBy.{HaveIds}
+use Rattle.plist_binwrite.specs.inner.PlansBy.{HaveIds}
 
 module _ (cs ids fs : List ℕ) (have : HaveIds cs ids fs) (p : ℕ) (lt : p < length cs) where
   class : ℕ

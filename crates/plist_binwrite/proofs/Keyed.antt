@@ -3,7 +3,7 @@ use Rattle.std.proofs.Common.{◌≡◌, ℕ, zero, suc, ◌+◌, ◌<◌, ◌�
 use Rattle.std.specs.Prelude.{slice_get, option_map}
 use Rattle.std.specs.List.{AllByRecursion, IsDistinct}
 use Rattle.std.proofs.lemmas.Option.{slice_get-map}
-use Rattle.plist_binwrite.specs.Scalars.{AreApart}
+use Rattle.plist_binwrite.specs.inner.Scalars.{AreApart}
 
 module _ {T P : Type 0} (same : T → T → Bool) (view : T → P) where
   -- the key at a place

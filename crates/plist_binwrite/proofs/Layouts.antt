@@ -8,7 +8,7 @@ use Rattle.plist_binread.specs.Container.{magic}
 use Rattle.plist_binread.specs.Object.{Object}
 use Rattle.plist_binwrite.specs.Forms.{form, IsWritable}
 use Rattle.plist_binwrite.specs.Written.{bodies, Laid}
-use Rattle.plist_binwrite.specs.Laying.{IsOrder, KeepsMarks, IsLaid}
+use Rattle.plist_binwrite.specs.inner.Laying.{IsOrder, KeepsMarks, IsLaid}
 
 pub length-magic : (xs : List ℕ) → length (magic ++ xs) ≡ 8 + length xs
 length-magic xs = length-append magic xs

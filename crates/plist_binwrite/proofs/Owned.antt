@@ -6,13 +6,11 @@ use Rattle.std.proofs.lemmas.Bool.Decides.{eqb_tells}
 use Rattle.std.proofs.lemmas.List.{map-append}
 use Rattle.plist_base.specs.Bracketing.{shape}
 use Rattle.plist_base.specs.Events.{PlainEvent}
-use Rattle.plist_base.specs.Trees as trees
 use Rattle.plist_base.specs.Trees.{Scalar, Tree, Leaf, Array, Dictionary, Trees, NoTrees, TreeAnd, Members, NoMembers, MemberAnd}
-use Rattle.plist_binread.specs.Object as obj
 use Rattle.plist_binwrite.specs.Classes.{met, met_in_items, met_in_pairs, same_class, kept, count_by, objects_by, size_by}
 use Rattle.plist_binwrite.specs.Counts.{scalar_eq, collections_in, scalars_in, object_count}
 use Rattle.plist_binwrite.specs.Numberings.{trace, trace_items, trace_pairs}
-use Rattle.plist_binwrite.specs.Scalars.{alone, AreOwners}
+use Rattle.plist_binwrite.specs.inner.Scalars.{alone, AreOwners}
 use Rattle.plist_binwrite.specs.Sizes.{total, object_size, collections_size, scalars_size, size_with, file_size}
 use Rattle.plist_binwrite.specs.Standing.{size, Sits}
 use Rattle.plist_binwrite.specs.Walks.{collections}

@@ -13,9 +13,9 @@ use Rattle.plist_binwrite.specs.Counts.{collections_in, collections_in_items, co
 use Rattle.plist_base.specs.declared.event.Event.{Event}
 use Rattle.plist_binwrite.specs.Held.{plain_event, plain_events, num_of, AllBelow}
 use Rattle.plist_binwrite.specs.Numberings.{obj_of}
-use Rattle.plist_binwrite.specs.Scalars.{Owner, shared, alone, own, owner, AreOwners}
+use Rattle.plist_binwrite.specs.inner.Scalars.{Owner, shared, alone, own, owner, AreOwners}
 use Rattle.plist_binwrite.specs.Standing.{size, Sits}
-use Rattle.plist_binwrite.proofs.Counted.{owner_eq, owners_tell}
+use Rattle.plist_binwrite.proofs.SameScalars.{owner_eq, owners_tell}
 use Rattle.plist_binwrite.proofs.Inside.{one_tree}
 use Rattle.plist_binwrite.proofs.Kept.{Stands}
 use Rattle.plist_binwrite.proofs.Skipping.{first_event, sits_within, size_positive}

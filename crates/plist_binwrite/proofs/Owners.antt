@@ -5,7 +5,7 @@ use Rattle.plist_base.specs.Events.{Single, PlainEvent, StartArray, StartDiction
 use Rattle.plist_base.specs.Trees.{Scalar}
 use Rattle.plist_binwrite.specs.Held.{event_at, kind_of}
 use Rattle.plist_binwrite.specs.declared.kinds.Kind.TheVariants as kind
-use Rattle.plist_binwrite.specs.Scalars.{owner, own, shared, alone, AreApart, HaveClasses, AreOwners, is_leaf}
+use Rattle.plist_binwrite.specs.inner.Scalars.{owner, own, shared, alone, AreApart, HaveClasses, AreOwners, is_leaf}
 
 pub get_below : {K : Type 0} (keys : List K) (i : ℕ) (k : K) → slice_get keys i ≡ Some k
     → i < length keys

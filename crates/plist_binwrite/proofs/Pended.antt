@@ -11,7 +11,7 @@ use Rattle.plist_binwrite.specs.declared.wants.Want as code_want
 use Rattle.plist_binwrite.specs.declared.wants.Change as code_change
 use Rattle.plist_binwrite.specs.Pendings.{events_held, TellsWhole}
 use Rattle.plist_binwrite.specs.Held.{plain_events}
-use Rattle.plist_binwrite.specs.Stacks.{is_nothing, change_seen, stack_of, with_root, change_on_top, Puts, is_stack, wanted_now}
+use Rattle.plist_binwrite.specs.inner.Stacks.{is_nothing, change_seen, stack_of, with_root, change_on_top, Puts, is_stack, wanted_now}
 use Rattle.plist_binwrite.proofs.Unhinted.{plain_is}
 use Rattle.plist_binwrite.proofs.Stacking.{stack_is, wanted_refused, wanted_taken}
 

@@ -9,14 +9,14 @@ use Rattle.plist_binread.specs.Object.{Object}
 use Rattle.plist_binwrite.specs.declared.kinds.Kind.TheVariants as kind
 use Rattle.plist_binwrite.specs.Forms.{form, length_form, IsWritable}
 use Rattle.plist_binwrite.specs.Held.{kind_of, event_at, item_places, value_places, values_in, num_of, IsBracketed, Describes}
-use Rattle.plist_binwrite.specs.PlansBy.{IsPlan}
+use Rattle.plist_binwrite.specs.inner.PlansBy.{IsPlan}
 use Rattle.plist_base.specs.Events.{PlainEvent, StartDictionary, EndCollection, Single}
 use Rattle.plist_base.specs.Bracketing.{shape_of_pairs}
 use Rattle.plist_binwrite.specs.Standing.{size, Sits, SitsItems}
 use Rattle.plist_binwrite.specs.Numberings.{obj_of}
 use Rattle.plist_binwrite.specs.Sizes.{TellsSize, object_size}
 use Rattle.plist_binwrite.specs.Written.{bodies, Laid}
-use Rattle.plist_binwrite.proofs.Counting.{twice}
+use Rattle.plist_binwrite.proofs.SizePasses.{twice}
 use Rattle.plist_binwrite.proofs.Layouts.{laid_snoc}
 use Rattle.plist_binwrite.proofs.Placed.{no_kind, sits_at}
 use Rattle.plist_binwrite.proofs.Sitting.{sits_items, sits_pairs}

@@ -9,7 +9,7 @@ use Rattle.plist_base.specs.Writing.{Answer}
 use Rattle.plist_binwrite.specs.Classes.{IsFileBy, SendsBy, size_by}
 use Rattle.plist_binwrite.specs.Files.{IsFileOf}
 use Rattle.plist_binwrite.specs.Held.{plain_events}
-use Rattle.plist_binwrite.specs.Scalars.{AreOwners}
+use Rattle.plist_binwrite.specs.inner.Scalars.{AreOwners}
 use Rattle.plist_binwrite.specs.Sending.{Sends}
 use Rattle.plist_binwrite.specs.Sizes.{file_size}
 use Rattle.plist_binwrite.proofs.Least.{least}

@@ -13,14 +13,14 @@ use Rattle.plist_binread.specs.Object.{Object}
 use Rattle.plist_binwrite.specs.declared.completion.Ready.{Ready}
 use Rattle.plist_binwrite.specs.declared.plan.Plan.{Plan}
 use Rattle.plist_binwrite.specs.Classes.{IsFileBy, Fits, SendsBy, size_by}
-use Rattle.plist_binwrite.specs.Ending.{numbers_in, file_of, IsReady, IsReadyBy, SendsReady}
+use Rattle.plist_binwrite.specs.inner.Ending.{numbers_in, file_of, IsReady, IsReadyBy, SendsReady}
 use Rattle.plist_base.specs.Fronts.{AppendsFront}
 use Rattle.plist_binwrite.specs.Outlets.{IsOut}
 use Rattle.plist_binwrite.specs.Held.{plain_events, AllBelow, Describes}
-use Rattle.plist_binwrite.specs.Laying.{IsOrder, laid_out, closed}
+use Rattle.plist_binwrite.specs.inner.Laying.{IsOrder, laid_out, closed}
 use Rattle.plist_base.specs.Events.{PlainEvent}
 use Rattle.plist_base.specs.Trees.{Tree}
-use Rattle.plist_binwrite.specs.Planning.{IsPlanned, GoesBy, count_of, numbers_of, firsts_of}
+use Rattle.plist_binwrite.specs.inner.Planning.{IsPlanned, GoesBy, count_of, numbers_of, firsts_of}
 use Rattle.plist_binwrite.specs.SendingAs.{IsFileOfEvents}
 use Rattle.plist_binwrite.specs.Written.{Laid, reference_width, bodies, ending}
 use Rattle.plist_binwrite.proofs.Finished.{finish, some_objects}

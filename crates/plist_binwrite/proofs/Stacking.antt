@@ -8,7 +8,7 @@ use Rattle.plist_base.proofs.Grammar.{steps_snoc}
 use Rattle.plist_binwrite.specs.declared.wants.Want as code_want
 use Rattle.plist_binwrite.specs.declared.wants.Change as code_change
 use Rattle.plist_binwrite.specs.declared.wants.Change.TheVariants as change
-use Rattle.plist_binwrite.specs.Stacks.{is_nothing, want_seen, change_seen, stack_of, wanted_now, with_root, change_on_top, Puts, want_eq, stack_eq, is_stack}
+use Rattle.plist_binwrite.specs.inner.Stacks.{is_nothing, want_seen, change_seen, stack_of, wanted_now, with_root, change_on_top, Puts, want_eq, stack_eq, is_stack}
 
 want_same : (a b : Want) → want_eq a b ≡ true → a ≡ b
 want_same OneValue OneValue h = refl

@@ -13,7 +13,7 @@ use Rattle.plist_binwrite.specs.Standing.{Sits}
 use Rattle.plist_binwrite.specs.Forms.{big_endian, least_width, form, table_form, trailer_form, AllFit}
 use Rattle.plist_binwrite.specs.Counts.{HasObjects}
 use Rattle.plist_binwrite.specs.Written.{reference_width, offset_width, bodies, ending, IsWrittenAs}
-use Rattle.plist_binwrite.specs.Laying.{IsLaid, closed}
+use Rattle.plist_binwrite.specs.inner.Laying.{IsLaid, closed}
 use Rattle.plist_binwrite.specs.Numberings.{trace, IsNumbering}
 use Rattle.plist_binwrite.specs.Walks.{Shown, all_items, collections, walk}
 use Rattle.plist_binwrite.proofs.Layouts.{length-magic, found_place, object_there}

@@ -7,7 +7,7 @@ ghost use Rattle.plist_base.specs.Faults.{fault_of};
 ghost use Rattle.plist_base.specs.Writing.{answer_of};
 ghost use Rattle.plist_binread.specs.Object.{Object};
 ghost use Rattle.plist_binwrite.specs.Classes.{AreClasses, IsUnplanned, SendsBy};
-ghost use Rattle.plist_binwrite.specs.Ending.{IsReady, IsReadyBy, SendsReady, file_of, numbers_in};
+ghost use Rattle.plist_binwrite.specs.inner.Ending.{IsReady, IsReadyBy, SendsReady, file_of, numbers_in};
 ghost use Rattle.plist_binwrite.specs.Held.{plain_events, num_of, AllBelow, IsBracketed, IsSkips, Describes};
 ghost use Rattle.plist_binwrite.specs.Outlets.{Puts};
 ghost use Rattle.plist_binwrite.specs.Sending.{Sends};

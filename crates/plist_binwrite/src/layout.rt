@@ -4,8 +4,8 @@ ghost use Rattle.std.specs.Prelude.{◌≡◌, ◌≢◌, ◌<◌, ℕ, length, 
 ghost use Rattle.plist_base.specs.Outcomes.{OnlyMemory};
 ghost use Rattle.std.specs.List.{list_any};
 ghost use Rattle.plist_binwrite.specs.Held.{plain_events, is_stop, event_at, num_of};
-ghost use Rattle.plist_binwrite.specs.Laying.{IsOrder, KeepsMarks};
-ghost use Rattle.plist_binwrite.specs.Planning.{IsPlanned, count_of, numbers_of};
+ghost use Rattle.plist_binwrite.specs.inner.Laying.{IsOrder, KeepsMarks};
+ghost use Rattle.plist_binwrite.specs.inner.Planning.{IsPlanned, count_of, numbers_of};
 
 use crate::kinds::{Kind, has_item, kind_at, push_place};
 use crate::plan::Plan;

@@ -5,7 +5,7 @@ ghost use Rattle.plist_base.specs.Outcomes.{OnlyMemory};
 ghost use Rattle.plist_base.specs.Trees.{Tree};
 ghost use Rattle.plist_base.specs.Bracketing.{shape};
 ghost use Rattle.plist_binwrite.specs.Held.{plain_events, is_stop, event_at, IsSkips, AllBelow, num_of, IsNumbered, Keeps, AllNumbered};
-ghost use Rattle.plist_binwrite.specs.PlansBy.{IsPlan, HaveIds};
+ghost use Rattle.plist_binwrite.specs.inner.PlansBy.{IsPlan, HaveIds};
 
 use crate::children::children;
 use crate::kinds::{has_item, push_place};

@@ -9,7 +9,7 @@ ghost use Rattle.plist_base.specs.Trees.{Tree, Trees, Members, Array, Dictionary
 ghost use Rattle.plist_binwrite.specs.Standing.{Sits, SitsItems, SitsPairs};
 ghost use Rattle.plist_binwrite.specs.Numberings.{obj_of};
 ghost use Rattle.plist_binwrite.specs.Outlets.{Puts};
-ghost use Rattle.plist_binwrite.specs.Planning.{IsPlanned, count_of, numbers_of};
+ghost use Rattle.plist_binwrite.specs.inner.Planning.{IsPlanned, count_of, numbers_of};
 ghost use Rattle.plist_binwrite.specs.Written.{bodies};
 
 use crate::forms::{put_length, put_number, put_scalar};

@@ -4,7 +4,7 @@ ghost use Rattle.std.specs.Prelude.{◌≡◌, map, true};
 ghost use Rattle.std.proofs.Props.{props};
 ghost use Rattle.plist_base.specs.Events.{event_of};
 ghost use Rattle.plist_base.specs.inner.Wants.{wanted_after};
-ghost use Rattle.plist_binwrite.specs.Stacks.{is_stack, wanted_now};
+ghost use Rattle.plist_binwrite.specs.inner.Stacks.{is_stack, wanted_now};
 
 use crate::wants::{Change, Want, change_on, put};
 use plist_base::{Error, ErrorKind, Event, EventKind, OwnedEvent};
@@ -28,7 +28,7 @@ impl Pending {
     ghost use Rattle.plist_base.specs.Outcomes.{OnlyMemory};
     ghost use Rattle.plist_binwrite.specs.Pendings.{events_held, is_whole, Takes, IsRefused, refusal_of};
     ghost use Rattle.plist_binwrite.specs.Held.{plain_events};
-    ghost use Rattle.plist_binwrite.specs.Stacks.{change_seen, stack_of, change_on_top};
+    ghost use Rattle.plist_binwrite.specs.inner.Stacks.{change_seen, stack_of, change_on_top};
 
     /// No events. It takes no memory.
     pub fn new(alloc: Global) -> Pending

@@ -4,7 +4,7 @@ ghost use Rattle.std.specs.Prelude.{◌≡◌, ◌<◌, length, IfOk};
 ghost use Rattle.plist_base.specs.Outcomes.{OnlyMemory};
 ghost use Rattle.plist_binwrite.specs.Classes.{AreClasses};
 ghost use Rattle.plist_binwrite.specs.Held.{plain_events, num_of, AllBelow, IsBracketed, IsSkips};
-ghost use Rattle.plist_binwrite.specs.Planning.{IsPlanned, GoesBy, skips_in, numbers_of, firsts_of};
+ghost use Rattle.plist_binwrite.specs.inner.Planning.{IsPlanned, GoesBy, skips_in, numbers_of, firsts_of};
 
 use crate::numbering::{Numbering, number_by_class};
 use plist_base::{Error, Event};

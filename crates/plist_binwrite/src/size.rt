@@ -11,9 +11,9 @@ ghost use Rattle.plist_binwrite.specs.Classes.{Fits, IsOversized};
 ghost use Rattle.plist_binwrite.specs.Forms.{IsWritable};
 ghost use Rattle.plist_binwrite.specs.Standing.{Sits, SitsItems};
 ghost use Rattle.plist_binwrite.specs.Held.{plain_events, num_of, IsSkips, Describes};
-ghost use Rattle.plist_binwrite.specs.Laying.{IsOrder, laid_out};
+ghost use Rattle.plist_binwrite.specs.inner.Laying.{IsOrder, laid_out};
 ghost use Rattle.plist_binwrite.specs.Numberings.{obj_of};
-ghost use Rattle.plist_binwrite.specs.Planning.{IsPlanned, GoesBy, count_of, numbers_of};
+ghost use Rattle.plist_binwrite.specs.inner.Planning.{IsPlanned, GoesBy, count_of, numbers_of};
 ghost use Rattle.plist_binwrite.specs.Sizes.{TellsSize, object_size, size_with};
 ghost use Rattle.plist_binwrite.specs.Written.{Laid, reference_width};
 

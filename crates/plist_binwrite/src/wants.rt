@@ -2,7 +2,7 @@
 
 ghost use Rattle.std.specs.Prelude.{◌≡◌, ◌<◌, vec_len, vec_capacity};
 ghost use Rattle.plist_base.specs.Events.{event_of};
-ghost use Rattle.plist_binwrite.specs.Stacks.{change_seen, want_seen, change_on_top, Puts, stack_of};
+ghost use Rattle.plist_binwrite.specs.inner.Stacks.{change_seen, want_seen, change_on_top, Puts, stack_of};
 ghost use Rattle.plist_base.specs.inner.Wants.{change_of};
 
 use plist_base::Event;

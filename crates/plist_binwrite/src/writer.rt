@@ -39,7 +39,7 @@ pub struct FileWriter<W: Write, S: Sharing> {
 
 impl<W: Write, S: Sharing> FileWriter<W, S> {
     ghost use Rattle.std.specs.Prelude.{◌≡◌, [], false};
-    ghost use Rattle.plist_binwrite.specs.Taking.{held_by, failed_of, inner_of};
+    ghost use Rattle.plist_binwrite.specs.FileWriter.{held_by, failed_of, inner_of};
 
     /// A writer that holds no events. It takes no memory, and sends nothing.
     pub fn new(alloc: Global, writer: W) -> Self
@@ -68,8 +68,8 @@ impl<W: Write, S: Sharing> FileWriter<W, S> {
 impl<W: Write, S: Sharing> Sealed for FileWriter<W, S> {}
 
 impl<W: Write, S: Sharing> Writer for FileWriter<W, S> {
-    ghost use Rattle.plist_binwrite.specs.Taking.{Takes, held_by, failed_of};
-    ghost use Rattle.plist_binwrite.specs.Laws.{takes_law, takes_failed};
+    ghost use Rattle.plist_binwrite.specs.FileWriter.{Takes, held_by, failed_of};
+    ghost use Rattle.plist_binwrite.specs.inner.Laws.{takes_law, takes_failed};
 
     ghost held = { held_by };
 

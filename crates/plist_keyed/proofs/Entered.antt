@@ -9,7 +9,7 @@ use Rattle.plist_base.specs.Bracketing.{bracketing}
 use Rattle.plist_base.specs.Events.{PlainEvent}
 use Rattle.plist.specs.declared.stream.events.Events.{Events}
 use Rattle.plist.specs.declared.value.Value.{Value}
-use Rattle.plist.specs.Remaining.{remaining_events}
+use Rattle.plist.specs.Events.{remaining_events}
 use Rattle.plist.specs.Views.{tree_of}
 use Rattle.plist_keyed.specs.Archives.{UidOutOfRange, RecursiveUid}
 use Rattle.plist_keyed.specs.inner.Walks.{Step, told, steps_of, steps_found, steps_at}

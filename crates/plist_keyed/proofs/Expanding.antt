@@ -14,7 +14,7 @@ use Rattle.plist_base.specs.Bracketing.{bracketing, bracketing_of_items, bracket
 use Rattle.plist_base.proofs.Grammar.{alike_with}
 use Rattle.plist_keyed.specs.Archives.{ArchiveFault, UidOutOfRange, RecursiveUid, and_then, replaced, replaced_items, replaced_pairs, number_of_uid, tree_found, resolved}
 use Rattle.plist_keyed.specs.inner.Walks.{Step, told, items_of, steps_of_event, steps_of, steps_found, steps_at}
-use Rattle.plist.specs.Carried.{alike-behind}
+use Rattle.plist.specs.inner.Carried.{alike-behind}
 
 pub items_of-append : (a b : List Step) → items_of (a ++ b) ≡ items_of a ++ items_of b
 items_of-append [] b = refl

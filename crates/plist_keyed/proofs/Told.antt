@@ -8,10 +8,10 @@ use Rattle.plist_base.specs.Trees.{Tree}
 use Rattle.plist_base.specs.Bracketing.{bracketing, unhinted, AreAlike, CanContinue}
 use Rattle.plist.specs.Building.{Unfinished, NotBegun, IsNested, events_so_far, refusal_of}
 use Rattle.plist.specs.Collecting.{IsRefusal}
-use Rattle.plist.specs.Following.{refused-ends}
+use Rattle.plist.specs.inner.Following.{refused-ends}
 use Rattle.plist.specs.Inputs.{Decides, IsReadFrom, StopsAt}
 use Rattle.plist.specs.LastWins.{last_wins}
-use Rattle.plist.specs.OneTree.{one_tree}
+use Rattle.plist.specs.inner.OneTree.{one_tree}
 use Rattle.plist_keyed.specs.Archives.{ArchiveFault, UidOutOfRange, RecursiveUid}
 use Rattle.plist_keyed.specs.Errors.{MatchError, IsFaultOf, error_by, error_told}
 use Rattle.plist_keyed.specs.inner.Walks.{told}

@@ -12,7 +12,7 @@ use Rattle.plist_base.specs.Faults.{Fault, MatchFault}
 use Rattle.plist_base.proofs.Refusals.{MatchFault-weaker}
 use Rattle.plist.specs.declared.stream.events.Events.{Events}
 use Rattle.plist.specs.declared.value.Value.{Value}
-use Rattle.plist.specs.Remaining.{remaining_events}
+use Rattle.plist.specs.Events.{remaining_events}
 use Rattle.plist.specs.Views.{tree_of}
 use Rattle.plist_keyed.specs.declared.walk.Walk.{Walk}
 use Rattle.plist_keyed.specs.Archives.{UidOutOfRange, RecursiveUid}

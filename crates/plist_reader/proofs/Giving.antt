@@ -17,7 +17,7 @@ use Rattle.plist_base.proofs.Refusals.{MatchFault-weaker, MatchFault-all}
 use Rattle.plist_binread.specs.declared.reader.BinaryReader.{BinaryReader}
 use Rattle.plist_binread.specs.declared.counter.Uncounted.{Uncounted}
 use Rattle.plist_binread.specs.contracts.counter.UncountedDecodeCounter.TheImpl.{ghosts}
-use Rattle.plist_binread.specs.Coming as binary
+use Rattle.plist_binread.specs.BinaryReader as binary
 use Rattle.plist_binread.specs.Failures.{HasPlace, MatchGiven, ItemGivenWithin}
 use Rattle.plist_binread.specs.Debt.{IsOwed, WantsMemory}
 use Rattle.plist_binread.specs.Unfolding.{items_of_file}

@@ -7,7 +7,7 @@ use Rattle.plist_base.specs.declared.source.Source.{Ghosts}
 use Rattle.plist_base.specs.Faults.{MatchFault, XmlUnsupported, kind_of, error_kind_of, fault_of, offset_of, fault_at}
 use Rattle.plist_base.specs.Events.{Item, event_of}
 use Rattle.plist_base.specs.Sources.{ItemCountsIo}
-use Rattle.plist_binread.specs.Coming as binary
+use Rattle.plist_binread.specs.BinaryReader as binary
 use Rattle.plist_binread.specs.Failures.{HasPlace}
 use Rattle.plist_binread.specs.Debt.{IsOwed, steps}
 use Rattle.plist_binread.specs.Unfolding.{items_of_file}

@@ -4,7 +4,7 @@ use Rattle.std.specs.Str.{bytes_eq}
 use Rattle.std.proofs.lemmas.Slice.Eq.{bytes_eq-Decides}
 use mathlib.Core.Bool.{beq}
 use Rattle.plist_share.specs.declared.classes.Collection.{Collection}
-use Rattle.plist_share.specs.Keys.{Key, key_of}
+use Rattle.plist_share.specs.inner.Keys.{Key, key_of}
 
 -- the derived test
 abbrev pub same : Collection → Collection → Bool

@@ -20,8 +20,8 @@ use Rattle.plist_binwrite.proofs.Skipping.{first_event, sits_within, size_positi
 use Rattle.plist_binwrite.specs.Classes.{AreClasses}
 use Rattle.plist_binwrite.proofs.ClassObjects.{sound, cons_is}
 use Rattle.plist_share.proofs.Classed.{complete}
-use Rattle.plist_binwrite.specs.Scalars.{AreOwners, AreApart, owner, own, shared}
-use Rattle.plist_share.specs.Keys.{Key, IsIndexed, IsClass, HaveClasses, Extends, TellTrees}
+use Rattle.plist_binwrite.specs.inner.Scalars.{AreOwners, AreApart, owner, own, shared}
+use Rattle.plist_share.specs.inner.Keys.{Key, IsIndexed, IsClass, HaveClasses, Extends, TellTrees}
 use Rattle.plist_binwrite.proofs.Placed.{no_kind}
 
 some_is : (a b : Key) → Some a ≡ Some b → a ≡ b

@@ -6,4 +6,4 @@ pub mod Alike
 pub mod Found
 pub mod Telling
 pub mod Shares
-pub mod Sent
+pub mod SharedFile

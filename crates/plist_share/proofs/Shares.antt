@@ -12,7 +12,7 @@ use Rattle.plist_binwrite.specs.Written.{reference_width}
 use Rattle.plist_binwrite.proofs.Kept.{Stands, met_stand}
 use Rattle.plist_binwrite.proofs.Uniques.{unique_seen}
 use Rattle.plist_share.specs.Distinct.{tree_eq, subtrees, subtrees_of_items, subtrees_of_pairs, distinct_subtrees}
-use Rattle.plist_share.specs.Keys.{TellTrees}
+use Rattle.plist_share.specs.inner.Keys.{TellTrees}
 use Rattle.plist_share.specs.SharedFiles.{IsSharedFileOf}
 use Rattle.plist_share.specs.SharedSizes.{shared_objects_size, shared_file_size}
 use Rattle.plist_share.proofs.Least.{tree_same, least}

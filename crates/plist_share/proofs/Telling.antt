@@ -5,7 +5,7 @@ use Rattle.std.proofs.lemmas.Bool.{cases_Bool, both_ways as never_both}
 use Rattle.std.proofs.lemmas.Slice.Eq.{bytes_eq-Decides}
 use Rattle.plist_base.specs.Trees.{Tree, Leaf, Array, Dictionary, Trees, NoTrees, TreeAnd, Members, NoMembers, MemberAnd}
 use Rattle.plist_binwrite.specs.Counts.{scalar_eq}
-use Rattle.plist_binwrite.proofs.Counted.{scalars_tell}
+use Rattle.plist_binwrite.proofs.SameScalars.{scalars_tell}
 use Rattle.plist_share.specs.Distinct.{tree_eq, trees_eq, members_eq}
 use Rattle.plist_share.proofs.Least.{tree_same}
 use Rattle.plist_share.proofs.Alike.{parts}

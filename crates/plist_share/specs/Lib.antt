@@ -2,5 +2,5 @@ pub mod Distinct
 pub mod SharedSizes
 pub mod SharedFiles
 pub mod Examples
-pub mod Keys
 pub mod Sharing
+pub mod inner

@@ -6,9 +6,9 @@ ghost use Rattle.plist_base.specs.Faults.{OutOfMemory};
 ghost use Rattle.plist_base.specs.Trees.{Tree};
 ghost use Rattle.plist_binwrite.specs.Classes.{AreClasses};
 ghost use Rattle.plist_binwrite.specs.Held.{plain_events, IsSkips, AllBelow, keys_in, values_in, num_of};
-ghost use Rattle.plist_binwrite.specs.Scalars.{AreApart};
+ghost use Rattle.plist_binwrite.specs.inner.Scalars.{AreApart};
 ghost use Rattle.plist_binwrite.specs.Standing.{Sits};
-ghost use Rattle.plist_share.specs.Keys.{HaveClasses, TellTrees, IsIndexed, Extends, key_of, keys_seen};
+ghost use Rattle.plist_share.specs.inner.Keys.{HaveClasses, TellTrees, IsIndexed, Extends, key_of, keys_seen};
 
 use indexmap::IndexSet;
 use plist_base::{Error, ErrorKind, Event};

@@ -1,5 +1,5 @@
 pub mod Dates
-pub mod Sent
+pub mod HeldBack
 pub mod Steps
 pub mod Plain
 pub mod ValueLines

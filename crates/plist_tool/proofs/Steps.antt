@@ -5,12 +5,12 @@ use Rattle.plist_base.specs.declared.error.Error.{Error}
 use Rattle.plist_base.specs.Events.{PlainEvent, Item}
 use Rattle.plist_base.specs.Faults.{kind_of, error_kind_of}
 use Rattle.plist_base.proofs.Refusals.{MatchFault-weaker}
-use Rattle.plist_binread.specs.Coming.{TellsItem}
+use Rattle.plist_binread.specs.Telling.{TellsItem}
 use Rattle.plist_tool.specs.Lines.{line_of, lines_of, first_fault}
 use Rattle.plist_base.specs.Fronts.{AppendsFront}
 use Rattle.plist_tool.specs.Fronts.{PassesOn}
 use Rattle.plist_tool.specs.Printing.{PrintsUntil}
-use Rattle.plist_tool.proofs.Sent.{IsPassedUpTo, one_more, sent_held, sent_part, sent_all}
+use Rattle.plist_tool.proofs.HeldBack.{IsPassedUpTo, one_more, sent_held, sent_part, sent_all}
 
 -- `known` are the bytes of the source at first, `now` those before the call; `all` are the items of
 -- bytes, `before` and `after` those to come before and after the call; `held` is held back before

@@ -6,7 +6,7 @@ use Rattle.plist_base.specs.declared.error.Error.{Error}
 use Rattle.plist_base.specs.declared.event.Event.{Event}
 use Rattle.plist_base.specs.Events.{PlainEvent, event_of}
 use Rattle.plist.specs.declared.stream.events.Events.{Events}
-use Rattle.plist.specs.Remaining.{GivesEvent, remaining_events}
+use Rattle.plist.specs.Events.{GivesEvent, remaining_events}
 use Rattle.plist_base.specs.Fronts.{AppendsFront}
 use Rattle.plist_tool.specs.Lines.{line_of, lines_of}
 

@@ -6,7 +6,7 @@ use Rattle.plist_base.specs.Faults.{MatchFault, IsFromOutside, kind_of, error_ki
 use Rattle.plist_base.specs.declared.source.Source.{Ghosts}
 use Rattle.plist_base.specs.Events.{Item}
 use Rattle.plist_base.specs.Sources.{Rises}
-use Rattle.plist_binread.specs.Coming.{source_of, to_come}
+use Rattle.plist_binread.specs.BinaryReader.{source_of, to_come}
 use Rattle.plist_binread.specs.Unfolding.{items_of_file}
 use Rattle.plist_binread.specs.declared.counter.DecodeCounter.{Ghosts as CounterGhosts}
 use Rattle.plist_binread.specs.declared.reader.BinaryReader.{BinaryReader}

@@ -3,7 +3,7 @@
 ghost use Rattle.std.specs.Prelude.{◌≡◌, ◌++◌, ◌<◌, true, OnOk, codes};
 ghost use Rattle.std.specs.Fmt.{decimal, signed_decimal};
 ghost use Rattle.plist_base.specs.Events.{event_of};
-ghost use Rattle.plist_binread.specs.Coming.{event_told};
+ghost use Rattle.plist_binread.specs.Telling.{event_told};
 ghost use Rattle.plist_tool.specs.Lines.{hexadecimal, hexadecimal_digit, stands_for_itself, text_of_byte, text_of_bytes, text_of_data, text_of_date, text_of_real, text_of_start, words_of, line_of};
 
 use itoa::Buffer;

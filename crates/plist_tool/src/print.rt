@@ -3,7 +3,8 @@
 ghost use Rattle.std.specs.Prelude.{◌≡◌, ◌++◌, true, false, IfErr, IfOk, OnErr, OnOk};
 ghost use Rattle.plist_base.specs.Events.{event_of};
 ghost use Rattle.plist_base.specs.Fronts.{AppendsFront};
-ghost use Rattle.plist_binread.specs.Coming.{event_told, source_of};
+ghost use Rattle.plist_binread.specs.BinaryReader.{source_of};
+ghost use Rattle.plist_binread.specs.Telling.{event_told};
 ghost use Rattle.plist_tool.specs.Lines.{line_of};
 ghost use Rattle.plist_tool.specs.Fronts.{PassesOn, MakesRoom, SendsFront};
 ghost use Rattle.plist_tool.specs.Printing.{PrintsRest, SendsFrontOfRest, IsOwnFault, EndsRest, PrintsFile, EndsFile, SendsFrontOfFile, CountsReadsOf, LeavesSource};

@@ -5,7 +5,7 @@ ghost use Rattle.std.specs.Io.KnownBytes.{Appends};
 ghost use Rattle.plist_base.specs.Bracketing.{bracketing};
 ghost use Rattle.plist_base.specs.Events.{event_of};
 ghost use Rattle.plist_base.specs.Fronts.{AppendsFront};
-ghost use Rattle.plist.specs.Remaining.{remaining_events};
+ghost use Rattle.plist.specs.Events.{remaining_events};
 ghost use Rattle.plist.specs.Views.{tree_of};
 ghost use Rattle.plist_tool.specs.Lines.{line_of, lines_of_events};
 ghost use Rattle.plist_tool.specs.Printing.{IsOwnFault};

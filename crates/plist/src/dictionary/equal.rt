@@ -5,7 +5,7 @@ use crate::dictionary::Pairs;
 /// Equal values at each key of either, whatever the order.
 impl<V: PartialEq> PartialEq for Pairs<V> {
     ghost use Rattle.plist.specs.Same.{same_pairs};
-    ghost use Rattle.plist.specs.PairsSame.{same_pairs_partial};
+    ghost use Rattle.plist.specs.inner.PairsSame.{same_pairs_partial};
 
     ghost eq = { same_pairs V.eq };
 
@@ -32,7 +32,7 @@ impl<V: PartialEq> PartialEq for Pairs<V> {
 }
 
 impl<V: Eq> Eq for Pairs<V> {
-    ghost use Rattle.plist.specs.PairsSame.{same_pairs_equiv};
+    ghost use Rattle.plist.specs.inner.PairsSame.{same_pairs_equiv};
 
     ghost laws = { same_pairs_equiv V.Eq.laws };
 }

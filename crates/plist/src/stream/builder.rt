@@ -30,7 +30,7 @@ pub struct Builder {
 }
 
 impl Builder {
-    ghost use Rattle.plist.specs.Builders.{IsBuildingStep, RefusesItem, TakesItem, built_of};
+    ghost use Rattle.plist.specs.Builder.{IsBuildingStep, RefusesItem, TakesItem, built_of};
     ghost use Rattle.plist.specs.Collecting.{item_by};
 
     /// A builder that holds no events.
@@ -114,7 +114,7 @@ impl Builder {
 /// An event, whatever it borrows: an [`Event`] of any lifetime.
 pub trait AnyEvent: Drop {
     ghost use Rattle.plist_base.specs.Events.{PlainEvent};
-    ghost use Rattle.plist.specs.Builders.{RefusesItem, TakesItem, built_of};
+    ghost use Rattle.plist.specs.Builder.{RefusesItem, TakesItem, built_of};
 
     ghost plain: { Self → PlainEvent };
 
@@ -139,9 +139,9 @@ impl<'a> AnyEvent for Event<'a> {
 impl Sealed for Builder {}
 
 impl Writer for Builder {
-    ghost use Rattle.plist.specs.Builders.{IsBuildingStep, built_of};
+    ghost use Rattle.plist.specs.Builder.{IsBuildingStep, built_of};
     ghost use Rattle.plist.specs.Building.{events_so_far};
-    ghost use Rattle.plist.specs.Laws.{building_law, failed_law};
+    ghost use Rattle.plist.specs.inner.Laws.{building_law, failed_law};
 
     ghost held = { λ b. events_so_far (built_of b).unfinished };
 

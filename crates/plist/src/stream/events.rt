@@ -4,7 +4,7 @@ ghost use Rattle.std.specs.Prelude.{◌≡◌, ◌++◌, ◌∷◌, None, OnErr,
 ghost use Rattle.plist_base.specs.Bracketing.{bracketing};
 ghost use Rattle.plist_base.specs.Events.{EndCollection};
 ghost use Rattle.plist_base.specs.Outcomes.{OnlyMemory};
-ghost use Rattle.plist.specs.Remaining.{left_of_level, remaining_events};
+ghost use Rattle.plist.specs.Events.{left_of_level, remaining_events};
 ghost use Rattle.plist.specs.Views.{tree_of};
 
 use crate::Value;
@@ -42,7 +42,7 @@ pub struct Events<'a> {
 }
 
 impl<'a> Events<'a> {
-    ghost use Rattle.plist.specs.Remaining.{BeginsValue, ComesNext};
+    ghost use Rattle.plist.specs.Events.{BeginsValue, ComesNext};
 
     pub(crate) fn new(alloc: Global, value: &'a Value) -> Events<'a>
         ensures { remaining_events result ≡ bracketing (tree_of value.now) }
@@ -128,7 +128,7 @@ impl<'a> Iterator for Events<'a> {
 
     ghost use Rattle.std.specs.Iterator.{at_most};
     ghost use Rattle.std.specs.Prelude.{length};
-    ghost use Rattle.plist.specs.Remaining.{GivesEvent, remaining_events};
+    ghost use Rattle.plist.specs.Events.{GivesEvent, remaining_events};
 
     ghost next_gives = { GivesEvent };
 

@@ -11,7 +11,7 @@ use Rattle.plist.specs.declared.stream.events.Events.{Events}
 use Rattle.plist.specs.declared.value.Value.{Value}
 use Rattle.plist.specs.Collecting.{item_by}
 use Rattle.plist.specs.Inputs.{BeginsWith}
-use Rattle.plist.specs.Remaining.{remaining_events}
+use Rattle.plist.specs.Events.{remaining_events}
 use Rattle.plist.specs.Views.{tree_of}
 use Rattle.plist_keyed.specs.declared.walk.Move.{Move}
 use Rattle.plist_keyed.specs.declared.walk.Move.TheVariants as move

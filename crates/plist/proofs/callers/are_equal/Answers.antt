@@ -1,4 +1,4 @@
-use Rattle.plist.specs.Sameness.{refl_tree, symmetric, trans_tree, scalars_alike, dictionaries_alike}
+use Rattle.plist.specs.inner.Sameness.{refl_tree, symmetric, trans_tree, scalars_alike, dictionaries_alike}
 use Rattle.plist.proofs.callers.are_equal.Goals as goal
 
 pub returns-clause-reflexive : goal.returns-clause-reflexive

@@ -1,6 +1,6 @@
 use Rattle.std.proofs.Common.{Ok, map, ap, ◌∙◌}
 use Rattle.plist.specs.Collecting.{built_tree}
-use Rattle.plist.specs.Remaining.{remaining_events}
+use Rattle.plist.specs.Events.{remaining_events}
 use Rattle.plist.specs.Views.{tree_of}
 use Rattle.plist.proofs.Inputs.{back}
 use Rattle.plist.proofs.Itself.{itself}

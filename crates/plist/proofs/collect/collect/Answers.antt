@@ -3,7 +3,7 @@ use Rattle.std.specs.Iterator.{Drains}
 use Rattle.std.specs.Option.{option_map}
 use Rattle.std.proofs.iter.Next as it
 use Rattle.plist_base.specs.Faults.{fault_of}
-use Rattle.plist.specs.Builders.{built_of}
+use Rattle.plist.specs.Builder.{built_of}
 use Rattle.plist.specs.Collecting.{item_by, IsBuiltFrom}
 use Rattle.plist.proofs.Collected.{TookAll, took-none, took-more, refused-last, finished, seen-more}
 use Rattle.plist.proofs.Inputs.{reads-none, reads-more, reads-refused, reads-whole}

@@ -3,7 +3,7 @@ use Rattle.std.specs.Prelude.{map, List, Option}
 use Rattle.std.specs.Iterator.{EndsFrom, items_left}
 use Rattle.std.proofs.iter.Next as it
 use Rattle.plist_base.specs.Events.{Item}
-use Rattle.plist.specs.Builders.{built_of}
+use Rattle.plist.specs.Builder.{built_of}
 use Rattle.plist.specs.Collecting.{item_by}
 use Rattle.plist.specs.Inputs.{Shows}
 use Rattle.plist.proofs.Collected.{TookAll}

@@ -3,7 +3,7 @@ use Rattle.std.specs.Str.{bytes_eq}
 use Rattle.std.specs.Option.{option_eq}
 use Rattle.std.specs.Map.{lookup, keys_of}
 use Rattle.plist.specs.declared.value.Value.{Value}
-use Rattle.plist.specs.Sameness.{same_by}
+use Rattle.plist.specs.inner.Sameness.{same_by}
 use Rattle.plist.specs.Views.{tree_of}
 use Rattle.plist.proofs.same.+same.Given as goal
 

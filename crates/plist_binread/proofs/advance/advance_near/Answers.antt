@@ -1,7 +1,7 @@
 use Rattle.std.proofs.Common.{arith, ◌<◌, length, reverse, refl}
 use Rattle.std.proofs.lemmas.List.{get_or_read_under}
 use Rattle.plist_binread.specs.declared.walk.Turn.TheVariants.{Child}
-use Rattle.plist_binread.proofs.Known.{known_turned}
+use Rattle.plist_binread.proofs.KnownTurns.{known_turned}
 use Rattle.plist_binread.proofs.Entering.{known_child_told, known_child_cached}
 use Rattle.plist_binread.proofs.advance.advance_near.Goals as goal
 

@@ -1,5 +1,5 @@
 use Rattle.std.proofs.Common.{ap, sym, ◌∙◌, Some}
-use Rattle.plist_binread.specs.Debt.{single_in}
+use Rattle.plist_binread.specs.Decoding.{single_in}
 use Rattle.plist_binread.specs.Object.{date, date_if_any}
 use Rattle.plist_binread.proofs.lent.lent_date.Goals as goal
 

@@ -2,7 +2,7 @@ use Rattle.std.proofs.Common.{refl}
 use Rattle.std.proofs.lemmas.Result.{err_from_is_err_and}
 use Rattle.plist_base.specs.Trees.{Data}
 use Rattle.plist_binread.specs.Object.{Scalar, length_in, meaning_counted}
-use Rattle.plist_binread.specs.Places.{bytes_behind}
+use Rattle.plist_binread.specs.inner.Places.{bytes_behind}
 use Rattle.plist_binread.proofs.Contents.{known_single}
 use Rattle.plist_binread.proofs.text.read_data.Goals as goal
 

@@ -1,6 +1,6 @@
 use Rattle.std.proofs.lemmas.Result.{err_from_is_err_and}
 use Rattle.plist_binread.specs.Object.{text, length_in, meaning_counted}
-use Rattle.plist_binread.specs.Places.{bytes_behind}
+use Rattle.plist_binread.specs.inner.Places.{bytes_behind}
 use Rattle.plist_binread.proofs.Contents.{grows_text}
 use Rattle.plist_binread.proofs.Markers.{known_decoded}
 use Rattle.plist_binread.proofs.text.read_text.Goals as goal

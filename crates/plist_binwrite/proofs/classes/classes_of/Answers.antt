@@ -1,7 +1,7 @@
 use Rattle.std.proofs.Common.{◌≡◌, length, arith, subst}
 use Rattle.std.proofs.lemmas.List.{length-map}
 use Rattle.plist_binwrite.specs.Held.{plain_event, plain_events, num_of}
-use Rattle.plist_binwrite.specs.Scalars.{AreOwners, keys_seen}
+use Rattle.plist_binwrite.specs.inner.Scalars.{AreOwners, keys_seen}
 use Rattle.plist_binwrite.proofs.Owners.{owners}
 use Rattle.plist_binwrite.proofs.classes.classes_of.Goals as goal
 

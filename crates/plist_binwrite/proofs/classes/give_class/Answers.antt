@@ -3,7 +3,7 @@ use Rattle.std.proofs.lemmas.List.{length-map, get_or-map}
 use Rattle.plist_base.specs.Events.{event_of, EndCollection}
 use Rattle.plist_binwrite.specs.Held.{plain_event, plain_events, event_at}
 use Rattle.plist_base.specs.Bracketing.{unhinted}
-use Rattle.plist_binwrite.specs.Scalars.{is_leaf, keys_seen}
+use Rattle.plist_binwrite.specs.inner.Scalars.{is_leaf, keys_seen}
 use Rattle.plist_binwrite.proofs.Owners.{kind_leaf, kind_other}
 use Rattle.plist_binwrite.proofs.ClassSteps.{scalar_class, other_class}
 use Rattle.plist_binwrite.proofs.classes.give_class.Goals as goal

@@ -2,7 +2,7 @@ use Rattle.std.proofs.Common.{length, subst, sym, rules, Ok, Err}
 use Rattle.std.proofs.lemmas.Result.{err_from_is_err_and}
 use Rattle.plist_base.specs.Faults.{fault_of}
 use Rattle.plist_binwrite.specs.Held.{plain_events, num_of}
-use Rattle.plist_binwrite.specs.Scalars.{AreOwners}
+use Rattle.plist_binwrite.specs.inner.Scalars.{AreOwners}
 use Rattle.plist_binwrite.proofs.OwnedApart.{owners_below, owners_classes}
 use Rattle.plist_binwrite.proofs.Plainly.{sends_plainly, sends_nothing}
 use Rattle.plist_binwrite.proofs.completion.complete.Goals as goal

@@ -1,6 +1,6 @@
 use Rattle.std.proofs.Common.{◌≡◌, sym, subst}
 use Rattle.plist_base.specs.Faults.{Io, fault_of, fault_nowhere}
-use Rattle.plist_binwrite.specs.Ending.{file_of}
+use Rattle.plist_binwrite.specs.inner.Ending.{file_of}
 use Rattle.plist_binwrite.specs.Held.{plain_events}
 use Rattle.plist_binwrite.specs.Outlets.{IsOut}
 use Rattle.plist_binwrite.proofs.Outgoing.{from_empty, from_empty_front}

@@ -1,6 +1,6 @@
 use Rattle.std.proofs.Common.{length, ◌-◌}
-use Rattle.plist_binwrite.specs.Laying.{IsOrder, KeepsMarks}
-use Rattle.plist_binwrite.specs.Planning.{count_of}
+use Rattle.plist_binwrite.specs.inner.Laying.{IsOrder, KeepsMarks}
+use Rattle.plist_binwrite.specs.inner.Planning.{count_of}
 use Rattle.plist_binwrite.proofs.layout.order_keys.Given as goal
 
 abbrev pub invariant-walk : goal.invariant-walk

@@ -3,9 +3,9 @@ use Rattle.std.proofs.lemmas.Bool.Decides.{eqb_tells, leb_tells}
 use Rattle.std.proofs.lemmas.List.{length-map}
 use Rattle.std.proofs.Math.ListN.{get_or-eq_default}
 use Rattle.plist_binwrite.specs.Held.{plain_event, plain_events, is_stop, event_at, num_of}
-use Rattle.plist_binwrite.specs.Laying.{IsOrder, KeepsMarks}
+use Rattle.plist_binwrite.specs.inner.Laying.{IsOrder, KeepsMarks}
 use Rattle.plist_base.specs.Events.{PlainEvent}
-use Rattle.plist_binwrite.specs.Planning.{count_of, numbers_of}
+use Rattle.plist_binwrite.specs.inner.Planning.{count_of, numbers_of}
 use Rattle.plist_binwrite.proofs.Layouts.{order_none, in_order}
 use Rattle.plist_binwrite.proofs.layout.order_objects.Goals as goal
 

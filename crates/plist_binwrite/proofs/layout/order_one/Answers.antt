@@ -1,8 +1,8 @@
 use Rattle.std.proofs.Common.{◌≡◌, ◌<◌, get_or, set, arith, sym, ap, ◌∙◌, subst, refl}
 use Rattle.std.proofs.lemmas.List.{length-map}
 use Rattle.plist_binwrite.specs.Held.{plain_event}
-use Rattle.plist_binwrite.specs.Laying.{IsOrder}
-use Rattle.plist_binwrite.specs.Planning.{count_of}
+use Rattle.plist_binwrite.specs.inner.Laying.{IsOrder}
+use Rattle.plist_binwrite.specs.inner.Planning.{count_of}
 use Rattle.plist_binwrite.proofs.Layouts.{order_more}
 use Rattle.plist_binwrite.proofs.layout.order_one.Goals as goal
 

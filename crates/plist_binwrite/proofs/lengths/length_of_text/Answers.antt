@@ -1,7 +1,7 @@
 use Rattle.std.proofs.Common.{◌≡◌, ◌*◌, ◌∙◌, length, sym, subst}
 use Rattle.plist_binwrite.specs.Forms.{length_form, units_of}
 use Rattle.plist_binwrite.specs.Sizes.{TellsSize}
-use Rattle.plist_binwrite.proofs.Counting.{wide_length, told_if}
+use Rattle.plist_binwrite.proofs.SizePasses.{wide_length, told_if}
 use Rattle.plist_binwrite.proofs.lengths.length_of_text.Goals as goal
 
 pub returns-clause-value : goal.returns-clause-value

@@ -1,7 +1,7 @@
 use Rattle.std.proofs.Common.{◌≡◌, ◌+◌, ◌<◌, ◌^◌, ◌++◌, ◌∷◌, [], length, set, arith, get_or, ◌≤◌, refl, length-append, sym, ap, subst}
 use Rattle.std.proofs.lemmas.List.{length-map}
 use Rattle.plist_binwrite.specs.Held.{plain_event, plain_events, num_of}
-use Rattle.plist_binwrite.specs.PlansBy.{IsPlan, HaveIds}
+use Rattle.plist_binwrite.specs.inner.PlansBy.{IsPlan, HaveIds}
 use Rattle.plist_binwrite.proofs.PlannedBy.{plan_new}
 use Rattle.plist_binwrite.proofs.Ids.{ids_new, none_yet}
 use Rattle.plist_binwrite.proofs.numbering.number_one.Goals as goal

@@ -1,7 +1,7 @@
 use Rattle.std.proofs.Common.{◌+◌, map}
 use Rattle.plist_binwrite.specs.Forms.{table_form}
 use Rattle.plist_binwrite.specs.Held.{num_of, item_places}
-use Rattle.plist_binwrite.specs.Planning.{numbers_of}
+use Rattle.plist_binwrite.specs.inner.Planning.{numbers_of}
 use Rattle.plist_binwrite.proofs.Formed.{array_is}
 use Rattle.plist_binwrite.proofs.Outgoing.{puts_then, puts_front, puts_as}
 use Rattle.plist_binwrite.proofs.objects.put_array.Goals as goal

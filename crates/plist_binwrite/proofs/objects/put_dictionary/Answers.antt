@@ -1,7 +1,7 @@
 use Rattle.std.proofs.Common.{◌+◌, ◌/◌, ◌++◌, map}
 use Rattle.plist_binwrite.specs.Forms.{table_form}
 use Rattle.plist_binwrite.specs.Held.{num_of, key_places, value_places}
-use Rattle.plist_binwrite.specs.Planning.{numbers_of}
+use Rattle.plist_binwrite.specs.inner.Planning.{numbers_of}
 use Rattle.plist_binwrite.proofs.Formed.{dictionary_is, half}
 use Rattle.plist_binwrite.proofs.Outgoing.{puts_then, puts_front, puts_as}
 use Rattle.plist_binwrite.proofs.objects.put_dictionary.Goals as goal

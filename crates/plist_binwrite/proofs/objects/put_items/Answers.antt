@@ -2,7 +2,7 @@ use Rattle.std.proofs.Common.{◌≡◌, inl, inr, length, arith, refl, ap, ◌�
 use Rattle.std.proofs.lemmas.List.{length-map}
 use Rattle.plist_binwrite.specs.Forms.{big_endian}
 use Rattle.plist_binwrite.specs.Held.{plain_event, plain_events, num_of}
-use Rattle.plist_binwrite.specs.Planning.{numbers_of}
+use Rattle.plist_binwrite.specs.inner.Planning.{numbers_of}
 use Rattle.plist_binwrite.proofs.Outgoing.{puts_as}
 use Rattle.plist_binwrite.proofs.Passing.{items_begin, items_next, items_fail, items_stop}
 use Rattle.plist_binwrite.proofs.objects.put_items.Goals as goal

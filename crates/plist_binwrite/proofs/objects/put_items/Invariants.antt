@@ -3,7 +3,7 @@ use Rattle.plist_binwrite.specs.Forms.{table_form}
 use Rattle.plist_binwrite.specs.Held.{plain_events, num_of, item_places}
 use Rattle.plist_base.specs.Trees.{Trees}
 use Rattle.plist_binwrite.specs.Standing.{SitsItems}
-use Rattle.plist_binwrite.specs.Planning.{numbers_of}
+use Rattle.plist_binwrite.specs.inner.Planning.{numbers_of}
 use Rattle.plist_binwrite.proofs.Passing.{Items}
 use Rattle.plist_binwrite.proofs.objects.put_items.Given as goal
 

@@ -5,7 +5,7 @@ use Rattle.plist_binwrite.specs.Forms.{form, scalar_form}
 use Rattle.plist_binwrite.specs.Held.{num_of}
 use Rattle.plist_binwrite.specs.Numberings.{obj_of}
 use Rattle.plist_binwrite.specs.Outlets.{Puts}
-use Rattle.plist_binwrite.specs.Planning.{numbers_of}
+use Rattle.plist_binwrite.specs.inner.Planning.{numbers_of}
 use Rattle.plist_binwrite.proofs.Formed.{of_array, of_dictionary, of_scalar}
 use Rattle.plist_binwrite.proofs.Skipping.{read_event}
 use Rattle.plist_binwrite.proofs.objects.put_object.Goals as goal

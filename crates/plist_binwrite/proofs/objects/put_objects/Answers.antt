@@ -1,7 +1,7 @@
 use Rattle.std.proofs.Common.{◌+◌, get_or, drop, ap, sym, arith}
 use Rattle.plist_binwrite.specs.Forms.{form}
 use Rattle.plist_binwrite.specs.Held.{plain_events}
-use Rattle.plist_binwrite.specs.Planning.{numbers_of, firsts_of}
+use Rattle.plist_binwrite.specs.inner.Planning.{numbers_of, firsts_of}
 use Rattle.plist_binwrite.specs.Written.{bodies}
 use Rattle.plist_binwrite.proofs.Outgoing.{puts_none, puts_then, puts_front, puts_as, one_part, all_parts, last_part}
 use Rattle.plist_binwrite.proofs.Placing.{described}

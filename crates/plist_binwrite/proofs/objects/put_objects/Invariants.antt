@@ -2,7 +2,7 @@ use Rattle.std.proofs.Common.{ℕ, take, Ok}
 use Rattle.plist_binread.specs.Object.{Object}
 use Rattle.plist_binwrite.specs.Held.{plain_events, Describes}
 use Rattle.plist_binwrite.specs.Outlets.{Puts}
-use Rattle.plist_binwrite.specs.Planning.{numbers_of}
+use Rattle.plist_binwrite.specs.inner.Planning.{numbers_of}
 use Rattle.plist_binwrite.specs.Written.{bodies}
 use Rattle.plist_binwrite.proofs.objects.put_objects.Given as goal
 

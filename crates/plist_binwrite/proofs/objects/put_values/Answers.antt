@@ -2,7 +2,7 @@ use Rattle.std.proofs.Common.{◌≡◌, inl, inr, ◌+◌, length, arith, refl,
 use Rattle.std.proofs.lemmas.List.{length-map}
 use Rattle.plist_binwrite.specs.Forms.{big_endian}
 use Rattle.plist_binwrite.specs.Held.{plain_event, plain_events, num_of, value_places}
-use Rattle.plist_binwrite.specs.Planning.{numbers_of}
+use Rattle.plist_binwrite.specs.inner.Planning.{numbers_of}
 use Rattle.plist_binwrite.proofs.Outgoing.{puts_as}
 use Rattle.plist_binwrite.proofs.Passing.{each_begin, each_next, each_fail, each_stop, each_within}
 use Rattle.plist_binwrite.proofs.objects.put_values.Goals as goal

@@ -2,7 +2,7 @@ use Rattle.std.proofs.Common.{length, ◌-◌, ◌+◌, refl}
 use Rattle.plist_binwrite.specs.Held.{plain_events, num_of, value_places}
 use Rattle.plist_base.specs.Trees.{Members}
 use Rattle.plist_binwrite.specs.Standing.{SitsPairs}
-use Rattle.plist_binwrite.specs.Planning.{numbers_of}
+use Rattle.plist_binwrite.specs.inner.Planning.{numbers_of}
 use Rattle.plist_binwrite.proofs.Passing.{Each, put_of}
 use Rattle.plist_binwrite.proofs.objects.put_values.Given as goal
 

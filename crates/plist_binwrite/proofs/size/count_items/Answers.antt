@@ -1,7 +1,7 @@
 use Rattle.std.proofs.Common.{◌≡◌, inl, inr, length, arith, refl}
 use Rattle.std.proofs.lemmas.List.{length-map}
 use Rattle.plist_binwrite.specs.Held.{plain_event, plain_events}
-use Rattle.plist_binwrite.proofs.Counting.{counts_begin, counts_next, counts_stop}
+use Rattle.plist_binwrite.proofs.SizePasses.{counts_begin, counts_next, counts_stop}
 use Rattle.plist_binwrite.proofs.size.count_items.Goals as goal
 
 pub walk-init : goal.walk-init

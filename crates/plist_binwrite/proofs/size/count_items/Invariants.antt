@@ -2,7 +2,7 @@ use Rattle.std.proofs.Common.{length, ◌-◌, ◌≤◌}
 use Rattle.plist_base.specs.Trees.{number_of_trees, Trees}
 use Rattle.plist_binwrite.specs.Standing.{SitsItems}
 use Rattle.plist_binwrite.specs.Held.{plain_events}
-use Rattle.plist_binwrite.proofs.Counting.{Counts}
+use Rattle.plist_binwrite.proofs.SizePasses.{Counts}
 use Rattle.plist_binwrite.proofs.size.count_items.Given as goal
 
 abbrev pub invariant-walk : goal.invariant-walk

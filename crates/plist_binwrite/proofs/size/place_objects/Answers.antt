@@ -1,7 +1,7 @@
 use Rattle.std.proofs.Common.{◌≡◌, ◌+◌, ◌<◌, length, get_or, IfSome, arith, ap, sym, ◌∙◌, subst}
 use Rattle.std.proofs.lemmas.List.{length-set, length-map}
 use Rattle.plist_binwrite.specs.Held.{plain_event, plain_events, Describes}
-use Rattle.plist_binwrite.specs.Planning.{count_of, numbers_of, firsts_of}
+use Rattle.plist_binwrite.specs.inner.Planning.{count_of, numbers_of, firsts_of}
 use Rattle.plist_binwrite.specs.Sizes.{TellsSize}
 use Rattle.plist_binwrite.specs.Written.{bodies, Laid}
 use Rattle.plist_binwrite.proofs.Layouts.{length-magic}

@@ -5,8 +5,8 @@ use Rattle.plist_binwrite.specs.Held.{plain_events, kind_of, event_at, num_of}
 use Rattle.plist_binwrite.specs.Forms.{IsWritable, IsWritableScalar}
 use Rattle.plist_binwrite.specs.Numberings.{obj_of}
 use Rattle.plist_binwrite.specs.Sizes.{TellsSize, scalar_size, object_size}
-use Rattle.plist_binwrite.specs.Planning.{count_of, numbers_of}
-use Rattle.plist_binwrite.proofs.Counting.{dictionary_told}
+use Rattle.plist_binwrite.specs.inner.Planning.{count_of, numbers_of}
+use Rattle.plist_binwrite.proofs.SizePasses.{dictionary_told}
 use Rattle.plist_binwrite.proofs.Formed.{of_scalar}
 use Rattle.plist_binwrite.proofs.Placed.{collection_fits, no_kind}
 use Rattle.plist_binwrite.proofs.Placing.{array_told, few_values}

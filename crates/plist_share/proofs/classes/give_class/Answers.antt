@@ -1,6 +1,6 @@
 use Rattle.std.proofs.Common.{◌<◌, false, true, length, arith, sym, ◌∙◌, subst}
 use Rattle.plist_binwrite.specs.Held.{plain_events, num_of}
-use Rattle.plist_share.specs.Keys.{IsIndexed, keys_seen}
+use Rattle.plist_share.specs.inner.Keys.{IsIndexed, keys_seen}
 use Rattle.plist_share.proofs.Found.{array_written, dictionary_written, none_written}
 use Rattle.plist_share.proofs.classes.give_class.Goals as goal
 

@@ -1,6 +1,6 @@
 use Rattle.std.proofs.lemmas.Option.{slice_get_within}
 use Rattle.plist_binwrite.proofs.Keyed.{key_at, keys_kept, keys_apart, keys_grow}
-use Rattle.plist_share.specs.Keys.{key_of, keys_seen}
+use Rattle.plist_share.specs.inner.Keys.{key_of, keys_seen}
 use Rattle.plist_share.proofs.Alike.{same, same_key, key_same}
 use Rattle.plist_share.proofs.classes.index_of.Goals as goal
 

@@ -1,6 +1,6 @@
 use Rattle.std.proofs.Common.{◌≡◌, length, arith, subst}
 use Rattle.plist_binwrite.specs.Held.{plain_events, num_of}
-use Rattle.plist_share.specs.Keys.{HaveClasses, keys_seen}
+use Rattle.plist_share.specs.inner.Keys.{HaveClasses, keys_seen}
 use Rattle.plist_share.proofs.Found.{found_classes, told_trees}
 use Rattle.plist_share.proofs.classes.tree_classes.Goals as goal
 

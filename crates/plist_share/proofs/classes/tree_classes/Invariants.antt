@@ -1,7 +1,7 @@
 use Rattle.std.proofs.Common.{◌≡◌, ◌≤◌, ℕ, length}
 use Rattle.plist_binwrite.specs.Held.{plain_events, num_of}
-use Rattle.plist_binwrite.specs.Scalars.{AreApart, AreOwners}
-use Rattle.plist_share.specs.Keys.{HaveClasses, keys_seen}
+use Rattle.plist_binwrite.specs.inner.Scalars.{AreApart, AreOwners}
+use Rattle.plist_share.specs.inner.Keys.{HaveClasses, keys_seen}
 use Rattle.plist_share.proofs.classes.tree_classes.Given as goal
 
 abbrev pub invariant-back : goal.invariant-back

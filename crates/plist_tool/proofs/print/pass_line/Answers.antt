@@ -1,6 +1,6 @@
 use Rattle.plist_base.specs.Events.{event_of}
 use Rattle.plist_tool.specs.Lines.{line_of}
-use Rattle.plist_tool.proofs.Sent.{front_longer, passes_part, on_err_of}
+use Rattle.plist_tool.proofs.HeldBack.{front_longer, passes_part, on_err_of}
 use Rattle.plist_tool.proofs.print.pass_line.Goals as goal
 
 pub returns-in_err-make_room-clause-front : goal.returns-in_err-make_room-clause-front

@@ -1,4 +1,4 @@
-use Rattle.plist_binread.specs.Coming.{source_of}
+use Rattle.plist_binread.specs.BinaryReader.{source_of}
 use Rattle.plist_tool.proofs.print.print_events.Goals as goal
 
 pub returns-clause-failures : goal.returns-clause-failures

@@ -1,6 +1,7 @@
 use Rattle.std.proofs.Common.{rules}
-use Rattle.plist_binread.specs.Coming.{is_new, to_come, event_told}
-use Rattle.plist_tool.proofs.Sent.{passes_near, front_none}
+use Rattle.plist_binread.specs.BinaryReader.{is_new, to_come}
+use Rattle.plist_binread.specs.Telling.{event_told}
+use Rattle.plist_tool.proofs.HeldBack.{passes_near, front_none}
 use Rattle.plist_tool.proofs.Steps.{step_more, step_part, step_fault, step_held}
 use Rattle.plist_tool.proofs.print.send_lines.Goals as goal
 

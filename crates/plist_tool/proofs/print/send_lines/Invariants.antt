@@ -1,6 +1,6 @@
 use Rattle.std.proofs.Common.{◌≡◌, IfSome}
-use Rattle.plist_binread.specs.Coming.{source_of, to_come, steps_to_come}
-use Rattle.plist_tool.proofs.Sent.{IsPassedUpTo}
+use Rattle.plist_binread.specs.BinaryReader.{source_of, to_come, steps_to_come}
+use Rattle.plist_tool.proofs.HeldBack.{IsPassedUpTo}
 use Rattle.plist_tool.proofs.print.send_lines.Given as goal
 
 abbrev pub invariant-loop-item : goal.invariant-loop-item

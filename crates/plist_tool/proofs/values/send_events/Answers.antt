@@ -1,5 +1,5 @@
 use Rattle.plist_base.specs.Events.{event_of}
-use Rattle.plist.specs.Remaining.{remaining_events}
+use Rattle.plist.specs.Events.{remaining_events}
 use Rattle.plist_tool.proofs.ValueLines.{event_given, event_sent, part_sent}
 use Rattle.plist_tool.proofs.values.send_events.Goals as goal
 

@@ -1,4 +1,4 @@
-use Rattle.plist.specs.Remaining.{remaining_events}
+use Rattle.plist.specs.Events.{remaining_events}
 use Rattle.plist_tool.proofs.ValueLines.{AreSent}
 use Rattle.plist_tool.proofs.values.send_events.Given as goal
 

@@ -1,6 +1,6 @@
 use Rattle.std.proofs.Common.{◌≡◌, IfSome, subst}
 use Rattle.plist_binread.specs.Unfolding.{items_of_file}
-use Rattle.plist_binread.specs.Coming.{to_come}
+use Rattle.plist_binread.specs.BinaryReader.{to_come}
 use Rattle.plist_binread.proofs.reader.BinaryReader+R.with_limits.Goals as goal
 
 pub returns-clause-items : goal.returns-clause-items

@@ -2,7 +2,7 @@ use Rattle.std.proofs.Common.{◌≡◌, ◌^◌, refl, subst, arith}
 use Rattle.plist_base.specs.Faults.{fault_of}
 use Rattle.plist_base.specs.Limits.{AdmitsAny, RefusesAny}
 use Rattle.plist_base.specs.Sources.{Rises}
-use Rattle.plist_binread.specs.Coming.{is_limited, is_new, number_to_come, source_of, walk_closes, walk_to_come}
+use Rattle.plist_binread.specs.BinaryReader.{is_limited, is_new, number_to_come, source_of, walk_closes, walk_to_come}
 use Rattle.plist_binread.specs.Told.{event_in}
 use Rattle.plist_binread.proofs.Limiting.{event-told, fault-told, limit-told, none-told, refused-closes, refused-given, refused-other, still-given, walk-closes}
 use Rattle.plist_binread.proofs.Taken.{holds_none, kept_fault}

@@ -1,5 +1,5 @@
 use Rattle.std.proofs.Common.{refl, reverse}
-use Rattle.plist_binread.specs.Coming.{source_of, walk_closes}
+use Rattle.plist_binread.specs.BinaryReader.{source_of, walk_closes}
 use Rattle.plist_binread.specs.Told.{event_in}
 use Rattle.plist_binread.proofs.Limiting.{near-told, walk-closes}
 use Rattle.plist_binread.proofs.Taken.{holds_head, lists, nested}

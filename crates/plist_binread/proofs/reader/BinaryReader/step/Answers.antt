@@ -1,6 +1,7 @@
 use Rattle.std.proofs.Common.{arith, ◌^◌, length, reverse, refl, true, false, None}
 use Rattle.plist_binread.specs.Told.{event_in}
-use Rattle.plist_binread.specs.Debt.{owed_by, entries_of, root_with}
+use Rattle.plist_binread.specs.Debt.{owed_by, entries_of}
+use Rattle.plist_binread.specs.Turning.{root_with}
 use Rattle.plist_binread.specs.Container.{head_of}
 use Rattle.plist_binread.specs.Unfolding.{items_of_file, until_fault}
 use Rattle.plist_binread.proofs.Steps.{fresh_falls}

@@ -1,7 +1,7 @@
 use Rattle.std.proofs.Common.{Some, ap, ◌∙◌}
 use Rattle.plist_base.specs.Events.{event_of}
 use Rattle.plist_base.specs.inner.Wants.{wanted_after}
-use Rattle.plist_binwrite.specs.Stacks.{stack_of}
+use Rattle.plist_binwrite.specs.inner.Stacks.{stack_of}
 use Rattle.plist_binwrite.proofs.Pended.{grown, plain_grown, tells_then, took}
 use Rattle.plist_binwrite.proofs.Stacking.{is_stack_of, stack_shown, nothing_shown}
 use Rattle.plist_binwrite.proofs.pending.Pending.hold.Goals as goal

@@ -1,7 +1,7 @@
 use Rattle.std.proofs.Common.{map, sym, ap, ◌∙◌, refl}
 use Rattle.std.proofs.lemmas.Result.{err_from_is_err_and}
 use Rattle.plist_base.specs.Events.{event_of}
-use Rattle.plist_binwrite.specs.Stacks.{change_seen, stack_of, change_on_top}
+use Rattle.plist_binwrite.specs.inner.Stacks.{change_seen, stack_of, change_on_top}
 use Rattle.plist_binwrite.proofs.Pended.{held_wants, cannot_follow, can_follow}
 use Rattle.plist_binwrite.proofs.Stacking.{wanted_refused, not_refused, seen_refused}
 use Rattle.plist_binwrite.proofs.pending.Pending.offer.Goals as goal

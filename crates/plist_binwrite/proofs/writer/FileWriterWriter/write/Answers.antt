@@ -3,7 +3,7 @@ use Rattle.plist_base.specs.Events.{event_of}
 use Rattle.plist_base.specs.Faults.{fault_of}
 use Rattle.plist_binwrite.specs.Pendings.{events_held}
 use Rattle.plist_binwrite.specs.SendingAs.{Sends}
-use Rattle.plist_binwrite.specs.Taking.{inner_of}
+use Rattle.plist_binwrite.specs.FileWriter.{inner_of}
 use Rattle.plist_binwrite.proofs.Calls.{takes_refused, takes_unsent, takes_whole}
 use Rattle.plist_binwrite.proofs.Unchanged.{same_state}
 use Rattle.plist_binwrite.proofs.writer.FileWriterWriter.write.Goals as goal

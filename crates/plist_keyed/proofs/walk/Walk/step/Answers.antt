@@ -1,6 +1,6 @@
 use Rattle.std.proofs.Common.{refl, sym, subst, Some}
 use Rattle.plist_base.specs.Events.{event_of}
-use Rattle.plist.specs.Remaining.{GivesEvent}
+use Rattle.plist.specs.Events.{GivesEvent}
 use Rattle.plist_keyed.specs.declared.walk.Walk.{Walk}
 use Rattle.plist_keyed.specs.inner.Owing.{Pays, owed}
 use Rattle.plist_keyed.proofs.Walked.{left-walk, taken-owes}

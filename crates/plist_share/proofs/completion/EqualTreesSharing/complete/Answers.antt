@@ -3,8 +3,8 @@ use Rattle.std.proofs.lemmas.Result.{err_from_is_err_and}
 use Rattle.plist_base.specs.Faults.{fault_of}
 use Rattle.plist_binwrite.specs.Classes.{AreClasses}
 use Rattle.plist_binwrite.specs.Held.{AllBelow, plain_events, num_of}
-use Rattle.plist_share.specs.Keys.{TellTrees}
-use Rattle.plist_share.proofs.Sent.{sends_shared, sends_nothing}
+use Rattle.plist_share.specs.inner.Keys.{TellTrees}
+use Rattle.plist_share.proofs.SharedFile.{sends_shared, sends_nothing}
 use Rattle.plist_share.proofs.completion.EqualTreesSharing.complete.Goals as goal
 
 pub complete_by_class-requires : goal.complete_by_class-requires

@@ -5,7 +5,7 @@ use Rattle.std.specs.Option.{option_eq}
 use Rattle.std.specs.Map.{lookup, keys_of}
 use Rattle.std.specs.Cmp.Lexicographic.{nat_list_eq_equiv}
 use Rattle.std_collections.proofs.HashMapEq.{key_at, own_value, unequal_at, unequal_len, equal_by_keys}
-use Rattle.plist.specs.PairsSame.{as_map}
+use Rattle.plist.specs.inner.PairsSame.{as_map}
 use Rattle.plist.proofs.dictionary.equal.PairsPartialEq.eq.Goals as goal
 
 pub returns-then-count-pair_count : goal.returns-then-count-pair_count

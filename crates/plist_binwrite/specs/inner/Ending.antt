@@ -8,11 +8,11 @@ use Rattle.plist_binwrite.specs.declared.completion.Ready.{Ready}
 use Rattle.plist_binwrite.specs.Classes.{IsFileBy}
 use Rattle.plist_base.specs.Fronts.{AppendsFront}
 use Rattle.plist_binwrite.specs.Held.{AllBelow, Describes}
-use Rattle.plist_binwrite.specs.Laying.{laid_out, closed}
+use Rattle.plist_binwrite.specs.inner.Laying.{laid_out, closed}
 use Rattle.plist_base.specs.Events.{PlainEvent}
 use Rattle.plist_base.specs.Trees.{Tree}
 use Rattle.plist_base.specs.Bracketing.{shape}
-use Rattle.plist_binwrite.specs.Planning.{IsPlanned, GoesBy, count_of, numbers_of}
+use Rattle.plist_binwrite.specs.inner.Planning.{IsPlanned, GoesBy, count_of, numbers_of}
 use Rattle.plist_binwrite.specs.Written.{reference_width}
 
 -- by event, the number of its object

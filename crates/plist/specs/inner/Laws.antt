@@ -12,8 +12,8 @@ use Rattle.plist_base.specs.Bracketing.{CanContinue, ContinueAlike}
 use Rattle.plist_base.specs.Writing.{Answer, MatchKind, AnswersByPlace}
 use Rattle.plist.specs.declared.stream.builder.Builder.{Builder}
 use Rattle.plist.specs.Building.{Unfinished, NotBegun, Within, InArray, InDictionary, AfterKey, Complete, Built, IsNested, events_so_far, refusal_of_value, refusal_of_key, refusal_of, IsRefused}
-use Rattle.plist.specs.Builders.{built_of, IsBuildingStep}
-use Rattle.plist.specs.Following.{refused-ends, taken-continues, accepted-continues, last-continues}
+use Rattle.plist.specs.Builder.{built_of, IsBuildingStep}
+use Rattle.plist.specs.inner.Following.{refused-ends, taken-continues, accepted-continues, last-continues}
 
 -- a refusal for the event's place
 abbrev IsOfPlace : FaultKind → Type 0

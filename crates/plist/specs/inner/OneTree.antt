@@ -5,7 +5,7 @@ use Rattle.plist_base.specs.Trees.{Scalar, Tree, Leaf, Array, Dictionary, Trees,
 use Rattle.plist_base.specs.Bracketing.{bracketing, bracketing_of_items, bracketing_of_pairs, unhinted, AreAlike}
 use Rattle.plist.specs.LastWins.{Rows}
 use Rattle.plist.specs.Building.{OpenCollection, InArray, InDictionary, AfterKey, Unfinished, NotBegun, Within, Complete, AllTakeValue}
-use Rattle.plist.specs.Steps.{and_pair, and_tree, begun, in_array, in_dictionary, carried_on, carried_through}
+use Rattle.plist.specs.inner.Steps.{and_pair, and_tree, begun, in_array, in_dictionary, carried_on, carried_through}
 
 -- what is held where a value is to come
 abbrev pub held_in : List OpenCollection → Unfinished

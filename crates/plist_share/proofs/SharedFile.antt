@@ -11,7 +11,7 @@ use Rattle.plist_binwrite.specs.Held.{plain_events}
 use Rattle.plist_binwrite.specs.Standing.{Sits}
 use Rattle.plist_binwrite.proofs.Sends.{sends_as}
 use Rattle.plist_binwrite.proofs.Unhinted.{plain_shape}
-use Rattle.plist_share.specs.Keys.{TellTrees}
+use Rattle.plist_share.specs.inner.Keys.{TellTrees}
 use Rattle.plist_share.specs.SharedFiles.{IsSharedFileOf}
 use Rattle.plist_share.specs.SharedSizes.{shared_file_size}
 use Rattle.plist_share.specs.Sharing.{Sends}

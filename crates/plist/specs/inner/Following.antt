@@ -9,9 +9,9 @@ use Rattle.plist_base.specs.Bracketing.{bracketing, bracketing_of_items, bracket
 use Rattle.plist.specs.LastWins.{Rows}
 use Rattle.plist.specs.Building.{OpenCollection, InArray, InDictionary, AfterKey, Unfinished, NotBegun, Within, Complete, events_within, events_round, events_so_far, last_wins_within, last_wins_so_far, complete_tree, refusal_of_value, refusal_of_key, refusal_of}
 use Rattle.plist.specs.Building.{TakesValue, AllTakeValue, IsNested}
-use Rattle.plist.specs.Steps.{and_pair, and_tree, begun, in_dictionary, carried_on, carried_through}
-use Rattle.plist.specs.Carried.{carried-events, carried-nested, carried-taken}
-use Rattle.plist.specs.OneTree.{held_in, list_of_trees, list_of_members, then_on, on-array, on-dictionary, through-tree, through-items, through-pairs, through-unhinted, whole}
+use Rattle.plist.specs.inner.Steps.{and_pair, and_tree, begun, in_dictionary, carried_on, carried_through}
+use Rattle.plist.specs.inner.Carried.{carried-events, carried-nested, carried-taken}
+use Rattle.plist.specs.inner.OneTree.{held_in, list_of_trees, list_of_members, then_on, on-array, on-dictionary, through-tree, through-items, through-pairs, through-unhinted, whole}
 
 -- ---- the events so far lead to what is held
 

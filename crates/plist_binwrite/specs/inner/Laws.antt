@@ -10,7 +10,7 @@ use Rattle.std.proofs.lemmas.Bool.{true≢false, false≢true}
 use Rattle.plist_base.proofs.Grammar.{alike_last, continue_alike}
 use Rattle.plist_binwrite.specs.declared.shared.Sharing.{Ghosts as SharingGhosts}
 use Rattle.plist_binwrite.specs.declared.writer.FileWriter.{FileWriter}
-use Rattle.plist_binwrite.specs.Taking.{Takes, TakesEvent, Completes, Holds, held_by, failed_of}
+use Rattle.plist_binwrite.specs.FileWriter.{Takes, TakesEvent, Completes, Holds, held_by, failed_of}
 
 -- each part of a fact by kind in turn
 by_kind : (kind : FaultKind) (a b c d : Type 0) → (a → c) → (b → d) → MatchKind kind a b ⊥

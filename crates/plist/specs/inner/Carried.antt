@@ -8,7 +8,7 @@ use Rattle.plist_base.specs.Bracketing.{bracketing, bracketing_of_items, bracket
 use Rattle.plist.specs.LastWins.{Rows}
 use Rattle.plist.specs.Building.{OpenCollection, InArray, InDictionary, AfterKey, Unfinished, NotBegun, Within, Complete, events_within, events_round, events_so_far, refusal_of_value, refusal_of_key, refusal_of}
 use Rattle.plist.specs.Building.{AllTakeValue, IsNested}
-use Rattle.plist.specs.Steps.{and_pair, and_tree, begun, in_array, in_dictionary, carried_on}
+use Rattle.plist.specs.inner.Steps.{and_pair, and_tree, begun, in_array, in_dictionary, carried_on}
 
 items-append : (ts : List Tree) (t : Tree)
     → bracketing_of_items (trees_of (ts ++ t ∷ [])) ≡ bracketing_of_items (trees_of ts)

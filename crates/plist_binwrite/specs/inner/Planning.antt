@@ -4,7 +4,7 @@ use Rattle.plist_binwrite.specs.declared.plan.Plan.{Plan}
 use Rattle.plist_base.specs.Events.{PlainEvent}
 use Rattle.plist_binwrite.specs.Classes.{AreClasses}
 use Rattle.plist_binwrite.specs.Held.{IsBracketed, IsSkips, AllNumbered, num_of}
-use Rattle.plist_binwrite.specs.PlansBy.{IsPlan}
+use Rattle.plist_binwrite.specs.inner.PlansBy.{IsPlan}
 
 -- by event, the place behind the tree that it begins
 abbrev pub skips_in : Plan → List ℕ

@@ -1,0 +1,76 @@
+-- What was decoded of an object, and what the walk makes of it.
+use Rattle.std.specs.Prelude.{◌≡◌, ℕ, List, [], length, cond, Result, Ok, Err, Option, None, Some, MatchResult, ⊤}
+use Rattle.plist_base.specs.declared.error.Error.{Error}
+use Rattle.plist_base.specs.Faults.{InvalidUtf8String, InvalidUtf16String, MatchFault, kind_of, error_kind_of, offset_of}
+use Rattle.plist_base.specs.Events.{PlainEvent, StartArray, StartDictionary, event_of}
+use Rattle.plist_base.specs.Trees as trees
+use Rattle.plist_base.specs.Trees.{Data, String}
+use Rattle.plist_binread.specs.declared.object.Decoded.{Decoded}
+use Rattle.plist_binread.specs.declared.object.Decoded.TheVariants as decoded
+use Rattle.plist_binread.specs.Packed.{is_small_event, single}
+use Rattle.plist_binread.specs.Object.{Object, Scalar, Array, Dictionary, Faulty, children_of}
+
+-- ---- what was decoded
+
+-- the numbers of an object's children in the order of the walk
+abbrev pub children_in : Object → List ℕ
+children_in (Array items) = items
+children_in (Dictionary pairs) = children_of pairs
+children_in (Scalar scalar) = []
+children_in (Faulty kind) = []
+
+-- a collection of this start and so many children
+abbrev pub IsCollection : Object → PlainEvent → (count : ℕ) → Type 0
+IsCollection (Array items) start count =
+    (start ≡ StartArray (Some (length items))) × (length items ≡ count)
+IsCollection (Dictionary pairs) start count =
+    (start ≡ StartDictionary (Some (length pairs))) × (length (children_of pairs) ≡ count)
+IsCollection (Scalar scalar) start count = ⊥
+IsCollection (Faulty kind) start count = ⊥
+
+-- the scalar of an object that is one
+abbrev pub scalar_in : Object → Option trees.Scalar
+scalar_in (Scalar scalar) = Some scalar
+scalar_in (Array items) = None
+scalar_in (Dictionary pairs) = None
+scalar_in (Faulty kind) = None
+
+-- its event
+abbrev pub single_in : Object → Option PlainEvent
+single_in object = single (scalar_in object)
+
+-- what was decoded is this object
+abbrev pub IsDecodedAs : Object → Decoded → Type 0
+IsDecodedAs object (decoded.Scalar event) = single_in object ≡ Some (event_of event)
+IsDecodedAs object (decoded.Collection start count) = IsCollection object (event_of start) count
+
+-- how many small objects were decoded
+abbrev pub small_in : Decoded → ℕ
+small_in (decoded.Scalar event) = cond (is_small_event (event_of event)) 1 0
+small_in (decoded.Collection start count) = 0
+
+abbrev pub small_decoded : Result Decoded Error → ℕ
+small_decoded (Ok decoded) = small_in decoded
+small_decoded (Err error) = 0
+
+-- an object for which memory is wanted: a text, data, or a collection
+abbrev pub GrowsAt : Object → Type 0
+GrowsAt (Scalar (String text)) = ⊤
+GrowsAt (Scalar (Data bytes)) = ⊤
+GrowsAt (Scalar scalar) = ⊥
+GrowsAt (Array items) = ⊤
+GrowsAt (Dictionary pairs) = ⊤
+GrowsAt (Faulty InvalidUtf8String) = ⊤
+GrowsAt (Faulty InvalidUtf16String) = ⊤
+GrowsAt (Faulty kind) = ⊥
+
+-- the object at a place was refused: it is this fault, or a device failed, or memory was wanted for
+-- it
+abbrev pub IsRefusedAs : Object → (place : ℕ) → Error → Type 0
+IsRefusedAs object place error =
+    MatchFault (kind_of (error_kind_of error)) ⊤ (GrowsAt object)
+    ((object ≡ Faulty (kind_of (error_kind_of error))) × (offset_of error ≡ Some place))
+
+abbrev pub Decodes : Object → (place : ℕ) → Result Decoded Error → Type 0
+Decodes object place answer =
+    MatchResult answer (λ d. IsDecodedAs object d) (λ e. IsRefusedAs object place e)

@@ -1,0 +1,123 @@
+-- What one turn of the walk does: what the innermost frame asks for, and which object comes next.
+use Rattle.std.specs.Prelude.{◌≡◌, ℕ, ◌+◌, ◌-◌, ◌<◌, Bool, true, false, not, List, [], ◌∷◌, ◌++◌, length, reverse, nat_lt, get_or, Result, Ok, Err, Option, None, Some, MatchResult, MatchOption, IfOk, ⊤}
+use Rattle.std.specs.List.{slice_get}
+use Rattle.plist_base.specs.declared.error.Error.{Error}
+use Rattle.plist_base.specs.declared.event.Event.{Event}
+use Rattle.plist_base.specs.Faults.{Fault, IsIo, kind_of, error_kind_of}
+use Rattle.plist_base.specs.Events.{PlainEvent, EndCollection, event_of}
+use Rattle.plist_binread.specs.declared.walk.Frame.{Frame}
+use Rattle.plist_binread.specs.declared.walk.Turn.{Turn}
+use Rattle.plist_binread.specs.declared.walk.Turn.TheVariants as turn
+use Rattle.plist_binread.specs.declared.table.Bounds.{Bounds}
+use Rattle.plist_binread.specs.declared.enter.Found.{Found}
+use Rattle.plist_binread.specs.declared.enter.Found.TheVariants as found
+use Rattle.plist_binread.specs.Container.{Head, head_of}
+use Rattle.plist_binread.specs.Packed.{is_small_event, unmarked, cached, single}
+use Rattle.plist_binread.specs.declared.reader.State.{State}
+use Rattle.plist_binread.specs.declared.reader.State.TheVariants.{Fresh, Walking, Ended}
+use Rattle.plist_binread.specs.Object.{Object, Scalar}
+use Rattle.plist_binread.specs.Unfolding.{Entry, unfolding_of, until_fault}
+use Rattle.plist_binread.specs.Decoding.{children_in}
+use Rattle.plist_binread.specs.Debt.{IsOwed, children_at, entries_of, next_number, owed_by, path_of, place_at, steps, weight}
+
+-- ---- what the innermost frame asks for
+
+abbrev pub Turns : List Entry → List Frame → Turn → List Frame → Type 0
+Turns table old turn.Done new = (old ≡ []) × (new ≡ [])
+Turns table old turn.Closed new = owed_by table old ≡ Ok EndCollection ∷ owed_by table new
+Turns table old (turn.Child object index) new =
+    (owed_by table old ≡ unfolding_of table (length table - length new) (path_of new)
+    (place_at (slice_get table object)) (get_or (children_at (slice_get table object)) index 0)
+    ++ owed_by table new)
+    × (index < length (children_at (slice_get table object)))
+    × IsOwed (until_fault (owed_by table old))
+    × (next_number table old ≡ Some (get_or (children_at (slice_get table object)) index 0))
+
+abbrev pub Lightens : (count : ℕ) → List Frame → Turn → List Frame → Type 0
+Lightens count old turn.Done new = Unit {0}
+Lightens count old turn.Closed new = weight count old ≡ weight count new + 1
+Lightens count old (turn.Child object index) new =
+    weight count old ≡ weight count new + steps (count - length new)
+
+-- the frames before the innermost one's last child was taken
+abbrev pub given_back : List Frame → List Frame
+given_back [] = []
+given_back (frame ∷ below) =
+    record { object = frame.object; next = frame.next - 1; count = frame.count } ∷ below
+
+-- a child that was taken can be given back, and where nothing is open nothing has changed
+abbrev pub CanGiveBack : Turn → (old_tags new_tags : List ℕ) → (old new : List Frame) → Type 0
+CanGiveBack turn.Done old_tags new_tags old new = (new_tags ≡ old_tags) × (new ≡ old)
+CanGiveBack turn.Closed old_tags new_tags old new = Unit {0}
+CanGiveBack (turn.Child object index) old_tags new_tags old new =
+    (new_tags ≡ old_tags) × (given_back new ≡ old)
+
+abbrev pub is_fresh : State → Bool
+is_fresh Fresh = true
+is_fresh Walking = false
+is_fresh Ended = false
+
+abbrev pub is_walking : State → Bool
+is_walking Fresh = false
+is_walking Walking = true
+is_walking Ended = false
+
+-- has the innermost collection no child left?
+abbrev pub closes : List Frame → Bool
+closes [] = false
+closes (frame ∷ below) = not (nat_lt frame.next frame.count)
+
+-- does an end come next?
+abbrev pub ends_next : State → List Frame → Bool
+ends_next Fresh frames = false
+ends_next Walking frames = closes (reverse frames)
+ends_next Ended frames = false
+
+-- ---- what is looked up and read
+
+-- what was found by a tag and a content: a scalar, or the place of an object that isn't cached
+abbrev pub IsFound : (tag content : ℕ) → Found → Type 0
+IsFound tag content (found.Scalar event) =
+    (0 < unmarked tag) × (single (cached tag content) ≡ Some (event_of event))
+IsFound tag content (found.Place place) = (unmarked tag ≡ 0) × (place ≡ content)
+
+-- a child's number, where the object has so many
+abbrev pub ReadsChild : Object → (index : ℕ) → Result ℕ Error → Type 0
+ReadsChild object index answer =
+    index < length (children_in object)
+    → MatchResult answer (λ number. number ≡ get_or (children_in object) index 0)
+    (λ error. IsIo (kind_of (error_kind_of error)))
+
+-- a child that is asked for is one of an open object that isn't cached
+abbrev pub IsWithin : (tags : List ℕ) → Turn → Type 0
+IsWithin tags (turn.Child object index) =
+    (object < length tags) × (unmarked (get_or tags object 0) ≡ 0)
+IsWithin tags _ = Unit {0}
+
+-- ---- which object comes next
+
+-- the number of the root of a file with this head
+abbrev pub root_with : Result Head Fault → Option ℕ
+root_with (Ok head) = Some head.root
+root_with (Err fault) = None
+
+-- the number of the object that comes next
+abbrev pub number_owed : List ℕ → State → Bounds → List Frame → Option ℕ
+number_owed bytes Fresh bounds frames = root_with (head_of bytes)
+number_owed bytes Walking bounds frames = next_number (entries_of bytes bounds) (reverse frames)
+number_owed bytes Ended bounds frames = None
+
+-- the object is cached if the event that it gave is small
+abbrev pub IsKept : Option ℕ → Option (Result Event Error) → (tags : List ℕ) → Type 0
+IsKept None item tags = ⊤
+IsKept (Some number) item tags =
+    MatchOption item ⊤ (λ answer. IfOk answer
+    (λ event. is_small_event (event_of event) ≡ true → 0 < unmarked (get_or tags number 0)))
+
+-- the same of an event that is told
+abbrev pub IsKeptTold : {A : Type 0} → Option ℕ → Option (Result A Error) → (told : PlainEvent)
+    → (tags : List ℕ) → Type 0
+IsKeptTold None item told tags = ⊤
+IsKeptTold (Some number) item told tags =
+    MatchOption item ⊤ (λ answer. IfOk answer
+    (λ _. is_small_event told ≡ true → 0 < unmarked (get_or tags number 0)))

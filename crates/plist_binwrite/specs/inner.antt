@@ -1,0 +1,8 @@
+-- What bodies and proofs speak of, and no public clause.
+pub mod Ending
+pub mod Laws
+pub mod Laying
+pub mod Planning
+pub mod PlansBy
+pub mod Scalars
+pub mod Stacks
