@@ -256,8 +256,13 @@ def uses(counts, folder):
     counts.sweep("Settings::set", str(path), f"ok | {changed.hex()}", {f"back | {file}"})
     counts.sweep("convert", str(path), f"ok | {file}", {f"{WANT} | "})
     counts.sweep("read_upload", str(path), joined({"a": ["x"], "b": "a"}), {WANT})
+    counts.sweep("count", str(path), "1 1 4 0", {WANT})
     path.write_bytes(ASCII)
+    counts.sweep("count", str(path), "1 2 6 1", {WANT})
     counts.sweep("read_upload", str(path), joined(ASCII_VALUE), {WANT})
+    keys = b"\x56second\x55level".hex()
+    readings = file_of(f"a20102 d203040506 {keys} 1000 1005 d203040607 1007 080b2110171d1f26", 8, 40)
+    counts.sweep("write_readings", "-", f"ok | {readings.hex()}", {f"{WANT} | "})
     counts.sweep("root_of", ROOT, "{1 'name' 'x' end", {WANT})
 
 

@@ -1,3 +1,5 @@
 -- What contracts of the examples speak of.
 pub mod Settings
 pub mod Roots
+pub mod Counting
+pub mod Generated

@@ -5,6 +5,8 @@ use plist::{Builder, Value};
 use plist_base::Writer;
 use plist_uses::archive::root_of;
 use plist_uses::convert::convert;
+use plist_uses::counting::count;
+use plist_uses::generated::{Reading, write_readings};
 use plist_uses::settings::{Settings, SettingsError};
 use plist_uses::strangers::read_upload;
 use std::process::Abort;
@@ -84,6 +86,36 @@ fn converts_a_text(rt: HostRuntime) {
         "{2 'name' 'James' 'age' 42 end"
     );
     assert_eq!(&rt; file.as_slice(), bytes_of(&rt, JAMES).as_slice());
+}
+
+#[test]
+fn counts_what_a_file_holds(rt: HostRuntime) {
+    let text: &[u8] = b"{ a = (1, b, ()); c = 2; }";
+    let counts = must(&rt, count(rt.alloc(), text));
+    assert_eq!(&rt; counts.arrays, 2);
+    assert_eq!(&rt; counts.dictionaries, 1);
+    assert_eq!(&rt; counts.texts, 3);
+    assert_eq!(&rt; counts.others, 2);
+    let unclosed: &[u8] = b"(\"a";
+    assert!(&rt; count(rt.alloc(), unclosed).is_err());
+}
+
+#[test]
+fn readings_are_written_from_events(rt: HostRuntime) {
+    let readings = [
+        Reading { second: 0, level: 5 },
+        Reading {
+            second: 60,
+            level: 5,
+        },
+    ];
+    let mut builder = Builder::new(rt.alloc());
+    must(&rt, write_readings(&readings, &mut builder));
+    let value = must(&rt, builder.finish());
+    assert_eq!(&rt;
+        words_of_value(&rt, &value).as_str(),
+        "[2 {2 'second' 0 'level' 5 end {2 'second' 60 'level' 5 end end"
+    );
 }
 
 // An array in an array, and so on, of so many.

@@ -1,0 +1,41 @@
+-- A writer that is handed one list of events behind another.
+use Rattle.std.proofs.Common.{◌≡◌, List, [], ◌∷◌, ◌++◌, length, map, refl, sym, subst, append_assoc, arith}
+use Rattle.plist_base.specs.Bracketing.{bracketing, bracketing_of_items}
+use Rattle.plist_base.specs.Events.{PlainEvent, EndCollection}
+use Rattle.plist_base.specs.Trees.{Tree, trees_of, number_of_trees}
+use Rattle.plist_base.specs.Writing.{Answer}
+use Rattle.plist.specs.Handing.{Took}
+use Rattle.plist_uses.specs.declared.generated.Reading.{Reading}
+use Rattle.plist_uses.specs.Generated.{reading_tree}
+
+-- what stands for an item where there is none
+abbrev pub none : Reading
+none = record { second = 0; level = 0 }
+
+-- the events of an array's items from here on, and its end
+abbrev pub events_left : List Tree → List PlainEvent
+events_left trees = bracketing_of_items (trees_of trees) ++ EndCollection ∷ []
+
+pub number : (readings : List Reading)
+    → length readings ≡ number_of_trees (trees_of (map reading_tree readings))
+number [] = refl
+number (reading ∷ readings) = omega (arith, number readings)
+
+module _ {S : Type 0} (Step : S → PlainEvent → Answer → S → Type 0) where
+  took-more : (first second : List PlainEvent) (before between after : S)
+      → Took Step before first between → Took Step between second after
+      → Took Step before (first ++ second) after
+  took-more [] second before between after is more =
+      subst (λ state. Took Step state second after) (sym is) more
+  took-more (event ∷ first) second before between after (next, step, took) more =
+      (next, step, took-more first second next between after took more)
+
+  -- an item is handed over, and then those behind it
+  pub item-more : (tree : Tree) (trees : List Tree) (before between after : S)
+      → Took Step before (bracketing tree) between → Took Step between (events_left trees) after
+      → Took Step before (events_left (tree ∷ trees)) after
+  item-more tree trees before between after took more =
+      subst (λ events. Took Step before events after)
+      (sym (append_assoc (bracketing tree) (bracketing_of_items (trees_of trees))
+      (EndCollection ∷ [])))
+      (took-more (bracketing tree) (events_left trees) before between after took more)

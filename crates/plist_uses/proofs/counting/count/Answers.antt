@@ -1,0 +1,21 @@
+use Rattle.plist_reader.specs.Reader.{to_come}
+use Rattle.plist_uses.proofs.Counted.{begun, counted, all-counted}
+use Rattle.plist_uses.proofs.counting.count.Goals as goal
+
+pub loop-item-init : goal.loop-item-init
+loop-item-init g c = begun (to_come g.R.Source.known c.new-reader.result) c.none-counts.result c.none-counts.ensures
+
+pub loop-item-preserved : goal.loop-item-preserved
+loop-item-preserved g c =
+    counted _ (to_come g.R.Source.known c.loop-item.reader)
+    (to_come g.R.Source.known c.next.new.self) c.in-Some.item c.loop-item.counts
+    c.take.new.self c.loop-item.invariant c.in-Some.ensures.steps.items c.in_ok-take.ensures
+
+pub returns : goal.returns
+returns g c = record {
+  counted =
+      all-counted (g.R.Source.known c.args.source) (to_come g.R.Source.known c.new-reader.result)
+      (to_come g.R.Source.known c.loop-item.reader) (to_come g.R.Source.known c.next.new.self)
+      c.loop-item.counts c.new-reader.ensures.items c.loop-item.invariant
+      c.in_default.ensures.steps.items;
+}

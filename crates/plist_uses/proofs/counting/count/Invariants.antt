@@ -1,0 +1,8 @@
+use Rattle.plist_reader.specs.Reader.{to_come}
+use Rattle.plist_uses.proofs.Counted.{CountedSoFar}
+use Rattle.plist_uses.proofs.counting.count.Given as goal
+
+abbrev pub invariant-loop-item : goal.invariant-loop-item
+invariant-loop-item g l =
+    CountedSoFar (to_come g.R.Source.known l.initial.reader) (to_come g.R.Source.known l.reader)
+    l.counts

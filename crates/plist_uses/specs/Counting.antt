@@ -1,0 +1,57 @@
+-- What the counts of a property list are.
+use Rattle.std.specs.Prelude.{◌≡◌, ℕ, ◌+◌, ◌-◌, ◌^◌, min, Bool, true, false, cond, List, Ok, Err, length, map, filter}
+use Rattle.plist_base.specs.Events.{PlainEvent, Item, StartArray, StartDictionary, Single}
+use Rattle.plist_base.specs.Trees.{String}
+use Rattle.plist_uses.specs.declared.counting.Counts.{Counts}
+
+abbrev pub is_array : PlainEvent → Bool
+is_array (StartArray length) = true
+is_array event = false
+
+abbrev pub is_dictionary : PlainEvent → Bool
+is_dictionary (StartDictionary length) = true
+is_dictionary event = false
+
+abbrev pub is_text : PlainEvent → Bool
+is_text (Single (String text)) = true
+is_text event = false
+
+-- any other scalar
+abbrev pub is_other : PlainEvent → Bool
+is_other (Single (String text)) = false
+is_other (Single scalar) = true
+is_other event = false
+
+-- how many of the events pass, or the largest number of 64 bits where there are more
+abbrev pub number_of : (PlainEvent → Bool) → List PlainEvent → ℕ
+number_of passes events = min (length (filter passes events)) (2 ^ 64 - 1)
+
+-- the counts tell how many arrays, dictionaries, texts and others these events have
+pub record Tell (events : List PlainEvent) (counts : Counts) : Type 0 where
+  pub arrays : counts.arrays ≡ number_of is_array events
+  pub dictionaries : counts.dictionaries ≡ number_of is_dictionary events
+  pub texts : counts.texts ≡ number_of is_text events
+  pub others : counts.others ≡ number_of is_other events
+
+-- the items are events without a fault, and these are their counts
+abbrev pub AreCountsOf : List Item → Counts → Type 0
+AreCountsOf items counts = (events : List PlainEvent) × (items ≡ map Ok events) × Tell events counts
+
+abbrev pub nothing : Counts
+nothing = record { arrays = 0; dictionaries = 0; texts = 0; others = 0 }
+
+-- one more where it passes, but none past the largest number of 64 bits
+abbrev pub one_more : (passes : Bool) → ℕ → ℕ
+one_more passes count = cond passes (min (count + 1) (2 ^ 64 - 1)) count
+
+-- an event is counted
+pub record CountsOne (event : PlainEvent) (old new : Counts) : Type 0 where
+  pub arrays : new.arrays ≡ one_more (is_array event) old.arrays
+  pub dictionaries : new.dictionaries ≡ one_more (is_dictionary event) old.dictionaries
+  pub texts : new.texts ≡ one_more (is_text event) old.texts
+  pub others : new.others ≡ one_more (is_other event) old.others
+
+-- an item was an event, which is counted
+abbrev pub CountsItem : Item → (old new : Counts) → Type 0
+CountsItem (Ok event) old new = CountsOne event old new
+CountsItem (Err fault) old new = ⊥

@@ -1,0 +1,79 @@
+//! Counting what a file holds, with no value of it in memory.
+
+ghost use Rattle.std.specs.Prelude.{◌≡◌, IfOk, IfSome, OnOk};
+ghost use Rattle.plist_base.specs.Events.{event_of, item_of};
+ghost use Rattle.plist_reader.specs.Reader.{items_of_input};
+ghost use Rattle.plist_uses.specs.Counting.{AreCountsOf, CountsItem, CountsOne, nothing};
+
+use plist::Error;
+use plist::stream::{OwnedEvent, Reader, Source};
+use std::alloc::Global;
+
+/// How many arrays, dictionaries, texts and other scalars there are. A dictionary's keys are texts
+/// too. No count goes past `u64::MAX`.
+#[derive(Clone, Copy)]
+pub struct Counts {
+    pub arrays: u64,
+    pub dictionaries: u64,
+    pub texts: u64,
+    pub others: u64,
+}
+
+impl Counts {
+    fn none() -> Counts
+        ensures { result ≡ nothing }
+    {
+        Counts {
+            arrays: 0,
+            dictionaries: 0,
+            texts: 0,
+            others: 0,
+        }
+    }
+
+    // Counts an item's event, or passes its fault on.
+    fn take(&mut self, item: Result<OwnedEvent, Error>) -> Result<(), Error>
+        ensures { OnOk result (CountsItem (item_of item.entry) self.old self.new) }
+    {
+        let event = item?;
+        self.count(&event);
+        Ok(())
+    }
+
+    fn count(&mut self, event: &OwnedEvent)
+        ensures { CountsOne (event_of event.now) self.old self.new }
+    {
+        match event {
+            OwnedEvent::StartArray(_) => self.arrays = self.arrays.saturating_add(1),
+            OwnedEvent::StartDictionary(_) => {
+                self.dictionaries = self.dictionaries.saturating_add(1)
+            }
+            OwnedEvent::EndCollection => {}
+            OwnedEvent::String(_) => self.texts = self.texts.saturating_add(1),
+            OwnedEvent::Boolean(_)
+            | OwnedEvent::Data(_)
+            | OwnedEvent::Date(_)
+            | OwnedEvent::Integer(_)
+            | OwnedEvent::Real(_)
+            | OwnedEvent::Uid(_) => self.others = self.others.saturating_add(1),
+        }
+    }
+}
+
+/// Counts what a property list holds, binary or in ASCII. It goes from event to event and keeps none,
+/// so it takes no more memory for a larger file than the reader does.
+///
+/// # Errors
+///
+/// The first fault, as [`Reader`] tells it.
+pub fn count<R: Source>(alloc: Global, source: R) -> Result<Counts, Error>
+    ensures counted { IfSome (R.known source) (λ bytes. IfOk result (λ counts.
+        AreCountsOf (items_of_input bytes) counts)) }
+{
+    let mut counts = Counts::none();
+    let mut reader = Reader::new(alloc, source);
+    while let Some(item) = reader.next() {
+        counts.take(item)?;
+    }
+    Ok(counts)
+}

@@ -1,0 +1,48 @@
+//! Writing a list straight from events, with no value of it in memory.
+
+ghost use Rattle.std.specs.Prelude.{OnOk};
+ghost use Rattle.plist_base.specs.Bracketing.{bracketing};
+ghost use Rattle.plist.specs.Handing.{Took};
+ghost use Rattle.plist_uses.specs.Generated.{reading_tree, readings_tree};
+
+use plist::stream::Writer;
+use plist::{Error, Integer};
+use std::borrow::CowStr;
+
+/// A reading of a meter: when, in Unix seconds, and what.
+#[derive(Clone, Copy)]
+pub struct Reading {
+    pub second: u64,
+    pub level: u64,
+}
+
+// Writes a reading as a dictionary.
+fn write_reading<W: Writer>(reading: &Reading, writer: &mut W) -> Result<(), Error>
+    ensures handed { OnOk result (Took W.Step writer.old
+        (bracketing (reading_tree reading.now)) writer.new) }
+{
+    writer.write_start_dictionary(Some(2))?;
+    writer.write_string(CowStr::Borrowed("second"))?;
+    writer.write_integer(Integer::from(reading.second))?;
+    writer.write_string(CowStr::Borrowed("level"))?;
+    writer.write_integer(Integer::from(reading.level))?;
+    writer.write_end_collection()
+}
+
+/// Writes readings as an array of dictionaries, event by event: to a `BinaryWriter`, to one that
+/// shares, or to any other. No value of them is made.
+///
+/// # Errors
+///
+/// The writer's first refusal, after which it is handed nothing more.
+pub fn write_readings<W: Writer>(readings: &[Reading], writer: &mut W) -> Result<(), Error>
+    ensures handed { OnOk result (Took W.Step writer.old
+        (bracketing (readings_tree readings.now)) writer.new) }
+{
+    writer.write_start_array(Some(readings.len() as u64))?;
+    for reading in readings {
+        write_reading(reading, writer)?;
+    }
+    writer.write_end_collection()?;
+    Ok(())
+}
