@@ -1,8 +1,8 @@
 #!/usr/bin/env python3
 """Tells whether the code that README.md and docs/EXAMPLES.md quote stands in the examples' sources.
 
-Each paragraph of a block of Rust has to stand in a file of crates/plist_uses/src. Lines of `use` are left
-out: a block names only those that its reader needs. Ends with status 1 where one doesn't.
+Each paragraph of a block of Rust has to stand in a file of crates/plist_uses/src, or in the program
+examples/first.rt.in. Ends with status 1 where one doesn't.
 """
 import pathlib
 import re
@@ -13,13 +13,12 @@ TOP = pathlib.Path(__file__).resolve().parents[2]
 
 def quoted(path):
     for block in re.findall(r"```rust\n(.*?)```", path.read_text(), re.S):
-        for part in block.strip("\n").split("\n\n"):
-            if not part.startswith("use "):
-                yield part
+        yield from block.strip("\n").split("\n\n")
 
 
 def main():
-    sources = [path.read_text() for path in (TOP / "crates/plist_uses/src").glob("*.rt")]
+    paths = [*(TOP / "crates/plist_uses/src").glob("*.rt"), TOP / "examples/first.rt.in"]
+    sources = [path.read_text() for path in paths]
     status = 0
     for path in (TOP / "README.md", TOP / "docs/EXAMPLES.md"):
         for part in quoted(path):
