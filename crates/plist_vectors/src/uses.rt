@@ -103,7 +103,10 @@ fn counts_what_a_file_holds(rt: HostRuntime) {
 #[test]
 fn readings_are_written_from_events(rt: HostRuntime) {
     let readings = [
-        Reading { second: 0, level: 5 },
+        Reading {
+            second: 0,
+            level: 5,
+        },
         Reading {
             second: 60,
             level: 5,
