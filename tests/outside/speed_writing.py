@@ -58,9 +58,9 @@ def row(name, source, known):
         if value is None:
             cells.append("fails")
         elif program == "plist_tool" or ours is None:
-            cells.append(f"{value[0]:.2f} s, {value[1]:.0f} MB")
+            cells.append(f"{value[0]:.2f} s, {value[1] / 1e6:.0f} MB")
         else:
-            cells.append(f"{value[0]:.2f} s, {value[1]:.0f} MB ({ours[0] / max(value[0], 0.001):.2f}, {ours[1] / value[1]:.2f})")
+            cells.append(f"{value[0]:.2f} s, {value[1] / 1e6:.0f} MB ({ours[0] / max(value[0], 0.001):.2f}, {ours[1] / value[1]:.2f})")
     print(f"| {name} | {source.stat().st_size:,} | " + " | ".join(cells) + " |", flush=True)
     return ours and ours[0]
 
