@@ -1,10 +1,10 @@
 -- References put one by one, along a walk of a collection's items.
-use Rattle.std.proofs.Common.{◌≡◌, ◌⊎◌, inl, inr, ℕ, ◌+◌, ◌≤◌, Bool, true, false, List, [], ◌∷◌, length, map, Option, Ok, Err, ap, sym, subst, arith}
+use Rattle.std.proofs.Common.{◌≡◌, ◌⊎◌, inl, inr, ℕ, ◌+◌, ◌≤◌, Bool, true, false, List, [], ◌∷◌, length, map, Option, Ok, Err, if◌then◌else◌, refl, ap, sym, subst, arith}
 use Rattle.plist_base.specs.Faults.{Fault}
 use Rattle.plist_base.specs.Trees as trees
 use Rattle.plist_base.specs.Writing.{Answer}
 use Rattle.plist_binwrite.specs.Forms.{big_endian, table_form}
-use Rattle.plist_binwrite.specs.Held.{is_stop, event_at, item_places}
+use Rattle.plist_binwrite.specs.Held.{is_stop, event_at, item_places, half_places}
 use Rattle.plist_base.specs.Events.{PlainEvent, EndCollection}
 use Rattle.plist_base.specs.Trees.{Tree, Leaf, Trees, NoTrees, TreeAnd, Members, NoMembers, MemberAnd}
 use Rattle.plist_binwrite.specs.Standing.{size, Sits, SitsItems, SitsPairs}
@@ -150,3 +150,17 @@ module _ (es : List PlainEvent) (num : ℕ → ℕ) (w : ℕ) (one : ℕ → ℕ
   pub each_begin : (a : Option (List ℕ)) (held : List ℕ) (ms : Members) (q : ℕ) → SitsPairs es ms q
       → Each a held (put_of ms q) a held q
   each_begin a held ms q s = record { left = ms; sits = s; goes = λ answer c k p. p }
+
+-- of a pair at q, and of all pairs, what is put
+abbrev pub half_at : Bool → ℕ → ℕ
+half_at of_values q = if of_values then q + 1 else q
+
+pub half_none : (of_values : Bool) (q : ℕ) → half_places of_values NoMembers q ≡ []
+half_none true q = refl
+half_none false q = refl
+
+pub half_some : (of_values : Bool) (k : List ℕ) (t : Tree) (ms : Members) (q : ℕ)
+    → half_places of_values (MemberAnd k t ms) q
+    ≡ half_at of_values q ∷ half_places of_values ms (q + 1 + size t)
+half_some true k t ms q = refl
+half_some false k t ms q = refl

@@ -1,10 +1,10 @@
 //! Puts the objects of a planned file.
 
-ghost use Rattle.std.specs.Prelude.{◌+◌, ◌<◌, ◌≤◌, ℕ, length, map};
+ghost use Rattle.std.specs.Prelude.{◌≡◌, ◌+◌, ◌<◌, ◌≤◌, ℕ, if◌then◌else◌, length, map};
 ghost use Rattle.plist_base.specs.Writing.{answer_of};
 ghost use Rattle.plist_binread.specs.Object.{Object};
 ghost use Rattle.plist_binwrite.specs.Forms.{form, table_form};
-ghost use Rattle.plist_binwrite.specs.Held.{plain_events, num_of, item_places, key_places, value_places, AllBelow, Describes};
+ghost use Rattle.plist_binwrite.specs.Held.{plain_events, num_of, item_places, half_places, AllBelow, Describes};
 ghost use Rattle.plist_base.specs.Trees.{Tree, Trees, Members, Array, Dictionary};
 ghost use Rattle.plist_binwrite.specs.Standing.{Sits, SitsItems, SitsPairs};
 ghost use Rattle.plist_binwrite.specs.Numberings.{obj_of};
@@ -47,52 +47,30 @@ fn put_items<W: Write>(
     Ok(())
 }
 
-// Puts references to the keys of a dictionary, from here on.
-fn put_keys<W: Write>(
-    writer: &mut W,
-    room: &mut Vec<u8>,
-    events: &[Event<'_>],
-    plan: &Plan,
-    width: usize,
-    from: usize,
-) -> Result<(), Error>
-    requires planned { IsPlanned (plain_events events.now) plan.now }
-    requires width { width ≤ 8 }
-    ensures { (ms : Members) → SitsPairs (plain_events events.now) ms from
-        → Puts (W.contents writer.old) room.old.items
-        (table_form width (map (num_of (numbers_of plan.now)) (key_places ms from)))
-        (answer_of result) (W.contents writer.new) room.new.items }
+// One of a pair's children.
+fn half_of(key: usize, value: usize, of_values: bool) -> usize
+    requires { key ≤ value }
+    ensures half { result ≡ (if of_values then value else key) }
+    ensures within { result ≤ value }
 {
-    let mut key = from;
-    'walk: while has_item(events, key) {
-        let number = plan.number(key);
-        match put_number(writer, room, width, number as u64) {
-            Ok(()) => {}
-            Err(error) => return Err(error),
-        }
-        let value = key + 1;
-        if value >= events.len() {
-            return Ok(());
-        }
-        key = plan.skip(value);
-    }
-    Ok(())
+    if of_values { value } else { key }
 }
 
-// Puts references to the values of a dictionary, from here on.
-fn put_values<W: Write>(
+// Puts references to the values of a dictionary, or to its keys, from here on.
+fn put_halves<W: Write>(
     writer: &mut W,
     room: &mut Vec<u8>,
     events: &[Event<'_>],
     plan: &Plan,
     width: usize,
     from: usize,
+    of_values: bool,
 ) -> Result<(), Error>
     requires planned { IsPlanned (plain_events events.now) plan.now }
     requires width { width ≤ 8 }
     ensures { (ms : Members) → SitsPairs (plain_events events.now) ms from
         → Puts (W.contents writer.old) room.old.items
-        (table_form width (map (num_of (numbers_of plan.now)) (value_places ms from)))
+        (table_form width (map (num_of (numbers_of plan.now)) (half_places of_values ms from)))
         (answer_of result) (W.contents writer.new) room.new.items }
 {
     let mut key = from;
@@ -101,7 +79,7 @@ fn put_values<W: Write>(
         if value >= events.len() {
             return Ok(());
         }
-        let number = plan.number(value);
+        let number = plan.number(half_of(key, value, of_values));
         match put_number(writer, room, width, number as u64) {
             Ok(()) => {}
             Err(error) => return Err(error),
@@ -155,8 +133,8 @@ fn put_dictionary<W: Write>(
         Ok(()) => {}
         Err(error) => return Err(error),
     }
-    match put_keys(writer, room, events, plan, width, place + 1) {
-        Ok(()) => put_values(writer, room, events, plan, width, place + 1),
+    match put_halves(writer, room, events, plan, width, place + 1, false) {
+        Ok(()) => put_halves(writer, room, events, plan, width, place + 1, true),
         Err(error) => Err(error),
     }
 }

@@ -16,19 +16,19 @@ returns-in-Err g c = λ ms s.
     (key_places ms (c.args.place + 1))) ++ table_form c.args.width
     (map num (value_places ms (c.args.place + 1)))) c.in-Err.ensures)
 
-pub returns-in-Ok-put_keys : goal.returns-in-Ok-put_keys
-returns-in-Ok-put_keys g c = λ ms s.
+pub returns-in-Ok-put_halves : goal.returns-in-Ok-put_halves
+returns-in-Ok-put_halves g c = λ ms s.
     puts_as (dictionary_is (num_of (numbers_of c.args.plan.now)) c.args.width
     (c.count_items-count.result / 2) ms c.args.place
     (half c.count_items-count.result ms (c.args.place + 1) s c.count_items-count.ensures.value))
-    (puts_then c.in-Ok.ensures (puts_then (c.in-Ok-put_keys.ensures ms s)
-    (c.put_values.ensures ms s)))
+    (puts_then c.in-Ok.ensures (puts_then (c.in-Ok-put_halves.ensures ms s)
+    (c.put_halves-in-Ok-put_halves.ensures ms s)))
 
-pub returns-in-Err-put_keys : goal.returns-in-Err-put_keys
-returns-in-Err-put_keys g c = λ ms s.
+pub returns-in-Err-put_halves : goal.returns-in-Err-put_halves
+returns-in-Err-put_halves g c = λ ms s.
     let num = num_of (numbers_of c.args.plan.now) in
     puts_as (dictionary_is (num_of (numbers_of c.args.plan.now)) c.args.width
     (c.count_items-count.result / 2) ms c.args.place
     (half c.count_items-count.result ms (c.args.place + 1) s c.count_items-count.ensures.value))
     (puts_then c.in-Ok.ensures (puts_front (table_form c.args.width
-    (map num (value_places ms (c.args.place + 1)))) (c.in-Err-put_keys.ensures ms s)))
+    (map num (value_places ms (c.args.place + 1)))) (c.in-Err-put_halves.ensures ms s)))
