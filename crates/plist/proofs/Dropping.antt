@@ -2,12 +2,12 @@
 use Rattle.std.proofs.Common.{◌≡◌, ℕ, suc, ◌<◌, ◌≤◌, ◌+◌, ◌-◌, ◌*◌, List, [], ◌∷◌, ◌++◌, length, inl, inr, ap, ◌∙◌, arith}
 use Rattle.std.proofs.lemmas.Grind.{common_steps}
 use Rattle.plist.specs.declared.value.Value.{Value}
-use Rattle.plist.specs.Weights.{weight, weights, others, to_drop, IsLess}
+use Rattle.plist.specs.inner.Weights.{weight, weights, others, to_drop, IsLess}
 
 pub weights-append : (xs ys : List Value) → weights (xs ++ ys) ≡ weights xs + weights ys
 weights-append xs ys = grind (arith, common_steps)
 
-weights-more : (x : Value) (xs : List Value) → weights (x ∷ xs) ≡ weight x + weights xs
+pub weights-more : (x : Value) (xs : List Value) → weights (x ∷ xs) ≡ weight x + weights xs
 weights-more x xs = grind (arith, common_steps)
 
 others-le : (xs : List Value) → weights (others xs) ≤ weights xs

@@ -24,3 +24,4 @@ pub mod Retained
 pub mod Extended
 pub mod Rebuilt
 pub mod Dropping
+pub mod Comparing

@@ -21,5 +21,4 @@ pub mod Bulk
 pub mod Contents
 pub mod Rows
 pub mod Limiting
-pub mod Weights
 pub mod inner

@@ -6,3 +6,5 @@ pub mod Following
 pub mod Laws
 pub mod Sameness
 pub mod PairsSame
+pub mod Weights
+pub mod PutOff

@@ -1,13 +1,27 @@
 //! When values are equal.
+//!
+//! Values are compared by the call stack down to some levels; a pair that lies deeper is put off,
+//! and compared once the others are. So equality takes no more of the call stack than these levels
+//! do, however deep the values are, unless memory for the pairs is refused.
 
-ghost use Rattle.std.specs.Prelude.{◌≡◌};
+ghost use Rattle.std.specs.Prelude.{◌≡◌, ◌-◌, ◌++◌, ◌∷◌, [], MatchOption};
+ghost use Rattle.std.specs.Map.{values_of};
 ghost use Rattle.plist_base.specs.Trees.{Dictionary};
+ghost use Rattle.plist.specs.inner.PutOff.{Compares, PutsOff, same_values, waiting};
 ghost use Rattle.plist.specs.Same.{same, same_items};
 ghost use Rattle.plist.specs.Views.{item_trees, pair_trees, tree_of};
+ghost use Rattle.plist.specs.inner.Weights.{weight, weights};
 
 use crate::{Dictionary, Value};
+use std::alloc::Global;
+
+// How many levels are compared before a pair is put off.
+const LEVELS: u32 = 128;
 
 /// Equal kinds with the same content: arrays by place, dictionaries by key, whatever the order.
+///
+/// It takes no memory for values of at most 128 levels. Where it wants some for deeper ones and
+/// none is found, it takes more of the call stack.
 impl PartialEq for Value {
     ghost use Rattle.std.specs.Cmp.{partial_equiv_from_equiv};
     ghost use Rattle.plist.specs.inner.Sameness.{same_by_equiv};
@@ -17,7 +31,16 @@ impl PartialEq for Value {
     ghost laws = { partial_equiv_from_equiv (same_by_equiv tree_of) };
 
     fn eq(&self, other: &Value) -> bool {
-        same_values(self, other)
+        let mut later = Later { pairs: None };
+        if !later.compare(self, other, LEVELS) {
+            return false;
+        }
+        while let Some(pair) = later.pop() {
+            if !later.compare_content(pair.value, pair.other, LEVELS) {
+                return false;
+            }
+        }
+        true
     }
 }
 
@@ -27,84 +50,155 @@ impl Eq for Value {
     ghost laws = { same_by_equiv tree_of };
 }
 
-#[cycle(same)]
-fn same_values(value: &Value, other: &Value) -> bool
-    ensures { result ≡ same (tree_of value.now) (tree_of other.now) }
-{
-    match value {
-        Value::Array(items) => match other {
-            Value::Array(others) => same_lists(items, others),
-            _ => false,
-        },
-        Value::Dictionary(pairs) => match other {
-            Value::Dictionary(others) => same_dictionaries(pairs, others),
-            _ => false,
-        },
-        Value::Boolean(content) => match other {
-            Value::Boolean(another) => *content == *another,
-            _ => false,
-        },
-        Value::Data(content) => match other {
-            Value::Data(another) => content.as_slice() == another.as_slice(),
-            _ => false,
-        },
-        Value::Date(content) => match other {
-            Value::Date(another) => *content == *another,
-            _ => false,
-        },
-        Value::Real(content) => match other {
-            Value::Real(another) => *content == *another,
-            _ => false,
-        },
-        Value::Integer(content) => match other {
-            Value::Integer(another) => *content == *another,
-            _ => false,
-        },
-        Value::String(content) => match other {
-            Value::String(another) => content.as_str() == another.as_str(),
-            _ => false,
-        },
-        Value::Uid(content) => match other {
-            Value::Uid(another) => *content == *another,
-            _ => false,
-        },
-    }
+// Two values that are still to be compared.
+#[derive(Drop)]
+struct Pair<'a> {
+    value: &'a Value,
+    other: &'a Value,
 }
 
-#[cycle(same)]
-fn same_lists(items: &Vec<Value>, others: &Vec<Value>) -> bool
-    ensures { result ≡ same_items (item_trees items.now.items) (item_trees others.now.items) }
-{
-    if items.len() != others.len() {
-        return false;
+// The pairs that are still to be compared.
+#[derive(Drop)]
+struct Later<'a> {
+    pairs: Option<Vec<Pair<'a>>>,
+}
+
+impl<'a> Later<'a> {
+    // The pair that was put off last.
+    fn pop(&mut self) -> Option<Pair<'a>>
+        ensures { MatchOption result (waiting self.old ≡ [])
+            (λ pair. waiting self.old ≡ waiting self.new ++ pair ∷ []) }
+    {
+        match &mut self.pairs {
+            None => None,
+            Some(pairs) => pairs.pop(),
+        }
     }
-    for i in 0..items.len() {
-        if !same_values(&items[i], &others[i]) {
+
+    // The list of the pairs that were put off, of which none are then.
+    fn take(&mut self, alloc: Global) -> Vec<Pair<'a>>
+        ensures { result.items ≡ waiting self.old }
+    {
+        match self.pairs.take() {
+            Some(pairs) => pairs,
+            None => Vec::new(alloc),
+        }
+    }
+
+    // Puts a pair off, if it is one of collections and memory is found for it.
+    fn put_off(&mut self, value: &'a Value, other: &'a Value) -> bool
+        ensures { PutsOff value.now other.now self.old result self.new }
+    {
+        let Some(alloc) = value.allocator() else {
+            return false;
+        };
+        let mut pairs = self.take(alloc);
+        let done = pairs.push(Pair { value, other }).is_ok();
+        self.pairs = Some(pairs);
+        done
+    }
+
+    // Whether two values are equal, but for pairs that are put off.
+    #[cycle(same)]
+    fn compare(&mut self, value: &'a Value, other: &'a Value, levels: u32) -> bool
+        ensures { Compares (same_values value.now other.now) (weight value.now)
+            self.old result self.new }
+    {
+        if levels > 0 {
+            return self.compare_content(value, other, levels - 1);
+        }
+        if self.put_off(value, other) {
+            return true;
+        }
+        self.compare_content(value, other, 0)
+    }
+
+    // The same, where the two aren't put off themselves.
+    #[cycle(same)]
+    fn compare_content(&mut self, value: &'a Value, other: &'a Value, levels: u32) -> bool
+        ensures { Compares (same_values value.now other.now) (weight value.now - 1)
+            self.old result self.new }
+    {
+        match value {
+            Value::Array(items) => match other {
+                Value::Array(others) => self.compare_items(items, others, levels),
+                _ => false,
+            },
+            Value::Dictionary(pairs) => match other {
+                Value::Dictionary(others) => self.compare_pairs(pairs, others, levels),
+                _ => false,
+            },
+            Value::Boolean(content) => match other {
+                Value::Boolean(another) => *content == *another,
+                _ => false,
+            },
+            Value::Data(content) => match other {
+                Value::Data(another) => content.as_slice() == another.as_slice(),
+                _ => false,
+            },
+            Value::Date(content) => match other {
+                Value::Date(another) => *content == *another,
+                _ => false,
+            },
+            Value::Real(content) => match other {
+                Value::Real(another) => *content == *another,
+                _ => false,
+            },
+            Value::Integer(content) => match other {
+                Value::Integer(another) => *content == *another,
+                _ => false,
+            },
+            Value::String(content) => match other {
+                Value::String(another) => content.as_str() == another.as_str(),
+                _ => false,
+            },
+            Value::Uid(content) => match other {
+                Value::Uid(another) => *content == *another,
+                _ => false,
+            },
+        }
+    }
+
+    // Whether two arrays are equal, likewise.
+    #[cycle(same)]
+    fn compare_items(&mut self, items: &'a Vec<Value>, others: &'a Vec<Value>, levels: u32) -> bool
+        ensures { Compares
+            (same_items (item_trees items.now.items) (item_trees others.now.items))
+            (weights items.now.items) self.old result self.new }
+    {
+        if items.len() != others.len() {
             return false;
         }
+        for i in 0..items.len() {
+            if !self.compare(&items[i], &others[i], levels) {
+                return false;
+            }
+        }
+        true
     }
-    true
-}
 
-#[cycle(same)]
-fn same_dictionaries(pairs: &Dictionary, others: &Dictionary) -> bool
-    ensures { result
-        ≡ same (Dictionary (pair_trees pairs.now)) (Dictionary (pair_trees others.now)) }
-{
-    let count = pairs.pair_count();
-    if count != others.pair_count() {
-        return false;
-    }
-    for i in 0..count {
-        let (key, value) = pairs.pair_at(i);
-        match others.get(key) {
-            Some(other) => {
-                if !same_values(value, other) {
-                    return false;
+    // Whether two dictionaries are equal, likewise.
+    #[cycle(same)]
+    fn compare_pairs(&mut self, pairs: &'a Dictionary, others: &'a Dictionary, levels: u32) -> bool
+        ensures { Compares
+            (same (Dictionary (pair_trees pairs.now)) (Dictionary (pair_trees others.now)))
+            (weights (values_of pairs.now)) self.old result self.new }
+    {
+        let count = pairs.pair_count();
+        if count != others.pair_count() {
+            return false;
+        }
+        for i in 0..count {
+            let (key, value) = pairs.pair_at(i);
+            match others.get(key) {
+                None => return false,
+                Some(other) => {
+                    if !self.compare(value, other, levels) {
+                        return false;
+                    }
                 }
             }
-            None => return false,
         }
+        true
     }
-    true
 }

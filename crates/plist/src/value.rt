@@ -21,7 +21,7 @@ ghost use Rattle.plist.specs.LastWins.{AreLastValues, Rows, last_values, last_wi
 ghost use Rattle.plist.specs.Limiting.{IsReadUnder, IsWithin};
 ghost use Rattle.plist.specs.Events.{remaining_events};
 ghost use Rattle.plist.specs.Views.{item_trees, kind_of_tree, pair_trees, tree_of};
-ghost use Rattle.plist.specs.Weights.{weight, weights};
+ghost use Rattle.plist.specs.inner.Weights.{weight, weights};
 
 mod contents;
 mod dropping;

@@ -7,6 +7,7 @@ ghost use Rattle.plist.specs.Views.{item_trees, pair_trees, tree_of};
 
 use crate::{Dictionary, Value};
 use plist_base::{Date, RealBits, Uid};
+use std::alloc::Global;
 
 impl Value {
     ghost use Rattle.std.specs.Borrow.{LendsIf, sem};
@@ -152,6 +153,15 @@ impl Value {
     {
         match self {
             Value::Uid(lent) => Some(lent),
+            _ => None,
+        }
+    }
+
+    // Where a collection is stored.
+    pub(crate) fn allocator(&self) -> Option<Global> {
+        match self {
+            Value::Array(items) => Some(*items.allocator()),
+            Value::Dictionary(pairs) => Some(pairs.allocator()),
             _ => None,
         }
     }

@@ -1,9 +1,9 @@
 //! How a value is dropped: the values that are left stand in one list, which hangs as an array in
 //! the next one, in the place of a value for which the other had room.
 
-ghost use Rattle.std.specs.Prelude.{◌<◌, length};
+ghost use Rattle.std.specs.Prelude.{◌<◌, vec_len};
 ghost use Rattle.std.specs.Vec.{vec_capacity};
-ghost use Rattle.plist.specs.Weights.{IsLess};
+ghost use Rattle.plist.specs.inner.Weights.{IsLess};
 
 use crate::Value;
 use std::mem;
@@ -13,7 +13,7 @@ use std::mem;
 /// It takes no memory: the collection was taken out of the first list, so there is room for one
 /// value, and then there is in the second.
 pub(super) fn joined(mut left: Vec<Value>, mut below: Vec<Value>) -> Vec<Value>
-    requires { length left.items < vec_capacity left }
+    requires { vec_len left < vec_capacity left }
     ensures { IsLess result.items left.items below.items }
 {
     if left.is_empty() {

@@ -1,4 +1,4 @@
-use Rattle.plist.specs.Weights.{to_drop}
+use Rattle.plist.specs.inner.Weights.{to_drop}
 use Rattle.plist.proofs.value.Value.drop.Given as goal
 
 abbrev pub decreases-loop-value : goal.decreases-loop-value

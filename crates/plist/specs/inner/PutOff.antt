@@ -1,0 +1,57 @@
+-- Pairs of values whose comparison is put off.
+use Rattle.std.specs.Prelude.{◌≡◌, ◌≤◌, ℕ, ◌+◌, Bool, true, false, ◌&&◌, Option, None, Some, List, [], ◌∷◌}
+use Rattle.std.specs.Map.{lookup}
+use Rattle.std.specs.Option.{option_eq}
+use Rattle.std.specs.Str.{bytes_eq}
+use Rattle.std.specs.declared.alloc.Global.{Global}
+use Rattle.std.specs.declared.vec.Vec.{Vec}
+use Rattle.plist.specs.declared.same.Later.{Later}
+use Rattle.plist.specs.declared.same.Pair.{Pair}
+use Rattle.plist.specs.declared.value.Value.{Value}
+use Rattle.plist.specs.Same.{same}
+use Rattle.plist.specs.Views.{tree_of}
+use Rattle.plist.specs.inner.Weights.{weight}
+
+-- whether values are equal
+abbrev pub same_values : Value → Value → Bool
+same_values value other = same (tree_of value) (tree_of other)
+
+-- whether all these pairs are equal
+abbrev pub are_same : List Pair → Bool
+are_same [] = true
+are_same (pair ∷ pairs) = same_values pair.value.now pair.other.now && are_same pairs
+
+-- how many values there are to compare
+abbrev pub to_compare : List Pair → ℕ
+to_compare [] = 0
+to_compare (pair ∷ pairs) = weight pair.value.now + to_compare pairs
+
+abbrev pub listed : Option (Vec Pair Global) → List Pair
+listed None = []
+listed (Some pairs) = pairs.items
+
+-- the pairs that were put off
+abbrev pub waiting : Later → List Pair
+waiting later = listed later.pairs
+
+-- each key of these pairs has an equal value in the others
+abbrev pub are_covered : (pairs others : List (List ℕ × Value)) → Bool
+are_covered [] others = true
+are_covered (pair ∷ pairs) others =
+    option_eq same_values (Some pair.1) (lookup (bytes_eq pair.0) others)
+    && are_covered pairs others
+
+-- The answer is this one once what is put off is compared; no more than these values were put off.
+abbrev pub Compares : (equal : Bool) → (most : ℕ) → (before : Later) → (answer : Bool)
+    → (after : Later) → Type 0
+Compares equal most before answer after =
+    (answer && are_same (waiting after) ≡ equal && are_same (waiting before))
+    × (to_compare (waiting after) ≤ to_compare (waiting before) + most)
+
+-- the pair is among those that are put off, or nothing changed
+abbrev pub PutsOff : (value other : Value) → (before : Later) → (done : Bool) → (after : Later)
+    → Type 0
+PutsOff value other before true after =
+    (are_same (waiting after) ≡ same_values value other && are_same (waiting before))
+    × (to_compare (waiting after) ≡ weight value + to_compare (waiting before))
+PutsOff value other before false after = waiting after ≡ waiting before

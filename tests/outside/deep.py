@@ -1,0 +1,111 @@
+#!/usr/bin/env python3
+"""Runs calls and commands on property lists of a million levels, under the usual call stack.
+
+The program of `tests/outside/deep` makes one call of the libraries a run, and `plist_tool` reads,
+prints and converts files that are made here. Each run has 8 MiB of call stack, whatever the shell
+allows. What is printed is compared with what these files hold by their making; how long each run
+took is told beside it.
+
+Usage: deep.py [LEVELS [PROGRAM]]      1000000 levels where none are named, a multiple of 4.
+
+Without the built program of `tests/outside/deep` it is proved and built first, by the kit's `rt` in
+a copy of the crates. Needs the built `plist_tool`. Ends with status 1 where a run does otherwise.
+"""
+import pathlib
+import resource
+import shutil
+import subprocess
+import sys
+import tempfile
+import time
+
+HERE = pathlib.Path(__file__).resolve().parent
+CRATES = HERE.parents[1] / "crates"
+TOOL = CRATES / "plist_tool/out/plist_tool"
+STACK = 8 << 20
+# what twenty values take one after the other, of which one takes a fifth
+ROOM = 2 << 30
+
+
+def program(folder):
+    """The program, proved and built in a repository of its own."""
+    every = (CRATES.parent / "crates.txt").read_text().splitlines()
+    above = ("plist_uses", "plist_tool", "plist_vectors", "#")
+    lines = [line for line in every if line.strip() and not line.startswith(above)]
+    root = folder / "repository"
+    for name in [line.split(":")[0].split()[0] for line in lines]:
+        shutil.copytree(CRATES / name, root / "crates" / name,
+                        ignore=shutil.ignore_patterns("incremental"))
+    source = root / "crates/deep/src"
+    source.mkdir(parents=True)
+    shutil.copy(HERE / "deep/main.rt.in", source / "main.rt")
+    lines.append("deep: plist_base plist plist_share plist_keyed")
+    (root / "crates.txt").write_text("\n".join(lines) + "\n")
+    subprocess.run(["rt", "run", "--", "4", "make"], cwd=source.parent, stdout=sys.stderr)
+    return source.parent / "out/deep"
+
+
+def binary(levels):
+    """A file of one array in another, the innermost empty."""
+    objects = b"".join(b"\xa1" + (i + 1).to_bytes(4, "big") for i in range(levels - 1)) + b"\xa0"
+    table = b"".join((8 + 5 * i).to_bytes(4, "big") for i in range(levels))
+    end = 8 + len(objects)
+    trailer = bytes(6) + b"\4\4" + levels.to_bytes(8, "big") + bytes(8) + end.to_bytes(8, "big")
+    return b"bplist00" + objects + table + trailer
+
+
+def run(*words, room=resource.RLIM_INFINITY):
+    """What a command printed, and the seconds that it took; nothing where it failed."""
+    def bound():
+        resource.setrlimit(resource.RLIMIT_STACK, (STACK, STACK))
+        resource.setrlimit(resource.RLIMIT_AS, (room, room))
+    start = time.monotonic()
+    answer = subprocess.run([str(word) for word in words], stdout=subprocess.PIPE,
+                            preexec_fn=bound)
+    seconds = time.monotonic() - start
+    if answer.returncode:
+        return None, f"status {answer.returncode}"
+    return answer.stdout, f"{seconds:.2f} s"
+
+
+def nested_events(levels):
+    """How many events the program's value has: starts, ends, keys and what stands beside."""
+    return 2 * levels + levels // 4 + 3 * (levels // 4) + 1
+
+
+def main():
+    levels = int(sys.argv[1]) if len(sys.argv) > 1 else 1_000_000
+    bad = 0
+
+    def tell(name, answer, wanted):
+        nonlocal bad
+        shown, how = answer
+        right = shown == wanted
+        bad += not right
+        print(f"{name}: {'' if right else 'OTHERWISE, '}{how}", flush=True)
+
+    with tempfile.TemporaryDirectory() as name:
+        folder = pathlib.Path(name)
+        built = pathlib.Path(sys.argv[2]) if len(sys.argv) > 2 else program(folder)
+        calls = ("make", "clone", "equal", "write", "share")
+        events = {call: nested_events(levels) for call in calls}
+        events["text"] = 2 * levels + 1
+        events["archive"] = 3 * (levels - 1) + 1
+        for call, count in events.items():
+            tell(call, run(built, levels, call), f"{count}\n".encode())
+        count = nested_events(levels)
+        tell("often", run(built, levels, "often", room=ROOM), f"{count}\n".encode())
+        deep, flat, again = folder / "binary", folder / "ASCII", folder / "again"
+        deep.write_bytes(binary(levels))
+        flat.write_bytes(b"(" * levels + b")" * levels)
+        starts = b"StartArray 1\n" * (levels - 1) + b"StartArray 0\n"
+        lines = starts + b"EndCollection\n" * levels
+        tell("plist_tool print", run(TOOL, "print", deep), lines)
+        for source in (deep, flat):
+            tell(f"plist_tool convert, {source.name}", run(TOOL, "convert", source, again), b"")
+            tell("plist_tool print of what it made", run(TOOL, "print", again), lines)
+    return bad > 0
+
+
+if __name__ == "__main__":
+    sys.exit(main())
