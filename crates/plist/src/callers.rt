@@ -12,6 +12,8 @@ ghost use Rattle.plist.specs.Inputs.{GivesBack, IsReadFrom};
 ghost use Rattle.plist.specs.Same.{AreSameEverywhere, same, same_pairs};
 ghost use Rattle.plist.specs.Views.{pair_trees, tree_of};
 
+pub mod contents;
+
 use crate::dictionary::Entry;
 use crate::{Dictionary, Pairs, Value};
 use plist_base::{Error, Source};

@@ -1,0 +1,146 @@
+//! Proved callers of the conversions into values and of the look into them: what was put in is
+//! found as what it is, and as nothing else.
+
+ghost use Rattle.std.specs.Prelude.{◌≡◌, None, Some, option_map, string_bytes, true};
+ghost use Rattle.plist.specs.Views.{item_trees, pair_trees};
+
+use crate::{Dictionary, Value};
+use plist_base::{Date, RealBits, Uid};
+
+/// A truth value, by way of a value.
+pub fn boolean_again(flag: bool) -> Option<bool>
+    ensures { result ≡ Some flag }
+{
+    Value::from(flag).as_boolean()
+}
+
+/// A date, by way of a value: with its fraction.
+pub fn date_again(date: Date) -> Option<Date>
+    ensures { result ≡ Some date }
+{
+    Value::from(date).as_date()
+}
+
+/// A real, by way of a value: with its width and all its bytes.
+pub fn real_again(bits: RealBits) -> Option<RealBits>
+    ensures { result ≡ Some bits }
+{
+    Value::Real(bits).as_real()
+}
+
+/// An identifier, by way of a value.
+pub fn uid_again(uid: Uid) -> Option<Uid>
+    ensures { result ≡ Some uid }
+{
+    Value::Uid(uid).into_uid()
+}
+
+/// The bytes of data, by way of a value.
+pub fn data_again(bytes: Vec<u8>) -> Option<Vec<u8>>
+    ensures { option_map (λ found. found.items) result ≡ Some bytes.items }
+{
+    Value::Data(bytes).into_data()
+}
+
+/// A text, by way of a value.
+pub fn text_again(text: String) -> Option<String>
+    ensures { option_map string_bytes result ≡ Some (string_bytes text) }
+{
+    Value::from(text).into_string()
+}
+
+/// The items of an array, by way of a value.
+pub fn items_again(items: Vec<Value>) -> Option<Vec<Value>>
+    ensures { option_map (λ found. item_trees found.items) result
+        ≡ Some (item_trees items.items) }
+{
+    Value::from(items).into_array()
+}
+
+/// The pairs of a dictionary, by way of a value.
+pub fn pairs_again(pairs: Dictionary) -> Option<Dictionary>
+    ensures { option_map pair_trees result ≡ Some (pair_trees pairs) }
+{
+    Value::from(pairs).into_dictionary()
+}
+
+/// A number of 64 bits, by way of a value.
+pub fn i64_again(number: i64) -> Option<i64>
+    ensures { result ≡ Some number }
+{
+    Value::from(number).as_signed_integer()
+}
+
+/// A number of 32 bits, by way of a value.
+pub fn i32_again(number: i32) -> Option<i64>
+    ensures { result ≡ Some number }
+{
+    Value::from(number).as_signed_integer()
+}
+
+/// A number of 16 bits, by way of a value.
+pub fn i16_again(number: i16) -> Option<i64>
+    ensures { result ≡ Some number }
+{
+    Value::from(number).as_signed_integer()
+}
+
+/// A number of 8 bits, by way of a value.
+pub fn i8_again(number: i8) -> Option<i64>
+    ensures { result ≡ Some number }
+{
+    Value::from(number).as_signed_integer()
+}
+
+/// A number of 64 bits without a sign, by way of a value.
+pub fn u64_again(number: u64) -> Option<u64>
+    ensures { result ≡ Some number }
+{
+    Value::from(number).as_unsigned_integer()
+}
+
+/// A number of 32 bits without a sign, by way of a value.
+pub fn u32_again(number: u32) -> Option<u64>
+    ensures { result ≡ Some number }
+{
+    Value::from(number).as_unsigned_integer()
+}
+
+/// A number of 16 bits without a sign, by way of a value.
+pub fn u16_again(number: u16) -> Option<u64>
+    ensures { result ≡ Some number }
+{
+    Value::from(number).as_unsigned_integer()
+}
+
+/// A number of 8 bits without a sign, by way of a value.
+pub fn u8_again(number: u8) -> Option<u64>
+    ensures { result ≡ Some number }
+{
+    Value::from(number).as_unsigned_integer()
+}
+
+/// A number that is lent, by way of a value.
+pub fn lent_again(number: &u64) -> Option<u64>
+    ensures { result ≡ Some number.now }
+{
+    Value::from(number).as_unsigned_integer()
+}
+
+/// Whether the text that a value lends is this one.
+pub fn lends_its_text(text: String) -> bool
+    ensures { result ≡ true }
+{
+    let size = text.len();
+    match Value::from(text).as_string() {
+        Some(lent) => lent.len() == size,
+        None => false,
+    }
+}
+
+/// A text is no number, whatever it spells.
+pub fn number_of_text(text: String) -> Option<i64>
+    ensures { result ≡ None }
+{
+    Value::from(text).as_signed_integer()
+}
