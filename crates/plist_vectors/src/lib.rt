@@ -11,6 +11,8 @@ mod building;
 #[cfg(test)]
 mod dates;
 #[cfg(test)]
+mod deep;
+#[cfg(test)]
 mod dialects;
 #[cfg(test)]
 mod entries;
