@@ -13,7 +13,6 @@ use Rattle.plist_binread.specs.Container.{Head, head_of}
 use Rattle.plist_binread.specs.Packed.{is_marked, unmarked, cached}
 use Rattle.plist_binread.specs.declared.reader.State.{State}
 use Rattle.plist_binread.specs.declared.reader.State.TheVariants.{Fresh, Walking, Ended}
-use Rattle.plist_binread.specs.Object.{Scalar}
 use Rattle.plist_binread.specs.Unfolding.{Entry, table_of, unfolding_of, until_fault, items_of_file}
 use Rattle.plist_binread.specs.Decoding.{children_in, scalar_in}
 

@@ -1,16 +1,12 @@
 //! The first item of a file.
 
-ghost use Rattle.std.specs.Prelude.{◌≡◌, ◌^◌, ◌<◌, ◌≤◌, Ok, Err, Some, ◌∷◌, [], length, replicate, IfOk, IfSome, MatchResult, OnOk};
+ghost use Rattle.std.specs.Prelude.{◌≡◌, ◌^◌, ◌<◌, Ok, replicate, IfOk, IfSome, OnOk};
 ghost use Rattle.plist_base.specs.Outcomes.{OnlyMemory};
-ghost use Rattle.plist_base.specs.Faults.{MatchFault, kind_of, error_kind_of, fault_of};
-ghost use Rattle.plist_base.specs.Events.{event_of};
 ghost use Rattle.plist_base.specs.Sources.{AnswersIo};
-ghost use Rattle.plist_binread.specs.Unfolding.{until_fault, items_of_file};
-ghost use Rattle.plist_binread.specs.Container.{head_of};
-ghost use Rattle.plist_binread.specs.Debt.{IsOwed, places_of, steps};
-ghost use Rattle.plist_binread.specs.Turning.{IsKept, root_with};
+ghost use Rattle.plist_binread.specs.Debt.{steps};
 ghost use Rattle.plist_binread.specs.Failures.{ErrWithin};
-ghost use Rattle.plist_binread.specs.Walking.{IsEmpty, IsWalkOf, cached_in, objects_of, owed_in, weight_in};
+ghost use Rattle.plist_binread.specs.Walking.{IsEmpty, cached_in, objects_of, weight_in};
+ghost use Rattle.plist_binread.specs.Beginning.{GivesFirst, IsBounded, IsKnownWalk, KeepsRoot};
 
 use crate::counter::DecodeCounter;
 use crate::enter::enter;
@@ -39,18 +35,10 @@ pub fn begin<S: Source, C: DecodeCounter>(
     requires empty { IsEmpty walk.old }
     requires counted { C.counts → C.count counter.old ≡ cached_in walk.old }
     ensures counted { C.counts → C.count counter.new ≡ cached_in walk.new }
-    ensures bounded { IfSome (S.known source.old) (λ bytes.
-        objects_of walk.new ≤ length (places_of bytes)) }
-    ensures known { OnOk result (IfSome (S.known source.old) (λ bytes.
-        IsWalkOf bytes bounds.new walk.new)) }
-    ensures kept { IfSome (S.known source.old) (λ bytes.
-        IsKept (root_with (head_of bytes)) (Some result) walk.new.tags.items) }
-    ensures pays { IfSome (S.known source.old) (λ bytes. MatchResult result
-        (λ event. items_of_file bytes ≡ Ok (event_of event)
-        ∷ until_fault (owed_in bytes bounds.new walk.new))
-        (λ e. MatchFault (kind_of (error_kind_of e))
-        (IsOwed (items_of_file bytes)) (IsOwed (items_of_file bytes))
-        (items_of_file bytes ≡ Err (fault_of e) ∷ []))) }
+    ensures bounded { IfSome (S.known source.old) (IsBounded walk.new) }
+    ensures known { OnOk result (IsKnownWalk (S.known source.old) bounds.new walk.new) }
+    ensures kept { IfSome (S.known source.old) (KeepsRoot result walk.new) }
+    ensures pays { IfSome (S.known source.old) (GivesFirst result bounds.new walk.new) }
     ensures falls { OnOk result (weight_in walk.new < steps (objects_of walk.new)) }
     ensures fault { ErrWithin 0 (2 ^ 64) result }
     ensures unchanged { S.known source.new ≡ S.known source.old }

@@ -1,13 +1,10 @@
 //! The reference of one child, read from the bytes of its collection.
 
-ghost use Rattle.std.specs.Prelude.{◌≡◌, ℕ, ◌-◌, ◌*◌, ◌<◌, ◌≤◌, List, ◌++◌, length, take, drop, Ok, IfSome};
+ghost use Rattle.std.specs.Prelude.{◌≡◌, ◌-◌, ◌*◌, ◌<◌, ◌≤◌, length, IfSome};
 ghost use Rattle.plist_base.specs.Sources.{AnswersIo};
-ghost use Rattle.plist_binread.specs.Container.{numbers_of};
-ghost use Rattle.plist_binread.specs.Object.{Array, dictionary, length_in, meaning_counted, layout_of, object_behind, object_in};
-ghost use Rattle.plist_binread.specs.inner.Places.{bytes_behind};
-ghost use Rattle.plist_binread.specs.Turning.{ReadsChild};
-ghost use Rattle.plist_binread.specs.Lent.{IsSlots, IsAsked, slot_of};
+ghost use Rattle.plist_binread.specs.Lent.{slot_of};
 ghost use Rattle.plist_binread.specs.Failures.{ErrWithin};
+ghost use Rattle.plist_binread.specs.Behind.{AsksAt, FindsAt, BeginsWith, IsAskedOf, IsAskedBehind, array_of, pairs_of, object_of, object_at};
 
 use crate::extent::find_content;
 use crate::lent::lent_length;
@@ -24,10 +21,7 @@ fn read_item<S: Source>(
     index: u64,
 ) -> Result<u64, Error>
     requires place { place < bounds.now.trailer }
-    ensures child { IfSome (S.known source.old) (λ bytes. bounds.now.trailer ≤ length bytes →
-        ReadsChild (meaning_counted bounds.now.reference_width
-        (λ _ content. Array (numbers_of bounds.now.reference_width content))
-        (length_in marker (bytes_behind bytes bounds.now.trailer place))) index result) }
+    ensures child { AsksAt result (S.known source.old) bounds.now place index (array_of marker) }
     ensures fault { ErrWithin place bounds.now.trailer result }
     ensures unchanged { S.known source.new ≡ S.known source.old }
     ensures failures { AnswersIo result (S.failures source.old) (S.failures source.new) }
@@ -49,10 +43,7 @@ fn read_key_or_value<S: Source>(
     index: u64,
 ) -> Result<u64, Error>
     requires place { place < bounds.now.trailer }
-    ensures child { IfSome (S.known source.old) (λ bytes. bounds.now.trailer ≤ length bytes →
-        ReadsChild (meaning_counted (2 * bounds.now.reference_width)
-        (λ count content. dictionary count (numbers_of bounds.now.reference_width content))
-        (length_in marker (bytes_behind bytes bounds.now.trailer place))) index result) }
+    ensures child { AsksAt result (S.known source.old) bounds.now place index (pairs_of marker) }
     ensures fault { ErrWithin place bounds.now.trailer result }
     ensures unchanged { S.known source.new ≡ S.known source.old }
     ensures failures { AnswersIo result (S.failures source.old) (S.failures source.new) }
@@ -79,9 +70,7 @@ fn read_child_marked<S: Source>(
     index: u64,
 ) -> Result<u64, Error>
     requires place { place < bounds.now.trailer }
-    ensures child { IfSome (S.known source.old) (λ bytes. bounds.now.trailer ≤ length bytes →
-        ReadsChild (object_behind marker (layout_of bounds.now.reference_width marker)
-        (bytes_behind bytes bounds.now.trailer place)) index result) }
+    ensures child { AsksAt result (S.known source.old) bounds.now place index (object_of marker) }
     ensures fault { ErrWithin place bounds.now.trailer result }
     ensures unchanged { S.known source.new ≡ S.known source.old }
     ensures failures { AnswersIo result (S.failures source.old) (S.failures source.new) }
@@ -100,9 +89,7 @@ pub fn read_child<S: Source>(
     place: u64,
     index: u64,
 ) -> Result<u64, Error>
-    ensures child { IfSome (S.known source.old) (λ bytes. bounds.now.trailer ≤ length bytes →
-        ReadsChild (object_in bounds.now.reference_width
-        (drop place (take bounds.now.trailer bytes))) index result) }
+    ensures child { AsksAt result (S.known source.old) bounds.now place index object_at }
     ensures fault { ErrWithin place bounds.now.trailer result }
     ensures unchanged { S.known source.new ≡ S.known source.old }
     ensures failures { AnswersIo result (S.failures source.old) (S.failures source.new) }
@@ -144,8 +131,7 @@ impl Asked {
 fn ask(seen: &[u8], width: usize, place: u64) -> Option<Asked>
     requires { 0 < width }
     ensures place { IfSome result (λ asked. asked.place ≡ place) }
-    ensures slots { IfSome result (λ asked. (more : List ℕ) →
-        IsSlots width (seen.now ++ more) asked.start asked.pairs) }
+    ensures slots { IfSome result (IsAskedBehind width seen.now) }
 {
     let (marker, rest) = seen.split_first()?;
     let (count, behind) = lent_length(*marker, rest)?;
@@ -182,8 +168,7 @@ fn slot_of(pairs: u64, index: u64) -> Option<u64>
 pub fn lent_before<'a, S: Source>(source: &'a S, bounds: &Bounds, place: u64) -> &'a [u8]
     requires { place < bounds.now.trailer }
     ensures room { length result.now ≤ bounds.now.trailer - place }
-    ensures bytes { IfSome (S.known source.now) (λ bytes. bounds.now.trailer ≤ length bytes →
-        (more : List ℕ) × (drop place (take bounds.now.trailer bytes) ≡ result.now ++ more)) }
+    ensures bytes { BeginsWith (S.known source.now) bounds.now place result.now }
 {
     let seen = source.near(place);
     let room = bounds.trailer - place;
@@ -195,11 +180,8 @@ pub fn lent_before<'a, S: Source>(source: &'a S, bounds: &Bounds, place: u64) ->
 
 // The number of a child of the collection that was asked last, if it is at hand.
 fn near_number<S: Source>(source: &S, bounds: &Bounds, asked: &Asked, index: u64) -> Option<u64>
-    requires { IfSome (S.known source.now) (λ bytes. bounds.now.trailer ≤ length bytes →
-        IsAsked bytes bounds.now asked.now) }
-    ensures child { IfSome result (λ number. IfSome (S.known source.now) (λ bytes.
-        bounds.now.trailer ≤ length bytes → ReadsChild (object_in bounds.now.reference_width
-        (drop asked.now.place (take bounds.now.trailer bytes))) index (Ok number))) }
+    requires { IsAskedOf (S.known source.now) bounds.now asked.now }
+    ensures child { FindsAt result (S.known source.now) bounds.now asked.now.place index }
 {
     let width = bounds.reference_width;
     let behind = slot_of(asked.pairs, index)?.checked_mul(width as u64)?;
@@ -216,13 +198,9 @@ pub fn near_child<S: Source>(
     place: u64,
     index: u64,
 ) -> Option<u64>
-    requires asked { IfSome (S.known source.now) (λ bytes. bounds.now.trailer ≤ length bytes →
-        IsAsked bytes bounds.now asked.old) }
-    ensures asked { IfSome (S.known source.now) (λ bytes. bounds.now.trailer ≤ length bytes →
-        IsAsked bytes bounds.now asked.new) }
-    ensures child { IfSome result (λ number. IfSome (S.known source.now) (λ bytes.
-        bounds.now.trailer ≤ length bytes → ReadsChild (object_in bounds.now.reference_width
-        (drop place (take bounds.now.trailer bytes))) index (Ok number))) }
+    requires asked { IsAskedOf (S.known source.now) bounds.now asked.old }
+    ensures asked { IsAskedOf (S.known source.now) bounds.now asked.new }
+    ensures child { FindsAt result (S.known source.now) bounds.now place index }
 {
     if asked.place != place {
         if place >= bounds.trailer {

@@ -1,12 +1,10 @@
 //! One object, read from its bytes.
 
-ghost use Rattle.std.specs.Prelude.{◌≡◌, ◌+◌, ◌*◌, ◌<◌, ◌≤◌, length, take, drop, cond, IfSome};
+ghost use Rattle.std.specs.Prelude.{◌≡◌, ◌+◌, ◌*◌, ◌<◌, cond};
 ghost use Rattle.plist_base.specs.Sources.{AnswersIo};
-ghost use Rattle.plist_binread.specs.Container.{numbers_of};
-ghost use Rattle.plist_binread.specs.Object.{Array, dictionary, layout_of, length_in, meaning_counted, object_behind, object_in};
-ghost use Rattle.plist_binread.specs.inner.Places.{bytes_behind};
-ghost use Rattle.plist_binread.specs.Decoding.{Decodes, small_in, small_decoded};
+ghost use Rattle.plist_binread.specs.Decoding.{small_in, small_decoded};
 ghost use Rattle.plist_binread.specs.Failures.{ErrWithin};
+ghost use Rattle.plist_binread.specs.Behind.{DecodesAt, array_of, pairs_of, object_of, object_at};
 
 use crate::counter::DecodeCounter;
 use crate::extent::find_content;
@@ -37,10 +35,7 @@ fn read_array<S: Source>(
     marker: u8,
 ) -> Result<Decoded, Error>
     requires place { place < bounds.now.trailer }
-    ensures decoded { IfSome (S.known source.old) (λ bytes. bounds.now.trailer ≤ length bytes →
-        Decodes (meaning_counted bounds.now.reference_width
-        (λ _ content. Array (numbers_of bounds.now.reference_width content))
-        (length_in marker (bytes_behind bytes bounds.now.trailer place))) place result) }
+    ensures decoded { DecodesAt result (S.known source.old) bounds.now place (array_of marker) }
     ensures fault { ErrWithin place bounds.now.trailer result }
     ensures unchanged { S.known source.new ≡ S.known source.old }
     ensures failures { AnswersIo result (S.failures source.old) (S.failures source.new) }
@@ -58,10 +53,7 @@ fn read_dictionary<S: Source>(
     marker: u8,
 ) -> Result<Decoded, Error>
     requires place { place < bounds.now.trailer }
-    ensures decoded { IfSome (S.known source.old) (λ bytes. bounds.now.trailer ≤ length bytes →
-        Decodes (meaning_counted (2 * bounds.now.reference_width)
-        (λ count content. dictionary count (numbers_of bounds.now.reference_width content))
-        (length_in marker (bytes_behind bytes bounds.now.trailer place))) place result) }
+    ensures decoded { DecodesAt result (S.known source.old) bounds.now place (pairs_of marker) }
     ensures fault { ErrWithin place bounds.now.trailer result }
     ensures unchanged { S.known source.new ≡ S.known source.old }
     ensures failures { AnswersIo result (S.failures source.old) (S.failures source.new) }
@@ -81,10 +73,7 @@ fn decode_marked<S: Source>(
     marker: u8,
 ) -> Result<Decoded, Error>
     requires place { place < bounds.now.trailer }
-    ensures decoded { IfSome (S.known source.old) (λ bytes. bounds.now.trailer ≤ length bytes →
-        Decodes (object_behind marker (layout_of bounds.now.reference_width marker)
-        (bytes_behind bytes bounds.now.trailer place))
-        place result) }
+    ensures decoded { DecodesAt result (S.known source.old) bounds.now place (object_of marker) }
     ensures fault { ErrWithin place bounds.now.trailer result }
     ensures unchanged { S.known source.new ≡ S.known source.old }
     ensures failures { AnswersIo result (S.failures source.old) (S.failures source.new) }
@@ -120,9 +109,7 @@ fn read_object<S: Source>(
     bounds: &Bounds,
     place: u64,
 ) -> Result<Decoded, Error>
-    ensures decoded { IfSome (S.known source.old) (λ bytes. bounds.now.trailer ≤ length bytes →
-        Decodes (object_in bounds.now.reference_width
-        (drop place (take bounds.now.trailer bytes))) place result) }
+    ensures decoded { DecodesAt result (S.known source.old) bounds.now place object_at }
     ensures fault { ErrWithin place bounds.now.trailer result }
     ensures unchanged { S.known source.new ≡ S.known source.old }
     ensures failures { AnswersIo result (S.failures source.old) (S.failures source.new) }
@@ -153,9 +140,7 @@ pub fn decode<S: Source, C: DecodeCounter>(
     bounds: &Bounds,
     place: u64,
 ) -> Result<Decoded, Error>
-    ensures decoded { IfSome (S.known source.old) (λ bytes. bounds.now.trailer ≤ length bytes →
-        Decodes (object_in bounds.now.reference_width
-        (drop place (take bounds.now.trailer bytes))) place result) }
+    ensures decoded { DecodesAt result (S.known source.old) bounds.now place object_at }
     ensures counted { C.counts → C.count counter.new ≡ C.count counter.old + small_decoded result }
     ensures fault { ErrWithin place bounds.now.trailer result }
     ensures unchanged { S.known source.new ≡ S.known source.old }

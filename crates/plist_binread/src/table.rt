@@ -1,8 +1,8 @@
 //! The object table.
 
-ghost use Rattle.std.specs.Prelude.{◌≡◌, ◌^◌, ◌<◌, ◌≤◌, length, IfOk, IfErr, IfSome};
-ghost use Rattle.plist_base.specs.Outcomes.{OnlyFault};
-ghost use Rattle.plist_base.specs.Faults.{Io, fault_of, fault_at};
+ghost use Rattle.std.specs.Prelude.{◌≡◌, ◌^◌, ◌<◌, ◌≤◌, length, IfOk};
+ghost use Rattle.plist_base.specs.Outcomes.{OnlyFault, DecodesBy};
+ghost use Rattle.plist_base.specs.Faults.{Io, fault_at};
 ghost use Rattle.plist_base.specs.Sources.{AnswersIo};
 
 use crate::numbers::read_numbers;
@@ -55,8 +55,7 @@ impl Bounds {
 
 // The number of bytes.
 fn read_size<S: Source>(source: &mut S) -> Result<u64, Error>
-    ensures length { IfOk result (λ size. IfSome (S.known source.old) (λ bytes.
-        size ≡ length bytes)) }
+    ensures length { DecodesBy result (S.known source.old) (λ bytes. length bytes) }
     ensures refused { OnlyFault result (fault_at Io 0) }
     ensures unchanged { S.known source.new ≡ S.known source.old }
     ensures failures { AnswersIo result (S.failures source.old) (S.failures source.new) }
@@ -68,21 +67,17 @@ fn read_size<S: Source>(source: &mut S) -> Result<u64, Error>
 }
 
 impl Table {
-    ghost use Rattle.std.specs.Prelude.{◌≡◌, ◌+◌, ◌-◌, ◌^◌, ◌<◌, ◌≤◌, length, drop, Ok, Err, IfOk, IfErr, IfSome, ⊤};
-    ghost use Rattle.plist_base.specs.Faults.{MatchFault, kind_of, error_kind_of, fault_of};
+    ghost use Rattle.std.specs.Prelude.{◌≡◌, ◌+◌, ◌^◌, ◌<◌, IfOk};
     ghost use Rattle.plist_base.specs.Sources.{AnswersIo};
+    ghost use Rattle.plist_base.specs.Outcomes.{IfRead, IfRefused};
     ghost use Rattle.plist_binread.specs.Failures.{ErrWithin};
-    ghost use Rattle.plist_binread.specs.Container.{trailer_in, head_with, head_of};
-    ghost use Rattle.plist_binread.specs.inner.Tables.{head_seen};
+    ghost use Rattle.plist_binread.specs.inner.Tables.{IsTableOf, LiesWithin, IsFaultOfHead, IsTableBefore, IsFaultBefore};
 
     /// Reads the table of a file.
     pub fn read<S: Source>(alloc: Global, source: &mut S) -> Result<Self, Error>
-        ensures value { IfOk result (λ table. IfSome (S.known source.old) (λ bytes.
-            head_of bytes ≡ Ok (head_seen table))) }
-        ensures within { IfOk result (λ table. IfSome (S.known source.old) (λ bytes.
-            table.trailer ≤ length bytes)) }
-        ensures refused { IfErr result (λ error. IfSome (S.known source.old) (λ bytes.
-            MatchFault (kind_of (error_kind_of error)) ⊤ ⊤ (head_of bytes ≡ Err (fault_of error)))) }
+        ensures value { IfRead result (S.known source.old) IsTableOf }
+        ensures within { IfRead result (S.known source.old) LiesWithin }
+        ensures refused { IfRefused result (S.known source.old) IsFaultOfHead }
         ensures fault { ErrWithin 0 (2 ^ 64) result }
         ensures unchanged { S.known source.new ≡ S.known source.old }
         ensures failures { AnswersIo result (S.failures source.old) (S.failures source.new) }
@@ -104,12 +99,8 @@ impl Table {
     fn read_before<S: Source>(alloc: Global, source: &mut S, trailer: u64) -> Result<Self, Error>
         requires { trailer + 32 < 2 ^ 64 }
         ensures trailer { IfOk result (λ table. table.trailer ≡ trailer) }
-        ensures value { IfOk result (λ table. IfSome (S.known source.old) (λ bytes.
-            length bytes ≡ trailer + 32 →
-            head_with bytes trailer (trailer_in (drop trailer bytes)) ≡ Ok (head_seen table))) }
-        ensures refused { IfErr result (λ error. IfSome (S.known source.old) (λ bytes.
-            length bytes ≡ trailer + 32 → MatchFault (kind_of (error_kind_of error)) ⊤ ⊤
-            (head_with bytes trailer (trailer_in (drop trailer bytes)) ≡ Err (fault_of error)))) }
+        ensures value { IfRead result (S.known source.old) (IsTableBefore trailer) }
+        ensures refused { IfRefused result (S.known source.old) (IsFaultBefore trailer) }
         ensures fault { ErrWithin 0 (trailer + 32) result }
         ensures unchanged { S.known source.new ≡ S.known source.old }
         ensures failures { AnswersIo result (S.failures source.old) (S.failures source.new) }

@@ -1,0 +1,180 @@
+-- Words for what a call makes of known bytes: those of the whole source, those that reach the
+-- trailer, and those of one object.
+use Rattle.std.specs.Prelude.{◌≡◌, ℕ, ◌+◌, ◌*◌, ◌<◌, ◌≤◌, List, ◌++◌, length, take, drop, Option, Some, None, Result, Ok, IfSome, MatchResult, ⊤}
+use Rattle.plist_base.specs.declared.error.Error.{Error}
+use Rattle.plist_base.specs.Faults.{Fault, IsFromOutside, MatchFault, ObjectOffsetTooLarge, kind_of, error_kind_of, fault_of}
+use Rattle.plist_base.specs.declared.real.RealBits.TheVariants.{Four, Eight}
+use Rattle.plist_base.specs.Trees.{Data, Real, Uid}
+use Rattle.plist_binread.specs.Container.{number_at, number_of, numbers_of}
+use Rattle.plist_binread.specs.Decoding.{Decodes, GrowsAt, IsRefusedAs}
+use Rattle.plist_binread.specs.Lent.{IsAsked, IsSlots}
+use Rattle.plist_binread.specs.Object.{Array, Faulty, Object, Scalar, dictionary, layout_of, length_in, meaning_counted, meaning_of_front, object_behind, object_in}
+use Rattle.plist_binread.specs.Turning.{ReadsChild}
+use Rattle.plist_binread.specs.declared.child.Asked.{Asked}
+use Rattle.std.specs.declared.alloc.Global.{Global}
+use Rattle.std.specs.declared.vec.Vec.{Vec}
+use Rattle.plist_binread.specs.declared.extent.Content.{Content}
+use Rattle.plist_binread.specs.declared.object.Decoded.{Decoded}
+use Rattle.plist_binread.specs.declared.table.Bounds.{Bounds}
+use Rattle.plist_binread.specs.inner.Places.{bytes_behind, IsTooLargeAt}
+
+-- ---- what is at hand, and what a read gives
+
+-- something is found, and the bytes are known: this is so of them
+abbrev pub IfFound : {A : Type 0} → Option A → (known : Option (List ℕ)) → (List ℕ → A → Type 0)
+    → Type 0
+IfFound found known P = IfSome found (λ value. IfSome known (λ bytes. P bytes value))
+
+-- where all of them are there, a read of `size` bytes from a place on fails by the device, or for
+-- want of memory
+abbrev pub FailsOutside : (place size : ℕ) → List ℕ → Fault → Type 0
+FailsOutside place size bytes fault = place + size ≤ length bytes → IsFromOutside fault.kind
+
+-- this is the number of this width at a place
+abbrev pub IsNumberAt : (place width : ℕ) → List ℕ → ℕ → Type 0
+IsNumberAt place width bytes number = number ≡ number_at bytes place width
+
+-- these are the bytes from a place on
+abbrev pub AreBytesAt : (place size : ℕ) → List ℕ → Vec ℕ Global → Type 0
+AreBytesAt place size bytes found = found.items ≡ take size (drop place bytes)
+
+-- where all of them are there, these are the numbers of one width from a place on
+abbrev pub AreNumbersAt : (place width count : ℕ) → List ℕ → Vec ℕ Global → Type 0
+AreNumbersAt place width count bytes numbers =
+    place + count * width ≤ length bytes
+    → numbers.items ≡ numbers_of width (take (count * width) (drop place bytes))
+
+-- ---- what the content of an object of a fixed size means
+
+abbrev pub short_real : List ℕ → Object
+short_real content = Scalar (Real (Four content))
+
+abbrev pub long_real : List ℕ → Object
+long_real content = Scalar (Real (Eight content))
+
+abbrev pub uid_in : List ℕ → Object
+uid_in content = Scalar (Uid (number_of content))
+
+-- and that of data
+abbrev pub data_in : List ℕ → Object
+data_in content = Scalar (Data content)
+
+-- ---- an object whose marker was read
+
+-- what its bytes mean, where it is an array, a dictionary, or any object
+abbrev pub array_of : (marker : ℕ) → Bounds → (place : ℕ) → List ℕ → Object
+array_of marker bounds place bytes = meaning_counted bounds.reference_width
+    (λ _ content. Array (numbers_of bounds.reference_width content))
+    (length_in marker (bytes_behind bytes bounds.trailer place))
+
+abbrev pub pairs_of : (marker : ℕ) → Bounds → (place : ℕ) → List ℕ → Object
+pairs_of marker bounds place bytes = meaning_counted (2 * bounds.reference_width)
+    (λ count content. dictionary count (numbers_of bounds.reference_width content))
+    (length_in marker (bytes_behind bytes bounds.trailer place))
+
+abbrev pub object_of : (marker : ℕ) → Bounds → (place : ℕ) → List ℕ → Object
+object_of marker bounds place bytes = object_behind marker
+    (layout_of bounds.reference_width marker) (bytes_behind bytes bounds.trailer place)
+
+-- the object at a place
+abbrev pub object_at : Bounds → (place : ℕ) → List ℕ → Object
+object_at bounds place bytes =
+    object_in bounds.reference_width (drop place (take bounds.trailer bytes))
+
+-- ---- what is made of bytes that reach the trailer
+
+-- an object is decoded, or refused
+abbrev pub DecodesAt : Result Decoded Error → (known : Option (List ℕ)) → Bounds → (place : ℕ)
+    → (Bounds → ℕ → List ℕ → Object) → Type 0
+DecodesAt answer known bounds place object = IfSome known (λ bytes.
+    bounds.trailer ≤ length bytes → Decodes (object bounds place bytes) place answer)
+
+-- a child's number is read, where the object has so many
+abbrev pub AsksAt : Result ℕ Error → (known : Option (List ℕ)) → Bounds → (place index : ℕ)
+    → (Bounds → ℕ → List ℕ → Object) → Type 0
+AsksAt answer known bounds place index object = IfSome known (λ bytes.
+    bounds.trailer ≤ length bytes → ReadsChild (object bounds place bytes) index answer)
+
+-- the references of a collection's children stand where it was asked
+abbrev pub IsAskedOf : (known : Option (List ℕ)) → Bounds → Asked → Type 0
+IsAskedOf known bounds asked =
+    IfSome known (λ bytes. bounds.trailer ≤ length bytes → IsAsked bytes bounds asked)
+
+-- the same whatever lies behind the bytes that were seen
+abbrev pub IsAskedBehind : (width : ℕ) → (seen : List ℕ) → Asked → Type 0
+IsAskedBehind width seen asked =
+    (more : List ℕ) → IsSlots width (seen ++ more) asked.start asked.pairs
+
+-- the bytes from a place on, up to the trailer, begin with these
+abbrev pub BeginsWith : (known : Option (List ℕ)) → Bounds → (place : ℕ) → List ℕ → Type 0
+BeginsWith known bounds place lent = IfSome known (λ bytes. bounds.trailer ≤ length bytes
+    → (more : List ℕ) × (drop place (take bounds.trailer bytes) ≡ lent ++ more))
+
+-- the same of a number that is found at hand
+abbrev pub FindsAt : Option ℕ → (known : Option (List ℕ)) → Bounds → (place index : ℕ) → Type 0
+FindsAt found known bounds place index = IfSome found (λ number. IfSome known (λ bytes.
+    bounds.trailer ≤ length bytes
+    → ReadsChild (object_at bounds place bytes) index (Ok number)))
+
+-- bytes that end here lie before the trailer, or this is the fault of their object
+abbrev pub EndsBefore : (trailer place end : ℕ) → Result (Unit {0}) Error → Type 0
+EndsBefore trailer place end answer = MatchResult answer (λ _. end ≤ trailer)
+    (λ error. (trailer < end) × IsTooLargeAt place (fault_of error))
+
+-- the fault of a device, or that of an object which this is so of
+abbrev pub IsCutAt : (place : ℕ) → Type 0 → Error → Type 0
+IsCutAt place P error = MatchFault (kind_of (error_kind_of error)) ⊤ ⊥
+    (P × IsTooLargeAt place (fault_of error))
+
+module _ (known : Option (List ℕ)) (trailer place : ℕ) where
+  -- this is so of the bytes behind an object's marker
+  abbrev pub IfBehind : (List ℕ → Type 0) → Type 0
+  IfBehind P = IfSome known (λ bytes. trailer ≤ length bytes → P (bytes_behind bytes trailer place))
+
+  -- an object of a fixed size is decoded, whose content means this
+  abbrev pub FrontMeans : (size : ℕ) → (List ℕ → Object) → Result Decoded Error → Type 0
+  FrontMeans size meaning answer = IfSome known (λ bytes. trailer ≤ length bytes →
+      Decodes (meaning_of_front size meaning (bytes_behind bytes trailer place)) place answer)
+
+  -- an object is decoded that has so many elements as its length says, each of this size
+  abbrev pub CountedMeans : (marker size : ℕ) → (List ℕ → Object) → Result Decoded Error → Type 0
+  CountedMeans marker size meaning answer = IfSome known (λ bytes. trailer ≤ length bytes →
+      Decodes (meaning_counted size (λ _. meaning)
+      (length_in marker (bytes_behind bytes trailer place))) place answer)
+
+  -- the content of an object of a fixed size is read, and shown so
+  abbrev pub FrontGives : {A : Type 0} → (size : ℕ) → (List ℕ → A) → Result A Error → Type 0
+  FrontGives {A} size shown answer = (meaning : A → Object) →
+      IfSome known (λ bytes. trailer ≤ length bytes → MatchResult answer
+      (λ content. meaning_of_front size (λ content. meaning (shown content))
+      (bytes_behind bytes trailer place) ≡ meaning content)
+      (λ error. IsRefusedAs (meaning_of_front size (λ content. meaning (shown content))
+      (bytes_behind bytes trailer place)) place error))
+
+  -- the bytes of a text or data are read
+  abbrev pub CountedGives : {A : Type 0} → (marker : ℕ) → (A → List ℕ) → Result A Error → Type 0
+  CountedGives {A} marker shown answer = (meaning : List ℕ → Object) →
+      ((content : List ℕ) → GrowsAt (meaning content)) →
+      IfSome known (λ bytes. trailer ≤ length bytes → MatchResult answer
+      (λ content. meaning_counted 1 (λ _. meaning)
+      (length_in marker (bytes_behind bytes trailer place)) ≡ meaning (shown content))
+      (λ error. IsRefusedAs (meaning_counted 1 (λ _. meaning)
+      (length_in marker (bytes_behind bytes trailer place))) place error))
+
+  -- an object's length is read, and where its content begins
+  abbrev pub GivesLength : (List ℕ → Option (ℕ × List ℕ)) → Result Content Error → Type 0
+  GivesLength length_of answer = IfSome known (λ bytes. trailer ≤ length bytes → MatchResult answer
+      (λ content. length_of (bytes_behind bytes trailer place)
+      ≡ Some (content.count, drop content.start (take trailer bytes)))
+      (IsCutAt place (length_of (bytes_behind bytes trailer place) ≡ None)))
+
+  -- its content is found: as many elements as its length says, each of this size
+  abbrev pub FindsContent : (marker size : ℕ) → Result Content Error → Type 0
+  FindsContent marker size answer = IfSome known (λ bytes. trailer ≤ length bytes →
+      MatchResult answer
+      (λ content. (meaning : ℕ → List ℕ → Object) →
+      meaning_counted size meaning (length_in marker (bytes_behind bytes trailer place))
+      ≡ meaning content.count (take (content.count * size) (drop content.start bytes)))
+      (IsCutAt place ((meaning : ℕ → List ℕ → Object) →
+      meaning_counted size meaning (length_in marker (bytes_behind bytes trailer place))
+      ≡ Faulty ObjectOffsetTooLarge)))
