@@ -1,12 +1,16 @@
 -- What contracts see of a builder.
-use Rattle.std.specs.Prelude.{◌≡◌}
+use Rattle.std.specs.Prelude.{◌≡◌, false, Some, Result, IfErr}
+use Rattle.plist_base.specs.declared.error.Error.{Error}
+use Rattle.plist_base.specs.Bracketing.{AreAlike, bracketing}
 use Rattle.plist_base.specs.Events.{PlainEvent, Item}
-use Rattle.plist_base.specs.Faults.{Fault}
+use Rattle.plist_base.specs.Faults.{Fault, fault_of}
 use Rattle.plist_base.specs.Writing.{Answer}
 use Rattle.plist.specs.declared.stream.builder.Builder.{Builder}
-use Rattle.plist.specs.Building.{Built, IsNested, IsAnswered}
+use Rattle.plist.specs.Building.{Built, IsNested, IsAnswered, complete_tree, events_so_far}
 use Rattle.plist.specs.Collecting.{Refuses, Takes}
-use Rattle.plist.specs.Partials.{unfinished_of}
+use Rattle.plist.specs.Partials.{CarriesOn, unfinished_of}
+use Rattle.plist.specs.Views.{tree_of}
+use Rattle.plist.specs.declared.value.Value.{Value}
 
 -- what a builder holds, and whether it has failed
 abbrev pub built_of : Builder → Built
@@ -25,3 +29,24 @@ TakesItem before item after = Takes (built_of before) item (built_of after)
 -- a builder that hasn't failed refuses an item's event, or hands an item's fault on
 abbrev pub RefusesItem : (before : Builder) → Item → Fault → Type 0
 RefusesItem before item fault = Refuses (built_of before).unfinished item fault
+
+-- the same of a call's answer
+abbrev pub RefusesWith : {A : Type 0} → (before : Builder) → Item → Result A Error → Type 0
+RefusesWith before item answer = IfErr answer (λ error. RefusesItem before item (fault_of error))
+
+-- the events so far are all of this value's
+abbrev pub IsWhole : Built → Value → Type 0
+IsWhole built value = AreAlike (events_so_far built.unfinished) (bracketing (tree_of value))
+
+-- its tree is what was built
+abbrev pub IsBuilt : Built → Value → Type 0
+IsBuilt built value = complete_tree built.unfinished ≡ Some (tree_of value)
+
+-- the same of a builder that hasn't failed
+abbrev pub RefusesWorking : {A : Type 0} → (before : Builder) → Item → Result A Error → Type 0
+RefusesWorking before item answer =
+    (built_of before).failed ≡ false → RefusesWith before item answer
+
+-- what a builder holds is carried on by the event
+abbrev pub Carries : (before : Builder) → PlainEvent → (after : Builder) → Type 0
+Carries before event after = CarriesOn before.partial event after.partial

@@ -1,5 +1,5 @@
 -- What stands in a property list of a kind, and nothing in one of another kind.
-use Rattle.std.specs.Prelude.{ℕ, ℤ, Bool, List, Option, Some, None}
+use Rattle.std.specs.Prelude.{ℕ, ◌^◌, ℤ, pos, ◌<ℤ◌, ◌≤ℤ◌, Bool, List, Option, Some, None}
 use Rattle.plist_base.specs.declared.real.RealBits.{RealBits}
 use Rattle.plist_base.specs.Trees.{Tree, Leaf, Array, Dictionary, Trees, Members, Boolean, Data, Date, Integer, Real, String, Uid}
 
@@ -47,3 +47,11 @@ text_in tree = None
 abbrev pub uid_in : Tree → Option ℕ
 uid_in (Leaf (Uid number)) = Some number
 uid_in tree = None
+
+-- a whole number fits an `i64`, where it is none that is too low for it
+abbrev pub IsBelowSigned : ℤ → Type 0
+IsBelowSigned number = number <ℤ pos (2 ^ 63)
+
+-- it isn't negative
+abbrev pub IsNatural : ℤ → Type 0
+IsNatural number = pos 0 ≤ℤ number

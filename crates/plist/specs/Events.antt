@@ -78,3 +78,8 @@ BeginsValue tree before (Ok given) after =
 BeginsValue tree before (Err error) after =
     (fault_of error ≡ fault_nowhere OutOfMemory)
     × BeginsWithStart (bracketing tree ++ remaining_events before) × (remaining_events after ≡ [])
+
+-- a level's events and its end come before what was left
+abbrev pub OpensLevel : (before : Events) → Level → (after : Events) → Type 0
+OpensLevel before level after =
+    remaining_events after ≡ left_of_level level ++ EndCollection ∷ remaining_events before

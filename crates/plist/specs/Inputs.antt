@@ -1,5 +1,6 @@
 -- The value of an input, from the items that it is seen to give.
-use Rattle.std.specs.Prelude.{◌≡◌, List, [], ◌∷◌, ◌++◌, Option, None, Some, Result, Ok, Err, IfSome, map, ⊤}
+use Rattle.std.specs.Prelude.{◌≡◌, ℕ, List, [], ◌∷◌, ◌++◌, Option, None, Some, Result, Ok, Err, IfSome, map, ⊤}
+use Rattle.std.specs.Iterator.{Count, IsFiniteIterable}
 use Rattle.std.specs.Option.{option_map}
 use Rattle.plist_base.specs.declared.error.Error.{Error}
 use Rattle.plist_base.specs.Events.{PlainEvent, Item}
@@ -7,7 +8,8 @@ use Rattle.plist_base.specs.Faults.{Fault, fault_nowhere, UnexpectedEndOfEventSt
 use Rattle.plist_base.specs.Trees.{Tree}
 use Rattle.plist_base.specs.Bracketing.{bracketing, AreAlike}
 use Rattle.plist.specs.Building.{Unfinished, IsNested, events_so_far, refusal_of}
-use Rattle.plist.specs.Collecting.{IsRefusal, item_by}
+use Rattle.plist.specs.Collecting.{Collects, IsRefusal, built_tree, item_by}
+use Rattle.plist.specs.declared.value.Value.{Value}
 use Rattle.plist.specs.LastWins.{last_wins}
 
 -- What stands behind events that can follow one another decides: a fault is the answer, an event
@@ -43,6 +45,11 @@ IsReadFrom items (Err fault) = MatchFault fault.kind ⊤ ⊤ (StopsAt items faul
 abbrev pub Answers : Option (List Item) → Result Tree Fault → Type 0
 Answers items answer = IfSome items (λ all. IsReadFrom all answer)
 
+-- the value of the items that known bytes have
+abbrev pub ReadsItems : (List ℕ → List Item) → (known : Option (List ℕ)) → Result Value Error → Type 0
+ReadsItems items_of known answer =
+    IfSome known (λ bytes. IsReadFrom (items_of bytes) (built_tree answer))
+
 -- What is seen to come begins with this item, and nothing comes only where nothing is seen. A
 -- device's fault and want of memory may come anywhere.
 abbrev pub BeginsWith : (before : List Item) → Option Item → (after : List Item) → Type 0
@@ -69,7 +76,28 @@ abbrev pub AnswersAsSeen : {E I : Type 0} → (plain : E → PlainEvent)
 AnswersAsSeen {E} {I} plain next_gives iter answer =
     (coming : I → Option (List Item)) → Shows plain next_gives coming → Answers (coming iter) answer
 
+-- one is made of something: what comes of its items is the answer
+abbrev pub CollectsOf : {E I J : Type 0} → (becomes : J → I → Type 0) → (plain : E → PlainEvent)
+    → (I → Option (Result E Error) → I → Type 0) → J → Result Value Error → Type 0
+CollectsOf {E} {I} {J} becomes plain next_gives made answer =
+    (iter : I) × becomes made iter × Collects plain next_gives iter (built_tree answer)
+
+-- the same whatever shows its items
+abbrev pub AnswersOf : {E I J : Type 0} → (becomes : J → I → Type 0) → (plain : E → PlainEvent)
+    → (I → Option (Result E Error) → I → Type 0) → J → Result Value Error → Type 0
+AnswersOf {E} {I} {J} becomes plain next_gives made answer =
+    (iter : I) × becomes made iter × AnswersAsSeen plain next_gives iter (built_tree answer)
+
 -- the answer is this tree, but for a device's fault and want of memory
 abbrev pub GivesBack : Tree → Result Tree Fault → Type 0
 GivesBack tree (Ok read) = read ≡ tree
 GivesBack tree (Err fault) = IsFromOutside fault.kind
+
+-- a tree's events are those of no other tree, whatever their lengths
+abbrev pub TellsTrees : Type 0
+TellsTrees = (left right : Tree) → AreAlike (bracketing left) (bracketing right) → left ≡ right
+
+-- whatever is made of it may be asked for items, and ends
+abbrev pub Ends : {J I : Type 0} → (becomes : J → I → Type 0) → (can_next : I → Type 0)
+    → (remaining : I → Count) → J → Type 0
+Ends becomes can_next remaining made = IsFiniteIterable becomes can_next remaining made

@@ -3,7 +3,7 @@ use Rattle.std.specs.Prelude.{◌≡◌, ℕ, ◌-◌, ◌≤◌, List, length, 
 use Rattle.std.specs.Option.{option_map}
 use Rattle.plist_base.specs.declared.limited.Limited.{Limited}
 use Rattle.plist_base.specs.declared.limits.Limits.{Limits}
-use Rattle.plist_base.specs.Events.{event_of}
+use Rattle.plist_base.specs.Events.{Item, event_of}
 use Rattle.plist_base.specs.Faults.{Fault}
 use Rattle.plist_base.specs.Limits.{GivesLimited, come_of, inner_of, limited_items}
 use Rattle.plist_base.specs.Trees.{Tree, Leaf, Array, Dictionary, Trees, NoTrees, TreeAnd, Members, NoMembers, MemberAnd}
@@ -35,6 +35,10 @@ abbrev pub IsWithin : Limits → Tree → Type 0
 IsWithin limits tree =
     NestsWithin tree limits.depth
     × ((whole : Tree) × (tree ≡ last_wins whole) × (length (bracketing whole) ≤ limits.items))
+
+-- the items of an input under these limits
+abbrev pub limited_input : Limits → List ℕ → List Item
+limited_input limits bytes = limited_items limits (items_of_input bytes)
 
 -- the answer comes of the run, under these limits, of a reader that has all items of this source to
 -- give

@@ -1,13 +1,15 @@
 -- A source that is read whole, item by item.
-use Rattle.std.specs.Prelude.{◌≡◌, ℕ, List, Option, Some, Result}
+use Rattle.std.specs.Prelude.{◌≡◌, ℕ, Bool, List, Option, Some, Result}
 use Rattle.std.specs.Option.{option_map}
-use Rattle.plist_base.specs.Events.{event_of}
+use Rattle.plist_base.specs.Events.{Item, event_of}
 use Rattle.plist_base.specs.Faults.{Fault}
 use Rattle.plist_base.specs.Trees.{Tree}
+use Rattle.plist_ascii.specs.Ascii.{items_of_ascii}
 use Rattle.plist_ascii.specs.AsciiReader as ascii
 use Rattle.plist_ascii.specs.AsciiReader.{dialect_of, inner_of}
 use Rattle.plist_ascii.specs.declared.reader.AsciiReader.{AsciiReader}
 use Rattle.plist_ascii.specs.declared.dialect.Dialect.{Dialect}
+use Rattle.plist_reader.specs.Formats.{front}
 use Rattle.plist_reader.specs.declared.reader.Reader.{Reader}
 use Rattle.plist_reader.specs.Reader.{Gives, items_of_input, source_of, to_come}
 use Rattle.plist.specs.Collecting.{Collects}
@@ -27,3 +29,7 @@ abbrev pub IsReadAsAscii : {R : Type 0} (known : R → Option (List ℕ)) (faile
 IsReadAsAscii {R} known failed source dialect answer =
     (reader : AsciiReader R) × (inner_of reader ≡ source) × (dialect_of reader ≡ dialect)
     × Collects event_of (ascii.Gives known failed) reader answer
+
+-- the items of an ASCII text
+abbrev pub items_of_text : (bare : ℕ → Bool) → List ℕ → List Item
+items_of_text bare bytes = items_of_ascii bare (front bytes) 0

@@ -1,9 +1,11 @@
 -- A file that is written of a value is read as that value.
-use Rattle.std.specs.Prelude.{ℕ, List, Result}
+use Rattle.std.specs.Prelude.{ℕ, List, Option, Result, IfSome}
+use Rattle.plist_base.specs.declared.error.Error.{Error}
 use Rattle.plist_base.specs.Faults.{Fault}
 use Rattle.plist_base.specs.Trees.{Tree}
 use Rattle.plist_binwrite.specs.Written.{IsWrittenAs}
 use Rattle.plist.specs.declared.value.Value.{Value}
+use Rattle.plist.specs.Collecting.{built_tree}
 use Rattle.plist.specs.Inputs.{GivesBack}
 use Rattle.plist.specs.Views.{tree_of}
 
@@ -11,3 +13,7 @@ use Rattle.plist.specs.Views.{tree_of}
 abbrev pub ReadsBack : List ℕ → Result Tree Fault → Type 0
 ReadsBack file answer =
     (value : Value) → IsWrittenAs (tree_of value) file → GivesBack (tree_of value) answer
+
+-- the same of bytes that may not be known, and of what was answered
+abbrev pub ReadsBackIn : (known : Option (List ℕ)) → Result Value Error → Type 0
+ReadsBackIn known answer = IfSome known (λ file. ReadsBack file (built_tree answer))

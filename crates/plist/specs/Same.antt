@@ -1,6 +1,6 @@
 -- Property lists that are the same, whatever the order of a dictionary's pairs. Of a key that
 -- stands more than once the first counts.
-use Rattle.std.specs.Prelude.{◌≡◌, ℕ, ◌==◌, Bool, true, false, not, ◌&&◌, ◌||◌, cond, Option, Some, None, is_some, List, [], ◌∷◌}
+use Rattle.std.specs.Prelude.{◌≡◌, ℕ, ◌==◌, Bool, true, false, not, ◌&&◌, ◌||◌, cond, Option, Some, None, is_some, List, [], ◌∷◌, ◌↔◌}
 use Rattle.std.specs.Str.{bytes_eq}
 use Rattle.std.specs.List.{list_any}
 use Rattle.std.specs.Ordering.{int_eq}
@@ -82,3 +82,24 @@ AreSameEverywhere left right =
 -- at each key of either list both have a value, and the two are equal by E
 abbrev pub same_pairs : {V : Type 0} → (V → V → Bool) → List (List ℕ × V) → List (List ℕ × V) → Bool
 same_pairs E pairs others = entries_eq bytes_eq (λ p q. E p.1 q.1) pairs others
+
+-- ---- what `same` is
+
+-- where the first is the same as the second, and that as the third, the first is as the third
+abbrev pub IsTransitive : Type 0
+IsTransitive =
+    (first second third : Tree) → same first second ≡ true → same second third ≡ true
+    → same first third ≡ true
+
+-- scalars are the same where they are one
+abbrev pub TellsScalars : Type 0
+TellsScalars = (left right : Scalar) → (same (Leaf left) (Leaf right) ≡ true) ↔ (left ≡ right)
+
+-- dictionaries are, where they have the same at every key
+abbrev pub TellsDictionaries : Type 0
+TellsDictionaries = (left right : Members)
+    → (same (Dictionary left) (Dictionary right) ≡ true) ↔ AreSameEverywhere left right
+
+-- pairs of values as members
+abbrev pub same_members : Members → Members → Bool
+same_members members others = same (Dictionary members) (Dictionary others)

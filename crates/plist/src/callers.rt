@@ -1,16 +1,17 @@
 //! Proved callers of what the crate offers: `Value::from_events` over owned and borrowed events,
 //! entries of dictionaries, and `==` with its laws.
 
-ghost use Rattle.std.specs.Prelude.{◌≡◌, ◌↔◌, IfErr, IfSome, OnErr, OnOk, OnSome, string_bytes, true};
+ghost use Rattle.std.specs.Prelude.{◌≡◌, IfErr, OnErr, OnOk, OnSome, string_bytes, true};
 ghost use Rattle.std.specs.Map.{lookup};
 ghost use Rattle.std.specs.Str.{bytes_eq};
-ghost use Rattle.indexmap.specs.IndexMap.{insert_entry, swap_remove_entry};
-ghost use Rattle.plist_base.specs.Trees.{Dictionary, Leaf, Members, Scalar, Tree};
+ghost use Rattle.plist_base.specs.Trees.{Dictionary, Tree};
 ghost use Rattle.plist_binread.specs.Unfolding.{items_of_file};
 ghost use Rattle.plist.specs.Collecting.{built_tree};
-ghost use Rattle.plist.specs.Inputs.{GivesBack, IsReadFrom};
-ghost use Rattle.plist.specs.Same.{AreSameEverywhere, same, same_pairs};
+ghost use Rattle.plist.specs.Inputs.{GivesBack, ReadsItems};
+ghost use Rattle.plist.specs.Same.{same, IsTransitive, TellsScalars, TellsDictionaries, same_members};
 ghost use Rattle.plist.specs.Views.{pair_trees, tree_of};
+ghost use Rattle.plist.specs.inner.PutOff.{same_values_at};
+ghost use Rattle.plist.specs.Lends.{IsSetAt, IsTakenAt};
 
 pub mod contents;
 
@@ -22,8 +23,7 @@ use std::alloc::Global;
 
 /// The value of a binary property list, from a reader of one's own.
 pub fn value_of_binary<R: Source>(alloc: Global, source: R) -> Result<Value, Error>
-    ensures value { IfSome (R.known source) (λ bytes.
-        IsReadFrom (items_of_file bytes) (built_tree result)) }
+    ensures value { ReadsItems items_of_file (R.known source) result }
 {
     Value::from_events(alloc, BinaryReader::new(alloc, source))
 }
@@ -42,22 +42,17 @@ pub fn are_equal(value: &Value, other: &Value) -> bool
     ensures same { result ≡ same (tree_of value.now) (tree_of other.now) }
     ensures reflexive { (tree : Tree) → same tree tree ≡ true }
     ensures symmetric { (tree other : Tree) → same tree other ≡ same other tree }
-    ensures transitive { (first second third : Tree) → same first second ≡ true
-        → same second third ≡ true → same first third ≡ true }
-    ensures scalars { (left right : Scalar)
-        → (same (Leaf left) (Leaf right) ≡ true) ↔ (left ≡ right) }
-    ensures dictionaries { (left right : Members)
-        → (same (Dictionary left) (Dictionary right) ≡ true) ↔ AreSameEverywhere left right }
+    ensures transitive { IsTransitive }
+    ensures scalars { TellsScalars }
+    ensures dictionaries { TellsDictionaries }
 {
     value == other
 }
 
 /// Whether two dictionaries are equal: whether they are so as values.
 pub fn are_equal_dictionaries(pairs: &Dictionary, others: &Dictionary) -> bool
-    ensures same { result
-        ≡ same (Dictionary (pair_trees pairs.now)) (Dictionary (pair_trees others.now)) }
-    ensures pairs { result
-        ≡ same_pairs (λ v w. same (tree_of v) (tree_of w)) pairs.now others.now }
+    ensures same { result ≡ same_members (pair_trees pairs.now) (pair_trees others.now) }
+    ensures pairs { result ≡ same_values_at pairs.now others.now }
 {
     let _counts = (pairs.pair_count(), others.pair_count());
     pairs == others
@@ -71,8 +66,7 @@ pub fn set_by_entry<V: Drop>(
     first: V,
     value: V,
 ) -> Result<(), (String, V)>
-    ensures done { OnOk result
-        (pairs.new ≡ insert_entry bytes_eq pairs.old (string_bytes key) value) }
+    ensures done { OnOk result (IsSetAt pairs.old (string_bytes key) value pairs.new) }
     ensures refused { OnErr result (pairs.new ≡ pairs.old) }
     ensures handed_back { IfErr result (λ back. back ≡ (key, first)) }
 {
@@ -89,8 +83,7 @@ pub fn set_by_made_entry<V: Drop, F: FnOnce() -> V>(
     value: V,
 ) -> Result<(), (String, V)>
     requires { F.pre first }
-    ensures done { OnOk result
-        (pairs.new ≡ insert_entry bytes_eq pairs.old (string_bytes key) value) }
+    ensures done { OnOk result (IsSetAt pairs.old (string_bytes key) value pairs.new) }
     ensures refused { OnErr result (pairs.new ≡ pairs.old) }
     ensures handed_back { IfErr result (λ back. (back.0 ≡ key) × F.post first back.1) }
 {
@@ -102,8 +95,7 @@ pub fn set_by_made_entry<V: Drop, F: FnOnce() -> V>(
 /// Takes a key out through its entry.
 pub fn take_by_entry<V>(pairs: &mut Pairs<V>, key: String) -> Option<V>
     ensures value { result ≡ lookup (bytes_eq (string_bytes key)) pairs.old }
-    ensures pairs { OnSome result
-        (pairs.new ≡ swap_remove_entry (bytes_eq (string_bytes key)) pairs.old) }
+    ensures pairs { OnSome result (IsTakenAt pairs.old (string_bytes key) pairs.new) }
 {
     match pairs.entry(key) {
         Entry::Occupied(entry) => Some(entry.remove()),

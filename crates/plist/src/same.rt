@@ -4,13 +4,11 @@
 //! and compared once the others are. So equality takes no more of the call stack than these levels
 //! do, however deep the values are, unless memory for the pairs is refused.
 
-ghost use Rattle.std.specs.Prelude.{◌≡◌, ◌-◌, ◌++◌, ◌∷◌, [], MatchOption};
-ghost use Rattle.std.specs.Map.{values_of};
+ghost use Rattle.std.specs.Prelude.{◌≡◌, ◌-◌};
 ghost use Rattle.plist_base.specs.Trees.{Dictionary};
-ghost use Rattle.plist.specs.inner.PutOff.{Compares, PutsOff, same_values, waiting};
-ghost use Rattle.plist.specs.Same.{same, same_items};
-ghost use Rattle.plist.specs.Views.{item_trees, pair_trees, tree_of};
-ghost use Rattle.plist.specs.inner.Weights.{weight, weights};
+ghost use Rattle.plist.specs.inner.PutOff.{PutsOff, waiting, ComparesContent, ComparesItems, ComparesPairs, ComparesValues, TakesLast};
+ghost use Rattle.plist.specs.Same.{same};
+ghost use Rattle.plist.specs.Views.{tree_of};
 
 use crate::{Dictionary, Value};
 use std::alloc::Global;
@@ -66,8 +64,7 @@ struct Later<'a> {
 impl<'a> Later<'a> {
     // The pair that was put off last.
     fn pop(&mut self) -> Option<Pair<'a>>
-        ensures { MatchOption result (waiting self.old ≡ [])
-            (λ pair. waiting self.old ≡ waiting self.new ++ pair ∷ []) }
+        ensures { TakesLast self.old result self.new }
     {
         match &mut self.pairs {
             None => None,
@@ -101,8 +98,7 @@ impl<'a> Later<'a> {
     // Whether two values are equal, but for pairs that are put off.
     #[cycle(same)]
     fn compare(&mut self, value: &'a Value, other: &'a Value, levels: u32) -> bool
-        ensures { Compares (same_values value.now other.now) (weight value.now)
-            self.old result self.new }
+        ensures { ComparesValues value.now other.now self.old result self.new }
     {
         if levels > 0 {
             return self.compare_content(value, other, levels - 1);
@@ -116,8 +112,7 @@ impl<'a> Later<'a> {
     // The same, where the two aren't put off themselves.
     #[cycle(same)]
     fn compare_content(&mut self, value: &'a Value, other: &'a Value, levels: u32) -> bool
-        ensures { Compares (same_values value.now other.now) (weight value.now - 1)
-            self.old result self.new }
+        ensures { ComparesContent value.now other.now self.old result self.new }
     {
         match value {
             Value::Array(items) => match other {
@@ -162,9 +157,7 @@ impl<'a> Later<'a> {
     // Whether two arrays are equal, likewise.
     #[cycle(same)]
     fn compare_items(&mut self, items: &'a Vec<Value>, others: &'a Vec<Value>, levels: u32) -> bool
-        ensures { Compares
-            (same_items (item_trees items.now.items) (item_trees others.now.items))
-            (weights items.now.items) self.old result self.new }
+        ensures { ComparesItems items.now.items others.now.items self.old result self.new }
     {
         if items.len() != others.len() {
             return false;
@@ -180,9 +173,7 @@ impl<'a> Later<'a> {
     // Whether two dictionaries are equal, likewise.
     #[cycle(same)]
     fn compare_pairs(&mut self, pairs: &'a Dictionary, others: &'a Dictionary, levels: u32) -> bool
-        ensures { Compares
-            (same (Dictionary (pair_trees pairs.now)) (Dictionary (pair_trees others.now)))
-            (weights (values_of pairs.now)) self.old result self.new }
+        ensures { ComparesPairs pairs.now others.now self.old result self.new }
     {
         let count = pairs.pair_count();
         if count != others.pair_count() {

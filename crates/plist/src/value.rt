@@ -1,27 +1,23 @@
 //! Values of property lists.
 
-ghost use Rattle.std.specs.Prelude.{◌≡◌, ◌+◌, IfOk, IfSome, MatchOption, option_map, string_bytes};
-ghost use Rattle.std.specs.Iterator.{IsFinite};
-ghost use Rattle.plist_base.specs.Bracketing.{AreAlike, bracketing};
+ghost use Rattle.std.specs.Prelude.{◌≡◌, ◌+◌, IfOk, IfSome, option_map, string_bytes};
+ghost use Rattle.plist_base.specs.Bracketing.{bracketing};
 ghost use Rattle.plist_base.specs.Writing.{answer_of};
 ghost use Rattle.plist.specs.Sent.{SendsTree};
-ghost use Rattle.plist.specs.Collecting.{Collects, built_tree};
+ghost use Rattle.plist.specs.Collecting.{built_tree};
 ghost use Rattle.plist.specs.Contents.{array_in, data_in, dictionary_in, text_in};
-ghost use Rattle.plist.specs.Inputs.{AnswersAsSeen, IsReadFrom};
-ghost use Rattle.plist.specs.ReadBy.{IsReadAsAscii, IsReadBy};
-ghost use Rattle.plist.specs.ReadingBack.{ReadsBack};
-ghost use Rattle.plist_base.specs.Limits.{limited_items};
-ghost use Rattle.plist_ascii.specs.Ascii.{items_of_ascii};
+ghost use Rattle.plist.specs.Inputs.{AnswersOf, CollectsOf, Ends, ReadsItems, TellsTrees};
+ghost use Rattle.plist.specs.ReadBy.{IsReadAsAscii, IsReadBy, items_of_text};
+ghost use Rattle.plist.specs.ReadingBack.{ReadsBackIn};
 ghost use Rattle.plist_ascii.specs.Texts.{ends_bare, lax};
 ghost use Rattle.plist_reader.specs.Reader.{items_of_input};
-ghost use Rattle.plist_reader.specs.Formats.{front};
 ghost use Rattle.plist_base.specs.Outcomes.{OnlyMemory};
-ghost use Rattle.plist_base.specs.Trees.{Leaf, String, Tree};
+ghost use Rattle.plist_base.specs.Trees.{Leaf, String};
 ghost use Rattle.plist.specs.LastWins.{AreLastValues, Rows, last_values, last_wins};
-ghost use Rattle.plist.specs.Limiting.{IsReadUnder, IsWithin};
+ghost use Rattle.plist.specs.Limiting.{IsReadUnder, IsWithin, limited_input};
 ghost use Rattle.plist.specs.Events.{remaining_events};
 ghost use Rattle.plist.specs.Views.{item_trees, kind_of_tree, pair_trees, tree_of};
-ghost use Rattle.plist.specs.inner.Weights.{weight, weights};
+ghost use Rattle.plist.specs.inner.Weights.{SplitsInto};
 
 mod contents;
 mod dropping;
@@ -86,8 +82,7 @@ impl Value {
 
     // What a collection holds, without its keys; a scalar is dropped.
     fn into_children(self) -> Option<Vec<Value>>
-        ensures { MatchOption result (weight self ≡ 1)
-            (λ items. weight self ≡ 1 + weights items.items) }
+        ensures { SplitsInto result self }
     {
         match self {
             Value::Array(items) => Some(items),
@@ -104,7 +99,7 @@ impl Value {
 
     /// The array, if the value is one.
     pub fn into_array(self) -> Option<Vec<Value>>
-        ensures value { option_map (λ items. item_trees items.items) result ≡ array_in (tree_of self) }
+        ensures value { option_map (λ a. item_trees a.items) result ≡ array_in (tree_of self) }
         ensures made { IfSome result (λ items. self ≡ made.Array items) }
     {
         match self {
@@ -170,16 +165,12 @@ impl Value {
         alloc: Global,
         events: I,
     ) -> Result<Value, Error>
-        requires asked { (iter : I.IntoIter) → I.into_iter_gives events iter
-            → I.IntoIter.can_next iter × IsFinite (I.IntoIter.remaining iter) }
-        ensures one_tree { (left right : Tree) → AreAlike (bracketing left) (bracketing right)
-            → left ≡ right }
+        requires asked { Ends I.into_iter_gives I.IntoIter.can_next I.IntoIter.remaining events }
+        ensures one_tree { TellsTrees }
         ensures last_values { (rows : Rows) → AreLastValues rows (last_values rows) }
         ensures itself { (value : Value) → last_wins (tree_of value) ≡ tree_of value }
-        ensures value { (iter : I.IntoIter) × I.into_iter_gives events iter
-            × Collects E.plain I.IntoIter.next_gives iter (built_tree result) }
-        ensures shown { (iter : I.IntoIter) × I.into_iter_gives events iter
-            × AnswersAsSeen E.plain I.IntoIter.next_gives iter (built_tree result) }
+        ensures value { CollectsOf I.into_iter_gives E.plain I.IntoIter.next_gives events result }
+        ensures shown { AnswersOf I.into_iter_gives E.plain I.IntoIter.next_gives events result }
     {
         collect(alloc, events.into_iter())
     }
@@ -196,11 +187,9 @@ impl Value {
     /// - `UnexpectedEndOfEventStream` if the items end before the value does.
     /// - `OutOfMemory`.
     pub fn from_reader<R: Source>(alloc: Global, source: R) -> Result<Value, Error>
-        ensures value { IfSome (R.known source) (λ bytes.
-            IsReadFrom (items_of_input bytes) (built_tree result)) }
+        ensures value { ReadsItems items_of_input (R.known source) result }
         ensures read { IsReadBy R.known R.failures source (built_tree result) }
-        ensures reads_back { IfSome (R.known source)
-            (λ bytes. ReadsBack bytes (built_tree result)) }
+        ensures reads_back { ReadsBackIn (R.known source) result }
     {
         let reader = Reader::new(alloc, source);
         collect(alloc, reader)
@@ -219,8 +208,7 @@ impl Value {
         source: R,
         limits: Limits,
     ) -> Result<Value, Error>
-        ensures value { IfSome (R.known source) (λ bytes.
-            IsReadFrom (limited_items limits (items_of_input bytes)) (built_tree result)) }
+        ensures value { ReadsItems (limited_input limits) (R.known source) result }
         ensures within { IfOk (built_tree result) (IsWithin limits) }
         ensures read { IsReadUnder limits R.known R.failures source (built_tree result) }
     {
@@ -236,10 +224,8 @@ impl Value {
     ///
     /// Those of [`Value::from_reader`], with the faults of [`AsciiReader`].
     pub fn from_reader_ascii<R: Bytes + Drop>(alloc: Global, reader: R) -> Result<Value, Error>
-        ensures value { IfSome (R.remaining reader) (λ bytes.
-            IsReadFrom (items_of_ascii lax (front bytes) 0) (built_tree result)) }
-        ensures read { IsReadAsAscii R.remaining R.failures reader Dialect.Lax
-            (built_tree result) }
+        ensures value { ReadsItems (items_of_text lax) (R.remaining reader) result }
+        ensures read { IsReadAsAscii R.remaining R.failures reader Dialect.Lax (built_tree result) }
     {
         Value::from_reader_ascii_with_dialect(alloc, reader, Dialect::Lax)
     }
@@ -255,8 +241,7 @@ impl Value {
         reader: R,
         dialect: Dialect,
     ) -> Result<Value, Error>
-        ensures value { IfSome (R.remaining reader) (λ bytes.
-            IsReadFrom (items_of_ascii (ends_bare dialect) (front bytes) 0) (built_tree result)) }
+        ensures value { ReadsItems (items_of_text (ends_bare dialect)) (R.remaining reader) result }
         ensures read { IsReadAsAscii R.remaining R.failures reader dialect (built_tree result) }
     {
         collect(alloc, AsciiReader::with_dialect(alloc, reader, dialect))

@@ -1,6 +1,6 @@
 -- Pairs of values whose comparison is put off.
-use Rattle.std.specs.Prelude.{◌≡◌, ◌≤◌, ℕ, ◌+◌, Bool, true, false, ◌&&◌, Option, None, Some, List, [], ◌∷◌}
-use Rattle.std.specs.Map.{lookup}
+use Rattle.std.specs.Prelude.{◌≡◌, ◌≤◌, ℕ, ◌+◌, ◌-◌, Bool, true, false, ◌&&◌, Option, None, Some, List, [], ◌∷◌, ◌++◌, MatchOption}
+use Rattle.std.specs.Map.{lookup, values_of}
 use Rattle.std.specs.Option.{option_eq}
 use Rattle.std.specs.Str.{bytes_eq}
 use Rattle.std.specs.declared.alloc.Global.{Global}
@@ -8,13 +8,17 @@ use Rattle.std.specs.declared.vec.Vec.{Vec}
 use Rattle.plist.specs.declared.same.Later.{Later}
 use Rattle.plist.specs.declared.same.Pair.{Pair}
 use Rattle.plist.specs.declared.value.Value.{Value}
-use Rattle.plist.specs.Same.{same}
-use Rattle.plist.specs.Views.{tree_of}
-use Rattle.plist.specs.inner.Weights.{weight}
+use Rattle.plist.specs.Same.{same, same_items, same_members, same_pairs}
+use Rattle.plist.specs.Views.{item_trees, pair_trees, tree_of}
+use Rattle.plist.specs.inner.Weights.{weight, weights}
 
 -- whether values are equal
 abbrev pub same_values : Value → Value → Bool
 same_values value other = same (tree_of value) (tree_of other)
+
+-- whether pairs are, whatever their order
+abbrev pub same_values_at : (pairs others : List (List ℕ × Value)) → Bool
+same_values_at pairs others = same_pairs same_values pairs others
 
 -- whether all these pairs are equal
 abbrev pub are_same : List Pair → Bool
@@ -55,3 +59,31 @@ PutsOff value other before true after =
     (are_same (waiting after) ≡ same_values value other && are_same (waiting before))
     × (to_compare (waiting after) ≡ weight value + to_compare (waiting before))
 PutsOff value other before false after = waiting after ≡ waiting before
+
+-- the same of the items of arrays, and of the pairs of dictionaries
+abbrev pub ComparesItems : (items others : List Value) → (before : Later) → (answer : Bool)
+    → (after : Later) → Type 0
+ComparesItems items others before answer after =
+    Compares (same_items (item_trees items) (item_trees others)) (weights items) before answer after
+
+abbrev pub ComparesPairs : (pairs others : List (List ℕ × Value)) → (before : Later)
+    → (answer : Bool) → (after : Later) → Type 0
+ComparesPairs pairs others before answer after =
+    Compares (same_members (pair_trees pairs) (pair_trees others)) (weights (values_of pairs))
+    before answer after
+
+-- the pair that was put off last is taken, if one was
+abbrev pub TakesLast : (before : Later) → Option Pair → (after : Later) → Type 0
+TakesLast before found after = MatchOption found (waiting before ≡ [])
+    (λ pair. waiting before ≡ waiting after ++ pair ∷ [])
+
+-- the same of two values, which may be put off themselves, and of their contents
+abbrev pub ComparesValues : (value other : Value) → (before : Later) → (answer : Bool)
+    → (after : Later) → Type 0
+ComparesValues value other before answer after =
+    Compares (same_values value other) (weight value) before answer after
+
+abbrev pub ComparesContent : (value other : Value) → (before : Later) → (answer : Bool)
+    → (after : Later) → Type 0
+ComparesContent value other before answer after =
+    Compares (same_values value other) (weight value - 1) before answer after

@@ -1,5 +1,7 @@
 -- How much of a value there is to drop.
-use Rattle.std.specs.Prelude.{◌≡◌, ◌<◌, ◌≤◌, ◌⊎◌, ℕ, ◌+◌, ◌*◌, List, [], ◌∷◌, map, sum, length}
+use Rattle.std.specs.Prelude.{◌≡◌, ◌<◌, ◌≤◌, ◌⊎◌, ℕ, ◌+◌, ◌*◌, List, [], ◌∷◌, map, sum, length, Option, MatchOption}
+use Rattle.std.specs.declared.alloc.Global.{Global}
+use Rattle.std.specs.declared.vec.Vec.{Vec}
 use Rattle.std.specs.Map.{values_of}
 use Rattle.plist.specs.declared.value.Value.{Value, fold-Value}
 use Rattle.plist.specs.declared.value.Value.TheOpen.{Value-F}
@@ -33,3 +35,8 @@ IsLess joined left below =
     (weights joined < weights left + 1 + weights below)
     ⊎ ((0 < length left) × (weights joined ≡ weights left + 1 + weights below)
     × (weights (others joined) ≤ weights below))
+
+-- what a value holds, if it holds any, weighs one less than it
+abbrev pub SplitsInto : Option (Vec Value Global) → Value → Type 0
+SplitsInto found value =
+    MatchOption found (weight value ≡ 1) (λ items. weight value ≡ 1 + weights items.items)

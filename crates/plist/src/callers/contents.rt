@@ -51,8 +51,7 @@ pub fn text_again(text: String) -> Option<String>
 
 /// The items of an array, by way of a value.
 pub fn items_again(items: Vec<Value>) -> Option<Vec<Value>>
-    ensures { option_map (λ found. item_trees found.items) result
-        ≡ Some (item_trees items.items) }
+    ensures { option_map (λ v. item_trees v.items) result ≡ Some (item_trees items.items) }
 {
     Value::from(items).into_array()
 }

@@ -1,13 +1,11 @@
 //! A value from its events.
 
 ghost use Rattle.std.specs.Prelude.{◌≡◌, IfErr, IfOk, None, Ok, OnErr, OnOk, Some, false, true};
-ghost use Rattle.plist_base.specs.Bracketing.{AreAlike, bracketing};
 ghost use Rattle.plist_base.specs.Events.{event_of};
 ghost use Rattle.plist_base.specs.Faults.{fault_of};
 ghost use Rattle.plist_base.specs.Writing.{answer_of};
-ghost use Rattle.plist.specs.Building.{IsNested, IsNested-prop, IsUnfinished, complete_tree, events_so_far, nothing_built};
-ghost use Rattle.plist.specs.Partials.{CarriesOn, unfinished_of};
-ghost use Rattle.plist.specs.Views.{tree_of};
+ghost use Rattle.plist.specs.Building.{IsNested, IsNested-prop, IsUnfinished, events_so_far, nothing_built};
+ghost use Rattle.plist.specs.Partials.{unfinished_of};
 
 use crate::Value;
 use crate::partial::Partial;
@@ -30,7 +28,7 @@ pub struct Builder {
 }
 
 impl Builder {
-    ghost use Rattle.plist.specs.Builder.{IsBuildingStep, RefusesItem, TakesItem, built_of};
+    ghost use Rattle.plist.specs.Builder.{Carries, IsBuilt, IsBuildingStep, IsWhole, RefusesWith, RefusesWorking, TakesItem, built_of};
     ghost use Rattle.plist.specs.Collecting.{item_by};
 
     /// A builder that holds no events.
@@ -47,10 +45,8 @@ impl Builder {
     // Takes one event.
     pub(crate) fn take(&mut self, event: Event<'_>) -> Result<(), Error>
         ensures step { IsBuildingStep self.old (event_of event.entry) (answer_of result) self.new }
-        ensures carried { OnOk result
-            (CarriesOn self.old.partial (event_of event.entry) self.new.partial) }
-        ensures refused { (built_of self.old).failed ≡ false → IfErr result (λ error.
-            RefusesItem self.old (Ok (event_of event.entry)) (fault_of error)) }
+        ensures carried { OnOk result (Carries self.old (event_of event.entry) self.new) }
+        ensures refused { RefusesWorking self.old (Ok (event_of event.entry)) result }
     {
         if self.failed {
             return Err(ErrorKind::WriterFailed.without_position());
@@ -73,8 +69,7 @@ impl Builder {
     pub(crate) fn take_item<E: AnyEvent>(&mut self, item: Result<E, Error>) -> Result<(), Error>
         requires { (built_of self.old).failed ≡ false }
         ensures taken { OnOk result (TakesItem self.old (item_by E.plain item) self.new) }
-        ensures refused { IfErr result (λ error.
-            RefusesItem self.old (item_by E.plain item) (fault_of error)) }
+        ensures refused { RefusesWith self.old (item_by E.plain item) result }
     {
         let event = item?;
         event.hand_to(self)
@@ -89,15 +84,11 @@ impl Builder {
     /// - `WriterFailed` if it has failed.
     /// - `UnexpectedEndOfEventStream` if the events aren't those of a value yet.
     pub fn finish(&mut self) -> Result<Value, Error>
-        ensures value { IfOk result
-            (λ value. AreAlike (events_so_far (built_of self.old).unfinished)
-            (bracketing (tree_of value))) }
-        ensures complete { IfOk result
-            (λ value. complete_tree (built_of self.old).unfinished ≡ Some (tree_of value)) }
+        ensures value { IfOk result (IsWhole (built_of self.old)) }
+        ensures complete { IfOk result (IsBuilt (built_of self.old)) }
         ensures working { OnOk result ((built_of self.old).failed ≡ false) }
         ensures emptied { OnOk result (built_of self.new ≡ nothing_built) }
-        ensures refused { IfErr result (λ error.
-            IsUnfinished (built_of self.old) (fault_of error)) }
+        ensures refused { IfErr result (λ e. IsUnfinished (built_of self.old) (fault_of e)) }
         ensures unchanged { OnErr result (self.new ≡ self.old) }
     {
         let failed = self.failed;
@@ -114,7 +105,7 @@ impl Builder {
 /// An event, whatever it borrows: an [`Event`] of any lifetime.
 pub trait AnyEvent: Drop {
     ghost use Rattle.plist_base.specs.Events.{PlainEvent};
-    ghost use Rattle.plist.specs.Builder.{RefusesItem, TakesItem, built_of};
+    ghost use Rattle.plist.specs.Builder.{RefusesWith, TakesItem, built_of};
 
     ghost plain: { Self → PlainEvent };
 
@@ -122,8 +113,7 @@ pub trait AnyEvent: Drop {
     fn hand_to(self, builder: &mut Builder) -> Result<(), Error>
         requires { (built_of builder.old).failed ≡ false }
         ensures taken { OnOk result (TakesItem builder.old (Ok (plain self)) builder.new) }
-        ensures refused { IfErr result (λ error.
-            RefusesItem builder.old (Ok (plain self)) (fault_of error)) };
+        ensures refused { RefusesWith builder.old (Ok (plain self)) result };
 }
 
 impl<'a> AnyEvent for Event<'a> {

@@ -1,10 +1,10 @@
 //! The events of a value.
 
-ghost use Rattle.std.specs.Prelude.{◌≡◌, ◌++◌, ◌∷◌, None, OnErr, OnOk, []};
+ghost use Rattle.std.specs.Prelude.{◌≡◌, None, OnErr, OnOk, []};
 ghost use Rattle.plist_base.specs.Bracketing.{bracketing};
 ghost use Rattle.plist_base.specs.Events.{EndCollection};
 ghost use Rattle.plist_base.specs.Outcomes.{OnlyMemory};
-ghost use Rattle.plist.specs.Events.{left_of_level, remaining_events};
+ghost use Rattle.plist.specs.Events.{remaining_events, OpensLevel};
 ghost use Rattle.plist.specs.Views.{tree_of};
 
 use crate::Value;
@@ -83,9 +83,7 @@ impl<'a> Events<'a> {
     // Opens a collection; for want of memory nothing is left.
     fn open(&mut self, level: Level<'a>) -> Result<(), Error>
         requires { self.old.value ≡ None }
-        ensures opened { OnOk result
-            (remaining_events self.new
-            ≡ left_of_level level.entry ++ EndCollection ∷ remaining_events self.old) }
+        ensures opened { OnOk result (OpensLevel self.old level.entry self.new) }
         ensures memory { OnlyMemory result }
         ensures nothing { OnErr result (remaining_events self.new ≡ []) }
     {

@@ -1,8 +1,8 @@
 //! What stands in a value of a kind. None of these calls takes memory.
 
-ghost use Rattle.std.specs.Prelude.{◌≡◌, ◌↔◌, ◌<ℤ◌, ◌≤ℤ◌, ◌^◌, ℤ, IfSome, IsSome, IsSomeAnd, Some, option_map, pos, string_bytes};
+ghost use Rattle.std.specs.Prelude.{◌≡◌, ◌↔◌, IfSome, IsSome, IsSomeAnd, Some, option_map, pos};
 ghost use Rattle.std.specs.Option.{option_copied};
-ghost use Rattle.plist.specs.Contents.{array_in, boolean_in, data_in, date_in, dictionary_in, integer_in, real_in, text_in, uid_in};
+ghost use Rattle.plist.specs.Contents.{array_in, boolean_in, data_in, date_in, dictionary_in, integer_in, real_in, text_in, uid_in, IsBelowSigned, IsNatural};
 ghost use Rattle.plist.specs.Views.{item_trees, pair_trees, tree_of};
 
 use crate::{Dictionary, Value};
@@ -10,15 +10,12 @@ use plist_base::{Date, RealBits, Uid};
 use std::alloc::Global;
 
 impl Value {
-    ghost use Rattle.std.specs.Borrow.{LendsIf, sem};
-    ghost use Rattle.plist.specs.Rows.{array_row, dictionary_row};
-    ghost use Rattle.plist.specs.contracts.value.Value.{the_row};
-    ghost use Rattle.plist.specs.declared.value.Value.TheVariants as made;
+    ghost use Rattle.std.specs.Borrow.{sem};
+    ghost use Rattle.plist.specs.Rows.{LendsArray, LendsDictionary, items_lent, pairs_lent};
 
     /// The array, if the value is one.
     pub fn as_array(&self) -> Option<&Vec<Value>>
-        ensures { option_map (λ items. item_trees items.now.items) result
-            ≡ array_in (tree_of self.now) }
+        ensures { option_map (λ a. item_trees a.now.items) result ≡ array_in (tree_of self.now) }
     {
         match self {
             Value::Array(array) => Some(array),
@@ -28,10 +25,8 @@ impl Value {
 
     /// The array, to be changed, if the value is one.
     pub fn as_array_mut(&mut self) -> Option<&mut Vec<Value>>
-        ensures* writes_back { sem 𝓛 (LendsIf the_row array_row self.entry result
-            made.Array self.old) }
-        ensures value { option_map (λ items. item_trees items.now.items) result
-            ≡ array_in (tree_of self.old) }
+        ensures* writes_back { sem 𝓛 (LendsArray self.entry result self.old) }
+        ensures value { items_lent result ≡ array_in (tree_of self.old) }
     {
         match self {
             Value::Array(lent) => Some(lent),
@@ -41,8 +36,7 @@ impl Value {
 
     /// The dictionary, if the value is one.
     pub fn as_dictionary(&self) -> Option<&Dictionary>
-        ensures { option_map (λ pairs. pair_trees pairs.now) result
-            ≡ dictionary_in (tree_of self.now) }
+        ensures { option_map (λ d. pair_trees d.now) result ≡ dictionary_in (tree_of self.now) }
     {
         match self {
             Value::Dictionary(dictionary) => Some(dictionary),
@@ -52,10 +46,8 @@ impl Value {
 
     /// The dictionary, to be changed, if the value is one.
     pub fn as_dictionary_mut(&mut self) -> Option<&mut Dictionary>
-        ensures* writes_back { sem 𝓛 (LendsIf the_row dictionary_row self.entry result
-            made.Dictionary self.old) }
-        ensures value { option_map (λ pairs. pair_trees pairs.now) result
-            ≡ dictionary_in (tree_of self.old) }
+        ensures* writes_back { sem 𝓛 (LendsDictionary self.entry result self.old) }
+        ensures value { pairs_lent result ≡ dictionary_in (tree_of self.old) }
     {
         match self {
             Value::Dictionary(lent) => Some(lent),
@@ -105,8 +97,7 @@ impl Value {
 
     /// The number, if the value is an integer that fits an `i64`.
     pub fn as_signed_integer(&self) -> Option<i64>
-        ensures fits { IsSome result ↔ IsSomeAnd (integer_in (tree_of self.now))
-            (λ n. n <ℤ pos (2 ^ 63)) }
+        ensures fits { IsSome result ↔ IsSomeAnd (integer_in (tree_of self.now)) IsBelowSigned }
         ensures value { IfSome result (λ n. integer_in (tree_of self.now) ≡ Some n) }
     {
         match self {
@@ -117,8 +108,7 @@ impl Value {
 
     /// The number, if the value is an integer that isn't negative.
     pub fn as_unsigned_integer(&self) -> Option<u64>
-        ensures fits { IsSome result ↔ IsSomeAnd (integer_in (tree_of self.now))
-            (λ n. pos 0 ≤ℤ n) }
+        ensures fits { IsSome result ↔ IsSomeAnd (integer_in (tree_of self.now)) IsNatural }
         ensures value { IfSome result (λ n. integer_in (tree_of self.now) ≡ Some (pos n)) }
     {
         match self {

@@ -1,6 +1,6 @@
-use Rattle.std.proofs.Common.{◌≡◌, ◌<◌, ◌≤◌, ◌+◌, ◌&&◌, ℕ, suc, Option, None, Some, false, true, List, [], length, drop, sym, subst, ap, ◌∙◌, arith}
+use Rattle.std.proofs.Common.{◌≡◌, ◌<◌, ◌≤◌, ◌+◌, ◌&&◌, suc, Some, false, length, drop, sym, subst, ap, ◌∙◌, arith}
 use Rattle.std.specs.Str.{bytes_eq}
-use Rattle.std.specs.Map.{lookup, values_of}
+use Rattle.std.specs.Map.{values_of}
 use Rattle.std.specs.Option.{option_eq}
 use Rattle.std.specs.Cmp.Lexicographic.{nat_list_eq_equiv}
 use Rattle.std_collections.proofs.HashMapEq.{unequal_len}
@@ -11,7 +11,7 @@ use Rattle.plist.specs.inner.PutOff.{are_covered, are_same, same_values, to_comp
 use Rattle.plist.specs.Same.{same, same_items}
 use Rattle.plist.specs.Views.{item_trees, pair_trees}
 use Rattle.plist.specs.inner.Weights.{weights}
-use Rattle.plist.proofs.Comparing.{at-once, covered-is-same, drop-all, fewer, goes-on, items-from, not-put-off, of-items, of-pairs, pairs-from, put-off, stops, values-from, weights-from}
+use Rattle.plist.proofs.Comparing.{at-once, covered-is-same, drop-all, goes-on, items-from, pairs-from, stops, values-from, weights-from}
 use Rattle.plist.proofs.Depths.{no-deeper}
 use Rattle.plist.proofs.SameTrees.{same-dictionaries, unequal-lengths}
 use Rattle.plist.proofs.same.Later.+same.Goals as goal

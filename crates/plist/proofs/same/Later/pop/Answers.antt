@@ -1,4 +1,4 @@
-use Rattle.std.proofs.Common.{ap, MatchOption}
+use Rattle.std.proofs.Common.{ap}
 use Rattle.plist.specs.inner.PutOff.{listed, waiting}
 use Rattle.plist.proofs.Comparing.{taken}
 use Rattle.plist.proofs.same.Later.pop.Goals as goal

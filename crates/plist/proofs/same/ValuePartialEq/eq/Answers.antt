@@ -1,4 +1,4 @@
-use Rattle.std.proofs.Common.{◌≡◌, ◌&&◌, false, true, sym, ap, ◌∙◌}
+use Rattle.std.proofs.Common.{◌&&◌, sym, ap, ◌∙◌}
 use Rattle.plist.specs.inner.PutOff.{are_same, same_values, waiting}
 use Rattle.plist.proofs.Comparing.{begun, carried, less-to-compare, never, weight-some}
 use Rattle.plist.proofs.same.ValuePartialEq.eq.Goals as goal
