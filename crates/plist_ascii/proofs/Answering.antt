@@ -1,14 +1,11 @@
 -- How the answers of the parts of a token make the answer of the whole.
-use Rattle.std.proofs.Common.{◌≡◌, ℕ, ◌+◌, ◌≤◌, Bool, true, false, List, [], ◌∷◌, drop, Option, Some, Result, Ok, Err, refl, sym, ap, subst, ◌∙◌, arith}
+use Rattle.std.proofs.Common.{◌≡◌, ℕ, ◌+◌, ◌≤◌, false, List, [], ◌∷◌, drop, Option, Some, Result, Ok, Err, refl, sym, ap, subst, ◌∙◌, arith}
 use Rattle.plist_base.specs.declared.error.Error.{Error}
 use Rattle.plist_base.specs.Faults.{FaultKind, UnclosedString, fault_of, fault_at, kind_of, error_kind_of}
-use Rattle.plist_ascii.specs.Taken.{Taken, taken, past_one, past, past_outcome, followed}
+use Rattle.plist_ascii.specs.Taken.{Taken, taken, past_one}
 use Rattle.plist_ascii.specs.Kinds.{IsFaultOfBytes}
 use Rattle.plist_ascii.specs.Unread.{Known, Takes, TakesFront, Answers, IsAt, is_from_outside}
 use Rattle.plist_ascii.proofs.Inside.{kind_said, is_at_inside}
-
-differ : {b : Bool} → b ≡ true → b ≡ false → ⊥
-differ e h = cc
 
 module _ {X A : Type 0} (view : X → A) where
   pub answers_same : (front back : List ℕ → Taken A) (old : Option (List ℕ)) (p : ℕ)
@@ -124,10 +121,3 @@ answers_looked {X} {A} view front back old mid p m new q (Err f) h s a = (
       let P : Taken A → Type 0 = λ t. TakesFront t (Err (kind_of (error_kind_of f))) new p q xs in
       subst P (sym k.1) (b.0, b.1, let place : q ≡ m + (back xs).bytes = b.2 in omega arith),
 )
-
--- one part, and then what follows it
-
-module _ {A B : Type 0} (front : List ℕ → Taken A) (next : A → List ℕ → Taken B) where
-  followed_ok : (xs : List ℕ) (t : Taken A) (a : A) → t.gives ≡ Ok a
-      → followed xs t next ≡ past t.bytes (next a (drop t.bytes xs))
-  followed_ok xs t a e = ap (λ g. past_outcome xs t.bytes g next) e

@@ -98,10 +98,6 @@ closing_open xs k star ys h e =
     let same : length xs ≡ k = omega arith in
     rw open_ (ap (λ n. taken n (Err IncompleteComment)) same)
 
-pub both_true : (star b : Bool) → (star && b) ≡ true → (star ≡ true) × (b ≡ true)
-both_true true b e = (refl, e)
-both_true false b e = cc
-
 pub rest_past : (xs : List ℕ) (k : ℕ) (star : Bool) (ys zs : List ℕ) (c : ℕ) → Closing xs k star ys
     → ys ≡ c ∷ zs → zs ≡ drop (k + 1) xs
 rest_past xs k star ys zs c h e = ap (drop 1) (sym e ∙ h.rest) ∙ drop-drop 1 k xs

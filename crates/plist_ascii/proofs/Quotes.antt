@@ -128,10 +128,6 @@ pub record Quoting (quote : ℕ) (xs text : List ℕ) (k : ℕ) (ys : List ℕ) 
   pub all : quoted quote xs ≡ behind k text (quoted quote ys)
   pub rest : ys ≡ drop k xs
 
-front_none : (r : Result (List ℕ) FaultKind) → r ≡ with_front [] r
-front_none (Ok text) = refl
-front_none (Err k) = refl
-
 pub quoting_more : (quote : ℕ) (xs text : List ℕ) (k n : ℕ) (ys part longer : List ℕ)
     → Quoting quote xs text k ys
     → ((more : List ℕ → Taken (List ℕ))

@@ -1,5 +1,5 @@
 -- A run of bytes that is taken one by one, or several in one go.
-use Rattle.std.proofs.Common.{◌≡◌, ℕ, suc, ◌+◌, Bool, false, cond, List, [], ◌∷◌, ◌++◌, length, take, drop, refl, sym, ap, ◌∙◌, arith, append_assoc}
+use Rattle.std.proofs.Common.{◌≡◌, ℕ, suc, ◌+◌, Bool, false, cond, List, [], ◌∷◌, ◌++◌, length, take, drop, sym, ap, ◌∙◌, arith, append_assoc}
 use Rattle.std.proofs.lemmas.Bool.{eq-eqb}
 use Rattle.std.proofs.lemmas.List.Folds.{prefix_len-append}
 use Rattle.std.proofs.Math.Seq.{take-append-add, drop-append-add}
@@ -15,22 +15,6 @@ pub record RunsOn (stop : ℕ → Bool) (xs old : List ℕ) (p : ℕ) (ys more :
 pub run_more : (stop : ℕ → Bool) (c : ℕ) (ys : List ℕ) → stop c ≡ false
     → run stop (c ∷ ys) ≡ suc (run stop ys)
 run_more stop c ys h = rw h (omega arith)
-
-pub runs_step : (stop : ℕ → Bool) (xs text : List ℕ) (p : ℕ) (ys zs more longer : List ℕ)
-    (q r c : ℕ) → RunsOn stop xs text p ys more q
-    → ys ≡ c ∷ zs → stop c ≡ false → longer ≡ more ++ c ∷ [] → r ≡ q + 1
-    → RunsOn stop xs text p zs longer r
-runs_step stop xs text p ys zs more longer q r c on e h l s =
-    let n : run stop ys ≡ suc (run stop zs) = rw e (run_more stop c zs h) in
-    let front : take (run stop ys) ys ≡ c ∷ take (run stop zs) zs = rw n (rw e refl) in
-    let back : drop (run stop ys) ys ≡ drop (run stop zs) zs = rw n (rw e refl) in
-    record {
-      text = ap (λ z. z ++ take (run stop zs) zs) l
-          ∙ append_assoc more (c ∷ []) (take (run stop zs) zs) ∙ ap (λ z. more ++ z) (sym front)
-          ∙ on.text;
-      rest = sym back ∙ on.rest;
-      place = let place : q + run stop ys ≡ p + run stop xs = on.place in omega arith;
-    }
 
 -- no stop is among the first bytes
 run_behind : (stop : ℕ → Bool) (part zs : List ℕ) → run stop part ≡ length part
@@ -56,3 +40,10 @@ runs_part stop xs text p ys part zs more longer q r on e h l s =
       place = let place : q + run stop ys ≡ p + run stop xs =
           on.place in omega (arith, n, s, place);
     }
+
+pub runs_step : (stop : ℕ → Bool) (xs text : List ℕ) (p : ℕ) (ys zs more longer : List ℕ)
+    (q r c : ℕ) → RunsOn stop xs text p ys more q
+    → ys ≡ c ∷ zs → stop c ≡ false → longer ≡ more ++ c ∷ [] → r ≡ q + 1
+    → RunsOn stop xs text p zs longer r
+runs_step stop xs text p ys zs more longer q r c on e h l s =
+    runs_part stop xs text p ys (c ∷ []) zs more longer q r on e (run_more stop c [] h) l s

@@ -1,17 +1,8 @@
 -- Bytes that must be taken, one by one, and the units of UTF-16 that they spell.
-use Rattle.std.proofs.Common.{◌≡◌, ℕ, suc, true, false, List, [], ◌∷◌, Option, None, Some, Result, refl}
-use Rattle.std.specs.Option.{option_map}
-use Rattle.plist_base.specs.Faults.{FaultKind}
+use Rattle.std.proofs.Common.{◌≡◌, ℕ, true, false, List, [], ◌∷◌, refl}
 use Rattle.std.specs.Prelude.{◌==◌, ◌||◌}
-use Rattle.plist_ascii.specs.Taken.{past_one, front_gives}
+use Rattle.plist_ascii.specs.Taken.{past_one}
 use Rattle.plist_ascii.specs.Escapes.{second_letter, second_digits, bad_unit}
-
-module _ {A : Type 0} (meaning : List ℕ → Result A FaultKind) where
-  needs_past_by : (n l c : ℕ) (o : Option (List ℕ))
-      → front_gives (suc n) (suc l) (option_map (λ cs. c ∷ cs) o) meaning
-      ≡ past_one (front_gives n l o (λ ds. meaning (c ∷ ds)))
-  needs_past_by n l c None = refl
-  needs_past_by n l c (Some ds) = refl
 
 -- the letter of the second unit
 

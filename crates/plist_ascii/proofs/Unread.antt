@@ -3,10 +3,11 @@ use Rattle.std.proofs.Common.{◌≡◌, ℕ, zero, suc, ◌+◌, ◌-◌, ◌^�
 use Rattle.std.specs.Prelude.{is_some, IfSome}
 use Rattle.std.specs.Option.{option_map}
 use Rattle.std.specs.Io.KnownBytes.{Consumes}
+use Rattle.std.proofs.lemmas.List.{length-take-le}
 use Rattle.std.proofs.Math.Seq.{take-append-add}
 use Rattle.plist_ascii.specs.Incoming.{GivesByte}
 use Rattle.plist_ascii.specs.Taken.{run}
-use Rattle.plist_ascii.specs.Unread.{unread_of, first, within}
+use Rattle.plist_ascii.specs.Unread.{unread_of, first, within, TakesPart}
 
 pub ended_unread : (k : Option (List ℕ)) (e : Bool) (p : Option ℕ) (t : ℕ) (xs : List ℕ) → e ≡ true
     → unread_of k e p t ≡ Some xs → xs ≡ []
@@ -153,6 +154,17 @@ pub part_unread : (k now : Option (List ℕ)) (e : Bool) (p : Option ℕ) (t n :
 part_unread k now e (Some b) t n part xs h q l room c g = cc
 part_unread k now true None t n part xs h q l room c g = cc
 part_unread k now false None t n part xs h q l room c g = known_behind k now t n part xs l room c g
+
+-- bytes at hand were taken, and stand behind the text
+pub part_taken : (stop : ℕ → Bool) (hand : List ℕ) (k now : Option (List ℕ)) (e : Bool)
+    (p : Option ℕ) (t n : ℕ) (text longer xs : List ℕ) → e ≡ false → is_some p ≡ false
+    → n ≤ length hand → t + n ≤ 2 ^ 64 - 1 → run stop (take n hand) ≡ n
+    → Consumes k now (take n hand) → longer ≡ text ++ take n hand → unread_of k e p t ≡ Some xs
+    → TakesPart stop t text (unread_of now e p (t + n)) (t + n) longer xs
+part_taken stop hand k now e p t n text longer xs h q most room runs c is g =
+    let len : length (take n hand) ≡ n = length-take-le n hand most in
+    let left = part_unread k now e p t n (take n hand) xs h q len room c g in
+    (take n hand, left.0, left.1, runs ∙ sym len, is, left.2, omega (arith, len))
 
 -- what a reader has before its first byte
 pub new_unread : {R : Type 0} (known : R → Option (List ℕ)) (r inner : R) (e : Bool) (p : Option ℕ)

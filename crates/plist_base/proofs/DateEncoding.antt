@@ -1,5 +1,5 @@
 -- The bits of a whole second stand for it.
-use Rattle.std.proofs.Common.{◌≡◌, ℕ, zero, suc, ◌+◌, ◌-◌, ◌*◌, ◌/◌, ◌%◌, ◌^◌, ◌<◌, ◌≤◌, Bool, true, false, eqb, ℤ, pos, negsuc, neg_ℤ, add-one, Option, None, Some, List, refl, ap, sym, ◌∙◌, arith, pow-add, inl, inr}
+use Rattle.std.proofs.Common.{◌≡◌, ℕ, zero, suc, ◌+◌, ◌-◌, ◌*◌, ◌/◌, ◌%◌, ◌^◌, ◌<◌, ◌≤◌, Bool, true, false, cond, eqb, ℤ, pos, negsuc, neg_ℤ, add-one, Option, None, Some, List, refl, ap, sym, ◌∙◌, arith, pow-add, inl, inr}
 use Rattle.std.proofs.Math.Nat.{mod-eq_of_lt, pow-le-pow_right, one-le-pow, mul-div_cancel, mul-mod_left, mul-le-mul_right}
 use Rattle.std.proofs.lemmas.Nat.{leading_top, from_be_bytes-to_be_bytes_8}
 use Rattle.std.specs.Int.{to_be_bytes, w64}
@@ -137,105 +137,70 @@ sum_is n z k e =
     let m = shifted n z k e in
     (rw (m, a, b) (sym is), omega arith)
 
-zero_back : (second_of_bits (whole_bits 0) ≡ Some (pos 0)) × (has_fraction (whole_bits 0) ≡ false)
-unfolding second_of_bits real_second real_exponent real_mantissa real_scale whole_seconds parts_left
-    parts_of parts_in_second has_fraction whole_bits
-zero_back = (refl, refl)
-
 whole_small : (n : ℕ) → Encoded n → whole_bits n < 2 ^ 63
 whole_small n k = let near = k.small in let hi = k.high in let is = k.is in omega arith
 
--- the value of a second's bits is that second
-value_zero : real_parts (whole_bits 0) ≡ (pos 0 *ℤ pos parts_in_second)
-unfolding real_parts real_exponent real_mantissa real_scale parts_of parts_in_second whole_bits
-value_zero = refl
+-- the law: these bits are the second's, give it back, and are exactly at it
+pub record AreWritten (second : ℤ) (bits : ℕ) : Type 0 where
+  pub ranged : is_second_of_date second ≡ true
+  pub is : bits ≡ second_bits second
+  pub back : second_of_bits bits ≡ Some second
+  pub whole : has_fraction bits ≡ false
+  pub exact : real_parts bits ≡ (second *ℤ pos parts_in_second)
 
-value_pos : (n : ℕ) → is_second_of_date (pos n) ≡ true
-    → real_parts (whole_bits n) ≡ (pos n *ℤ pos parts_in_second)
-unfolding real_parts
-value_pos zero h = value_zero
-value_pos (suc n) h =
+zero_written : AreWritten (pos 0) (whole_bits 0)
+unfolding second_of_bits real_second real_exponent real_mantissa real_scale whole_seconds parts_left
+    parts_of parts_in_second has_fraction whole_bits second_bits real_parts
+zero_written = record { ranged = refl; is = refl; back = refl; whole = refl; exact = refl }
+
+written_pos : (n : ℕ) → is_second_of_date (pos n) ≡ true → AreWritten (pos n) (whole_bits n)
+unfolding real_parts second_bits
+written_pos zero h = zero_written
+written_pos (suc n) h =
     let small : suc n < 2 ^ 53 = grind (arith, nat_tests) in
     let k = encoded (suc n) (omega arith) small in
     let low = whole_small (suc n) k in
-    let plus : is_negative (whole_bits (suc n)) ≡ false = grind (arith, nat_tests) in
-    rw plus (ap pos (parts_are (suc n) 0 k (whole_bits (suc n)) (omega arith) (omega arith)))
+    let bits = whole_bits (suc n) in
+    let plus : is_negative bits ≡ false = grind (arith, nat_tests) in
+    record {
+      ranged = h;
+      is = refl;
+      back = second_is (suc n) 0 k bits (omega arith) (omega arith) ∙ rw (plus, h) refl;
+      whole = no_fraction (suc n) 0 k bits (omega arith) (omega arith);
+      exact = rw plus (ap pos (parts_are (suc n) 0 k bits (omega arith) (omega arith)));
+    }
 
-value_neg : (n : ℕ) → is_second_of_date (negsuc n) ≡ true
-    → real_parts (2 ^ 63 + whole_bits (suc n)) ≡ (negsuc n *ℤ pos parts_in_second)
-unfolding real_parts
-value_neg n h =
+written_neg : (n : ℕ) → is_second_of_date (negsuc n) ≡ true
+    → AreWritten (negsuc n) (2 ^ 63 + whole_bits (suc n))
+unfolding real_parts second_bits
+written_neg n h =
     let small : suc n < 2 ^ 53 = grind (arith, nat_tests) in
     let k = encoded (suc n) (omega arith) small in
-    let minus : is_negative (2 ^ 63 + whole_bits (suc n)) ≡ true = grind (arith, nat_tests) in
-    rw minus (ap (λ p. neg_ℤ (pos p))
-    (parts_are (suc n) 1 k (2 ^ 63 + whole_bits (suc n)) (omega arith) (omega arith)))
+    let bits = 2 ^ 63 + whole_bits (suc n) in
+    let minus : is_negative bits ≡ true = grind (arith, nat_tests) in
+    record {
+      ranged = h;
+      is = rw add-one refl;
+      back = second_is (suc n) 1 k bits (omega arith) (omega arith) ∙ rw (minus, h) refl;
+      whole = no_fraction (suc n) 1 k bits (omega arith) (omega arith);
+      exact = rw minus (ap (λ p. neg_ℤ (pos p))
+          (parts_are (suc n) 1 k bits (omega arith) (omega arith)));
+    }
 
-pub exact_neg : (z : ℤ) (b : ℕ) → is_second_of_date z ≡ true → lt_z z (pos 0) ≡ true
-    → b ≡ whole_bits (unsigned_abs z) → real_parts (2 ^ 63 + b) ≡ (z *ℤ pos parts_in_second)
-exact_neg (pos n) b h lt e = absurd (grind (arith, ints))
-exact_neg (negsuc n) b h lt e = rw e (value_neg n h)
+tested : (b : Bool) (z y : ℤ) → ◌≡◌ {A = Option ℤ} (Some y) (cond b (Some z) None) → b ≡ true
+tested true z y e = refl
+tested false z y e = absurd (cc)
 
-pub exact_pos : (z : ℤ) (b : ℕ) → is_second_of_date z ≡ true → lt_z z (pos 0) ≡ false
-    → b ≡ whole_bits (unsigned_abs z) → real_parts b ≡ (z *ℤ pos parts_in_second)
-exact_pos (pos n) b h le e = rw e (value_pos n h)
-exact_pos (negsuc n) b h le e = absurd (cc)
+pub below_zero : (z y : ℤ) (b : ℕ) → Some y ≡ if_second_of_date z → lt_z z (pos 0) ≡ true
+    → b ≡ whole_bits (unsigned_abs z) → AreWritten z (2 ^ 63 + b)
+below_zero (pos n) y b h lt e = absurd (grind (arith, ints))
+below_zero (negsuc n) y b h lt e =
+    rw e (written_neg n (tested (is_second_of_date (negsuc n)) (negsuc n) y h))
 
--- the law: the bits of a second give it back
-back_pos : (n : ℕ) → is_second_of_date (pos n) ≡ true
-    → (second_of_bits (whole_bits n) ≡ Some (pos n)) × (has_fraction (whole_bits n) ≡ false)
-back_pos zero h = zero_back
-back_pos (suc n) h =
-    let small : suc n < 2 ^ 53 = grind (arith, nat_tests) in
-    let k = encoded (suc n) (omega arith) small in
-    let low = whole_small (suc n) k in
-    let plus : is_negative (whole_bits (suc n)) ≡ false = grind (arith, nat_tests) in (
-      second_is (suc n) 0 k (whole_bits (suc n)) (omega arith) (omega arith)
-          ∙ rw (plus, h) refl,
-      no_fraction (suc n) 0 k (whole_bits (suc n)) (omega arith)
-          (omega arith),
-    )
-
-back_neg : (n : ℕ) → is_second_of_date (negsuc n) ≡ true
-    → (second_of_bits (2 ^ 63 + whole_bits (suc n)) ≡ Some (negsuc n))
-    × (has_fraction (2 ^ 63 + whole_bits (suc n)) ≡ false)
-back_neg n h =
-    let small : suc n < 2 ^ 53 = grind (arith, nat_tests) in
-    let k = encoded (suc n) (omega arith) small in
-    let minus : is_negative (2 ^ 63 + whole_bits (suc n)) ≡ true = grind (arith, nat_tests) in (
-      second_is (suc n) 1 k (2 ^ 63 + whole_bits (suc n)) (omega arith) (omega arith)
-          ∙ rw (minus, h) refl,
-      no_fraction (suc n) 1 k (2 ^ 63 + whole_bits (suc n)) (omega arith)
-          (omega arith),
-    )
-
-pub some_same : (a b : ℤ) → ◌≡◌ {A = Option ℤ} (Some a) (Some b) → a ≡ b
-some_same a b e = cc
-
-none_not : (a : ℤ) → ◌≡◌ {A = Option ℤ} (Some a) None → ⊥
-none_not a e = absurd (cc)
-
-ranged_go : (b : Bool) (z y : ℤ) → is_second_of_date z ≡ b → Some y ≡ if_second_of_date z
-    → (is_second_of_date z ≡ true) × (y ≡ z)
-ranged_go true z y is e = (is, some_same y z (e ∙ rw is refl))
-ranged_go false z y is e = absurd (none_not y (e ∙ rw is refl))
-
-pub ranged : (z y : ℤ) → Some y ≡ if_second_of_date z → (is_second_of_date z ≡ true) × (y ≡ z)
-ranged z y e = ranged_go (is_second_of_date z) z y refl e
-
-pub written_neg : (z : ℤ) (b : ℕ) → is_second_of_date z ≡ true → lt_z z (pos 0) ≡ true
-    → b ≡ whole_bits (unsigned_abs z) → (2 ^ 63 + b ≡ second_bits z)
-    × (second_of_bits (2 ^ 63 + b) ≡ Some z) × (has_fraction (2 ^ 63 + b) ≡ false)
-unfolding second_bits
-written_neg (pos n) b h lt e = absurd (grind (arith, ints))
-written_neg (negsuc n) b h lt e = rw (e, add-one) (refl, (back_neg n h).0, (back_neg n h).1)
-
-pub written_pos : (z : ℤ) (b : ℕ) → is_second_of_date z ≡ true → lt_z z (pos 0) ≡ false
-    → b ≡ whole_bits (unsigned_abs z) → (b ≡ second_bits z) × (second_of_bits b ≡ Some z)
-    × (has_fraction b ≡ false)
-unfolding second_bits
-written_pos (pos n) b h le e = rw e (refl, (back_pos n h).0, (back_pos n h).1)
-written_pos (negsuc n) b h le e = absurd (cc)
+pub from_zero : (z y : ℤ) (b : ℕ) → Some y ≡ if_second_of_date z → lt_z z (pos 0) ≡ false
+    → b ≡ whole_bits (unsigned_abs z) → AreWritten z b
+from_zero (pos n) y b h le e = rw e (written_pos n (tested (is_second_of_date (pos n)) (pos n) y h))
+from_zero (negsuc n) y b h le e = absurd (cc)
 
 plain_low : (b : ℕ) → b < 2 ^ 63 → eqb b (2 ^ 63) ≡ false
 plain_low b h = grind (arith, nat_tests)

@@ -6,7 +6,6 @@ use Rattle.std.specs.Int.Signed.{le_z}
 use Rattle.std.proofs.lemmas.Bool.Decides.{nat_tests}
 use Rattle.std.proofs.lemmas.Int.{ints}
 use Rattle.plist_base.specs.Date.{IsSecondOf, real_exponent, real_mantissa, real_scale, real_parts, parts_in_second, parts_of, whole_seconds, parts_left, real_second, rounded_down, is_negative, is_second_of_date, if_second_of_date, IsSecondOfDate, second_of_bits, date_if, is_no_number}
-use Rattle.plist_base.proofs.DateEncoding.{some_same}
 
 -- d parts make a second
 abbrev Bounds : ℤ → ℤ → ℕ → Type 0
@@ -77,20 +76,17 @@ second_is_greatest bits =
 
 -- ---- a date's second
 
-none_not : (a : ℤ) → ◌≡◌ {A = Option ℤ} None (Some a) → ⊥
-none_not a e = absurd (cc)
-
 pub second_kept : (b : Bool) (y z : ℤ) → cond b None (if_second_of_date y) ≡ Some z → (y ≡ z)
     × (is_second_of_date z ≡ true)
 second_kept true y z e = absurd (cc)
-second_kept false y z e = second_in_range (is_second_of_date y) y z refl (e)
+second_kept false y z e = second_in_range (is_second_of_date y) y z refl e
   where
     second_in_range : (b : Bool) (y z : ℤ) → is_second_of_date y ≡ b
         → cond (is_second_of_date y) (Some y) None ≡ Some z → (y ≡ z) × (is_second_of_date z ≡ true)
     second_in_range true y z is e =
-        let same : y ≡ z = some_same y z (sym (rw is refl) ∙ e) in
+        let kept = rw is at e in let same : y ≡ z = cc in
         (same, ap is_second_of_date (sym same) ∙ is)
-    second_in_range false y z is e = absurd (none_not z (sym (rw is refl) ∙ e))
+    second_in_range false y z is e = let none = rw is at e in absurd (cc)
 
 pub in_bounds : (z : ℤ) → is_second_of_date z ≡ true → IsSecondOfDate z
 in_bounds (pos n) h =
@@ -170,7 +166,7 @@ no_second bits e number second is within =
   where
     by_range : (b : Bool) (y : ℤ) → is_second_of_date y ≡ b
         → cond (is_second_of_date y) (Some y) None ≡ None → is_second_of_date y ≡ false
-    by_range true y is e = absurd (none_not y (sym e ∙ rw is refl))
+    by_range true y is e = let some = rw is at e in absurd (cc)
     by_range false y is e = is
 
     none_out : (b : Bool) (y z : ℤ) → b ≡ false → y ≡ z → cond b None (if_second_of_date y) ≡ None

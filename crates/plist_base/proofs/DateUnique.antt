@@ -17,9 +17,6 @@ use Rattle.plist_base.proofs.DateShifts.{power_pos}
 abbrev value : (exponent fraction : ℕ) → ℕ
 value exponent fraction = cond (eqb exponent 0) fraction (2 ^ 52 + fraction) * 2 ^ max 1 exponent
 
-value_zero : (fraction : ℕ) → value 0 fraction ≡ fraction * 2
-value_zero fraction = refl
-
 value_suc : (e fraction : ℕ) → value (suc e) fraction ≡ (2 ^ 52 + fraction) * 2 ^ suc e
 value_suc e fraction =
     let some : eqb (suc e) 0 ≡ false = grind (arith, nat_tests) in let top : max 1 (suc e)
@@ -201,11 +198,8 @@ no_signed_zero bytes is = by_second (second_of_bytes bytes) bytes is.1
     by_test : (b : Bool) (bytes : List ℕ) → eqb (real_bits bytes) (2 ^ 63) ≡ b
         → ◌≡◌ {A = Option (List ℕ)} (Some (date_bytes bytes)) (Some bytes) → b ≡ false
     by_test false bytes is same = refl
-    by_test true bytes is same = absurd (zeros bytes is (some_same (date_bytes bytes) bytes same))
+    by_test true bytes is same = absurd (zeros bytes is (cc))
       where
-        some_same : (x y : List ℕ) → ◌≡◌ {A = Option (List ℕ)} (Some x) (Some y) → x ≡ y
-        some_same x y e = cc
-
         zeros : (bytes : List ℕ) → eqb (real_bits bytes) (2 ^ 63) ≡ true → date_bytes bytes ≡ bytes
             → ⊥
         zeros bytes is same =

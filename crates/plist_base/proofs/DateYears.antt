@@ -5,7 +5,6 @@ use Rattle.plist_base.specs.Date.{IsDate, IsSecondOfDate, IsWhole, plist_epoch, 
 use Rattle.plist_base.specs.DateTexts.{HasTextYear, IsDateText, IsInUtc}
 use Rattle.plist_dates.specs.DateText.{HasFourDigitYear, IsTextOfSecond, unix_second_of_text}
 use Rattle.plist_base.proofs.DateRounding.{date_has_second, second_facts}
-use Rattle.plist_base.proofs.DateEncoding.{some_same}
 
 back_to_unix : (second : ℤ) → ((second -ℤ plist_epoch) +ℤ plist_epoch) ≡ second
 back_to_unix second = omega (arith, ints)
@@ -18,8 +17,7 @@ unix_year date second is year =
 pub text_year : (date : List ℕ) (second : ℤ) → second_of_bytes date ≡ Some (second -ℤ plist_epoch)
     → HasFourDigitYear second → HasTextYear date
 text_year date second is year other is_other =
-    let same : second -ℤ plist_epoch
-    ≡ other = some_same (second -ℤ plist_epoch) other (sym is ∙ is_other) in
+    let same : second -ℤ plist_epoch ≡ other = cc in
     subst HasFourDigitYear (sym (back_to_unix second) ∙ ap (λ s. s +ℤ plist_epoch) same) year
 
 -- what is a text of the date is one of its Unix second
@@ -37,8 +35,7 @@ text_in_utc date text second is_date whole is spells in_utc = (
   is_date,
   whole,
   λ other is_other.
-      let same : second -ℤ plist_epoch
-      ≡ other = some_same (second -ℤ plist_epoch) other (sym is ∙ is_other) in
+      let same : second -ℤ plist_epoch ≡ other = cc in
       let unix : second ≡ other +ℤ plist_epoch = omega (arith, ints, same) in
       record { spells = sym spells ∙ ap Some unix; letter = in_utc.0; utc = in_utc.1 },
 )
@@ -73,8 +70,7 @@ pub not_ranged : (date text : List ℕ) (second : ℤ) → Some second ≡ unix_
     → (IsSecondOfDate (second -ℤ plist_epoch) → ⊥) → IsDateText date text → ⊥
 not_ranged date text second is out text_of =
     let p = printed date text text_of in
-    let same : second ≡ p.at +ℤ plist_epoch = some_same second (p.at +ℤ plist_epoch) (is ∙ p.spells)
-    in
+    let same : second ≡ p.at +ℤ plist_epoch = cc (p.spells) in
     let back : p.at ≡ second -ℤ plist_epoch = omega (arith, ints, same) in
     out (subst IsSecondOfDate back p.within)
 
@@ -83,7 +79,6 @@ pub printed_at : (date text : List ℕ) (second : ℤ) → Some second ≡ unix_
     → IsDateText date text → second_of_bytes date ≡ Some (second -ℤ plist_epoch)
 printed_at date text second is text_of =
     let p = printed date text text_of in
-    let same : second ≡ p.at +ℤ plist_epoch = some_same second (p.at +ℤ plist_epoch) (is ∙ p.spells)
-    in
+    let same : second ≡ p.at +ℤ plist_epoch = cc (p.spells) in
     let back : p.at ≡ second -ℤ plist_epoch = omega (arith, ints, same) in
     p.is ∙ ap Some back

@@ -1,9 +1,9 @@
 -- What a writer holds after some sends.
-use Rattle.std.proofs.Common.{◌≡◌, ℕ, ◌+◌, ◌-◌, List, [], length, take, drop, Option, ap, sym, ◌∙◌, append-nil}
+use Rattle.std.proofs.Common.{◌≡◌, ℕ, ◌+◌, List, [], take, drop, Option, sym, append-nil}
 use Rattle.std.specs.Io.KnownBytes.{Appends, Keeps}
 use Rattle.std.proofs.KnownBytes.{Appends-kept, Appends-trans}
-use Rattle.std.proofs.Math.Seq.{take-add, take-length}
-use Rattle.std.proofs.lemmas.List.{take-append-drop, length-drop}
+use Rattle.std.proofs.Math.Seq.{take-add}
+use Rattle.std.proofs.lemmas.List.{take-append-drop}
 use Rattle.plist_base.specs.Fronts.{AppendsFront}
 
 pub Appends-at : (old new : Option (List ℕ)) (xs ys : List ℕ) → xs ≡ ys → Appends old new xs
@@ -11,12 +11,6 @@ pub Appends-at : (old new : Option (List ℕ)) (xs ys : List ℕ) → xs ≡ ys 
 Appends-at old new xs ys same h = rw (← same) h
 
 -- ---- a beginning of some bytes
-
-pub whole_rest : (bytes : List ℕ) (done : ℕ)
-    → take (length bytes - done) (drop done bytes) ≡ drop done bytes
-whole_rest bytes done =
-    ap (λ count. take count (drop done bytes)) (sym (length-drop done bytes))
-    ∙ take-length (drop done bytes)
 
 pub Appends-part : (a b c : Option (List ℕ)) (bytes : List ℕ) (done count : ℕ)
     → Appends a b (take done bytes) → Appends b c (take count (drop done bytes))

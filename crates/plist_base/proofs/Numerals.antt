@@ -1,44 +1,32 @@
 -- What the parsers of integers say, as tests.
 use Rattle.std.proofs.Common.{◌≡◌, ℕ, ◌^◌, ◌<◌, Bool, true, false, cond, List, [], ◌∷◌, drop, Option, None, Some, refl, sym, ap, ◌∙◌, arith}
-use Rattle.std.specs.Prelude.{◌==◌, ◌&&◌, nat_lt, ℤ, pos, negsuc, FitsSigned}
+use Rattle.std.specs.Prelude.{◌==◌, ℤ, pos, negsuc, FitsSigned}
 use Rattle.std.proofs.lemmas.Bool.Decides.{nat_tests}
 use Rattle.std.proofs.lemmas.Int.{ints, to_z-of_z}
 use mir.Val.{of_z, to_z}
 use Rattle.std.specs.List.{list_all}
 use Rattle.std.specs.Char.{is_digit}
 use Rattle.std.specs.Str.Parse.{AllDigits, IsNumeral, digits_value, signed_digits_value, without_leading_plus, without_leading_sign}
+use Rattle.std.proofs.lemmas.Bool.{and_from, and_parts, false_from_ne_true, lt-ltb, ltb-true}
 use mir.Syntax.{w64}
 use Rattle.plist_base.specs.IntegerText.{is_numeral, unsigned_of_text, signed_of_text, fits_signed, integer_of_text, or_else, has_prefix, without_prefixes}
-
-lt_true : (m n : ℕ) → m < n → nat_lt m n ≡ true
-lt_true m n h = grind (arith, nat_tests)
-
-lt_from : (m n : ℕ) → nat_lt m n ≡ true → m < n
-lt_from m n h = grind (arith, nat_tests)
-
-both_true : (a b : Bool) → a ≡ true → b ≡ true → (a && b) ≡ true
-both_true a b e h = rw (e, h) refl
-
-split_true : (a b : Bool) → (a && b) ≡ true → (a ≡ true) × (b ≡ true)
-split_true true b e = (refl, e)
-split_true false b e = cc
 
 all_digits : (radix : ℕ) (ds : List ℕ) → AllDigits radix ds
     → list_all (λ c. is_digit c radix) ds ≡ true
 all_digits radix [] h = refl
-all_digits radix (c ∷ cs) h = both_true _ _ (lt_true _ _ h.0) (all_digits radix cs h.1)
+all_digits radix (c ∷ cs) h = and_from _ _ (lt-ltb _ _ h.0) (all_digits radix cs h.1)
 
 digits_all : (radix : ℕ) (ds : List ℕ) → list_all (λ c. is_digit c radix) ds ≡ true
     → AllDigits radix ds
 digits_all radix [] h = tt
 digits_all radix (c ∷ cs) h =
-    let s = split_true (is_digit c radix) _ h in (lt_from _ _ s.0, digits_all radix cs s.1)
+    let s = and_parts (is_digit c radix) _ h in (ltb-true _ _ s.0, digits_all radix cs s.1)
 
 pub numeral_true : (radix : ℕ) (ds : List ℕ) → IsNumeral radix ds → is_numeral radix ds ≡ true
-numeral_true radix ds h = both_true _ _ (lt_true _ _ h.0) (all_digits radix ds h.1)
+numeral_true radix ds h = and_from _ _ (lt-ltb _ _ h.0) (all_digits radix ds h.1)
 
 pub numeral_from : (radix : ℕ) (ds : List ℕ) → is_numeral radix ds ≡ true → IsNumeral radix ds
-numeral_from radix ds h = let s = split_true _ _ h in (lt_from _ _ s.0, digits_all radix ds s.1)
+numeral_from radix ds h = let s = and_parts _ _ h in (ltb-true _ _ s.0, digits_all radix ds s.1)
 
 decide : {A : Type 0} (b : Bool) (x : A) → (b ≡ true → ⊥) → None ≡ cond b (Some x) None
 decide true x h = absurd (h refl)
@@ -51,7 +39,7 @@ pub unsigned_ok : (radix n : ℕ) (text : List ℕ)
     → Some (pos n) ≡ unsigned_of_text radix text
 unsigned_ok radix n text h =
     let ds = without_leading_plus text in
-    let t = both_true _ _ (numeral_true radix ds h.0.0) (lt_true _ _ h.0.1) in
+    let t = and_from _ _ (numeral_true radix ds h.0.0) (lt-ltb _ _ h.0.1) in
     rw t (ap (λ n. Some (pos n)) h.1)
 
 pub unsigned_err : (radix : ℕ) (text : List ℕ)
@@ -59,29 +47,29 @@ pub unsigned_err : (radix : ℕ) (text : List ℕ)
     × (digits_value radix (without_leading_plus text) < 2 ^ 64) → ⊥)
     → None ≡ unsigned_of_text radix text
 unsigned_err radix text h =
-    decide _ _ (λ t. let s = split_true _ _ t in h
-    (numeral_from radix (without_leading_plus text) s.0, lt_from _ _ s.1))
+    decide _ _ (λ t. let s = and_parts _ _ t in h
+    (numeral_from radix (without_leading_plus text) s.0, ltb-true _ _ s.1))
 
 fits_true : (z : ℤ) → FitsSigned w64 z → fits_signed z ≡ true
-fits_true (pos n) h = let l : n < 2 ^ 63 = grind (arith, ints) in lt_true _ _ l
-fits_true (negsuc n) h = let l : n < 2 ^ 63 = grind (arith, ints) in lt_true _ _ l
+fits_true (pos n) h = let l : n < 2 ^ 63 = grind (arith, ints) in lt-ltb _ _ l
+fits_true (negsuc n) h = let l : n < 2 ^ 63 = grind (arith, ints) in lt-ltb _ _ l
 
 fits_from : (z : ℤ) → fits_signed z ≡ true → FitsSigned w64 z
-fits_from (pos n) h = let l : n < 2 ^ 63 = lt_from _ _ h in grind (arith, ints)
-fits_from (negsuc n) h = let l : n < 2 ^ 63 = lt_from _ _ h in grind (arith, ints)
+fits_from (pos n) h = let l : n < 2 ^ 63 = ltb-true _ _ h in grind (arith, ints)
+fits_from (negsuc n) h = let l : n < 2 ^ 63 = ltb-true _ _ h in grind (arith, ints)
 
 pub signed_ok : (z : ℤ) (text : List ℕ)
     → (IsNumeral 10 (without_leading_sign text) × FitsSigned w64 (signed_digits_value 10 text))
     × (z ≡ signed_digits_value 10 text) → Some z ≡ signed_of_text text
 signed_ok z text h =
-    let t = both_true _ _ (numeral_true 10 (without_leading_sign text) h.0.0) (fits_true _ h.0.1) in
+    let t = and_from _ _ (numeral_true 10 (without_leading_sign text) h.0.0) (fits_true _ h.0.1) in
     rw t (ap Some h.1)
 
 pub signed_err : (text : List ℕ)
     → (IsNumeral 10 (without_leading_sign text) × FitsSigned w64 (signed_digits_value 10 text) → ⊥)
     → None ≡ signed_of_text text
 signed_err text h =
-    decide _ _ (λ t. let s = split_true _ _ t in h
+    decide _ _ (λ t. let s = and_parts _ _ t in h
     (numeral_from 10 (without_leading_sign text) s.0, fits_from _ s.1))
 
 pub signed_back : (x z : ℤ) (text : List ℕ) → x ≡ to_z w64 (of_z w64 z)
@@ -98,10 +86,6 @@ integer_prefixed text rest n e h = let same : text ≡ 48 ∷ 120 ∷ rest = cc 
 eq_from : (a b : ℕ) → (a == b) ≡ true → a ≡ b
 eq_from a b h = grind (arith, nat_tests)
 
-not_true : (b : Bool) → (b ≡ true → ⊥) → b ≡ false
-not_true true h = absurd (h refl)
-not_true false h = refl
-
 cons_same : (a b : ℕ) (rest : List ℕ) → a ≡ 48 → b ≡ 120 → a ∷ b ∷ rest ≡ 48 ∷ 120 ∷ rest
 cons_same a b rest e h = cc
 
@@ -110,7 +94,7 @@ unprefixed : (text : List ℕ) → ((rest : List ℕ) → text ≡ 48 ∷ 120 �
 unprefixed [] h = refl
 unprefixed (a ∷ []) h = refl
 unprefixed (a ∷ b ∷ rest) h =
-    not_true _ (λ t. let s = split_true _ _ t in h rest
+    false_from_ne_true _ (λ t. let s = and_parts _ _ t in h rest
     (cons_same a b rest (eq_from a 48 s.0) (eq_from b 120 s.1)))
 
 pub integer_plain : (text : List ℕ) → ((rest : List ℕ) → text ≡ 48 ∷ 120 ∷ rest → ⊥)

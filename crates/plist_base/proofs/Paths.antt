@@ -1,19 +1,16 @@
 -- Which objects are open, and how many: those of a path are different numbers below a count.
-use Rattle.std.proofs.Common.{◌≡◌, ℕ, suc, ◌<◌, ◌≤◌, inl, inr, Bool, true, false, ◌||◌, nat_eq, List, [], ◌∷◌, length, refl, arith}
+use Rattle.std.proofs.Common.{◌≡◌, ℕ, suc, ◌<◌, ◌≤◌, inl, inr, true, false, nat_eq, List, [], ◌∷◌, length, refl, arith}
 use Rattle.std.specs.List.{list_any, AllByRecursion, IsDistinct}
 use Rattle.std.proofs.lemmas.Map.Steps.{length-le_from_distinct_below}
 use Rattle.std.proofs.lemmas.Bool.Decides.{eqb_tells}
+use Rattle.std.proofs.lemmas.Bool.{or_parts, or_right}
 use Rattle.plist_base.specs.inner.Paths.{IsPath}
-
-pub or_false : (a b : Bool) → a || b ≡ false → (a ≡ false) × (b ≡ false)
-or_false true b h = absurd (cc)
-or_false false b h = (refl, h)
 
 pub none_equal : (i : ℕ) (xs : List ℕ) → list_any (nat_eq i) xs ≡ false
     → AllByRecursion (λ y. nat_eq i y ≡ false) xs
 none_equal i [] h = tt
 none_equal i (x ∷ xs) h =
-    let k = or_false (nat_eq i x) (list_any (nat_eq i) xs) h in (k.0, none_equal i xs k.1)
+    let k = or_parts (nat_eq i x) (list_any (nat_eq i) xs) h in (k.0, none_equal i xs k.1)
 
 pub any_none : (i : ℕ) (xs : List ℕ) → AllByRecursion (λ y. nat_eq i y ≡ false) xs
     → list_any (nat_eq i) xs ≡ false
@@ -43,16 +40,12 @@ path_push {count} {path} i o h new = record {
   below = λ q any. below_cons i count q path h o.below any;
 }
 
-pub any_later : (a b : Bool) → b ≡ true → a || b ≡ true
-any_later true b h = refl
-any_later false b h = h
-
 -- what is left when the innermost one is left
 pub path_pop : {count : ℕ} (i : ℕ) (path : List ℕ) → IsPath count (i ∷ path) → IsPath count path
 unfolding IsDistinct
 path_pop i path o = record {
   distinct = o.distinct.1;
-  below = λ q any. o.below q (any_later (nat_eq q i) (list_any (nat_eq q) path) any);
+  below = λ q any. o.below q (or_right (nat_eq q i) (list_any (nat_eq q) path) any);
 }
 
 -- no more are open than there are

@@ -4,7 +4,7 @@ use Rattle.std.proofs.Common.{◌≡◌, inl, inr, ℕ, Bool, true, false, cond,
 use Rattle.std.specs.List.{AllByRecursion}
 use Rattle.std.specs.Set.{is_member, unique_keys}
 use Rattle.std.proofs.lemmas.Bool.Decides.{eqb_tells}
-use Rattle.plist_base.proofs.Paths.{any_later}
+use Rattle.std.proofs.lemmas.Bool.{or_right}
 
 -- ---- along a list
 
@@ -47,7 +47,7 @@ module _ {A : Type 0} (f : A → ℕ) where
       → AllByRecursion (λ a. is_member eqb (n ∷ ns) (f a) ≡ true) xs
   self_later n ns [] a = tt
   self_later n ns (x ∷ xs) a =
-      (any_later (eqb (f x) n) (is_member eqb ns (f x)) a.0, self_later n ns xs a.1)
+      (or_right (eqb (f x) n) (is_member eqb ns (f x)) a.0, self_later n ns xs a.1)
 
   -- each number of a list is in it
   pub members_self : (xs : List A) → AllByRecursion (λ a. is_member eqb (map f xs) (f a) ≡ true) xs

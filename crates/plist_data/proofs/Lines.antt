@@ -1,5 +1,5 @@
 -- Lines of base64: one behind the other, and read back.
-use Rattle.std.proofs.Common.{◌≡◌, ℕ, zero, suc, ◌+◌, ◌-◌, ◌*◌, ◌/◌, ◌%◌, ◌<◌, ◌≤◌, Bool, true, false, ◌&&◌, ◌↔◌, not, cond, List, [], ◌∷◌, ◌++◌, length, map, min, take, drop, replicate, slice_index, Some, refl, sym, ap, ◌∙◌, append_assoc, arith}
+use Rattle.std.proofs.Common.{◌≡◌, ℕ, zero, suc, ◌+◌, ◌-◌, ◌*◌, ◌/◌, ◌%◌, ◌<◌, ◌≤◌, Bool, true, false, ◌↔◌, not, cond, List, [], ◌∷◌, ◌++◌, length, map, min, take, drop, replicate, slice_index, Some, refl, sym, ap, ◌∙◌, append_assoc, arith}
 use Rattle.std.proofs.lemmas.List.{append-nil, length-take-le, length-drop, take_all, take_min}
 use Rattle.std.proofs.lemmas.List.Elements.{filter-append}
 use Rattle.std.proofs.lemmas.List.Folds.{concat-append}
@@ -15,6 +15,7 @@ use Rattle.base64.specs.declared.decode.DecodeAllocError.{DecodeAllocError}
 use Rattle.base64.specs.declared.decode.DecodeAllocError.TheVariants as decoding
 use Rattle.std.specs.Result.{result_ok}
 use Rattle.std.specs.Prelude.{Result, Ok, Err}
+use Rattle.std.proofs.lemmas.Bool.{and_parts}
 use Rattle.base64.specs.Rfc4648.{encode_symbols, padding_len}
 use Rattle.base64.proofs.EngineFacts.{decode_of-encode_of, decode_of_iff, encode_of-append, encode_of-nil}
 use Rattle.base64.proofs.Streams.{decoded_of-ok}
@@ -38,15 +39,11 @@ dark-cons byte text first rest = rw (first, rest) refl
 dark-append : (a b : List ℕ) → IsDark a → IsDark b → IsDark (a ++ b)
 dark-append a b first rest = filter-append is_dark a b ∙ rw (first, rest) refl
 
-dark_both : (a b : Bool) → (a && b) ≡ true → (a ≡ true) × (b ≡ true)
-dark_both true b h = (refl, h)
-dark_both false b h = cc h
-
 dark_at : (symbols : List ℕ) (i : ℕ) → list_all is_dark symbols ≡ true
     → is_dark (slice_index symbols i) ≡ true
 dark_at [] i all = refl
-dark_at (x ∷ symbols) zero all = (dark_both _ _ all).0
-dark_at (x ∷ symbols) (suc i) all = dark_at symbols i (dark_both _ _ all).1
+dark_at (x ∷ symbols) zero all = (and_parts _ _ all).0
+dark_at (x ∷ symbols) (suc i) all = dark_at symbols i (and_parts _ _ all).1
 
 symbol_is_dark : (i : ℕ) → is_dark (slice_index standard.encode_table i) ≡ true
 symbol_is_dark i = dark_at standard.encode_table i refl

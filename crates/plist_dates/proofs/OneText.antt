@@ -1,6 +1,6 @@
 -- A second of the years 0 to 9999 has one text.
 use Rattle.std.proofs.Common.{◌≡◌, ℕ, zero, suc, ◌+◌, ◌-◌, ◌*◌, ◌/◌, ◌%◌, ◌<◌, Bool, true, false, cond, ◌&&◌, eqb, List, [], ◌∷◌, ◌++◌, length, ℤ, pos, ◌+ℤ◌, ◌-ℤ◌, ◌*ℤ◌, Option, None, Some, slice_index, refl, sym, ap, subst, ◌∙◌, arith}
-use Rattle.std.proofs.lemmas.Bool.{eqb-true}
+use Rattle.std.proofs.lemmas.Bool.{eqb-true, and_parts}
 use Rattle.std.proofs.lemmas.Bool.Decides.{nat_tests}
 use Rattle.std.specs.Char.{is_ascii_digit}
 use Rattle.std.specs.Int.{IsInRange, is_in_range}
@@ -21,10 +21,6 @@ IsSome {A} option value = ◌≡◌ {A = Option A} option (Some value)
 
 some_same : {A : Type 0} (x y : A) → IsSome (Some x) y → x ≡ y
 some_same x y is = cc
-
-both_true : (a b : Bool) → (a && b) ≡ true → (a ≡ true) × (b ≡ true)
-both_true true b is = (refl, is)
-both_true false b is = cc is
 
 by_test : {A : Type 0} (b : Bool) (option : Option A) (value : A)
     → IsSome (cond b option None) value → (b ≡ true) × IsSome option value
@@ -95,7 +91,7 @@ digits : (tens ones n : ℕ) → IsSome (two_digits tens ones) n → Digits tens
 unfolding two_digits
 digits tens ones n is =
     let test = by_test _ _ n is in
-    let both_are = both_true (is_ascii_digit tens) (is_ascii_digit ones) test.0 in
+    let both_are = and_parts (is_ascii_digit tens) (is_ascii_digit ones) test.0 in
     let t = digit_is tens both_are.0 in
     let o = digit_is ones both_are.1 in
     let value : (tens - 48) * 10 + (ones - 48) ≡ n = some_same _ n test.1 in
@@ -118,11 +114,11 @@ day_made : (year month day : ℕ) (number : ℤ) → IsSome (day_number year mon
 unfolding day_number
 day_made year month day number is =
     let test = by_test _ _ number is in
-    let both_are = both_true (is_in_range 1 12 month) _ test.0 in
+    let both_are = and_parts (is_in_range 1 12 month) _ test.0 in
     record {
-      in_year = in_range 1 12 month both_are.0;
+      in_year = in_range 1 12 _ both_are.0;
       in_month = in_range 1
-          (days_in_month (pos year) month) day both_are.1;
+          _ _ both_are.1;
       is = some_same _ number test.1;
     }
 
@@ -185,13 +181,13 @@ marks text is = record {
 -- with `Z` in its place, it ends there, in UTC
 zone_made : (text : List ℕ) (zone : ℤ) → slice_index text 19 ≡ 90 → IsSome (zone_in text) zone
     → (length text ≡ 20) × (zone ≡ pos 0)
-zone_made text zone letter is = by_length (eqb (length text) 20) refl
+zone_made text zone letter is = by_length _ refl
   where
     no_sign : (sign hours minutes : ℕ) → sign ≡ 90 → IsSome (offset sign hours minutes) zone → ⊥
     no_sign sign hours minutes z some =
         let made : IsSome (cond (nat_lt hours 24 && nat_lt minutes 60) None None) zone = rw z at
         some in
-        let never = (by_test (nat_lt hours 24 && nat_lt minutes 60) None zone made).1 in cc
+        let never = (by_test _ None zone made).1 in cc
 
     by_length : (b : Bool) → eqb (length text) 20 ≡ b → (length text ≡ 20) × (zone ≡ pos 0)
     by_length true all =
@@ -204,7 +200,7 @@ zone_made text zone letter is = by_length (eqb (length text) 20) refl
         rw not_all at is in
         let parts = both (two_at text 20) (two_at text 23) (offset (slice_index text 19)) zone
         (by_test _ _ zone longer).1 in
-        absurd (no_sign (slice_index text 19) parts.x parts.y letter parts.made)
+        absurd (no_sign _ parts.x _ letter parts.made)
 
 -- ---- one text
 
@@ -238,25 +234,25 @@ less_none d z t s none is = omega (arith, signed_arith, none, is)
 numbers : (second : ℤ) (text : List ℕ) → IsTextOfSecond second text → Numbers second text
 unfolding unix_second_of_text
 numbers second text is =
-    let test = by_test (has_marks text) (moment (day_in text) (time_in text) (zone_in text)) second
+    let test = by_test _ (moment (day_in text) (time_in text) (zone_in text)) second
     is.spells in
     let m = marks text test.0 in
-    let parts = moment_made (day_in text) (time_in text) (zone_in text) second test.1 in
-    let z = zone_made text parts.z is.utc parts.is_z in
-    let d = three (four_at text 0) (two_at text 5) (two_at text 8) day_number parts.d parts.is_d in
+    let parts = moment_made _ _ _ _ test.1 in
+    let z = zone_made _ _ is.utc parts.is_z in
+    let d = three _ _ _ _ _ parts.is_d in
     let y = both (two_at text 0) (two_at text 2) (λ high low. Some (high * 100 + low)) d.x d.is_x in
-    let t = three (two_at text 11) (two_at text 14) (two_at text 17) second_of_day parts.t
+    let t = three _ _ _ _ _
     parts.is_t in
     let year_is : y.x * 100 + y.y ≡ d.x = some_same _ d.x y.made in
-    let date = day_made d.x d.rest.x d.rest.y parts.d d.rest.made in
-    let time = time_made t.x t.rest.x t.rest.y parts.t t.rest.made in
-    let c0 = digits _ _ y.x y.is_x in
-    let c1 = digits _ _ y.y y.is_y in
-    let c2 = digits _ _ d.rest.x d.rest.is_x in
-    let c3 = digits _ _ d.rest.y d.rest.is_y in
-    let c4 = digits _ _ t.x t.is_x in
-    let c5 = digits _ _ t.rest.x t.rest.is_x in
-    let c6 = digits _ _ t.rest.y t.rest.is_y in
+    let date = day_made _ _ _ _ d.rest.made in
+    let time = time_made _ _ _ _ t.rest.made in
+    let c0 = digits _ _ _ y.is_x in
+    let c1 = digits _ _ _ y.is_y in
+    let c2 = digits _ _ _ d.rest.is_x in
+    let c3 = digits _ _ _ d.rest.is_y in
+    let c4 = digits _ _ _ t.is_x in
+    let c5 = digits _ _ _ t.rest.is_x in
+    let c6 = digits _ _ _ t.rest.is_y in
     let number : days_from_civil (pos (y.x * 100 + y.y)) d.rest.x d.rest.y
     ≡ parts.d = ap (λ n. days_from_civil (pos n) d.rest.x d.rest.y) year_is ∙ date.is in
     let written : front 20 0 text ≡ text_of y.x y.y d.rest.x d.rest.y t.x t.rest.x t.rest.y =
@@ -291,7 +287,7 @@ numbers second text is =
       is = ap (λ n. n *ℤ pos 86400 +ℤ pos (t.x * 3600 + t.rest.x * 60 + t.rest.y)) number
           ∙ ap (λ n. parts.d *ℤ pos 86400 +ℤ pos n) time.is
           ∙ less_none parts.d parts.z parts.t second z.1 parts.is;
-      text_is = elements 20 text z.0 ∙ written;
+      text_is = elements 20 _ z.0 ∙ written;
     }
 
 -- the date of these numbers
@@ -314,9 +310,9 @@ pub year_of_text : (second : ℤ) (text : List ℕ) → IsTextOfSecond second te
     → HasFourDigitYear second
 unfolding date_of
 year_of_text second text is =
-    let n = numbers second text is in
+    let n = numbers _ _ is in
     let h = n.time.hours in let m = n.time.minutes in let s = n.time.seconds in
-    second_in_years second (date_of second text n) (n.hour * 3600 + n.minute * 60 + n.seconds) n.is
+    second_in_years _ (date_of _ _ n) _ n.is
     (omega arith) (omega (arith, signed_arith))
 
 -- days and seconds of a day are apart
@@ -329,14 +325,14 @@ pub one_text : (second : ℤ) (text other : List ℕ) → IsTextOfSecond second 
     → IsTextOfSecond second other → other ≡ text
 unfolding date_of
 one_text second text other is is_other =
-    let n = numbers second text is in
-    let k = numbers second other is_other in
+    let n = numbers _ _ is in
+    let k = numbers _ _ is_other in
     let th = n.time.hours in let tm = n.time.minutes in let ts = n.time.seconds in
     let uh = k.time.hours in let um = k.time.minutes in let us = k.time.seconds in
-    let day_time = apart (epoch_day (date_of second text n)) (epoch_day (date_of second other k))
+    let day_time = apart _ (epoch_day (date_of _ _ k))
     (n.hour * 3600 + n.minute * 60 + n.seconds) (k.hour * 3600 + k.minute * 60 + k.seconds)
     second (omega arith) (omega arith) n.is k.is in
-    let dates = epoch_day_injective (date_of second text n) (date_of second other k) day_time.0 in
+    let dates = epoch_day_injective (date_of _ _ n) (date_of _ _ k) day_time.0 in
     let times = day_time.1 in
     let years : n.century * 100 + n.year ≡ k.century * 100
     + k.year = omega (arith, signed_arith, dates.0) in

@@ -7,6 +7,7 @@ use Rattle.std.proofs.lemmas.Map.Steps.{length-le_from_distinct_below}
 use Rattle.std.proofs.lemmas.Bool.Decides.{eqb_tells}
 use Rattle.std.proofs.lemmas.List.{length-map}
 use Rattle.std.proofs.lemmas.Slice.Eq.{bytes_eq-Decides}
+use Rattle.std.proofs.lemmas.Bool.{or_parts}
 use Rattle.plist_base.specs.declared.real.RealBits.TheVariants.{Four, Eight}
 use Rattle.plist_base.specs.Faults.{Fault}
 use Rattle.plist_base.specs.Events.{PlainEvent, Item}
@@ -18,7 +19,7 @@ use Rattle.plist_binread.specs.Unfolding.{Entry, table_of, unfolding_of, until_f
 use Rattle.plist_binwrite.specs.Counts.{scalar_eq}
 use Rattle.plist_share.specs.Distinct.{tree_eq, trees_eq, members_eq, subtrees, distinct_subtrees, HasAtLeast, IsLeast}
 use Rattle.plist_share.proofs.Meaning.{Means, Numbered, one_tree, all_numbered}
-use Rattle.plist_base.proofs.Paths.{path_none, or_false}
+use Rattle.plist_base.proofs.Paths.{path_none}
 use Rattle.plist_share.proofs.Parsing.{unfolding_parses}
 
 -- ---- a tree is equal to itself
@@ -77,7 +78,7 @@ no_member : {A : Type 0} (eq : A → A → Bool) (x : A) (xs : List A) → is_me
     → AllByRecursion (λ y. eq x y ≡ false) xs
 no_member eq x [] h = tt
 no_member eq x (y ∷ xs) h =
-    let k = or_false (eq x y) (is_member eq xs x) h in (k.0, no_member eq x xs k.1)
+    let k = or_parts (eq x y) (is_member eq xs x) h in (k.0, no_member eq x xs k.1)
 
 one_more : {A : Type 0} (eq : A → A → Bool) (x : A) (xs : List A) (b : Bool) → is_member eq xs x ≡ b
     → IsDistinct eq (unique_keys eq xs)

@@ -1,10 +1,7 @@
-use Rattle.std.proofs.Common.{◌≡◌, Bool, true, false, refl, ap, string_bytes, vec_items}
+use Rattle.std.proofs.Common.{◌≡◌, true, false, refl, ap, string_bytes, vec_items}
 use Rattle.std.proofs.lemmas.Str.{IsUtf8-string_bytes, is_utf8-from_IsUtf8, IsUtf8-from_is_utf8}
+use Rattle.std.proofs.lemmas.Bool.{false_from_ne_true}
 use Rattle.plist_ascii.proofs.text.text_of.Goals as goal
-
-not_true : (b : Bool) → (b ≡ true → ⊥) → b ≡ false
-not_true true h = absurd (h refl)
-not_true false h = refl
 
 false_true : false ≡ true → ⊥
 false_true e = cc
@@ -17,4 +14,4 @@ returns-in-Ok-clause-value c =
 
 pub returns-clause-fault : goal.returns-clause-fault
 returns-clause-fault c =
-    (not_true _ (λ t. false_true (c.in-Err.ensures.succeeds (IsUtf8-from_is_utf8 _ t))), refl)
+    (false_from_ne_true _ (λ t. false_true (c.in-Err.ensures.succeeds (IsUtf8-from_is_utf8 _ t))), refl)

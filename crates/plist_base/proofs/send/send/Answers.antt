@@ -1,12 +1,13 @@
 use Rattle.std.proofs.Common.{rules}
-use Rattle.plist_base.proofs.Fronts.{Appends-part, whole_rest, front_kept, front_none}
+use Rattle.std.proofs.lemmas.List.{take_rest}
+use Rattle.plist_base.proofs.Fronts.{Appends-part, front_kept, front_none}
 use Rattle.plist_base.proofs.send.send.Goals as goal
 
 pub loop-done-preserved : goal.loop-done-preserved
 loop-done-preserved g c = record {
-  within = let len = rw whole_rest at c.in-Ok.ensures.bound in search (rules, len);
+  within = let len = rw take_rest at c.in-Ok.ensures.bound in search (rules, len);
   sent = Appends-part _ _ _ c.args.bytes.now c.loop-done.done c.in-Ok.count
-      c.loop-done.invariant.sent (rw (whole_rest c.args.bytes.now c.loop-done.done) at
+      c.loop-done.invariant.sent (rw (take_rest c.args.bytes.now c.loop-done.done) at
       c.in-Ok.ensures.bytes);
 }
 

@@ -10,6 +10,6 @@ returns c =
     let fits : FitsSigned w16 date.year = omega (arith, signed_arith, date.year_in) in
     let value = simp to_z-of_z at c.unsigned_abs-year.ensures.value in
     let same : pos c.unsigned_abs-year.result ≡ date.year = ap pos value
-    ∙ abs_pos date.year c.requires.year in
-    printed date c.unsigned_abs-year.result c.args.second same
+    ∙ abs_pos _ c.requires.year in
+    printed date _ c.args.second same
     (omega (arith, signed_arith, date.year_in.1, same)) c.requires.second

@@ -27,6 +27,6 @@ returns c =
     let marks : has_marks text ≡ true = search rules in
     record {
       is = simp to_z-of_z (ap Some second
-          ∙ sym (spelled text c.in_ok-day.day c.in_ok-zone.zone c.in_ok-time.time marks day time
+          ∙ sym (spelled _ _ _ _ marks day time
           zone));
     }

@@ -1,17 +1,18 @@
 use Rattle.std.proofs.Common.{◌+◌, arith, sym, ap, ◌∙◌, Some, Err}
+use Rattle.std.proofs.lemmas.Bool.{and_parts}
 use Rattle.plist_base.specs.Faults.{IncompleteComment}
 use Rattle.plist_ascii.specs.Taken.{taken}
 use Rattle.plist_ascii.specs.Comments.{block_comment}
 use Rattle.plist_ascii.proofs.Inside.{is_at_inside, kind_said}
 use Rattle.plist_ascii.proofs.Answering.{front_from}
-use Rattle.plist_ascii.proofs.Comments.{closing_more, closing_closed, closing_open, Closing, both_true, rest_past, nothing_taken}
+use Rattle.plist_ascii.proofs.Comments.{closing_more, closing_closed, closing_open, Closing, rest_past, nothing_taken}
 use Rattle.plist_ascii.proofs.input.Input.block_comment.Goals as goal
 
 pub returns-then-closes-clause-answers : goal.returns-then-closes-clause-answers
 returns-then-closes-clause-answers g c =
     let some = rw c.in-Some.is at c.in_ok-byte.ensures.some in
     let place = rw c.in-Some.is at c.in_ok-byte.ensures.place in
-    let both = both_true _ _ (sym c.closes.ensures ∙ c.if-closes.true) in (
+    let both = and_parts _ _ (sym c.closes.ensures ∙ c.if-closes.true) in (
       omega (arith, c.bytes.invariant.rises, place.0),
       λ xs e.
           let i = c.bytes.invariant.comment xs e in

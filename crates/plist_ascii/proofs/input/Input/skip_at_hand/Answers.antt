@@ -1,19 +1,13 @@
-use Rattle.std.proofs.Common.{◌≡◌, ◌+◌, ◌-◌, ◌^◌, ◌≤◌, length, take, refl, sym, ◌∙◌, arith}
-use Rattle.std.proofs.lemmas.List.{length-take-le}
-use Rattle.plist_ascii.proofs.Unread.{part_unread}
+use Rattle.std.proofs.Common.{[], take, refl, sym, ◌∙◌, arith}
+use Rattle.plist_ascii.proofs.Unread.{part_taken}
 use Rattle.plist_ascii.proofs.input.Input.skip_at_hand.Goals as goal
 
 pub returns-clause-bytes : goal.returns-clause-bytes
 returns-clause-bytes g c = λ xs e.
-    let n = c.run_length-count.result in
-    let part = take n c.at_hand.result.now in
-    let len : length part ≡ n = length-take-le n c.at_hand.result.now
-    c.run_length-count.ensures.within in
-    let room : c.args.self.now.taken + n
-    ≤ 2 ^ 64 - 1 = omega (arith, c.run_length-count.ensures.most) in
-    let place : c.args.self.now.taken + n ≡ c.args.self.now.taken
-    + length part = omega (arith, len) in
-    let left = part_unread _ _ _ _ _ n part xs c.if-self.false
-    (sym c.is_some.ensures ∙ c.if-is_some.false) len room
-    (rw c.at_hand.ensures c.pass.ensures.bytes) e in
-    (part, (part, left.0, left.1, c.run_length-count.ensures.run ∙ sym len, refl, left.2, place))
+    let part = take c.run_length-count.result c.at_hand.result.now in (
+      part,
+      part_taken _ c.at_hand.result.now _ _ _ _ _ _ [] part xs c.if-self.false
+          (sym c.is_some.ensures ∙ c.if-is_some.false) c.run_length-count.ensures.within
+          (omega (arith, c.run_length-count.ensures.most)) c.run_length-count.ensures.run
+          (rw c.at_hand.ensures c.pass.ensures.bytes) refl e,
+    )

@@ -26,7 +26,7 @@ returns-in-Ok-clause-year c =
     let year_fits : FitsSigned w16 date.year = omega (arith, signed_arith, date.year_in) in
     let test = simp to_z-of_z at c.if-date-ge0.true in
     let later : pos 0 ≤ℤ date.year = omega (arith, signed_arith, test) in
-    (λ _. in_years c.args.second date (day ∙ div) later, λ _. refl)
+    (λ _. in_years _ date (day ∙ div) later, λ _. refl)
 
 pub returns-in_default-clause-year : goal.returns-in_default-clause-year
 returns-in_default-clause-year c =
@@ -45,7 +45,7 @@ returns-in_default-clause-year c =
     let year_fits : FitsSigned w16 date.year = omega (arith, signed_arith, date.year_in) in
     let test = simp to_z-of_z at c.if-date-ge0.false in
     let earlier : date.year <ℤ pos 0 = omega (arith, signed_arith, test) in
-    (λ h. cc h, λ inside. absurd (before_years c.args.second date (day ∙ div) earlier inside))
+    (λ h. cc h, λ inside. absurd (before_years _ date (day ∙ div) earlier inside))
 
 pub returns-in_default-2-clause-year : goal.returns-in_default-2-clause-year
 returns-in_default-2-clause-year c =
@@ -62,20 +62,20 @@ returns-in_default-2-clause-year c =
     let succeeds = simp to_z-of_z at c.in_default.ensures.succeeds in (
       λ h. cc h,
       λ inside. succeeds.1
-          (subst IsEpochDay (sym div) (day_of_years c.args.second inside)),
+          (subst IsEpochDay (sym div) (day_of_years _ inside)),
     )
 
 pub returns-in-Ok-clause-only : goal.returns-in-Ok-clause-only
 returns-in-Ok-clause-only c =
     let second_fits : FitsSigned w64 c.args.second = search rules in
-    λ other is. one_text c.args.second (moment_text c.moment_of.result) other (search rules) is
+    λ other is. one_text _ _ _ (search rules) is
 
 pub returns-in_default-clause-only : goal.returns-in_default-clause-only
 returns-in_default-clause-only c =
-    λ other is. let has = (returns-in_default-clause-year c).1 (year_of_text c.args.second other is)
+    λ other is. let has = (returns-in_default-clause-year c).1 (year_of_text _ _ is)
     in cc
 
 pub returns-in_default-2-clause-only : goal.returns-in_default-2-clause-only
 returns-in_default-2-clause-only c =
     λ other is. let has = (returns-in_default-2-clause-year c).1
-    (year_of_text c.args.second other is) in cc
+    (year_of_text _ _ is) in cc
