@@ -88,13 +88,13 @@ module _ (objects : List (List PlainEvent)) where
       (λ object. steps_of (steps_at objects room (uid ∷ path)) object)
 
 -- an object as it is seen
-pub seen_at : (objects : List Value) (uid : ℕ) (found : Option Value)
-    → found ≡ slice_get objects uid
+pub seen_at : (objects : List Value) (uid : ℕ) (answer found : Option Value)
+    → answer ≡ slice_get objects uid → answer ≡ found
     → slice_get (objects_seen objects) uid ≡ option_map (λ v. bracketing (tree_of v)) found
-seen_at objects uid found is =
+seen_at objects uid answer found is same =
     slice_get-map bracketing (map tree_of objects) uid
     ∙ ap (option_map bracketing) (slice_get-map tree_of objects uid
-    ∙ ap (option_map tree_of) (sym is)) ∙ twice found
+    ∙ ap (option_map tree_of) (sym is ∙ same)) ∙ twice found
   where
     twice : (o : Option Value) → option_map bracketing (option_map tree_of o)
         ≡ option_map (λ v. bracketing (tree_of v)) o

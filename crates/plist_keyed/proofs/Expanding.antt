@@ -37,151 +37,78 @@ AreItemsOf events (Err fault) items =
 abbrev pub Gives : Result Tree ArchiveFault → List Item → Type 0
 Gives answer items = AreItemsOf bracketing answer items
 
-abbrev GivesItems : Result Trees ArchiveFault → List Item → Type 0
-GivesItems answer items = AreItemsOf bracketing_of_items answer items
+-- what was replaced is as many
+abbrev AreSoMany : {W : Type 0} → (W → ℕ) → ℕ → Result W ArchiveFault → Type 0
+AreSoMany count n (Ok w) = count w ≡ n
+AreSoMany count n (Err f) = Unit {0}
 
-abbrev GivesPairs : Result Members ArchiveFault → List Item → Type 0
-GivesPairs answer items = AreItemsOf bracketing_of_pairs answer items
+module _ {W : Type 0} (events : W → List PlainEvent) where
+  -- the items of a tree, behind some events, and of those behind it
+  tree-and : (front : List PlainEvent) (make : Tree → W → W) (none : W) → events none ≡ []
+      → ((t : Tree) (w : W) → events (make t w) ≡ front ++ (bracketing t ++ events w))
+      → (a : Result Tree ArchiveFault) (b : Result W ArchiveFault) (xs ys : List Item) → Gives a xs
+      → AreItemsOf events b ys
+      → AreItemsOf events (and_then a (λ t. and_then b (λ w. Ok (make t w))))
+      (map Ok front ++ (xs ++ ys))
+  tree-and front make none nothing is (Ok t) (Ok w) xs ys p q =
+      rw (p, q, is t w) (sym (map-append Ok front (bracketing t ++ events w)
+      ∙ ap (λ l. map Ok front ++ l) (map-append Ok (bracketing t) (events w))))
+  tree-and front make none nothing is (Ok t) (Err f) xs ys p (es, more, q, (rest, w, alike)) = (
+    front ++ (bracketing t ++ es),
+    more,
+    rw (p, q) (simp (map-append, append_assoc)),
+    (
+      rest,
+      make t w,
+      rw (is t w, append_assoc front (bracketing t ++ es) rest, append_assoc (bracketing t) es rest)
+          (alike-behind front (bracketing t ++ (es ++ rest)) (bracketing t ++ events w)
+          (alike-behind (bracketing t) (es ++ rest) (events w) alike)),
+    ),
+  )
+  tree-and front make none nothing is (Err f) b xs ys (es, more, p, (rest, t, alike)) q = (
+    front ++ es,
+    more ++ ys,
+    rw p (simp (map-append, append_assoc)),
+    (
+      rest,
+      make t none,
+      rw (is t none, nothing, append-nil (bracketing t), append_assoc front es rest)
+          (alike-behind front (es ++ rest) (bracketing t) alike),
+    ),
+  )
 
--- some events, and then those before a fault
-both : (front es : List PlainEvent) (fault : ArchiveFault) (more ys : List Item)
-    → ys ≡ map Ok es ++ Err (told fault) ∷ more
-    → map Ok front ++ ys ≡ map Ok (front ++ es) ++ Err (told fault) ∷ more
-both front es fault more ys q =
-    ap (λ l. map Ok front ++ l) q ∙ sym
-    (append_assoc (map Ok front) (map Ok es) (Err (told fault) ∷ more))
-    ∙ ap (λ l. l ++ Err (told fault) ∷ more) (sym (map-append Ok front es))
+  -- a start, the items, and an end; what was replaced is as many as there were
+  collection-gives : (count : W → ℕ) (make : W → Tree) (start : Option ℕ → PlainEvent)
+      → ((n : ℕ) → unhinted (start (Some n)) ≡ start None)
+      → ((w : W) → bracketing (make w) ≡ start (Some (count w)) ∷ (events w ++ EndCollection ∷ []))
+      → (n : ℕ) (b : Result W ArchiveFault) (xs : List Item) → AreSoMany count n b
+      → AreItemsOf events b xs
+      → Gives (and_then b (λ w. Ok (make w))) (Ok (start (Some n)) ∷ (xs ++ Ok EndCollection ∷ []))
+  collection-gives count make start plain is n (Ok w) xs many p =
+      rw (is w, many, p) (ap (λ l. Ok (start (Some n)) ∷ l)
+      (sym (map-append Ok (events w) (EndCollection ∷ []))))
+  collection-gives count make start plain is n (Err f) xs many
+      (es, more, p, (rest, w, alike)) = (
+        start (Some n) ∷ es,
+        more ++ Ok EndCollection ∷ [],
+        rw p (ap (λ l. Ok (start (Some n)) ∷ l)
+            (append_assoc (map Ok es) (Err (told f) ∷ more) (Ok EndCollection ∷ []))),
+        (
+          rest ++ EndCollection ∷ [],
+          make w,
+          rw (is w, plain n, plain (count w)) (ap (λ l. start None ∷ l)
+              (ap (map unhinted) (sym (append_assoc es rest (EndCollection ∷ [])))
+              ∙ alike_with (es ++ rest) (events w) (EndCollection ∷ []) alike)),
+        ),
+      )
 
--- the items of a tree and of those behind it
-item-and : (a : Result Tree ArchiveFault) (b : Result Trees ArchiveFault) (xs ys : List Item)
-    → Gives a xs → GivesItems b ys
-    → GivesItems (and_then a (λ t. and_then b (λ ts. Ok (TreeAnd t ts)))) (xs ++ ys)
-item-and (Ok t) (Ok ts) xs ys p q =
-    ap (λ l. l ++ ys) p ∙ ap (λ l. map Ok (bracketing t) ++ l) q
-    ∙ sym (map-append Ok (bracketing t) (bracketing_of_items ts))
-item-and (Ok t) (Err f) xs ys p (es, more, is, (rest, whole, alike)) = (
-  bracketing t ++ es,
-  more,
-  ap (λ l. l ++ ys) p ∙ both (bracketing t) es f more ys is,
-  (
-    rest,
-    TreeAnd t whole,
-    ap (map unhinted) (append_assoc (bracketing t) es rest)
-        ∙ alike-behind (bracketing t) (es ++ rest) (bracketing_of_items whole) alike,
-  ),
-)
-item-and (Err f) b xs ys (es, more, is, (rest, whole, alike)) q = (
-  es,
-  more ++ ys,
-  ap (λ l. l ++ ys) is ∙ append_assoc (map Ok es) (Err (told f) ∷ more) ys,
-  (rest, TreeAnd whole NoTrees, alike ∙ ap (map unhinted) (sym (append-nil (bracketing whole)))),
-)
-
-pair-and : (k : List ℕ) (a : Result Tree ArchiveFault) (b : Result Members ArchiveFault)
-    (xs ys : List Item) → Gives a xs → GivesPairs b ys
-    → GivesPairs (and_then a (λ t. and_then b (λ ms. Ok (MemberAnd k t ms))))
-    (Ok (Single (trees.String k)) ∷ (xs ++ ys))
-pair-and k (Ok t) (Ok ms) xs ys p q =
-    ap (λ l. Ok (Single (trees.String k)) ∷ l)
-    (ap (λ l. l ++ ys) p ∙ ap (λ l. map Ok (bracketing t) ++ l) q
-    ∙ sym (map-append Ok (bracketing t) (bracketing_of_pairs ms)))
-pair-and k (Ok t) (Err f) xs ys p (es, more, is, (rest, whole, alike)) = (
-  Single (trees.String k) ∷ (bracketing t ++ es),
-  more,
-  ap (λ l. Ok (Single (trees.String k)) ∷ l)
-      (ap (λ l. l ++ ys) p ∙ both (bracketing t) es f more ys is),
-  (
-    rest,
-    MemberAnd k t whole,
-    ap (λ l. Single (trees.String k) ∷ l)
-        (ap (map unhinted) (append_assoc (bracketing t) es rest)
-        ∙ alike-behind (bracketing t) (es ++ rest) (bracketing_of_pairs whole) alike),
-  ),
-)
-pair-and k (Err f) b xs ys (es, more, is, (rest, whole, alike)) q = (
-  Single (trees.String k) ∷ es,
-  more ++ ys,
-  ap (λ l. Ok (Single (trees.String k)) ∷ (l ++ ys)) is
-      ∙ ap (λ l. Ok (Single (trees.String k)) ∷ l)
-      (append_assoc (map Ok es) (Err (told f) ∷ more) ys),
-  (
-    rest,
-    MemberAnd k whole NoMembers,
-    ap (λ l. Single (trees.String k) ∷ l)
-        (alike ∙ ap (map unhinted) (sym (append-nil (bracketing whole)))),
-  ),
-)
-
--- as many items as there were
-abbrev SameTrees : Trees → Result Trees ArchiveFault → Type 0
-SameTrees ts (Ok done) = number_of_trees done ≡ number_of_trees ts
-SameTrees ts (Err f) = Unit {0}
-
-abbrev SameMembers : Members → Result Members ArchiveFault → Type 0
-SameMembers ms (Ok done) = number_of_members done ≡ number_of_members ms
-SameMembers ms (Err f) = Unit {0}
-
-one-item : (t : Tree) (ts : Trees) (a : Result Tree ArchiveFault) (b : Result Trees ArchiveFault)
-    → SameTrees ts b → SameTrees (TreeAnd t ts)
-    (and_then a (λ u. and_then b (λ us. Ok (TreeAnd u us))))
-one-item t ts (Ok u) (Ok us) p = ap (λ n. 1 + n) p
-one-item t ts (Ok u) (Err f) p = tt
-one-item t ts (Err f) b p = tt
-
-one-pair : (k : List ℕ) (t : Tree) (ms : Members) (a : Result Tree ArchiveFault)
-    (b : Result Members ArchiveFault) → SameMembers ms b
-    → SameMembers (MemberAnd k t ms) (and_then a (λ u. and_then b (λ us. Ok (MemberAnd k u us))))
-one-pair k t ms (Ok u) (Ok us) p = ap (λ n. 1 + n) p
-one-pair k t ms (Ok u) (Err f) p = tt
-one-pair k t ms (Err f) b p = tt
-
-array-gives : (ts : Trees) (b : Result Trees ArchiveFault) (xs : List Item) → SameTrees ts b
-    → GivesItems b xs
-    → Gives (and_then b (λ done. Ok (Array done)))
-    (Ok (StartArray (Some (number_of_trees ts))) ∷ (xs ++ Ok EndCollection ∷ []))
-array-gives ts (Ok done) xs n p =
-    λ i. Ok (StartArray (Some (sym n i)))
-    ∷ (ap (λ l. l ++ Ok EndCollection ∷ []) p
-    ∙ sym (map-append Ok (bracketing_of_items done) (EndCollection ∷ []))) i
-array-gives ts (Err f) xs n (es, more, is, (rest, whole, alike)) =
-    let s = StartArray (Some (number_of_trees ts)) in (
-      s ∷ es,
-      more ++ Ok EndCollection ∷ [],
-      ap (λ l. Ok s ∷ (l ++ Ok EndCollection ∷ [])) is
-          ∙ ap (λ l. Ok s ∷ l) (append_assoc (map Ok es) (Err (told f) ∷ more)
-          (Ok EndCollection ∷ [])),
-      (
-        rest ++ EndCollection ∷ [],
-        Array whole,
-        ap (λ l. StartArray None ∷ l)
-            (ap (map unhinted) (sym (append_assoc es rest (EndCollection ∷ [])))
-            ∙ alike_with (es ++ rest) (bracketing_of_items whole) (EndCollection ∷ []) alike),
-      ),
-    )
-
-dictionary-gives : (ms : Members) (b : Result Members ArchiveFault) (xs : List Item)
-    → SameMembers ms b → GivesPairs b xs
-    → Gives (and_then b (λ done. Ok (Dictionary done)))
-    (Ok (StartDictionary (Some (number_of_members ms))) ∷ (xs ++ Ok EndCollection ∷ []))
-dictionary-gives ms (Ok done) xs n p =
-    λ i. Ok (StartDictionary (Some (sym n i)))
-    ∷ (ap (λ l. l ++ Ok EndCollection ∷ []) p
-    ∙ sym (map-append Ok (bracketing_of_pairs done) (EndCollection ∷ []))) i
-dictionary-gives ms (Err f) xs n (es, more, is, (rest, whole, alike)) =
-    let s = StartDictionary (Some (number_of_members ms)) in (
-      s ∷ es,
-      more ++ Ok EndCollection ∷ [],
-      ap (λ l. Ok s ∷ (l ++ Ok EndCollection ∷ [])) is
-          ∙ ap (λ l. Ok s ∷ l) (append_assoc (map Ok es) (Err (told f) ∷ more)
-          (Ok EndCollection ∷ [])),
-      (
-        rest ++ EndCollection ∷ [],
-        Dictionary whole,
-        ap (λ l. StartDictionary None ∷ l)
-            (ap (map unhinted) (sym (append_assoc es rest (EndCollection ∷ [])))
-            ∙ alike_with (es ++ rest) (bracketing_of_pairs whole) (EndCollection ∷ []) alike),
-      ),
-    )
+one-more : {W : Type 0} (count : W → ℕ) (make : Tree → W → W)
+    → ((t : Tree) (w : W) → count (make t w) ≡ 1 + count w) → (n : ℕ)
+    (a : Result Tree ArchiveFault) (b : Result W ArchiveFault) → AreSoMany count n b
+    → AreSoMany count (1 + n) (and_then a (λ t. and_then b (λ w. Ok (make t w))))
+one-more count make is n (Ok t) (Ok w) p = is t w ∙ ap (λ k. 1 + k) p
+one-more count make is n (Ok t) (Err f) p = tt
+one-more count make is n (Err f) b p = tt
 
 module _ (answer : ℕ → Result Tree ArchiveFault) (follow : ℕ → List Step)
     (h : (uid : ℕ) → Gives (answer uid) (items_of (follow uid))) where
@@ -194,15 +121,19 @@ module _ (answer : ℕ → Result Tree ArchiveFault) (follow : ℕ → List Step
       ap items_of (flat_map-append (steps_of_event follow) a b)
       ∙ items_of-append (steps_of follow a) (steps_of follow b)
 
-  same-items : (ts : Trees) → SameTrees ts (replaced_items answer ts)
+  same-items : (ts : Trees)
+      → AreSoMany number_of_trees (number_of_trees ts) (replaced_items answer ts)
   same-items NoTrees = refl
   same-items (TreeAnd t ts) =
-      one-item t ts (replaced answer t) (replaced_items answer ts) (same-items ts)
+      one-more number_of_trees TreeAnd (λ u us. refl) (number_of_trees ts) (replaced answer t)
+      (replaced_items answer ts) (same-items ts)
 
-  same-pairs : (ms : Members) → SameMembers ms (replaced_pairs answer ms)
+  same-pairs : (ms : Members)
+      → AreSoMany number_of_members (number_of_members ms) (replaced_pairs answer ms)
   same-pairs NoMembers = refl
   same-pairs (MemberAnd k t ms) =
-      one-pair k t ms (replaced answer t) (replaced_pairs answer ms) (same-pairs ms)
+      one-more number_of_members (MemberAnd k) (λ u us. refl) (number_of_members ms)
+      (replaced answer t) (replaced_pairs answer ms) (same-pairs ms)
 
   scalar-gives : (x : Scalar) (uid : Option ℕ)
       → Gives (option_map_or answer uid (Ok (Leaf x)))
@@ -215,26 +146,31 @@ module _ (answer : ℕ → Result Tree ArchiveFault) (follow : ℕ → List Step
     tree-gives (Leaf x) = scalar-gives x (number_of_uid x)
     tree-gives (Array ts) =
         rw (run-append (bracketing_of_items ts) (EndCollection ∷ []))
-        (array-gives ts (replaced_items answer ts) (run (bracketing_of_items ts)) (same-items ts)
-        (items-give ts))
+        (collection-gives bracketing_of_items number_of_trees Array StartArray (λ n. refl)
+        (λ us. refl) (number_of_trees ts) (replaced_items answer ts) (run (bracketing_of_items ts))
+        (same-items ts) (items-give ts))
     tree-gives (Dictionary ms) =
         rw (run-append (bracketing_of_pairs ms) (EndCollection ∷ []))
-        (dictionary-gives ms (replaced_pairs answer ms) (run (bracketing_of_pairs ms))
-        (same-pairs ms) (pairs-give ms))
+        (collection-gives bracketing_of_pairs number_of_members Dictionary StartDictionary
+        (λ n. refl) (λ us. refl) (number_of_members ms) (replaced_pairs answer ms)
+        (run (bracketing_of_pairs ms)) (same-pairs ms) (pairs-give ms))
 
-    items-give : (ts : Trees) → GivesItems (replaced_items answer ts) (run (bracketing_of_items ts))
+    items-give : (ts : Trees)
+        → AreItemsOf bracketing_of_items (replaced_items answer ts) (run (bracketing_of_items ts))
     items-give NoTrees = refl
     items-give (TreeAnd t ts) =
         rw (run-append (bracketing t) (bracketing_of_items ts))
-        (item-and (replaced answer t) (replaced_items answer ts) (run (bracketing t))
-        (run (bracketing_of_items ts)) (tree-gives t) (items-give ts))
+        (tree-and bracketing_of_items [] TreeAnd NoTrees refl (λ u us. refl) (replaced answer t)
+        (replaced_items answer ts) (run (bracketing t)) (run (bracketing_of_items ts))
+        (tree-gives t) (items-give ts))
 
-    pairs-give : (ms : Members) → GivesPairs (replaced_pairs answer ms)
-        (run (bracketing_of_pairs ms))
+    pairs-give : (ms : Members)
+        → AreItemsOf bracketing_of_pairs (replaced_pairs answer ms) (run (bracketing_of_pairs ms))
     pairs-give NoMembers = refl
     pairs-give (MemberAnd k t ms) =
         rw (run-append (bracketing t) (bracketing_of_pairs ms))
-        (pair-and k (replaced answer t) (replaced_pairs answer ms) (run (bracketing t))
+        (tree-and bracketing_of_pairs (Single (trees.String k) ∷ []) (MemberAnd k) NoMembers refl
+        (λ u us. refl) (replaced answer t) (replaced_pairs answer ms) (run (bracketing t))
         (run (bracketing_of_pairs ms)) (tree-gives t) (pairs-give ms))
 
 -- a fault alone: any tree can come

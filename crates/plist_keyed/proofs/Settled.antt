@@ -6,7 +6,7 @@ use Rattle.std.specs.List.{list_any}
 use Rattle.std.specs.Option.{option_map_or}
 use Rattle.std.specs.Map.{keys_of}
 use Rattle.std.specs.Str.{bytes_eq}
-use Rattle.std.proofs.lemmas.List.{length-map}
+use Rattle.std.proofs.lemmas.List.{length-map, length_push}
 use Rattle.indexmap.specs.IndexMap.{insert_entry, insert_all}
 use Rattle.indexmap.specs.IndexSet.{insert_all as insert_keys}
 use Rattle.indexmap.proofs.SetLemmas.{keys_insert_all}
@@ -33,23 +33,19 @@ inserted-once (e ∷ es) k v = by (bytes_eq k e.0) (inserted-once es k v)
     by false (inl p) = inl (ap (λ l. e ∷ l) p)
     by false (inr p) = inr (ap suc p)
 
-length-snoc : (es : Rows) (p : List ℕ × Tree) → length (es ++ p ∷ []) ≡ suc (length es)
-length-snoc [] p = refl
-length-snoc (e ∷ es) p = ap suc (length-snoc es p)
-
 at-most : (es : Rows) (k : List ℕ) (v : Tree)
     → length (insert_entry bytes_eq es k v) ≤ suc (length es)
 at-most es k v =
     elim (inserted-once es k v) [
-      | inl p ↦ let n = ap length p ∙ length-snoc es (k, v) in omega (arith, n)
-      | inr p ↦ omega (arith, p)
+      | inl p ↦ let n = ap length p ∙ length_push es (k, v) in omega arith
+      | inr p ↦ omega arith
     ]
 
 longest : (es ps : Rows) → length (insert_all bytes_eq es ps) ≤ length es + length ps
 longest es [] = omega arith
 longest es (p ∷ ps) =
-    let a = longest (insert_entry bytes_eq es p.0 p.1) ps in let b = at-most es p.0 p.1 in omega
-    (arith, a, b)
+    let a = longest (insert_entry bytes_eq es p.0 p.1) ps in let b = at-most es p.0 p.1 in
+    omega arith
 
 -- where none is lost, all stand behind one another
 all-inserted : (es ps : Rows) → length (insert_all bytes_eq es ps) ≡ length es + length ps
@@ -57,11 +53,10 @@ all-inserted : (es ps : Rows) → length (insert_all bytes_eq es ps) ≡ length 
 all-inserted es [] h = sym (append-nil es)
 all-inserted es (p ∷ ps) h =
     elim (inserted-once es p.0 p.1) [
-      | inl q ↦ (let n = ap length q ∙ length-snoc es p in
-          all-inserted (insert_entry bytes_eq es p.0 p.1) ps (omega (arith, h, n))
+      | inl q ↦ (let n = ap length q ∙ length_push es p in
+          all-inserted (insert_entry bytes_eq es p.0 p.1) ps (omega arith)
           ∙ ap (λ l. l ++ ps) q ∙ append_assoc es (p ∷ []) ps)
-      | inr q ↦ (let a = longest (insert_entry bytes_eq es p.0 p.1) ps in absurd
-          (omega (arith, h, q, a)))
+      | inr q ↦ (let a = longest (insert_entry bytes_eq es p.0 p.1) ps in absurd (omega arith))
     ]
 
 -- so where as many are left as there were
@@ -80,11 +75,11 @@ same-length ps qs e =
 
 length-members : (rows : Rows) → number_of_members (members_of rows) ≡ length rows
 length-members [] = refl
-length-members (row ∷ rows) = let h = length-members rows in omega (arith, h)
+length-members (row ∷ rows) = let h = length-members rows in omega arith
 
 length-rows : (ms : Members) → length (last_wins_in_pairs ms) ≡ number_of_members ms
 length-rows NoMembers = refl
-length-rows (MemberAnd k t ms) = let h = length-rows ms in omega (arith, h)
+length-rows (MemberAnd k t ms) = let h = length-rows ms in omega arith
 
 -- the last values change nothing
 abbrev pub IsSettled : Tree → Type 0
@@ -101,18 +96,8 @@ ValuesSettled ms = members_of (last_wins_in_pairs ms) ≡ ms
 abbrev KeepsAll : Members → Type 0
 KeepsAll ms = length (last_values (last_wins_in_pairs ms)) ≡ length (last_wins_in_pairs ms)
 
-same_items : (ts us : Trees) → Array ts ≡ Array us → ts ≡ us
-same_items ts us p = cc
-
 same_members : (ms ns : Members) → Dictionary ms ≡ Dictionary ns → ms ≡ ns
 same_members ms ns p = cc
-
-first_tree : (t u : Tree) (ts us : Trees) → TreeAnd t ts ≡ TreeAnd u us → (t ≡ u) × (ts ≡ us)
-first_tree t u ts us p = (cc, cc)
-
-first_member : (k l : List ℕ) (t u : Tree) (ms ns : Members) → MemberAnd k t ms ≡ MemberAnd l u ns
-    → (t ≡ u) × (ms ≡ ns)
-first_member k l t u ms ns p = (cc, cc)
 
 keeps-all : (ms : Members) → IsSettled (Dictionary ms) → KeepsAll ms
 keeps-all ms h =
@@ -188,8 +173,7 @@ module _ (follow : ℕ → Result Tree ArchiveFault) (h : (uid : ℕ) → IfTold
       replaced-settled : (t : Tree) → IsSettled t → IfTold IsSettled (replaced follow t)
       replaced-settled (Leaf x) p = scalar-settled x (number_of_uid x)
       replaced-settled (Array ts) p =
-          array-of (replaced_items follow ts)
-          (items-settled ts (same_items (trees_of (last_wins_in_items ts)) ts p))
+          array-of (replaced_items follow ts) (items-settled ts (cc))
       replaced-settled (Dictionary ms) p =
           dictionary-of ms (replaced_pairs follow ms) (keeps-all ms p)
           (pairs-settled ms (values-settled ms p))
@@ -197,17 +181,15 @@ module _ (follow : ℕ → Result Tree ArchiveFault) (h : (uid : ℕ) → IfTold
       items-settled : (ts : Trees) → AreSettled ts → IfTold AreSettled (replaced_items follow ts)
       items-settled NoTrees p = refl
       items-settled (TreeAnd t ts) p =
-          let q = first_tree (last_wins t) t (trees_of (last_wins_in_items ts)) ts p in
-          tree-and (replaced follow t) (replaced_items follow ts) (replaced-settled t q.0)
-          (items-settled ts q.1)
+          tree-and (replaced follow t) (replaced_items follow ts) (replaced-settled t (cc))
+          (items-settled ts (cc))
 
       pairs-settled : (ms : Members) → ValuesSettled ms
           → IfTold (HasKeys (keys_in ms)) (replaced_pairs follow ms)
       pairs-settled NoMembers p = (refl, refl)
       pairs-settled (MemberAnd k t ms) p =
-          let q = first_member k k (last_wins t) t (members_of (last_wins_in_pairs ms)) ms p in
           member-and k (keys_in ms) (replaced follow t) (replaced_pairs follow ms)
-          (replaced-settled t q.0) (pairs-settled ms q.1)
+          (replaced-settled t (cc)) (pairs-settled ms (cc))
 
 found-settled : (found : Option Tree) (is_open : Bool) (uid : ℕ)
     (answer : Tree → Result Tree ArchiveFault)

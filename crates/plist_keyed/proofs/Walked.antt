@@ -18,7 +18,7 @@ use Rattle.plist_keyed.specs.declared.walk.Walk.{Walk}
 use Rattle.plist_keyed.specs.Archives.{UidOutOfRange, RecursiveUid}
 use Rattle.plist_keyed.specs.inner.Walks.{Step, told, items_of, steps_of_event, steps_of, steps_at}
 use Rattle.plist_keyed.specs.inner.Owing.{FailsAt, IsKept, IsOpened, IsWalk, follow, follow_in, items_at, levels_of, objects_seen, owed, owed_by, path_of, uid_in}
-use Rattle.plist_base.proofs.Paths.{path_none, path_push, path_pop}
+use Rattle.plist_base.proofs.Paths.{path_push, path_pop}
 use Rattle.plist_keyed.proofs.Entered.{any_reversed, opened, out_of_range, recursive, reverse-snoc, some_step}
 
 -- a key that isn't there goes last
@@ -198,19 +198,10 @@ module _ (old new : Walk) (left : Events) (r : Option ℕ) (o : IsWalk old)
         omega (arith, n),
       )
 
--- ---- the end
-
-no_items : {A : Type 0} (xs : List A) → length xs ≡ 0 → xs ≡ []
-no_items [] h = refl
-no_items (x ∷ xs) h = absurd (omega (arith, h))
-
 -- ---- the beginning
 
 module _ (start : Walk) (objects : List Value) (seen : start.objects.now ≡ objects)
     (keys : start.path.keys ≡ []) (items : start.levels.items ≡ []) where
-  pub begins-walk : IsWalk start
-  begins-walk = rw (keys, items) (path_none (length (objects_seen start.objects.now)), refl)
-
   start-owed : owed start ≡ []
   start-owed = rw items refl
 

@@ -1,7 +1,7 @@
 -- The first bytes of a source.
-use Rattle.std.proofs.Common.{◌≡◌, ◌≢◌, inl, inr, ℕ, ◌+◌, ◌-◌, ◌^◌, ◌<◌, ◌≤◌, Bool, true, false, cond, ◌&&◌, ◌==◌, nat_eq, List, [], ◌∷◌, length, take, get_or, Option, None, Some, IfSome, IsTrue, ◌↔◌, refl, ap, sym, ◌∙◌, arith}
+use Rattle.std.proofs.Common.{◌≡◌, ◌≢◌, inl, inr, ℕ, ◌+◌, ◌-◌, ◌^◌, ◌<◌, ◌≤◌, Bool, true, false, cond, ◌==◌, nat_eq, List, [], ◌∷◌, length, take, get_or, Option, None, Some, IfSome, IsTrue, ◌↔◌, refl, ap, sym, ◌∙◌, arith}
 use Rattle.std.specs.List.{starts_with, slice_get}
-use Rattle.std.proofs.lemmas.Bool.{cases_lt, eq-eqb}
+use Rattle.std.proofs.lemmas.Bool.{cases_lt, eq-eqb, and_right}
 use Rattle.std.proofs.lemmas.Bool.Decides.{eqb_tells}
 use Rattle.std.proofs.lemmas.List.{length-take, get_or-take, get_or_past}
 use Rattle.std.proofs.lemmas.List.Sums.{prefix_len-drop_all, prefix_len-drop_no, prefix_len-drop_yes}
@@ -25,11 +25,7 @@ pub short-starts : (bytes needle : List ℕ) → length bytes < length needle
 short-starts bytes [] h = absurd (omega arith)
 short-starts [] (n ∷ needle) h = refl
 short-starts (b ∷ bytes) (n ∷ needle) h =
-    both (nat_eq n b) _ (short-starts bytes needle (omega arith))
-  where
-    both : (c d : Bool) → d ≡ false → c && d ≡ false
-    both true d e = e
-    both false d e = refl
+    and_right (nat_eq n b) _ (short-starts bytes needle (omega arith))
 
 io-is : (kind : FaultKind) → IsIo kind → kind ≡ Io
 io-is Io h = refl
