@@ -5,7 +5,8 @@ Each shape of file is made at some sizes. The programs run in turn, and of each 
 least processor time (user and system) counts; its peak memory is shown beside it. The peers are the
 Rust crate `plist` as Debian packages it (librust-plist-dev, built by cargo from tests/outside/peer;
 it reads the file into memory first), Python's plistlib, and plistutil (libplist), which turns the
-file to XML. A peer that is missing is left out, and so is one that fails on a shape. One whose first
+file to XML. A peer that is missing is left out, and so is one that fails on a shape. A program whose
+first run is short is run more often, so that a few milliseconds are told apart, and one whose first
 run takes long is run once.
 
 A second table is of reading from memory into events with texts of their own: `BinaryReader` over a
@@ -33,6 +34,8 @@ HERE = pathlib.Path(__file__).resolve().parent
 PLIST_TOOL = HERE.parents[1] / "plist_tool"
 PROGRAM = HERE.parents[1] / "crates/plist_tool/out/plist_tool"
 RUNS = 5
+# a program that takes so few seconds is run so often
+SHORT, SHORT_RUNS = 0.05, 25
 SECONDS = 60
 # a program that takes so many seconds isn't run again
 LONG = 2
@@ -258,13 +261,23 @@ def best(runs):
     return None if None in runs else (min(time for time, _ in runs), max(peak for _, peak in runs))
 
 
+def runs_wanted(taken):
+    """How often a program is to be run in all, after these runs."""
+    if None in taken:
+        return 0
+    if not taken:
+        return 1
+    first = taken[0][0]
+    return 1 if first > LONG else SHORT_RUNS if first < SHORT else RUNS
+
+
 def measured(path, known):
     """The best runs of each program on a file, in turn."""
     runs = {program: [] for program in known}
-    for _ in range(RUNS):
+    for _ in range(SHORT_RUNS):
         for program, words in known.items():
             taken = runs[program]
-            if None not in taken and not (taken and taken[0][0] > LONG):
+            if len(taken) < runs_wanted(taken):
                 taken.append(measure([*words, path]))
     return {program: best(taken) for program, taken in runs.items()}
 
@@ -275,7 +288,7 @@ def cells_of(found):
         if value is None:
             yield "fails"
             continue
-        shown = f"{value[0]:.3f} s, {value[1] / 1e6:.0f} MB"
+        shown = f"{value[0]:.{4 if value[0] < SHORT else 3}f} s, {value[1] / 1e6:.0f} MB"
         if i and ours:
             shown += f" ({ours[0] / value[0] if value[0] else math.inf:.2f})"
         yield shown

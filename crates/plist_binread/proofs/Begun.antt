@@ -9,7 +9,7 @@ use Rattle.plist_base.specs.declared.event.Event.{Event}
 use Rattle.plist_base.specs.Faults.{Fault, OutOfMemory, MatchFault, fault_nowhere, kind_of, error_kind_of, fault_of}
 use Rattle.plist_base.specs.Events.{Item, event_of}
 use Rattle.plist_base.proofs.Refusals.{MatchFault-at, MatchFault-weaker}
-use Rattle.plist_binread.specs.declared.walk.Frame.{Frame}
+use Rattle.plist_binread.specs.declared.frames.Frame.{Frame}
 use Rattle.plist_binread.specs.declared.table.Table.{Table}
 use Rattle.plist_binread.specs.Container.{Head, head_of}
 use Rattle.plist_binread.specs.Object.{Object}

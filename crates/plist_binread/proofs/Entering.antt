@@ -7,7 +7,7 @@ use Rattle.plist_base.specs.declared.event.Event.{Event}
 use Rattle.plist_base.specs.Events.{PlainEvent, Item}
 use Rattle.plist_base.specs.Sources.{AnswersIo, ItemCountsIo}
 use Rattle.plist_binread.specs.Failures.{ErrWithin, ItemWithin}
-use Rattle.plist_binread.specs.declared.walk.Frame.{Frame}
+use Rattle.plist_binread.specs.declared.frames.Frame.{Frame}
 use Rattle.plist_binread.specs.declared.walk.Turn.TheVariants.{Child}
 use Rattle.plist_binread.specs.declared.lent.Lent.{Lent}
 use Rattle.plist_binread.specs.declared.table.Bounds.{Bounds}

@@ -10,7 +10,7 @@ use Rattle.plist_base.specs.Faults.{Fault, FaultKind, OutOfMemory, ObjectReferen
 use Rattle.plist_base.specs.Events.{PlainEvent, Single, Item, event_of}
 use Rattle.plist_base.specs.Trees.{Scalar}
 use Rattle.plist_base.proofs.Refusals.{MatchFault-at, MatchFault-weaker}
-use Rattle.plist_binread.specs.declared.walk.Frame.{Frame}
+use Rattle.plist_binread.specs.declared.frames.Frame.{Frame}
 use Rattle.plist_binread.specs.declared.object.Decoded.{Decoded}
 use Rattle.plist_binread.specs.declared.table.Bounds.{Bounds}
 use Rattle.plist_binread.specs.Object.{Object, object_in}

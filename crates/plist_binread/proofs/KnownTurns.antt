@@ -6,7 +6,7 @@ use Rattle.plist_base.specs.declared.event.Event.{Event}
 use Rattle.plist_base.specs.Faults.{IsIo, kind_of, error_kind_of}
 use Rattle.plist_base.specs.Events.{EndCollection}
 use Rattle.plist_base.proofs.Refusals.{MatchFault-weaker}
-use Rattle.plist_binread.specs.declared.walk.Frame.{Frame}
+use Rattle.plist_binread.specs.declared.frames.Frame.{Frame}
 use Rattle.plist_binread.specs.declared.walk.Turn.{Turn}
 use Rattle.plist_binread.specs.declared.walk.Turn.TheVariants.{Done, Closed, Child}
 use Rattle.plist_binread.specs.declared.table.Bounds.{Bounds}

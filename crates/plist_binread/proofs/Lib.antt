@@ -13,6 +13,7 @@ pub mod Markers
 pub mod Marks
 pub mod Opened
 pub mod Packing
+pub mod Stacked
 pub mod Staying
 pub mod Steps
 pub mod Taken

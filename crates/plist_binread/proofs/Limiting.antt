@@ -16,7 +16,7 @@ use Rattle.plist_binread.specs.Telling.{TellsItem}
 use Rattle.plist_binread.specs.declared.reader.State.{State}
 use Rattle.plist_binread.specs.declared.reader.State.TheVariants.{Fresh, Walking, Ended}
 use Rattle.plist_binread.specs.declared.table.Bounds.{Bounds}
-use Rattle.plist_binread.specs.declared.walk.Frame.{Frame}
+use Rattle.plist_binread.specs.declared.frames.Frame.{Frame}
 use Rattle.plist_binread.specs.Lent.{PaysTold}
 use Rattle.plist_binread.specs.Debt.{IsOwed, WantsMemory, entries_of, owed_by, still_owed}
 use Rattle.plist_binread.specs.Turning.{is_fresh, is_walking}

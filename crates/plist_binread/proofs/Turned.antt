@@ -1,54 +1,16 @@
 -- What the innermost collection asks for.
-use Rattle.std.proofs.Common.{◌≡◌, cond, ℕ, zero, suc, ◌+◌, ◌-◌, ◌*◌, ◌<◌, ◌≤◌, List, [], ◌∷◌, ◌++◌, length, drop, take, get_or, set, reverse, not, true, Ok, Err, refl, ap, sym, ◌∙◌, arith, append_assoc, add-one, None, Some, false}
+use Rattle.std.proofs.Common.{◌≡◌, cond, ℕ, zero, suc, ◌+◌, ◌-◌, ◌*◌, ◌<◌, ◌≤◌, List, [], ◌∷◌, ◌++◌, length, drop, get_or, reverse, not, true, Ok, Err, refl, ap, sym, ◌∙◌, arith, append_assoc, add-one, None, Some, false}
 use Rattle.std.specs.List.{flat_map, slice_get}
 use Rattle.std.proofs.lemmas.Bool.{lt-ltb}
-use Rattle.std.proofs.lemmas.List.{reverse-append, length-reverse}
-use Rattle.std.proofs.Math.Seq.{drop-cons, get_or-append_seam, set-append_seam, take-append_seam}
+use Rattle.std.proofs.Math.Seq.{drop-cons}
 use mathlib.Core.List.{reverse-reverse}
 use Rattle.plist_base.specs.Events.{PlainEvent, EndCollection, Item}
-use Rattle.plist_binread.specs.declared.walk.Frame.{Frame}
+use Rattle.plist_binread.specs.declared.frames.Frame.{Frame}
 use Rattle.plist_binread.specs.Packed.{Remarked}
 use Rattle.plist_binread.specs.Unfolding.{Entry, unfolding_of, until_fault}
 use Rattle.plist_binread.specs.declared.table.Bounds.{Bounds}
 use Rattle.plist_binread.specs.Debt.{path_of, IsOpen, IsKnown, children_at, place_at, entries_of, owed_by, IsOwed, next_number, steps, weight}
 use Rattle.plist_binread.specs.Turning.{closes, given_back}
-
--- frames as they are kept, and as they are spoken of
-pub record Splits (xs : List Frame) (n : ℕ) (f g : Frame) : Type 0 where
-  pub below : List Frame
-  pub whole : reverse xs ≡ f ∷ below
-  pub changed : reverse (set xs (n - 1) g) ≡ g ∷ below
-  pub closed : reverse (take (n - 1) (set xs (n - 1) g)) ≡ below
-
-splits_from : (xs r : List Frame) (n : ℕ) (f g : Frame) → reverse xs ≡ r → 0 < n → n ≡ length xs
-    → f ≡ get_or xs (n - 1) f → Splits xs n f g
-splits_from xs [] n f g e pos len is =
-    let none : length xs ≡ 0 = sym (length-reverse xs) ∙ ap length e in
-    absurd (omega arith)
-splits_from xs (y ∷ ys) n f g e pos len is =
-    let seam : xs ≡ reverse ys ++ y ∷ [] = sym (reverse-reverse xs) ∙ ap reverse e
-    ∙ reverse-append (y ∷ []) ys in
-    let size : length xs ≡ suc (length (reverse ys)) = sym (length-reverse xs) ∙ ap length e
-    ∙ ap suc (sym (length-reverse ys)) in
-    let last : n - 1 ≡ length (reverse ys) = omega arith in
-    let same : f ≡ y = is ∙ ap (λ i. get_or xs i f) last
-    ∙ ap (λ zs. get_or zs (length (reverse ys)) f) seam
-    ∙ get_or-append_seam (reverse ys) y [] f in
-    record {
-      below = ys;
-      whole = e ∙ ap (λ z. z ∷ ys) (sym same);
-      changed = ap reverse (ap (λ i. set xs i g) last
-          ∙ ap (λ zs. set zs (length (reverse ys)) g) seam ∙ set-append_seam (reverse ys) y [] g)
-          ∙ reverse-append (reverse ys) (g ∷ []) ∙ ap (λ zs. g ∷ zs) (reverse-reverse ys);
-      closed = ap reverse (ap (λ i. take i (set xs i g)) last
-          ∙ ap (λ zs. take (length (reverse ys)) (set zs (length (reverse ys)) g)) seam
-          ∙ ap (λ zs. take (length (reverse ys)) zs) (set-append_seam (reverse ys) y [] g)
-          ∙ take-append_seam (reverse ys) (g ∷ [])) ∙ reverse-reverse ys;
-    }
-
-pub splits : (xs : List Frame) (n : ℕ) (f g : Frame) → 0 < n → n ≡ length xs
-    → f ≡ get_or xs (n - 1) f → Splits xs n f g
-splits xs n f g pos len is = splits_from xs (reverse xs) n f g refl pos len is
 
 -- frames that are the same from the innermost one on
 pub same_frames : (xs ys : List Frame) → reverse xs ≡ reverse ys → xs ≡ ys
@@ -166,14 +128,18 @@ pub child_weight : (n : ℕ) (f : Frame) (fs : List Frame) → f.next < f.count
     → weight n (f ∷ fs) ≡ weight n (after f ∷ fs) + steps (n - length (after f ∷ fs))
 child_weight n f fs h = one_less f.count f.next (steps (n - suc (length fs))) (weight n fs) h
 
+pub closed_weight : (n : ℕ) (f : Frame) (fs : List Frame) → f.count ≤ f.next
+    → weight n (f ∷ fs) ≡ weight n fs + 1
+closed_weight n f fs h =
+    let none : f.count - f.next ≡ 0 = omega arith in rw none (omega arith)
+
 -- nothing closes where nothing is open
-pub closes-none : (xs : List Frame) → length xs ≡ 0 → closes (reverse xs) ≡ true → ⊥
-closes-none [] h e = absurd (cc)
-closes-none (x ∷ xs) h e = absurd (omega arith)
+pub closes-none : (xs : List Frame) → xs ≡ [] → closes xs ≡ true → ⊥
+closes-none xs none e = let no : closes xs ≡ false = ap closes none in absurd (cc)
 
 -- nor where a child is left
-pub closes-child : (xs : List Frame) (f : Frame) (below : List Frame) → reverse xs ≡ f ∷ below
-    → f.next < f.count → closes (reverse xs) ≡ true → ⊥
+pub closes-child : (xs : List Frame) (f : Frame) (below : List Frame) → xs ≡ f ∷ below
+    → f.next < f.count → closes xs ≡ true → ⊥
 closes-child xs f below whole h e =
     let no : closes (f ∷ below) ≡ false = ap not (lt-ltb f.next f.count h) in
     let yes : closes (f ∷ below) ≡ true = sym (ap closes whole) ∙ e in

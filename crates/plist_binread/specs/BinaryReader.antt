@@ -14,7 +14,7 @@ use Rattle.plist_base.specs.Limits.{has_room, under_any}
 use Rattle.plist_binread.specs.Failures.{ItemGivenWithin}
 use Rattle.plist_binread.specs.declared.reader.BinaryReader.{BinaryReader}
 use Rattle.plist_binread.specs.declared.reader.State.TheVariants.{Ended}
-use Rattle.plist_binread.specs.declared.walk.Frame.{Frame}
+use Rattle.plist_binread.specs.declared.frames.Frame.{Frame}
 use Rattle.plist_binread.specs.declared.counter.DecodeCounter.{Ghosts as CounterGhosts}
 use Rattle.plist_binread.specs.Debt.{IsOpen, still_owed, cached_count, places_of, AreBoundsOf, IsOwed, WantsMemory, steps_left}
 use Rattle.plist_binread.specs.Turning.{number_owed, IsKept, is_fresh, is_walking, ends_next}
@@ -27,7 +27,7 @@ source_of reader = reader.source
 -- the items of the file that are still to come, were there no limits
 abbrev pub walk_to_come : {R C : Type 0} {g : Ghosts R} {h : CounterGhosts C} → List ℕ
     → BinaryReader R C g h → List Item
-walk_to_come bytes reader = still_owed bytes reader.state reader.bounds reader.walk.frames.items
+walk_to_come bytes reader = still_owed bytes reader.state reader.bounds reader.walk.frames
 
 -- the items still to come, where these are the file's bytes
 abbrev pub to_come : {R C : Type 0} {g : Ghosts R} {h : CounterGhosts C} → List ℕ
@@ -52,13 +52,13 @@ HasEnded reader = reader.state ≡ Ended
 -- how many collections are open
 abbrev pub open_collections : {R C : Type 0} {g : Ghosts R} {h : CounterGhosts C}
     → BinaryReader R C g h → ℕ
-open_collections reader = length reader.walk.frames.items
+open_collections reader = length reader.walk.frames
 
 -- does the end of the innermost collection come next, none of whose children is left, were there no
 -- limits?
 abbrev pub walk_closes : {R C : Type 0} {g : Ghosts R} {h : CounterGhosts C} → BinaryReader R C g h
     → Bool
-walk_closes reader = ends_next reader.state reader.walk.frames.items
+walk_closes reader = ends_next reader.state reader.walk.frames
 
 -- may one more event come?
 abbrev pub has_room_in : Option Limiter → Bool
@@ -82,7 +82,7 @@ object_count reader = length reader.walk.tags.items
 -- the number of the object whose item comes next, or none where that is an end
 abbrev pub number_to_come : {R C : Type 0} {g : Ghosts R} {h : CounterGhosts C} → List ℕ
     → BinaryReader R C g h → Option ℕ
-number_to_come bytes reader = number_owed bytes reader.state reader.bounds reader.walk.frames.items
+number_to_come bytes reader = number_owed bytes reader.state reader.bounds reader.walk.frames
 
 -- a reader that has begun and not ended holds the head of these bytes
 abbrev pub HoldsHead : {R C : Type 0} {g : Ghosts R} {h : CounterGhosts C} → List ℕ
@@ -121,7 +121,7 @@ cached_objects reader = cached_count reader.walk.tags.items
 -- the marks stand exactly on the objects that are open, none of which is cached
 abbrev pub MarksItsPath : {R C : Type 0} {g : Ghosts R} {h : CounterGhosts C} → BinaryReader R C g h
     → Type 0
-MarksItsPath reader = IsOpen reader.walk.tags.items (reverse reader.walk.frames.items)
+MarksItsPath reader = IsOpen reader.walk.tags.items (reverse reader.walk.frames)
 
 -- the object of this number is cached in a reader that gave this item, if that is small
 abbrev pub CachesItem : {R C : Type 0} {g : Ghosts R} {h : CounterGhosts C} → Option ℕ
@@ -137,7 +137,7 @@ AreWithin count tags contents frames =
 abbrev pub KeepsWithin : {R C : Type 0} {g : Ghosts R} {h : CounterGhosts C} → (count : ℕ)
     → BinaryReader R C g h → Type 0
 KeepsWithin count reader =
-    AreWithin count reader.walk.tags.items reader.walk.contents.items reader.walk.frames.items
+    AreWithin count reader.walk.tags.items reader.walk.contents.items reader.walk.frames
 
 -- one call of `next`: known bytes stay as they are, and the item is the first of those to come
 pub record Gives {R C : Type 0} {g : Ghosts R} {h : CounterGhosts C} (known : R → Option (List ℕ))
@@ -165,4 +165,4 @@ pub record Gives {R C : Type 0} {g : Ghosts R} {h : CounterGhosts C} (known : R 
 abbrev pub steps_to_come : {R C : Type 0} {g : Ghosts R} {h : CounterGhosts C}
     → BinaryReader R C g h → ℕ
 steps_to_come reader =
-    steps_left reader.state (length reader.walk.tags.items) reader.walk.frames.items
+    steps_left reader.state (length reader.walk.tags.items) reader.walk.frames

@@ -11,7 +11,7 @@ use Rattle.plist_binread.specs.Container.{number_at}
 use Rattle.plist_binread.specs.Debt.{Explains, path_of, owed_by}
 use Rattle.plist_binread.specs.Turning.{IsKeptTold, ReadsChild}
 use Rattle.plist_binread.specs.Decoding.{IsCollection, single_in, children_in}
-use Rattle.plist_binread.specs.declared.walk.Frame.{Frame}
+use Rattle.plist_binread.specs.declared.frames.Frame.{Frame}
 use Rattle.plist_binread.specs.Object.{Object, object_in}
 use Rattle.plist_binread.specs.Packed.{is_small_event, unmarked}
 use Rattle.plist_binread.specs.Unfolding.{Entry, unfolding_of, until_fault}

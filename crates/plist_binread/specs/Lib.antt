@@ -6,6 +6,7 @@ pub mod Debt
 pub mod Decoding
 pub mod Examples
 pub mod Failures
+pub mod Frames
 pub mod Lent
 pub mod Object
 pub mod Packed

@@ -109,5 +109,5 @@ pub record Stays {R C : Type 0} {g : Ghosts R} {h : CounterGhosts C} (old new : 
   pub state : new.state ≡ old.state
   pub bounds : new.bounds ≡ old.bounds
   pub tags : new.walk.tags.items ≡ old.walk.tags.items
-  pub frames : new.walk.frames.items ≡ old.walk.frames.items
+  pub frames : new.walk.frames ≡ old.walk.frames
   pub limiter : new.limiter ≡ old.limiter

@@ -3,7 +3,7 @@
 use Rattle.std.specs.Prelude.{◌≡◌, ℕ, ◌+◌, ◌-◌, List, ◌++◌, length, reverse}
 use Rattle.plist_base.specs.Events.{Item}
 use Rattle.plist_binread.specs.declared.table.Bounds.{Bounds}
-use Rattle.plist_binread.specs.declared.walk.Frame.{Frame}
+use Rattle.plist_binread.specs.declared.frames.Frame.{Frame}
 use Rattle.plist_binread.specs.declared.walk.Walk.{Walk}
 use Rattle.plist_binread.specs.Debt.{IsKnown, cached_count, entries_of, owed_by, path_of, steps, weight}
 use Rattle.plist_binread.specs.Unfolding.{unfolding_of}
@@ -18,11 +18,11 @@ cached_in walk = cached_count walk.tags.items
 
 -- the open collections, the innermost one first
 abbrev pub open_in : Walk → List Frame
-open_in walk = reverse walk.frames.items
+open_in walk = reverse walk.frames
 
 -- how many objects aren't open
 abbrev pub room_in : Walk → ℕ
-room_in walk = length walk.tags.items - length walk.frames.items
+room_in walk = length walk.tags.items - length walk.frames
 
 -- it is a walk over a file of these bytes
 abbrev pub IsWalkOf : (bytes : List ℕ) → Bounds → Walk → Type 0
@@ -48,4 +48,4 @@ weight_entering walk = weight (objects_of walk) (open_in walk) + steps (room_in 
 
 -- nothing is open, and no object is held
 abbrev pub IsEmpty : Walk → Type 0
-IsEmpty walk = (length walk.tags.items ≡ 0) × (length walk.frames.items ≡ 0)
+IsEmpty walk = (length walk.tags.items ≡ 0) × (length walk.frames ≡ 0)

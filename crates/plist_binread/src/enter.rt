@@ -16,10 +16,11 @@ ghost use Rattle.plist_binread.specs.Walking.{IsWalkOf, cached_in, objects_of, o
 ghost use Rattle.plist_binread.specs.Failures.{ErrWithin};
 
 use crate::counter::DecodeCounter;
+use crate::frames::Frame;
 use crate::object::{Decoded, decode};
 use crate::packed::{keep, mark, pack, unpack};
 use crate::table::Bounds;
-use crate::walk::{Frame, Walk, push_frame};
+use crate::walk::{Walk, push_frame};
 use plist_base::{Error, ErrorKind, OwnedEvent, Source};
 use std::alloc::Global;
 

@@ -6,32 +6,28 @@ ghost use Rattle.plist_binread.specs.Packed.{is_small_event, unmarked};
 ghost use Rattle.plist_binread.specs.Object.{Object, object_in};
 ghost use Rattle.plist_binread.specs.Unfolding.{Entry};
 ghost use Rattle.plist_binread.specs.Debt.{entries_of, weight};
+ghost use Rattle.plist_binread.specs.Frames.{frame_of};
 ghost use Rattle.plist_binread.specs.Lent.{IsAsked, IsLentAs, PaysTold, EntersChild, small_lent};
 ghost use Rattle.plist_binread.specs.Told.{event_in};
 ghost use Rattle.plist_binread.specs.Walking.{IsWalkOf, cached_in, objects_of, open_in, owed_entering, owed_in, weight_entering};
 
 use crate::child::{Asked, lent_before, near_child};
 use crate::counter::DecodeCounter;
+use crate::frames::Frames;
 use crate::lent::{Lent, decode_lent};
 use crate::packed::{keep, mark};
 use crate::table::Bounds;
 use crate::told::Last;
-use crate::walk::{Frame, Walk};
+use crate::walk::Walk;
 use plist_base::Source;
 
 // Opens a collection of so many children, if there is room.
-fn push_near(frames: &mut Vec<Frame>, object: u64, count: u64) -> bool
-    ensures pushed { result ≡ true → frames.new.items
-        ≡ frames.old.items ++ record { object = object; next = 0; count = count } ∷ [] }
-    ensures unchanged { result ≡ false → frames.new.items ≡ frames.old.items }
+fn push_near(frames: &mut Frames, object: u64, count: u64) -> bool
+    ensures pushed { result ≡ true → frames.new ≡ frames.old ++ frame_of object 0 count ∷ [] }
+    ensures unchanged { result ≡ false → frames.new ≡ frames.old }
     ensures small { count < 2 ^ 64 }
 {
-    let frame = Frame {
-        object,
-        next: 0,
-        count,
-    };
-    frames.push(frame).is_ok()
+    frames.push(object, count).is_ok()
 }
 
 // Keeps what was lent and told where it is a small scalar, and opens it where it is a collection.
@@ -55,7 +51,7 @@ fn open_lent(walk: &mut Walk, number: u64, lent: Lent, last: &Last) -> bool
         × IsWalkOf bytes bounds walk.new }
     ensures unchanged { result ≡ false → (walk.new.tags.items ≡ walk.old.tags.items)
         × (walk.new.contents.items ≡ walk.old.contents.items)
-        × (walk.new.frames.items ≡ walk.old.frames.items) }
+        × (walk.new.frames ≡ walk.old.frames) }
 {
     match lent {
         Lent::Nothing => false,
@@ -108,7 +104,7 @@ fn enter_near<S: Source, C: DecodeCounter>(
         < weight_entering walk.old }
     ensures unchanged { result ≡ false → (walk.new.tags.items ≡ walk.old.tags.items)
         × (walk.new.contents.items ≡ walk.old.contents.items)
-        × (walk.new.frames.items ≡ walk.old.frames.items) }
+        × (walk.new.frames ≡ walk.old.frames) }
 {
     if number >= walk.tags.len() as u64 {
         return false;
@@ -160,7 +156,7 @@ pub fn go_near<S: Source, C: DecodeCounter>(
         < weight_entering walk.old }
     ensures unchanged { result ≡ false → (walk.new.tags.items ≡ walk.old.tags.items)
         × (walk.new.contents.items ≡ walk.old.contents.items)
-        × (walk.new.frames.items ≡ walk.old.frames.items) }
+        × (walk.new.frames ≡ walk.old.frames) }
 {
     match near_child(source, bounds, asked, at, index) {
         Some(number) => enter_near(source, counter, bounds, walk, last, number),

@@ -5,23 +5,14 @@ ghost use Rattle.plist_base.specs.Outcomes.{OnlyMemory};
 ghost use Rattle.std.proofs.Props.{props};
 ghost use Rattle.plist_binread.specs.declared.walk.Turn.TheVariants.{Closed};
 ghost use Rattle.plist_binread.specs.Debt.{IsOpen, entries_of};
+ghost use Rattle.plist_binread.specs.Frames.{frame_of};
 ghost use Rattle.plist_binread.specs.Turning.{CanGiveBack, IsWithin, Lightens, Turns, closes, given_back};
 
+use crate::frames::{Frames, Wanted};
 use crate::packed::unmark;
 use crate::table::Bounds;
 use plist_base::Error;
 use std::alloc::Global;
-
-/// An open collection.
-#[derive(Clone, Copy)]
-pub struct Frame {
-    /// The number of its object.
-    pub object: u64,
-    /// How many of its children have been entered.
-    pub next: u64,
-    /// How many children it has.
-    pub count: u64,
-}
 
 /// What the innermost collection asks for.
 #[derive(Clone, Copy)]
@@ -42,9 +33,9 @@ pub struct Walk {
     /// Of each object its place, or all of a small scalar.
     pub contents: Vec<u64>,
     /// The open collections, the innermost one last.
-    pub frames: Vec<Frame>,
+    pub frames: Frames,
     ghost same: { length contents.items ≡ length tags.items } by { Prim.hlevel props },
-    ghost path: { IsOpen tags.items (reverse frames.items) } by { Prim.hlevel props },
+    ghost path: { IsOpen tags.items (reverse frames) } by { Prim.hlevel props },
 }
 
 impl Walk {
@@ -57,7 +48,7 @@ impl Walk {
         Walk {
             tags: Vec::new(alloc),
             contents: Vec::new(alloc),
-            frames: Vec::new(alloc),
+            frames: Frames::new(alloc),
         }
     }
 
@@ -76,20 +67,14 @@ impl Walk {
         ensures back { CanGiveBack result self.old.tags.items self.new.tags.items
             (open_in self.old) (open_in self.new) }
     {
-        let depth = self.frames.len();
-        if depth == 0 {
-            return Turn::Done;
+        match self.frames.turn() {
+            Wanted::Nothing => Turn::Done,
+            Wanted::End(object) => {
+                unmark(&mut self.tags, object as usize);
+                Turn::Closed
+            }
+            Wanted::Child(object, index) => Turn::Child(object, index),
         }
-        let frame = &mut self.frames[depth - 1];
-        if frame.next < frame.count {
-            let index = frame.next;
-            frame.next += 1;
-            return Turn::Child(frame.object, index);
-        }
-        let object = frame.object;
-        unmark(&mut self.tags, object as usize);
-        let _ = self.frames.pop();
-        Turn::Closed
     }
 
     /// Gives the child back that was taken last.
@@ -98,27 +83,17 @@ impl Walk {
         ensures contents { self.new.contents.items ≡ self.old.contents.items }
         ensures frames { open_in self.new ≡ given_back (open_in self.old) }
     {
-        let depth = self.frames.len();
-        if depth == 0 {
-            return;
-        }
-        let frame = &mut self.frames[depth - 1];
-        frame.next = frame.next.saturating_sub(1);
+        self.frames.give_back();
     }
 }
 
 /// Opens a collection of so many children.
-pub fn push_frame(frames: &mut Vec<Frame>, object: u64, count: u64) -> Result<(), Error>
-    ensures value { OnOk result (frames.new.items
-        ≡ frames.old.items ++ record { object = object; next = 0; count = count } ∷ []) }
+pub fn push_frame(frames: &mut Frames, object: u64, count: u64) -> Result<(), Error>
+    ensures value { OnOk result (frames.new ≡ frames.old ++ frame_of object 0 count ∷ []) }
     ensures small { count < 2 ^ 64 }
     ensures memory { OnlyMemory result }
-    ensures unchanged { OnErr result (frames.new.items ≡ frames.old.items) }
+    ensures unchanged { OnErr result (frames.new ≡ frames.old) }
 {
-    frames.push(Frame {
-        object,
-        next: 0,
-        count,
-    })?;
+    frames.push(object, count)?;
     Ok(())
 }

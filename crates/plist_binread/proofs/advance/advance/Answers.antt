@@ -11,51 +11,51 @@ use Rattle.plist_binread.proofs.advance.advance.Goals as goal
 pub returns-in-Done-clause-known : goal.returns-in-Done-clause-known
 returns-in-Done-clause-known g c =
     known_after (g.S.Source.known c.args.source.now) c.args.bounds.now c.turn.new.self.tags.items
-    c.turn.new.self.contents.items (reverse c.args.walk.now.frames.items)
-    (reverse c.turn.new.self.frames.items) Done
+    c.turn.new.self.contents.items (reverse c.args.walk.now.frames)
+    (reverse c.turn.new.self.frames) Done
     (known_turned (g.S.Source.known c.args.source.now) c.args.bounds.now c.args.walk.now.tags.items
     c.turn.new.self.tags.items c.args.walk.now.contents.items c.turn.new.self.contents.items
-    (reverse c.args.walk.now.frames.items) (reverse c.turn.new.self.frames.items) Done
+    (reverse c.args.walk.now.frames) (reverse c.turn.new.self.frames) Done
     c.requires.known c.in-Done.ensures.owed)
 
 pub returns-in-Done-clause-pays : goal.returns-in-Done-clause-pays
 returns-in-Done-clause-pays g c =
     known_done (g.S.Source.known c.args.source.now) c.args.bounds.now c.turn.new.self.tags.items
-    c.turn.new.self.contents.items (reverse c.args.walk.now.frames.items)
-    (reverse c.turn.new.self.frames.items)
+    c.turn.new.self.contents.items (reverse c.args.walk.now.frames)
+    (reverse c.turn.new.self.frames)
     (known_turned (g.S.Source.known c.args.source.now) c.args.bounds.now c.args.walk.now.tags.items
     c.turn.new.self.tags.items c.args.walk.now.contents.items c.turn.new.self.contents.items
-    (reverse c.args.walk.now.frames.items) (reverse c.turn.new.self.frames.items) Done
+    (reverse c.args.walk.now.frames) (reverse c.turn.new.self.frames) Done
     c.requires.known c.in-Done.ensures.owed)
 
 pub returns-in-Closed-clause-known : goal.returns-in-Closed-clause-known
 returns-in-Closed-clause-known g c =
     known_after (g.S.Source.known c.args.source.now) c.args.bounds.now c.turn.new.self.tags.items
-    c.turn.new.self.contents.items (reverse c.args.walk.now.frames.items)
-    (reverse c.turn.new.self.frames.items) Closed
+    c.turn.new.self.contents.items (reverse c.args.walk.now.frames)
+    (reverse c.turn.new.self.frames) Closed
     (known_turned (g.S.Source.known c.args.source.now) c.args.bounds.now c.args.walk.now.tags.items
     c.turn.new.self.tags.items c.args.walk.now.contents.items c.turn.new.self.contents.items
-    (reverse c.args.walk.now.frames.items) (reverse c.turn.new.self.frames.items) Closed
+    (reverse c.args.walk.now.frames) (reverse c.turn.new.self.frames) Closed
     c.requires.known c.in-Closed.ensures.owed)
 
 pub returns-in-Closed-clause-pays : goal.returns-in-Closed-clause-pays
 returns-in-Closed-clause-pays g c =
     rw c.hold.ensures (known_closed (g.S.Source.known c.args.source.now) c.args.bounds.now
     c.turn.new.self.tags.items c.turn.new.self.contents.items
-    (reverse c.args.walk.now.frames.items) (reverse c.turn.new.self.frames.items)
+    (reverse c.args.walk.now.frames) (reverse c.turn.new.self.frames)
     (known_turned (g.S.Source.known c.args.source.now) c.args.bounds.now c.args.walk.now.tags.items
     c.turn.new.self.tags.items c.args.walk.now.contents.items c.turn.new.self.contents.items
-    (reverse c.args.walk.now.frames.items) (reverse c.turn.new.self.frames.items) Closed
+    (reverse c.args.walk.now.frames) (reverse c.turn.new.self.frames) Closed
     c.requires.known c.in-Closed.ensures.owed))
 
 pub go_near-requires-clause-known : goal.go_near-requires-clause-known
 go_near-requires-clause-known g c =
     known_after (g.S.Source.known c.args.source.now) c.args.bounds.now c.turn.new.self.tags.items
-    c.turn.new.self.contents.items (reverse c.args.walk.now.frames.items)
-    (reverse c.turn.new.self.frames.items) (Child c.in-Child.object c.in-Child.index)
+    c.turn.new.self.contents.items (reverse c.args.walk.now.frames)
+    (reverse c.turn.new.self.frames) (Child c.in-Child.object c.in-Child.index)
     (known_turned (g.S.Source.known c.args.source.now) c.args.bounds.now c.args.walk.now.tags.items
     c.turn.new.self.tags.items c.args.walk.now.contents.items c.turn.new.self.contents.items
-    (reverse c.args.walk.now.frames.items) (reverse c.turn.new.self.frames.items)
+    (reverse c.args.walk.now.frames) (reverse c.turn.new.self.frames)
     (Child c.in-Child.object c.in-Child.index) c.requires.known c.in-Child.ensures.owed)
 
 pub returns-then-go_near-clause-kept : goal.returns-then-go_near-clause-kept
@@ -65,12 +65,12 @@ returns-then-go_near-clause-kept g c =
     let read = get_or_read_under _ c.in-Child.object _ _ 0 c.index-at.ensures h refl in
     known_child_cached (g.S.Source.known c.args.source.now) c.args.bounds.now
     c.turn.new.self.tags.items c.turn.new.self.contents.items c.go_near.new.walk.tags.items
-    (reverse c.args.walk.now.frames.items) (reverse c.turn.new.self.frames.items)
-    (reverse c.go_near.new.walk.frames.items) c.in-Child.object c.in-Child.index _
+    (reverse c.args.walk.now.frames) (reverse c.turn.new.self.frames)
+    (reverse c.go_near.new.walk.frames) c.in-Child.object c.in-Child.index _
     c.in-Child.ensures.within.0 c.in-Child.ensures.within.1
     (known_turned (g.S.Source.known c.args.source.now) c.args.bounds.now c.args.walk.now.tags.items
     c.turn.new.self.tags.items c.args.walk.now.contents.items c.turn.new.self.contents.items
-    (reverse c.args.walk.now.frames.items) (reverse c.turn.new.self.frames.items)
+    (reverse c.args.walk.now.frames) (reverse c.turn.new.self.frames)
     (Child c.in-Child.object c.in-Child.index) c.requires.known c.in-Child.ensures.owed)
     (rw read at (c.go_near.ensures.enters c.if-go_near.true))
 
@@ -81,12 +81,12 @@ returns-then-go_near-clause-pays g c =
     let read = get_or_read_under _ c.in-Child.object _ _ 0 c.index-at.ensures h refl in
     known_child_told (g.S.Source.known c.args.source.now) c.args.bounds.now
     c.turn.new.self.tags.items c.turn.new.self.contents.items c.go_near.new.walk.tags.items
-    (reverse c.args.walk.now.frames.items) (reverse c.turn.new.self.frames.items)
-    (reverse c.go_near.new.walk.frames.items) c.in-Child.object c.in-Child.index _
+    (reverse c.args.walk.now.frames) (reverse c.turn.new.self.frames)
+    (reverse c.go_near.new.walk.frames) c.in-Child.object c.in-Child.index _
     c.in-Child.ensures.within.0 c.in-Child.ensures.within.1
     (known_turned (g.S.Source.known c.args.source.now) c.args.bounds.now c.args.walk.now.tags.items
     c.turn.new.self.tags.items c.args.walk.now.contents.items c.turn.new.self.contents.items
-    (reverse c.args.walk.now.frames.items) (reverse c.turn.new.self.frames.items)
+    (reverse c.args.walk.now.frames) (reverse c.turn.new.self.frames)
     (Child c.in-Child.object c.in-Child.index) c.requires.known c.in-Child.ensures.owed)
     (rw read at (c.go_near.ensures.enters c.if-go_near.true))
 
@@ -98,7 +98,7 @@ returns-then-go_near-clause-falls g c =
         arith,
         e,
         steps_positive
-            (length c.args.walk.now.tags.items - length c.turn.new.self.frames.items),
+            (length c.args.walk.now.tags.items - length c.turn.new.self.frames),
       ),
       omega
           (arith, e, f),
@@ -109,11 +109,11 @@ enter-requires-clause-known g c =
     let same = c.go_near.ensures.unchanged c.if-go_near.false in
     rw (c.in-Ok.ensures.unchanged, same.0, same.1, same.2)
     (known_after (g.S.Source.known c.args.source.now) c.args.bounds.now c.turn.new.self.tags.items
-    c.turn.new.self.contents.items (reverse c.args.walk.now.frames.items)
-    (reverse c.turn.new.self.frames.items) (Child c.in-Child.object c.in-Child.index)
+    c.turn.new.self.contents.items (reverse c.args.walk.now.frames)
+    (reverse c.turn.new.self.frames) (Child c.in-Child.object c.in-Child.index)
     (known_turned (g.S.Source.known c.args.source.now) c.args.bounds.now c.args.walk.now.tags.items
     c.turn.new.self.tags.items c.args.walk.now.contents.items c.turn.new.self.contents.items
-    (reverse c.args.walk.now.frames.items) (reverse c.turn.new.self.frames.items)
+    (reverse c.args.walk.now.frames) (reverse c.turn.new.self.frames)
     (Child c.in-Child.object c.in-Child.index) c.requires.known c.in-Child.ensures.owed))
 
 pub returns-in-Err-clause-known : goal.returns-in-Err-clause-known
@@ -121,18 +121,18 @@ returns-in-Err-clause-known g c =
     let same = c.go_near.ensures.unchanged c.if-go_near.false in
     rw (same.0, same.1, same.2)
     (known_after (g.S.Source.known c.args.source.now) c.args.bounds.now c.turn.new.self.tags.items
-    c.turn.new.self.contents.items (reverse c.args.walk.now.frames.items)
-    (reverse c.turn.new.self.frames.items) (Child c.in-Child.object c.in-Child.index)
+    c.turn.new.self.contents.items (reverse c.args.walk.now.frames)
+    (reverse c.turn.new.self.frames) (Child c.in-Child.object c.in-Child.index)
     (known_turned (g.S.Source.known c.args.source.now) c.args.bounds.now c.args.walk.now.tags.items
     c.turn.new.self.tags.items c.args.walk.now.contents.items c.turn.new.self.contents.items
-    (reverse c.args.walk.now.frames.items) (reverse c.turn.new.self.frames.items)
+    (reverse c.args.walk.now.frames) (reverse c.turn.new.self.frames)
     (Child c.in-Child.object c.in-Child.index) c.requires.known c.in-Child.ensures.owed))
 
 pub returns-in-Err-clause-kept : goal.returns-in-Err-clause-kept
 returns-in-Err-clause-kept g c =
     known_fault_kept (g.S.Source.known c.args.source.now)
     (λ bytes. next_number (entries_of bytes c.args.bounds.now)
-    (reverse c.args.walk.now.frames.items)) c.go_near.new.walk.tags.items c.in-Err.error _
+    (reverse c.args.walk.now.frames)) c.go_near.new.walk.tags.items c.in-Err.error _
 
 pub returns-in-Err-clause-falls : goal.returns-in-Err-clause-falls
 returns-in-Err-clause-falls g c =
@@ -141,7 +141,7 @@ returns-in-Err-clause-falls g c =
         arith,
         e,
         steps_positive
-            (length c.args.walk.now.tags.items - length c.turn.new.self.frames.items),
+            (length c.args.walk.now.tags.items - length c.turn.new.self.frames),
       ),
       tt,
     )
@@ -153,12 +153,12 @@ returns-in-Err-clause-pays g c =
     let read = get_or_read_under _ c.in-Child.object _ _ 0 c.index-at.ensures h refl in
     known_child_failed (g.S.Source.known c.args.source.now) c.args.bounds.now
     c.turn.new.self.tags.items c.turn.new.self.contents.items
-    (reverse c.args.walk.now.frames.items) (reverse c.turn.new.self.frames.items)
+    (reverse c.args.walk.now.frames) (reverse c.turn.new.self.frames)
     c.in-Child.object c.in-Child.index c.in-Err.error c.in-Child.ensures.within.0
     c.in-Child.ensures.within.1
     (known_turned (g.S.Source.known c.args.source.now) c.args.bounds.now c.args.walk.now.tags.items
     c.turn.new.self.tags.items c.args.walk.now.contents.items c.turn.new.self.contents.items
-    (reverse c.args.walk.now.frames.items) (reverse c.turn.new.self.frames.items)
+    (reverse c.args.walk.now.frames) (reverse c.turn.new.self.frames)
     (Child c.in-Child.object c.in-Child.index) c.requires.known c.in-Child.ensures.owed)
     (rw read at c.in-Err.ensures.child)
 
@@ -171,7 +171,7 @@ returns-in-Ok-clause-falls g c =
       arith,
       e,
       steps_positive
-          (length c.args.walk.now.tags.items - length c.turn.new.self.frames.items),
+          (length c.args.walk.now.tags.items - length c.turn.new.self.frames),
     ))
     (on_ok_weaker c.enter.result (λ h. omega (arith, e, rw c.turn.ensures.size at h))
     (rw (same.0, same.2) at c.enter.ensures.falls))
@@ -184,19 +184,19 @@ returns-in-Ok-clause-pays g c =
     let same = c.go_near.ensures.unchanged c.if-go_near.false in
     told_pays (g.S.Source.known c.args.source.now)
     (λ bytes. owed_by (entries_of bytes c.args.bounds.now)
-    (reverse c.args.walk.now.frames.items))
+    (reverse c.args.walk.now.frames))
     (λ bytes. owed_by (entries_of bytes c.args.bounds.now)
-    (reverse c.enter.new.walk.frames.items)) c.enter.result c.tell.result _ c.tell.ensures
+    (reverse c.enter.new.walk.frames)) c.enter.result c.tell.result _ c.tell.ensures
     (known_child_entered (g.S.Source.known c.args.source.now)
     (g.S.Source.known c.read_child.new.source) c.args.bounds.now c.turn.new.self.tags.items
-    c.turn.new.self.contents.items (reverse c.args.walk.now.frames.items)
-    (reverse c.turn.new.self.frames.items) (reverse c.enter.new.walk.frames.items)
-    (length c.turn.new.self.frames.items) c.in-Child.object c.in-Child.index c.in-Ok.number
-    c.enter.result c.in-Ok.ensures.unchanged (sym (length-reverse c.turn.new.self.frames.items))
+    c.turn.new.self.contents.items (reverse c.args.walk.now.frames)
+    (reverse c.turn.new.self.frames) (reverse c.enter.new.walk.frames)
+    (length c.turn.new.self.frames) c.in-Child.object c.in-Child.index c.in-Ok.number
+    c.enter.result c.in-Ok.ensures.unchanged (sym (length-reverse c.turn.new.self.frames))
     c.in-Child.ensures.within.0 c.in-Child.ensures.within.1
     (known_turned (g.S.Source.known c.args.source.now) c.args.bounds.now c.args.walk.now.tags.items
     c.turn.new.self.tags.items c.args.walk.now.contents.items c.turn.new.self.contents.items
-    (reverse c.args.walk.now.frames.items) (reverse c.turn.new.self.frames.items)
+    (reverse c.args.walk.now.frames) (reverse c.turn.new.self.frames)
     (Child c.in-Child.object c.in-Child.index) c.requires.known c.in-Child.ensures.owed)
     (rw read at c.in-Ok.ensures.child) (rw (read, same.0, same.2) at c.enter.ensures.pays))
 
@@ -207,17 +207,17 @@ returns-in-Ok-clause-kept g c =
     let read = get_or_read_under _ c.in-Child.object _ _ 0 c.index-at.ensures h refl in
     told_kept (g.S.Source.known c.args.source.now)
     (λ bytes. next_number (entries_of bytes c.args.bounds.now)
-    (reverse c.args.walk.now.frames.items)) c.enter.new.walk.tags.items c.enter.result
+    (reverse c.args.walk.now.frames)) c.enter.new.walk.tags.items c.enter.result
     c.tell.result _ c.tell.ensures
     (known_child_kept (g.S.Source.known c.args.source.now)
     (g.S.Source.known c.read_child.new.source) c.args.bounds.now c.turn.new.self.tags.items
     c.turn.new.self.contents.items c.enter.new.walk.tags.items
-    (reverse c.args.walk.now.frames.items) (reverse c.turn.new.self.frames.items)
+    (reverse c.args.walk.now.frames) (reverse c.turn.new.self.frames)
     c.in-Child.object c.in-Child.index c.in-Ok.number (Some c.enter.result)
     c.in-Ok.ensures.unchanged c.in-Child.ensures.within.0 c.in-Child.ensures.within.1
     (known_turned (g.S.Source.known c.args.source.now) c.args.bounds.now c.args.walk.now.tags.items
     c.turn.new.self.tags.items c.args.walk.now.contents.items c.turn.new.self.contents.items
-    (reverse c.args.walk.now.frames.items) (reverse c.turn.new.self.frames.items)
+    (reverse c.args.walk.now.frames) (reverse c.turn.new.self.frames)
     (Child c.in-Child.object c.in-Child.index) c.requires.known c.in-Child.ensures.owed)
     (rw read at c.in-Ok.ensures.child) c.enter.ensures.kept)
 

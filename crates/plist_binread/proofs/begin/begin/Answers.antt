@@ -12,7 +12,7 @@ returns-in_err-table-clause-pays g c =
     let p = err_from_is_err_and c.from_residual.result c.from_residual.ensures.1 in
     rw (p.1, p.2) (known_unread (g.S.Source.known c.args.source.now) c.in_err-table.field-0.0
     (λ bytes. owed_by (entries_of bytes c.args.bounds.now)
-    (reverse c.args.walk.now.frames.items)) c.in_err-table.ensures.refused)
+    (reverse c.args.walk.now.frames)) c.in_err-table.ensures.refused)
 
 pub returns-in_err-none-clause-pays : goal.returns-in_err-none-clause-pays
 returns-in_err-none-clause-pays g c =
@@ -20,7 +20,7 @@ returns-in_err-none-clause-pays g c =
     c.from_residual-in_err-none.ensures.1 in
     rw (p.1, p.2) (known_wanted (g.S.Source.known c.args.source.now) c.in_err-none.field-0.0
     (λ bytes. owed_by (entries_of bytes c.args.bounds.now)
-    (reverse c.args.walk.now.frames.items)) c.in_err-none.ensures.memory)
+    (reverse c.args.walk.now.frames)) c.in_err-none.ensures.memory)
 
 pub invariant_of-walk : goal.invariant_of-walk
 invariant_of-walk g c = record {
@@ -32,7 +32,7 @@ invariant_of-walk g c = record {
 pub enter-requires-clause-known : goal.enter-requires-clause-known
 enter-requires-clause-known g c =
     known_opens (g.S.Source.known c.args.source.now) (g.S.Source.known c.read.new.source)
-    c.in_ok-table.table _ c.in_ok-none.none.items c.len.result c.args.walk.now.frames.items
+    c.in_ok-table.table _ c.in_ok-none.none.items c.len.result c.args.walk.now.frames
     c.in_ok-table.ensures.unchanged c.in_ok-table.ensures.value c.in_ok-table.ensures.within
     refl refl c.in_ok-none.ensures.tags (c.len.ensures ∙ c.in_ok-table.table.places.ok.0)
     c.requires.empty.1
@@ -53,8 +53,8 @@ returns-clause-pays g c =
       small = omega arith;
     } in
     known_begun (g.S.Source.known c.args.source.now) (g.S.Source.known c.read.new.source)
-    c.in_ok-table.table bounds c.in_ok-none.none.items c.args.walk.now.frames.items
-    c.enter.new.walk.frames.items c.enter.result c.in_ok-table.ensures.unchanged
+    c.in_ok-table.table bounds c.in_ok-none.none.items c.args.walk.now.frames
+    c.enter.new.walk.frames c.enter.result c.in_ok-table.ensures.unchanged
     c.requires.empty.1
     (ap length c.in_ok-none.ensures.tags ∙ length-replicate c.len.result 0 ∙ c.len.ensures
     ∙ c.in_ok-table.table.places.ok.0) refl refl c.in_ok-table.ensures.value

@@ -10,14 +10,14 @@ returns-in-Scalar-clause-falls g c =
     omega (
       arith,
       steps_positive (length c.args.walk.now.tags.items - length
-          c.args.walk.now.frames.items),
+          c.args.walk.now.frames),
     )
 
 pub returns-in-Scalar-clause-pays : goal.returns-in-Scalar-clause-pays
 returns-in-Scalar-clause-pays g c =
     known_scalar _ c.args.bounds.now c.args.walk.now.tags.items c.args.walk.now.contents.items
-    (reverse c.args.walk.now.frames.items) _ c.args.at c.args.number c.in-Scalar.event
-    (sym (length-reverse c.args.walk.now.frames.items)) c.args.walk.now.path c.requires.known
+    (reverse c.args.walk.now.frames) _ c.args.at c.args.number c.in-Scalar.event
+    (sym (length-reverse c.args.walk.now.frames)) c.args.walk.now.path c.requires.known
     (rw c.as_slice.ensures.value at c.in_ok-event.ensures.below)
     (rw c.as_slice.ensures.value at c.in_ok-event.ensures.new)
     (rw (c.in-Scalar.is, c.as_slice.ensures.value, c.as_slice-2.ensures.value) at
@@ -28,9 +28,9 @@ returns-in_err-decoded-in-Place-clause-pays g c =
     let p = err_from_is_err_and c.from_residual-in_err-decoded-in-Place.result
     c.from_residual-in_err-decoded-in-Place.ensures.1 in
     rw (p.1, p.2) (known_refused _ c.args.bounds.now c.args.walk.now.tags.items
-    c.args.walk.now.contents.items (reverse c.args.walk.now.frames.items)
-    (reverse c.args.walk.now.frames.items) _ c.args.at c.args.number c.in-Place.place _
-    (sym (length-reverse c.args.walk.now.frames.items)) c.args.walk.now.path c.requires.known
+    c.args.walk.now.contents.items (reverse c.args.walk.now.frames)
+    (reverse c.args.walk.now.frames) _ c.args.at c.args.number c.in-Place.place _
+    (sym (length-reverse c.args.walk.now.frames)) c.args.walk.now.path c.requires.known
     (rw c.as_slice.ensures.value at c.in_ok-event.ensures.below)
     (rw c.as_slice.ensures.value at c.in_ok-event.ensures.new)
     (rw (c.in-Place.is, c.as_slice.ensures.value, c.as_slice-2.ensures.value) at
@@ -40,8 +40,8 @@ pub returns-in_ok-decoded-in-Place-clause-known : goal.returns-in_ok-decoded-in-
 returns-in_ok-decoded-in-Place-clause-known g c =
     known_entered _ c.args.bounds.now c.args.walk.now.tags.items c.args.walk.now.contents.items
     c.open.new.walk.tags.items c.open.new.walk.contents.items
-    (reverse c.args.walk.now.frames.items) (reverse c.open.new.walk.frames.items)
-    (length c.args.walk.now.frames.items) c.args.at c.args.number c.in-Place.place
+    (reverse c.args.walk.now.frames) (reverse c.open.new.walk.frames)
+    (length c.args.walk.now.frames) c.args.at c.args.number c.in-Place.place
     c.in_ok-decoded-in-Place.decoded c.open.result c.requires.known
     (rw c.as_slice.ensures.value at c.in_ok-event.ensures.below)
     (rw (c.in-Place.is, c.as_slice.ensures.value, c.as_slice-2.ensures.value) at
@@ -51,8 +51,8 @@ pub returns-in_ok-decoded-in-Place-clause-pays : goal.returns-in_ok-decoded-in-P
 returns-in_ok-decoded-in-Place-clause-pays g c =
     known_entered_pays _ c.args.bounds.now c.args.walk.now.tags.items c.args.walk.now.contents.items
     c.open.new.walk.tags.items c.open.new.walk.contents.items
-    (reverse c.args.walk.now.frames.items) (reverse c.open.new.walk.frames.items)
-    (length c.args.walk.now.frames.items) c.args.at c.args.number c.in-Place.place
+    (reverse c.args.walk.now.frames) (reverse c.open.new.walk.frames)
+    (length c.args.walk.now.frames) c.args.at c.args.number c.in-Place.place
     c.in_ok-decoded-in-Place.decoded c.open.result c.requires.known
     (rw c.as_slice.ensures.value at c.in_ok-event.ensures.below)
     (rw (c.in-Place.is, c.as_slice.ensures.value, c.as_slice-2.ensures.value) at
@@ -61,5 +61,5 @@ returns-in_ok-decoded-in-Place-clause-pays g c =
 pub returns-in_ok-decoded-in-Place-clause-kept : goal.returns-in_ok-decoded-in-Place-clause-kept
 returns-in_ok-decoded-in-Place-clause-kept g c =
     known_kept_by _ c.args.bounds.now c.args.walk.now.tags.items c.args.walk.now.contents.items
-    (reverse c.args.walk.now.frames.items) c.in-Place.place c.in_ok-decoded-in-Place.decoded _
+    (reverse c.args.walk.now.frames) c.in-Place.place c.in_ok-decoded-in-Place.decoded _
     c.requires.known c.in_ok-decoded-in-Place.ensures.decoded c.open.ensures.kept

@@ -23,7 +23,7 @@ returns-in-Some-clause-falls c =
     omega (
       arith,
       steps_positive (length c.args.walk.now.tags.items - length
-          c.args.walk.now.frames.items),
+          c.args.walk.now.frames),
     )
 
 pub returns-in-Some-clause-pays : goal.returns-in-Some-clause-pays
@@ -31,7 +31,7 @@ returns-in-Some-clause-pays c = λ bytes bounds entry at k is decoded.
     let scalar = rw c.in-Scalar.is at decoded in (
       pays_scalar (entries_of bytes bounds) c.args.walk.now.tags.items
           (as_many bytes bounds _ _ _ k) _ _ at c.args.number entry
-          (sym (length-reverse c.args.walk.now.frames.items)) c.args.walk.now.path c.requires.below
+          (sym (length-reverse c.args.walk.now.frames)) c.args.walk.now.path c.requires.below
           is (sym (c.args.walk.now.path.marks c.args.number c.requires.below)
           ∙ ap is_marked c.requires.new) (event_of c.in-Scalar.event) scalar,
       rw c.keep.ensures.contents (known_kept bytes bounds c.args.walk.now.tags.items
@@ -46,13 +46,13 @@ returns-in-None-clause-falls c =
     omega (
       arith,
       steps_positive (length c.args.walk.now.tags.items - length
-          c.args.walk.now.frames.items),
+          c.args.walk.now.frames),
     )
 
 pub returns-in-None-clause-pays : goal.returns-in-None-clause-pays
 returns-in-None-clause-pays c = λ bytes bounds entry at k is decoded. (
   pays_scalar (entries_of bytes bounds) c.args.walk.now.tags.items (as_many bytes bounds _ _ _ k)
-      _ _ at c.args.number entry (sym (length-reverse c.args.walk.now.frames.items))
+      _ _ at c.args.number entry (sym (length-reverse c.args.walk.now.frames))
       c.args.walk.now.path c.requires.below is
       (sym (c.args.walk.now.path.marks c.args.number c.requires.below)
       ∙ ap is_marked c.requires.new) (event_of c.in-Scalar.event) (rw c.in-Scalar.is at decoded),
@@ -64,7 +64,7 @@ returns-in_err-push_frame-in-Collection-clause-pays c = λ bytes bounds entry at
     let p = err_from_is_err_and c.from_residual.result c.from_residual.ensures.1 in (
       rw (p.1, p.2) (pays_refused (entries_of bytes bounds) c.args.walk.now.tags.items
           (as_many bytes bounds _ _ _ k) _ _ at c.args.number entry
-          (sym (length-reverse c.args.walk.now.frames.items)) c.args.walk.now.path c.requires.below
+          (sym (length-reverse c.args.walk.now.frames)) c.args.walk.now.path c.requires.below
           is (sym (c.args.walk.now.path.marks c.args.number c.requires.below)
           ∙ ap is_marked c.requires.new) _
           (refused_memory entry.object entry.place _ (event_of c.in-Collection.start)
@@ -97,7 +97,7 @@ pub returns-in_ok-push_frame-in-Collection-clause-falls : goal.returns-in_ok-pus
 returns-in_ok-push_frame-in-Collection-clause-falls c =
     rw (reverse-push _ _ _ c.in_ok-push_frame-in-Collection.ensures.value)
     (start_falls (length c.args.walk.now.tags.items) _ (c.in-Collection.count - 0)
-    (reverse c.args.walk.now.frames.items) (sym (length-reverse c.args.walk.now.frames.items))
+    (reverse c.args.walk.now.frames) (sym (length-reverse c.args.walk.now.frames))
     (has_room c.args.walk.now.tags.items c.args.number _ c.args.walk.now.path c.requires.below
     (sym (c.args.walk.now.path.marks c.args.number c.requires.below)
     ∙ ap is_marked c.requires.new))
@@ -108,7 +108,7 @@ returns-in_ok-push_frame-in-Collection-clause-pays c = λ bytes bounds entry at 
     let collection = rw c.in-Collection.is at decoded in (
       pays_collection (entries_of bytes bounds) c.args.walk.now.tags.items
           (as_many bytes bounds _ _ _ k) _ _ at c.args.number entry
-          (sym (length-reverse c.args.walk.now.frames.items)) c.args.walk.now.path c.requires.below
+          (sym (length-reverse c.args.walk.now.frames)) c.args.walk.now.path c.requires.below
           is (sym (c.args.walk.now.path.marks c.args.number c.requires.below)
           ∙ ap is_marked c.requires.new) (event_of c.in-Collection.start) _ _
           (reverse-push _ _ _ c.in_ok-push_frame-in-Collection.ensures.value) refl refl collection,

@@ -18,8 +18,8 @@ returns-then-held-ne0-clause-pays g c = λ yes.
     let some : 0 < c.index-held.result.now % 128 = omega
     (arith, c.if-held-ge128.false, c.if-held-ne0.true) in
     known_recalled (g.S.Source.known c.args.source.now) c.args.bounds.now c.args.walk.now.tags.items
-    c.args.walk.now.contents.items (reverse c.args.walk.now.frames.items) _ c.args.number _
-    (sym (length-reverse c.args.walk.now.frames.items)) c.args.walk.now.path c.requires.known h
+    c.args.walk.now.contents.items (reverse c.args.walk.now.frames) _ c.args.number _
+    (sym (length-reverse c.args.walk.now.frames)) c.args.walk.now.path c.requires.known h
     (rw tag at free) (rw tag at some) (rw (tag, content) at (c.recall.ensures yes))
 
 pub returns-then-held-ne0-clause-falls : goal.returns-then-held-ne0-clause-falls
@@ -27,7 +27,7 @@ returns-then-held-ne0-clause-falls g c =
     λ _. omega (
       arith,
       steps_positive
-          (length c.args.walk.now.tags.items - length c.args.walk.now.frames.items),
+          (length c.args.walk.now.tags.items - length c.args.walk.now.frames),
     )
 
 pub returns-clause-known : goal.returns-clause-known
@@ -41,13 +41,13 @@ returns-clause-known g c = λ yes.
     let none : c.index-held.result.now % 128 ≡ 0 = omega (arith, c.if-held-ne0.false) in
     let there = known_lent (g.S.Source.known c.args.source.now) c.args.bounds.now
     c.args.walk.now.tags.items c.args.walk.now.contents.items
-    (reverse c.args.walk.now.frames.items) c.args.number c.index-content.result.now
+    (reverse c.args.walk.now.frames) c.args.number c.index-content.result.now
     c.lent_before-seen.result.now _ c.decode_lent-lent.result c.requires.known h
     (rw tag at none, content) c.lent_before-seen.ensures.bytes c.decode_lent-lent.ensures.lent
     in
     let gains = known_gains (g.S.Source.known c.args.source.now) c.args.bounds.now
     c.args.walk.now.tags.items c.args.walk.now.contents.items
-    (reverse c.args.walk.now.frames.items) c.args.number _ c.decode_lent-lent.result _ _
+    (reverse c.args.walk.now.frames) c.args.number _ c.decode_lent-lent.result _ _
     c.requires.known there (c.open_lent.ensures.pays yes) in
     second (g.S.Source.known c.args.source.now) _ _ gains
 
@@ -62,13 +62,13 @@ returns-clause-pays g c = λ yes.
     let none : c.index-held.result.now % 128 ≡ 0 = omega (arith, c.if-held-ne0.false) in
     let there = known_lent (g.S.Source.known c.args.source.now) c.args.bounds.now
     c.args.walk.now.tags.items c.args.walk.now.contents.items
-    (reverse c.args.walk.now.frames.items) c.args.number c.index-content.result.now
+    (reverse c.args.walk.now.frames) c.args.number c.index-content.result.now
     c.lent_before-seen.result.now _ c.decode_lent-lent.result c.requires.known h
     (rw tag at none, content) c.lent_before-seen.ensures.bytes c.decode_lent-lent.ensures.lent
     in
     let gains = known_gains (g.S.Source.known c.args.source.now) c.args.bounds.now
     c.args.walk.now.tags.items c.args.walk.now.contents.items
-    (reverse c.args.walk.now.frames.items) c.args.number _ c.decode_lent-lent.result _ _
+    (reverse c.args.walk.now.frames) c.args.number _ c.decode_lent-lent.result _ _
     c.requires.known there (c.open_lent.ensures.pays yes) in
     first (g.S.Source.known c.args.source.now) _ _ gains
 
@@ -83,7 +83,7 @@ returns-clause-kept g c = λ yes.
     let none : c.index-held.result.now % 128 ≡ 0 = omega (arith, c.if-held-ne0.false) in
     let there = known_lent (g.S.Source.known c.args.source.now) c.args.bounds.now
     c.args.walk.now.tags.items c.args.walk.now.contents.items
-    (reverse c.args.walk.now.frames.items) c.args.number c.index-content.result.now
+    (reverse c.args.walk.now.frames) c.args.number c.index-content.result.now
     c.lent_before-seen.result.now _ c.decode_lent-lent.result c.requires.known h
     (rw tag at none, content) c.lent_before-seen.ensures.bytes c.decode_lent-lent.ensures.lent
     in

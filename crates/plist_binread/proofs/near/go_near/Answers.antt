@@ -7,7 +7,7 @@ pub returns-in-Some-clause-enters : goal.returns-in-Some-clause-enters
 returns-in-Some-clause-enters g c = λ yes.
     known_goes (g.S.Source.known c.args.source.now) c.args.bounds.now c.args.walk.now.tags.items
     c.args.walk.now.contents.items c.enter_near.new.walk.tags.items
-    (reverse c.args.walk.now.frames.items) (reverse c.enter_near.new.walk.frames.items) _
+    (reverse c.args.walk.now.frames) (reverse c.enter_near.new.walk.frames) _
     c.args.at c.args.index c.in-Some.number _
-    (sym (length-reverse c.args.walk.now.frames.items)) c.requires.known c.in-Some.ensures.child
+    (sym (length-reverse c.args.walk.now.frames)) c.requires.known c.in-Some.ensures.child
     (c.enter_near.ensures.kept yes) (c.enter_near.ensures.pays yes)

@@ -22,7 +22,7 @@ returns-in-Some-clause-falls c =
     λ _. omega (
       arith,
       steps_positive
-          (length c.args.walk.now.tags.items - length c.args.walk.now.frames.items),
+          (length c.args.walk.now.tags.items - length c.args.walk.now.frames),
     )
 
 pub returns-in-Some-clause-pays : goal.returns-in-Some-clause-pays
@@ -30,7 +30,7 @@ returns-in-Some-clause-pays c = λ _ bytes bounds entry k is decoded.
     let scalar = rw c.in-Scalar.is at decoded in (
       (λ at. pays_scalar (entries_of bytes bounds) c.args.walk.now.tags.items
           (as_many bytes bounds _ _ _ k) _ _ at c.args.number entry
-          (sym (length-reverse c.args.walk.now.frames.items)) c.args.walk.now.path c.requires.below
+          (sym (length-reverse c.args.walk.now.frames)) c.args.walk.now.path c.requires.below
           is (sym (c.args.walk.now.path.marks c.args.number c.requires.below)
           ∙ ap is_marked c.requires.new) (event_in c.args.last.now) scalar),
       rw c.keep.ensures.contents (known_kept bytes bounds c.args.walk.now.tags.items
@@ -46,14 +46,14 @@ returns-in-None-clause-falls c =
     λ _. omega (
       arith,
       steps_positive
-          (length c.args.walk.now.tags.items - length c.args.walk.now.frames.items),
+          (length c.args.walk.now.tags.items - length c.args.walk.now.frames),
     )
 
 pub returns-in-None-clause-pays : goal.returns-in-None-clause-pays
 returns-in-None-clause-pays c = λ _ bytes bounds entry k is decoded. (
   (λ at. pays_scalar (entries_of bytes bounds) c.args.walk.now.tags.items
       (as_many bytes bounds _ _ _ k) _ _ at c.args.number entry
-      (sym (length-reverse c.args.walk.now.frames.items)) c.args.walk.now.path c.requires.below is
+      (sym (length-reverse c.args.walk.now.frames)) c.args.walk.now.path c.requires.below is
       (sym (c.args.walk.now.path.marks c.args.number c.requires.below)
       ∙ ap is_marked c.requires.new) (event_in c.args.last.now) (rw c.in-Scalar.is at decoded)),
   k,
@@ -83,7 +83,7 @@ pub returns-then-push_near-clause-falls : goal.returns-then-push_near-clause-fal
 returns-then-push_near-clause-falls c = λ _.
     rw (reverse-push _ _ _ (c.push_near.ensures.pushed c.if-push_near.true))
     (start_falls (length c.args.walk.now.tags.items) _ (c.in-Collection.count - 0)
-    (reverse c.args.walk.now.frames.items) (sym (length-reverse c.args.walk.now.frames.items))
+    (reverse c.args.walk.now.frames) (sym (length-reverse c.args.walk.now.frames))
     (has_room c.args.walk.now.tags.items c.args.number _ c.args.walk.now.path c.requires.below
     (sym (c.args.walk.now.path.marks c.args.number c.requires.below)
     ∙ ap is_marked c.requires.new)) (omega (arith, c.push_near.ensures.small)))
@@ -93,7 +93,7 @@ returns-then-push_near-clause-pays c = λ _ bytes bounds entry k is lent.
     let collection = rw c.in-Collection.is at lent in (
       (λ at. pays_collection (entries_of bytes bounds) c.args.walk.now.tags.items
           (as_many bytes bounds _ _ _ k) _ _ at c.args.number entry
-          (sym (length-reverse c.args.walk.now.frames.items)) c.args.walk.now.path c.requires.below
+          (sym (length-reverse c.args.walk.now.frames)) c.args.walk.now.path c.requires.below
           is (sym (c.args.walk.now.path.marks c.args.number c.requires.below)
           ∙ ap is_marked c.requires.new) (event_in c.args.last.now) _ _
           (reverse-push _ _ _ (c.push_near.ensures.pushed c.if-push_near.true)) refl refl

@@ -13,7 +13,7 @@ returns-in-Walking-clause-tells g c = λ yes.
     record {
       unchanged = refl;
       items = near-told (g.R.Source.known (source_of old)) old.state old.bounds
-          old.walk.frames.items new.walk.frames.items old.limiter (event_in new.last)
+          old.walk.frames new.walk.frames old.limiter (event_in new.last)
           c.in-Walking.is c.in-None.is (c.advance_near.ensures.pays yes);
       failures = refl;
       ended = λ e. (let f = c.in-Walking.is in absurd (cc));
@@ -23,7 +23,7 @@ returns-in-Walking-clause-tells g c = λ yes.
       closes = λ h. c.advance_near.ensures.closes yes
           (rw c.in-Walking.is at (walk-closes old.limiter (walk_closes old) h));
       head = holds_head _ old.bounds new.walk.tags.items new.walk.contents.items
-          (reverse new.walk.frames.items) _ c.advance_near.ensures.known;
+          (reverse new.walk.frames) _ c.advance_near.ensures.known;
       nested = nested _ _ _ new.walk.path (rw c.advance_near.ensures.size old.bounded);
       cached = rw c.in-Walking.is (c.advance_near.ensures.kept yes);
       marked = new.walk.path;

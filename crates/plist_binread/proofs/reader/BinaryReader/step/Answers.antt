@@ -15,7 +15,7 @@ pub returns-in-Ended-clause-walks : goal.returns-in-Ended-clause-walks
 returns-in-Ended-clause-walks g c = record {
   unchanged = refl;
   items = rw c.in-Ended.is (nothing_ended _ c.args.self.now.bounds
-      c.args.self.now.walk.frames.items);
+      c.args.self.now.walk.frames);
   failures = refl;
   ended = λ _. refl;
   ends = c.in-Ended.is;
@@ -38,7 +38,7 @@ returns-in-Ok-clause-walks g c = record {
   unchanged = c.begin.ensures.unchanged;
   items = rw c.in-Fresh.is (told_event _ true items_of_file
       (λ bytes. until_fault (owed_by (entries_of bytes c.begin.new.bounds)
-      (reverse c.begin.new.walk.frames.items))) c.in-Ok.event _ c.hold.ensures
+      (reverse c.begin.new.walk.frames))) c.in-Ok.event _ c.hold.ensures
       c.in-Ok.ensures.pays);
   failures = c.in-Ok.ensures.failures;
   ended = λ e. (let f = c.in-Fresh.is in absurd (cc));
@@ -47,7 +47,7 @@ returns-in-Ok-clause-walks g c = record {
   faults = tt;
   closes = λ e. absurd (closes-fresh _ _ c.in-Fresh.is e);
   head = holds_head _ c.begin.new.bounds c.begin.new.walk.tags.items c.begin.new.walk.contents.items
-      (reverse c.begin.new.walk.frames.items) _ c.in-Ok.ensures.known;
+      (reverse c.begin.new.walk.frames) _ c.in-Ok.ensures.known;
   nested = nested _ _ _ c.begin.new.walk.path c.begin.ensures.bounded;
   cached = rw c.in-Fresh.is (kept_told _ (λ bytes. root_with (head_of bytes))
       c.begin.new.walk.tags.items c.in-Ok.event _ c.hold.ensures c.in-Ok.ensures.kept);
@@ -55,8 +55,8 @@ returns-in-Ok-clause-walks g c = record {
   counted = c.begin.ensures.counted;
   lists = lists _ _ _ _ c.begin.new.walk.path c.begin.new.walk.same c.begin.ensures.bounded;
   falls = fresh_falls c.args.self.now.state (length c.begin.new.walk.tags.items)
-      (length c.args.self.now.walk.tags.items) c.args.self.now.walk.frames.items
-      c.begin.new.walk.frames.items c.in-Fresh.is c.in-Ok.ensures.falls
+      (length c.args.self.now.walk.tags.items) c.args.self.now.walk.frames
+      c.begin.new.walk.frames c.in-Fresh.is c.in-Ok.ensures.falls
       (omega (arith, c.begin.new.walk.tags.ok, c.begin.new.walk.tags.small));
 }
 
@@ -64,9 +64,9 @@ pub returns-in-Err-clause-walks : goal.returns-in-Err-clause-walks
 returns-in-Err-clause-walks g c = record {
   unchanged = c.begin.ensures.unchanged;
   items = rw c.in-Fresh.is (first_fault _ c.args.self.now.bounds c.begin.new.bounds
-      c.args.self.now.walk.frames.items c.begin.new.walk.frames.items
+      c.args.self.now.walk.frames c.begin.new.walk.frames
       (λ bytes. owed_by (entries_of bytes c.begin.new.bounds)
-      (reverse c.begin.new.walk.frames.items)) _ c.in-Err.ensures.pays);
+      (reverse c.begin.new.walk.frames)) _ c.in-Err.ensures.pays);
   failures = c.in-Err.ensures.failures;
   ended = λ e. (let f = c.in-Fresh.is in absurd (cc));
   ends = refl;
@@ -95,7 +95,7 @@ returns-in-Some-Ok-clause-walks g c = record {
   closes = λ e. (rw c.in-Some-Ok.field-0-is at c.in-Some-Ok.ensures.closes)
       (rw c.in-Walking.is at e);
   head = holds_head _ c.args.self.now.bounds c.advance.new.walk.tags.items
-      c.advance.new.walk.contents.items (reverse c.advance.new.walk.frames.items) _
+      c.advance.new.walk.contents.items (reverse c.advance.new.walk.frames) _
       c.advance.ensures.known;
   nested = nested _ _ _ c.advance.new.walk.path (rw c.advance.ensures.size c.args.self.now.bounded);
   cached = rw c.in-Walking.is (rw c.in-Some-Ok.field-0-is at c.in-Some-Ok.ensures.kept);
@@ -110,8 +110,8 @@ returns-in-Some-Ok-clause-walks g c = record {
 pub returns-in-Some-Err-clause-walks : goal.returns-in-Some-Err-clause-walks
 returns-in-Some-Err-clause-walks g c = record {
   unchanged = c.advance.ensures.unchanged;
-  items = rw c.in-Walking.is (step_fault _ c.args.self.now.bounds c.args.self.now.walk.frames.items
-      c.advance.new.walk.frames.items _
+  items = rw c.in-Walking.is (step_fault _ c.args.self.now.bounds c.args.self.now.walk.frames
+      c.advance.new.walk.frames _
       (rw c.in-Some-Err.field-0-is at c.in-Some-Err.ensures.pays));
   failures = rw c.in-Some-Err.field-0-is at c.in-Some-Err.ensures.failures;
   ended = λ e. (let f = c.in-Walking.is in absurd (cc));
@@ -136,7 +136,7 @@ pub returns-in-None-clause-walks : goal.returns-in-None-clause-walks
 returns-in-None-clause-walks g c = record {
   unchanged = c.advance.ensures.unchanged;
   items = rw c.in-Walking.is (step_nothing _ c.args.self.now.bounds
-      c.args.self.now.walk.frames.items c.advance.new.walk.frames.items c.in-None.ensures.pays);
+      c.args.self.now.walk.frames c.advance.new.walk.frames c.in-None.ensures.pays);
   failures = c.in-None.ensures.failures;
   ended = λ _. refl;
   ends = refl;

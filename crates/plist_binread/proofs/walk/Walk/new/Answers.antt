@@ -5,5 +5,5 @@ use Rattle.plist_binread.proofs.walk.Walk.new.Goals as goal
 pub invariant_of-result : goal.invariant_of-result
 invariant_of-result c = record {
   same = ap length c.new-2.ensures.items ∙ sym (ap length c.new.ensures.items);
-  path = IsOpen-empty _ _ (ap length c.new.ensures.items) (ap length c.new-3.ensures.items);
+  path = IsOpen-empty _ _ (ap length c.new.ensures.items) (ap length c.new-3.ensures);
 }

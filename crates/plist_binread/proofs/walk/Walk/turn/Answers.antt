@@ -1,92 +1,88 @@
-use Rattle.std.proofs.Common.{arith, ◌∙◌, false, sym, refl}
-use Rattle.plist_binread.proofs.Turned.{splits, after, child_path, child_owed, closed_owed, child_weight, closes-none, closes-child, taken_back}
+use Rattle.std.proofs.Common.{false, refl, sym, ◌∙◌}
+use Rattle.plist_binread.specs.Frames.{frame_of}
+use Rattle.plist_binread.proofs.Turned.{child_path, child_owed, closed_owed, child_weight, closed_weight, closes-none, closes-child, taken_back}
 use Rattle.plist_binread.proofs.Opened.{IsOpen-pop, first_below, first_uncached, cached_count-mark}
 use Rattle.plist_binread.proofs.walk.Walk.turn.Goals as goal
 
-pub invariant_of-self : goal.invariant_of-self
-invariant_of-self c =
-    let s = splits c.args.self.now.frames.items c.len-depth.result c.index_mut-frame.result.now
-    (after c.index_mut-frame.result.now) (omega arith)
-    (c.len-depth.ensures ∙ c.args.self.now.frames.ok.0) c.index_mut-frame.ensures.value in
-    record {
-      same = c.args.self.now.same;
-      path = rw s.changed
-          (child_path c.args.self.now.tags.items _ _ (rw s.whole at c.args.self.now.path));
-    }
+pub returns-in-Nothing-clause-closes : goal.returns-in-Nothing-clause-closes
+returns-in-Nothing-clause-closes c = λ e. absurd (closes-none _ c.in-Nothing.ensures.0 e)
 
-pub returns-then-frame-clause-within : goal.returns-then-frame-clause-within
-returns-then-frame-clause-within c =
-    let s = splits c.args.self.now.frames.items c.len-depth.result c.index_mut-frame.result.now
-    (after c.index_mut-frame.result.now) (omega arith)
-    (c.len-depth.ensures ∙ c.args.self.now.frames.ok.0) c.index_mut-frame.ensures.value in (
-      first_below c.args.self.now.tags.items _ _ (rw s.whole at c.args.self.now.path),
-      first_uncached
-          c.args.self.now.tags.items _ _ (rw s.whole at c.args.self.now.path),
-    )
+pub returns-in-Nothing-clause-owed : goal.returns-in-Nothing-clause-owed
+returns-in-Nothing-clause-owed c =
+    let is = c.in-Nothing.ensures in
+    λ bytes bounds k. ((is.0, is.1), rw is.1 (rw is.0 at k))
 
-pub returns-then-frame-clause-owed : goal.returns-then-frame-clause-owed
-returns-then-frame-clause-owed c =
-    let s = splits c.args.self.now.frames.items c.len-depth.result c.index_mut-frame.result.now
-    (after c.index_mut-frame.result.now) (omega arith)
-    (c.len-depth.ensures ∙ c.args.self.now.frames.ok.0) c.index_mut-frame.ensures.value in
-    λ bytes bounds k. rw (s.whole, s.changed)
-    (child_owed bytes c.args.self.now.tags.items c.args.self.now.contents.items bounds
-    c.index_mut-frame.result.now s.below (rw s.whole at k) c.if-frame.true)
-
-pub returns-then-frame-clause-weight : goal.returns-then-frame-clause-weight
-returns-then-frame-clause-weight c =
-    let s = splits c.args.self.now.frames.items c.len-depth.result c.index_mut-frame.result.now
-    (after c.index_mut-frame.result.now) (omega arith)
-    (c.len-depth.ensures ∙ c.args.self.now.frames.ok.0) c.index_mut-frame.ensures.value in
-    λ n. rw (s.whole, s.changed) (child_weight n c.index_mut-frame.result.now s.below
-    c.if-frame.true)
+pub returns-in-Nothing-clause-back : goal.returns-in-Nothing-clause-back
+returns-in-Nothing-clause-back c =
+    let is = c.in-Nothing.ensures in (refl, is.1 ∙ sym is.0)
 
 pub unmark-requires : goal.unmark-requires
 unmark-requires c =
-    let s = splits c.args.self.now.frames.items c.len-depth.result c.index_mut-frame.result.now
-    c.index_mut-frame.result.now (omega arith)
-    (c.len-depth.ensures ∙ c.args.self.now.frames.ok.0) c.index_mut-frame.ensures.value in
-    first_below c.args.self.now.tags.items _ _ (rw s.whole at c.args.self.now.path)
+    let is = c.in-End.ensures in
+    first_below c.args.self.now.tags.items _ _ (rw is.2 at c.args.self.now.path)
 
-pub invariant_of-self-2 : goal.invariant_of-self-2
-invariant_of-self-2 c =
-    let s = splits c.args.self.now.frames.items c.len-depth.result c.index_mut-frame.result.now
-    c.index_mut-frame.result.now (omega arith)
-    (c.len-depth.ensures ∙ c.args.self.now.frames.ok.0) c.index_mut-frame.ensures.value in
+pub invariant_of-self-in-End : goal.invariant_of-self-in-End
+invariant_of-self-in-End c =
+    let is = c.in-End.ensures in
     record {
-      same = c.args.self.now.same
-          ∙ sym c.unmark.ensures.size;
-      path = rw (c.pop.ensures.rest, ← c.len-depth.ensures, s.closed)
-          (IsOpen-pop c.args.self.now.tags.items _ _ _ (rw s.whole at c.args.self.now.path)
-          c.unmark.ensures);
+      same = c.args.self.now.same ∙ sym c.unmark.ensures.size;
+      path = IsOpen-pop c.args.self.now.tags.items _ _ _ (rw is.2 at c.args.self.now.path)
+          c.unmark.ensures;
     }
 
-pub returns-clause-counted : goal.returns-clause-counted
-returns-clause-counted c = cached_count-mark _ false _ _ c.unmark.ensures
+pub returns-in-End-clause-counted : goal.returns-in-End-clause-counted
+returns-in-End-clause-counted c = cached_count-mark _ false _ _ c.unmark.ensures
 
-pub returns-clause-owed : goal.returns-clause-owed
-returns-clause-owed c =
-    let s = splits c.args.self.now.frames.items c.len-depth.result c.index_mut-frame.result.now
-    c.index_mut-frame.result.now (omega arith)
-    (c.len-depth.ensures ∙ c.args.self.now.frames.ok.0) c.index_mut-frame.ensures.value in
-    λ bytes bounds k. rw (c.pop.ensures.rest, ← c.len-depth.ensures, s.closed, s.whole)
+pub returns-in-End-clause-owed : goal.returns-in-End-clause-owed
+returns-in-End-clause-owed c =
+    let is = c.in-End.ensures in
+    λ bytes bounds k. rw is.2
     (closed_owed bytes c.args.self.now.tags.items c.args.self.now.contents.items bounds _ _
-    (rw s.whole at k) _ c.if-frame.false c.unmark.ensures)
+    (rw is.2 at k) _ is.3 c.unmark.ensures)
 
-pub returns-then-depth-eq0-clause-closes : goal.returns-then-depth-eq0-clause-closes
-returns-then-depth-eq0-clause-closes c =
-    λ e. absurd (closes-none c.args.self.now.frames.items (omega arith) e)
+pub returns-in-End-clause-weight : goal.returns-in-End-clause-weight
+returns-in-End-clause-weight c =
+    let is = c.in-End.ensures in
+    λ n. rw is.2 (closed_weight n (frame_of c.in-End.object is.0 is.1) _ is.3)
 
-pub returns-then-frame-clause-closes : goal.returns-then-frame-clause-closes
-returns-then-frame-clause-closes c =
-    let s = splits c.args.self.now.frames.items c.len-depth.result c.index_mut-frame.result.now
-    (after c.index_mut-frame.result.now) (omega arith)
-    (c.len-depth.ensures ∙ c.args.self.now.frames.ok.0) c.index_mut-frame.ensures.value in
-    λ e. absurd (closes-child c.args.self.now.frames.items _ _ s.whole c.if-frame.true e)
+pub invariant_of-self-in-Child-1 : goal.invariant_of-self-in-Child-1
+invariant_of-self-in-Child-1 c =
+    let is = c.in-Child.ensures in
+    record {
+      same = c.args.self.now.same;
+      path = rw is.3 (child_path c.args.self.now.tags.items
+          (frame_of c.in-Child.object c.in-Child.index is.0) is.1
+          (rw is.2 at c.args.self.now.path));
+    }
 
-pub returns-then-frame-clause-back : goal.returns-then-frame-clause-back
-returns-then-frame-clause-back c =
-    let s = splits c.args.self.now.frames.items c.len-depth.result c.index_mut-frame.result.now
-    (after c.index_mut-frame.result.now) (omega arith)
-    (c.len-depth.ensures ∙ c.args.self.now.frames.ok.0) c.index_mut-frame.ensures.value in
-    (refl, rw (s.whole, s.changed) (taken_back c.index_mut-frame.result.now s.below))
+pub returns-in-Child-clause-within : goal.returns-in-Child-clause-within
+returns-in-Child-clause-within c =
+    let is = c.in-Child.ensures in (
+      first_below c.args.self.now.tags.items _ _ (rw is.2 at c.args.self.now.path),
+      first_uncached c.args.self.now.tags.items _ _ (rw is.2 at c.args.self.now.path),
+    )
+
+pub returns-in-Child-clause-closes : goal.returns-in-Child-clause-closes
+returns-in-Child-clause-closes c =
+    let is = c.in-Child.ensures in λ e. absurd (closes-child _ _ _ is.2 is.4 e)
+
+pub returns-in-Child-clause-owed : goal.returns-in-Child-clause-owed
+returns-in-Child-clause-owed c =
+    let is = c.in-Child.ensures in
+    λ bytes bounds k. rw (is.2, is.3)
+    (child_owed bytes c.args.self.now.tags.items c.args.self.now.contents.items bounds
+    (frame_of c.in-Child.object c.in-Child.index is.0) is.1 (rw is.2 at k) is.4)
+
+pub returns-in-Child-clause-weight : goal.returns-in-Child-clause-weight
+returns-in-Child-clause-weight c =
+    let is = c.in-Child.ensures in
+    λ n. rw (is.2, is.3) (child_weight n
+    (frame_of c.in-Child.object c.in-Child.index is.0) is.1 is.4)
+
+pub returns-in-Child-clause-back : goal.returns-in-Child-clause-back
+returns-in-Child-clause-back c =
+    let is = c.in-Child.ensures in (
+      refl,
+      rw (is.2, is.3) (taken_back
+          (frame_of c.in-Child.object c.in-Child.index is.0) is.1),
+    )

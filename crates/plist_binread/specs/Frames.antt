@@ -1,0 +1,31 @@
+-- The open collections as they are kept, and what the innermost one asks for.
+use Rattle.std.specs.Prelude.{◌≡◌, ℕ, ◌+◌, ◌<◌, ◌≤◌, List, [], ◌∷◌, ◌++◌, Option, None, Some}
+use Rattle.plist_binread.specs.declared.frames.Frame.{Frame}
+use Rattle.plist_binread.specs.declared.frames.Narrow.{Narrow}
+use Rattle.plist_binread.specs.declared.frames.Wanted.{Wanted}
+use Rattle.plist_binread.specs.declared.frames.Wanted.TheVariants as wanted
+
+abbrev pub frame_of : (object next count : ℕ) → Frame
+frame_of object next count = record { object = object; next = next; count = count }
+
+-- the collection that is kept in few bytes
+abbrev pub widened : Narrow → Frame
+widened narrow = frame_of narrow.object narrow.next narrow.count
+
+-- the outer ones, and behind them the innermost one, if there is any
+abbrev pub all_of : (outer : List Frame) → Option Frame → List Frame
+all_of outer None = outer
+all_of outer (Some frame) = outer ++ frame ∷ []
+
+-- it was the last one and is gone, or there was none
+abbrev pub IsLast : (old : List Frame) → Option Frame → (new : List Frame) → Type 0
+IsLast old last new = (old ≡ all_of new last) × (last ≡ None → new ≡ [])
+
+-- what the innermost one of these asks for, and those that are open then; it stands first
+abbrev pub AsksFor : (old : List Frame) → Wanted → (new : List Frame) → Type 0
+AsksFor old wanted.Nothing new = (old ≡ []) × (new ≡ [])
+AsksFor old (wanted.End object) new =
+    (next : ℕ) × (count : ℕ) × (old ≡ frame_of object next count ∷ new) × (count ≤ next)
+AsksFor old (wanted.Child object index) new =
+    (count : ℕ) × (below : List Frame) × (old ≡ frame_of object index count ∷ below)
+    × (new ≡ frame_of object (index + 1) count ∷ below) × (index < count)

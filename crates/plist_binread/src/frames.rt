@@ -1,0 +1,203 @@
+//! The open collections, each in few bytes.
+
+ghost use Rattle.std.specs.Prelude.{◌≡◌, List, [], ◌∷◌, ◌++◌, reverse, IfSome, OnOk, OnErr, MatchOption};
+ghost use Rattle.plist_binread.specs.Frames.{AsksFor, IsLast, frame_of, widened};
+ghost use Rattle.plist_binread.specs.Turning.{given_back};
+
+use std::alloc::{AllocError, Global};
+use std::marker::Model;
+
+/// An open collection.
+#[derive(Clone, Copy)]
+pub struct Frame {
+    /// The number of its object.
+    pub object: u64,
+    /// How many of its children have been entered.
+    pub next: u64,
+    /// How many children it has.
+    pub count: u64,
+}
+
+/// An open collection whose numbers have four bytes each.
+#[derive(Clone, Copy)]
+pub struct Narrow {
+    /// The number of its object.
+    pub object: u32,
+    /// How many of its children have been entered.
+    pub next: u32,
+    /// How many children it has.
+    pub count: u32,
+}
+
+/// What the innermost collection asks for.
+#[derive(Clone, Copy)]
+pub enum Wanted {
+    /// Nothing is open.
+    Nothing,
+    /// Its end: it is closed, and this was its object.
+    End(u64),
+    /// The child of this place among the children of this object.
+    Child(u64, u64),
+}
+
+// The collection in few bytes, if its numbers fit there.
+fn narrowed(frame: Frame) -> Option<Narrow>
+    ensures { IfSome result (λ narrow. widened narrow ≡ frame) }
+{
+    if frame.object >= 1 << 32 || frame.next >= 1 << 32 || frame.count >= 1 << 32 {
+        return None;
+    }
+    Some(Narrow {
+        object: frame.object as u32,
+        next: frame.next as u32,
+        count: frame.count as u32,
+    })
+}
+
+// The collection as it was.
+fn widen(narrow: Narrow) -> Frame
+    ensures { result ≡ widened narrow }
+{
+    Frame {
+        object: u64::from(narrow.object),
+        next: u64::from(narrow.next),
+        count: u64::from(narrow.count),
+    }
+}
+
+/// A stack of collections. From the first one on whose numbers need more than four bytes all of them
+/// have eight; below it all have four.
+#[derive(Drop)]
+pub struct Stack {
+    narrow: Vec<Narrow>,
+    wide: Vec<Frame>,
+}
+
+impl Model for Stack {
+    ghost use Rattle.std.specs.Prelude.{List, ◌++◌, map};
+    ghost use Rattle.plist_binread.specs.declared.frames.Frame.{Frame};
+    ghost use Rattle.plist_binread.specs.Frames.{widened};
+
+    ghost Value = { List Frame };
+
+    ghost view = { λ stack. map widened stack.narrow.items ++ stack.wide.items };
+}
+
+impl Stack {
+    fn new(alloc: Global) -> Self
+        ensures { result ≡ [] }
+    {
+        Stack {
+            narrow: Vec::new(alloc),
+            wide: Vec::new(alloc),
+        }
+    }
+
+    fn push(&mut self, frame: Frame) -> Result<(), AllocError>
+        ensures value { OnOk result (self.new ≡ self.old ++ frame ∷ []) }
+        ensures unchanged { OnErr result (self.new ≡ self.old) }
+    {
+        if self.wide.is_empty() {
+            if let Some(narrow) = narrowed(frame) {
+                self.narrow.push(narrow)?;
+                return Ok(());
+            }
+        }
+        self.wide.push(frame)?;
+        Ok(())
+    }
+
+    fn pop(&mut self) -> Option<Frame>
+        ensures { IsLast self.old result self.new }
+    {
+        match self.wide.pop() {
+            Some(frame) => Some(frame),
+            None => match self.narrow.pop() {
+                Some(narrow) => Some(widen(narrow)),
+                None => None,
+            },
+        }
+    }
+}
+
+/// The open collections, the innermost one last.
+#[derive(Drop)]
+pub struct Frames {
+    // Those that hold the innermost one.
+    outer: Stack,
+    innermost: Option<Frame>,
+}
+
+impl Model for Frames {
+    ghost use Rattle.std.specs.Prelude.{◌≡◌, List, [], None};
+    ghost use Rattle.plist_binread.specs.declared.frames.Frame.{Frame};
+    ghost use Rattle.plist_binread.specs.Frames.{all_of};
+
+    ghost Value = { List Frame };
+
+    ghost view = { λ frames. all_of frames.outer frames.innermost };
+
+    ghost invariant = { λ frames. frames.innermost ≡ None → frames.outer ≡ [] };
+}
+
+impl Frames {
+    /// Nothing is open.
+    pub fn new(alloc: Global) -> Self
+        ensures { result ≡ [] }
+    {
+        Frames {
+            outer: Stack::new(alloc),
+            innermost: None,
+        }
+    }
+
+    /// Opens a collection of so many children.
+    pub fn push(&mut self, object: u64, count: u64) -> Result<(), AllocError>
+        ensures value { OnOk result (self.new ≡ self.old ++ frame_of object 0 count ∷ []) }
+        ensures unchanged { OnErr result (self.new ≡ self.old) }
+    {
+        if let Some(frame) = self.innermost {
+            self.outer.push(frame)?;
+        }
+        self.innermost = Some(Frame {
+            object,
+            next: 0,
+            count,
+        });
+        Ok(())
+    }
+
+    /// Takes the next child of the innermost one, or closes that where it has no more.
+    pub fn turn(&mut self) -> Wanted
+        ensures { AsksFor (reverse self.old) result (reverse self.new) }
+    {
+        match self.innermost {
+            None => Wanted::Nothing,
+            Some(frame) => {
+                if frame.next >= frame.count {
+                    self.innermost = self.outer.pop();
+                    return Wanted::End(frame.object);
+                }
+                self.innermost = Some(Frame {
+                    object: frame.object,
+                    next: frame.next + 1,
+                    count: frame.count,
+                });
+                Wanted::Child(frame.object, frame.next)
+            }
+        }
+    }
+
+    /// Gives the child back that was taken last.
+    pub fn give_back(&mut self)
+        ensures { reverse self.new ≡ given_back (reverse self.old) }
+    {
+        if let Some(frame) = self.innermost {
+            self.innermost = Some(Frame {
+                object: frame.object,
+                next: frame.next.saturating_sub(1),
+                count: frame.count,
+            });
+        }
+    }
+}
