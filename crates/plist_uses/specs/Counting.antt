@@ -1,5 +1,6 @@
 -- What the counts of a property list are.
-use Rattle.std.specs.Prelude.{◌≡◌, ℕ, ◌+◌, ◌-◌, ◌^◌, min, Bool, true, false, cond, List, Ok, Err, length, map, filter}
+use Rattle.std.specs.Prelude.{◌≡◌, ℕ, ◌+◌, ◌-◌, ◌^◌, min, Bool, true, false, cond, List, Result, Ok, Err, IfOk, length, map, filter}
+use Rattle.plist_base.specs.declared.error.Error.{Error}
 use Rattle.plist_base.specs.Events.{PlainEvent, Item, StartArray, StartDictionary, Single}
 use Rattle.plist_base.specs.Trees.{String}
 use Rattle.plist_uses.specs.declared.counting.Counts.{Counts}
@@ -36,6 +37,10 @@ pub record Tell (events : List PlainEvent) (counts : Counts) : Type 0 where
 -- the items are events without a fault, and these are their counts
 abbrev pub AreCountsOf : List Item → Counts → Type 0
 AreCountsOf items counts = (events : List PlainEvent) × (items ≡ map Ok events) × Tell events counts
+
+-- the same of what was answered, where it is no fault
+abbrev pub AreCountedOf : List Item → Result Counts Error → Type 0
+AreCountedOf items answer = IfOk answer (AreCountsOf items)
 
 abbrev pub nothing : Counts
 nothing = record { arrays = 0; dictionaries = 0; texts = 0; others = 0 }

@@ -3,3 +3,5 @@ pub mod Settings
 pub mod Roots
 pub mod Counting
 pub mod Generated
+pub mod Converting
+pub mod Uploads

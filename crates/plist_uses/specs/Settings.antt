@@ -1,5 +1,7 @@
 -- What contracts see of settings.
-use Rattle.std.specs.Prelude.{ℕ, List, Option, Ok, IfSome}
+use Rattle.std.specs.Prelude.{◌≡◌, ℕ, List, Option, Ok, IfSome}
+use Rattle.std.specs.Str.{bytes_eq}
+use Rattle.indexmap.specs.IndexMap.{insert_entry}
 use Rattle.plist_base.specs.Trees.{Tree, Dictionary}
 use Rattle.plist.specs.declared.value.Value.{Value}
 use Rattle.plist.specs.Inputs.{IsReadFrom}
@@ -18,3 +20,7 @@ tree_in settings = Dictionary (pair_trees settings.pairs)
 -- where the bytes of a file are known, their items are those of this property list
 abbrev pub IsReadOf : (known : Option (List ℕ)) → Tree → Type 0
 IsReadOf known tree = IfSome known (λ bytes. IsReadFrom (items_of_input bytes) (Ok tree))
+
+-- the name has this setting; the others and their order are left
+abbrev pub Sets : Settings → (name : List ℕ) → (setting : Value) → Settings → Type 0
+Sets old name setting new = pairs_of new ≡ insert_entry bytes_eq (pairs_of old) name setting

@@ -15,8 +15,7 @@ use std::alloc::Global;
 ///
 /// Those of [`Archive::open`] and [`Archive::tree`].
 pub fn root_of(alloc: Global, archive: &Value) -> Result<Option<Value>, KeyedError>
-    ensures root { IfOk result (λ found. IfSome found (λ root.
-        IsRootOf archive.now (tree_of root))) }
+    ensures root { IfOk result (λ top. IfSome top (λ root. IsRootOf archive.now (tree_of root))) }
 {
     let opened = Archive::open(archive)?;
     match opened.top("root") {

@@ -1,11 +1,7 @@
 //! A converter: a property list of either format to a binary one.
 
-ghost use Rattle.std.specs.Prelude.{List, ℕ, Ok, IfOk, IfSome};
-ghost use Rattle.std.specs.Io.KnownBytes.{Appends};
-ghost use Rattle.plist_binwrite.specs.Files.{IsFileOf};
-ghost use Rattle.plist_reader.specs.Reader.{items_of_input};
-ghost use Rattle.plist.specs.Inputs.{IsReadFrom};
-ghost use Rattle.plist.specs.Views.{tree_of};
+ghost use Rattle.std.specs.Prelude.{IfOk};
+ghost use Rattle.plist_uses.specs.Converting.{IsReadBy, SendsFileOf};
 
 use plist::stream::Source;
 use plist::{Error, Value};
@@ -23,10 +19,8 @@ pub fn convert<R: Source, W: Write>(
     source: R,
     writer: &mut W,
 ) -> Result<Value, Error>
-    ensures read { IfSome (R.known source) (λ bytes. IfOk result (λ value.
-        IsReadFrom (items_of_input bytes) (Ok (tree_of value)))) }
-    ensures sent { IfOk result (λ value. (file : List ℕ) × IsFileOf (tree_of value) file
-        × Appends (W.contents writer.old) (W.contents writer.new) file) }
+    ensures read { IsReadBy (R.known source) result }
+    ensures sent { IfOk result (λ value. SendsFileOf W.contents value writer.old writer.new) }
 {
     let value = Value::from_reader(alloc, source)?;
     value.to_writer_binary(alloc, writer)?;

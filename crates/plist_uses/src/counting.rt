@@ -1,9 +1,9 @@
 //! Counting what a file holds, with no value of it in memory.
 
-ghost use Rattle.std.specs.Prelude.{◌≡◌, IfOk, IfSome, OnOk};
+ghost use Rattle.std.specs.Prelude.{◌≡◌, IfSome, OnOk};
 ghost use Rattle.plist_base.specs.Events.{event_of, item_of};
 ghost use Rattle.plist_reader.specs.Reader.{items_of_input};
-ghost use Rattle.plist_uses.specs.Counting.{AreCountsOf, CountsItem, CountsOne, nothing};
+ghost use Rattle.plist_uses.specs.Counting.{AreCountedOf, CountsItem, CountsOne, nothing};
 
 use plist::Error;
 use plist::stream::{OwnedEvent, Reader, Source};
@@ -67,8 +67,7 @@ impl Counts {
 ///
 /// The first fault, as [`Reader`] tells it.
 pub fn count<R: Source>(alloc: Global, source: R) -> Result<Counts, Error>
-    ensures counted { IfSome (R.known source) (λ bytes. IfOk result (λ counts.
-        AreCountsOf (items_of_input bytes) counts)) }
+    ensures value { IfSome (R.known source) (λ bytes. AreCountedOf (items_of_input bytes) result) }
 {
     let mut counts = Counts::none();
     let mut reader = Reader::new(alloc, source);

@@ -1,9 +1,8 @@
 //! Writing a list straight from events, with no value of it in memory.
 
 ghost use Rattle.std.specs.Prelude.{OnOk};
-ghost use Rattle.plist_base.specs.Bracketing.{bracketing};
 ghost use Rattle.plist.specs.Handing.{Took};
-ghost use Rattle.plist_uses.specs.Generated.{reading_tree, readings_tree};
+ghost use Rattle.plist_uses.specs.Generated.{reading_events, list_events};
 
 use plist::stream::Writer;
 use plist::{Error, Integer};
@@ -18,8 +17,7 @@ pub struct Reading {
 
 // Writes a reading as a dictionary.
 fn write_reading<W: Writer>(reading: &Reading, writer: &mut W) -> Result<(), Error>
-    ensures handed { OnOk result (Took W.Step writer.old
-        (bracketing (reading_tree reading.now)) writer.new) }
+    ensures handed { OnOk result (Took W.Step writer.old (reading_events reading.now) writer.new) }
 {
     writer.write_start_dictionary(Some(2))?;
     writer.write_string(CowStr::Borrowed("second"))?;
@@ -36,8 +34,7 @@ fn write_reading<W: Writer>(reading: &Reading, writer: &mut W) -> Result<(), Err
 ///
 /// The writer's first refusal, after which it is handed nothing more.
 pub fn write_readings<W: Writer>(readings: &[Reading], writer: &mut W) -> Result<(), Error>
-    ensures handed { OnOk result (Took W.Step writer.old
-        (bracketing (readings_tree readings.now)) writer.new) }
+    ensures handed { OnOk result (Took W.Step writer.old (list_events readings.now) writer.new) }
 {
     writer.write_start_array(Some(readings.len() as u64))?;
     for reading in readings {

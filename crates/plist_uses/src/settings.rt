@@ -4,11 +4,10 @@ ghost use Rattle.std.specs.Prelude.{◌≡◌, IfOk, OnErr, OnOk, string_bytes};
 ghost use Rattle.std.specs.Map.{lookup};
 ghost use Rattle.std.specs.Option.{option_copied};
 ghost use Rattle.std.specs.Str.{bytes_eq};
-ghost use Rattle.indexmap.specs.IndexMap.{insert_entry};
 ghost use Rattle.plist_base.specs.Writing.{answer_of};
 ghost use Rattle.plist.specs.Sent.{SendsTree};
 ghost use Rattle.plist.specs.Views.{tree_of};
-ghost use Rattle.plist_uses.specs.Settings.{IsReadOf, pairs_of, tree_in};
+ghost use Rattle.plist_uses.specs.Settings.{IsReadOf, Sets, pairs_of, tree_in};
 
 use plist::stream::Source;
 use plist::{Dictionary, Error, Value};
@@ -78,8 +77,7 @@ impl Settings {
     ///
     /// Name and setting come back where memory is wanting, and nothing changes.
     pub fn set(&mut self, name: String, setting: Value) -> Result<(), (String, Value)>
-        ensures done { OnOk result (pairs_of self.new
-            ≡ insert_entry bytes_eq (pairs_of self.old) (string_bytes name) setting) }
+        ensures done { OnOk result (Sets self.old (string_bytes name) setting self.new) }
         ensures unchanged { OnErr result (pairs_of self.new ≡ pairs_of self.old) }
     {
         let _old = self.pairs.insert(name, setting)?;
@@ -91,10 +89,9 @@ impl Settings {
     /// # Errors
     ///
     /// Those of [`Value::to_writer_binary`].
-    pub fn save<W: Write>(self, alloc: Global, writer: &mut W) -> Result<(), Error>
-        ensures sent { SendsTree W.contents (tree_in self)
-            (answer_of result) writer.old writer.new }
+    pub fn save<W: Write>(self, alloc: Global, out: &mut W) -> Result<(), Error>
+        ensures sent { SendsTree W.contents (tree_in self) (answer_of result) out.old out.new }
     {
-        Value::Dictionary(self.pairs).to_writer_binary(alloc, writer)
+        Value::Dictionary(self.pairs).to_writer_binary(alloc, out)
     }
 }

@@ -1,12 +1,11 @@
 //! Reading a file that a stranger sent.
 
 ghost use Rattle.std.specs.Prelude.{IfOk};
-ghost use Rattle.plist_base.specs.Limits.{limited_items};
-ghost use Rattle.plist_reader.specs.Reader.{items_of_input};
 ghost use Rattle.plist.specs.Collecting.{built_tree};
 ghost use Rattle.plist.specs.Inputs.{IsReadFrom};
 ghost use Rattle.plist.specs.Limiting.{NestsWithin};
 ghost use Rattle.plist.specs.Views.{tree_of};
+ghost use Rattle.plist_uses.specs.Uploads.{items_of_upload};
 
 use plist::{Error, Limits, Value};
 use std::alloc::Global;
@@ -19,8 +18,7 @@ use std::alloc::Global;
 ///
 /// Those of [`Value::from_reader_with_limits`].
 pub fn read_upload(alloc: Global, bytes: &[u8]) -> Result<Value, Error>
-    ensures value { IsReadFrom (limited_items (record { depth = 64; items = 100000 })
-        (items_of_input bytes.now)) (built_tree result) }
+    ensures value { IsReadFrom (items_of_upload bytes.now) (built_tree result) }
     ensures shallow { IfOk result (λ value. NestsWithin (tree_of value) 64) }
 {
     let limits = Limits {

@@ -13,7 +13,7 @@ loop-item-preserved g c =
 
 pub returns : goal.returns
 returns g c = record {
-  counted =
+  value =
       all-counted (g.R.Source.known c.args.source) (to_come g.R.Source.known c.new-reader.result)
       (to_come g.R.Source.known c.loop-item.reader) (to_come g.R.Source.known c.next.new.self)
       c.loop-item.counts c.new-reader.ensures.items c.loop-item.invariant

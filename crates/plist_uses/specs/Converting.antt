@@ -1,0 +1,20 @@
+-- What a conversion reads, and what it sends.
+use Rattle.std.specs.Prelude.{ℕ, List, Option, Result, Ok, IfOk, IfSome}
+use Rattle.std.specs.Io.KnownBytes.{Appends}
+use Rattle.plist_base.specs.declared.error.Error.{Error}
+use Rattle.plist_binwrite.specs.Files.{IsFileOf}
+use Rattle.plist_reader.specs.Reader.{items_of_input}
+use Rattle.plist.specs.declared.value.Value.{Value}
+use Rattle.plist.specs.Inputs.{IsReadFrom}
+use Rattle.plist.specs.Views.{tree_of}
+
+-- where the bytes of a source are known, their items are those of the value
+abbrev pub IsReadBy : (known : Option (List ℕ)) → Result Value Error → Type 0
+IsReadBy known answer = IfSome known (λ bytes. IfOk answer (λ value.
+    IsReadFrom (items_of_input bytes) (Ok (tree_of value))))
+
+-- a file of the value went out
+abbrev pub SendsFileOf : {W : Type 0} → (contents : W → Option (List ℕ)) → Value → (old new : W)
+    → Type 0
+SendsFileOf contents value old new = (file : List ℕ) × IsFileOf (tree_of value) file
+    × Appends (contents old) (contents new) file
