@@ -60,8 +60,8 @@ impl Counts {
     }
 }
 
-/// Counts what a property list holds, binary or in ASCII. It goes from event to event and keeps none,
-/// so it takes no more memory for a larger file than the reader does.
+/// Counts what a property list holds, binary or in ASCII. It goes from event to event and keeps
+/// none, so it takes no more memory for a larger file than the reader does.
 ///
 /// # Errors
 ///

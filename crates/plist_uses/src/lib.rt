@@ -1,6 +1,6 @@
 //! Examples to copy: small callers of the library, each with a contract of its own that follows
-//! from the contracts of what it calls. Only the two with a loop, `counting` and `generated`, have a
-//! proof: what the loop keeps.
+//! from the contracts of what it calls. Only the two with a loop, `counting` and `generated`, have
+//! a proof: what the loop keeps.
 #![tactic(auto)]
 
 pub mod archive;

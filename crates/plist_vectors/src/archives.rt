@@ -49,7 +49,8 @@ fn tree_of(rt: &(impl Abort + AllocGlobal), root: &Value, uid: u64) -> Result<Va
     archive.tree(rt.alloc(), Uid::new(uid))
 }
 
-// Each line has the objects of an archive, a bar, and the tree of the Uid that it names, or its fault.
+// Each line has the objects of an archive, a bar, and the tree of the Uid that it names, or its
+// fault.
 fn expect_trees(rt: &(impl Abort + AllocGlobal), rows: &str) {
     for row in rows.split('\n') {
         let Some((objects, wanted)) = row.split_once(" | ") else {
@@ -161,8 +162,9 @@ fn a_cycle_of_many_objects(rt: HostRuntime) {
     assert_eq!(rt; answer.as_str(), "RecursiveUid(7)");
 }
 
-// The file `archive.plist` of the examples, which Python's `plistlib` made: a dictionary as its keys
-// and its objects, one of them an array that names a text twice, each with the object of its class.
+// The file `archive.plist` of the examples, which Python's `plistlib` made: a dictionary as its
+// keys and its objects, one of them an array that names a text twice, each with the object of its
+// class.
 const ARCHIVE: &str = "62706c6973743030d4010203040506070a582476657273696f6e5924617263686976657254\
     24746f7058246f626a6563747312000186a05f100f4e534b657965644172636869766572d1080954726f6f748001\
     a90b0c1718191a1f202755246e756c6cd30d0e0f1011145624636c617373574e532e6b6579735a4e532e6f626a65\

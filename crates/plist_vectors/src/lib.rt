@@ -1,5 +1,5 @@
-//! The worked examples of the property-list crates: what is read, written and built, by public calls
-//! alone.
+//! The worked examples of the property-list crates: what is read, written and built, by public
+//! calls alone.
 #![tactic(auto)]
 
 #[cfg(test)]

@@ -19,8 +19,8 @@ fn shared(rt: &(impl Abort + AllocGlobal), words: &str) -> Vec<u8> {
     writer.into_inner()
 }
 
-// The events of these words give the file of these objects and their table, with widths of one byte;
-// its events are these words, its value has them in order, and is written as the same file.
+// The events of these words give the file of these objects and their table, with widths of one
+// byte; its events are these words, its value has them in order, and is written as the same file.
 fn expect(rt: &(impl Abort + AllocGlobal), name: &str, words: &str, body: &str, numbers: [u64; 3]) {
     let bytes = file(rt, body, [1, 1], numbers);
     assert_eq!(rt; shared(rt, words).as_slice(), bytes.as_slice(), "{name}");

@@ -4,7 +4,8 @@
 use crate::support::must;
 use std::process::Abort;
 
-// What lies at a place: a scalar's word; a collection's word and its children's numbers; or a fault.
+// What lies at a place: a scalar's word; a collection's word and its children's numbers; or a
+// fault.
 #[derive(Drop)]
 enum Found {
     Scalar(String),
@@ -57,8 +58,8 @@ fn numbers(
     Some(all)
 }
 
-// How many elements an object has, and where its content begins: the low half of its marker tells it,
-// or a number behind it, whose width the next byte's low two bits tell.
+// How many elements an object has, and where its content begins: the low half of its marker tells
+// it, or a number behind it, whose width the next byte's low two bits tell.
 fn length(before: &[u8], place: u64, marker: u8) -> Option<(u64, u64)> {
     let behind = place.checked_add(1)?;
     if marker % 16 < 15 {

@@ -78,8 +78,8 @@ fn expect_failure(
     true
 }
 
-// The events, and their value in two ways, are sent to a device with this fault at this call. Tells whether it
-// failed.
+// The events, and their value in two ways, are sent to a device with this fault at this call.
+// Tells whether it failed.
 fn expect_sent(
     rt: &(impl Abort + AllocGlobal),
     words: &str,
