@@ -237,7 +237,7 @@ def measure(words):
     """Processor seconds and peak memory in bytes, or None where it fails or takes too long.
 
     The memory that the system tells of a child counts what its parent held, so it is looked up while
-    the child runs, and taken from the system only where the child was too fast."""
+    the child runs, and is 0 where the child was too fast."""
     start, peak = time.monotonic(), 0
     with open(os.devnull, "wb") as sink:
         child = subprocess.Popen([str(word) for word in words], stdout=sink, stderr=sink)
@@ -253,7 +253,7 @@ def measure(words):
                 return None
             time.sleep(0.001)
     child.returncode = status
-    return (usage.ru_utime + usage.ru_stime, peak or usage.ru_maxrss * 1024) if status == 0 else None
+    return (usage.ru_utime + usage.ru_stime, peak) if status == 0 else None
 
 
 def best(runs):
@@ -322,7 +322,8 @@ def print_table(path, sizes, known):
     # what the program holds beside what it holds of the objects: a file of few, whose events take long
     # enough for the program to be looked at
     make(path, "doubling, 2^17 arrays")
-    memory = (measure([*known["plist_tool"], path]) or (0, 0))[1] + WINDOWS
+    few = best([measure([*known["plist_tool"], path]) for _ in range(RUNS)])
+    memory = (few or (0, 0))[1] + WINDOWS
     heading(["shape", "bytes", *known, "bytes an object"])
     grown = {}
     for shape in SHAPES:
