@@ -11,7 +11,8 @@ run takes long is run once.
 
 A second table is of reading from memory into events with texts of their own: `BinaryReader` over a
 slice (tests/outside/items, which is proved and built in a copy of its crates by the kit's `rt`)
-beside the crate's. Between them system calls are counted, by `strace` where it is there.
+beside the crate's. It is of one pass: what a run of many passes takes more than a run of one, shared
+out among them. Between the tables system calls are counted, by `strace` where it is there.
 
 Usage: speed.py [MEGABYTES ..]      1, 10 and 50 where none are named
        speed.py --plot FILE         the picture of the printed tables that stand in a file, as SVG
@@ -37,6 +38,8 @@ RUNS = 5
 # a program that takes so few seconds is run so often
 SHORT, SHORT_RUNS = 0.05, 25
 SECONDS = 60
+# so many passes over bytes in memory are timed
+PASSES = 10
 # a program that takes so many seconds isn't run again
 LONG = 2
 # of fewer objects the memory isn't told: what is the same for each file would count for them
@@ -271,14 +274,14 @@ def runs_wanted(taken):
     return 1 if first > LONG else SHORT_RUNS if first < SHORT else RUNS
 
 
-def measured(path, known):
-    """The best runs of each program on a file, in turn."""
+def measured(path, known, *more):
+    """The best runs of each program on a file, in turn; further words may follow the file's name."""
     runs = {program: [] for program in known}
     for _ in range(SHORT_RUNS):
         for program, words in known.items():
             taken = runs[program]
             if len(taken) < runs_wanted(taken):
-                taken.append(measure([*words, path]))
+                taken.append(measure([*words, path, *more]))
     return {program: best(taken) for program, taken in runs.items()}
 
 
@@ -343,15 +346,25 @@ def print_table(path, sizes, known):
     print_growth(grown)
 
 
+def one_pass(once, often):
+    """The time of a pass, from runs of one and of more, and the memory of a run of one."""
+    return None if once is None or often is None else ((often[0] - once[0]) / PASSES, once[1])
+
+
+def print_passes(shape, path, known):
+    once, often = measured(path, known, 1), measured(path, known, PASSES + 1)
+    row(shape, path, {program: one_pass(once[program], often[program]) for program in known}, 0)
+
+
 def print_items(path, size, known):
-    print(f"\nItems with texts of their own, read from memory, {size} MB:\n")
+    print(f"\nItems with texts of their own, over bytes in memory, {size} MB, one pass of {PASSES}:\n")
     heading(["shape", "bytes", *known])
     for shape in SHAPES:
         make(path, shape, size)
-        row(shape, path, measured(path, known), 0)
+        print_passes(shape, path, known)
     for shape in ("10^6 levels", "doubling, 2^20 arrays"):
         make(path, shape)
-        row(shape, path, measured(path, known), 0)
+        print_passes(shape, path, known)
 
 
 def calls_of(words, path):

@@ -1,5 +1,6 @@
 //! The Rust crate `plist` on the command line: `peer print FILE` prints a binary property list's events,
-//! `peer items FILE` only counts them, `peer convert IN OUT` reads a value and writes it.
+//! `peer items FILE TIMES` only counts them, so many times, `peer convert IN OUT` reads a value and
+//! writes it.
 use plist::stream::{BinaryReader, Event};
 use std::io::{BufWriter, Cursor, Write};
 use std::{env, fs, io};
@@ -50,9 +51,12 @@ fn main() -> Result<(), Box<dyn std::error::Error>> {
         }
         "items" => {
             let mut count = 0u64;
-            for event in BinaryReader::new(Cursor::new(bytes)) {
-                event?;
-                count += 1;
+            for _ in 0..words[2].parse::<u64>()? {
+                count = 0;
+                for event in BinaryReader::new(Cursor::new(&bytes)) {
+                    event?;
+                    count += 1;
+                }
             }
             println!("{count}");
         }
