@@ -37,6 +37,8 @@ mod sources;
 #[cfg(test)]
 mod support;
 #[cfg(test)]
+mod told;
+#[cfg(test)]
 mod uses;
 #[cfg(test)]
 mod values;

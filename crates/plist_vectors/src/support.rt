@@ -14,7 +14,9 @@ pub(crate) use reads::{
 };
 use std::fmt::Debug;
 use std::process::Abort;
-pub(crate) use words::{event_of, expect_answers, expect_value, text_of, words_of, words_of_value};
+pub(crate) use words::{
+    event_of, expect_answers, expect_value, text_of, word_of, words_of, words_of_value,
+};
 pub(crate) use writes::expect_file_on_devices;
 
 // What an answer holds that is to be no fault.

@@ -109,7 +109,7 @@ fn real_word(alloc: Global, bits: RealBits) -> Result<String, AllocError> {
 }
 
 // The word of an event.
-fn word_of(alloc: Global, event: &Event<'_>) -> Result<String, AllocError> {
+pub(crate) fn word_of(alloc: Global, event: &Event<'_>) -> Result<String, AllocError> {
     match event {
         Event::StartArray(length) => start(alloc, '[', *length),
         Event::StartDictionary(length) => start(alloc, '{', *length),
