@@ -1,9 +1,11 @@
 -- What the contracts of a dictionary's entries say. The words serve an entry's halves too, as
 -- `with_value (Occupied o)`.
 pub use Rattle.plist.specs.declared.dictionary.entry.Entry.TheVariants.{Occupied, Vacant}
-use Rattle.std.specs.Prelude.{◌≡◌, ℕ, ◌<◌, List, [], ◌∷◌, ◌++◌, length, Option, None, Some, Result, slice_get, string_bytes}
+use Rattle.std.specs.Prelude.{◌≡◌, ℕ, ◌<◌, List, [], ◌∷◌, ◌++◌, length, Option, None, Some, Result, cond, is_some, slice_get, string_bytes}
 use Rattle.std.specs.Borrow.{Fml, RattleType, MutBor, follows, follows_if, name_if_ok}
-use Rattle.std.specs.Map.{keys_of, values_of}
+use Rattle.std.specs.Map.{keys_of, lookup, values_of}
+use Rattle.std.specs.Option.{UnwrapsOrElse}
+use Rattle.std.specs.Str.{bytes_eq}
 use Rattle.indexmap.specs.IndexMap.{set_value_at}
 use Rattle.indexmap.specs.Layout.{length-set_value_at}
 use Rattle.std.proofs.Common.{sym, subst}
@@ -11,6 +13,7 @@ use mir.Syntax.{named}
 use Rattle.std.specs.Prelude.{String}
 use Rattle.std.specs.declared.alloc.Global.{Global}
 use Rattle.plist.specs.EntryLends.{IsRemovedAt}
+use Rattle.plist.specs.Keys.{IsSetAt, IsTakenAt}
 use Rattle.plist.specs.declared.dictionary.entry.Entry.{Entry}
 use Rattle.plist.specs.declared.dictionary.entry.OccupiedEntry.{OccupiedEntry}
 use Rattle.plist.specs.contracts.dictionary.Pairs.{the_row}
@@ -54,6 +57,31 @@ module _ {V : Type 0} where
   abbrev pub with_value : Entry V → V → List (List ℕ × V)
   with_value (Occupied o) v = set_value_at o.pairs.now o.at v
   with_value (Vacant e) v = e.pairs.now ++ (string_bytes e.key, v) ∷ []
+
+  -- the key, unless it is among the pairs
+  abbrev pub unless_there : String Global → List (List ℕ × V) → Option (String Global)
+  unless_there key pairs =
+      cond (is_some (lookup (bytes_eq (string_bytes key)) pairs)) None (Some key)
+
+  -- to give the key of the entry a value is to insert this key
+  abbrev pub Inserts : Entry V → (pairs : List (List ℕ × V)) → (key : List ℕ) → Type 0
+  Inserts e pairs key = (v : V) → IsSetAt pairs key v (with_value e v)
+
+  -- to take the key of the entry out is to remove this key
+  abbrev pub Removes : Entry V → (pairs : List (List ℕ × V)) → (key : List ℕ) → Type 0
+  Removes e pairs key = (after : List (List ℕ × V)) → IsTaken e after → IsTakenAt pairs key after
+
+  -- the key that the entry holds, and this value
+  abbrev pub HandsBack : Entry V → V → String Global × V → Type 0
+  HandsBack e value back = (kept_key e ≡ Some back.0) × (back.1 ≡ value)
+
+  -- the key that the entry holds, and a value that was made
+  abbrev pub HandsBackMade : Entry V → (made : V → Type 0) → String Global × V → Type 0
+  HandsBackMade e made back = (kept_key e ≡ Some back.0) × made back.1
+
+  -- the value that the key has, or else one that was made
+  abbrev pub HasOrMakes : Entry V → (made : V → Type 0) → MutBor V → Type 0
+  HasOrMakes e made place = UnwrapsOrElse (entry_value e) made place.now
 
   pub still_within : (o : OccupiedEntry V) (v : V) → o.at < length (with_value (Occupied o) v)
   still_within o v = subst (λ n. o.at < n) (sym (length-set_value_at o.pairs.now o.at v)) o.within

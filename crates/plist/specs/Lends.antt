@@ -1,7 +1,6 @@
 -- What is lent of pairs by `&mut`.
-use Rattle.std.specs.Prelude.{◌≡◌, ℕ, List, Option}
+use Rattle.std.specs.Prelude.{ℕ, List, Option}
 use Rattle.std.specs.Borrow.{Lends, LendsIf, MutBor, Fml}
-use Rattle.indexmap.specs.IndexMap.{insert_entry, swap_remove_entry}
 use Rattle.std.specs.Map.{set_value}
 use Rattle.std.specs.Str.{bytes_eq}
 use denote.RattleType.{RattleType}
@@ -18,12 +17,3 @@ LendsAtKey V pairs key value =
 abbrev pub LendsValue : (V : RattleType) → MutBor (List (List ℕ × V.Denot)) → List ℕ
     → MutBor V.Denot → Fml
 LendsValue V pairs key value = Lends (the_row V) V pairs value (set_value (bytes_eq key) pairs.now)
-
--- the pairs after a key's value is set, and after its pair is taken
-abbrev pub IsSetAt : {V : Type 0} → (old : List (List ℕ × V)) → List ℕ → V
-    → (new : List (List ℕ × V)) → Type 0
-IsSetAt old key value new = new ≡ insert_entry bytes_eq old key value
-
-abbrev pub IsTakenAt : {V : Type 0} → (old : List (List ℕ × V)) → List ℕ
-    → (new : List (List ℕ × V)) → Type 0
-IsTakenAt old key new = new ≡ swap_remove_entry (bytes_eq key) old

@@ -6,5 +6,7 @@ pub mod Following
 pub mod Laws
 pub mod Sameness
 pub mod PairsSame
+pub mod Places
+pub mod StoreLends
 pub mod Weights
 pub mod PutOff

@@ -11,7 +11,7 @@ ghost use Rattle.plist.specs.Inputs.{GivesBack, ReadsItems};
 ghost use Rattle.plist.specs.Same.{same, IsTransitive, TellsScalars, TellsDictionaries, same_members};
 ghost use Rattle.plist.specs.Views.{pair_trees, tree_of};
 ghost use Rattle.plist.specs.inner.PutOff.{same_values_at};
-ghost use Rattle.plist.specs.Lends.{IsSetAt, IsTakenAt};
+ghost use Rattle.plist.specs.Keys.{IsSetAt, IsTakenAt};
 
 pub mod contents;
 

@@ -1,10 +1,10 @@
 //! Dictionaries: pairs of a key and a value, in the order in which the keys came.
 
-ghost use Rattle.std.specs.Prelude.{◌≡◌, ◌↔◌, IsTrue, [], length, is_some, false, string_bytes, IfOk, OnOk, IfErr, OnErr};
+ghost use Rattle.std.specs.Prelude.{◌≡◌, ◌↔◌, IsTrue, None, Some, [], length, is_some, string_bytes, IfOk, OnOk, IfErr, OnErr};
 ghost use Rattle.std.specs.Str.{bytes_eq};
 ghost use Rattle.std.specs.Option.{option_copied, option_copied_mut};
 ghost use Rattle.std.specs.Map.{lookup, keys_of, values_of};
-ghost use Rattle.indexmap.specs.IndexMap.{insert_entry, swap_remove_entry};
+ghost use Rattle.plist.specs.Keys.{IsAbsent, IsSetAt, IsTakenAt};
 
 mod bulk;
 mod entry;
@@ -12,14 +12,15 @@ mod equal;
 mod index;
 mod iter;
 mod places;
+mod store;
 
 use crate::Value;
+use crate::dictionary::store::Store;
 pub use entry::{Entry, OccupiedEntry, VacantEntry};
-use indexmap::IndexSet;
 pub use iter::{IntoIter, Iter, Keys, Values};
-use std::alloc::Global;
+use std::alloc::{AllocError, Global};
+use std::fmt;
 use std::marker::Model;
-use std::{fmt, mem};
 
 /// A dictionary of a property list.
 pub type Dictionary = Pairs<Value>;
@@ -30,24 +31,45 @@ pub type Dictionary = Pairs<Value>;
 /// see the list of the pairs, a key as its bytes.
 #[derive(Drop)]
 pub struct Pairs<V> {
-    keys: IndexSet<String>,
-    items: Vec<V>,
+    // none before the first insert, so that a value without pairs is small
+    store: Option<Box<Store<V>>>,
+    alloc: Global,
 }
 
 impl<V> Model for Pairs<V> {
-    ghost use Rattle.std.specs.Prelude.{◌≡◌, List, ℕ, length, map, string_bytes};
+    ghost use Rattle.std.specs.Prelude.{List, ℕ, []};
     ghost use Rattle.std.specs.Coded.{coded_list, coded_ℕ, coded×};
-    ghost use Rattle.std.specs.List.{zip, IsDistinct};
-    ghost use Rattle.std.specs.Str.{bytes_eq};
+    ghost use Rattle.std.specs.Option.{option_map_or};
 
     ghost Value = { List (List ℕ × V) };
 
     ghost coded = { coded_list (coded× (coded_list coded_ℕ) V.code) };
 
-    ghost view = { λ a. zip (map string_bytes a.keys.keys) a.items.items };
+    ghost view = { λ a. option_map_or (λ b. b.value) a.store [] };
+}
 
-    ghost invariant = { λ a. (length a.items.items ≡ length a.keys.keys)
-        × IsDistinct bytes_eq (map string_bytes a.keys.keys) };
+// A store without pairs.
+fn empty_store<V>(alloc: Global) -> Result<Box<Store<V>>, AllocError>
+    ensures { IfOk result (λ store. store.value ≡ []) }
+{
+    match Box::new(alloc, Store::new(alloc)) {
+        Ok(store) => Ok(store),
+        Err(refused) => {
+            refused.value.destroy_empty();
+            Err(AllocError)
+        }
+    }
+}
+
+// Puts a store where there is none. What stands there can't be dropped, whatever the values' type.
+fn put<V>(place: &mut Option<Box<Store<V>>>, store: Box<Store<V>>)
+    requires { place.old ≡ None }
+    ensures { place.new ≡ Some store }
+{
+    match place.replace(store) {
+        None => {}
+        Some(before) => Box::into_inner(before).destroy_empty(),
+    }
 }
 
 impl<V> Pairs<V> {
@@ -61,10 +83,7 @@ impl<V> Pairs<V> {
     pub fn new(alloc: Global) -> Pairs<V>
         ensures empty { result ≡ [] }
     {
-        Pairs {
-            keys: IndexSet::new(alloc),
-            items: Vec::new(alloc),
-        }
+        Pairs { store: None, alloc }
     }
 
     /// Removes all pairs, and keeps the memory for others.
@@ -73,17 +92,19 @@ impl<V> Pairs<V> {
         V: Drop,
         ensures empty { self.new ≡ [] }
     {
-        self.keys.clear();
-        self.items.clear();
+        match &mut self.store {
+            None => {}
+            Some(store) => store.clear(),
+        }
     }
 
     /// The value of the key, if it is there.
     pub fn get(&self, key: &str) -> Option<&V>
         ensures value { option_copied result ≡ lookup (bytes_eq key.now) self.now }
     {
-        match self.keys.get_index_of(key) {
+        match &self.store {
             None => None,
-            Some(index) => Some(&self.items[index]),
+            Some(store) => store.get(key),
         }
     }
 
@@ -91,7 +112,10 @@ impl<V> Pairs<V> {
     pub fn contains_key(&self, key: &str) -> bool
         ensures { result ≡ is_some (lookup (bytes_eq key.now) self.now) }
     {
-        self.keys.contains(key)
+        match &self.store {
+            None => false,
+            Some(store) => store.contains_key(key),
+        }
     }
 
     /// The value of the key, to be changed, if it is there.
@@ -99,9 +123,9 @@ impl<V> Pairs<V> {
         ensures* writes_back { sem 𝓛 (LendsAtKey V.row self.entry key.now result) }
         ensures value { option_copied_mut result ≡ lookup (bytes_eq key.now) self.old }
     {
-        match self.keys.get_index_of(key) {
+        match &mut self.store {
             None => None,
-            Some(index) => self.items.get_mut(index),
+            Some(store) => store.get_mut(key),
         }
     }
 
@@ -115,21 +139,21 @@ impl<V> Pairs<V> {
     /// and the value come back.
     pub fn insert(&mut self, key: String, value: V) -> Result<Option<V>, (String, V)>
         ensures old { IfOk result (λ old. old ≡ lookup (bytes_eq (string_bytes key)) self.old) }
-        ensures pairs { OnOk result
-            (self.new ≡ insert_entry bytes_eq self.old (string_bytes key) value) }
+        ensures pairs { OnOk result (IsSetAt self.old (string_bytes key) value self.new) }
         ensures handed_back { IfErr result (λ back. back ≡ (key, value)) }
         ensures unchanged { OnErr result (self.new ≡ self.old) }
-        ensures absent { OnErr result
-            (is_some (lookup (bytes_eq (string_bytes key)) self.old) ≡ false) }
+        ensures absent { OnErr result (IsAbsent (string_bytes key) self.old) }
     {
-        match self.keys.insert_full(key) {
-            Err(refused) => Err((refused.value, value)),
-            Ok((index, false)) => Ok(Some(mem::replace(&mut self.items[index], value))),
-            Ok((_, true)) => match self.items.push(value) {
-                Ok(()) => Ok(None),
-                Err(refused) => Err((self.keys.pop().unwrap(), refused.value)),
-            },
+        if let Some(store) = &mut self.store {
+            return store.insert(key, value);
         }
+        let mut store = match empty_store(self.alloc) {
+            Ok(store) => store,
+            Err(_) => return Err((key, value)),
+        };
+        let answer = store.insert(key, value);
+        put(&mut self.store, store);
+        answer
     }
 
     /// Removes the key, and returns its value, if it is there.
@@ -137,24 +161,26 @@ impl<V> Pairs<V> {
     /// The last pair moves to the place of the one that was removed.
     pub fn remove(&mut self, key: &str) -> Option<V>
         ensures value { result ≡ lookup (bytes_eq key.now) self.old }
-        ensures pairs { self.new ≡ swap_remove_entry (bytes_eq key.now) self.old }
+        ensures pairs { IsTakenAt self.old key.now self.new }
     {
-        let (index, _key) = self.keys.swap_remove_full(key)?;
-        Some(self.items.swap_remove(index))
+        match &mut self.store {
+            None => None,
+            Some(store) => store.remove(key),
+        }
     }
 
     /// The number of pairs.
     pub fn len(&self) -> usize
         ensures { result ≡ length self.now }
     {
-        self.items.len()
+        self.pair_count()
     }
 
     /// Whether there are no pairs.
     pub fn is_empty(&self) -> bool
         ensures { IsTrue result ↔ (self.now ≡ []) }
     {
-        self.items.is_empty()
+        self.len() == 0
     }
 
     /// The pairs, in their order.
@@ -163,7 +189,10 @@ impl<V> Pairs<V> {
         ensures runs { ShowsInOrder (shown_pair {V = V}) }
         ensures distinct { IsDistinct bytes_eq (keys_of self.now) }
     {
-        Iter::new(self.keys.as_slice(), self.items.as_slice())
+        match &self.store {
+            None => Iter::new(&[], &[]),
+            Some(store) => store.iter(),
+        }
     }
 
     /// The keys, in the order of the pairs.
@@ -172,7 +201,10 @@ impl<V> Pairs<V> {
         ensures runs { ShowsInOrder shown_key }
         ensures distinct { IsDistinct bytes_eq (keys_of self.now) }
     {
-        Keys::new(self.keys.as_slice())
+        match &self.store {
+            None => Keys::new(&[]),
+            Some(store) => store.keys(),
+        }
     }
 
     /// The values, in the order of the pairs.
@@ -180,15 +212,28 @@ impl<V> Pairs<V> {
         ensures rest { result ≡ values_of self.now }
         ensures runs { ShowsInOrder (deref {X = V}) }
     {
-        Values::new(self.items.as_slice())
+        match &self.store {
+            None => Values::new(&[]),
+            Some(store) => store.values(),
+        }
+    }
+
+    // The store, which takes no memory where there was none.
+    fn into_store(self) -> Store<V>
+        ensures { result ≡ self }
+    {
+        let Pairs { store, alloc } = self;
+        match store {
+            None => Store::new(alloc),
+            Some(store) => Box::into_inner(store),
+        }
     }
 
     // The values, without their keys.
     pub(crate) fn into_items(self) -> Vec<V>
         ensures { result.items ≡ values_of self }
     {
-        let Pairs { keys: _keys, items } = self;
-        items
+        self.into_store().into_items()
     }
 }
 
@@ -224,8 +269,7 @@ impl<V: Drop> IntoIterator for Pairs<V> {
         × IsDistinct bytes_eq (keys_of pairs) };
 
     fn into_iter(self) -> IntoIter<V> {
-        let Pairs { keys, items } = self;
-        IntoIter::new(keys, items)
+        self.into_store().into_pairs()
     }
 }
 

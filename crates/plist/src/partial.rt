@@ -125,6 +125,8 @@ impl Partial {
                     Ok(_) => {}
                     Err(_) => return Err(AllocError),
                 }
+                // it tells that no key stands twice
+                let _ = pairs.pair_count();
                 self.collections.push_reserved(Open::Dictionary(pairs));
             }
         }

@@ -1,22 +1,14 @@
 //! Calls that go over all pairs.
 
-ghost use Rattle.std.specs.Prelude.{◌≡◌, ◌≤◌, IfOk, OnErr, OnOk, [], IsPermutation, IsSorted, length, map, string_cmp};
+ghost use Rattle.std.specs.Prelude.{◌≡◌, IfOk, OnErr, OnOk, IsPermutation, IsSorted};
 ghost use Rattle.std.specs.Cmp.Lexicographic.{slice_cmp};
 ghost use Rattle.std.specs.Ordering.{nat_cmp};
-ghost use Rattle.std.specs.List.{IsDistinct};
 ghost use Rattle.std.specs.Map.{keys_of};
-ghost use Rattle.std.specs.Str.{bytes_eq};
-ghost use Rattle.std.specs.Vec.{vec_capacity};
-ghost use Rattle.indexmap.specs.IndexSet.{spare};
-ghost use Rattle.plist.specs.Shown.{shown_owned_pair};
 ghost use Rattle.plist_base.specs.Outcomes.{OnlyMemory};
 
 use crate::dictionary::Pairs;
-use indexmap::IndexSet;
 use plist_base::{Error, ErrorKind};
 use std::alloc::Global;
-use std::cmp::Ordering;
-use std::mem;
 
 impl<V> Pairs<V> {
     ghost use Rattle.std.specs.Iterator.{IsFinite};
@@ -102,54 +94,9 @@ impl<V> Pairs<V> {
         ensures memory { OnlyMemory result }
         ensures unchanged { OnErr result (self.new ≡ self.old) }
     {
-        let alloc = self.allocator();
-        let count = self.pair_count();
-        let room = Vec::with_capacity(alloc, count)?;
-        let keys = IndexSet::with_capacity(alloc, count)?;
-        let items = Vec::with_capacity(alloc, count)?;
-        // no memory is taken from here on
-        let mut rows = rows_of(mem::replace(self, Pairs::new(alloc)), room);
-        rows.sort_unstable_by(
-            |a: &(String, V), b: &(String, V)| -> Ordering
-                ensures { result ≡ string_cmp a.now.0 b.now.0 }
-            { a.0.cmp(&b.0) },
-        );
-        *self = pairs_of(rows, keys, items);
-        Ok(())
-    }
-}
-
-// The pairs by value, in room that is made for them.
-fn rows_of<V: Drop>(pairs: Pairs<V>, room: Vec<(String, V)>) -> Vec<(String, V)>
-    requires empty { room.items ≡ [] }
-    requires fits { length pairs ≤ vec_capacity room }
-    ensures { map shown_owned_pair result.items ≡ pairs }
-{
-    let mut rows = room;
-    for row in pairs {
-        rows.push_reserved(row);
-    }
-    rows
-}
-
-// The pairs of these rows, in columns that have room for them.
-fn pairs_of<V: Drop>(
-    rows: Vec<(String, V)>,
-    mut keys: IndexSet<String>,
-    mut items: Vec<V>,
-) -> Pairs<V>
-    requires no_keys { keys.keys ≡ [] }
-    requires no_items { items.items ≡ [] }
-    requires keys_fit { length rows.items ≤ spare keys }
-    requires items_fit { length rows.items ≤ vec_capacity items }
-    requires distinct { IsDistinct bytes_eq (keys_of (map shown_owned_pair rows.items)) }
-    ensures { result ≡ map shown_owned_pair rows.items }
-{
-    for (key, value) in rows {
-        match keys.insert(key) {
-            Ok(_) => items.push_reserved(value),
-            Err(_) => {}
+        match &mut self.store {
+            None => Ok(()),
+            Some(store) => Ok(store.sort_keys(self.alloc)?),
         }
     }
-    Pairs { keys, items }
 }

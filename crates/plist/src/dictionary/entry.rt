@@ -2,10 +2,9 @@
 //!
 //! A clause `writes_back` says what the pairs are once the borrow that the call returns has ended.
 
-ghost use Rattle.std.specs.Prelude.{◌≡◌, ◌<◌, false, length, None, Some, IfErr, IfOk, OnErr, cond, is_some, string_bytes, unwrap_or};
+ghost use Rattle.std.specs.Prelude.{◌≡◌, ◌<◌, false, length, None, Some, IfErr, IfOk, OnErr, is_some, string_bytes, unwrap_or};
 ghost use Rattle.std.specs.Str.{bytes_eq};
 ghost use Rattle.std.specs.Map.{lookup};
-ghost use Rattle.indexmap.specs.IndexMap.{insert_entry, swap_remove_entry};
 
 use crate::Value;
 use crate::dictionary::Pairs;
@@ -37,7 +36,7 @@ pub struct OccupiedEntry<'a, V = Value> {
 }
 
 impl<V> Pairs<V> {
-    ghost use Rattle.plist.specs.EntryPlaces.{IsTaken, entry_key, entry_pairs, entry_ref, entry_value, kept_key, with_value};
+    ghost use Rattle.plist.specs.EntryPlaces.{Inserts, Removes, entry_key, entry_pairs, entry_ref, entry_value, kept_key, unless_there};
 
     /// The place of the key. It takes no memory: a vacant one takes it with its insert.
     pub fn entry(&mut self, key: String) -> Entry<'_, V>
@@ -45,12 +44,9 @@ impl<V> Pairs<V> {
         ensures now { entry_pairs result ≡ self.old }
         ensures key { entry_key result ≡ Some (string_bytes key) }
         ensures value { entry_value result ≡ lookup (bytes_eq (string_bytes key)) self.old }
-        ensures kept { kept_key result ≡ cond
-            (is_some (lookup (bytes_eq (string_bytes key)) self.old)) None (Some key) }
-        ensures writes { (v : V)
-            → with_value result v ≡ insert_entry bytes_eq self.old (string_bytes key) v }
-        ensures removes { (after : _) → IsTaken result after
-            → after ≡ swap_remove_entry (bytes_eq (string_bytes key)) self.old }
+        ensures kept { kept_key result ≡ unless_there key self.old }
+        ensures writes { Inserts result self.old (string_bytes key) }
+        ensures removes { Removes result self.old (string_bytes key) }
     {
         match self.place_of(key.as_str()) {
             Some(at) => Entry::Occupied(OccupiedEntry { pairs: self, at }),
@@ -117,7 +113,7 @@ impl<'a, V> OccupiedEntry<'a, V> {
 
 impl<'a, V> VacantEntry<'a, V> {
     ghost use Rattle.std.specs.Borrow.{sem};
-    ghost use Rattle.plist.specs.EntryPlaces.{Vacant, entry_lends_ok, kept_key};
+    ghost use Rattle.plist.specs.EntryPlaces.{HandsBack, Vacant, entry_lends_ok, kept_key};
 
     /// The key that an insert would add.
     pub fn key(&self) -> &String
@@ -134,8 +130,7 @@ impl<'a, V> VacantEntry<'a, V> {
     pub fn insert(self, value: V) -> Result<&'a mut V, (String, V)>
         ensures* writes_back { sem 𝓛 (entry_lends_ok V.row (Vacant self.entry) result) }
         ensures value { IfOk result (λ place. place.now ≡ value) }
-        ensures handed_back { IfErr result (λ back.
-            (kept_key (Vacant self.entry) ≡ Some back.0) × (back.1 ≡ value)) }
+        ensures handed_back { IfErr result (HandsBack (Vacant self.entry) value) }
     {
         let VacantEntry { pairs, key } = self;
         let at = pairs.len();
@@ -148,8 +143,7 @@ impl<'a, V> VacantEntry<'a, V> {
 
 impl<'a, V> Entry<'a, V> {
     ghost use Rattle.std.specs.Borrow.{sem};
-    ghost use Rattle.std.specs.Option.{UnwrapsOrElse};
-    ghost use Rattle.plist.specs.EntryPlaces.{entry_key, entry_lends_ok, entry_value, kept_key};
+    ghost use Rattle.plist.specs.EntryPlaces.{HandsBack, HandsBackMade, HasOrMakes, entry_key, entry_lends_ok, entry_value};
 
     /// The key.
     pub fn key(&self) -> &String
@@ -170,11 +164,9 @@ impl<'a, V> Entry<'a, V> {
     where
         V: Drop,
         ensures* writes_back { sem 𝓛 (entry_lends_ok V.row self.entry result) }
-        ensures value { IfOk result (λ place.
-            place.now ≡ unwrap_or (entry_value self.entry) value) }
+        ensures value { IfOk result (λ v. v.now ≡ unwrap_or (entry_value self.entry) value) }
         ensures absent { OnErr result (entry_value self.entry ≡ None) }
-        ensures handed_back { IfErr result (λ back.
-            (kept_key self.entry ≡ Some back.0) × (back.1 ≡ value)) }
+        ensures handed_back { IfErr result (HandsBack self.entry value) }
     {
         match self {
             Entry::Vacant(entry) => entry.insert(value),
@@ -190,11 +182,9 @@ impl<'a, V> Entry<'a, V> {
     pub fn or_insert_with<F: FnOnce() -> V>(self, value: F) -> Result<&'a mut V, (String, V)>
         requires { entry_value self ≡ None → F.pre value }
         ensures* writes_back { sem 𝓛 (entry_lends_ok V.row self.entry result) }
-        ensures value { IfOk result (λ place.
-            UnwrapsOrElse (entry_value self.entry) (F.post value) place.now) }
+        ensures value { IfOk result (HasOrMakes self.entry (F.post value)) }
         ensures absent { OnErr result (entry_value self.entry ≡ None) }
-        ensures handed_back { IfErr result (λ back.
-            (kept_key self.entry ≡ Some back.0) × F.post value back.1) }
+        ensures handed_back { IfErr result (HandsBackMade self.entry (F.post value)) }
     {
         match self {
             Entry::Vacant(entry) => entry.insert(value()),

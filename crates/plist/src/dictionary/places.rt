@@ -1,10 +1,12 @@
 //! Pairs by their places, for the calls that look a key up once.
 
-ghost use Rattle.std.specs.Prelude.{◌≡◌, ◌<◌, ◌++◌, ◌∷◌, None, Some, MatchOption, position, slice_get, swap, take, [], length, is_some, false, string_bytes, OnOk, IfErr, OnErr};
+ghost use Rattle.std.specs.Prelude.{◌≡◌, ◌<◌, ◌++◌, ◌∷◌, Some, MatchOption, slice_get, swap, take, [], length, string_bytes, OnOk, IfErr, OnErr};
 ghost use Rattle.std.specs.Str.{bytes_eq};
-ghost use Rattle.std.specs.Map.{lookup, keys_of, values_of};
+ghost use Rattle.std.specs.Map.{keys_of, values_of};
+ghost use Rattle.plist.specs.Keys.{IsAbsent};
+ghost use Rattle.plist.specs.inner.Places.{HasNone, IsPlaceOf};
 
-use crate::dictionary::Pairs;
+use crate::dictionary::{Pairs, empty_store, put};
 use std::alloc::Global;
 
 impl<V> Pairs<V> {
@@ -14,11 +16,12 @@ impl<V> Pairs<V> {
 
     // The place of a key, if it is there.
     pub(crate) fn place_of(&self, key: &str) -> Option<usize>
-        ensures { MatchOption result (lookup (bytes_eq key.now) self.now ≡ None)
-            (λ place. (place < length self.now)
-            × (Some place ≡ position (bytes_eq key.now) (keys_of self.now))) }
+        ensures { MatchOption result (HasNone key.now self.now) (IsPlaceOf key.now self.now) }
     {
-        self.keys.get_index_of(key)
+        match &self.store {
+            None => None,
+            Some(store) => store.place_of(key),
+        }
     }
 
     // The key at a place.
@@ -26,7 +29,7 @@ impl<V> Pairs<V> {
         requires { place < length self.now }
         ensures { slice_get (keys_of self.now) place ≡ Some (string_bytes result.now) }
     {
-        &self.keys.as_slice()[place]
+        self.store.as_ref().unwrap().key_at(place)
     }
 
     // The value at a place, to be changed.
@@ -35,27 +38,26 @@ impl<V> Pairs<V> {
         ensures* writes_back { sem 𝓛 (LendsPlace V.row self.entry place result) }
         ensures value { slice_get (values_of self.old) place ≡ Some result.now }
     {
-        &mut self.items[place]
+        self.store.as_mut().unwrap().value_at(place)
     }
 
     // Adds a pair whose key isn't there.
     pub(crate) fn push(&mut self, key: String, value: V) -> Result<(), (String, V)>
-        requires { is_some (lookup (bytes_eq (string_bytes key)) self.old) ≡ false }
+        requires { IsAbsent (string_bytes key) self.old }
         ensures pairs { OnOk result (self.new ≡ self.old ++ (string_bytes key, value) ∷ []) }
         ensures handed_back { IfErr result (λ back. back ≡ (key, value)) }
         ensures unchanged { OnErr result (self.new ≡ self.old) }
     {
-        match self.items.reserve(1) {
-            Ok(()) => {}
+        if let Some(store) = &mut self.store {
+            return store.push(key, value);
+        }
+        let mut store = match empty_store(self.alloc) {
+            Ok(store) => store,
             Err(_) => return Err((key, value)),
-        }
-        match self.keys.insert(key) {
-            Ok(_) => {
-                self.items.push_reserved(value);
-                Ok(())
-            }
-            Err(refused) => Err((refused.value, value)),
-        }
+        };
+        let answer = store.push(key, value);
+        put(&mut self.store, store);
+        answer
     }
 
     // Takes the pair at a place; the last one moves there.
@@ -64,8 +66,7 @@ impl<V> Pairs<V> {
         ensures value { slice_get (values_of self.old) place ≡ Some result }
         ensures pairs { IsRemovedAt self.old place self.new }
     {
-        let _ = self.keys.swap_remove_index(place);
-        self.items.swap_remove(place)
+        self.store.as_mut().unwrap().swap_remove_at(place)
     }
 
     // Swaps two pairs. It takes no memory.
@@ -74,13 +75,12 @@ impl<V> Pairs<V> {
         requires second { second < length self.old }
         ensures { self.new ≡ swap self.old first second }
     {
-        self.keys.swap_indices(first, second);
-        self.items.swap(first, second);
+        self.store.as_mut().unwrap().swap(first, second);
     }
 
     // Where the pairs are stored.
     pub(crate) fn allocator(&self) -> Global {
-        *self.items.allocator()
+        self.alloc
     }
 
     // The number of pairs, whose keys are distinct.
@@ -88,7 +88,10 @@ impl<V> Pairs<V> {
         ensures count { result ≡ length self.now }
         ensures distinct { IsDistinct bytes_eq (keys_of self.now) }
     {
-        self.keys.len()
+        match &self.store {
+            None => 0,
+            Some(store) => store.pair_count(),
+        }
     }
 
     // The pair at a place.
@@ -96,7 +99,7 @@ impl<V> Pairs<V> {
         requires { index < length self.now }
         ensures { slice_get self.now index ≡ Some (result.0.now, result.1.now) }
     {
-        (self.keys.as_slice()[index].as_str(), &self.items[index])
+        self.store.as_ref().unwrap().pair_at(index)
     }
 
     // Drops the pairs behind the first ones.
@@ -105,7 +108,9 @@ impl<V> Pairs<V> {
         V: Drop,
         ensures { self.new ≡ take count self.old }
     {
-        self.keys.truncate(count);
-        self.items.truncate(count);
+        match &mut self.store {
+            None => {}
+            Some(store) => store.truncate(count),
+        }
     }
 }

@@ -1,122 +1,148 @@
--- `Pairs` as a type that may hold the type that holds it, by its values.
-use Rattle.std.specs.Prelude.{◌≡◌, ℕ, List, [], ◌∷◌, map, length, string_bytes, String}
-use Rattle.std.specs.List.{zip, IsDistinct, IsDistinct-prop}
-use Rattle.std.specs.Map.{values_of}
-use Rattle.std.specs.Str.{bytes_eq}
-use mathlib.Core.Path.{refl, sym, ap, ◌∙◌}
-use mathlib.Core.HLevel.{×_prop}
-use mathlib.Core.Former.{Former, one_more, this, const, pair, list, via, children}
-use native.Mathlib.Nat.{ℕ_set}
-use native.Mathlib.Omega.{arith}
-use lib.ListN.{length-map}
-use base.Stored.{gcons, code_map, coded_ℕ, coded_list, coded×}
+-- `Pairs` as a type that may hold the type that holds it, by the values in its store.
+use Rattle.std.specs.Prelude.{◌≡◌, ℕ, List, [], Option, None, Some}
+use mathlib.Core.Path.{refl}
+use mathlib.Core.Logic.{◌⊎◌, inl, inr}
+use mathlib.Core.Former.{Former, this, const, pair, or, list, via, children}
+use base.Stored.{gnil}
+use base.Fml.{ftrue}
 use denote.RattleType.{RattleType}
+use denote.Memory.{part_of}
+use denote.RawPtr.{Ptr}
+use denote.Sharing.{nothing}
 use denote.HoleLaws.{Alike}
-use denote.HolePlaces.{Recodes, struct_places, laid}
+use denote.HolePlaces.{Recodes, struct_places, enum_places, eachs, laid, one_value}
 use denote.Hole.Carrier.{listed}
 use denote.Hole.Fix.{over}
-use denote.Param.Nested.{deepest}
-use denote.Param.Weighed.{Weighed, most, none_max, List-puts, w_pair, w_const}
-use denote.Model.Placed.{held, view_places_where}
-use Rattle.std.specs.formers.vec.Vec as vec
+use denote.Param.Weighed.{Weighed}
+use denote.Model.Placed.{held, view_places}
+use Rattle.std.specs.declared.boxed.Box.{Box}
+use Rattle.std.specs.contracts.boxed.Box as box
+use Rattle.std.specs.contracts.option.Option as option
 use Rattle.std.specs.declared.alloc.Global.{Global}
 use Rattle.std.specs.contracts.alloc.Global as heap
 use Rattle.std.specs.contracts.impls.GlobalAllocator.TheImpl.{ghosts}
-use Rattle.std.proofs.Common.{BuildHasherDefault, FoldHasher, max}
-use Rattle.indexmap.specs.IndexSet.{IndexSet}
 use Rattle.plist.specs.declared.dictionary.Pairs.TheInside.{Inside}
 use Rattle.plist.specs.declared.dictionary.Pairs.TheView.{view, invariant}
 use Rattle.plist.specs.contracts.dictionary.Pairs as C
 use Rattle.plist.specs.contracts.dictionary.Pairs.TheInside as I
-
--- a key beside one of g's values
-abbrev entry : Former {0} → Former {0}
-entry g = pair (const (List ℕ)) g
+use Rattle.plist.specs.contracts.dictionary.store.Store as stored
+use Rattle.plist.specs.formers.dictionary.store.Store as store
 
 abbrev pub the_former : Former {0} → Former {0}
-the_former g = list (entry g)
-
-pub most_values : {Y : Type 0} (f : Y → ℕ) (es : List (List ℕ × Y))
-    → most (λ p. max 0 (f p.1)) es ≡ most f (values_of es)
-most_values f [] = refl
-most_values f (e ∷ es) = λ i. max (sym (none_max (f e.1)) i) (most_values f es i)
+the_former g = list (store.entry g)
 
 abbrev pub the_weighed : {g : Former {0}} → Weighed g → Weighed (the_former g)
-the_weighed w = record {
-  weight = λ X μ ps. most (w.weight X μ) (values_of ps);
-  puts =
-      λ X μ ps n t. List-puts (w_pair (w_const (List ℕ)) w) X μ ps n t
-      ∙ ap (λ a. max a (deepest μ n t)) (most_values (w.weight X μ) ps);
-}
+the_weighed w = store.the_weighed w
 
 pub the_empty : List (List ℕ × ⊥)
 the_empty = []
 
 abbrev pub the_items : (X : Type 0) → List (List ℕ × X) → List X
-the_items X ps = values_of ps
+the_items X ps = store.the_items X ps
 
 pub the_items_listed : (X : Type 0) (ps : List (List ℕ × X))
     → listed _ (children (the_former this) X ps) ≡ the_items X ps
-the_items_listed X [] = refl
-the_items_listed X (p ∷ ps) = ap (λ l. p.1 ∷ l) (the_items_listed X ps)
+the_items_listed X ps = store.the_items_listed X ps
 
--- what holds the keys
-abbrev Keys : Type 0
-Keys = IndexSet (String Global) (BuildHasherDefault FoldHasher)
+-- a box of pairs
+abbrev Boxed : Type 0 → Type 0
+Boxed X = Box (List (List ℕ × X)) Global
+
+module _ {X : Type 0} where
+  abbrev split : Option (Boxed X) → Unit {0} ⊎ (Ptr × Global) × List (List ℕ × X)
+  split None = inl tt
+  split (Some b) = inr ((b.ptr, b.alloc), b.value)
+
+  abbrev join : Unit {0} ⊎ (Ptr × Global) × List (List ℕ × X) → Option (Boxed X)
+  join (inl u) = None
+  join (inr v) = Some (record { ptr = v.0.0; alloc = v.0.1; value = v.1 })
+
+  join-split : (o : Option (Boxed X)) → join (split o) ≡ o
+  join-split None = refl
+  join-split (Some b) = refl
+
+  split-join : (v : Unit {0} ⊎ (Ptr × Global) × List (List ℕ × X)) → split (join v) ≡ v
+  split-join (inl u) = refl
+  split-join (inr v) = refl
+
+abbrev stores : Former {0}
+stores =
+    via (or (const (Unit {0})) (pair (const (Ptr × Global)) (list (store.entry this))))
+    (λ X. Option (Boxed X)) (λ X. split) (λ X. join) (λ X. join-split) (λ X. split-join)
 
 abbrev fields : Former {0}
 fields =
-    via (pair (const Keys) (vec.the_former this Global)) Inside (λ X a. (a.keys, a.items))
-    (λ X v. record { keys = v.0; items = v.1 }) (λ X a. refl) (λ X v. refl)
+    via (pair stores (const Global)) Inside (λ X a. (a.store, a.alloc))
+    (λ X v. record { store = v.0; alloc = v.1 }) (λ X a. refl) (λ X v. refl)
 
--- the pair, with h applied to its value
-abbrev on_value : {X Y : Type 0} → (X → Y) → List ℕ × X → List ℕ × Y
-on_value h p = (p.0, h p.1)
+module _ (X : Type 0) where
+  abbrev with_store : Inside X → Option (Boxed X) → Inside X
+  with_store u o = record { store = o; alloc = u.alloc }
 
-zip-map : {X Y : Type 0} (h : X → Y) (ks : List (List ℕ)) (vs : List X)
-    → zip ks (map h vs) ≡ map (on_value h) (zip ks vs)
-zip-map h [] vs = refl
-zip-map h (k ∷ ks) [] = refl
-zip-map h (k ∷ ks) (v ∷ vs) = ap (λ l. (k, h v) ∷ l) (zip-map h ks vs)
+  keeps : (u : Inside X) (o : Option (Boxed X))
+      → held (the_former this) X (view X (with_store u o)) ≡ held fields X (with_store u o)
+  keeps u None = refl
+  keeps u (Some b) = refl
 
-zip-held : (X : Type 0) (ks : List (List ℕ)) (vs : List X) → length vs ≡ length ks
-    → held (the_former this) X (zip ks vs) ≡ held (list this) X vs
-zip-held X [] [] e = refl
-zip-held X [] (v ∷ vs) e = absurd (omega arith)
-zip-held X (k ∷ ks) [] e = absurd (omega arith)
-zip-held X (k ∷ ks) (v ∷ vs) e =
-    λ i. (one_more (zip-held X ks vs (omega arith) i).0, (v, (zip-held X ks vs (omega arith) i).1))
+  natural : (Y : Type 0) (h : X → Y) (u : Inside X) (o : Option (Boxed X))
+      → view Y (fields.map X Y h (with_store u o))
+      ≡ (the_former this).map X Y h (view X (with_store u o))
+  natural Y h u None = refl
+  natural Y h u (Some b) = refl
 
--- as many values as keys, and each key once
-abbrev Sound : {X : Type 0} → Inside X → Type 0
-Sound u =
-    (length u.items.items ≡ length u.keys.keys) × IsDistinct bytes_eq (map string_bytes u.keys.keys)
+abbrev with_value : {X Y : Type 0} → Box X Global → Y → Box Y Global
+with_value b y = record { ptr = b.ptr; alloc = b.alloc; value = y }
 
-Sound-prop : {X : Type 0} (u : Inside X) → IsProp (Sound u)
-Sound-prop u = ×_prop (ℕ_set _ _) (IsDistinct-prop bytes_eq _)
+abbrev box_of : RattleType → RattleType
+box_of R = box.the_row R heap.the_row ghosts
 
-module _ (R R' : RattleType) (h : R.Denot → R'.Denot) where
-  pub the_places : Alike R R' h
-      → Alike (C.the_row R) (C.the_row R') ((the_former this).map R.Denot R'.Denot h)
-  the_places a = view_places_where fields (the_former this) view
-      (λ X Y k u. zip-map k (map string_bytes u.keys.keys) u.items.items)
-      (λ X. Sound) (λ X Y k u s. (sym (length-map u.items.items k) ∙ s.0, s.1))
-      (λ X u s. zip-held X (map string_bytes u.keys.keys) u.items.items
-      (s.0 ∙ sym (length-map u.keys.keys string_bytes)))
-      R.Denot R'.Denot h (C.the_row R).coded (C.the_row R').coded
-      (invariant R.Denot) (invariant R'.Denot) Sound-prop Sound-prop
-      (λ u s. (length-map u.items.items h ∙ s.0, s.1))
-      (λ u s. (sym (length-map u.items.items h) ∙ s.0, s.1)) (λ u s. s)
-      (over (I.the_row R)) (over (I.the_row R'))
-      (struct_places (I.the_type R) (I.the_type R') ((λ k. k), (vec.mapped h, tt)) _
-      (λ d. refl) refl (
-        (refl, (λ n. refl, λ n. refl)),
-        (laid _ _ _ (vec.the_places heap.the_row ghosts R R' h a), tt),
-      ))
+module _ (R S : RattleType) (h : R.Denot → S.Denot) where
+  box_places : Alike R S h → Alike (box_of R) (box_of S) (λ b. with_value b (h b.value))
+  unfolding part_of
+  box_places a = record {
+    mir_same = λ i. (box_of (one_value R (a.mir_same i) (λ _. ftrue) (λ _ _. nothing) gnil)).mir;
+    own_same = λ b i. (box_of (one_value R (a.mir_same i) (a.own_same b.value i)
+        (a.shr_same b.value i) gnil)).own_val (with_value b tt);
+    shr_same = λ b i. (box_of (one_value R (a.mir_same i) (a.own_same b.value i)
+        (a.shr_same b.value i) gnil)).shr_at (with_value b tt);
+  }
 
-  pub the_codes_placed : Recodes R R' h
-      → Recodes (C.the_row R) (C.the_row R') ((the_former this).map R.Denot R'.Denot h)
-  the_codes_placed e ps =
-      sym (code_map (coded× (coded_list coded_ℕ) R.coded).code
-      (coded× (coded_list coded_ℕ) R'.coded).code (on_value h)
-      (λ p i. gcons ((coded_list coded_ℕ).code p.0) (sym (e p.1) i)) ps)
+module _ (R S : RattleType) (h : R.Denot → S.Denot) where
+  abbrev moved : Boxed R.Denot → Boxed S.Denot
+  moved b = with_value b ((the_former this).map R.Denot S.Denot h b.value)
+
+  abbrev over_store : Option (Boxed R.Denot) → Option (Boxed S.Denot)
+  over_store None = None
+  over_store (Some b) = Some (moved b)
+
+  same_store : (o : Option (Boxed R.Denot)) → stores.map R.Denot S.Denot h o ≡ over_store o
+  same_store None = refl
+  same_store (Some b) = refl
+
+  variant : (o : Option (Boxed R.Denot))
+      → (option.enum (box_of (stored.the_row S))).as_values (over_store o)
+      ≡ eachs (option.enum (box_of (stored.the_row R))).parts
+      (option.enum (box_of (stored.the_row S))).parts (tt, ((moved, tt), tt))
+      ((option.enum (box_of (stored.the_row R))).as_values o)
+  variant None = refl
+  variant (Some b) = refl
+
+  pub the_places : Alike R S h
+      → Alike (C.the_row R) (C.the_row S) ((the_former this).map R.Denot S.Denot h)
+  the_places a =
+      let below = box_places (stored.the_row R) (stored.the_row S)
+      ((the_former this).map R.Denot S.Denot h) (store.the_places R S h a) in
+      let top = enum_places (option.enum (box_of (stored.the_row R)))
+      (option.enum (box_of (stored.the_row S))) (tt, ((moved, tt), tt)) over_store variant refl
+      (tt, ((laid _ _ _ below, tt), tt)) in
+      view_places fields (the_former this) view (λ X Y k u. natural X Y k u u.store)
+      (λ X u. keeps X u u.store) R.Denot S.Denot h (C.the_row R).coded (C.the_row S).coded
+      (invariant R.Denot) (invariant S.Denot) (λ u p q. refl) (λ u p q. refl) (λ u e. tt)
+      (λ u e. tt) (over (I.the_row R)) (over (I.the_row S))
+      (struct_places (I.the_type R) (I.the_type S) (over_store, (λ n. n, tt)) _
+      (λ d i. (same_store d.store i, (d.alloc, tt))) refl
+      (laid _ _ _ top, ((refl, (λ n. refl, λ n. refl)), tt)))
+
+  pub the_codes_placed : Recodes R S h
+      → Recodes (C.the_row R) (C.the_row S) ((the_former this).map R.Denot S.Denot h)
+  the_codes_placed e ps = store.the_codes_placed R S h e ps

@@ -1,20 +1,14 @@
-use Rattle.std.proofs.Common.{ap, ◌∙◌, sym, map, string_bytes}
-use Rattle.std.specs.Map.{keys_of}
 use Rattle.std_collections.proofs.IterRuns.{shows_in_order}
 use Rattle.plist.specs.Shown.{shown_key}
-use Rattle.plist.proofs.Columns.{distinct-rows, keys-rows}
+use Rattle.plist.proofs.Columns.{distinct-none}
 use Rattle.plist.proofs.dictionary.Pairs.keys.Goals as goal
 
-pub returns-clause-rest : goal.returns-clause-rest
-returns-clause-rest g c =
-    let k = c.self.inside in
-    c.new.ensures ∙ ap (map string_bytes) c.as_slice.ensures.keys
-    ∙ sym (keys-rows k.keys.keys k.items.items c.self.invariant.0) ∙ ap keys_of c.self.view_is
+pub returns-in-None-clause-runs : goal.returns-in-None-clause-runs
+returns-in-None-clause-runs g c = shows_in_order shown_key
 
-pub returns-clause-runs : goal.returns-clause-runs
-returns-clause-runs g c = shows_in_order shown_key
+pub returns-in-None-clause-distinct : goal.returns-in-None-clause-distinct
+returns-in-None-clause-distinct g c =
+    distinct-none c.self.inside.store c.args.self.now c.self.view_is c.in-None.is
 
-pub returns-clause-distinct : goal.returns-clause-distinct
-returns-clause-distinct g c =
-    let k = c.self.inside in distinct-rows k.keys.keys k.items.items c.self.invariant.0
-    c.args.self.now c.self.view_is c.self.invariant.1
+pub returns-in-Some-clause-runs : goal.returns-in-Some-clause-runs
+returns-in-Some-clause-runs g c = shows_in_order shown_key

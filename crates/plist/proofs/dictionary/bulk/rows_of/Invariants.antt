@@ -1,9 +1,0 @@
-use Rattle.std.proofs.Common.{◌≡◌, ◌≤◌, ◌+◌, ◌++◌, length, map}
-use Rattle.std.specs.Vec.{vec_capacity}
-use Rattle.plist.specs.Shown.{shown_owned_pair}
-use Rattle.plist.proofs.dictionary.bulk.rows_of.Given as goal
-
-abbrev pub invariant-loop-row : goal.invariant-loop-row
-invariant-loop-row g l =
-    (map shown_owned_pair l.rows.items ++ l.row-iterator ≡ l.fn.pairs)
-    × (length l.rows.items + length l.row-iterator ≤ vec_capacity l.rows)

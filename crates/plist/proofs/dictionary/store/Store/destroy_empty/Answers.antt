@@ -1,0 +1,9 @@
+use Rattle.std.proofs.Common.{◌∙◌}
+use Rattle.plist.proofs.Columns.{none-stored}
+use Rattle.plist.proofs.dictionary.store.Store.destroy_empty.Goals as goal
+
+pub destroy_empty-requires : goal.destroy_empty-requires
+destroy_empty-requires g c =
+    let k = c.self.inside in
+    k.items.ok.0 ∙ none-stored k.keys.keys k.items.items c.self.invariant.0 c.args.self
+    c.self.view_is c.requires

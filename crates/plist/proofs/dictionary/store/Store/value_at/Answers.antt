@@ -1,0 +1,42 @@
+use Rattle.std.proofs.Common.{length, map, string_bytes, sym, ap, ◌∙◌, arith, refl}
+use Rattle.std.specs.Prelude.{slice_get}
+use Rattle.std.specs.Map.{values_of}
+use Rattle.std.proofs.lemmas.Option.{slice_get_read}
+use Rattle.indexmap.specs.IndexMap.{set_value_at}
+use Rattle.plist.proofs.Columns.{values-rows, length-rows, zip-set}
+use Rattle.plist.proofs.dictionary.store.Store.value_at.Goals as goal
+
+pub index_mut-requires : goal.index_mut-requires
+index_mut-requires g c =
+    omega (
+      arith,
+      c.requires,
+      ap length c.self.view_is,
+      length-rows c.self.inside.keys.keys
+          c.self.inside.items.items c.self.invariant.0,
+      c.self.inside.items.ok.0,
+    )
+
+pub returns : goal.returns
+returns g c =
+    let k = c.self.inside in (
+      (
+        refl,
+        λ w. zip-set (map string_bytes k.keys.keys) k.items.items c.args.place w
+            ∙ ap (λ l. set_value_at l c.args.place w) c.self.view_is,
+      ),
+      record {
+        writes_back = tt;
+        value = ap (λ l. slice_get l c.args.place)
+            (sym (sym (values-rows k.keys.keys k.items.items c.self.invariant.0)
+            ∙ ap values_of c.self.view_is))
+            ∙ slice_get_read k.items.items (length k.items.items) c.args.place
+            c.index_mut.result.now refl (omega (
+              arith,
+              c.requires,
+              ap length c.self.view_is,
+              length-rows k.keys.keys k.items.items
+                  c.self.invariant.0,
+            )) c.index_mut.ensures.value;
+      },
+    )

@@ -1,0 +1,17 @@
+-- Pairs by their keys. Two keys are one where their bytes are equal.
+use Rattle.std.specs.Prelude.{◌≡◌, ℕ, List, false, is_some}
+use Rattle.std.specs.Map.{lookup}
+use Rattle.std.specs.Str.{bytes_eq}
+use Rattle.indexmap.specs.IndexMap.{insert_entry, swap_remove_entry}
+
+module _ {V : Type 0} where
+  -- the key isn't among the pairs
+  abbrev pub IsAbsent : (key : List ℕ) → List (List ℕ × V) → Type 0
+  IsAbsent key pairs = is_some (lookup (bytes_eq key) pairs) ≡ false
+
+  -- the pairs after a key's value is set, and after its pair is taken
+  abbrev pub IsSetAt : (old : List (List ℕ × V)) → List ℕ → V → (new : List (List ℕ × V)) → Type 0
+  IsSetAt old key value new = new ≡ insert_entry bytes_eq old key value
+
+  abbrev pub IsTakenAt : (old : List (List ℕ × V)) → List ℕ → (new : List (List ℕ × V)) → Type 0
+  IsTakenAt old key new = new ≡ swap_remove_entry (bytes_eq key) old

@@ -1,0 +1,20 @@
+-- What is lent of a store of pairs by `&mut`.
+use Rattle.std.specs.Prelude.{ℕ, List, Option}
+use Rattle.std.specs.Borrow.{Lends, LendsIf, MutBor, Fml}
+use Rattle.std.specs.Map.{set_value}
+use Rattle.std.specs.Str.{bytes_eq}
+use Rattle.indexmap.specs.IndexMap.{set_value_at}
+use denote.RattleType.{RattleType}
+use Rattle.plist.specs.contracts.dictionary.store.Store.{the_row}
+
+-- the pairs end with the last value behind the reference at the key, and as they are where there is
+-- no reference
+abbrev pub LendsAtKey : (V : RattleType) → MutBor (List (List ℕ × V.Denot)) → List ℕ
+    → Option (MutBor V.Denot) → Fml
+LendsAtKey V pairs key value =
+    LendsIf (the_row V) V pairs value (set_value (bytes_eq key) pairs.now) pairs.now
+
+-- the pairs end with the last value behind the reference at the place
+abbrev pub LendsPlace : (V : RattleType) → MutBor (List (List ℕ × V.Denot)) → ℕ → MutBor V.Denot
+    → Fml
+LendsPlace V pairs place value = Lends (the_row V) V pairs value (set_value_at pairs.now place)
