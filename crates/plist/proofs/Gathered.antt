@@ -1,40 +1,60 @@
 -- The events of a value are gathered, and their file goes out.
-use Rattle.std.proofs.Common.{◌≡◌, ℕ, List, ◌++◌, Option, Ok, Err, map, refl, sym, ap, ◌∙◌, subst}
+use Rattle.std.proofs.Common.{◌≡◌, ℕ, List, ◌∷◌, [], ◌++◌, Option, Some, Result, Ok, Err, map, refl, sym, ap, ◌∙◌, subst, append_assoc, append-nil}
+use Rattle.plist_base.specs.Bracketing.{bracketing, unhinted, shape, AreAlike, AreWhole}
+use Rattle.plist_base.specs.declared.error.Error.{Error}
 use Rattle.plist_base.specs.declared.event.Event.{Event}
-use Rattle.plist_base.specs.Bracketing.{bracketing, unhinted, AreAlike, AreWhole}
 use Rattle.plist_base.specs.Events.{PlainEvent, event_of}
 use Rattle.plist_base.specs.Faults.{FaultKind, Fault, Io, OutOfMemory, PlistTooLarge, fault_nowhere}
 use Rattle.plist_base.specs.Trees.{Tree}
 use Rattle.plist_base.specs.Writing.{Answer}
-use Rattle.plist_binwrite.specs.Held.{plain_events}
+use Rattle.plist_base.proofs.Grammar.{alike_unhinted}
+use Rattle.plist_base.proofs.Stacks.{shape-is}
 use Rattle.plist_binwrite.specs.Sending.{Sends, FailsWith}
-use Rattle.plist_binwrite.proofs.Unhinted.{plain_is, plain_twice}
 use Rattle.plist.specs.declared.stream.events.Events.{Events}
-use Rattle.plist.specs.Events.{remaining_events}
+use Rattle.plist.specs.Events.{GivesEvent, remaining_events}
 use Rattle.plist.specs.Sent.{StopsSending, SendsTree}
 
--- what was gathered, and then what is left
-abbrev pub GatheredSoFar : List PlainEvent → List Event → Events → Type 0
-GatheredSoFar all gathered left = map event_of gathered ++ remaining_events left ≡ all
+-- what was gathered, and then what is left, both without lengths
+abbrev pub GatheredSoFar : List PlainEvent → (held : List PlainEvent) → (left : Events) → Type 0
+GatheredSoFar all held left = held ++ map unhinted (remaining_events left) ≡ map unhinted all
+
+-- one event more
+pub gathered_more : (all held new : List PlainEvent) (before after : Events)
+    (item : Result Event Error) (event : Event) → GatheredSoFar all held before
+    → GivesEvent before (Some item) after → item ≡ Ok event
+    → new ≡ held ++ unhinted (event_of event) ∷ [] → GatheredSoFar all new after
+gathered_more all held new before after item event so gives is grown =
+    let given = (subst (λ i. GivesEvent before (Some i) after) is gives).0 in
+    ap (λ l. l ++ map unhinted (remaining_events after)) grown
+    ∙ append_assoc held (unhinted (event_of event) ∷ []) (map unhinted (remaining_events after))
+    ∙ ap (λ l. held ++ map unhinted l) (sym given) ∙ so
+
+-- none left
+pub gathered_all : (tree : Tree) (held left : List PlainEvent)
+    → held ++ map unhinted left ≡ map unhinted (bracketing tree) → left ≡ [] → held ≡ shape tree
+gathered_all tree held left so none =
+    sym (append-nil held) ∙ ap (λ l. held ++ map unhinted l) (sym none) ∙ so ∙ shape-is tree
+
+pub gathered_alike : (tree : Tree) (es : List PlainEvent) → es ≡ shape tree
+    → AreAlike es (bracketing tree)
+gathered_alike tree es is =
+    ap (map unhinted) (is ∙ sym (shape-is tree)) ∙ alike_unhinted (bracketing tree)
 
 -- ---- sending them
 
-module _ (tree : Tree) (es : List Event) (is : map event_of es ≡ bracketing tree) where
-  alike : AreAlike (plain_events es) (bracketing tree)
-  alike = plain_twice es ∙ plain_is es ∙ ap (map unhinted) is
-
-  pub whole_tree : AreWhole (plain_events es)
+module _ (tree : Tree) (es : List PlainEvent) (alike : AreAlike es (bracketing tree)) where
+  pub whole_tree : AreWhole es
   whole_tree = (tree, alike)
 
   module _ {W : Type 0} (contents : W → Option (List ℕ)) (old new : W) where
-    stops : (kind : FaultKind) → FailsWith contents kind (plain_events es) old new
+    stops : (kind : FaultKind) → FailsWith contents kind es old new
         → StopsSending contents kind tree old new
     stops Io f = (f.0, f.1.1 tree alike, f.2)
     stops PlistTooLarge f = (f.0.1 tree alike, f.1)
     stops OutOfMemory f = (tt, f)
     stops kind f = absurd f
 
-    pub sends_tree : (answer : Answer) → Sends contents (plain_events es) answer old new
+    pub sends_tree : (answer : Answer) → Sends contents es answer old new
         → SendsTree contents tree answer old new
     sends_tree (Ok done) s = (s.0, s.1.1 tree alike, s.2)
     sends_tree (Err fault) s = (s.0, stops fault.kind s.1)

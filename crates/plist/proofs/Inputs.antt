@@ -42,7 +42,7 @@ reads-none (Some all) coming built e b =
 
 -- ---- one item
 
-event-more : (events : List PlainEvent) (e : PlainEvent) (after : List Item)
+pub event-more : (events : List PlainEvent) (e : PlainEvent) (after : List Item)
     → map Ok events ++ Ok e ∷ after ≡ map Ok (events ++ e ∷ []) ++ after
 event-more [] e after = refl
 event-more (x ∷ events) e after = ap (λ l. Ok x ∷ l) (event-more events e after)
@@ -82,7 +82,7 @@ reads-more (Some all) o n given item old new is (left, e, t) h k =
 
 -- ---- the end
 
-all-events : (events others : List PlainEvent) (next : List Item)
+pub all-events : (events others : List PlainEvent) (next : List Item)
     → map Ok events ++ next ≡ map Ok others → (more : List PlainEvent) × (next ≡ map Ok more)
     × (others ≡ events ++ more)
 all-events [] others next e = (others, e, refl)
@@ -102,7 +102,7 @@ all-events (x ∷ events) (y ∷ others) next e =
     same_event : (a b : PlainEvent) → ◌≡◌ {A = Item} (Ok a) (Ok b) → a ≡ b
     same_event a b p = cc
 
-no-events : (es : List PlainEvent) → ◌≡◌ {A = List Item} [] (map Ok es) → es ≡ []
+pub no-events : (es : List PlainEvent) → ◌≡◌ {A = List Item} [] (map Ok es) → es ≡ []
 no-events [] p = refl
 no-events (x ∷ es) p =
     let no : ◌≡◌ {A = List Item} [] (Ok x ∷ map Ok es) → x ∷ es ≡ [] = λ q. cc in no p

@@ -1,6 +1,7 @@
 pub mod Columns
 pub mod TreeOf
 pub mod Keeping
+pub mod KeysOnce
 pub mod LastOnes
 pub mod Carrying
 pub mod Tops

@@ -18,9 +18,9 @@ use std::io::Write;
 use std::rt::Files;
 use std::{fs, io};
 
-// A file that is created, or cut, at its first write.
+/// A file that is created, or cut, at its first write. Where nothing is written, it stays as it was.
 #[derive(Drop)]
-struct Output<'a, R: Files> {
+pub struct Output<'a, R: Files> {
     rt: &'a R,
     path: &'a str,
     file: Option<R::File>,
@@ -55,9 +55,8 @@ impl<'a, R: Files> Write for Output<'a, R> {
 }
 
 impl<'a, R: Files> Output<'a, R> {
-    fn new(rt: &'a R, path: &'a str) -> Self
-        ensures { result.file ≡ None }
-    {
+    /// The file of this name, which nothing is done to yet.
+    pub fn new(rt: &'a R, path: &'a str) -> Self {
         Output {
             rt,
             path,
@@ -65,8 +64,12 @@ impl<'a, R: Files> Output<'a, R> {
         }
     }
 
-    // Has the system store what was written.
-    fn sync(&self) -> Result<(), Error>
+    /// Has the system store what was written.
+    ///
+    /// # Errors
+    ///
+    /// `Io`, without an offset, where the system fails to.
+    pub fn sync(&self) -> Result<(), Error>
         ensures { OnlyDevice result }
     {
         let Some(file) = &self.file else {

@@ -284,7 +284,7 @@ impl Value {
             (answer_of result) writer.old writer.new }
     {
         match collect_events(alloc, self) {
-            Ok(events) => complete(alloc, events.as_slice(), writer),
+            Ok(events) => complete(alloc, &events, writer),
             Err(error) => Err(error),
         }
     }

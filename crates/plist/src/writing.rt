@@ -1,15 +1,17 @@
 //! Values as the events that a writer takes.
 
-ghost use Rattle.std.specs.Prelude.{◌≡◌, map, IfOk};
-ghost use Rattle.plist_base.specs.Bracketing.{bracketing};
-ghost use Rattle.plist_base.specs.Events.{event_of, item_of};
+ghost use Rattle.std.specs.Prelude.{◌≡◌, IfOk};
+ghost use Rattle.plist_base.specs.Bracketing.{bracketing, shape};
+ghost use Rattle.plist_base.specs.Events.{item_of};
 ghost use Rattle.plist_base.specs.Outcomes.{OnlyMemory};
 ghost use Rattle.plist_base.specs.Writing.{answer_of};
+ghost use Rattle.plist_binwrite.specs.Held.{plain_events};
 ghost use Rattle.plist.specs.Handing.{Hands, HandsItem};
 ghost use Rattle.plist.specs.Views.{tree_of};
 
 use crate::Value;
 use plist_base::{Error, Event, Writer};
+use plist_binwrite::Held;
 use std::alloc::Global;
 
 // Hands an item's event to the writer, or passes its fault on.
@@ -40,23 +42,22 @@ pub fn write_value<W: Writer>(alloc: Global, value: &Value, writer: &mut W) -> R
     Ok(())
 }
 
-/// The events of the value, in order. Texts and data are borrowed.
+/// The events of the value, in order, each different scalar once. Texts and data are borrowed.
 ///
 /// # Errors
 ///
 /// `OutOfMemory`, without an offset.
-pub fn collect_events<'a>(alloc: Global, value: &'a Value) -> Result<Vec<Event<'a>>, Error>
-    ensures events { IfOk result (λ events.
-        map event_of events.items ≡ bracketing (tree_of value.now)) }
+pub fn collect_events<'a>(alloc: Global, value: &'a Value) -> Result<Held<'a>, Error>
+    ensures events { IfOk result (λ held. plain_events held ≡ shape (tree_of value.now)) }
     ensures memory { OnlyMemory result }
 {
-    let mut events = Vec::new(alloc);
+    let mut held = Held::new(alloc);
     let mut left = value.events(alloc);
     while let Some(item) = left.next() {
         match item {
-            Ok(event) => events.push(event)?,
+            Ok(event) => held.push(event)?,
             Err(error) => return Err(error),
         }
     }
-    Ok(events)
+    Ok(held)
 }

@@ -1,5 +1,5 @@
 -- The derived test of events tells whether they show the same.
-use Rattle.std.proofs.Common.{◌≡◌, ℕ, List, Bool, true, refl, ap, rules, Bor}
+use Rattle.std.proofs.Common.{◌≡◌, ℕ, List, Bool, true, refl, ap, rules}
 use Rattle.std.specs.Cmp.Rules.{comparing}
 use Rattle.std.proofs.lemmas.Slice.Eq.{bytes_eq-Decides, slice_eq-Decides}
 use Rattle.std.proofs.lemmas.Bool.Decides.{Decides-eqb}
@@ -9,19 +9,13 @@ use lib.Pointwise.{pointwise}
 use Rattle.std.specs.Cow.{cow_str_bytes, cow_slice_items}
 use Rattle.plist_base.specs.declared.event.Event.{Event}
 use Rattle.plist_base.specs.declared.event.Event.TheVariants as event
-use Rattle.plist_base.specs.Events.{PlainEvent, Single, event_of}
+use Rattle.plist_base.specs.Events.{Single, event_of}
 use Rattle.plist_base.specs.Trees.{Data, Date, Real, String}
 use Rattle.plist_base.specs.declared.real.RealBits.TheVariants as real
 use Rattle.plist_base.specs.contracts.event.EventPartialEq.TheImpl as impl
 
 abbrev pub same : Event → Event → Bool
 same x y = (impl.ghosts).eq x y
-
-abbrev pub same_key : Bor Event → Bor Event → Bool
-same_key x y = same x.now y.now
-
-abbrev pub seen : Bor Event → PlainEvent
-seen x = event_of x.now
 
 same_list : (a b : List ℕ) → Decides (pointwise (λ x y. x == y) a b) (a ≡ b)
 same_list a b = slice_eq-Decides Decides-eqb a b _ refl

@@ -1,9 +1,10 @@
 -- The bytes of an object, by the kind of the event that begins it.
-use Rattle.std.proofs.Common.{◌≡◌, ℕ, ◌+◌, ◌*◌, ◌/◌, None, List, [], ◌∷◌, ◌++◌, map, ap, sym, ◌∙◌, subst, arith}
+use Rattle.std.proofs.Common.{◌≡◌, ℕ, ◌+◌, ◌*◌, ◌/◌, true, false, None, List, [], ◌∷◌, ◌++◌, map, ap, sym, ◌∙◌, subst, arith}
 use Rattle.plist_base.specs.Events.{PlainEvent, StartArray, StartDictionary, EndCollection, Single}
 use Rattle.plist_base.specs.Trees.{number_of_trees, number_of_members, Scalar, Tree, Leaf, Array, Dictionary, Trees, Members}
 use Rattle.plist_binwrite.specs.declared.kinds.Kind.TheVariants as kind
 use Rattle.plist_binwrite.specs.Forms.{form, length_form, table_form}
+use Rattle.plist_binwrite.specs.inner.Entries.{is_leaf}
 use Rattle.plist_binwrite.specs.Held.{IfScalar, kind_of, event_at, item_places, key_places, value_places}
 use Rattle.plist_base.specs.Bracketing.{unhinted, shape_of_items, shape_of_pairs}
 use Rattle.plist_binwrite.specs.Standing.{Sits, SitsItems, SitsPairs}
@@ -71,5 +72,19 @@ of_scalar {es} P Q (Array ts) p e s is a b to h =
     absurd (a (ap kind_of (first_event es p (StartArray None)
     ((shape_of_items ts ++ EndCollection ∷ []) ++ s.rest) s.is)))
 of_scalar {es} P Q (Dictionary ms) p e s is a b to h =
+    absurd (b (ap kind_of (first_event es p (StartDictionary None)
+    ((shape_of_pairs ms ++ EndCollection ∷ []) ++ s.rest) s.is)))
+
+-- where neither a collection begins nor a scalar stands, no tree does
+pub of_nothing : {A : Type 0} {es : List PlainEvent} (t : Tree) (p : ℕ) → Sits es t p
+    → (kind_of (event_at es p) ≡ kind.Array → ⊥) → (kind_of (event_at es p) ≡ kind.Dictionary → ⊥)
+    → is_leaf (event_at es p) ≡ false → A
+of_nothing {es = es} (Leaf x) p s a b n =
+    let e : is_leaf (event_at es p) ≡ true = ap is_leaf (first_event es p (Single x) s.rest s.is) in
+    let none : ⊥ = cc in absurd none
+of_nothing {es = es} (Array ts) p s a b n =
+    absurd (a (ap kind_of (first_event es p (StartArray None)
+    ((shape_of_items ts ++ EndCollection ∷ []) ++ s.rest) s.is)))
+of_nothing {es = es} (Dictionary ms) p s a b n =
     absurd (b (ap kind_of (first_event es p (StartDictionary None)
     ((shape_of_pairs ms ++ EndCollection ∷ []) ++ s.rest) s.is)))

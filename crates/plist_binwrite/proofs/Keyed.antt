@@ -1,5 +1,7 @@
 -- Keys of a set: equal ones show the same.
-use Rattle.std.proofs.Common.{◌≡◌, ℕ, zero, suc, ◌+◌, ◌<◌, ◌≤◌, Bool, true, false, if◌then◌else◌, List, [], ◌∷◌, ◌++◌, length, map, Some, refl, sym, ap, ◌∙◌, arith}
+use Rattle.std.proofs.Common.{◌≡◌, ℕ, zero, suc, ◌+◌, ◌<◌, ◌≤◌, Bool, true, false, if◌then◌else◌, List, [], ◌∷◌, ◌++◌, length, get_or, map, position, Some, refl, sym, ap, ◌∙◌, arith, append-nil}
+use Rattle.std.proofs.lemmas.List.{map-append, get_or-map}
+use Rattle.std.proofs.lemmas.List.Quantifiers.{position-Some}
 use Rattle.std.specs.Prelude.{slice_get, option_map}
 use Rattle.std.specs.List.{AllByRecursion, IsDistinct}
 use Rattle.std.proofs.lemmas.Option.{slice_get-map}
@@ -40,6 +42,20 @@ module _ {T P : Type 0} (same : T → T → Bool) (view : T → P) where
       one : (l : List T) → length (map view (l ++ x ∷ [])) ≡ length (map view l) + 1
       one [] = refl
       one (y ∷ l) = let r = one l in omega (arith, r)
+
+  -- the key that a search finds
+  pub key_found : (cs : List T) (i : ℕ) (x : T) (d : T) (e : P)
+      → ((y : T) → same x y ≡ true → view x ≡ view y) → position (same x) cs ≡ Some i
+      → get_or (map view cs) i e ≡ view x
+  key_found cs i x d e same_key h =
+      let f = position-Some (same x) cs i d h in
+      get_or-map view cs i d e f.0 ∙ sym (same_key (get_or cs i d) f.1)
+
+  -- the keys once one has come: one more at most
+  pub keys_more : (b : Bool) (old new : List T) (x : T) → new ≡ (if b then old else old ++ x ∷ [])
+      → (more : List P) × (map view new ≡ map view old ++ more)
+  keys_more true old new x e = ([], ap (map view) e ∙ sym (append-nil (map view old)))
+  keys_more false old new x e = (view x ∷ [], ap (map view) e ∙ map-append view old (x ∷ []))
 
   module _ (key_same : (x y : T) → view x ≡ view y → same x y ≡ true) where
     no_key : (x : T) (cs : List T) (j : ℕ) → AllByRecursion (λ y. same x y ≡ false) cs

@@ -2,7 +2,6 @@
 use Rattle.std.proofs.Common.{◌≡◌, inl, inr, ℕ, ◌+◌, ◌<◌, ◌≤◌, Bool, true, false, eqb, None, List, [], ◌∷◌, ◌++◌, length, refl, ap, sym, ◌∙◌, subst, arith, length-append}
 use Rattle.std.specs.List.{AllByRecursion}
 use Rattle.std.proofs.lemmas.Bool.Decides.{eqb_tells}
-use Rattle.std.proofs.lemmas.List.{length-map}
 use Rattle.plist_base.specs.Bracketing.{shape, shape_of_items, shape_of_pairs}
 use Rattle.plist_base.specs.Events.{PlainEvent, StartArray, StartDictionary, EndCollection, Single}
 use Rattle.plist_base.specs.Trees as trees
@@ -10,8 +9,8 @@ use Rattle.plist_base.specs.Trees.{Scalar, Tree, Leaf, Array, Dictionary, Trees,
 use Rattle.plist_binread.specs.Object as obj
 use Rattle.plist_binwrite.specs.Classes.{AreClasses, met, met_in_items, met_in_pairs, same_class}
 use Rattle.plist_binwrite.specs.Counts.{collections_in, collections_in_items, collections_in_pairs, scalars_in, scalars_in_items, scalars_in_pairs}
-use Rattle.plist_base.specs.declared.event.Event.{Event}
-use Rattle.plist_binwrite.specs.Held.{plain_event, plain_events, num_of, AllBelow}
+use Rattle.plist_binwrite.specs.declared.held.Held.{Held}
+use Rattle.plist_binwrite.specs.Held.{plain_events, num_of, AllBelow}
 use Rattle.plist_binwrite.specs.Numberings.{obj_of}
 use Rattle.plist_binwrite.specs.inner.Scalars.{Owner, shared, alone, own, owner, AreOwners}
 use Rattle.plist_binwrite.specs.Standing.{size, Sits}
@@ -109,12 +108,10 @@ module _ (es : List PlainEvent) (class : ℕ → ℕ) (count : ℕ) (o : AreOwne
       not_both b p q = cc
 
 -- their classes are below the count
-pub owners_below : (events : List Event) (classes : List ℕ) (count : ℕ)
-    → length classes ≡ length events → AreOwners (plain_events events) (num_of classes) count
+pub owners_below : (events : Held) (classes : List ℕ) (count : ℕ)
+    → length classes ≡ length (plain_events events) → AreOwners (plain_events events) (num_of classes) count
     → AllBelow count classes
-owners_below events classes count long o i h = o.below i
-    (let n : length (plain_events events) ≡ length events = length-map events plain_event in omega
-    (arith, n, long, h))
+owners_below events classes count long o i h = o.below i (omega (arith, long, h))
 
 -- ---- what is met, apart by kind
 

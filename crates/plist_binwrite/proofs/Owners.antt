@@ -3,8 +3,7 @@ use Rattle.std.proofs.Common.{◌≡◌, ◌⊎◌, inl, inr, ℕ, zero, suc, �
 use Rattle.std.specs.Prelude.{slice_get}
 use Rattle.plist_base.specs.Events.{Single, PlainEvent, StartArray, StartDictionary, EndCollection}
 use Rattle.plist_base.specs.Trees.{Scalar}
-use Rattle.plist_binwrite.specs.Held.{event_at, kind_of}
-use Rattle.plist_binwrite.specs.declared.kinds.Kind.TheVariants as kind
+use Rattle.plist_binwrite.specs.Held.{event_at}
 use Rattle.plist_binwrite.specs.inner.Scalars.{owner, own, shared, alone, AreApart, HaveClasses, AreOwners, is_leaf}
 
 pub get_below : {K : Type 0} (keys : List K) (i : ℕ) (k : K) → slice_get keys i ≡ Some k
@@ -23,18 +22,6 @@ leaf_or (StartDictionary hint) = inr refl
 leaf_or EndCollection = inr refl
 leaf_or (Single x) = inl (x, refl)
 
-pub kind_leaf : (e : PlainEvent) → kind_of e ≡ kind.Scalar → is_leaf e ≡ true
-kind_leaf (StartArray hint) h = cc
-kind_leaf (StartDictionary hint) h = cc
-kind_leaf EndCollection h = cc
-kind_leaf (Single x) h = refl
-
-pub kind_other : (e : PlainEvent) → (kind_of e ≡ kind.Scalar → ⊥) → is_leaf e ≡ false
-kind_other (StartArray hint) h = refl
-kind_other (StartDictionary hint) h = refl
-kind_other EndCollection h = refl
-kind_other (Single x) h = absurd (h refl)
-
 own_alone : (e : PlainEvent) (p : ℕ) → is_leaf e ≡ false → own e p ≡ alone p
 own_alone (StartArray hint) p h = refl
 own_alone (StartDictionary hint) p h = refl
@@ -47,13 +34,13 @@ not_leaf e x h k = let n : is_leaf e ≡ true = ap is_leaf k in cc
 -- at the end
 module _ (es : List PlainEvent) (class : ℕ → ℕ) (keys : List PlainEvent) (top : ℕ) (place : ℕ)
     (full : length es ≤ place) (have : HaveClasses es class keys top place) (apart : AreApart keys)
-    (room : length keys ≤ top) (low : length keys ≤ length es) where
+    (low : length keys ≤ top) where
   scalar_below : (p : ℕ) → p < length es → (x : Scalar) → event_at es p ≡ Single x
       → class p < length keys
   scalar_below p l x e =
       get_below keys (class p) (Single x) (have.scalars p (omega (arith, l, full)) x e)
 
-  pub owners : AreOwners es class (length es)
+  pub owners : AreOwners es class top
   owners = record {
     below =
         λ p l. elim (leaf_or (event_at es p)) [
@@ -73,7 +60,6 @@ module _ (es : List PlainEvent) (class : ℕ → ℕ) (keys : List PlainEvent) (
         | inr n ↦ absurd (omega (
           arith,
           scalar_below p l s.0 s.1,
-          room,
           (have.others q (omega (arith, m, full)) n).0,
           h,
         ))
@@ -82,7 +68,6 @@ module _ (es : List PlainEvent) (class : ℕ → ℕ) (keys : List PlainEvent) (
         | inl t ↦ absurd (omega (
           arith,
           scalar_below q m t.0 t.1,
-          room,
           (have.others p (omega (arith, l, full)) n).0,
           h,
         ))

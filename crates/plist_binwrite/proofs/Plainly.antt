@@ -1,7 +1,7 @@
 -- A file by the plain writer's classes is the tree's file.
 use Rattle.std.proofs.Common.{◌≡◌, ℕ, ◌^◌, ◌<◌, nat_eq, List, [], Option, Err, refl, sym, ◌∙◌, subst, append-nil}
 use Rattle.std.specs.List.{IsDistinct}
-use Rattle.plist_base.specs.declared.event.Event.{Event}
+use Rattle.plist_binwrite.specs.declared.held.Held.{Held}
 use Rattle.plist_base.specs.Bracketing.{bracketing, shape}
 use Rattle.plist_base.specs.Faults.{Fault, OutOfMemory, fault_nowhere}
 use Rattle.plist_base.specs.Trees.{Tree}
@@ -34,7 +34,7 @@ owned_file class count tree file o f = record {
   fits = subst (λ n. n < 2 ^ 64) (owned_size class count tree o) f.fits;
 }
 
-pub sends_plainly : {W : Type 0} (contents : W → Option (List ℕ)) (events : List Event) (class : ℕ
+pub sends_plainly : {W : Type 0} (contents : W → Option (List ℕ)) (events : Held) (class : ℕ
     → ℕ) (count : ℕ) (answer : Answer) (old new : W) → AreOwners (plain_events events) class count
     → SendsBy class contents (plain_events events) answer old new
     → Sends contents (plain_events events) answer old new
@@ -48,7 +48,7 @@ sends_plainly contents events class count answer old new o s =
 
 -- memory was refused before anything was planned
 pub sends_nothing : {W : Type 0} (contents : W
-    → Option (List ℕ)) (events : List Event) (fault : Fault) (old new : W)
+    → Option (List ℕ)) (events : Held) (fault : Fault) (old new : W)
     → fault ≡ fault_nowhere OutOfMemory → new ≡ old
     → Sends contents (plain_events events) (Err fault) old new
 sends_nothing contents events fault old new is same =

@@ -3,7 +3,7 @@ use Rattle.std.proofs.Common.{◌≡◌, ℕ, ◌<◌, true, eqb, List, ◌++◌
 use Rattle.std.specs.Io.KnownBytes.{Appends}
 use Rattle.std.specs.List.{list_any}
 use Rattle.plist_base.specs.declared.error.Error.{Error}
-use Rattle.plist_base.specs.declared.event.Event.{Event}
+use Rattle.plist_binwrite.specs.declared.held.Held.{Held}
 use Rattle.plist_base.specs.Bracketing.{AreWhole, shape}
 use Rattle.plist_base.specs.Faults.{Io, fault_of, fault_nowhere}
 use Rattle.plist_base.specs.Writing.{Answer, answer_of}
@@ -95,7 +95,7 @@ with_objects es ready P r h =
 
 -- ---- what goes out
 
-module _ {W : Type 0} (contents : W → Option (List ℕ)) (events : List Event) (class : ℕ
+module _ {W : Type 0} (contents : W → Option (List ℕ)) (events : Held) (class : ℕ
     → ℕ) (ready : Ready) (old new : W) (whole : AreWhole (plain_events events))
     (b : IsReadyBy (plain_events events) class ready) where
   abbrev r : IsReady (plain_events events) ready

@@ -1,6 +1,6 @@
 -- What sending a file does.
 use Rattle.std.proofs.Common.{◌≡◌, inl, inr, ℕ, ◌^◌, ◌≤◌, List, Option, Ok, Err, sym, ◌∙◌, subst, refl}
-use Rattle.plist_base.specs.declared.event.Event.{Event}
+use Rattle.plist_binwrite.specs.declared.held.Held.{Held}
 use Rattle.plist_base.specs.Bracketing.{bracketing, AreAlike, AreWhole, AreComplete}
 use Rattle.plist_base.specs.Events.{PlainEvent}
 use Rattle.plist_base.specs.Faults.{FaultKind, Fault, Io, OutOfMemory, PlistTooLarge, fault_nowhere}
@@ -73,7 +73,7 @@ module _ (One Other : Tree → List ℕ → Type 0) (size other : Tree → ℕ) 
 
 -- no file was planned, and nothing went out
 module _ {W : Type 0} (contents : W → Option (List ℕ)) (class : ℕ → ℕ) where
-  pub sends_unplanned : (events : List Event) (fault : Fault) (old new : W)
+  pub sends_unplanned : (events : Held) (fault : Fault) (old new : W)
       → IsUnplanned class (plain_events events) fault
       → AreWhole (plain_events events) → new ≡ old
       → SendsBy class contents (plain_events events) (Err fault) old new

@@ -1,24 +1,43 @@
 -- Held events are those of a tree without their lengths.
-use Rattle.std.proofs.Common.{◌≡◌, List, [], ◌∷◌, map, refl, sym, ap, ◌∙◌}
-use Rattle.plist_base.specs.declared.event.Event.{Event}
+use Rattle.std.proofs.Common.{◌≡◌, List, [], ◌∷◌, map, get_or, refl, sym, ap, ◌∙◌}
 use Rattle.plist_base.specs.Bracketing.{bracketing, shape, unhinted, AreAlike, AreWhole}
-use Rattle.plist_base.specs.Events.{event_of}
+use Rattle.plist_base.specs.Events.{PlainEvent, StartArray, StartDictionary, EndCollection, Single}
 use Rattle.plist_base.specs.Trees.{Tree}
-use Rattle.plist_base.proofs.Stacks.{all-unhinted-twice, shape-is}
-use Rattle.plist_binwrite.specs.Held.{plain_event, plain_events, IsBracketed}
+use Rattle.plist_base.proofs.Stacks.{shape-is}
+use Rattle.plist_binwrite.specs.declared.held.Entry.{Entry}
+use Rattle.plist_binwrite.specs.declared.held.Entry.TheVariants as entry
+use Rattle.plist_binwrite.specs.declared.held.Held.{Held}
+use Rattle.plist_binwrite.specs.Held.{plain_events, scalars_of, IsBracketed}
+use Rattle.plist_binwrite.specs.inner.Entries.{shown, all_shown}
 
-pub plain_is : (es : List Event) → plain_events es ≡ map unhinted (map event_of es)
-plain_is [] = refl
-plain_is (e ∷ es) = ap (λ l. plain_event e ∷ l) (plain_is es)
+pub unhinted_twice : (e : PlainEvent) → unhinted (unhinted e) ≡ unhinted e
+unhinted_twice (StartArray hint) = refl
+unhinted_twice (StartDictionary hint) = refl
+unhinted_twice EndCollection = refl
+unhinted_twice (Single x) = refl
+
+shown_twice : (scalars : List PlainEvent) (e : Entry)
+    → unhinted (shown scalars e) ≡ shown scalars e
+shown_twice scalars (entry.Array behind) = refl
+shown_twice scalars (entry.Dictionary behind) = refl
+shown_twice scalars (entry.Scalar place) = unhinted_twice (get_or scalars place EndCollection)
+shown_twice scalars entry.End = refl
+
+all_twice : (scalars : List PlainEvent) (es : List Entry)
+    → map unhinted (all_shown scalars es) ≡ all_shown scalars es
+all_twice scalars [] = refl
+all_twice scalars (e ∷ es) =
+    ap (λ d. d ∷ map unhinted (all_shown scalars es)) (shown_twice scalars e)
+    ∙ ap (λ l. shown scalars e ∷ l) (all_twice scalars es)
 
 -- nothing is left to strike out
-pub plain_twice : (es : List Event) → map unhinted (plain_events es) ≡ plain_events es
-plain_twice es =
-    ap (map unhinted) (plain_is es) ∙ all-unhinted-twice (map event_of es) ∙ sym (plain_is es)
+pub plain_twice : (held : Held) → map unhinted (plain_events held) ≡ plain_events held
+plain_twice held = all_twice (scalars_of held) held.entries.items
 
-pub plain_shape : (es : List Event) (t : Tree) → AreAlike (plain_events es) (bracketing t)
-    → plain_events es ≡ shape t
-plain_shape es t h = sym (plain_twice es) ∙ h ∙ shape-is t
+pub plain_shape : (held : Held) (t : Tree) → AreAlike (plain_events held) (bracketing t)
+    → plain_events held ≡ shape t
+plain_shape held t h = sym (plain_twice held) ∙ h ∙ shape-is t
 
-pub whole_bracketed : (es : List Event) → AreWhole (plain_events es) → IsBracketed (plain_events es)
-whole_bracketed es whole = (whole.0, plain_shape es whole.0 whole.1)
+pub whole_bracketed : (held : Held) → AreWhole (plain_events held)
+    → IsBracketed (plain_events held)
+whole_bracketed held whole = (whole.0, plain_shape held whole.0 whole.1)

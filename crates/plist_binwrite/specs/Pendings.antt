@@ -10,7 +10,7 @@ use Rattle.plist_binwrite.specs.Held.{plain_events}
 
 -- the events
 abbrev pub events_held : Pending → List PlainEvent
-events_held pending = plain_events pending.events.items
+events_held pending = plain_events pending.held
 
 -- are they those of a whole property list?
 abbrev pub is_whole : Pending → Bool

@@ -1,7 +1,9 @@
 -- What bodies and proofs speak of, and no public clause.
 pub mod Ending
+pub mod Entries
 pub mod Laws
 pub mod Laying
+pub mod Opening
 pub mod Planning
 pub mod PlansBy
 pub mod Scalars

@@ -8,19 +8,19 @@ ghost use Rattle.plist_base.specs.Writing.{answer_of};
 ghost use Rattle.plist_binread.specs.Object.{Object};
 ghost use Rattle.plist_binwrite.specs.Classes.{AreClasses, IsUnplanned, SendsBy};
 ghost use Rattle.plist_binwrite.specs.inner.Ending.{IsReady, IsReadyBy, SendsReady, file_of, numbers_in};
-ghost use Rattle.plist_binwrite.specs.Held.{plain_events, num_of, AllBelow, IsBracketed, IsSkips, Describes};
+ghost use Rattle.plist_binwrite.specs.Held.{plain_events, num_of, AllBelow, IsBracketed, Describes};
 ghost use Rattle.plist_binwrite.specs.Outlets.{Puts};
 ghost use Rattle.plist_binwrite.specs.Sending.{Sends};
 
-use crate::classes::classes_of;
+use crate::classes::{Classes, classes_of};
 use crate::forms::{put_ending, reference_width};
+use crate::held::Held;
 use crate::layout::order_objects;
 use crate::objects::put_objects;
 use crate::outlet::{finish, put};
 use crate::plan::{Plan, plan_by_class};
 use crate::size::check_size;
-use crate::skips::skips_of;
-use plist_base::{Error, Event};
+use plist_base::Error;
 use std::alloc::Global;
 use std::io::Write;
 
@@ -37,24 +37,17 @@ struct Ready {
 }
 
 // Plans the file of the events of a tree, with one object for each class.
-fn make_ready(
-    alloc: Global,
-    events: &[Event<'_>],
-    skips: Vec<usize>,
-    classes: &[usize],
-    count: usize,
-) -> Result<Ready, Error>
+fn make_ready(alloc: Global, events: &Held<'_>, classes: Classes) -> Result<Ready, Error>
     requires whole { IsBracketed (plain_events events.now) }
-    requires skips { IsSkips (plain_events events.now) skips.items 0 }
-    requires long { length classes.now ≡ length events.now }
-    requires below { AllBelow count classes.now }
-    requires classes { AreClasses (plain_events events.now) (num_of classes.now) }
+    requires long { length classes.of.items ≡ length (plain_events events.now) }
+    requires below { AllBelow classes.count classes.of.items }
+    requires classes { AreClasses (plain_events events.now) (num_of classes.of.items) }
     ensures ready { IfOk result (λ ready. IsReadyBy (plain_events events.now)
-        (num_of classes.now) ready) }
-    ensures refused { IfErr result (λ error. IsUnplanned (num_of classes.now)
+        (num_of classes.of.items) ready) }
+    ensures refused { IfErr result (λ error. IsUnplanned (num_of classes.of.items)
         (plain_events events.now) (fault_of error)) }
 {
-    let plan = plan_by_class(alloc, events, skips, classes, count)?;
+    let plan = plan_by_class(alloc, events, classes)?;
     let layout = order_objects(alloc, events, &plan)?;
     let mut places = layout.places;
     let order = layout.order;
@@ -73,7 +66,7 @@ fn make_ready(
 fn put_file<W: Write>(
     writer: &mut W,
     room: &mut Vec<u8>,
-    events: &[Event<'_>],
+    events: &Held<'_>,
     ready: &Ready,
 ) -> Result<(), Error>
     requires ready { IsReady (plain_events events.now) ready.now }
@@ -99,7 +92,7 @@ fn put_file<W: Write>(
 fn send_file<W: Write>(
     writer: &mut W,
     room: &mut Vec<u8>,
-    events: &[Event<'_>],
+    events: &Held<'_>,
     ready: &Ready,
 ) -> Result<(), Error>
     requires ready { IsReady (plain_events events.now) ready.now }
@@ -125,30 +118,26 @@ fn make_room(alloc: Global) -> Result<Vec<u8>, Error>
 /// and flushes. All memory is taken before the first byte is sent: besides the plan, a room of fixed
 /// size that bytes are sent through.
 ///
-/// `skips` tells for each event the place behind the tree that it begins, and `classes` its class,
-/// below `count`. Trees of one class have one object; the class of an end is of no account.
+/// Trees of one class have one object; the class of an end is of no account.
 ///
 /// # Errors
 /// `PlistTooLarge` where the file would have 2^64 bytes or more, and `OutOfMemory`, before a byte
 /// was sent; `Io` after a beginning of the file was.
 pub fn complete_by_class<W: Write>(
     alloc: Global,
-    events: &[Event<'_>],
-    skips: Vec<usize>,
-    classes: &[usize],
-    count: usize,
+    events: &Held<'_>,
+    classes: Classes,
     writer: &mut W,
 ) -> Result<(), Error>
     requires whole { AreWhole (plain_events events.now) }
-    requires skips { IsSkips (plain_events events.now) skips.items 0 }
-    requires long { length classes.now ≡ length events.now }
-    requires below { AllBelow count classes.now }
-    requires classes { AreClasses (plain_events events.now) (num_of classes.now) }
-    ensures { SendsBy (num_of classes.now) W.contents (plain_events events.now)
+    requires long { length classes.of.items ≡ length (plain_events events.now) }
+    requires below { AllBelow classes.count classes.of.items }
+    requires classes { AreClasses (plain_events events.now) (num_of classes.of.items) }
+    ensures { SendsBy (num_of classes.of.items) W.contents (plain_events events.now)
         (answer_of result) writer.old writer.new }
 {
     let mut room = make_room(alloc)?;
-    let ready = make_ready(alloc, events, skips, classes, count)?;
+    let ready = make_ready(alloc, events, classes)?;
     match send_file(writer, &mut room, events, &ready) {
         Ok(()) => Ok(()),
         Err(error) => Err(error),
@@ -160,20 +149,12 @@ pub fn complete_by_class<W: Write>(
 ///
 /// # Errors
 /// Those of [`complete_by_class`].
-pub fn complete<W: Write>(alloc: Global, events: &[Event<'_>], writer: &mut W) -> Result<(), Error>
+pub fn complete<W: Write>(alloc: Global, events: &Held<'_>, writer: &mut W) -> Result<(), Error>
     requires whole { AreWhole (plain_events events.now) }
     ensures { Sends W.contents (plain_events events.now) (answer_of result) writer.old writer.new }
 {
-    let skips = skips_of(alloc, events)?;
     let classes = classes_of(alloc, events)?;
-    match complete_by_class(
-        alloc,
-        events,
-        skips,
-        classes.as_slice(),
-        events.len(),
-        writer,
-    ) {
+    match complete_by_class(alloc, events, classes, writer) {
         Ok(()) => Ok(()),
         Err(error) => Err(error),
     }

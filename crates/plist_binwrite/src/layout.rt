@@ -7,15 +7,16 @@ ghost use Rattle.plist_binwrite.specs.Held.{plain_events, is_stop, event_at, num
 ghost use Rattle.plist_binwrite.specs.inner.Laying.{IsOrder, KeepsMarks};
 ghost use Rattle.plist_binwrite.specs.inner.Planning.{IsPlanned, count_of, numbers_of};
 
-use crate::kinds::{Kind, has_item, kind_at, push_place};
+use crate::held::Held;
+use crate::kinds::{Kind, push_place};
 use crate::plan::Plan;
-use plist_base::{Error, Event};
+use plist_base::Error;
 use std::alloc::Global;
 
 // Puts the object of the event here into the order, unless it is there already. A mark that isn't 0
 // tells of each object that it is.
 fn order_one(
-    events: &[Event<'_>],
+    events: &Held<'_>,
     plan: &Plan,
     place: usize,
     order: &mut Vec<usize>,
@@ -25,12 +26,12 @@ fn order_one(
     requires order { IsOrder (count_of plan.now) order.old.items marks.old.items }
     ensures order { OnOk result (IsOrder (count_of plan.now) order.new.items marks.new.items) }
     ensures keeps { OnOk result (KeepsMarks marks.old.items marks.new.items) }
-    ensures marked { OnOk result (place < length events.now
+    ensures marked { OnOk result (place < length (plain_events events.now)
         → is_stop (event_at (plain_events events.now) place) ≡ false
         → get_or marks.new.items (num_of (numbers_of plan.now) place) 0 ≢ 0) }
     ensures memory { OnlyMemory result }
 {
-    if !has_item(events, place) {
+    if !events.has_item(place) {
         return Ok(());
     }
     let number = plan.number(place);
@@ -44,7 +45,7 @@ fn order_one(
 
 // Puts the keys of a dictionary into the order, from here on.
 fn order_keys(
-    events: &[Event<'_>],
+    events: &Held<'_>,
     plan: &Plan,
     from: usize,
     order: &mut Vec<usize>,
@@ -57,27 +58,27 @@ fn order_keys(
     ensures memory { OnlyMemory result }
 {
     let mut key = from;
-    'walk: while has_item(events, key) {
+    'walk: while events.has_item(key) {
         order_one(events, plan, key, order, marks)?;
         let value = key + 1;
         if value >= events.len() {
             return Ok(());
         }
-        key = plan.skip(value);
+        key = events.skip(value);
     }
     Ok(())
 }
 
 // Puts the object of the event here into the order, and behind it those of its keys.
 fn order_here(
-    events: &[Event<'_>],
+    events: &Held<'_>,
     plan: &Plan,
     place: usize,
     order: &mut Vec<usize>,
     marks: &mut Vec<usize>,
 ) -> Result<(), Error>
     requires planned { IsPlanned (plain_events events.now) plan.now }
-    requires place { place < length events.now }
+    requires place { place < length (plain_events events.now) }
     requires order { IsOrder (count_of plan.now) order.old.items marks.old.items }
     ensures order { OnOk result (IsOrder (count_of plan.now) order.new.items marks.new.items) }
     ensures keeps { OnOk result (KeepsMarks marks.old.items marks.new.items) }
@@ -86,7 +87,7 @@ fn order_here(
     ensures memory { OnlyMemory result }
 {
     order_one(events, plan, place, order, marks)?;
-    match kind_at(events, place) {
+    match events.kind_at(place) {
         Kind::Dictionary => order_keys(events, plan, place + 1, order, marks),
         _ => Ok(()),
     }
@@ -113,7 +114,7 @@ pub struct Layout {
 ///
 /// # Errors
 /// `OutOfMemory`, without an offset.
-pub fn order_objects(alloc: Global, events: &[Event<'_>], plan: &Plan) -> Result<Layout, Error>
+pub fn order_objects(alloc: Global, events: &Held<'_>, plan: &Plan) -> Result<Layout, Error>
     requires planned { IsPlanned (plain_events events.now) plan.now }
     ensures order { IfOk result (λ r. IsOrder (count_of plan.now) r.order.items r.places.items) }
     ensures all { IfOk result (λ r. (k : ℕ) → k < count_of plan.now

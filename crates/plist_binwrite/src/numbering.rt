@@ -4,12 +4,13 @@ ghost use Rattle.std.specs.Prelude.{◌≡◌, ◌<◌, ℕ, length, get_or, fal
 ghost use Rattle.plist_base.specs.Outcomes.{OnlyMemory};
 ghost use Rattle.plist_base.specs.Trees.{Tree};
 ghost use Rattle.plist_base.specs.Bracketing.{shape};
-ghost use Rattle.plist_binwrite.specs.Held.{plain_events, is_stop, event_at, IsSkips, AllBelow, num_of, IsNumbered, Keeps, AllNumbered};
+ghost use Rattle.plist_binwrite.specs.Held.{plain_events, is_stop, event_at, AllBelow, num_of, IsNumbered, Keeps, AllNumbered};
 ghost use Rattle.plist_binwrite.specs.inner.PlansBy.{IsPlan, HaveIds};
 
 use crate::children::children;
-use crate::kinds::{has_item, push_place};
-use plist_base::{Error, Event};
+use crate::held::Held;
+use crate::kinds::push_place;
+use plist_base::Error;
 use std::alloc::Global;
 
 // An event that has no number yet.
@@ -17,7 +18,7 @@ const NO_NUMBER: usize = usize::MAX;
 
 // Numbers the object of the event here, unless it has a number.
 fn number_one(
-    events: &[Event<'_>],
+    events: &Held<'_>,
     classes: &[usize],
     ids: &mut Vec<usize>,
     numbers: &mut Vec<usize>,
@@ -27,8 +28,8 @@ fn number_one(
     requires plan { IsPlan (plain_events events.now)
         (num_of classes.now) numbers.old.items firsts.old.items }
     requires ids { HaveIds classes.now ids.old.items firsts.old.items }
-    requires long { length classes.now ≡ length events.now }
-    requires place { place < length events.now }
+    requires long { length classes.now ≡ length (plain_events events.now) }
+    requires place { place < length (plain_events events.now) }
     ensures plan { OnOk result (IsPlan (plain_events events.now)
         (num_of classes.now) numbers.new.items firsts.new.items) }
     ensures ids { OnOk result (HaveIds classes.now ids.new.items firsts.new.items) }
@@ -41,7 +42,7 @@ fn number_one(
         → get_or firsts.new.items 0 0 ≡ place) }
     ensures memory { OnlyMemory result }
 {
-    if !has_item(events, place) {
+    if !events.has_item(place) {
         return Ok(());
     }
     if numbers.as_slice()[place] < firsts.len() {
@@ -61,7 +62,7 @@ fn number_one(
 }
 
 fn number_all(
-    events: &[Event<'_>],
+    events: &Held<'_>,
     classes: &[usize],
     ids: &mut Vec<usize>,
     numbers: &mut Vec<usize>,
@@ -71,8 +72,8 @@ fn number_all(
     requires plan { IsPlan (plain_events events.now)
         (num_of classes.now) numbers.old.items firsts.old.items }
     requires ids { HaveIds classes.now ids.old.items firsts.old.items }
-    requires long { length classes.now ≡ length events.now }
-    requires places { AllBelow (length events.now) places.now }
+    requires long { length classes.now ≡ length (plain_events events.now) }
+    requires places { AllBelow (length (plain_events events.now)) places.now }
     ensures plan { OnOk result (IsPlan (plain_events events.now)
         (num_of classes.now) numbers.new.items firsts.new.items) }
     ensures ids { OnOk result (HaveIds classes.now ids.new.items firsts.new.items) }
@@ -101,13 +102,11 @@ pub struct Numbering {
 /// numbers its keys and then its values.
 pub fn number_by_class(
     alloc: Global,
-    events: &[Event<'_>],
-    skips: &[usize],
+    events: &Held<'_>,
     classes: &[usize],
     count: usize,
 ) -> Result<Numbering, Error>
-    requires skips { IsSkips (plain_events events.now) skips.now 0 }
-    requires long { length classes.now ≡ length events.now }
+    requires long { length classes.now ≡ length (plain_events events.now) }
     requires below { AllBelow count classes.now }
     ensures plan { IfOk result (λ r. IsPlan (plain_events events.now)
         (num_of classes.now) r.numbers.items r.firsts.items) }
@@ -122,12 +121,12 @@ pub fn number_by_class(
     let mut ids = vec![in alloc; NO_NUMBER; count]?;
     let mut keys = Vec::new(alloc);
     let mut values = Vec::new(alloc);
-    if events.is_empty() {
+    if events.len() == 0 {
         return Ok(Numbering { numbers, firsts });
     }
     number_one(events, classes, &mut ids, &mut numbers, &mut firsts, 0)?;
     for place in 0..events.len() {
-        children(events, skips, place, &mut keys, &mut values)?;
+        children(events, place, &mut keys, &mut values)?;
         number_all(
             events,
             classes,

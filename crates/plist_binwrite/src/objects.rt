@@ -13,17 +13,18 @@ ghost use Rattle.plist_binwrite.specs.inner.Planning.{IsPlanned, count_of, numbe
 ghost use Rattle.plist_binwrite.specs.Written.{bodies};
 
 use crate::forms::{put_length, put_number, put_scalar};
-use crate::kinds::{Kind, has_item, kind_at};
+use crate::held::Held;
+use crate::kinds::Kind;
 use crate::plan::Plan;
 use crate::size::count_items;
-use plist_base::{Error, Event};
+use plist_base::Error;
 use std::io::Write;
 
 // Puts references to the items of an array, from here on.
 fn put_items<W: Write>(
     writer: &mut W,
     room: &mut Vec<u8>,
-    events: &[Event<'_>],
+    events: &Held<'_>,
     plan: &Plan,
     width: usize,
     from: usize,
@@ -36,13 +37,13 @@ fn put_items<W: Write>(
         (answer_of result) (W.contents writer.new) room.new.items }
 {
     let mut place = from;
-    'walk: while has_item(events, place) {
+    'walk: while events.has_item(place) {
         let number = plan.number(place);
         match put_number(writer, room, width, number as u64) {
             Ok(()) => {}
             Err(error) => return Err(error),
         }
-        place = plan.skip(place);
+        place = events.skip(place);
     }
     Ok(())
 }
@@ -60,7 +61,7 @@ fn half_of(key: usize, value: usize, of_values: bool) -> usize
 fn put_halves<W: Write>(
     writer: &mut W,
     room: &mut Vec<u8>,
-    events: &[Event<'_>],
+    events: &Held<'_>,
     plan: &Plan,
     width: usize,
     from: usize,
@@ -74,7 +75,7 @@ fn put_halves<W: Write>(
         (answer_of result) (W.contents writer.new) room.new.items }
 {
     let mut key = from;
-    'walk: while has_item(events, key) {
+    'walk: while events.has_item(key) {
         let value = key + 1;
         if value >= events.len() {
             return Ok(());
@@ -84,7 +85,7 @@ fn put_halves<W: Write>(
             Ok(()) => {}
             Err(error) => return Err(error),
         }
-        key = plan.skip(value);
+        key = events.skip(value);
     }
     Ok(())
 }
@@ -92,20 +93,20 @@ fn put_halves<W: Write>(
 fn put_array<W: Write>(
     writer: &mut W,
     room: &mut Vec<u8>,
-    events: &[Event<'_>],
+    events: &Held<'_>,
     plan: &Plan,
     width: usize,
     place: usize,
 ) -> Result<(), Error>
     requires planned { IsPlanned (plain_events events.now) plan.now }
-    requires place { place < length events.now }
+    requires place { place < length (plain_events events.now) }
     requires width { width ≤ 8 }
     ensures { (ts : Trees) → SitsItems (plain_events events.now) ts (place + 1)
         → Puts (W.contents writer.old) room.old.items
         (form width (obj_of (num_of (numbers_of plan.now)) (Array ts) place))
         (answer_of result) (W.contents writer.new) room.new.items }
 {
-    let count = count_items(events, plan.skips.as_slice(), place + 1) as u64;
+    let count = count_items(events, place + 1) as u64;
     match put_length(writer, room, 0xa, count) {
         Ok(()) => put_items(writer, room, events, plan, width, place + 1),
         Err(error) => Err(error),
@@ -115,20 +116,20 @@ fn put_array<W: Write>(
 fn put_dictionary<W: Write>(
     writer: &mut W,
     room: &mut Vec<u8>,
-    events: &[Event<'_>],
+    events: &Held<'_>,
     plan: &Plan,
     width: usize,
     place: usize,
 ) -> Result<(), Error>
     requires planned { IsPlanned (plain_events events.now) plan.now }
-    requires place { place < length events.now }
+    requires place { place < length (plain_events events.now) }
     requires width { width ≤ 8 }
     ensures { (ms : Members) → SitsPairs (plain_events events.now) ms (place + 1)
         → Puts (W.contents writer.old) room.old.items
         (form width (obj_of (num_of (numbers_of plan.now)) (Dictionary ms) place))
         (answer_of result) (W.contents writer.new) room.new.items }
 {
-    let count = count_items(events, plan.skips.as_slice(), place + 1) as u64;
+    let count = count_items(events, place + 1) as u64;
     match put_length(writer, room, 0xd, count / 2) {
         Ok(()) => {}
         Err(error) => return Err(error),
@@ -143,23 +144,26 @@ fn put_dictionary<W: Write>(
 fn put_object<W: Write>(
     writer: &mut W,
     room: &mut Vec<u8>,
-    events: &[Event<'_>],
+    events: &Held<'_>,
     plan: &Plan,
     width: usize,
     place: usize,
 ) -> Result<(), Error>
     requires planned { IsPlanned (plain_events events.now) plan.now }
-    requires place { place < length events.now }
+    requires place { place < length (plain_events events.now) }
     requires width { width ≤ 8 }
     ensures { (t : Tree) → Sits (plain_events events.now) t place
         → Puts (W.contents writer.old) room.old.items
         (form width (obj_of (num_of (numbers_of plan.now)) t place))
         (answer_of result) (W.contents writer.new) room.new.items }
 {
-    match kind_at(events, place) {
+    match events.kind_at(place) {
         Kind::Array => put_array(writer, room, events, plan, width, place),
         Kind::Dictionary => put_dictionary(writer, room, events, plan, width, place),
-        _ => put_scalar(writer, room, &events[place]),
+        _ => match events.scalar_at(place) {
+            Some(scalar) => put_scalar(writer, room, scalar),
+            None => Ok(()),
+        },
     }
 }
 
@@ -167,7 +171,7 @@ fn put_object<W: Write>(
 pub fn put_objects<W: Write>(
     writer: &mut W,
     room: &mut Vec<u8>,
-    events: &[Event<'_>],
+    events: &Held<'_>,
     plan: &Plan,
     width: usize,
     order: &[usize],

@@ -1,23 +1,24 @@
 //! The events of the open property list, with what is still to come.
 
-ghost use Rattle.std.specs.Prelude.{◌≡◌, map, true};
+ghost use Rattle.std.specs.Prelude.{◌≡◌, true};
 ghost use Rattle.std.proofs.Props.{props};
-ghost use Rattle.plist_base.specs.Events.{event_of};
 ghost use Rattle.plist_base.specs.inner.Wants.{wanted_after};
+ghost use Rattle.plist_binwrite.specs.Held.{plain_events};
 ghost use Rattle.plist_binwrite.specs.inner.Stacks.{is_stack, wanted_now};
 
+use crate::held::Held;
 use crate::wants::{Change, Want, change_on, put};
-use plist_base::{Error, ErrorKind, Event, EventKind, OwnedEvent};
+use plist_base::{Error, ErrorKind, Event, EventKind};
 use std::alloc::Global;
 
 /// The events taken of the open property list. Where they are those of a whole one, they wait to be
 /// cleared.
 #[derive(Drop)]
 pub struct Pending {
-    events: Vec<OwnedEvent>,
+    held: Held<'static>,
     wants: Vec<Want>,
     whole: bool,
-    ghost wanted: { is_stack (wanted_after (map event_of events.items)) (wanted_now whole wants.items) ≡ true } by { Prim.hlevel props },
+    ghost wanted: { is_stack (wanted_after (plain_events held)) (wanted_now whole wants.items) ≡ true } by { Prim.hlevel props },
 }
 
 impl Pending {
@@ -27,7 +28,6 @@ impl Pending {
     ghost use Rattle.plist_base.specs.Faults.{fault_of};
     ghost use Rattle.plist_base.specs.Outcomes.{OnlyMemory};
     ghost use Rattle.plist_binwrite.specs.Pendings.{events_held, is_whole, Takes, IsRefused, refusal_of};
-    ghost use Rattle.plist_binwrite.specs.Held.{plain_events};
     ghost use Rattle.plist_binwrite.specs.inner.Stacks.{change_seen, stack_of, change_on_top};
 
     /// No events. It takes no memory.
@@ -36,7 +36,7 @@ impl Pending {
         ensures whole { is_whole result ≡ false }
     {
         Pending {
-            events: Vec::new(alloc),
+            held: Held::new(alloc),
             wants: Vec::new(alloc),
             whole: false,
         }
@@ -46,7 +46,7 @@ impl Pending {
     fn fault_of_event(&self, event: &Event<'_>) -> Error
         ensures { fault_of result ≡ refusal_of (events_held self.now) (event_of event.now) }
     {
-        let expected = if self.events.is_empty() {
+        let expected = if self.held.len() == 0 {
             EventKind::ValueOrStartCollection
         } else {
             EventKind::DictionaryKeyOrEndCollection
@@ -64,9 +64,8 @@ impl Pending {
         ensures taken { OnOk result (Takes self.old (event_of event.entry) self.new) }
         ensures memory { OnlyMemory result }
     {
-        let owned = event.into_owned(alloc)?;
         self.wants.reserve(1)?;
-        self.events.push(owned)?;
+        self.held.push_copy(alloc, event)?;
         put(&mut self.wants, change);
         self.whole = self.wants.is_empty();
         Ok(())
@@ -107,10 +106,10 @@ impl Pending {
     }
 
     /// The events.
-    pub fn events(&self) -> &[OwnedEvent]
+    pub fn events(&self) -> &Held<'static>
         ensures { plain_events result.now ≡ events_held self.now }
     {
-        self.events.as_slice()
+        &self.held
     }
 
     /// Drops the events. What room they had is kept.
@@ -118,7 +117,7 @@ impl Pending {
         ensures events { events_held self.new ≡ [] }
         ensures whole { is_whole self.new ≡ false }
     {
-        self.events.clear();
+        self.held.clear();
         self.wants.clear();
         self.whole = false;
     }

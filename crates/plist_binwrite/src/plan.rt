@@ -3,30 +3,22 @@
 ghost use Rattle.std.specs.Prelude.{◌≡◌, ◌<◌, length, IfOk};
 ghost use Rattle.plist_base.specs.Outcomes.{OnlyMemory};
 ghost use Rattle.plist_binwrite.specs.Classes.{AreClasses};
-ghost use Rattle.plist_binwrite.specs.Held.{plain_events, num_of, AllBelow, IsBracketed, IsSkips};
-ghost use Rattle.plist_binwrite.specs.inner.Planning.{IsPlanned, GoesBy, skips_in, numbers_of, firsts_of};
+ghost use Rattle.plist_binwrite.specs.Held.{plain_events, num_of, AllBelow, IsBracketed};
+ghost use Rattle.plist_binwrite.specs.inner.Planning.{IsPlanned, GoesBy, numbers_of, firsts_of};
 
+use crate::classes::Classes;
+use crate::held::Held;
 use crate::numbering::{Numbering, number_by_class};
-use plist_base::{Error, Event};
+use plist_base::Error;
 use std::alloc::Global;
 
-/// What is planned of events: for each the place behind the tree that it begins, and the numbers of
-/// their objects.
+/// What is planned of events: the numbers of their objects.
 #[derive(Drop)]
 pub struct Plan {
-    pub skips: Vec<usize>,
     pub numbering: Numbering,
 }
 
 impl Plan {
-    /// The place behind the tree that begins here.
-    pub fn skip(&self, place: usize) -> usize
-        requires { place < length (skips_in self.now) }
-        ensures { result ≡ num_of (skips_in self.now) place }
-    {
-        self.skips.as_slice()[place]
-    }
-
     /// The number of the object of the event here.
     pub fn number(&self, place: usize) -> usize
         requires { place < length (numbers_of self.now) }
@@ -48,23 +40,16 @@ impl Plan {
 ///
 /// # Errors
 /// `OutOfMemory`, without an offset.
-pub fn plan_by_class(
-    alloc: Global,
-    events: &[Event<'_>],
-    skips: Vec<usize>,
-    classes: &[usize],
-    count: usize,
-) -> Result<Plan, Error>
+pub fn plan_by_class(alloc: Global, events: &Held<'_>, classes: Classes) -> Result<Plan, Error>
     requires whole { IsBracketed (plain_events events.now) }
-    requires skips { IsSkips (plain_events events.now) skips.items 0 }
-    requires long { length classes.now ≡ length events.now }
-    requires below { AllBelow count classes.now }
-    requires classes { AreClasses (plain_events events.now) (num_of classes.now) }
+    requires long { length classes.of.items ≡ length (plain_events events.now) }
+    requires below { AllBelow classes.count classes.of.items }
+    requires classes { AreClasses (plain_events events.now) (num_of classes.of.items) }
     ensures planned { IfOk result (λ plan. IsPlanned (plain_events events.now) plan) }
     ensures goes { IfOk result (λ plan. GoesBy (plain_events events.now)
-        (num_of classes.now) plan) }
+        (num_of classes.of.items) plan) }
     ensures memory { OnlyMemory result }
 {
-    let numbering = number_by_class(alloc, events, skips.as_slice(), classes, count)?;
-    Ok(Plan { skips, numbering })
+    let numbering = number_by_class(alloc, events, classes.of.as_slice(), classes.count)?;
+    Ok(Plan { numbering })
 }

@@ -10,7 +10,8 @@ ghost use Rattle.plist_binwrite.specs.SendingAs.{Sends};
 ghost use Rattle.plist_binwrite.specs.Sizes.{file_size};
 
 use crate::completion;
-use plist_base::{Error, Event};
+use crate::held::Held;
+use plist_base::Error;
 use std::alloc::Global;
 use std::io::Write;
 
@@ -27,7 +28,7 @@ pub trait Sharing: Drop {
     /// # Errors
     /// `PlistTooLarge` where the file would have 2^64 bytes or more, and `OutOfMemory`, before a byte
     /// was sent; `Io` after a beginning of the file was.
-    fn complete<W: Write>(alloc: Global, events: &[Event<'_>], writer: &mut W) -> Result<(), Error>
+    fn complete<W: Write>(alloc: Global, events: &Held<'_>, writer: &mut W) -> Result<(), Error>
         requires whole { AreWhole (plain_events events.now) }
         ensures { Sends IsFile size W.contents (plain_events events.now) (answer_of result)
             writer.old writer.new };
@@ -42,11 +43,7 @@ impl Sharing for EqualScalars {
 
     ghost size = { file_size };
 
-    fn complete<W: Write>(
-        alloc: Global,
-        events: &[Event<'_>],
-        writer: &mut W,
-    ) -> Result<(), Error> {
+    fn complete<W: Write>(alloc: Global, events: &Held<'_>, writer: &mut W) -> Result<(), Error> {
         completion::complete(alloc, events, writer)
     }
 }

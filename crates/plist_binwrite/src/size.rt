@@ -10,7 +10,7 @@ ghost use Rattle.plist_binread.specs.Object.{Object};
 ghost use Rattle.plist_binwrite.specs.Classes.{Fits, IsOversized};
 ghost use Rattle.plist_binwrite.specs.Forms.{IsWritable};
 ghost use Rattle.plist_binwrite.specs.Standing.{Sits, SitsItems};
-ghost use Rattle.plist_binwrite.specs.Held.{plain_events, num_of, IsSkips, Describes};
+ghost use Rattle.plist_binwrite.specs.Held.{plain_events, num_of, Describes};
 ghost use Rattle.plist_binwrite.specs.inner.Laying.{IsOrder, laid_out};
 ghost use Rattle.plist_binwrite.specs.Numberings.{obj_of};
 ghost use Rattle.plist_binwrite.specs.inner.Planning.{IsPlanned, GoesBy, count_of, numbers_of};
@@ -18,47 +18,50 @@ ghost use Rattle.plist_binwrite.specs.Sizes.{TellsSize, object_size, size_with};
 ghost use Rattle.plist_binwrite.specs.Written.{Laid, reference_width};
 
 use crate::forms::{offset_width, reference_width};
-use crate::kinds::{Kind, has_item, kind_at};
+use crate::held::Held;
+use crate::kinds::Kind;
 use crate::lengths::{add, length_of_collection, length_of_scalar};
 use crate::plan::Plan;
-use plist_base::{Error, ErrorKind, Event};
+use plist_base::{Error, ErrorKind};
 
 /// The number of items of an array from here on; a key is an item, and so is its value.
-pub fn count_items(events: &[Event<'_>], skips: &[usize], from: usize) -> usize
-    requires { IsSkips (plain_events events.now) skips.now 0 }
+pub fn count_items(events: &Held<'_>, from: usize) -> usize
     ensures value { (ts : Trees) → SitsItems (plain_events events.now) ts from
         → result ≡ number_of_trees ts }
     ensures small { result < 2 ^ 64 }
 {
     let mut count = 0;
     let mut place = from;
-    'walk: while has_item(events, place) {
+    'walk: while events.has_item(place) {
         count += 1;
-        place = skips[place];
+        place = events.skip(place);
     }
     count
 }
 
 // The size of the object of the tree that begins here.
-fn size_of_object(events: &[Event<'_>], plan: &Plan, width: usize, place: usize) -> Option<u64>
+fn size_of_object(events: &Held<'_>, plan: &Plan, width: usize, place: usize) -> Option<u64>
     requires planned { IsPlanned (plain_events events.now) plan.now }
-    requires place { place < length events.now }
+    requires place { place < length (plain_events events.now) }
     requires fits { count_of plan.now ≤ 256 ^ width }
     ensures size { (t : Tree) → Sits (plain_events events.now) t place
         → TellsSize result (object_size width t) }
     ensures writable { (t : Tree) → Sits (plain_events events.now) t place
         → IsWritable width (obj_of (num_of (numbers_of plan.now)) t place) }
 {
-    match kind_at(events, place) {
+    match events.kind_at(place) {
         Kind::Array => {
-            let count = count_items(events, plan.skips.as_slice(), place + 1) as u64;
+            let count = count_items(events, place + 1) as u64;
             length_of_collection(count, count, width as u64)
         }
         Kind::Dictionary => {
-            let count = count_items(events, plan.skips.as_slice(), place + 1) as u64;
+            let count = count_items(events, place + 1) as u64;
             length_of_collection(count / 2, count, width as u64)
         }
-        _ => length_of_scalar(&events[place]),
+        _ => match events.scalar_at(place) {
+            Some(scalar) => length_of_scalar(scalar),
+            None => Some(0),
+        },
     }
 }
 
@@ -74,7 +77,7 @@ fn place_or_none(told: Option<u64>) -> usize
 
 // Gives each object its place, in this order from behind the magic on. The place behind them all.
 fn place_objects(
-    events: &[Event<'_>],
+    events: &Held<'_>,
     plan: &Plan,
     width: usize,
     order: &[usize],
@@ -128,7 +131,7 @@ fn has_size(table: u64, count: u64) -> bool
 /// # Errors
 /// `PlistTooLarge`, without an offset, exactly where the file would have 2^64 bytes or more.
 pub fn check_size(
-    events: &[Event<'_>],
+    events: &Held<'_>,
     plan: &Plan,
     order: &[usize],
     places: &mut Vec<usize>,

@@ -1,12 +1,12 @@
 -- Sending a file by classes of trees sends the shared file.
 use Rattle.std.proofs.Common.{◌≡◌, ℕ, List, [], Option, Err, append-nil, refl, sym, ◌∙◌, subst}
-use Rattle.plist_base.specs.declared.event.Event.{Event}
 use Rattle.plist_base.specs.Bracketing.{AreAlike, bracketing, shape}
 use Rattle.plist_base.specs.Events.{PlainEvent}
 use Rattle.plist_base.specs.Faults.{Fault, OutOfMemory, fault_nowhere}
 use Rattle.plist_base.specs.Trees.{Tree}
 use Rattle.plist_base.specs.Writing.{Answer}
 use Rattle.plist_binwrite.specs.Classes.{IsFileBy, size_by, SendsBy}
+use Rattle.plist_binwrite.specs.declared.held.Held.{Held}
 use Rattle.plist_binwrite.specs.Held.{plain_events}
 use Rattle.plist_binwrite.specs.Standing.{Sits}
 use Rattle.plist_binwrite.proofs.Sends.{sends_as}
@@ -20,7 +20,7 @@ use Rattle.plist_share.proofs.Shares.{shared_file, size_is}
 sits_whole : (es : List PlainEvent) (t : Tree) → es ≡ shape t → Sits es t 0
 sits_whole es t e = record { rest = []; is = e ∙ sym (append-nil (shape t)) }
 
-module _ {W : Type 0} (contents : W → Option (List ℕ)) (events : List Event) (class : ℕ → ℕ)
+module _ {W : Type 0} (contents : W → Option (List ℕ)) (events : Held) (class : ℕ → ℕ)
     (told : TellTrees (plain_events events) class) where
   sits : (t : Tree) → AreAlike (plain_events events) (bracketing t) → Sits (plain_events events) t 0
   sits t alike = sits_whole (plain_events events) t (plain_shape events t alike)
@@ -36,7 +36,7 @@ module _ {W : Type 0} (contents : W → Option (List ℕ)) (events : List Event)
       new s
 
 -- where memory was refused before anything was planned, nothing went out
-pub sends_nothing : {W : Type 0} (contents : W → Option (List ℕ)) (events : List Event)
+pub sends_nothing : {W : Type 0} (contents : W → Option (List ℕ)) (events : Held)
     (fault : Fault) (old new : W) → fault ≡ fault_nowhere OutOfMemory → new ≡ old
     → Sends contents (plain_events events) (Err fault) old new
 sends_nothing contents events fault old new is same =

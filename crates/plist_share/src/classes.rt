@@ -5,16 +5,17 @@ ghost use Rattle.plist_base.specs.Outcomes.{OnlyMemory};
 ghost use Rattle.plist_base.specs.Faults.{OutOfMemory};
 ghost use Rattle.plist_base.specs.Trees.{Tree};
 ghost use Rattle.plist_binwrite.specs.Classes.{AreClasses};
-ghost use Rattle.plist_binwrite.specs.Held.{plain_events, IsSkips, AllBelow, keys_in, values_in, num_of};
+ghost use Rattle.plist_binwrite.specs.Held.{plain_events, AllBelow, keys_in, values_in, num_of};
 ghost use Rattle.plist_binwrite.specs.inner.Scalars.{AreApart};
 ghost use Rattle.plist_binwrite.specs.Standing.{Sits};
 ghost use Rattle.plist_share.specs.inner.Keys.{HaveClasses, TellTrees, IsIndexed, Extends, key_of, keys_seen};
 
 use indexmap::IndexSet;
-use plist_base::{Error, ErrorKind, Event};
+use plist_base::{Error, ErrorKind};
+use plist_binwrite::Held;
 use plist_binwrite::children::children;
-use plist_binwrite::classes::classes_of;
-use plist_binwrite::kinds::{Kind, kind_at, push_place};
+use plist_binwrite::classes::{Classes, classes_of};
+use plist_binwrite::kinds::{Kind, push_place};
 use std::alloc::Global;
 
 // A collection by its kind and the classes of its children, a dictionary's keys before its values.
@@ -63,58 +64,55 @@ fn push_classes(found: &mut Vec<usize>, classes: &[usize], places: &[usize]) -> 
 // The classes of the children of the collection that begins here.
 fn classes_within(
     alloc: Global,
-    events: &[Event<'_>],
-    skips: &[usize],
+    events: &Held<'_>,
     classes: &[usize],
     place: usize,
     places: &mut Places,
 ) -> Result<Vec<usize>, Error>
-    requires skips { IsSkips (plain_events events.now) skips.now 0 }
-    requires place { place < length events.now }
-    requires long { length classes.now ≡ length events.now }
+    requires place { place < length (plain_events events.now) }
+    requires long { length classes.now ≡ length (plain_events events.now) }
     ensures classes { IfOk result (λ found. (t : Tree) → Sits (plain_events events.now) t place
         → found.items ≡ map (num_of classes.now) (keys_in t place)
         ++ map (num_of classes.now) (values_in t place)) }
     ensures memory { OnlyMemory result }
 {
-    children(events, skips, place, &mut places.keys, &mut places.values)?;
+    children(events, place, &mut places.keys, &mut places.values)?;
     let mut found = Vec::new(alloc);
     push_classes(&mut found, classes, places.keys.as_slice())?;
     push_classes(&mut found, classes, places.values.as_slice())?;
     Ok(found)
 }
 
-// The class of the collection that begins here: those of collections lie behind the ones of scalars.
+// The class of the collection that begins here: those of collections go from the base on,
+// behind the ones of scalars.
 fn class_of_collection(
     alloc: Global,
-    events: &[Event<'_>],
-    skips: &[usize],
+    events: &Held<'_>,
     classes: &[usize],
+    base: usize,
     place: usize,
     places: &mut Places,
     is_dictionary: bool,
     collections: &mut IndexSet<Collection>,
 ) -> Result<usize, Error>
-    requires skips { IsSkips (plain_events events.now) skips.now 0 }
-    requires place { place < length events.now }
-    requires long { length classes.now ≡ length events.now }
+    requires place { place < length (plain_events events.now) }
+    requires long { length classes.now ≡ length (plain_events events.now) }
     ensures class { IfOk result (λ class. (t : Tree) → Sits (plain_events events.now) t place
-        → IsIndexed (num_of classes.now) (length events.now)
-        (keys_seen collections.new.keys) is_dictionary t place class) }
-    ensures below { IfOk result (λ class. class < length events.now
-        + length (keys_seen collections.new.keys)) }
+        → IsIndexed (num_of classes.now) base (keys_seen collections.new.keys)
+        is_dictionary t place class) }
+    ensures below { IfOk result (λ class. class < base + length (keys_seen collections.new.keys)) }
     ensures extends { OnOk result (Extends (keys_seen collections.old.keys)
         (keys_seen collections.new.keys)) }
     ensures apart { OnOk result (AreApart (keys_seen collections.new.keys)) }
     ensures memory { OnlyMemory result }
 {
-    let children = classes_within(alloc, events, skips, classes, place, places)?;
+    let children = classes_within(alloc, events, classes, place, places)?;
     let collection = Collection {
         is_dictionary,
         children,
     };
     let index = index_of(collections, collection)?;
-    match events.len().checked_add(index) {
+    match base.checked_add(index) {
         Some(class) => Ok(class),
         None => Err(ErrorKind::OutOfMemory.without_position()),
     }
@@ -123,34 +121,32 @@ fn class_of_collection(
 // Gives the tree that begins here its class, if a collection does; a scalar has one.
 fn give_class(
     alloc: Global,
-    events: &[Event<'_>],
-    skips: &[usize],
+    events: &Held<'_>,
+    base: usize,
     place: usize,
     places: &mut Places,
     classes: &mut Vec<usize>,
     collections: &mut IndexSet<Collection>,
 ) -> Result<(), Error>
-    requires skips { IsSkips (plain_events events.now) skips.now 0 }
-    requires place { place < length events.now }
-    requires long { length classes.old.items ≡ length events.now }
+    requires place { place < length (plain_events events.now) }
+    requires long { length classes.old.items ≡ length (plain_events events.now) }
     requires apart { AreApart (keys_seen collections.old.keys) }
-    ensures classes { OnOk result ((scalar : ℕ → ℕ) → HaveClasses (num_of classes.old.items)
-        (length events.now) scalar
+    ensures classes { OnOk result ((scalar : ℕ → ℕ) → HaveClasses (num_of classes.old.items) base scalar
         (plain_events events.now) (keys_seen collections.old.keys) (place + 1)
-        → HaveClasses (num_of classes.new.items) (length events.now) scalar
+        → HaveClasses (num_of classes.new.items) base scalar
         (plain_events events.now) (keys_seen collections.new.keys) place) }
-    ensures long { OnOk result (length classes.new.items ≡ length events.now) }
+    ensures long { OnOk result (length classes.new.items ≡ length (plain_events events.now)) }
     ensures apart { OnOk result (AreApart (keys_seen collections.new.keys)) }
     ensures memory { OnlyMemory result }
 {
-    match kind_at(events, place) {
+    match events.kind_at(place) {
         Kind::Array => {
             let found = classes.as_slice();
             let class = class_of_collection(
                 alloc,
                 events,
-                skips,
                 found,
+                base,
                 place,
                 places,
                 false,
@@ -164,8 +160,8 @@ fn give_class(
             let class = class_of_collection(
                 alloc,
                 events,
-                skips,
                 found,
+                base,
                 place,
                 places,
                 true,
@@ -178,26 +174,20 @@ fn give_class(
     }
 }
 
-/// The classes of events, and how many numbers they lie below.
-#[derive(Drop)]
-pub struct Classes {
-    pub of: Vec<usize>,
-    pub count: usize,
-}
-
 /// The classes of the trees that begin among the events of a tree, found from the inside outwards.
 ///
 /// # Errors
 /// `OutOfMemory`, without an offset.
-pub fn tree_classes(alloc: Global, events: &[Event<'_>], skips: &[usize]) -> Result<Classes, Error>
-    requires skips { IsSkips (plain_events events.now) skips.now 0 }
-    ensures long { IfOk result (λ r. length r.of.items ≡ length events.now) }
+pub fn tree_classes(alloc: Global, events: &Held<'_>) -> Result<Classes, Error>
+    ensures long { IfOk result (λ r. length r.of.items ≡ length (plain_events events.now)) }
     ensures below { IfOk result (λ r. AllBelow r.count r.of.items) }
     ensures objects { IfOk result (λ r. AreClasses (plain_events events.now) (num_of r.of.items)) }
     ensures trees { IfOk result (λ r. TellTrees (plain_events events.now) (num_of r.of.items)) }
     ensures memory { OnlyMemory result }
 {
-    let mut classes = classes_of(alloc, events)?;
+    let scalars = classes_of(alloc, events)?;
+    let mut of = scalars.of;
+    let base = scalars.count;
     let mut collections = IndexSet::new(alloc);
     let mut places = Places {
         keys: Vec::new(alloc),
@@ -209,15 +199,15 @@ pub fn tree_classes(alloc: Global, events: &[Event<'_>], skips: &[usize]) -> Res
         give_class(
             alloc,
             events,
-            skips,
+            base,
             place,
             &mut places,
-            &mut classes,
+            &mut of,
             &mut collections,
         )?;
     }
-    match events.len().checked_add(collections.len()) {
-        Some(count) => Ok(Classes { of: classes, count }),
+    match base.checked_add(collections.len()) {
+        Some(count) => Ok(Classes { of, count }),
         None => Err(ErrorKind::OutOfMemory.without_position()),
     }
 }

@@ -4,9 +4,8 @@ ghost use Rattle.plist_share.specs.SharedFiles.{IsSharedFileOf};
 ghost use Rattle.plist_share.specs.SharedSizes.{shared_file_size};
 
 use crate::classes::tree_classes;
-use plist_base::{Error, Event};
-use plist_binwrite::skips::skips_of;
-use plist_binwrite::{Sharing, complete_by_class};
+use plist_base::Error;
+use plist_binwrite::{Held, Sharing, complete_by_class};
 use std::alloc::Global;
 use std::io::Write;
 
@@ -19,15 +18,9 @@ impl Sharing for EqualTrees {
 
     ghost size = { shared_file_size };
 
-    fn complete<W: Write>(
-        alloc: Global,
-        events: &[Event<'_>],
-        writer: &mut W,
-    ) -> Result<(), Error> {
-        let skips = skips_of(alloc, events)?;
-        let classes = tree_classes(alloc, events, skips.as_slice())?;
-        let of = classes.of.as_slice();
-        match complete_by_class(alloc, events, skips, of, classes.count, writer) {
+    fn complete<W: Write>(alloc: Global, events: &Held<'_>, writer: &mut W) -> Result<(), Error> {
+        let classes = tree_classes(alloc, events)?;
+        match complete_by_class(alloc, events, classes, writer) {
             Ok(()) => Ok(()),
             Err(error) => Err(error),
         }

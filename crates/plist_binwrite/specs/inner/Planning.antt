@@ -3,12 +3,8 @@ use Rattle.std.specs.Prelude.{◌≡◌, ℕ, List, length}
 use Rattle.plist_binwrite.specs.declared.plan.Plan.{Plan}
 use Rattle.plist_base.specs.Events.{PlainEvent}
 use Rattle.plist_binwrite.specs.Classes.{AreClasses}
-use Rattle.plist_binwrite.specs.Held.{IsBracketed, IsSkips, AllNumbered, num_of}
+use Rattle.plist_binwrite.specs.Held.{IsBracketed, AllNumbered, num_of}
 use Rattle.plist_binwrite.specs.inner.PlansBy.{IsPlan}
-
--- by event, the place behind the tree that it begins
-abbrev pub skips_in : Plan → List ℕ
-skips_in plan = plan.skips.items
 
 -- by event, the number of its object; and by number, the place of the first event of that object
 abbrev pub numbers_of : Plan → List ℕ
@@ -26,7 +22,6 @@ pub record IsPlanned (es : List PlainEvent) (plan : Plan) : Type 0 where
   pub whole : IsBracketed es
   pub class : ℕ → ℕ
   pub classes : AreClasses es class
-  pub skips : IsSkips es (skips_in plan) 0
   pub numbered : IsPlan es class (numbers_of plan) (firsts_of plan)
   pub all : AllNumbered es (numbers_of plan) (count_of plan)
   pub root : num_of (numbers_of plan) 0 ≡ 0

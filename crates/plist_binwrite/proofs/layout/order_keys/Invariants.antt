@@ -1,4 +1,5 @@
 use Rattle.std.proofs.Common.{length, ◌-◌}
+use Rattle.plist_binwrite.specs.Held.{plain_events}
 use Rattle.plist_binwrite.specs.inner.Laying.{IsOrder, KeepsMarks}
 use Rattle.plist_binwrite.specs.inner.Planning.{count_of}
 use Rattle.plist_binwrite.proofs.layout.order_keys.Given as goal
@@ -9,4 +10,4 @@ invariant-walk l =
     × KeepsMarks l.initial.marks.items l.marks.items
 
 abbrev pub decreases-walk : goal.decreases-walk
-decreases-walk l = length l.events - l.key
+decreases-walk l = length (plain_events l.events) - l.key

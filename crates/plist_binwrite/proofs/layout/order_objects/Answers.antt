@@ -1,8 +1,7 @@
 use Rattle.std.proofs.Common.{◌≡◌, ◌≢◌, inl, inr, ℕ, ◌+◌, ◌<◌, List, length, get_or, arith, sym, ◌∙◌, subst, false}
 use Rattle.std.proofs.lemmas.Bool.Decides.{eqb_tells, leb_tells}
-use Rattle.std.proofs.lemmas.List.{length-map}
 use Rattle.std.proofs.Math.ListN.{get_or-eq_default}
-use Rattle.plist_binwrite.specs.Held.{plain_event, plain_events, is_stop, event_at, num_of}
+use Rattle.plist_binwrite.specs.Held.{plain_events, is_stop, event_at, num_of}
 use Rattle.plist_binwrite.specs.inner.Laying.{IsOrder, KeepsMarks}
 use Rattle.plist_base.specs.Events.{PlainEvent}
 use Rattle.plist_binwrite.specs.inner.Planning.{count_of, numbers_of}
@@ -56,9 +55,7 @@ loop-place-preserved c = (
 pub returns-clause-all : goal.returns-clause-all
 returns-clause-all c = λ k h.
     let known = c.requires.planned.numbered.known k h in
-    let n : length (plain_events c.args.events.now)
-    ≡ length c.args.events.now = length-map c.args.events.now plain_event in
     in_order (count_of c.args.plan.now) c.loop-place.order.items c.loop-place.places.items k
     c.loop-place.invariant.0
     (subst (λ j. get_or c.loop-place.places.items j 0 ≢ 0) known.1
-    (c.loop-place.invariant.1 _ (omega (arith, n, known.0, c.loop-place-test.false)) known.2))
+    (c.loop-place.invariant.1 _ (omega (arith, known.0, c.loop-place-test.false)) known.2))

@@ -1,6 +1,4 @@
 use Rattle.std.proofs.Common.{◌≡◌, ◌<◌, get_or, set, arith, sym, ap, ◌∙◌, subst, refl}
-use Rattle.std.proofs.lemmas.List.{length-map}
-use Rattle.plist_binwrite.specs.Held.{plain_event}
 use Rattle.plist_binwrite.specs.inner.Laying.{IsOrder}
 use Rattle.plist_binwrite.specs.inner.Planning.{count_of}
 use Rattle.plist_binwrite.proofs.Layouts.{order_more}
@@ -10,12 +8,11 @@ pub returns-clause-order : goal.returns-clause-order
 returns-clause-order c =
     let k = c.number-number.result in
     let y = c.if-not-has_item.ensures.yes refl in
-    let n = length-map c.args.events.now plain_event in
     let low : c.number-number.result < count_of c.args.plan.now = omega (
       arith,
       c.number-number.ensures,
       c.requires.planned.all c.args.place
-          (omega (arith, n, y.0)) y.1,
+          (omega (arith, y.0)) y.1,
     ) in
     let zero : get_or c.args.marks.now.items c.number-number.result 0
     ≡ 0 = ap (λ l. get_or l k 0) (sym c.as_slice.ensures.value) ∙ c.if-as_slice-number-ne0.false in

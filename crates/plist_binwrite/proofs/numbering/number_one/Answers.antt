@@ -1,6 +1,5 @@
 use Rattle.std.proofs.Common.{◌≡◌, ◌+◌, ◌<◌, ◌^◌, ◌++◌, ◌∷◌, [], length, set, arith, get_or, ◌≤◌, refl, length-append, sym, ap, subst}
-use Rattle.std.proofs.lemmas.List.{length-map}
-use Rattle.plist_binwrite.specs.Held.{plain_event, plain_events, num_of}
+use Rattle.plist_binwrite.specs.Held.{plain_events, num_of}
 use Rattle.plist_binwrite.specs.inner.PlansBy.{IsPlan, HaveIds}
 use Rattle.plist_binwrite.proofs.PlannedBy.{plan_new}
 use Rattle.plist_binwrite.proofs.Ids.{ids_new, none_yet}
@@ -27,7 +26,7 @@ small c =
     )
 
 within : (c : After-numbers-2-1) → c.args.place < length (plain_events c.args.events.now)
-within c = omega (arith, c.requires.place, length-map c.args.events.now plain_event)
+within c = c.requires.place
 
 unnumbered : (c : After-numbers-2-1)
     → length c.args.firsts.now.items ≤ get_or c.args.numbers.now.items c.args.place 0

@@ -1,7 +1,6 @@
-use Rattle.std.proofs.Common.{◌≡◌, inl, inr, ◌+◌, length, arith, refl, ap, ◌∙◌}
-use Rattle.std.proofs.lemmas.List.{length-map}
+use Rattle.std.proofs.Common.{inl, inr, arith, refl, ap, ◌∙◌}
 use Rattle.plist_binwrite.specs.Forms.{big_endian}
-use Rattle.plist_binwrite.specs.Held.{plain_event, plain_events, num_of, half_places}
+use Rattle.plist_binwrite.specs.Held.{plain_events, num_of, half_places}
 use Rattle.plist_binwrite.specs.inner.Planning.{numbers_of}
 use Rattle.plist_binwrite.proofs.Outgoing.{puts_as}
 use Rattle.plist_binwrite.proofs.Passing.{each_begin, each_next, each_fail, each_stop, each_within, half_at, half_none, half_some}
@@ -20,8 +19,7 @@ walk-preserved g c = λ ms s.
     let num = num_of (numbers_of c.args.plan.now) in
     let y = c.walk-test.ensures.yes refl in
     each_next _ _ _ (half_at b) (half_places b) (half_none b) (half_some b) _ _ _
-    (c.walk.invariant ms s) y.1 (λ t q. c.skip-key.ensures
-    ∙ c.requires.planned.skips.ends t (c.walk.key + 1) (omega arith) q)
+    (c.walk.invariant ms s) y.1 (λ t q. c.skip-key.ensures.ends t q)
     (puts_as (ap (big_endian c.args.width) (c.number-number.ensures ∙ ap num c.half_of.ensures.half))
     c.in-Ok.ensures)
 
@@ -38,18 +36,14 @@ returns-in-Err g c = λ ms s.
 pub returns : goal.returns
 returns g c = λ ms s.
     let b = c.args.of_values in
-    let n : length (plain_events c.args.events.now)
-    ≡ length c.args.events.now = length-map c.args.events.now plain_event in
     each_stop _ _ _ (half_at b) (half_places b) (half_none b) (half_some b) _ _ _
     (c.walk.invariant ms s)
     (elim (c.walk-test.ensures.no refl) [ inl h ↦ inl h | inr h ↦ inr (omega arith) ])
 
-pub returns-then-value-events : goal.returns-then-value-events
-returns-then-value-events g c = λ ms s.
+pub returns-then-value-len : goal.returns-then-value-len
+returns-then-value-len g c = λ ms s.
     let b = c.args.of_values in
     let y = c.walk-test.ensures.yes refl in
-    let n : length (plain_events c.args.events.now)
-    ≡ length c.args.events.now = length-map c.args.events.now plain_event in
     let inside = each_within _ _ _ (half_at b) (half_places b) (half_none b) (half_some b) _ _ _
     (c.walk.invariant ms s) y.1 in
-    absurd (omega (arith, n, inside, c.if-value-events.true))
+    absurd (omega (arith, inside, c.if-value-len.true, c.len.ensures))

@@ -16,4 +16,4 @@ invariant-walk g l =
     (g.W.Write.contents l.writer) l.room.items l.key
 
 abbrev pub decreases-walk : goal.decreases-walk
-decreases-walk g l = length l.events - l.key
+decreases-walk g l = length (plain_events l.events) - l.key

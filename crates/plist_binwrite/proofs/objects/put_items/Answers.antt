@@ -1,7 +1,6 @@
-use Rattle.std.proofs.Common.{◌≡◌, inl, inr, length, arith, refl, ap, ◌∙◌}
-use Rattle.std.proofs.lemmas.List.{length-map}
+use Rattle.std.proofs.Common.{inl, inr, arith, refl, ap}
 use Rattle.plist_binwrite.specs.Forms.{big_endian}
-use Rattle.plist_binwrite.specs.Held.{plain_event, plain_events, num_of}
+use Rattle.plist_binwrite.specs.Held.{plain_events, num_of}
 use Rattle.plist_binwrite.specs.inner.Planning.{numbers_of}
 use Rattle.plist_binwrite.proofs.Outgoing.{puts_as}
 use Rattle.plist_binwrite.proofs.Passing.{items_begin, items_next, items_fail, items_stop}
@@ -16,8 +15,7 @@ walk-init g c =
 pub walk-preserved : goal.walk-preserved
 walk-preserved g c = λ ts s.
     let y = c.walk-test.ensures.yes refl in
-    items_next _ _ _ _ _ _ (c.walk.invariant ts s) y.1 (λ t q. c.skip-place.ensures
-    ∙ c.requires.planned.skips.ends t c.walk.place (omega arith) q)
+    items_next _ _ _ _ _ _ (c.walk.invariant ts s) y.1 (λ t q. c.skip-place.ensures.ends t q)
     (puts_as (ap (big_endian c.args.width) c.number-number.ensures) c.in-Ok.ensures)
 
 pub returns-in-Err : goal.returns-in-Err
@@ -28,7 +26,5 @@ returns-in-Err g c = λ ts s.
 
 pub returns : goal.returns
 returns g c = λ ts s.
-    let n : length (plain_events c.args.events.now)
-    ≡ length c.args.events.now = length-map c.args.events.now plain_event in
     items_stop _ _ _ _ _ _ (c.walk.invariant ts s)
     (elim (c.walk-test.ensures.no refl) [ inl h ↦ inl h | inr h ↦ inr (omega arith) ])

@@ -15,4 +15,4 @@ invariant-walk g l = (ts : Trees) → SitsItems (plain_events l.events) ts l.fro
     (g.W.Write.contents l.writer) l.room.items l.place
 
 abbrev pub decreases-walk : goal.decreases-walk
-decreases-walk g l = length l.events - l.place
+decreases-walk g l = length (plain_events l.events) - l.place

@@ -1,4 +1,4 @@
-use Rattle.std.proofs.Common.{sym, ◌∙◌}
+use Rattle.std.proofs.Common.{refl, sym, ◌∙◌}
 use Rattle.plist_base.specs.Events.{event_of}
 use Rattle.plist_base.specs.Writing.{answer_of}
 use Rattle.plist_binwrite.specs.Forms.{form, scalar_form}
@@ -6,8 +6,7 @@ use Rattle.plist_binwrite.specs.Held.{num_of}
 use Rattle.plist_binwrite.specs.Numberings.{obj_of}
 use Rattle.plist_binwrite.specs.Outlets.{Puts}
 use Rattle.plist_binwrite.specs.inner.Planning.{numbers_of}
-use Rattle.plist_binwrite.proofs.Formed.{of_array, of_dictionary, of_scalar}
-use Rattle.plist_binwrite.proofs.Skipping.{read_event}
+use Rattle.plist_binwrite.proofs.Formed.{of_array, of_dictionary, of_nothing, of_scalar}
 use Rattle.plist_binwrite.proofs.objects.put_object.Goals as goal
 
 pub returns-in-Array : goal.returns-in-Array
@@ -26,8 +25,8 @@ returns-in-Dictionary g c = λ t s.
     c.put_dictionary.new.room.items)
     t c.args.place s (sym c.kind_at.ensures ∙ c.in-Dictionary.is) c.put_dictionary.ensures
 
-pub returns-in_default : goal.returns-in_default
-returns-in_default g c = λ t s.
+pub returns-in-Some : goal.returns-in-Some
+returns-in-Some g c = λ t s.
     of_scalar (λ x. Puts (g.W.Write.contents c.args.writer.now) c.args.room.now.items
     (scalar_form x) (answer_of c.put_scalar.result)
     (g.W.Write.contents c.put_scalar.new.writer) c.put_scalar.new.room.items)
@@ -35,8 +34,11 @@ returns-in_default g c = λ t s.
     (form c.args.width (obj_of (num_of (numbers_of c.args.plan.now)) u c.args.place))
     (answer_of c.put_scalar.result) (g.W.Write.contents c.put_scalar.new.writer)
     c.put_scalar.new.room.items)
-    t c.args.place (event_of c.index-events-place.result) s
-    (read_event c.args.events.now c.args.place c.index-events-place.result c.index-events-place.is
-    c.requires.place)
+    t c.args.place (event_of c.in-Some.scalar.now) s c.in-Some.ensures.some
     (λ e. c.in_default.not-Array (c.kind_at.ensures ∙ e))
     (λ e. c.in_default.not-Dictionary (c.kind_at.ensures ∙ e)) (λ x h. h) c.put_scalar.ensures
+
+pub returns-in-None : goal.returns-in-None
+returns-in-None g c = λ t s.
+    of_nothing t c.args.place s (λ e. c.in_default.not-Array (c.kind_at.ensures ∙ e))
+    (λ e. c.in_default.not-Dictionary (c.kind_at.ensures ∙ e)) (c.in-None.ensures.none refl)

@@ -10,4 +10,4 @@ invariant-walk l = (l.count ≤ l.place) × ((ts : Trees) → SitsItems (plain_e
     → Counts (plain_events l.events) l.place l.count (number_of_trees ts))
 
 abbrev pub decreases-walk : goal.decreases-walk
-decreases-walk l = length l.events - l.place
+decreases-walk l = length (plain_events l.events) - l.place

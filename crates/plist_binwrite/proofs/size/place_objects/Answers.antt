@@ -1,6 +1,6 @@
-use Rattle.std.proofs.Common.{◌≡◌, ◌+◌, ◌<◌, length, get_or, IfSome, arith, ap, sym, ◌∙◌, subst}
-use Rattle.std.proofs.lemmas.List.{length-set, length-map}
-use Rattle.plist_binwrite.specs.Held.{plain_event, plain_events, Describes}
+use Rattle.std.proofs.Common.{◌+◌, ◌<◌, length, get_or, IfSome, arith, ap, sym, ◌∙◌, subst}
+use Rattle.std.proofs.lemmas.List.{length-set}
+use Rattle.plist_binwrite.specs.Held.{plain_events, Describes}
 use Rattle.plist_binwrite.specs.inner.Planning.{count_of, numbers_of, firsts_of}
 use Rattle.plist_binwrite.specs.Sizes.{TellsSize}
 use Rattle.plist_binwrite.specs.Written.{bodies, Laid}
@@ -32,9 +32,7 @@ size_of_object-size-requires-clause-place c =
     let low = c.requires.order.below _
     (any_at c.args.order.now c.loop-number.number-index c.loop-number-test.true) in
     let known = c.requires.planned.numbered.known _ low in
-    let n : length (plain_events c.args.events.now)
-    ≡ length c.args.events.now = length-map c.args.events.now plain_event in
-    omega (arith, c.first-first.ensures, known.0, n)
+    omega (arith, c.first-first.ensures, known.0)
 
 pub loop-number-preserved : goal.loop-number-preserved
 loop-number-preserved c =

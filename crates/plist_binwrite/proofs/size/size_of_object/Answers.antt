@@ -1,4 +1,4 @@
-use Rattle.std.proofs.Common.{◌≡◌, sym, ◌∙◌}
+use Rattle.std.proofs.Common.{◌≡◌, refl, sym, ◌∙◌}
 use Rattle.plist_base.specs.Events.{event_of}
 use Rattle.plist_binwrite.specs.declared.kinds.Kind.TheVariants as kind
 use Rattle.plist_binwrite.specs.Held.{plain_events, kind_of, event_at, num_of}
@@ -7,10 +7,9 @@ use Rattle.plist_binwrite.specs.Numberings.{obj_of}
 use Rattle.plist_binwrite.specs.Sizes.{TellsSize, scalar_size, object_size}
 use Rattle.plist_binwrite.specs.inner.Planning.{count_of, numbers_of}
 use Rattle.plist_binwrite.proofs.SizePasses.{dictionary_told}
-use Rattle.plist_binwrite.proofs.Formed.{of_scalar}
+use Rattle.plist_binwrite.proofs.Formed.{of_nothing, of_scalar}
 use Rattle.plist_binwrite.proofs.Placed.{collection_fits, no_kind}
 use Rattle.plist_binwrite.proofs.Placing.{array_told, few_values}
-use Rattle.plist_binwrite.proofs.Skipping.{read_event}
 use Rattle.plist_binwrite.proofs.size.size_of_object.Goals as goal
 
 pub returns-in-Array-clause-size : goal.returns-in-Array-clause-size
@@ -46,24 +45,30 @@ returns-in-Dictionary-clause-writable c = λ t s.
     (few_values t c.args.place c.count_items-count-in-Dictionary.result s
     c.count_items-count-in-Dictionary.ensures.small c.count_items-count-in-Dictionary.ensures.value)
 
-pub returns-in_default-clause-size : goal.returns-in_default-clause-size
-returns-in_default-clause-size c = λ t s.
+pub returns-in-Some-clause-size : goal.returns-in-Some-clause-size
+returns-in-Some-clause-size c = λ t s.
     of_scalar (λ x. TellsSize c.length_of_scalar.result (scalar_size x))
     (λ u. TellsSize c.length_of_scalar.result (object_size c.args.width u)) t c.args.place
-    (event_of c.index-events-place.result) s
-    (read_event c.args.events.now c.args.place c.index-events-place.result c.index-events-place.is
-    c.requires.place)
+    (event_of c.in-Some.scalar.now) s c.in-Some.ensures.some
     (λ e. c.in_default.not-Array (c.kind_at.ensures ∙ e))
     (λ e. c.in_default.not-Dictionary (c.kind_at.ensures ∙ e))
     (λ x h. h) c.length_of_scalar.ensures.value
 
-pub returns-in_default-clause-writable : goal.returns-in_default-clause-writable
-returns-in_default-clause-writable c = λ t s.
+pub returns-in-Some-clause-writable : goal.returns-in-Some-clause-writable
+returns-in-Some-clause-writable c = λ t s.
     of_scalar IsWritableScalar (λ u. IsWritable c.args.width
     (obj_of (num_of (numbers_of c.args.plan.now)) u c.args.place)) t c.args.place
-    (event_of c.index-events-place.result) s
-    (read_event c.args.events.now c.args.place c.index-events-place.result c.index-events-place.is
-    c.requires.place)
+    (event_of c.in-Some.scalar.now) s c.in-Some.ensures.some
     (λ e. c.in_default.not-Array (c.kind_at.ensures ∙ e))
     (λ e. c.in_default.not-Dictionary (c.kind_at.ensures ∙ e))
     (λ x h. h) c.length_of_scalar.ensures.writable
+
+pub returns-in-None-clause-size : goal.returns-in-None-clause-size
+returns-in-None-clause-size c = λ t s.
+    of_nothing t c.args.place s (λ e. c.in_default.not-Array (c.kind_at.ensures ∙ e))
+    (λ e. c.in_default.not-Dictionary (c.kind_at.ensures ∙ e)) (c.in-None.ensures.none refl)
+
+pub returns-in-None-clause-writable : goal.returns-in-None-clause-writable
+returns-in-None-clause-writable c = λ t s.
+    of_nothing t c.args.place s (λ e. c.in_default.not-Array (c.kind_at.ensures ∙ e))
+    (λ e. c.in_default.not-Dictionary (c.kind_at.ensures ∙ e)) (c.in-None.ensures.none refl)

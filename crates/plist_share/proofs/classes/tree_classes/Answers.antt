@@ -1,16 +1,40 @@
-use Rattle.std.proofs.Common.{◌≡◌, length, arith, subst}
+use Rattle.std.proofs.Common.{◌≡◌, length, arith, refl, sym, subst}
 use Rattle.plist_binwrite.specs.Held.{plain_events, num_of}
+use Rattle.plist_binwrite.specs.inner.Scalars.{AreApart}
+use Rattle.plist_binwrite.proofs.Skipping.{sits_within, size_positive}
 use Rattle.plist_share.specs.inner.Keys.{HaveClasses, keys_seen}
 use Rattle.plist_share.proofs.Found.{found_classes, told_trees}
 use Rattle.plist_share.proofs.classes.tree_classes.Goals as goal
+
+pub back-init : goal.back-init
+back-init c =
+    let es = plain_events c.args.events.now in
+    let owners = c.in_ok-scalars.ensures.classes in
+    let place : c.len-place.result ≡ length es = c.len-place.ensures in
+    record {
+      have = (
+        num_of c.in_ok-scalars.scalars.of.items,
+        owners,
+        record {
+          behind = λ t p le s. absurd
+              (omega (arith, le, place, sits_within s, size_positive t));
+          before = λ p lt. refl;
+          below = λ p lt. omega (arith, owners.below p lt);
+        },
+      );
+      long = c.in_ok-scalars.ensures.long;
+      within = omega (arith, place);
+      apart = subst (λ l. AreApart (keys_seen l)) (sym c.new-collections.ensures.empty)
+          (λ i j k p q. cc);
+    }
 
 pub returns-in-Some-clause-trees : goal.returns-in-Some-clause-trees
 returns-in-Some-clause-trees c =
     let have = c.back.invariant.have in
     let all : c.back.place ≡ 0 = omega (arith, c.back-test.false) in
-    told_trees (plain_events c.args.events.now) have.0 (num_of c.back.classes.items)
-    (length c.args.events.now) (keys_seen c.back.collections.keys) have.1
-    (subst (λ k. HaveClasses (num_of c.back.classes.items) (length c.args.events.now) have.0
+    told_trees (plain_events c.args.events.now) have.0 (num_of c.back.of.items)
+    c.in_ok-scalars.scalars.count (keys_seen c.back.collections.keys) have.1
+    (subst (λ k. HaveClasses (num_of c.back.of.items) c.in_ok-scalars.scalars.count have.0
     (plain_events c.args.events.now) (keys_seen c.back.collections.keys) k) all have.2)
     c.back.invariant.apart
 
@@ -18,7 +42,7 @@ pub returns-in-Some-clause-objects : goal.returns-in-Some-clause-objects
 returns-in-Some-clause-objects c =
     let have = c.back.invariant.have in
     let all : c.back.place ≡ 0 = omega (arith, c.back-test.false) in
-    found_classes (plain_events c.args.events.now) have.0 (num_of c.back.classes.items)
-    (length c.args.events.now) (keys_seen c.back.collections.keys) have.1
-    (subst (λ k. HaveClasses (num_of c.back.classes.items) (length c.args.events.now) have.0
+    found_classes (plain_events c.args.events.now) have.0 (num_of c.back.of.items)
+    c.in_ok-scalars.scalars.count (keys_seen c.back.collections.keys) have.1
+    (subst (λ k. HaveClasses (num_of c.back.of.items) c.in_ok-scalars.scalars.count have.0
     (plain_events c.args.events.now) (keys_seen c.back.collections.keys) k) all have.2)

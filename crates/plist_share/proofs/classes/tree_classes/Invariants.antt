@@ -6,11 +6,11 @@ use Rattle.plist_share.proofs.classes.tree_classes.Given as goal
 
 abbrev pub invariant-back : goal.invariant-back
 invariant-back l = record {
-  have : (scalar : ℕ → ℕ) × AreOwners (plain_events l.events) scalar (length l.events)
-      × HaveClasses (num_of l.classes.items) (length l.events) scalar (plain_events l.events)
+  have : (scalar : ℕ → ℕ) × AreOwners (plain_events l.events) scalar l.base
+      × HaveClasses (num_of l.of.items) l.base scalar (plain_events l.events)
       (keys_seen l.collections.keys) l.place;
-  long : length l.classes.items ≡ length l.events;
-  within : l.place ≤ length l.events;
+  long : length l.of.items ≡ length (plain_events l.events);
+  within : l.place ≤ length (plain_events l.events);
   apart : AreApart (keys_seen l.collections.keys);
 }
 

@@ -1,6 +1,7 @@
-use Rattle.std.proofs.Common.{map, sym, ap, ◌∙◌, refl}
+use Rattle.std.proofs.Common.{sym, ap, ◌∙◌, refl}
 use Rattle.std.proofs.lemmas.Result.{err_from_is_err_and}
 use Rattle.plist_base.specs.Events.{event_of}
+use Rattle.plist_binwrite.specs.Pendings.{events_held}
 use Rattle.plist_binwrite.specs.inner.Stacks.{change_seen, stack_of, change_on_top}
 use Rattle.plist_binwrite.proofs.Pended.{held_wants, cannot_follow, can_follow}
 use Rattle.plist_binwrite.proofs.Stacking.{wanted_refused, not_refused, seen_refused}
@@ -12,8 +13,8 @@ returns-in-Refused-clause-refused c =
     let change = c.change_on-change.ensures ∙ ap
     (λ l. change_on_top (stack_of l) (event_of c.args.event)) c.as_slice.ensures.value in (
       (
-        cannot_follow s.events.items (event_of c.args.event)
-            (wanted_refused (map event_of s.events.items) (stack_of s.wants.items)
+        cannot_follow (events_held s) (event_of c.args.event)
+            (wanted_refused (events_held s) (stack_of s.wants.items)
             (event_of c.args.event) (held_wants s c.requires.still) (sym change
             ∙ ap change_seen c.in-Refused.is)),
         c.fault_of_event.ensures,
@@ -28,8 +29,8 @@ hold-requires c =
     (λ l. change_on_top (stack_of l) (event_of c.args.event)) c.as_slice.ensures.value in
     record {
       still = c.requires.still;
-      accepted = can_follow s.events.items (event_of c.args.event)
-          (not_refused (map event_of s.events.items) (stack_of s.wants.items)
+      accepted = can_follow (events_held s) (event_of c.args.event)
+          (not_refused (events_held s) (stack_of s.wants.items)
           (event_of c.args.event) (change_seen c.change_on-change.result)
           (held_wants s c.requires.still) change
           (λ r. c.in_default.not-Refused (seen_refused c.change_on-change.result r)));
@@ -45,8 +46,8 @@ returns-in_err-hold-in_default c =
     rw (p.1, p.2) (record {
       refused = tt;
       taken = tt;
-      accepted = can_follow s.events.items (event_of c.args.event)
-          (not_refused (map event_of s.events.items) (stack_of s.wants.items)
+      accepted = can_follow (events_held s) (event_of c.args.event)
+          (not_refused (events_held s) (stack_of s.wants.items)
           (event_of c.args.event) (change_seen c.change_on-change.result)
           (held_wants s c.requires.still) change
           (λ r. c.in_default.not-Refused (seen_refused c.change_on-change.result r)));
@@ -61,8 +62,8 @@ returns-in_ok-hold-in_default c =
     record {
       refused = tt;
       taken = λ none. (
-        can_follow s.events.items (event_of c.args.event)
-            (not_refused (map event_of s.events.items) (stack_of s.wants.items)
+        can_follow (events_held s) (event_of c.args.event)
+            (not_refused (events_held s) (stack_of s.wants.items)
             (event_of c.args.event) (change_seen c.change_on-change.result)
             (held_wants s c.requires.still) change
             (λ r. c.in_default.not-Refused (seen_refused c.change_on-change.result r))),

@@ -1,0 +1,23 @@
+use Rattle.std.proofs.Common.{rules, map, ap, ◌∙◌, ◌++◌}
+use Rattle.plist_base.specs.Bracketing.{bracketing, unhinted}
+use Rattle.plist_binwrite.specs.Held.{plain_events}
+use Rattle.plist.specs.Events.{remaining_events}
+use Rattle.plist.specs.Views.{tree_of}
+use Rattle.plist.proofs.Gathered.{gathered_more, gathered_all}
+use Rattle.plist.proofs.writing.collect_events.Goals as goal
+
+pub loop-item-init : goal.loop-item-init
+loop-item-init c =
+    ap (λ l. l ++ map unhinted (remaining_events c.events-left.result)) c.new-held.ensures.events
+    ∙ ap (map unhinted) c.events-left.ensures.items
+
+pub loop-item-preserved : goal.loop-item-preserved
+loop-item-preserved c =
+    gathered_more (bracketing (tree_of c.args.value.now)) (plain_events c.loop-item.held)
+    (plain_events c.push.new.self) c.loop-item.left c.next.new.self c.in-Some.item c.in-Ok.event
+    c.loop-item.invariant c.in-Some.ensures.steps (search rules) c.in_ok-push-in-Ok.ensures.events
+
+pub returns-clause-events : goal.returns-clause-events
+returns-clause-events c =
+    gathered_all (tree_of c.args.value.now) (plain_events c.loop-item.held)
+    (remaining_events c.loop-item.left) c.loop-item.invariant c.in_default.ensures.steps.0

@@ -1,0 +1,11 @@
+use Rattle.std.proofs.Common.{map, ap}
+use Rattle.plist_base.specs.Events.{event_of}
+use Rattle.plist_binwrite.proofs.Holding.{kept_nothing}
+use Rattle.plist_binwrite.proofs.held.Held.clear.Goals as goal
+
+pub invariant_of-self : goal.invariant_of-self
+invariant_of-self c =
+    record {
+      kept = kept_nothing _ _ _ (ap (map event_of) c.clear.ensures.empty) c.clear-2.ensures.items
+          c.clear-3.ensures.items;
+    }

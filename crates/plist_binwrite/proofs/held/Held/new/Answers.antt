@@ -1,0 +1,11 @@
+use Rattle.std.proofs.Common.{map, ap}
+use Rattle.plist_base.specs.Events.{event_of}
+use Rattle.plist_binwrite.proofs.Holding.{kept_nothing}
+use Rattle.plist_binwrite.proofs.held.Held.new.Goals as goal
+
+pub invariant_of-result : goal.invariant_of-result
+invariant_of-result c =
+    record {
+      kept = kept_nothing _ _ _ (ap (map event_of) c.new.ensures.empty) c.new-2.ensures.items
+          c.new-3.ensures.items;
+    }

@@ -1,0 +1,72 @@
+-- The entries by which events are held: what they show, and what holds of them.
+use Rattle.std.specs.Prelude.{◌≡◌, ℕ, ◌+◌, ◌<◌, Bool, true, false, List, length, get_or, map, reverse, None, Some, slice_get}
+use Rattle.plist_base.specs.Bracketing.{unhinted}
+use Rattle.plist_base.specs.Events.{PlainEvent, StartArray, StartDictionary, EndCollection, Single}
+use Rattle.plist_binwrite.specs.Standing.{IsSkips}
+use Rattle.plist_binwrite.specs.inner.Opening.{open_after}
+use Rattle.plist_binwrite.specs.declared.held.Entry.{Entry}
+use Rattle.plist_binwrite.specs.declared.held.Entry.TheVariants as entry
+
+-- no key stands twice
+abbrev pub AreApart : {K : Type 0} → List K → Type 0
+AreApart {K} keys = (i j : ℕ) (k : K) → slice_get keys i ≡ Some k → slice_get keys j ≡ Some k
+    → i ≡ j
+
+abbrev pub is_leaf : PlainEvent → Bool
+is_leaf (StartArray hint) = false
+is_leaf (StartDictionary hint) = false
+is_leaf EndCollection = false
+is_leaf (Single x) = true
+
+-- the entry at a place
+abbrev pub entry_at : List Entry → ℕ → Entry
+entry_at entries place = get_or entries place entry.End
+
+-- the event of an entry, where these are the different scalars
+abbrev pub shown : (scalars : List PlainEvent) → Entry → PlainEvent
+shown scalars (entry.Array behind) = StartArray None
+shown scalars (entry.Dictionary behind) = StartDictionary None
+shown scalars (entry.Scalar place) = unhinted (get_or scalars place EndCollection)
+shown scalars entry.End = EndCollection
+
+abbrev pub all_shown : (scalars : List PlainEvent) → List Entry → List PlainEvent
+all_shown scalars entries = map (shown scalars) entries
+
+-- where an entry names a scalar, that is one
+abbrev pub is_sound : (scalars : List PlainEvent) → Entry → Bool
+is_sound scalars (entry.Array behind) = true
+is_sound scalars (entry.Dictionary behind) = true
+is_sound scalars (entry.Scalar place) = is_leaf (get_or scalars place EndCollection)
+is_sound scalars entry.End = true
+
+-- is it a start?
+abbrev pub is_start : Entry → Bool
+is_start (entry.Array behind) = true
+is_start (entry.Dictionary behind) = true
+is_start (entry.Scalar place) = false
+is_start entry.End = false
+
+-- the place behind the tree that begins with the entry here
+abbrev pub behind_of : (place : ℕ) → Entry → ℕ
+behind_of place (entry.Array behind) = behind
+behind_of place (entry.Dictionary behind) = behind
+behind_of place (entry.Scalar scalar) = place + 1
+behind_of place entry.End = place + 1
+
+abbrev pub behind_at : List Entry → (place : ℕ) → ℕ
+behind_at entries place = behind_of place (entry_at entries place)
+
+-- the entry with this place behind its end
+abbrev pub closed_at : Entry → ℕ → Entry
+closed_at (entry.Array old) behind = entry.Array behind
+closed_at (entry.Dictionary old) behind = entry.Dictionary behind
+closed_at (entry.Scalar place) behind = entry.Scalar place
+closed_at entry.End behind = entry.End
+
+-- what always holds: the scalars are different ones, and each entry of a scalar names one; these are
+-- the starts that have no end, the innermost last; and the entries tell where trees end
+pub record IsKept (scalars : List PlainEvent) (entries : List Entry) (begun : List ℕ) : Type 0 where
+  pub apart : AreApart scalars
+  pub sound : (p : ℕ) → p < length entries → is_sound scalars (entry_at entries p) ≡ true
+  pub starts : reverse begun ≡ open_after (all_shown scalars entries)
+  pub skips : IsSkips (all_shown scalars entries) (behind_at entries)

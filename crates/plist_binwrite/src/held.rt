@@ -1,0 +1,275 @@
+//! The events of a property list, each different scalar once.
+
+ghost use Rattle.std.specs.Prelude.{◌≡◌, ◌+◌, ◌^◌, ◌<◌, true, length, map, OnOk, OnErr};
+ghost use Rattle.std.proofs.Props.{props};
+ghost use Rattle.plist_base.specs.Events.{EndCollection, event_of};
+ghost use Rattle.plist_base.specs.Outcomes.{OnlyMemory};
+ghost use Rattle.plist_binwrite.specs.inner.Entries.{IsKept, closed_at, is_leaf};
+
+use crate::kinds::Kind;
+use indexmap::IndexSet;
+use plist_base::{Error, ErrorKind, Event};
+use std::alloc::Global;
+
+// An event in its place: a start with the place behind its end, or behind itself as long as it has
+// none; a scalar by its place among the different ones.
+#[derive(Clone, Copy)]
+pub enum Entry {
+    Array(usize),
+    Dictionary(usize),
+    Scalar(usize),
+    End,
+}
+
+// The entry with this place behind its end, if it is a start.
+fn closed(entry: Entry, behind: usize) -> Entry
+    ensures { result ≡ closed_at entry behind }
+{
+    match entry {
+        Entry::Array(_) => Entry::Array(behind),
+        Entry::Dictionary(_) => Entry::Dictionary(behind),
+        Entry::Scalar(place) => Entry::Scalar(place),
+        Entry::End => Entry::End,
+    }
+}
+
+/// The events of a property list, each different scalar once. Lengths of starts are left out.
+///
+/// Nothing tests whether the events can follow one another.
+#[derive(Drop)]
+pub struct Held<'e> {
+    scalars: IndexSet<Event<'e>>,
+    entries: Vec<Entry>,
+    begun: Vec<usize>,
+    ghost kept: { IsKept (map event_of scalars.keys) entries.items begun.items } by { Prim.hlevel props },
+}
+
+impl<'e> Held<'e> {
+    ghost use Rattle.std.specs.Prelude.{◌⊎◌, ◌≤◌, ◌++◌, ◌∷◌, [], ℕ, Some, None, slice_get, false, IfSome};
+    ghost use Rattle.plist_base.specs.Trees.{Tree};
+    ghost use Rattle.plist_binwrite.specs.Held.{plain_event, plain_events, scalars_of, is_stop, kind_of, event_at};
+    ghost use Rattle.plist_binwrite.specs.Standing.{size, Sits};
+    ghost use Rattle.plist_binwrite.specs.inner.Entries.{behind_of, is_start, shown};
+
+    /// No events. It takes no memory.
+    pub fn new(alloc: Global) -> Held<'e>
+        ensures events { plain_events result ≡ [] }
+    {
+        Held {
+            scalars: IndexSet::new(alloc),
+            entries: Vec::new(alloc),
+            begun: Vec::new(alloc),
+        }
+    }
+
+    /// How many events there are.
+    pub fn len(&self) -> usize
+        ensures { result ≡ length (plain_events self.now) }
+    {
+        self.entries.len()
+    }
+
+    /// How many different scalars there are.
+    pub fn count_scalars(&self) -> usize
+        ensures count { result ≡ length (scalars_of self.now) }
+        ensures small { result < 2 ^ 63 }
+    {
+        self.scalars.len()
+    }
+
+    /// The kind of the event at a place.
+    pub fn kind_at(&self, place: usize) -> Kind
+        requires { place < length (plain_events self.now) }
+        ensures { result ≡ kind_of (event_at (plain_events self.now) place) }
+    {
+        match self.entries.as_slice()[place] {
+            Entry::Array(_) => Kind::Array,
+            Entry::Dictionary(_) => Kind::Dictionary,
+            Entry::Scalar(_) => Kind::Scalar,
+            Entry::End => Kind::End,
+        }
+    }
+
+    /// Whether an item of a collection stands here, and not its end.
+    pub fn has_item(&self, place: usize) -> bool
+        ensures yes { result ≡ true → (place < length (plain_events self.now))
+            × (is_stop (event_at (plain_events self.now) place) ≡ false) }
+        ensures no { result ≡ false → (is_stop (event_at (plain_events self.now) place)
+            ≡ true) ⊎ (length (plain_events self.now) ≤ place) }
+    {
+        if place >= self.len() {
+            return false;
+        }
+        match self.kind_at(place) {
+            Kind::End => false,
+            _ => true,
+        }
+    }
+
+    /// The place behind the tree that begins here.
+    pub fn skip(&self, place: usize) -> usize
+        requires { place < length (plain_events self.now) }
+        ensures forward { (place < result) × (result ≤ length (plain_events self.now)) }
+        ensures ends { (t : Tree) → Sits (plain_events self.now) t place → result ≡ place + size t }
+    {
+        match self.entries.as_slice()[place] {
+            Entry::Array(behind) => behind,
+            Entry::Dictionary(behind) => behind,
+            Entry::Scalar(_) => place + 1,
+            Entry::End => place + 1,
+        }
+    }
+
+    /// The place of the scalar here among the different ones, in the order in which they came.
+    pub fn scalar_place(&self, place: usize) -> Option<usize>
+        requires { place < length (plain_events self.now) }
+        ensures some { IfSome result (λ k. slice_get (scalars_of self.now) k
+            ≡ Some (event_at (plain_events self.now) place)) }
+        ensures leaf { IfSome result (λ k. is_leaf (event_at (plain_events self.now) place) ≡ true) }
+        ensures none { result ≡ None → is_leaf (event_at (plain_events self.now) place) ≡ false }
+    {
+        match self.entries.as_slice()[place] {
+            Entry::Scalar(scalar) => Some(scalar),
+            _ => None,
+        }
+    }
+
+    /// The scalar here.
+    pub fn scalar_at(&self, place: usize) -> Option<&Event<'e>>
+        requires { place < length (plain_events self.now) }
+        ensures some { IfSome result (λ e. event_at (plain_events self.now) place
+            ≡ plain_event e.now) }
+        ensures none { result ≡ None → is_leaf (event_at (plain_events self.now) place) ≡ false }
+    {
+        let scalar = self.scalar_place(place)?;
+        self.scalars.get_index(scalar)
+    }
+
+    // Takes a start, with the place behind itself.
+    fn start(&mut self, entry: Entry) -> Result<(), Error>
+        requires starts { is_start entry ≡ true }
+        requires behind { behind_of (length (plain_events self.old)) entry
+            ≡ length (plain_events self.old) + 1 }
+        ensures events { OnOk result (plain_events self.new
+            ≡ plain_events self.old ++ shown (scalars_of self.old) entry ∷ []) }
+        ensures unchanged { OnErr result (plain_events self.new ≡ plain_events self.old) }
+        ensures memory { OnlyMemory result }
+    {
+        self.entries.reserve(1)?;
+        self.begun.reserve(1)?;
+        let place = self.entries.len();
+        self.entries.push_reserved(entry);
+        self.begun.push_reserved(place);
+        Ok(())
+    }
+
+    // Takes an end: the innermost start that has none is closed.
+    fn end(&mut self) -> Result<(), Error>
+        ensures events { OnOk result (plain_events self.new
+            ≡ plain_events self.old ++ EndCollection ∷ []) }
+        ensures unchanged { OnErr result (plain_events self.new ≡ plain_events self.old) }
+        ensures memory { OnlyMemory result }
+    {
+        self.entries.push(Entry::End)?;
+        match self.begun.pop() {
+            Some(start) => {
+                let behind = self.entries.len();
+                let entry = self.entries.as_slice()[start];
+                self.entries[start] = closed(entry, behind);
+                Ok(())
+            }
+            None => Ok(()),
+        }
+    }
+
+    // Takes a scalar: the place of its equal among the different ones, or a new one.
+    fn scalar(&mut self, event: Event<'e>) -> Result<(), Error>
+        requires { is_leaf (event_of event) ≡ true }
+        ensures events { OnOk result (plain_events self.new
+            ≡ plain_events self.old ++ event_of event.entry ∷ []) }
+        ensures unchanged { OnErr result (plain_events self.new ≡ plain_events self.old) }
+        ensures memory { OnlyMemory result }
+    {
+        self.entries.reserve(1)?;
+        match self.scalars.insert_full(event) {
+            Ok((place, _)) => {
+                self.entries.push_reserved(Entry::Scalar(place));
+                return Ok(());
+            }
+            Err(_) => return Err(ErrorKind::OutOfMemory.without_position()),
+        }
+    }
+
+    /// Takes an event. A scalar that equals one of those held is dropped, and takes no memory but
+    /// that of its place.
+    ///
+    /// # Errors
+    /// `OutOfMemory`, without an offset; the events held are the same then.
+    pub fn push(&mut self, event: Event<'e>) -> Result<(), Error>
+        ensures events { OnOk result (plain_events self.new
+            ≡ plain_events self.old ++ plain_event event.entry ∷ []) }
+        ensures unchanged { OnErr result (plain_events self.new ≡ plain_events self.old) }
+        ensures memory { OnlyMemory result }
+    {
+        let behind = self.entries.len() + 1;
+        match event {
+            Event::StartArray(_) => self.start(Entry::Array(behind)),
+            Event::StartDictionary(_) => self.start(Entry::Dictionary(behind)),
+            Event::EndCollection => self.end(),
+            scalar => self.scalar(scalar),
+        }
+    }
+
+    /// Drops the events. What room they had is kept.
+    pub fn clear(&mut self)
+        ensures events { plain_events self.new ≡ [] }
+    {
+        self.scalars.clear();
+        self.entries.clear();
+        self.begun.clear();
+    }
+}
+
+impl Held<'static> {
+    ghost use Rattle.std.specs.Prelude.{◌++◌, ◌∷◌, []};
+    ghost use Rattle.plist_binwrite.specs.Held.{plain_event, plain_events};
+
+    /// Takes a copy of an event. A scalar that equals one of those held isn't copied.
+    ///
+    /// # Errors
+    /// `OutOfMemory`, without an offset; the events held are the same then.
+    pub fn push_copy(&mut self, alloc: Global, event: Event<'_>) -> Result<(), Error>
+        ensures events { OnOk result (plain_events self.new
+            ≡ plain_events self.old ++ plain_event event.entry ∷ []) }
+        ensures unchanged { OnErr result (plain_events self.new ≡ plain_events self.old) }
+        ensures memory { OnlyMemory result }
+    {
+        match event {
+            Event::StartArray(length) => self.push(Event::StartArray(length)),
+            Event::StartDictionary(length) => self.push(Event::StartDictionary(length)),
+            Event::EndCollection => self.push(Event::EndCollection),
+            scalar => self.copy_scalar(alloc, scalar),
+        }
+    }
+
+    // Takes a copy of a scalar, unless its equal is held.
+    fn copy_scalar(&mut self, alloc: Global, event: Event<'_>) -> Result<(), Error>
+        requires { is_leaf (event_of event) ≡ true }
+        ensures events { OnOk result (plain_events self.new
+            ≡ plain_events self.old ++ event_of event.entry ∷ []) }
+        ensures unchanged { OnErr result (plain_events self.new ≡ plain_events self.old) }
+        ensures memory { OnlyMemory result }
+    {
+        self.entries.reserve(1)?;
+        match self.scalars.get_index_of(&event) {
+            Some(place) => {
+                self.entries.push_reserved(Entry::Scalar(place));
+                return Ok(());
+            }
+            None => {
+                let owned = event.into_owned(alloc)?;
+                self.scalar(owned)
+            }
+        }
+    }
+}

@@ -1,0 +1,94 @@
+//! Whether a dictionary has a key twice.
+
+ghost use Rattle.std.specs.Prelude.{◌≡◌, ◌≢◌, ◌+◌, ◌<◌, ◌↔◌, true, false, length, get_or, set, IfOk, MatchBool};
+ghost use Rattle.plist_base.specs.Bracketing.{bracketing, AreAlike};
+ghost use Rattle.plist_base.specs.Outcomes.{OnlyMemory};
+ghost use Rattle.plist_base.specs.Trees.{Dictionary, Members, Tree};
+ghost use Rattle.plist_binwrite.specs.Held.{plain_events, scalars_of, AllBelow, event_at, kind_of};
+ghost use Rattle.plist_binwrite.specs.declared.kinds.Kind.TheVariants.{Dictionary as KindDictionary};
+ghost use Rattle.plist_binwrite.specs.Keys.{HasDistinctKeys, HasKeysOnce};
+ghost use Rattle.plist_binwrite.specs.Standing.{Sits};
+
+use crate::held::Held;
+use crate::kinds::Kind;
+use plist_base::Error;
+use std::alloc::Global;
+
+// Whether a scalar has this stamp, which it has then.
+fn stamp(stamps: &mut Vec<usize>, scalar: usize, mark: usize) -> bool
+    requires { scalar < length stamps.old.items }
+    ensures stood { result ≡ true → get_or stamps.old.items scalar 0 ≡ mark }
+    ensures other { result ≡ false → get_or stamps.old.items scalar 0 ≢ mark }
+    ensures stamped { stamps.new.items ≡ set stamps.old.items scalar mark }
+{
+    let stood = stamps.as_slice()[scalar] == mark;
+    stamps[scalar] = mark;
+    stood
+}
+
+// Whether the dictionary that begins here has a key twice. A stamp tells of each different scalar
+// behind which start it was a key last.
+fn repeats_here(events: &Held<'_>, start: usize, stamps: &mut Vec<usize>) -> bool
+    requires start { start < length (plain_events events.now) }
+    requires long { length stamps.old.items ≡ length (scalars_of events.now) }
+    requires older { AllBelow (start + 1) stamps.old.items }
+    ensures long { length stamps.new.items ≡ length (scalars_of events.now) }
+    ensures newer { AllBelow (start + 2) stamps.new.items }
+    ensures repeats { (ms : Members) → Sits (plain_events events.now) (Dictionary ms) start
+        → MatchBool result (HasDistinctKeys ms → ⊥) (HasDistinctKeys ms) }
+{
+    let mark = start + 1;
+    let mut key = mark;
+    'walk: while events.has_item(key) {
+        let Some(scalar) = events.scalar_place(key) else {
+            return false;
+        };
+        if stamp(stamps, scalar, mark) {
+            return true;
+        }
+        let value = key + 1;
+        if value >= events.len() {
+            return false;
+        }
+        key = events.skip(value);
+    }
+    false
+}
+
+// Whether a dictionary begins here that has a key twice.
+fn repeats_at(events: &Held<'_>, place: usize, stamps: &mut Vec<usize>) -> bool
+    requires place { place < length (plain_events events.now) }
+    requires long { length stamps.old.items ≡ length (scalars_of events.now) }
+    requires older { AllBelow (place + 1) stamps.old.items }
+    ensures long { length stamps.new.items ≡ length (scalars_of events.now) }
+    ensures newer { AllBelow (place + 2) stamps.new.items }
+    ensures begins { result ≡ true
+        → kind_of (event_at (plain_events events.now) place) ≡ KindDictionary }
+    ensures repeats { (ms : Members) → Sits (plain_events events.now) (Dictionary ms) place
+        → MatchBool result (HasDistinctKeys ms → ⊥) (HasDistinctKeys ms) }
+{
+    match events.kind_at(place) {
+        Kind::Dictionary => repeats_here(events, place, stamps),
+        _ => false,
+    }
+}
+
+/// Whether a dictionary of the property list whose events these are has a key twice. Where none has,
+/// the last value of each key is its only one.
+///
+/// # Errors
+/// `OutOfMemory`, without an offset.
+pub fn repeats_key(alloc: Global, events: &Held<'_>) -> Result<bool, Error>
+    ensures once { IfOk result (λ repeats. (tree : Tree)
+        → AreAlike (plain_events events.now) (bracketing tree)
+        → (repeats ≡ false) ↔ HasKeysOnce tree) }
+    ensures memory { OnlyMemory result }
+{
+    let mut stamps = vec![in alloc; 0usize; events.count_scalars()]?;
+    for place in 0..events.len() {
+        if repeats_at(events, place, &mut stamps) {
+            return Ok(true);
+        }
+    }
+    Ok(false)
+}
