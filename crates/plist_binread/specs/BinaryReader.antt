@@ -10,7 +10,9 @@ use Rattle.plist_base.specs.Sources.{ItemCountsIo}
 use Rattle.plist_binread.specs.Container.{head_of}
 use Rattle.std.specs.Option.{is_some}
 use Rattle.plist_base.specs.declared.limits.Limiter.{Limiter}
-use Rattle.plist_base.specs.Limits.{has_room, under_any}
+use Rattle.plist_base.specs.Limits.{has_room, limited_items, under_any}
+use Rattle.plist_base.specs.declared.limits.Limits.{Limits}
+use Rattle.plist_binread.specs.Unfolding.{items_of_file}
 use Rattle.plist_binread.specs.Failures.{ItemGivenWithin}
 use Rattle.plist_binread.specs.declared.reader.BinaryReader.{BinaryReader}
 use Rattle.plist_binread.specs.declared.reader.State.TheVariants.{Ended}
@@ -166,3 +168,15 @@ abbrev pub steps_to_come : {R C : Type 0} {g : Ghosts R} {h : CounterGhosts C}
     → BinaryReader R C g h → ℕ
 steps_to_come reader =
     steps_left reader.state (length reader.walk.tags.items) reader.walk.frames
+
+-- where the bytes are known, all their items are still to come
+abbrev pub HasToCome : {R C : Type 0} {g : Ghosts R} {h : CounterGhosts C}
+    → (known : Option (List ℕ)) → (items : List ℕ → List Item) → BinaryReader R C g h → Type 0
+HasToCome known items reader = IfSome known (λ bytes. to_come bytes reader ≡ items bytes)
+
+-- a file's items under these limits, and what a limiter makes of them
+abbrev pub limited_file : Limits → List ℕ → List Item
+limited_file limits bytes = limited_items limits (items_of_file bytes)
+
+abbrev pub file_under : Option Limiter → List ℕ → List Item
+file_under limiter bytes = under_any limiter (items_of_file bytes)

@@ -8,8 +8,10 @@ pub mod Examples
 pub mod Failures
 pub mod Frames
 pub mod Lent
+pub mod Nearby
 pub mod Object
 pub mod Packed
+pub mod Stepping
 pub mod Telling
 pub mod Told
 pub mod Turning

@@ -102,6 +102,13 @@ abbrev pub TellsOne : {R C : Type 0} {g : Ghosts R} {h : CounterGhosts C}
 TellsOne known failed counts count old new =
     Tells {A = Unit {0}} known failed counts count old (Some (Ok (tt {0}))) new
 
+-- the same of a step that may not have been done
+abbrev pub TellsIf : {R C : Type 0} {g : Ghosts R} {h : CounterGhosts C}
+    (known : R → Option (List ℕ)) (failed : R → ℕ) (counts : Type 0) (count : C → ℕ)
+    (old : BinaryReader R C g h) (done : Bool) (new : BinaryReader R C g h) → Type 0
+TellsIf known failed counts count old done new =
+    done ≡ true → TellsOne known failed counts count old new
+
 -- all that is said of what is to come stays as it was
 pub record Stays {R C : Type 0} {g : Ghosts R} {h : CounterGhosts C} (old new : BinaryReader R C g h)
     : Type 0 where

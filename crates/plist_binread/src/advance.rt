@@ -1,14 +1,15 @@
 //! The walk from one item to the next.
 
-ghost use Rattle.std.specs.Prelude.{◌≡◌, ◌<◌, ◌≤◌, length, true, false, IfSome, OnOk};
+ghost use Rattle.std.specs.Prelude.{◌≡◌, ◌<◌, true, false, IfSome};
 ghost use Rattle.plist_base.specs.Events.{EndCollection};
 ghost use Rattle.plist_base.specs.Sources.{ItemCountsIo};
-ghost use Rattle.plist_binread.specs.Debt.{entries_of, next_number, weight};
-ghost use Rattle.plist_binread.specs.Turning.{IsKeptTold, closes};
-ghost use Rattle.plist_binread.specs.Lent.{IsAsked, IsKeptNear, IsToldAs, IsToldEnd, PaysNextTold, PaysTold};
+ghost use Rattle.plist_binread.specs.Turning.{closes};
+ghost use Rattle.plist_binread.specs.Lent.{IsToldAs, IsToldEnd};
 ghost use Rattle.plist_binread.specs.Told.{event_in};
-ghost use Rattle.plist_binread.specs.Walking.{IsWalkOf, cached_in, objects_of, open_in, owed_in, weight_in};
+ghost use Rattle.plist_binread.specs.Walking.{IsWalkOf, cached_in, objects_of, open_in};
 ghost use Rattle.plist_binread.specs.Failures.{ItemWithin};
+ghost use Rattle.plist_binread.specs.Behind.{IsAskedOf};
+ghost use Rattle.plist_binread.specs.Stepping.{IsAsBefore, IsLighter, KeepsItem, KeepsNext, LightensNext, PaysItem, PaysNext, TellsEnd};
 
 use crate::child::{Asked, read_child};
 use crate::counter::DecodeCounter;
@@ -45,26 +46,16 @@ pub fn advance_near<S: Source, C: DecodeCounter>(
 ) -> bool
     requires known { IfSome (S.known source.now) (λ bytes. IsWalkOf bytes bounds.now walk.old) }
     requires counted { C.counts → C.count counter.old ≡ cached_in walk.old }
-    requires asked { IfSome (S.known source.now) (λ bytes. bounds.now.trailer ≤ length bytes →
-        IsAsked bytes bounds.now asked.old) }
+    requires asked { IsAskedOf (S.known source.now) bounds.now asked.old }
     ensures size { objects_of walk.new ≡ objects_of walk.old }
     ensures known { IfSome (S.known source.now) (λ bytes. IsWalkOf bytes bounds.now walk.new) }
     ensures counted { C.counts → C.count counter.new ≡ cached_in walk.new }
-    ensures asked { IfSome (S.known source.now) (λ bytes. bounds.now.trailer ≤ length bytes →
-        IsAsked bytes bounds.now asked.new) }
-    ensures kept { result ≡ true → IfSome (S.known source.now) (λ bytes.
-        IsKeptNear (next_number (entries_of bytes bounds.now) (open_in walk.old))
-        (event_in last.new) walk.new.tags.items) }
-    ensures closes { result ≡ true → closes (open_in walk.old) ≡ true →
-        event_in last.new ≡ EndCollection }
-    ensures pays { result ≡ true → IfSome (S.known source.now) (λ bytes.
-        PaysTold (owed_in bytes bounds.now walk.old)
-        (event_in last.new) (owed_in bytes bounds.now walk.new)) }
-    ensures falls { result ≡ true →
-        weight (objects_of walk.old) (open_in walk.new) < weight_in walk.old }
-    ensures unchanged { result ≡ false → (walk.new.tags.items ≡ walk.old.tags.items)
-        × (walk.new.contents.items ≡ walk.old.contents.items)
-        × (open_in walk.new ≡ open_in walk.old) }
+    ensures asked { IsAskedOf (S.known source.now) bounds.now asked.new }
+    ensures kept { KeepsNext (S.known source.now) bounds.now walk.old result last.new walk.new }
+    ensures closes { result ≡ true → TellsEnd walk.old last.new }
+    ensures pays { PaysNext (S.known source.now) bounds.now walk.old result last.new walk.new }
+    ensures falls { result ≡ true → IsLighter walk.old walk.new }
+    ensures unchanged { result ≡ false → IsAsBefore walk.old walk.new }
 {
     match walk.turn() {
         Turn::Done => false,
@@ -96,22 +87,15 @@ pub fn advance<S: Source, C: DecodeCounter>(
 ) -> Option<Result<(), Error>>
     requires known { IfSome (S.known source.old) (λ bytes. IsWalkOf bytes bounds.now walk.old) }
     requires counted { C.counts → C.count counter.old ≡ cached_in walk.old }
-    requires asked { IfSome (S.known source.old) (λ bytes. bounds.now.trailer ≤ length bytes →
-        IsAsked bytes bounds.now asked.old) }
+    requires asked { IsAskedOf (S.known source.old) bounds.now asked.old }
     ensures size { objects_of walk.new ≡ objects_of walk.old }
     ensures known { IfSome (S.known source.old) (λ bytes. IsWalkOf bytes bounds.now walk.new) }
     ensures counted { C.counts → C.count counter.new ≡ cached_in walk.new }
-    ensures asked { IfSome (S.known source.old) (λ bytes. bounds.now.trailer ≤ length bytes →
-        IsAsked bytes bounds.now asked.new) }
-    ensures kept { IfSome (S.known source.old) (λ bytes.
-        IsKeptTold (next_number (entries_of bytes bounds.now) (open_in walk.old)) result
-        (event_in last.new) walk.new.tags.items) }
+    ensures asked { IsAskedOf (S.known source.old) bounds.now asked.new }
+    ensures kept { KeepsItem (S.known source.old) bounds.now walk.old result last.new walk.new }
     ensures closes { closes (open_in walk.old) ≡ true → IsToldEnd result (event_in last.new) }
-    ensures pays { IfSome (S.known source.old) (λ bytes.
-        PaysNextTold (owed_in bytes bounds.now walk.old) result
-        (event_in last.new) (owed_in bytes bounds.now walk.new)) }
-    ensures falls { IfSome result (λ answer. (0 < weight_in walk.old)
-        × OnOk answer (weight (objects_of walk.old) (open_in walk.new) < weight_in walk.old)) }
+    ensures pays { PaysItem (S.known source.old) bounds.now walk.old result last.new walk.new }
+    ensures falls { LightensNext walk.old result walk.new }
     ensures fault { ItemWithin 0 bounds.now.trailer result }
     ensures unchanged { S.known source.new ≡ S.known source.old }
     ensures failures { ItemCountsIo result (S.failures source.old) (S.failures source.new) }

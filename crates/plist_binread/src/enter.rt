@@ -1,22 +1,16 @@
 //! Entering an object that is read: its first item.
 
-ghost use Rattle.std.specs.Prelude.{◌≡◌, ℕ, ◌+◌, ◌-◌, ◌<◌, List, ◌++◌, length, get_or, true, false, IfOk, IfErr, OnOk, IfSome, Some, ⊤};
+ghost use Rattle.std.specs.Prelude.{◌≡◌, ◌+◌, ◌-◌, ◌<◌, length, get_or, false, IfOk, IfErr, OnOk, IfSome, Some, ⊤};
 ghost use Rattle.plist_base.specs.Outcomes.{OnlyMemory};
-ghost use Rattle.std.specs.List.{slice_get};
-ghost use Rattle.plist_base.specs.Events.{event_of};
 ghost use Rattle.plist_base.specs.Faults.{MatchFault, kind_of, error_kind_of};
 ghost use Rattle.plist_base.specs.Sources.{AnswersIo};
-ghost use Rattle.plist_binread.specs.Packed.{is_small_event, is_marked, unmarked};
-ghost use Rattle.plist_binread.specs.Object.{Object};
-ghost use Rattle.plist_binread.specs.Unfolding.{Entry, unfolding_of, until_fault};
-ghost use Rattle.plist_binread.specs.Debt.{IsKnown, IsOpen, entries_of, Explains, Pays, owed_by, path_of, weight};
-ghost use Rattle.plist_binread.specs.Turning.{IsFound, IsKept};
-ghost use Rattle.plist_binread.specs.Decoding.{IsDecodedAs, small_in};
-ghost use Rattle.plist_binread.specs.Walking.{IsWalkOf, cached_in, objects_of, open_in, owed_entering, owed_in, weight_entering};
+ghost use Rattle.plist_binread.specs.Packed.{is_marked};
+ghost use Rattle.plist_binread.specs.Decoding.{small_in};
+ghost use Rattle.plist_binread.specs.Walking.{IsWalkOf, cached_in, objects_of};
 ghost use Rattle.plist_binread.specs.Failures.{ErrWithin};
+ghost use Rattle.plist_binread.specs.Stepping.{ExplainsEntering, IsFoundAt, IsLighterEntered, KeepsDecoded, KeepsEntered, OpensDecoded, PaysEntered};
 
 use crate::counter::DecodeCounter;
-use crate::frames::Frame;
 use crate::object::{Decoded, decode};
 use crate::packed::{keep, mark, pack, unpack};
 use crate::table::Bounds;
@@ -44,14 +38,9 @@ fn look_up(
     requires { length contents.now ≡ length tags.now }
     ensures below { IfOk result (λ _. number < length tags.now) }
     ensures new { IfOk result (λ _. is_marked (get_or tags.now number 0) ≡ false) }
-    ensures found { IfOk result (λ found.
-        IsFound (get_or tags.now number 0) (get_or contents.now number 0) found) }
+    ensures found { IfOk result (IsFoundAt number tags.now contents.now) }
     ensures kinds { IfErr result (λ error. MatchFault (kind_of (error_kind_of error)) ⊥ ⊤ ⊤) }
-    ensures refused { IfErr result (λ error. (bytes : List ℕ) (bounds : Bounds) (frames : List Frame) →
-        IsOpen tags.now frames → IsKnown bytes bounds tags.now contents.now frames →
-        Explains (until_fault
-        (unfolding_of (entries_of bytes bounds) (length tags.now - length frames) (path_of frames)
-        at number ++ owed_by (entries_of bytes bounds) frames)) error) }
+    ensures refused { IfErr result (ExplainsEntering tags.now contents.now at number) }
     ensures fault { ErrWithin 0 0 result }
 {
     if number >= tags.len() as u64 {
@@ -78,16 +67,9 @@ fn open(walk: &mut Walk, number: u64, decoded: Decoded) -> Result<OwnedEvent, Er
     requires new { get_or walk.old.tags.items number 0 ≡ 0 }
     ensures size { objects_of walk.new ≡ objects_of walk.old }
     ensures counted { cached_in walk.new ≡ cached_in walk.old + small_in decoded }
-    ensures kept { (object : Object) → IsDecodedAs object decoded → IfOk result (λ event.
-        is_small_event (event_of event) ≡ true →
-        0 < unmarked (get_or walk.new.tags.items number 0)) }
-    ensures falls { OnOk result (weight (objects_of walk.old) (open_in walk.new)
-        < weight_entering walk.old) }
-    ensures pays { (bytes : List ℕ) (bounds : Bounds) (entry : Entry) (at : ℕ) →
-        IsWalkOf bytes bounds walk.old → slice_get (entries_of bytes bounds) number ≡ Some entry →
-        IsDecodedAs entry.object decoded →
-        Pays (owed_entering bytes bounds walk.old at number) result (owed_in bytes bounds walk.new)
-        × IsWalkOf bytes bounds walk.new }
+    ensures kept { KeepsDecoded decoded number result walk.new }
+    ensures falls { OnOk result (IsLighterEntered walk.old walk.new) }
+    ensures pays { OpensDecoded number decoded walk.old result walk.new }
     ensures memory { OnlyMemory result }
 {
     match decoded {
@@ -127,13 +109,9 @@ pub fn enter<S: Source, C: DecodeCounter>(
     ensures size { objects_of walk.new ≡ objects_of walk.old }
     ensures known { IfSome (S.known source.old) (λ bytes. IsWalkOf bytes bounds.now walk.new) }
     ensures counted { C.counts → C.count counter.new ≡ cached_in walk.new }
-    ensures kept { IfSome (S.known source.old) (λ bytes.
-        IsKept (Some number) (Some result) walk.new.tags.items) }
-    ensures pays { IfSome (S.known source.old) (λ bytes.
-        Pays (owed_entering bytes bounds.now walk.old at number)
-        result (owed_in bytes bounds.now walk.new)) }
-    ensures falls { OnOk result (weight (objects_of walk.old) (open_in walk.new)
-        < weight_entering walk.old) }
+    ensures kept { KeepsEntered (S.known source.old) number result walk.new }
+    ensures pays { PaysEntered (S.known source.old) bounds.now walk.old at number result walk.new }
+    ensures falls { OnOk result (IsLighterEntered walk.old walk.new) }
     ensures fault { ErrWithin 0 bounds.now.trailer result }
     ensures unchanged { S.known source.new ≡ S.known source.old }
     ensures failures { AnswersIo result (S.failures source.old) (S.failures source.new) }

@@ -2,13 +2,14 @@
 //!
 //! What isn't whole there, or isn't right, is nothing here: it is read then, and its fault told.
 
-ghost use Rattle.std.specs.Prelude.{◌≡◌, ℕ, ◌+◌, ◌-◌, ◌*◌, ◌^◌, ◌<◌, ◌≤◌, List, ◌++◌, length, drop, Some, IfSome, cond};
+ghost use Rattle.std.specs.Prelude.{◌≡◌, ◌-◌, ◌*◌, ◌^◌, ◌<◌, ◌≤◌, length, Some, IfSome, cond};
 ghost use Rattle.plist_base.specs.declared.real.RealBits.TheVariants.{Eight};
-ghost use Rattle.plist_base.specs.Trees.{Data, Real, Uid as uid_scalar};
-ghost use Rattle.plist_binread.specs.Container.{number_of, numbers_of};
-ghost use Rattle.plist_binread.specs.Lent.{IsLentAs, small_lent};
-ghost use Rattle.plist_binread.specs.Object.{Object, Scalar, Array, date, text, dictionary, unsigned_integer, signed_integer, length_in, layout_of, meaning_of_front, meaning_counted, object_behind, object_in};
+ghost use Rattle.plist_base.specs.Trees.{Real};
+ghost use Rattle.plist_binread.specs.Lent.{small_lent};
+ghost use Rattle.plist_binread.specs.Object.{Scalar, Array, date, text, unsigned_integer, signed_integer, object_in};
 ghost use Rattle.plist_binread.specs.Told.{event_in};
+ghost use Rattle.plist_binread.specs.Nearby.{CountsLent, IsContent, IsCount, IsCounted, IsLength, IsNumber, LendsCounted, LendsFront, LendsWhole, LiesBehind, array_with, object_with, pairs_with};
+ghost use Rattle.plist_binread.specs.Behind.{data_in, long_real, uid_in};
 
 use crate::counter::DecodeCounter;
 use crate::extent::number_width;
@@ -30,9 +31,7 @@ pub enum Lent {
 // The number in so many bytes.
 fn lent_number(rest: &[u8], width: usize) -> Option<u64>
     requires { width ≤ 8 }
-    ensures value { IfSome result (λ n. (more : List ℕ) (meaning : ℕ → Object) →
-        meaning_of_front width (λ content. meaning (number_of content)) (rest.now ++ more)
-        ≡ meaning n) }
+    ensures value { IfSome result (IsNumber width rest.now) }
     ensures small { IfSome result (λ n. n < 256 ^ width) }
 {
     if rest.len() < width {
@@ -43,8 +42,7 @@ fn lent_number(rest: &[u8], width: usize) -> Option<u64>
 
 // The content of an object of a fixed size.
 fn lent_content<const N: usize>(rest: &[u8]) -> Option<[u8; N]>
-    ensures content { IfSome result (λ content. (more : List ℕ) (meaning : List ℕ → Object) →
-        meaning_of_front N meaning (rest.now ++ more) ≡ meaning content) }
+    ensures content { IfSome result (IsContent N rest.now) }
 {
     match rest.first_chunk::<N>() {
         Some(content) => Some(*content),
@@ -54,11 +52,9 @@ fn lent_content<const N: usize>(rest: &[u8]) -> Option<[u8; N]>
 
 /// The length of an object, and the bytes behind it.
 pub fn lent_length(marker: u8, rest: &[u8]) -> Option<(u64, &[u8])>
-    ensures length { IfSome result (λ found. (more : List ℕ) →
-        length_in marker (rest.now ++ more) ≡ Some (found.0, found.1.now ++ more)) }
+    ensures length { IfSome result (IsLength marker rest.now) }
     ensures short { IfSome result (λ found. length found.1.now ≤ length rest.now) }
-    ensures behind { IfSome result (λ found.
-        drop (length rest.now - length found.1.now) rest.now ≡ found.1.now) }
+    ensures behind { IfSome result (LiesBehind rest.now) }
 {
     let low = marker % 16;
     if low < 15 {
@@ -74,9 +70,7 @@ pub fn lent_length(marker: u8, rest: &[u8]) -> Option<(u64, &[u8])>
 
 // The content of a text or data, of as many bytes as its length says.
 fn lent_bytes(marker: u8, rest: &[u8]) -> Option<&[u8]>
-    ensures content { IfSome result (λ found. (more : List ℕ) (meaning : List ℕ → Object) →
-        meaning_counted 1 (λ _. meaning) (length_in marker (rest.now ++ more))
-        ≡ meaning found.now) }
+    ensures content { IfSome result (IsCounted marker rest.now) }
 {
     match lent_length(marker, rest) {
         Some((count, behind)) => {
@@ -91,8 +85,7 @@ fn lent_bytes(marker: u8, rest: &[u8]) -> Option<&[u8]>
 
 fn lent_unsigned(rest: &[u8], width: usize, last: &mut Last) -> Lent
     requires { width ≤ 8 }
-    ensures lent { (more : List ℕ) → IsLentAs
-        (meaning_of_front width unsigned_integer (rest.now ++ more)) (event_in last.new) result }
+    ensures lent { LendsFront width unsigned_integer rest.now (event_in last.new) result }
 {
     match lent_number(rest, width) {
         Some(number) => {
@@ -104,8 +97,7 @@ fn lent_unsigned(rest: &[u8], width: usize, last: &mut Last) -> Lent
 }
 
 fn lent_signed(rest: &[u8], last: &mut Last) -> Lent
-    ensures lent { (more : List ℕ) → IsLentAs
-        (meaning_of_front 8 signed_integer (rest.now ++ more)) (event_in last.new) result }
+    ensures lent { LendsFront 8 signed_integer rest.now (event_in last.new) result }
 {
     match lent_number(rest, 8) {
         Some(number) => last.tell_signed(number),
@@ -115,9 +107,7 @@ fn lent_signed(rest: &[u8], last: &mut Last) -> Lent
 
 fn lent_uid(rest: &[u8], width: usize, last: &mut Last) -> Lent
     requires { width ≤ 8 }
-    ensures lent { (more : List ℕ) → IsLentAs (meaning_of_front width
-        (λ content. Scalar (uid_scalar (number_of content))) (rest.now ++ more))
-        (event_in last.new) result }
+    ensures lent { LendsFront width uid_in rest.now (event_in last.new) result }
 {
     match lent_number(rest, width) {
         Some(number) => {
@@ -129,8 +119,7 @@ fn lent_uid(rest: &[u8], width: usize, last: &mut Last) -> Lent
 }
 
 fn lent_real(rest: &[u8], last: &mut Last) -> Lent
-    ensures lent { (more : List ℕ) → IsLentAs (meaning_of_front 8
-        (λ content. Scalar (Real (Eight content))) (rest.now ++ more)) (event_in last.new) result }
+    ensures lent { LendsFront 8 long_real rest.now (event_in last.new) result }
 {
     match lent_content(rest) {
         Some(bytes) => {
@@ -142,8 +131,7 @@ fn lent_real(rest: &[u8], last: &mut Last) -> Lent
 }
 
 fn lent_date(rest: &[u8], last: &mut Last) -> Lent
-    ensures lent { (more : List ℕ) → IsLentAs
-        (meaning_of_front 8 date (rest.now ++ more)) (event_in last.new) result }
+    ensures lent { LendsFront 8 date rest.now (event_in last.new) result }
 {
     match lent_content(rest) {
         Some(bytes) => match Date::from_plist_real(bytes) {
@@ -158,8 +146,7 @@ fn lent_date(rest: &[u8], last: &mut Last) -> Lent
 }
 
 fn lent_text(marker: u8, rest: &[u8], last: &mut Last) -> Lent
-    ensures lent { (more : List ℕ) → IsLentAs (meaning_counted 1 (λ _. text)
-        (length_in marker (rest.now ++ more))) (event_in last.new) result }
+    ensures lent { LendsCounted marker text rest.now (event_in last.new) result }
 {
     match lent_bytes(marker, rest) {
         Some(bytes) => {
@@ -174,9 +161,7 @@ fn lent_text(marker: u8, rest: &[u8], last: &mut Last) -> Lent
 }
 
 fn lent_data(marker: u8, rest: &[u8], last: &mut Last) -> Lent
-    ensures lent { (more : List ℕ) → IsLentAs (meaning_counted 1
-        (λ _ content. Scalar (Data content)) (length_in marker (rest.now ++ more)))
-        (event_in last.new) result }
+    ensures lent { LendsCounted marker data_in rest.now (event_in last.new) result }
 {
     match lent_bytes(marker, rest) {
         Some(bytes) => {
@@ -194,9 +179,7 @@ fn lent_data(marker: u8, rest: &[u8], last: &mut Last) -> Lent
 // away.
 fn lent_count(marker: u8, rest: &[u8], room: u64, size: u64) -> Option<u64>
     requires { length rest.now ≤ room }
-    ensures count { IfSome result (λ count. (more : List ℕ) → length (rest.now ++ more) ≡ room →
-        (behind : List ℕ) × (length_in marker (rest.now ++ more) ≡ Some (count, behind))
-        × (count * size ≤ length behind)) }
+    ensures count { IfSome result (IsCount marker size room rest.now) }
 {
     match lent_length(marker, rest) {
         Some((count, behind)) => {
@@ -213,9 +196,7 @@ fn lent_count(marker: u8, rest: &[u8], room: u64, size: u64) -> Option<u64>
 fn lent_array(marker: u8, rest: &[u8], room: u64, width: usize, last: &mut Last) -> Lent
     requires room { length rest.now ≤ room }
     requires width { 0 < width }
-    ensures lent { (more : List ℕ) → length (rest.now ++ more) ≡ room → IsLentAs
-        (meaning_counted width (λ _ content. Array (numbers_of width content))
-        (length_in marker (rest.now ++ more))) (event_in last.new) result }
+    ensures lent { LendsWhole room (array_with width marker) rest.now (event_in last.new) result }
 {
     match lent_count(marker, rest, room, width as u64) {
         Some(count) => {
@@ -229,9 +210,7 @@ fn lent_array(marker: u8, rest: &[u8], room: u64, width: usize, last: &mut Last)
 fn lent_dictionary(marker: u8, rest: &[u8], room: u64, width: usize, last: &mut Last) -> Lent
     requires room { length rest.now ≤ room }
     requires width { (0 < width) × (width ≤ 8) }
-    ensures lent { (more : List ℕ) → length (rest.now ++ more) ≡ room → IsLentAs
-        (meaning_counted (2 * width) (λ count content. dictionary count (numbers_of width content))
-        (length_in marker (rest.now ++ more))) (event_in last.new) result }
+    ensures lent { LendsWhole room (pairs_with width marker) rest.now (event_in last.new) result }
 {
     match lent_count(marker, rest, room, 2 * width as u64) {
         Some(count) => match count.checked_mul(2) {
@@ -249,9 +228,7 @@ fn lent_dictionary(marker: u8, rest: &[u8], room: u64, width: usize, last: &mut 
 fn lent_behind(marker: u8, rest: &[u8], room: u64, width: usize, last: &mut Last) -> Lent
     requires room { length rest.now ≤ room }
     requires width { (0 < width) × (width ≤ 8) }
-    ensures lent { (more : List ℕ) → length (rest.now ++ more) ≡ room → IsLentAs
-        (object_behind marker (layout_of width marker) (rest.now ++ more))
-        (event_in last.new) result }
+    ensures lent { LendsWhole room (object_with width marker) rest.now (event_in last.new) result }
 {
     match marker {
         0x08 => last.tell_boolean(false),
@@ -292,10 +269,8 @@ pub fn decode_lent<C: DecodeCounter>(
 ) -> Lent
     requires room { length seen.now ≤ room }
     requires width { (0 < width) × (width ≤ 8) }
-    ensures lent { (more : List ℕ) → length (seen.now ++ more) ≡ room → IsLentAs
-        (object_in width (seen.now ++ more)) (event_in last.new) result }
-    ensures counted { C.counts →
-        C.count counter.new ≡ C.count counter.old + small_lent result (event_in last.new) }
+    ensures lent { LendsWhole room (object_in width) seen.now (event_in last.new) result }
+    ensures counted { CountsLent C.counts C.count counter.old counter.new result last.new }
 {
     match seen.split_first() {
         Some((marker, rest)) => {

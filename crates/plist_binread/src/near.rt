@@ -1,15 +1,13 @@
 //! Entering an object that is at hand: its first item is told without a read.
 
-ghost use Rattle.std.specs.Prelude.{◌≡◌, ℕ, ◌+◌, ◌^◌, ◌<◌, ◌≤◌, List, [], ◌∷◌, ◌++◌, length, take, drop, get_or, true, false, IfSome, Some};
-ghost use Rattle.std.specs.List.{slice_get};
-ghost use Rattle.plist_binread.specs.Packed.{is_small_event, unmarked};
-ghost use Rattle.plist_binread.specs.Object.{Object, object_in};
-ghost use Rattle.plist_binread.specs.Unfolding.{Entry};
-ghost use Rattle.plist_binread.specs.Debt.{entries_of, weight};
+ghost use Rattle.std.specs.Prelude.{◌≡◌, ◌+◌, ◌^◌, ◌<◌, [], ◌∷◌, ◌++◌, get_or, true, false, IfSome, Some};
 ghost use Rattle.plist_binread.specs.Frames.{frame_of};
-ghost use Rattle.plist_binread.specs.Lent.{IsAsked, IsLentAs, PaysTold, EntersChild, small_lent};
 ghost use Rattle.plist_binread.specs.Told.{event_in};
-ghost use Rattle.plist_binread.specs.Walking.{IsWalkOf, cached_in, objects_of, open_in, owed_entering, owed_in, weight_entering};
+ghost use Rattle.plist_binread.specs.Walking.{IsWalkOf, cached_in, objects_of};
+ghost use Rattle.plist_binread.specs.Nearby.{small_told};
+ghost use Rattle.plist_binread.specs.Behind.{IsAskedOf};
+ghost use Rattle.plist_binread.specs.Beginning.{IsKnownWalk};
+ghost use Rattle.plist_binread.specs.Stepping.{Goes, IsLighterEntered, IsUnchanged, KeepsLent, KeepsNear, OpensLent, PaysNear};
 
 use crate::child::{Asked, lent_before, near_child};
 use crate::counter::DecodeCounter;
@@ -36,22 +34,11 @@ fn open_lent(walk: &mut Walk, number: u64, lent: Lent, last: &Last) -> bool
     requires below { number < objects_of walk.old }
     requires new { get_or walk.old.tags.items number 0 ≡ 0 }
     ensures size { objects_of walk.new ≡ objects_of walk.old }
-    ensures counted { cached_in walk.new
-        ≡ cached_in walk.old + small_lent lent (event_in last.now) }
-    ensures kept { result ≡ true → (object : Object) → IsLentAs object (event_in last.now) lent →
-        is_small_event (event_in last.now) ≡ true →
-        0 < unmarked (get_or walk.new.tags.items number 0) }
-    ensures falls { result ≡ true → weight (objects_of walk.old) (open_in walk.new)
-        < weight_entering walk.old }
-    ensures pays { result ≡ true → (bytes : List ℕ) (bounds : Bounds) (entry : Entry) →
-        IsWalkOf bytes bounds walk.old → slice_get (entries_of bytes bounds) number ≡ Some entry →
-        IsLentAs entry.object (event_in last.now) lent →
-        ((at : ℕ) → PaysTold (owed_entering bytes bounds walk.old at number)
-        (event_in last.now) (owed_in bytes bounds walk.new))
-        × IsWalkOf bytes bounds walk.new }
-    ensures unchanged { result ≡ false → (walk.new.tags.items ≡ walk.old.tags.items)
-        × (walk.new.contents.items ≡ walk.old.contents.items)
-        × (walk.new.frames ≡ walk.old.frames) }
+    ensures counted { cached_in walk.new ≡ cached_in walk.old + small_told lent last.now }
+    ensures kept { result ≡ true → KeepsLent (event_in last.now) lent number walk.new }
+    ensures falls { result ≡ true → IsLighterEntered walk.old walk.new }
+    ensures pays { result ≡ true → OpensLent number (event_in last.now) lent walk.old walk.new }
+    ensures unchanged { result ≡ false → IsUnchanged walk.old walk.new }
 {
     match lent {
         Lent::Nothing => false,
@@ -92,19 +79,11 @@ fn enter_near<S: Source, C: DecodeCounter>(
     requires counted { C.counts → C.count counter.old ≡ cached_in walk.old }
     ensures size { objects_of walk.new ≡ objects_of walk.old }
     ensures counted { C.counts → C.count counter.new ≡ cached_in walk.new }
-    ensures known { result ≡ true → IfSome (S.known source.now) (λ bytes.
-        IsWalkOf bytes bounds.now walk.new) }
-    ensures kept { result ≡ true → IfSome (S.known source.now) (λ _.
-        is_small_event (event_in last.new) ≡ true →
-        0 < unmarked (get_or walk.new.tags.items number 0)) }
-    ensures pays { result ≡ true → IfSome (S.known source.now) (λ bytes. (at : ℕ) →
-        PaysTold (owed_entering bytes bounds.now walk.old at number)
-        (event_in last.new) (owed_in bytes bounds.now walk.new)) }
-    ensures falls { result ≡ true → weight (objects_of walk.old) (open_in walk.new)
-        < weight_entering walk.old }
-    ensures unchanged { result ≡ false → (walk.new.tags.items ≡ walk.old.tags.items)
-        × (walk.new.contents.items ≡ walk.old.contents.items)
-        × (walk.new.frames ≡ walk.old.frames) }
+    ensures known { result ≡ true → IsKnownWalk (S.known source.now) bounds.now walk.new }
+    ensures kept { KeepsNear (S.known source.now) number result last.new walk.new }
+    ensures pays { PaysNear S.known source.now bounds.now walk.old number result last.new walk.new }
+    ensures falls { result ≡ true → IsLighterEntered walk.old walk.new }
+    ensures unchanged { result ≡ false → IsUnchanged walk.old walk.new }
 {
     if number >= walk.tags.len() as u64 {
         return false;
@@ -140,23 +119,14 @@ pub fn go_near<S: Source, C: DecodeCounter>(
 ) -> bool
     requires known { IfSome (S.known source.now) (λ bytes. IsWalkOf bytes bounds.now walk.old) }
     requires counted { C.counts → C.count counter.old ≡ cached_in walk.old }
-    requires asked { IfSome (S.known source.now) (λ bytes. bounds.now.trailer ≤ length bytes →
-        IsAsked bytes bounds.now asked.old) }
+    requires asked { IsAskedOf (S.known source.now) bounds.now asked.old }
     ensures size { objects_of walk.new ≡ objects_of walk.old }
     ensures counted { C.counts → C.count counter.new ≡ cached_in walk.new }
-    ensures asked { IfSome (S.known source.now) (λ bytes. bounds.now.trailer ≤ length bytes →
-        IsAsked bytes bounds.now asked.new) }
-    ensures known { result ≡ true → IfSome (S.known source.now) (λ bytes.
-        IsWalkOf bytes bounds.now walk.new) }
-    ensures enters { result ≡ true → IfSome (S.known source.now) (λ bytes.
-        EntersChild (entries_of bytes bounds.now) (object_in bounds.now.reference_width
-        (drop at (take bounds.now.trailer bytes))) index (objects_of walk.old)
-        (open_in walk.old) (event_in last.new) walk.new.tags.items (open_in walk.new)) }
-    ensures falls { result ≡ true → weight (objects_of walk.old) (open_in walk.new)
-        < weight_entering walk.old }
-    ensures unchanged { result ≡ false → (walk.new.tags.items ≡ walk.old.tags.items)
-        × (walk.new.contents.items ≡ walk.old.contents.items)
-        × (walk.new.frames ≡ walk.old.frames) }
+    ensures asked { IsAskedOf (S.known source.now) bounds.now asked.new }
+    ensures known { result ≡ true → IsKnownWalk (S.known source.now) bounds.now walk.new }
+    ensures enters { Goes S.known source.now bounds.now at index walk.old result last.new walk.new }
+    ensures falls { result ≡ true → IsLighterEntered walk.old walk.new }
+    ensures unchanged { result ≡ false → IsUnchanged walk.old walk.new }
 {
     match near_child(source, bounds, asked, at, index) {
         Some(number) => enter_near(source, counter, bounds, walk, last, number),

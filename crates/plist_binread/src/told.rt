@@ -1,13 +1,13 @@
 //! The event that was told last.
 
-ghost use Rattle.std.specs.Prelude.{◌≡◌, ◌<◌, Some, true, false, IfSome, MatchOption};
-ghost use Rattle.std.specs.Str.{IsUtf8};
+ghost use Rattle.std.specs.Prelude.{◌≡◌, ◌<◌, Some, true, false, IfSome};
 ghost use Rattle.plist_base.specs.Events.{Single, event_of};
-ghost use Rattle.plist_base.specs.Trees.{Boolean as BooleanScalar, Data as DataScalar, Integer as IntegerScalar, String as StringScalar};
+ghost use Rattle.plist_base.specs.Trees.{Boolean as BooleanScalar, Data as DataScalar, Integer as IntegerScalar};
 ghost use Rattle.plist_binread.specs.declared.lent.Lent.TheVariants.{Scalar as ScalarLent};
 ghost use Rattle.plist_binread.specs.Object.{signed};
-ghost use Rattle.plist_binread.specs.Packed.{cached, is_small_event, scalar_of, single};
+ghost use Rattle.plist_binread.specs.Packed.{cached, is_small_event, single};
 ghost use Rattle.plist_binread.specs.Told.{event_in, event_with};
+ghost use Rattle.plist_binread.specs.Nearby.{PacksEvent, TellsText};
 
 use crate::lent::Lent;
 use crate::packed::{is_small, pack};
@@ -162,8 +162,7 @@ impl Last {
 
     /// Tells the text in these bytes, if they are one and there is room for it.
     pub fn tell_text(&mut self, bytes: &[u8]) -> bool
-        ensures { result ≡ true →
-            IsUtf8 bytes.now × (event_in self.new ≡ Single (StringScalar bytes.now)) }
+        ensures { result ≡ true → TellsText bytes.now self.new }
     {
         match str::from_utf8(bytes) {
             Ok(text) => {
@@ -199,8 +198,7 @@ impl Last {
 
     /// The tag and the content of a scalar, if it is small enough.
     pub fn pack(&self) -> Option<(u8, u64)>
-        ensures scalar { MatchOption result (is_small_event (event_in self.now) ≡ false)
-            (λ packed. single (scalar_of packed.0 packed.1) ≡ Some (event_in self.now)) }
+        ensures scalar { PacksEvent (event_in self.now) result }
         ensures small { IfSome result (λ packed. is_small_event (event_in self.now) ≡ true) }
         ensures tag { IfSome result (λ packed. (0 < packed.0) × (packed.0 < 128)) }
     {

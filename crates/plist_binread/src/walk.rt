@@ -1,16 +1,15 @@
 //! Where a walk stands: the collections that are open, and what is held of each object.
 
-ghost use Rattle.std.specs.Prelude.{◌≡◌, ℕ, ◌^◌, ◌<◌, List, [], ◌∷◌, ◌++◌, length, reverse, true, OnOk, OnErr};
+ghost use Rattle.std.specs.Prelude.{◌≡◌, ◌^◌, ◌<◌, [], ◌∷◌, ◌++◌, length, reverse, true, OnOk, OnErr};
 ghost use Rattle.plist_base.specs.Outcomes.{OnlyMemory};
 ghost use Rattle.std.proofs.Props.{props};
 ghost use Rattle.plist_binread.specs.declared.walk.Turn.TheVariants.{Closed};
-ghost use Rattle.plist_binread.specs.Debt.{IsOpen, entries_of};
+ghost use Rattle.plist_binread.specs.Debt.{IsOpen};
 ghost use Rattle.plist_binread.specs.Frames.{frame_of};
-ghost use Rattle.plist_binread.specs.Turning.{CanGiveBack, IsWithin, Lightens, Turns, closes, given_back};
+ghost use Rattle.plist_binread.specs.Turning.{IsWithin, closes, given_back};
 
 use crate::frames::{Frames, Wanted};
 use crate::packed::unmark;
-use crate::table::Bounds;
 use plist_base::Error;
 use std::alloc::Global;
 
@@ -39,7 +38,8 @@ pub struct Walk {
 }
 
 impl Walk {
-    ghost use Rattle.plist_binread.specs.Walking.{IsEmpty, IsWalkOf, cached_in, objects_of, open_in};
+    ghost use Rattle.plist_binread.specs.Stepping.{GivesBack, LightensBy, TurnsWalk};
+    ghost use Rattle.plist_binread.specs.Walking.{IsEmpty, cached_in, objects_of, open_in};
 
     /// No object is held.
     pub fn new(alloc: Global) -> Self
@@ -58,14 +58,10 @@ impl Walk {
         ensures counted { cached_in self.new ≡ cached_in self.old }
         ensures within { IsWithin self.new.tags.items result }
         ensures closes { closes (open_in self.old) ≡ true → result ≡ Closed }
-        ensures owed { (bytes : List ℕ) (bounds : Bounds) → IsWalkOf bytes bounds self.old →
-            Turns (entries_of bytes bounds) (open_in self.old) result (open_in self.new)
-            × IsWalkOf bytes bounds self.new }
-        ensures weight { (count : ℕ) →
-            Lightens count (open_in self.old) result (open_in self.new) }
+        ensures owed { TurnsWalk self.old result self.new }
+        ensures weight { LightensBy self.old result self.new }
         ensures contents { self.new.contents.items ≡ self.old.contents.items }
-        ensures back { CanGiveBack result self.old.tags.items self.new.tags.items
-            (open_in self.old) (open_in self.new) }
+        ensures back { GivesBack self.old result self.new }
     {
         match self.frames.turn() {
             Wanted::Nothing => Turn::Done,

@@ -1,0 +1,108 @@
+-- Words for what is decoded of bytes that are lent, whatever lies behind those that were seen.
+use Rattle.std.specs.Prelude.{◌≡◌, ℕ, ◌+◌, ◌-◌, ◌*◌, ◌<◌, ◌≤◌, false, List, ◌++◌, length, take, drop, Option, Some, MatchOption}
+use Rattle.std.specs.Borrow.{Bor}
+use Rattle.std.specs.Option.{option_map}
+use Rattle.std.specs.Str.{IsUtf8}
+use Rattle.plist_base.specs.declared.event.Event.{Event}
+use Rattle.plist_base.specs.Events.{PlainEvent, Single, event_of}
+use Rattle.plist_base.specs.Trees.{Scalar, String}
+use Rattle.plist_binread.specs.Container.{number_of, numbers_of}
+use Rattle.plist_binread.specs.Lent.{IsLentAs, small_lent}
+use Rattle.plist_binread.specs.Object.{Array, Object, dictionary, layout_of, length_in, meaning_counted, meaning_of_front, object_behind}
+use Rattle.plist_binread.specs.Packed.{content_bytes, is_small_event, scalar_of, single}
+use Rattle.plist_binread.specs.Told.{event_in}
+use Rattle.plist_binread.specs.declared.lent.Lent.{Lent}
+use Rattle.plist_binread.specs.declared.told.Last.{Last}
+
+-- ---- what stands at the front of bytes
+
+-- the number that the content of an object of a fixed size spells, and that content
+abbrev pub IsNumber : (width : ℕ) (rest : List ℕ) → ℕ → Type 0
+IsNumber width rest number = (more : List ℕ) (meaning : ℕ → Object) →
+    meaning_of_front width (λ content. meaning (number_of content)) (rest ++ more) ≡ meaning number
+
+abbrev pub IsContent : (size : ℕ) (rest content : List ℕ) → Type 0
+IsContent size rest content = (more : List ℕ) (meaning : List ℕ → Object) →
+    meaning_of_front size meaning (rest ++ more) ≡ meaning content
+
+-- an object's length, and the bytes behind it
+abbrev pub IsLength : (marker : ℕ) (rest : List ℕ) → ℕ × Bor (List ℕ) → Type 0
+IsLength marker rest found =
+    (more : List ℕ) → length_in marker (rest ++ more) ≡ Some (found.0, found.1.now ++ more)
+
+abbrev pub LiesBehind : (rest : List ℕ) → ℕ × Bor (List ℕ) → Type 0
+LiesBehind rest found = drop (length rest - length found.1.now) rest ≡ found.1.now
+
+-- the content of a text or data
+abbrev pub IsCounted : (marker : ℕ) (rest : List ℕ) → Bor (List ℕ) → Type 0
+IsCounted marker rest found = (more : List ℕ) (meaning : List ℕ → Object) →
+    meaning_counted 1 (λ _. meaning) (length_in marker (rest ++ more)) ≡ meaning found.now
+
+-- a collection's length, where so many bytes lie before the trailer
+abbrev pub IsCount : (marker size room : ℕ) (rest : List ℕ) → ℕ → Type 0
+IsCount marker size room rest count = (more : List ℕ) → length (rest ++ more) ≡ room →
+    (behind : List ℕ) × (length_in marker (rest ++ more) ≡ Some (count, behind))
+    × (count * size ≤ length behind)
+
+-- ---- what is lent
+
+-- an object of a fixed size, or one of as many bytes as its length says, whose content means this
+abbrev pub LendsFront : (size : ℕ) → (List ℕ → Object) → (rest : List ℕ) → PlainEvent → Lent → Type 0
+LendsFront size meaning rest told lent =
+    (more : List ℕ) → IsLentAs (meaning_of_front size meaning (rest ++ more)) told lent
+
+abbrev pub LendsCounted : (marker : ℕ) → (List ℕ → Object) → (rest : List ℕ) → PlainEvent → Lent
+    → Type 0
+LendsCounted marker meaning rest told lent = (more : List ℕ) →
+    IsLentAs (meaning_counted 1 (λ _. meaning) (length_in marker (rest ++ more))) told lent
+
+-- an object that all its bytes up to the trailer tell
+abbrev pub LendsWhole : (room : ℕ) → (List ℕ → Object) → (rest : List ℕ) → PlainEvent → Lent
+    → Type 0
+LendsWhole room object rest told lent =
+    (more : List ℕ) → length (rest ++ more) ≡ room → IsLentAs (object (rest ++ more)) told lent
+
+abbrev pub array_with : (width marker : ℕ) → List ℕ → Object
+array_with width marker rest =
+    meaning_counted width (λ _ content. Array (numbers_of width content)) (length_in marker rest)
+
+abbrev pub pairs_with : (width marker : ℕ) → List ℕ → Object
+pairs_with width marker rest = meaning_counted (2 * width)
+    (λ count content. dictionary count (numbers_of width content)) (length_in marker rest)
+
+abbrev pub object_with : (width marker : ℕ) → List ℕ → Object
+object_with width marker rest = object_behind marker (layout_of width marker) rest
+
+-- one for a small object that is lent, by which the counter rises
+abbrev pub small_told : Lent → Last → ℕ
+small_told lent last = small_lent lent (event_in last)
+
+abbrev pub CountsLent : {C : Type 0} → (counts : Type 0) → (count : C → ℕ) → (old new : C) → Lent
+    → Last → Type 0
+CountsLent counts count old new lent last = counts → count new ≡ count old + small_told lent last
+
+-- ---- what is packed
+
+-- at most eight bytes, with the tag of their number
+abbrev pub PacksBytes : (first : ℕ) (bytes : List ℕ) → Option (ℕ × ℕ) → Type 0
+PacksBytes first bytes packed = MatchOption packed (8 < length bytes)
+    (λ p. (p.0 ≡ first + length bytes) × (length bytes ≤ 8)
+    × (take (length bytes) (content_bytes p.1) ≡ bytes))
+
+-- a text of at most eight bytes, under a tag without its mark
+abbrev pub PacksText : (text : List ℕ) → Option (ℕ × ℕ) → Type 0
+PacksText text packed = MatchOption packed (8 < length text)
+    (λ p. (scalar_of p.0 p.1 ≡ Some (String text)) × (0 < p.0) × (p.0 < 128) × (length text ≤ 8))
+
+-- a scalar's event, if it is small
+abbrev pub PacksEvent : PlainEvent → Option (ℕ × ℕ) → Type 0
+PacksEvent event packed = MatchOption packed (is_small_event event ≡ false)
+    (λ p. single (scalar_of p.0 p.1) ≡ Some event)
+
+-- the event of this scalar, if there is one
+abbrev pub ShowsScalar : Option Scalar → Option Event → Type 0
+ShowsScalar scalar found = option_map event_of found ≡ single scalar
+
+-- the bytes are a text, which is told
+abbrev pub TellsText : (bytes : List ℕ) → Last → Type 0
+TellsText bytes last = IsUtf8 bytes × (event_in last ≡ Single (String bytes))

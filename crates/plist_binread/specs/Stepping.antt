@@ -1,0 +1,166 @@
+-- Words for what a step of the walk does to the walk, to what is told, and to what is owed.
+use Rattle.std.specs.Prelude.{◌≡◌, ℕ, ◌-◌, ◌<◌, Bool, true, List, ◌++◌, length, get_or, Option, Some, Result, IfOk, IfSome, OnOk}
+use Rattle.std.specs.List.{slice_get}
+use Rattle.plist_base.specs.declared.error.Error.{Error}
+use Rattle.plist_base.specs.declared.event.Event.{Event}
+use Rattle.plist_base.specs.Events.{PlainEvent, EndCollection, event_of}
+use Rattle.plist_binread.specs.Behind.{object_at}
+use Rattle.plist_binread.specs.Debt.{Explains, IsKnown, IsOpen, Pays, entries_of, next_number, owed_by, path_of, weight}
+use Rattle.plist_binread.specs.Decoding.{IsDecodedAs}
+use Rattle.plist_binread.specs.Lent.{EntersChild, IsKeptNear, IsLentAs, PaysNextTold, PaysTold}
+use Rattle.plist_binread.specs.Packed.{is_small_event, unmarked}
+use Rattle.plist_binread.specs.Told.{event_in}
+use Rattle.plist_binread.specs.Turning.{CanGiveBack, IsFound, IsKept, IsKeptTold, Lightens, Turns, closes}
+use Rattle.plist_binread.specs.Unfolding.{Entry, unfolding_of, until_fault}
+use Rattle.plist_binread.specs.Walking.{IsWalkOf, objects_of, open_in, owed_entering, owed_in, weight_entering, weight_in}
+use Rattle.plist_binread.specs.declared.enter.Found.{Found}
+use Rattle.plist_binread.specs.declared.frames.Frame.{Frame}
+use Rattle.plist_binread.specs.declared.lent.Lent.{Lent}
+use Rattle.plist_binread.specs.declared.object.Decoded.{Decoded}
+use Rattle.plist_binread.specs.declared.table.Bounds.{Bounds}
+use Rattle.plist_binread.specs.declared.told.Last.{Last}
+use Rattle.plist_binread.specs.declared.walk.Turn.{Turn}
+use Rattle.plist_binread.specs.declared.walk.Walk.{Walk}
+use Rattle.plist_binread.specs.Object.{Object}
+
+-- ---- the walk
+
+-- less is left to do than where an object was about to be entered, or than before a step
+abbrev pub IsLighterEntered : (old new : Walk) → Type 0
+IsLighterEntered old new = weight (objects_of old) (open_in new) < weight_entering old
+
+abbrev pub IsLighter : (old new : Walk) → Type 0
+IsLighter old new = weight (objects_of old) (open_in new) < weight_in old
+
+-- an item came of a walk that owed some, and less is left to do
+abbrev pub LightensNext : {A : Type 0} → (old : Walk) → Option (Result A Error) → (new : Walk) → Type 0
+LightensNext old item new =
+    IfSome item (λ answer. (0 < weight_in old) × OnOk answer (IsLighter old new))
+
+-- nothing changed
+abbrev pub IsUnchanged : (old new : Walk) → Type 0
+IsUnchanged old new =
+    (new.tags.items ≡ old.tags.items) × (new.contents.items ≡ old.contents.items)
+    × (new.frames ≡ old.frames)
+
+abbrev pub IsAsBefore : (old new : Walk) → Type 0
+IsAsBefore old new =
+    (new.tags.items ≡ old.tags.items) × (new.contents.items ≡ old.contents.items)
+    × (open_in new ≡ open_in old)
+
+-- what a turn takes of what is owed
+abbrev pub TurnsWalk : (old : Walk) → Turn → (new : Walk) → Type 0
+TurnsWalk old turn new = (bytes : List ℕ) (bounds : Bounds) → IsWalkOf bytes bounds old →
+    Turns (entries_of bytes bounds) (open_in old) turn (open_in new) × IsWalkOf bytes bounds new
+
+abbrev pub LightensBy : (old : Walk) → Turn → (new : Walk) → Type 0
+LightensBy old turn new = (count : ℕ) → Lightens count (open_in old) turn (open_in new)
+
+abbrev pub GivesBack : (old : Walk) → Turn → (new : Walk) → Type 0
+GivesBack old turn new =
+    CanGiveBack turn old.tags.items new.tags.items (open_in old) (open_in new)
+
+-- ---- what is looked up
+
+abbrev pub IsFoundAt : (number : ℕ) (tags contents : List ℕ) → Found → Type 0
+IsFoundAt number tags contents found =
+    IsFound (get_or tags number 0) (get_or contents number 0) found
+
+-- no object of this number can be entered
+abbrev pub ExplainsEntering : (tags contents : List ℕ) (at number : ℕ) → Error → Type 0
+ExplainsEntering tags contents at number error =
+    (bytes : List ℕ) (bounds : Bounds) (frames : List Frame) →
+    IsOpen tags frames → IsKnown bytes bounds tags contents frames →
+    Explains (until_fault
+    (unfolding_of (entries_of bytes bounds) (length tags - length frames) (path_of frames)
+    at number ++ owed_by (entries_of bytes bounds) frames)) error
+
+-- ---- an object that is opened
+
+-- what was lent is cached if it is small
+abbrev pub KeepsLent : (told : PlainEvent) → Lent → (number : ℕ) → Walk → Type 0
+KeepsLent told lent number walk = (object : Object) → IsLentAs object told lent →
+    is_small_event told ≡ true → 0 < unmarked (get_or walk.tags.items number 0)
+
+-- and its first item is paid
+abbrev pub OpensLent : (number : ℕ) (told : PlainEvent) → Lent → (old new : Walk) → Type 0
+OpensLent number told lent old new = (bytes : List ℕ) (bounds : Bounds) (entry : Entry) →
+    IsWalkOf bytes bounds old → slice_get (entries_of bytes bounds) number ≡ Some entry →
+    IsLentAs entry.object told lent →
+    ((at : ℕ) → PaysTold (owed_entering bytes bounds old at number) told (owed_in bytes bounds new))
+    × IsWalkOf bytes bounds new
+
+-- the same of what was decoded
+abbrev pub KeepsDecoded : Decoded → (number : ℕ) → Result Event Error → Walk → Type 0
+KeepsDecoded decoded number answer walk = (object : Object) → IsDecodedAs object decoded →
+    IfOk answer (λ event. is_small_event (event_of event) ≡ true →
+    0 < unmarked (get_or walk.tags.items number 0))
+
+abbrev pub OpensDecoded : (number : ℕ) → Decoded → (old : Walk) → Result Event Error
+    → (new : Walk) → Type 0
+OpensDecoded number decoded old answer new =
+    (bytes : List ℕ) (bounds : Bounds) (entry : Entry) (at : ℕ) →
+    IsWalkOf bytes bounds old → slice_get (entries_of bytes bounds) number ≡ Some entry →
+    IsDecodedAs entry.object decoded →
+    Pays (owed_entering bytes bounds old at number) answer (owed_in bytes bounds new)
+    × IsWalkOf bytes bounds new
+
+-- ---- over known bytes
+
+-- an object that was entered is cached if it is small
+abbrev pub KeepsEntered : (known : Option (List ℕ)) → (number : ℕ) → Result Event Error → Walk → Type 0
+KeepsEntered known number answer walk =
+    IfSome known (λ _. IsKept (Some number) (Some answer) walk.tags.items)
+
+-- its first item is paid, referred to from `at`
+abbrev pub PaysEntered : (known : Option (List ℕ)) → Bounds → (old : Walk) → (at number : ℕ)
+    → Result Event Error → (new : Walk) → Type 0
+PaysEntered known bounds old at number answer new = IfSome known (λ bytes.
+    Pays (owed_entering bytes bounds old at number) answer (owed_in bytes bounds new))
+
+-- what the next item tells is the first that is owed, and cached if it is small
+abbrev pub PaysItem : {A : Type 0} → (known : Option (List ℕ)) → Bounds → (old : Walk)
+    → Option (Result A Error) → Last → (new : Walk) → Type 0
+PaysItem known bounds old item last new = IfSome known (λ bytes.
+    PaysNextTold (owed_in bytes bounds old) item (event_in last) (owed_in bytes bounds new))
+
+abbrev pub KeepsItem : {A : Type 0} → (known : Option (List ℕ)) → Bounds → (old : Walk)
+    → Option (Result A Error) → Last → (new : Walk) → Type 0
+KeepsItem known bounds old item last new = IfSome known (λ bytes.
+    IsKeptTold (next_number (entries_of bytes bounds) (open_in old)) item (event_in last)
+    new.tags.items)
+
+-- ---- the same where all was at hand, and nothing where it wasn't
+
+abbrev pub KeepsNear : (known : Option (List ℕ)) → (number : ℕ) → (done : Bool) → Last → Walk → Type 0
+KeepsNear known number done last walk = done ≡ true → IfSome known (λ _.
+    is_small_event (event_in last) ≡ true → 0 < unmarked (get_or walk.tags.items number 0))
+
+abbrev pub PaysNear : {S : Type 0} → (S → Option (List ℕ)) → S → Bounds → (old : Walk)
+    → (number : ℕ) → (done : Bool) → Last → (new : Walk) → Type 0
+PaysNear known source bounds old number done last new =
+    done ≡ true → IfSome (known source) (λ bytes. (at : ℕ) →
+    PaysTold (owed_entering bytes bounds old at number) (event_in last) (owed_in bytes bounds new))
+
+-- a child of the collection at a place is entered
+abbrev pub Goes : {S : Type 0} → (S → Option (List ℕ)) → S → Bounds → (at index : ℕ) → (old : Walk)
+    → (done : Bool) → Last → (new : Walk) → Type 0
+Goes known source bounds at index old done last new =
+    done ≡ true → IfSome (known source) (λ bytes.
+    EntersChild (entries_of bytes bounds) (object_at bounds at bytes) index (objects_of old)
+    (open_in old) (event_in last) new.tags.items (open_in new))
+
+abbrev pub PaysNext : (known : Option (List ℕ)) → Bounds → (old : Walk) → (done : Bool) → Last
+    → (new : Walk) → Type 0
+PaysNext known bounds old done last new = done ≡ true → IfSome known (λ bytes.
+    PaysTold (owed_in bytes bounds old) (event_in last) (owed_in bytes bounds new))
+
+abbrev pub KeepsNext : (known : Option (List ℕ)) → Bounds → (old : Walk) → (done : Bool) → Last
+    → (new : Walk) → Type 0
+KeepsNext known bounds old done last new = done ≡ true → IfSome known (λ bytes.
+    IsKeptNear (next_number (entries_of bytes bounds) (open_in old)) (event_in last)
+    new.tags.items)
+
+-- an end is told where the innermost collection has no child left
+abbrev pub TellsEnd : (old : Walk) → Last → Type 0
+TellsEnd old last = closes (open_in old) ≡ true → event_in last ≡ EndCollection
