@@ -1,6 +1,7 @@
 pub mod Dates
 pub mod HeldBack
 pub mod Steps
+pub mod Streaming
 pub mod Plain
 pub mod ValueLines
 pub mod Trees

@@ -5,3 +5,4 @@ pub mod Messages
 pub mod Commands
 pub mod Failures
 pub mod Archives
+pub mod Converting

@@ -1,17 +1,143 @@
 //! Writes a property list as a binary one.
 
-use plist::Value;
-use plist_base::Error;
+ghost use Rattle.std.specs.Prelude.{◌≡◌, None, Ok, Err, IfErr, IfOk, IfSome};
+ghost use Rattle.plist_base.specs.Faults.{fault_of};
+ghost use Rattle.plist_binread.specs.BinaryReader.{source_of};
+ghost use Rattle.plist_binwrite.specs.Pendings.{events_held};
+ghost use Rattle.plist.specs.Inputs.{Answers};
+ghost use Rattle.plist_tool.specs.Converting.{AreNoTree, HoldsTree, IsNoBinaryTree, IsReadAs, IsStopped, LeavesToValue, SendsRead, items_left, items_of};
+ghost use Rattle.plist_tool.specs.Printing.{CountsReadsOf, LeavesSource};
+ghost use Rattle.plist_tool.specs.declared.convert.Streamed.TheVariants.{NeedsValue, Sent};
+
+use plist::{Output, Value};
+use plist_base::{Error, ErrorKind, Seeking, Source};
+use plist_binread::BinaryReader;
+use plist_binwrite::complete;
+use plist_binwrite::keys::repeats_key;
+use plist_binwrite::pending::Pending;
+use plist_reader::{Format, format_of};
 use std::alloc::Global;
+use std::fs;
+use std::io::Write;
 use std::rt::Files;
 
-/// Writes the property list of a file to another one, or to itself.
+/// What became of a property list that was to be sent without a value.
+#[derive(Clone, Copy)]
+pub enum Streamed {
+    /// Its file went out.
+    Sent,
+    /// Nothing went out: it isn't binary, or no tree whose keys stand once.
+    NeedsValue,
+}
+
+// Holds the events that a reader has still to give, where they are those of a tree.
+fn hold_events<S: Source>(
+    alloc: Global,
+    reader: &mut BinaryReader<S>,
+) -> Result<Option<Pending>, Error>
+    ensures held { IfOk result (λ found. IfSome found (λ pending.
+        HoldsTree (items_left S.known reader.old) (events_held pending))) }
+    ensures none { IfOk result (λ found. found ≡ None → AreNoTree (items_left S.known reader.old)) }
+    ensures refused { IfErr result (λ error.
+        Answers (items_left S.known reader.old) (Err (fault_of error))) }
+    ensures unchanged { S.known (source_of reader.new) ≡ S.known (source_of reader.old) }
+    ensures failures { CountsReadsOf S.failures reader.old result reader.new }
+{
+    let mut pending = Pending::new(alloc);
+    while let Some(item) = reader.advance() {
+        match item {
+            Ok(()) => {}
+            Err(error) => return Err(error),
+        }
+        if pending.is_whole() {
+            return Ok(None);
+        }
+        match pending.offer(alloc, reader.event()) {
+            Ok(None) => {}
+            Ok(Some(_)) => return Ok(None),
+            Err(error) => return Err(error),
+        }
+    }
+    if pending.is_whole() {
+        Ok(Some(pending))
+    } else {
+        Ok(None)
+    }
+}
+
+// Holds the events of a binary file, where they are those of a tree. The source isn't needed then.
+fn hold_file<S: Source>(alloc: Global, source: S) -> Result<Option<Pending>, Error>
+    ensures held { IfOk result (λ found. IfSome found (λ pending.
+        HoldsTree (items_of (S.known source)) (events_held pending))) }
+    ensures none { IfOk result (λ found. found ≡ None → IsNoBinaryTree (S.known source)) }
+    ensures refused { IfErr result (λ error. IsReadAs (S.known source) (Err (fault_of error))) }
+    ensures failures { (left : S) × LeavesSource S.known S.failures source result left }
+{
+    let mut source = source;
+    match format_of(&mut source) {
+        Ok(Format::Binary) => {}
+        Ok(_) => return Ok(None),
+        Err(error) => return Err(error),
+    }
+    let mut reader = BinaryReader::new(alloc, source);
+    hold_events(alloc, &mut reader)
+}
+
+/// Sends the property list of a binary source as a binary file, without a value, where no key stands
+/// twice in a dictionary. All of the source is read before the first byte goes out, and what goes out
+/// is what [`Value::to_writer_binary`] sends of the value that [`Value::from_reader`] gives.
+///
+/// # Errors
+/// Those of [`Value::from_reader`], and nothing went out; those of [`Value::to_writer_binary`], with
+/// what went out then.
+pub fn convert_binary<S: Source, W: Write>(
+    alloc: Global,
+    source: S,
+    writer: &mut W,
+) -> Result<Streamed, Error>
+    ensures sent { IfOk result (λ how. how ≡ Sent
+        → SendsRead W.contents (S.known source) (Ok tt) writer.old writer.new) }
+    ensures left { IfOk result (λ how. how ≡ NeedsValue
+        → LeavesToValue (S.known source) writer.old writer.new) }
+    ensures refused { IfErr result (λ error.
+        IsStopped W.contents (S.known source) (fault_of error) writer.old writer.new) }
+    ensures failures { (left : S) × LeavesSource S.known S.failures source result left }
+{
+    let pending = match hold_file(alloc, source) {
+        Ok(Some(pending)) => pending,
+        Ok(None) => return Ok(Streamed::NeedsValue),
+        Err(error) => return Err(error),
+    };
+    let events = pending.events();
+    match repeats_key(alloc, events) {
+        Ok(false) => {}
+        Ok(true) => return Ok(Streamed::NeedsValue),
+        Err(error) => return Err(error),
+    }
+    match complete(alloc, events, writer) {
+        Ok(()) => Ok(Streamed::Sent),
+        Err(error) => Err(error),
+    }
+}
+
+/// Writes the property list of a file to another one, or to itself. The other file is created, or
+/// cut, once nothing but its device can fail.
 ///
 /// # Errors
 /// Where a file can't be opened, read or written, or the first one holds no property list.
 pub fn convert_file<R: Files>(rt: &R, alloc: Global, from: &str, to: &str) -> Result<(), Error> {
-    let value = Value::from_file(rt, alloc, from)?;
-    value.to_file_binary(rt, alloc, to)
+    let source = match fs::open(rt, from) {
+        Ok(file) => Seeking::with_windows(alloc, file),
+        Err(failure) => return Err(ErrorKind::Io(failure).without_position()),
+    };
+    let mut output = Output::new(rt, to);
+    match convert_binary(alloc, source, &mut output)? {
+        Streamed::Sent => output.sync(),
+        Streamed::NeedsValue => {
+            let value = Value::from_file(rt, alloc, from)?;
+            value.to_file_binary(rt, alloc, to)
+        }
+    }
 }
 
 #[cfg(test)]
@@ -19,6 +145,7 @@ mod tests {
     use super::*;
     use crate::commands::run_words;
     use crate::saved::{RECURSIVE, assert_holds, assert_missing, put, remove, temporary, words_of};
+    use crate::trickle::{Trickle, Unreadable};
     use std::env::Env;
     use std::process::Abort;
     use std::test::Fail;
@@ -90,11 +217,89 @@ mod tests {
         assert_missing(&rt, "plist_tool_of_xml")
     }
 
+    // `{a = 1, b = 2, a = 3}`, and what is written of it: the last value of a key in its first place.
+    const REPEATED: &[u8] = b"bplist00\
+        \xd3\x01\x02\x01\x03\x04\x05\x51\x61\x51\x62\x10\x01\x10\x02\x10\x03\
+        \x08\x0f\x11\x13\x15\x17\
+        \0\0\0\0\0\0\x01\x01\0\0\0\0\0\0\0\x06\0\0\0\0\0\0\0\0\0\0\0\0\0\0\0\x19";
+
+    const LAST_VALUES: &[u8] = b"bplist00\
+        \xd2\x01\x02\x03\x04\x51\x61\x51\x62\x10\x03\x10\x02\x08\x0d\x0f\x11\x13\
+        \0\0\0\0\0\0\x01\x01\0\0\0\0\0\0\0\x05\0\0\0\0\0\0\0\0\0\0\0\0\0\0\0\x15";
+
+    const EMPTY: &[u8] = b"bplist00\
+        \xd0\x08\
+        \0\0\0\0\0\0\x01\x01\0\0\0\0\0\0\0\x01\0\0\0\0\0\0\0\0\0\0\0\0\0\0\0\x09";
+
+    #[test]
+    fn converts_binary_files(rt: HostRuntime) -> Result<(), Fail> {
+        for (bytes, expected) in [
+            (REPEATED, LAST_VALUES),
+            (LAST_VALUES, LAST_VALUES),
+            (EMPTY, EMPTY),
+            (CONVERTED, CONVERTED),
+        ] {
+            put(&rt, "plist_tool_binary_in", bytes)?;
+            remove(&rt, "plist_tool_binary_out")?;
+            assert_convert(&rt, "plist_tool_binary_in", "plist_tool_binary_out", b"")?;
+            assert_holds(&rt, "plist_tool_binary_out", expected)?;
+            assert_convert(&rt, "plist_tool_binary_in", "plist_tool_binary_in", b"")?;
+            assert_holds(&rt, "plist_tool_binary_in", expected)?;
+        }
+        Ok(())
+    }
+
+    // A dictionary whose only key is 1.
+    #[test]
+    fn an_integer_is_no_key(rt: HostRuntime) -> Result<(), Fail> {
+        let bytes = b"bplist00\
+            \xd1\x01\x02\x10\x01\x09\x08\x0b\x0d\
+            \0\0\0\0\0\0\x01\x01\0\0\0\0\0\0\0\x03\0\0\0\0\0\0\0\0\0\0\0\0\0\0\0\x0e";
+        put(&rt, "plist_tool_integer_key", bytes)?;
+        remove(&rt, "plist_tool_of_integer_key")?;
+        let said = b"Error: UnexpectedEventType \
+            { expected: DictionaryKeyOrEndCollection, found: Integer }\n";
+        assert_convert(&rt, "plist_tool_integer_key", "plist_tool_of_integer_key", said)?;
+        assert_missing(&rt, "plist_tool_of_integer_key")
+    }
+
+    // What is streamed goes out as a file; what isn't leaves the writer.
+    #[test]
+    fn tells_how_it_was_converted(rt: HostRuntime) {
+        for (bytes, is_sent) in [
+            (CONVERTED, true),
+            (EMPTY, true),
+            (REPEATED, false),
+            (SETTINGS, false),
+        ] {
+            let mut writer = Trickle::new(rt.alloc(), 1000);
+            let sent = matches!(
+                convert_binary(rt.alloc(), bytes, &mut writer),
+                Ok(Streamed::Sent)
+            );
+            assert!(rt; sent == is_sent);
+            assert!(rt; writer.taken.as_slice() == if is_sent { bytes } else { b"" });
+            assert_eq!(rt; writer.flushes, usize::from(is_sent));
+        }
+        let mut writer = Trickle::new(rt.alloc(), 20);
+        let answer = convert_binary(rt.alloc(), CONVERTED, &mut writer);
+        assert!(rt; answer.is_err_and(|error| error.is_io() && error.offset().is_none()));
+        assert_eq!(rt; writer.taken.as_slice(), &CONVERTED[..20]);
+        let source = Seeking::with_windows(rt.alloc(), Unreadable { size: 64 });
+        let mut writer = Trickle::new(rt.alloc(), 1000);
+        let answer = convert_binary(rt.alloc(), source, &mut writer);
+        assert!(rt; answer.is_err_and(|error| error.is_io() && error.offset() == Some(0)));
+        assert_eq!(rt; writer.writes, 0);
+    }
+
     // It takes no byte.
     #[test]
     fn a_full_device(rt: HostRuntime) -> Result<(), Fail> {
-        put(&rt, "plist_tool_for_full", SETTINGS)?;
-        assert_convert(&rt, "plist_tool_for_full", "/dev/full", b"Error: Io\n")
+        for bytes in [SETTINGS, CONVERTED] {
+            put(&rt, "plist_tool_for_full", bytes)?;
+            assert_convert(&rt, "plist_tool_for_full", "/dev/full", b"Error: Io\n")?;
+        }
+        Ok(())
     }
 
     #[test]

@@ -1,0 +1,30 @@
+use Rattle.std.proofs.Common.{rules, ap, ◌∙◌, subst}
+use Rattle.plist_binread.specs.BinaryReader.{source_of, to_come}
+use Rattle.plist_tool.specs.Converting.{items_left}
+use Rattle.plist_tool.specs.Printing.{CountsReads}
+use Rattle.plist_tool.proofs.Streaming.{binary_items, none_of}
+use Rattle.plist_tool.proofs.convert.hold_file.Goals as goal
+
+pub returns-clause-none : goal.returns-clause-none
+returns-clause-none g c =
+    none_of c.hold_events.result (items_left g.S.Source.known c.new-reader.result)
+    (g.S.Source.known c.args.source)
+    (binary_items (g.S.Source.known c.args.source) (g.S.Source.known c.format_of.new.source)
+    (g.S.Source.known (source_of c.new-reader.result)) c.in-Ok-Binary.field-0
+    (λ bytes. to_come bytes c.new-reader.result)
+    (ap g.S.Source.known c.new-reader.ensures.source) c.format_of.ensures.unchanged
+    c.in-Ok-Binary.ensures.format (search rules) c.new-reader.ensures.items)
+    c.hold_events.ensures.none
+
+pub returns-clause-failures : goal.returns-clause-failures
+returns-clause-failures g c = (
+  source_of c.hold_events.new.reader,
+  (
+    c.hold_events.ensures.unchanged
+        ∙ ap g.S.Source.known c.new-reader.ensures.source ∙ c.format_of.ensures.unchanged,
+    subst (λ n. CountsReads c.hold_events.result n
+        (g.S.Source.failures (source_of c.hold_events.new.reader)))
+        (ap g.S.Source.failures c.new-reader.ensures.source ∙ c.in-Ok-Binary.ensures.failures)
+        c.hold_events.ensures.failures,
+  ),
+)

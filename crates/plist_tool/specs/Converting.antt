@@ -1,0 +1,70 @@
+-- What becomes of a source's property list where its file is sent without a value.
+use Rattle.std.specs.Prelude.{◌≡◌, ◌⊎◌, ℕ, List, Option, Result, Ok, Err, IfSome}
+use Rattle.std.specs.Option.{option_map}
+use Rattle.plist_base.specs.Bracketing.{bracketing, AreAlike, AreWhole}
+use Rattle.plist_base.specs.declared.source.Source.{Ghosts}
+use Rattle.plist_base.specs.Events.{PlainEvent, Item}
+use Rattle.plist_base.specs.Faults.{Fault}
+use Rattle.plist_base.specs.Trees.{Tree}
+use Rattle.plist_base.specs.Writing.{Answer}
+use Rattle.plist_binread.specs.BinaryReader.{source_of, to_come}
+use Rattle.plist_binread.specs.declared.counter.DecodeCounter.{Ghosts as CounterGhosts}
+use Rattle.plist_binread.specs.declared.reader.BinaryReader.{BinaryReader}
+use Rattle.plist_reader.specs.declared.format.Format.TheVariants.{Binary}
+use Rattle.plist_reader.specs.Formats.{format_of}
+use Rattle.plist_reader.specs.Reader.{items_of_input}
+use Rattle.plist.specs.Inputs.{AreOf, Answers}
+use Rattle.plist.specs.LastWins.{last_wins}
+use Rattle.plist.specs.Sent.{SendsTree}
+
+-- the bytes are a binary file of a tree that is its own last-value form
+abbrev pub IsDirect : List ℕ → Type 0
+IsDirect bytes =
+    (format_of bytes ≡ Binary)
+    × ((tree : Tree) × AreOf (items_of_input bytes) tree × (last_wins tree ≡ tree))
+
+-- the items of known bytes
+abbrev pub items_of : (known : Option (List ℕ)) → Option (List Item)
+items_of known = option_map items_of_input known
+
+-- known bytes are read so, by the rules of values
+abbrev pub IsReadAs : (known : Option (List ℕ)) → Result Tree Fault → Type 0
+IsReadAs known answer = Answers (items_of known) answer
+
+-- nothing went out, and known bytes are no such file
+abbrev pub LeavesToValue : {W : Type 0} → (known : Option (List ℕ)) → (old new : W) → Type 0
+LeavesToValue known old new = (new ≡ old) × IfSome known (λ bytes. IsDirect bytes → ⊥)
+
+module _ {W : Type 0} (contents : W → Option (List ℕ)) (known : Option (List ℕ)) where
+  -- the tree that the bytes are read as goes out, or its sending stops
+  abbrev pub SendsRead : Answer → (old new : W) → Type 0
+  SendsRead answer old new =
+      (tree : Tree) × IsReadAs known (Ok tree) × SendsTree contents tree answer old new
+
+  -- nothing is read, and nothing went out; or the sending of what is read stops
+  abbrev pub IsStopped : Fault → (old new : W) → Type 0
+  IsStopped fault old new =
+      ((new ≡ old) × IsReadAs known (Err fault)) ⊎ SendsRead (Err fault) old new
+
+-- ---- the events of a reader, held
+
+-- the items that a reader has still to give, where its source's bytes are known
+abbrev pub items_left : {S C : Type 0} {g : Ghosts S} {h : CounterGhosts C}
+    → (known : S → Option (List ℕ)) → BinaryReader S C g h → Option (List Item)
+items_left known reader = option_map (λ bytes. to_come bytes reader) (known (source_of reader))
+
+-- the events are a tree's, and the items are of that tree
+abbrev pub HoldsTree : (items : Option (List Item)) → (held : List PlainEvent) → Type 0
+HoldsTree items held =
+    AreWhole held
+    × IfSome items (λ all. (tree : Tree) × AreOf all tree × AreAlike held (bracketing tree))
+
+-- the items are no tree's
+abbrev pub AreNoTree : (items : Option (List Item)) → Type 0
+AreNoTree items = IfSome items (λ all. (tree : Tree) → AreOf all tree → ⊥)
+
+-- known bytes are no binary file of a tree
+abbrev pub IsNoBinaryTree : (known : Option (List ℕ)) → Type 0
+IsNoBinaryTree known =
+    IfSome known (λ bytes. format_of bytes ≡ Binary → (tree : Tree)
+    → AreOf (items_of_input bytes) tree → ⊥)
