@@ -1,7 +1,7 @@
 -- What a writer holds while the lines of a value's events are sent.
 use Rattle.std.proofs.Common.{◌≡◌, ℕ, List, ◌∷◌, ◌++◌, Option, Some, Result, Ok, map, ap, sym, ◌∙◌, append_assoc, subst}
-use Rattle.std.specs.Io.KnownBytes.{Appends, Keeps}
-use Rattle.std.proofs.KnownBytes.{Appends-kept, Appends-trans}
+use Rattle.std.specs.Io.KnownBytes.{Appends}
+use Rattle.std.proofs.KnownBytes.{Appends-trans}
 use Rattle.plist_base.specs.declared.error.Error.{Error}
 use Rattle.plist_base.specs.declared.event.Event.{Event}
 use Rattle.plist_base.specs.Events.{PlainEvent, event_of}
@@ -39,10 +39,6 @@ part_sent a b c all before after event h is part = (
       ∙ ap (λ bytes. h.sent ++ bytes) (append_assoc part.0 part.1 (lines_of (map Ok after)))
       ∙ sym (append_assoc h.sent part.0 (part.1 ++ lines_of (map Ok after))),
 )
-
-pub front_kept : (a b c : Option (List ℕ)) (bytes : List ℕ) → AppendsFront a b bytes → Keeps b c
-    → AppendsFront a c bytes
-front_kept a b c bytes h kept = (h.0, h.1, Appends-kept a b c _ h.2 kept, h.3)
 
 pub event_given : (before after : Events) (item : Result Event Error) (event : Event)
     → item ≡ Ok event → GivesEvent before (Some item) after

@@ -1,6 +1,9 @@
 -- What the words after the program's name ask for, and how the program ends.
-use Rattle.std.specs.Prelude.{◌≡◌, ℕ, Bool, List, [], ◌∷◌, Ok, Err, codes}
-use Rattle.plist_tool.specs.Failures.{Outcome}
+use Rattle.std.specs.Prelude.{◌≡◌, ℕ, Bool, List, [], ◌∷◌, Option, Result, Ok, Err, MatchResult, codes}
+use Rattle.plist_base.specs.declared.error.Error.{Error}
+use Rattle.plist_base.specs.Faults.{fault_of}
+use Rattle.plist_tool.specs.Failures.{Outcome, OfPlist, outcome_of}
+use Rattle.plist_tool.specs.declared.failure.Failure.{Failure}
 use Rattle.plist_tool.specs.Messages.{Said, Fault}
 use Rattle.plist_tool.specs.declared.commands.Command.{Command}
 use Rattle.plist_tool.specs.declared.commands.Command.TheVariants as command
@@ -34,3 +37,20 @@ abbrev pub EndsWith : {E : Type 0} → (tells : E → Said → Bool → E → Ty
 EndsWith tells (Ok done) status old new = (status ≡ 0) × (new ≡ old)
 EndsWith tells (Err complaint) status old new =
     (status ≡ 1) × ((told : Bool) × tells old (Fault complaint) told new)
+
+-- the exit code is the status, or 1 where there was none
+abbrev pub IsStatusOf : Result ℕ Error → (code : ℕ) → Type 0
+IsStatusOf answer code = MatchResult answer (λ status. code ≡ status) (λ _. code ≡ 1)
+
+-- a fault was told, and nothing where there is none
+abbrev pub TellsFault : {E : Type 0} → (tells : E → Said → Bool → E → Type 0) → Result ℕ Error
+    → (old new : E) → Type 0
+TellsFault tells answer old new = MatchResult answer (λ _. new ≡ old)
+    (λ error. (told : Bool) × tells old (Fault (OfPlist (fault_of error))) told new)
+
+-- the command may have answered so, and an output that tells its bytes then holds these
+abbrev pub Performs : {O A : Type 0} → (answers : Asked → Option (List ℕ) → Outcome
+    → Option (List ℕ) → Type 0) → (contents : O → Option (List ℕ)) → Command → O → Result A Failure
+    → O → Type 0
+Performs answers contents command old answer new =
+    answers (asked_of command) (contents old) (outcome_of answer) (contents new)

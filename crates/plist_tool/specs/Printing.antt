@@ -4,6 +4,7 @@ use Rattle.std.specs.Io.KnownBytes.{Appends}
 use Rattle.plist_base.specs.declared.error.Error.{Error}
 use Rattle.plist_base.specs.Faults.{MatchFault, IsFromOutside, kind_of, error_kind_of, fault_of, offset_of}
 use Rattle.plist_base.specs.declared.source.Source.{Ghosts}
+use Rattle.plist_base.specs.Bracketing.{bracketing}
 use Rattle.plist_base.specs.Events.{Item}
 use Rattle.plist_base.specs.Sources.{Rises}
 use Rattle.plist_binread.specs.BinaryReader.{source_of, to_come}
@@ -11,7 +12,11 @@ use Rattle.plist_binread.specs.Unfolding.{items_of_file}
 use Rattle.plist_binread.specs.declared.counter.DecodeCounter.{Ghosts as CounterGhosts}
 use Rattle.plist_binread.specs.declared.reader.BinaryReader.{BinaryReader}
 use Rattle.plist_base.specs.Fronts.{AppendsFront}
-use Rattle.plist_tool.specs.Lines.{lines_of, first_fault}
+use Rattle.plist.specs.declared.stream.events.Events.{Events}
+use Rattle.plist.specs.declared.value.Value.{Value}
+use Rattle.plist.specs.Events.{remaining_events}
+use Rattle.plist.specs.Views.{tree_of}
+use Rattle.plist_tool.specs.Lines.{lines_of, lines_of_events, first_fault}
 
 -- there is no fault, and all the lines went out
 abbrev pub PrintsAll : List Item → (old new : Option (List ℕ)) → Type 0
@@ -55,6 +60,26 @@ module _ {S W : Type 0} (known : S → Option (List ℕ)) (contents : W → Opti
   abbrev pub SendsFrontOfFile : Type 0
   SendsFrontOfFile = IfSome (known source) (λ bytes.
       AppendsFront (contents old) (contents new) (lines_of (items_of_file bytes)))
+
+-- the lines of the events that are left went out, or a beginning of them
+module _ {W : Type 0} (contents : W → Option (List ℕ)) (events : Events) (old new : W) where
+  abbrev pub PrintsEvents : Type 0
+  PrintsEvents =
+      Appends (contents old) (contents new) (lines_of_events (remaining_events events))
+
+  abbrev pub SendsFrontOfEvents : Type 0
+  SendsFrontOfEvents =
+      AppendsFront (contents old) (contents new) (lines_of_events (remaining_events events))
+
+-- the same of all the events of a value
+module _ {W : Type 0} (contents : W → Option (List ℕ)) (value : Value) (old new : W) where
+  abbrev pub PrintsValue : Type 0
+  PrintsValue =
+      Appends (contents old) (contents new) (lines_of_events (bracketing (tree_of value)))
+
+  abbrev pub SendsFrontOfValue : Type 0
+  SendsFrontOfValue =
+      AppendsFront (contents old) (contents new) (lines_of_events (bracketing (tree_of value)))
 
 -- the writer's failure, or want of memory for a line: neither has an offset
 abbrev pub IsOwnFault : Error → Type 0

@@ -1,9 +1,9 @@
 //! What the words after the program's name ask for, and how it is done.
 
 ghost use Rattle.std.specs.Prelude.{◌≡◌, ◌≢◌, ℕ, ◌↔◌, List, Option, Bool, map, string_bytes, IfSome, IsNone};
-ghost use Rattle.plist_tool.specs.Failures.{Outcome, outcome_of};
+ghost use Rattle.plist_tool.specs.Failures.{Outcome};
 ghost use Rattle.plist_tool.specs.Messages.{Usage};
-ghost use Rattle.plist_tool.specs.Commands.{Asked, asked_of, words_for, IsWrong, EndsWith};
+ghost use Rattle.plist_tool.specs.Commands.{Asked, asked_of, words_for, IsWrong, EndsWith, Performs};
 
 use crate::convert::convert_file;
 use crate::failure::Failure;
@@ -61,8 +61,7 @@ pub trait Commands {
         command: Command<'_>,
         out: &mut O,
     ) -> Result<(), Failure>
-        ensures { answers self.now (asked_of command.entry)
-            (O.contents out.old) (outcome_of result) (O.contents out.new) };
+        ensures { Performs (answers self.now) O.contents command.entry out.old result out.new };
 }
 
 /// Nothing is known of what files hold, so nothing is of the answers.

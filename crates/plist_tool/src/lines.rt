@@ -1,10 +1,11 @@
 //! The line of each event.
 
-ghost use Rattle.std.specs.Prelude.{◌≡◌, ◌++◌, ◌<◌, true, OnOk, codes};
+ghost use Rattle.std.specs.Prelude.{◌≡◌, ◌++◌, ◌<◌, true, OnOk};
 ghost use Rattle.std.specs.Fmt.{decimal, signed_decimal};
 ghost use Rattle.plist_base.specs.Events.{event_of};
+ghost use Rattle.plist_base.specs.Trees.{String};
 ghost use Rattle.plist_binread.specs.Telling.{event_told};
-ghost use Rattle.plist_tool.specs.Lines.{hexadecimal, hexadecimal_digit, stands_for_itself, text_of_byte, text_of_bytes, text_of_data, text_of_date, text_of_real, text_of_start, words_of, line_of};
+ghost use Rattle.plist_tool.specs.Lines.{hexadecimal, hexadecimal_digit, stands_for_itself, text_of_byte, text_of_bytes, text_of_data, text_of_date, text_of_real, text_of_start, words_of, words_of_scalar, line_of};
 
 use itoa::Buffer;
 use plist_base::{Date, Event, Integer, RealBits, Source};
@@ -135,8 +136,7 @@ fn push_start(line: &mut Vec<u8>, word: &[u8], length: Option<u64>) -> Result<()
 
 // A text between its quotes.
 fn push_string(line: &mut Vec<u8>, text: &str) -> Result<(), AllocError>
-    ensures { OnOk result (line.new.items
-        ≡ line.old.items ++ codes "String \"" ++ text_of_bytes text.now ++ codes "\"") }
+    ensures { OnOk result (line.new.items ≡ line.old.items ++ words_of_scalar (String text.now)) }
 {
     line.extend_from_slice(b"String \"")?;
     push_text(line, text.as_bytes())?;

@@ -3,12 +3,10 @@
 //! `plist_tool keyed FILE KEY` prints a tree of a keyed archive as `print` prints a file.
 #![tactic(auto)]
 
-ghost use Rattle.std.specs.Prelude.{◌≡◌, ◌≤◌, Bool, IfOk, MatchResult};
+ghost use Rattle.std.specs.Prelude.{◌≤◌, IfOk};
 ghost use Rattle.std.specs.Process.{exit_status};
-ghost use Rattle.plist_base.specs.Faults.{fault_of};
 ghost use Rattle.plist_base.specs.Outcomes.{OnlyMemory};
-ghost use Rattle.plist_tool.specs.Failures.{OfPlist};
-ghost use Rattle.plist_tool.specs.Messages.{Fault};
+ghost use Rattle.plist_tool.specs.Commands.{IsStatusOf, TellsFault};
 
 mod commands;
 mod convert;
@@ -57,10 +55,8 @@ fn run<R: Files + Env + Print + AllocGlobal, E: Messages>(rt: &R, err: &mut E) -
 
 // The exit code of a run: its status, or 1 where there was no memory to begin, which is then told.
 fn exit_code<E: Messages>(answer: Result<u8, Error>, err: &mut E) -> ExitCode
-    ensures status { MatchResult answer
-        (λ status. exit_status result ≡ status) (λ _. exit_status result ≡ 1) }
-    ensures told { MatchResult answer (λ _. err.new ≡ err.old)
-        (λ error. (told : Bool) × E.tells err.old (Fault (OfPlist (fault_of error))) told err.new) }
+    ensures status { IsStatusOf answer (exit_status result) }
+    ensures told { TellsFault E.tells answer err.old err.new }
 {
     match answer {
         Ok(status) => ExitCode::from(status),

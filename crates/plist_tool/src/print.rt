@@ -1,12 +1,8 @@
 //! Prints the events of a source.
 
-ghost use Rattle.std.specs.Prelude.{◌≡◌, ◌++◌, true, false, IfErr, IfOk, OnErr, OnOk};
-ghost use Rattle.plist_base.specs.Events.{event_of};
-ghost use Rattle.plist_base.specs.Fronts.{AppendsFront};
+ghost use Rattle.std.specs.Prelude.{◌≡◌, true, false, IfErr, IfOk, OnErr, OnOk};
 ghost use Rattle.plist_binread.specs.BinaryReader.{source_of};
-ghost use Rattle.plist_binread.specs.Telling.{event_told};
-ghost use Rattle.plist_tool.specs.Lines.{line_of};
-ghost use Rattle.plist_tool.specs.Fronts.{PassesOn, MakesRoom, SendsFront};
+ghost use Rattle.plist_tool.specs.Fronts.{MakesRoom, SendsFront, PassesLine, PassesTold, PushesTold, SendsLineInPart, SendsToldInPart};
 ghost use Rattle.plist_tool.specs.Printing.{PrintsRest, SendsFrontOfRest, IsOwnFault, EndsRest, PrintsFile, EndsFile, SendsFrontOfFile, CountsReadsOf, LeavesSource};
 
 use crate::lines::{most_bytes, most_told, push_line, push_told};
@@ -36,14 +32,12 @@ fn make_room<W: Write>(writer: &mut W, lines: &mut Vec<u8>, size: usize) -> Resu
 // Puts the line of an event behind the lines that are held back, which are sent before that where
 // it may not fit. So only a line that is longer than the buffer wants memory, and none is held back
 // then.
-fn pass_line<W: Write>(writer: &mut W, lines: &mut Vec<u8>, event: &Event<'_>) -> Result<(), Error>
-    ensures passed { OnOk result (PassesOn (W.contents writer.old) (W.contents writer.new)
-        (lines.old.items ++ line_of (event_of event.now)) lines.new.items) }
+fn pass_line<W: Write>(out: &mut W, lines: &mut Vec<u8>, event: &Event<'_>) -> Result<(), Error>
+    ensures passed { PassesLine W.contents result out.old lines.old event.now out.new lines.new }
     ensures fault { IfErr result IsOwnFault }
-    ensures front { OnErr result (AppendsFront (W.contents writer.old) (W.contents writer.new)
-        (lines.old.items ++ line_of (event_of event.now))) }
+    ensures front { OnErr result (SendsLineInPart W.contents out.old lines.old event.now out.new) }
 {
-    make_room(writer, lines, most_bytes(event))?;
+    make_room(out, lines, most_bytes(event))?;
     push_line(lines, event)?;
     Ok(())
 }
@@ -51,10 +45,8 @@ fn pass_line<W: Write>(writer: &mut W, lines: &mut Vec<u8>, event: &Event<'_>) -
 // Puts the line of the event that a reader told last behind the lines that are held back, if it fits
 // there.
 fn push_near<S: Source>(lines: &mut Vec<u8>, reader: &BinaryReader<S>) -> Result<bool, AllocError>
-    ensures pushed { IfOk result (λ fits. fits ≡ true →
-        lines.new.items ≡ lines.old.items ++ line_of (event_told reader.now)) }
-    ensures unchanged { IfOk result (λ fits. fits ≡ false →
-        lines.new.items ≡ lines.old.items) }
+    ensures pushed { IfOk result (λ fits. fits ≡ true → PushesTold lines.old reader.now lines.new) }
+    ensures unchanged { IfOk result (λ fits. fits ≡ false → lines.new.items ≡ lines.old.items) }
 {
     if most_told(reader) > FULL.saturating_sub(lines.len()) {
         return Ok(false);
@@ -67,17 +59,15 @@ fn push_near<S: Source>(lines: &mut Vec<u8>, reader: &BinaryReader<S>) -> Result
 #[cold]
 #[inline(never)]
 fn pass_told<S: Source, W: Write>(
-    writer: &mut W,
+    out: &mut W,
     lines: &mut Vec<u8>,
     reader: &BinaryReader<S>,
 ) -> Result<(), Error>
-    ensures passed { OnOk result (PassesOn (W.contents writer.old) (W.contents writer.new)
-        (lines.old.items ++ line_of (event_told reader.now)) lines.new.items) }
+    ensures passed { PassesTold W.contents result out.old lines.old reader.now out.new lines.new }
     ensures fault { IfErr result IsOwnFault }
-    ensures front { OnErr result (AppendsFront (W.contents writer.old) (W.contents writer.new)
-        (lines.old.items ++ line_of (event_told reader.now))) }
+    ensures front { OnErr result (SendsToldInPart W.contents out.old lines.old reader.now out.new) }
 {
-    pass_line(writer, lines, &reader.event())
+    pass_line(out, lines, &reader.event())
 }
 
 // Sends the lines of what a reader has still to give.

@@ -1,14 +1,10 @@
 //! Prints the events of a value.
 
 ghost use Rattle.std.specs.Prelude.{IfErr, OnOk};
-ghost use Rattle.std.specs.Io.KnownBytes.{Appends};
-ghost use Rattle.plist_base.specs.Bracketing.{bracketing};
 ghost use Rattle.plist_base.specs.Events.{event_of};
-ghost use Rattle.plist_base.specs.Fronts.{AppendsFront};
-ghost use Rattle.plist.specs.Events.{remaining_events};
-ghost use Rattle.plist.specs.Views.{tree_of};
-ghost use Rattle.plist_tool.specs.Lines.{line_of, lines_of_events};
-ghost use Rattle.plist_tool.specs.Printing.{IsOwnFault};
+ghost use Rattle.plist_tool.specs.Fronts.{SendsFront, SendsLine};
+ghost use Rattle.plist_tool.specs.Lines.{line_of};
+ghost use Rattle.plist_tool.specs.Printing.{IsOwnFault, PrintsEvents, SendsFrontOfEvents, PrintsValue, SendsFrontOfValue};
 
 use crate::lines::push_line;
 use plist::Value;
@@ -20,11 +16,9 @@ use std::io::Write;
 
 // Sends the line of an event. The buffer is made anew for it, and keeps its room.
 fn send_event<W: Write>(writer: &mut W, line: &mut Vec<u8>, event: Event<'_>) -> Result<(), Error>
-    ensures sent { OnOk result (Appends
-        (W.contents writer.old) (W.contents writer.new) (line_of (event_of event.entry))) }
+    ensures sent { OnOk result (SendsLine W.contents writer.old (event_of event.entry) writer.new) }
     ensures fault { IfErr result IsOwnFault }
-    ensures front { AppendsFront
-        (W.contents writer.old) (W.contents writer.new) (line_of (event_of event.entry)) }
+    ensures front { SendsFront W.contents writer.old (line_of (event_of event.entry)) writer.new }
 {
     line.clear();
     push_line(line, &event)?;
@@ -37,11 +31,9 @@ fn send_events<W: Write>(
     events: &mut Events<'_>,
     writer: &mut W,
 ) -> Result<(), Error>
-    ensures printed { OnOk result (Appends (W.contents writer.old) (W.contents writer.new)
-        (lines_of_events (remaining_events events.old))) }
+    ensures printed { OnOk result (PrintsEvents W.contents events.old writer.old writer.new) }
     ensures fault { IfErr result IsOwnFault }
-    ensures sent { AppendsFront (W.contents writer.old) (W.contents writer.new)
-        (lines_of_events (remaining_events events.old)) }
+    ensures sent { SendsFrontOfEvents W.contents events.old writer.old writer.new }
 {
     let mut line = Vec::new(alloc);
     while let Some(item) = events.next() {
@@ -57,11 +49,9 @@ fn send_events<W: Write>(
 /// `Io` where the writer fails, and `OutOfMemory`, both without an offset; a beginning of the lines
 /// went out. A failed flush is an error only where nothing failed before it.
 pub fn print_value<W: Write>(alloc: Global, value: &Value, writer: &mut W) -> Result<(), Error>
-    ensures printed { OnOk result (Appends (W.contents writer.old) (W.contents writer.new)
-        (lines_of_events (bracketing (tree_of value.now)))) }
+    ensures printed { OnOk result (PrintsValue W.contents value.now writer.old writer.new) }
     ensures fault { IfErr result IsOwnFault }
-    ensures sent { AppendsFront (W.contents writer.old) (W.contents writer.new)
-        (lines_of_events (bracketing (tree_of value.now))) }
+    ensures sent { SendsFrontOfValue W.contents value.now writer.old writer.new }
 {
     let mut events = value.events(alloc);
     let sent = send_events(alloc, &mut events, writer);
