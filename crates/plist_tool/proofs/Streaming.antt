@@ -9,7 +9,7 @@ use Rattle.plist_base.specs.Faults.{Fault, FaultKind, IsIo, MatchFault, OutOfMem
 use Rattle.plist_base.specs.Trees.{Tree, Leaf, Array, Dictionary}
 use Rattle.plist_base.proofs.Grammar.{alike_last, alike_with, complete_of_whole, continue_alike, whole_alike}
 use Rattle.plist_base.proofs.Refusals.{MatchFault-all, MatchFault-at, MatchFault-from_io, MatchFault-weaker}
-use Rattle.plist_base.specs.Sources.{AnswersIo, CountsIo, Rises}
+use Rattle.plist_base.specs.Sources.{CountsIo}
 use Rattle.plist_base.specs.Writing.{Answer}
 use Rattle.plist_binread.specs.Telling.{TellsItem}
 use Rattle.plist_binread.specs.Unfolding.{items_of_file}
@@ -24,7 +24,6 @@ use Rattle.plist_reader.specs.Reader.{items_by, items_of_input}
 use Rattle.plist.specs.Building.{Unfinished, NotBegun, IsNested, events_so_far, last_wins_so_far, refusal_of}
 use Rattle.plist.specs.Inputs.{AreOf, IsReadFrom, Answers, StopsAt}
 use Rattle.plist.specs.LastWins.{last_wins}
-use Rattle.plist.specs.Sent.{SendsTree}
 use Rattle.plist.specs.inner.OneTree.{one_tree}
 use Rattle.plist.specs.inner.Carried.{carried-taken, carried-nested, carried-events}
 use Rattle.plist.specs.inner.Following.{refused-ends}
@@ -33,7 +32,7 @@ use Rattle.plist.proofs.Collected.{alike-more}
 use Rattle.plist.proofs.Gathered.{sends_tree}
 use Rattle.plist.proofs.Inputs.{all-events, event-more, no-events, reads-refused}
 use Rattle.plist.proofs.KeysOnce.{keys-once, last-wins-nothing}
-use Rattle.plist_tool.specs.Converting.{HoldsTree, AreNoTree, IsDirect, IsNoBinaryTree, IsReadAs, IsStopped, LeavesToValue, SendsRead, items_of}
+use Rattle.plist_tool.specs.Converting.{HoldsTree, AreNoTree, IsDirect, IsNoBinaryTree, SendsRead, items_of}
 use Rattle.plist_tool.specs.Printing.{CountsReads}
 
 -- of the items these events were taken, which are alike to those held, and these items are to come
@@ -132,9 +131,12 @@ module _ {A : Type 0} (items o n : Option (List Item)) (fresh : Bool) (answer : 
       elim items as (λ i. HasTaken i o held → HasTaken i n new) [
         | None ↦ λ _. tt
         | Some all ↦ λ t.
-            let g = there o n t.0 fresh (Some answer) told t.1 tells in
-            (g.0, g.1, took_event all t.0 g.0 told held new
-            (subst (λ a. TellsItem fresh t.0 (Some a) told g.0) is g.2) t.2 can grown)
+            let g = there o n t.0 fresh (Some answer) told t.1 tells in (
+              g.0,
+              g.1,
+              took_event all t.0 g.0 told held new
+                  (subst (λ a. TellsItem fresh t.0 (Some a) told g.0) is g.2) t.2 can grown,
+            )
       ] h
 
   -- ---- the reader's fault
@@ -319,35 +321,35 @@ same_of all t u (events, same, alike) (others, also, like) =
     one_tree t u (sym alike ∙ ap (map unhinted) (sym e) ∙ like)
 
 module _ (known : Option (List ℕ)) (held : List PlainEvent) (holds : HoldsTree (items_of known) held)
-    where
-  pub not_direct : (repeats : Bool)
-      → ((tree : Tree) → AreAlike held (bracketing tree) → (repeats ≡ false) ↔ HasKeysOnce tree)
-      → (repeats ≡ false → ⊥) → IfSome known (λ bytes. IsDirect bytes → ⊥)
-  not_direct repeats once repeated =
-      elim known as (λ k. HoldsTree (items_of k) held → IfSome k (λ bytes. IsDirect bytes → ⊥)) [
-        | None ↦ λ _. tt
-        | Some bytes ↦ λ h (binary, (tree, of, last)).
-            let same : h.1.0 ≡ tree = same_of (items_of_input bytes) h.1.0 tree h.1.1 of in
-            repeated ((once h.1.0 h.1.2).1 (keys-once h.1.0
-            (ap last_wins same ∙ last ∙ sym same)))
-      ] holds
+  where
+    pub not_direct : (repeats : Bool)
+        → ((tree : Tree) → AreAlike held (bracketing tree) → (repeats ≡ false) ↔ HasKeysOnce tree)
+        → (repeats ≡ false → ⊥) → IfSome known (λ bytes. IsDirect bytes → ⊥)
+    not_direct repeats once repeated =
+        elim known as (λ k. HoldsTree (items_of k) held → IfSome k (λ bytes. IsDirect bytes → ⊥)) [
+          | None ↦ λ _. tt
+          | Some bytes ↦ λ h (binary, (tree, of, last)).
+              let same : h.1.0 ≡ tree = same_of (items_of_input bytes) h.1.0 tree h.1.1 of in
+              repeated ((once h.1.0 h.1.2).1 (keys-once h.1.0
+              (ap last_wins same ∙ last ∙ sym same)))
+        ] holds
 
-  module _ {W : Type 0} (contents : W → Option (List ℕ)) (answer : Answer) (old new : W) where
-    pub sends_read : ((tree : Tree) → AreAlike held (bracketing tree) → HasKeysOnce tree)
-        → Sends contents held answer old new → SendsRead contents known answer old new
-    sends_read once sent =
-        elim known as (λ k. HoldsTree (items_of k) held → SendsRead contents k answer old new) [
-          | None ↦ λ h. (
+    module _ {W : Type 0} (contents : W → Option (List ℕ)) (answer : Answer) (old new : W) where
+      pub sends_read : ((tree : Tree) → AreAlike held (bracketing tree) → HasKeysOnce tree)
+          → Sends contents held answer old new → SendsRead contents known answer old new
+      sends_read once sent =
+          elim known as (λ k. HoldsTree (items_of k) held → SendsRead contents k answer old new) [
+            | None ↦ λ h. (
               h.0.0,
               tt,
               sends_tree h.0.0 held h.0.1 contents old new answer sent,
             )
-          | Some bytes ↦ λ h. (
+            | Some bytes ↦ λ h. (
               h.1.0,
               (h.1.0, h.1.1, sym (last-wins-nothing h.1.0 (once h.1.0 h.1.2))),
               sends_tree h.1.0 held h.1.2 contents old new answer sent,
             )
-        ] holds
+          ] holds
 
 -- known bytes are no such file
 pub not_binary : (known : Option (List ℕ)) → IsNoBinaryTree known

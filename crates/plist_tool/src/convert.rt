@@ -259,7 +259,12 @@ mod tests {
         remove(&rt, "plist_tool_of_integer_key")?;
         let said = b"Error: UnexpectedEventType \
             { expected: DictionaryKeyOrEndCollection, found: Integer }\n";
-        assert_convert(&rt, "plist_tool_integer_key", "plist_tool_of_integer_key", said)?;
+        assert_convert(
+            &rt,
+            "plist_tool_integer_key",
+            "plist_tool_of_integer_key",
+            said,
+        )?;
         assert_missing(&rt, "plist_tool_of_integer_key")
     }
 

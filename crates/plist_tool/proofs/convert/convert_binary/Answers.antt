@@ -1,7 +1,7 @@
 use Rattle.std.proofs.Common.{rules, inr, Ok, Err, refl, sym, ◌∙◌, true≢false}
 use Rattle.plist_base.specs.Faults.{fault_of}
 use Rattle.plist_binwrite.specs.Held.{plain_events}
-use Rattle.plist_tool.specs.Converting.{HoldsTree, items_of}
+use Rattle.plist_tool.specs.Converting.{items_of}
 use Rattle.plist_tool.proofs.Streaming.{held_there, not_binary, not_direct, sends_read}
 use Rattle.plist_tool.proofs.convert.convert_binary.Goals as goal
 

@@ -1,11 +1,10 @@
 use Rattle.std.proofs.Common.{rules, Some, refl, sym, ◌∙◌, subst}
 use Rattle.plist_base.specs.Events.{event_of}
-use Rattle.plist_base.specs.Faults.{fault_of}
 use Rattle.plist_binread.specs.BinaryReader.{is_new, source_of, to_come}
 use Rattle.plist_binread.specs.Telling.{event_told}
 use Rattle.plist_binwrite.specs.Pendings.{TellsWhole, events_held, is_whole}
 use Rattle.plist_tool.specs.Converting.{items_left}
-use Rattle.plist_tool.proofs.Streaming.{read_memory, tells_on, tells_none, tells_next, taken_none, taken_more, taken_fault, taken_refused, taken_whole, taken_early, refused_there}
+use Rattle.plist_tool.proofs.Streaming.{tells_on, tells_none, tells_next, taken_none, taken_more, taken_fault, taken_refused, taken_early, refused_there}
 use Rattle.plist_tool.proofs.convert.hold_events.Goals as goal
 
 pub loop-item-init : goal.loop-item-init
