@@ -9,25 +9,37 @@ use std::fmt;
 use std::marker::Model;
 use std::str::FromStr;
 
+// A whole number in 64 bits, and whether it is negative. A value in 128 bits would lie at a multiple
+// of 16 bytes, and so would every event.
+#[derive(Clone, Copy, PartialEq, Eq, Hash)]
+enum Number {
+    Negative(i64),
+    Unsigned(u64),
+}
+
 /// A whole number from `i64::MIN` to `u64::MAX`.
 ///
 /// Two are equal, and one stands before another, as the whole numbers are: it doesn't matter from
 /// which type a number was made.
-#[derive(Clone, Copy, PartialEq, Eq, Hash)]
+#[derive(Clone, Copy, Eq, Hash)]
 pub struct Integer {
-    value: i128,
+    number: Number,
 }
 
 impl Model for Integer {
-    ghost use Rattle.std.specs.Prelude.{ℤ, pos, negsuc, ◌-◌, ◌^◌, ◌≤ℤ◌, ◌<ℤ◌};
+    ghost use Rattle.std.specs.Prelude.{ℤ};
+    ghost use Rattle.std.proofs.Common.{ap};
+    ghost use Rattle.plist_base.specs.Integer.{IsNumberOf, number_of, whole};
 
     ghost Value = { ℤ };
 
-    ghost view = { λ a. a.value };
+    ghost view = { λ a. whole a.number };
 
-    ghost invariant = { λ a. (negsuc (2 ^ 63 - 1) ≤ℤ a.value) × (a.value <ℤ pos (2 ^ 64)) };
+    ghost invariant = { λ a. IsNumberOf (whole a.number) a.number };
 
-    ghost inverse = { λ z. record { value = z } };
+    ghost inverse = { λ z. record { number = number_of z } };
+
+    ghost inverse_ok = { λ a kept. ap (λ n. record { number = n }) kept.2 };
 }
 
 impl Integer {
@@ -39,7 +51,10 @@ impl Integer {
         ensures value { IfSome result (λ n. n ≡ self) }
         ensures never_lower { negsuc (2 ^ 63 - 1) ≤ℤ self }
     {
-        i64::try_from(self.value).ok()
+        match self.number {
+            Number::Negative(number) => Some(number),
+            Number::Unsigned(number) => i64::try_from(number).ok(),
+        }
     }
 
     /// The same number as a `u64`, or `None` if it is negative.
@@ -50,7 +65,34 @@ impl Integer {
         ensures value { IfSome result (λ n. pos n ≡ self) }
         ensures never_higher { self <ℤ pos (2 ^ 64) }
     {
-        u64::try_from(self.value).ok()
+        match self.number {
+            Number::Negative(_) => None,
+            Number::Unsigned(number) => Some(number),
+        }
+    }
+
+    // The same number in 128 bits.
+    fn widened(self) -> i128
+        ensures { result ≡ self }
+    {
+        match self.number {
+            Number::Negative(number) => i128::from(number),
+            Number::Unsigned(number) => i128::from(number),
+        }
+    }
+}
+
+impl PartialEq for Integer {
+    ghost use Rattle.std.specs.Cmp.{partial_equiv_from_equiv};
+    ghost use Rattle.std.specs.Ordering.{int_eq};
+    ghost use Rattle.std.proofs.lemmas.Cmp.{int_eq_equiv};
+
+    ghost eq = { int_eq };
+
+    ghost laws = { partial_equiv_from_equiv int_eq_equiv };
+
+    fn eq(&self, other: &Integer) -> bool {
+        self.widened() == other.widened()
     }
 }
 
@@ -73,7 +115,7 @@ impl Ord for Integer {
         ensures order { MatchOrdering result
             (self.now <ℤ other.now) (self.now ≡ other.now) (other.now <ℤ self.now) }
     {
-        self.value.cmp(&other.value)
+        self.widened().cmp(&other.widened())
     }
 }
 
@@ -95,9 +137,12 @@ impl From<i64> for Integer {
     ghost from_gives = { λ number integer. integer ≡ number };
 
     fn from(value: i64) -> Integer {
-        Integer {
-            value: i128::from(value),
+        if value < 0 {
+            return Integer {
+                number: Number::Negative(value),
+            };
         }
+        Integer::from(value.cast_unsigned())
     }
 }
 
@@ -130,7 +175,7 @@ impl From<u64> for Integer {
 
     fn from(value: u64) -> Integer {
         Integer {
-            value: i128::from(value),
+            number: Number::Unsigned(value),
         }
     }
 }
@@ -166,7 +211,7 @@ impl fmt::Display for Integer {
     ghost styled_output = { λ integer spec. Some (styled_signed_decimal spec integer) };
 
     fn fmt<W: fmt::Write>(&self, f: &mut fmt::Formatter<W>) -> fmt::Result {
-        fmt::Display::fmt(&self.value, f)
+        fmt::Display::fmt(&self.widened(), f)
     }
 }
 
@@ -175,7 +220,7 @@ impl fmt::Debug for Integer {
     ghost debug_output = { λ integer. Some (signed_decimal integer) };
 
     fn fmt<W: fmt::Write>(&self, f: &mut fmt::Formatter<W>) -> fmt::Result {
-        fmt::Debug::fmt(&self.value, f)
+        fmt::Debug::fmt(&self.widened(), f)
     }
 }
 
