@@ -2,3 +2,4 @@
 pub mod Wants
 pub mod DateBits
 pub mod Paths
+pub mod Hashing

@@ -7,12 +7,13 @@ ghost use Rattle.plist_base.specs.Outcomes.{OnlyMemory};
 use crate::{Date, Error, Integer, RealBits, Uid};
 use std::alloc::Global;
 use std::borrow::{CowSlice, CowStr};
+use std::hash::{Hash, Hasher};
 
 /// An event of a property list. A text and data may be borrowed.
 ///
 /// Two are equal if they are of one kind and their contents are, borrowed or not; a length is
 /// part of a start.
-#[derive(Debug, Drop, PartialEq, Eq, Hash)]
+#[derive(Debug, Drop, PartialEq, Eq)]
 pub enum Event<'a> {
     /// An array begins. Its length is a hint.
     StartArray(Option<u64>),
@@ -90,5 +91,28 @@ impl<'a> Event<'a> {
             )?)),
             Event::Uid(uid) => Event::Uid(*uid),
         })
+    }
+}
+
+/// What an event shows is fed in one write, texts and data whole.
+impl Hash for Event<'_> {
+    ghost use Rattle.plist_base.specs.inner.Hashing.{same_writes, writes_of};
+
+    ghost hash_input = { λ event. writes_of (event_of event) };
+
+    ghost respects_eq = { same_writes };
+
+    fn hash<H: Hasher>(&self, state: &mut H) {
+        match self {
+            Event::StartArray(_) | Event::StartDictionary(_) | Event::EndCollection => {}
+            Event::Boolean(value) => state.write_u8(u8::from(*value)),
+            Event::Data(bytes) => state.write(bytes.as_slice()),
+            Event::Date(date) => state.write(&date.to_plist_real()),
+            Event::Integer(value) => state.write_i128(value.widened()),
+            Event::Real(RealBits::Four(bytes)) => state.write(bytes),
+            Event::Real(RealBits::Eight(bytes)) => state.write(bytes),
+            Event::String(text) => state.write(text.as_str().as_bytes()),
+            Event::Uid(uid) => state.write_u64(uid.get()),
+        }
     }
 }

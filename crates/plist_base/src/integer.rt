@@ -72,7 +72,7 @@ impl Integer {
     }
 
     // The same number in 128 bits.
-    fn widened(self) -> i128
+    pub(crate) fn widened(self) -> i128
         ensures { result ≡ self }
     {
         match self.number {

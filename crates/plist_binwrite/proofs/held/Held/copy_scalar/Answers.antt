@@ -1,7 +1,7 @@
 use Rattle.std.proofs.Common.{◌++◌, ◌∷◌, [], map, ap, sym, ◌∙◌}
 use Rattle.plist_base.specs.Events.{EndCollection, event_of}
 use Rattle.plist_binwrite.specs.declared.held.Entry.TheVariants as entry
-use Rattle.plist_binwrite.proofs.Equal.{same, same_event}
+use Rattle.plist_base.specs.inner.Hashing.{same, same_event}
 use Rattle.plist_binwrite.proofs.Holding.{found_kept, found_shown}
 use Rattle.plist_binwrite.proofs.Keyed.{key_found}
 use Rattle.plist_binwrite.proofs.held.Held.copy_scalar.Goals as goal

@@ -1,7 +1,8 @@
 use Rattle.std.proofs.Common.{◌++◌, ◌∷◌, [], map, ap, ◌∙◌}
 use Rattle.plist_base.specs.Events.{event_of}
 use Rattle.plist_binwrite.specs.declared.held.Entry.TheVariants as entry
-use Rattle.plist_binwrite.proofs.Equal.{same, same_event, event_same}
+use Rattle.plist_base.specs.inner.Hashing.{same, same_event}
+use Rattle.plist_binwrite.proofs.Equal.{event_same}
 use Rattle.plist_binwrite.proofs.Holding.{scalar_kept, scalar_shown}
 use Rattle.plist_binwrite.proofs.Keyed.{key_at, keys_apart, keys_more}
 use Rattle.plist_binwrite.proofs.held.Held.scalar.Goals as goal
