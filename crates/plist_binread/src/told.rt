@@ -10,7 +10,7 @@ ghost use Rattle.plist_binread.specs.Told.{event_in, event_with};
 ghost use Rattle.plist_binread.specs.Nearby.{PacksEvent, TellsText};
 
 use crate::lent::Lent;
-use crate::packed::{is_small, pack};
+use crate::packed::{is_small, pack, pack_bytes, pack_text};
 use plist_base::{Event, Integer, OwnedEvent, RealBits, Uid};
 use std::alloc::Global;
 use std::borrow::{CowSlice, CowStr};
@@ -208,7 +208,9 @@ impl Last {
             Told::Unsigned(number) => Some((3, number)),
             Told::Uid(number) => Some((7, number)),
             Told::Array(_) | Told::Dictionary(_) | Told::End => None,
-            Told::Held | Told::Text | Told::Data => pack(&self.lend()),
+            Told::Held => pack(&self.held),
+            Told::Text => pack_text(self.text.as_str()),
+            Told::Data => pack_bytes(8, self.data.as_slice()),
         }
     }
 
