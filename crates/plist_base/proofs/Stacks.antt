@@ -287,8 +287,8 @@ run_back [] s t m p f = subst (λ u. Fills u m) (same_stack s t p) f
 run_back (e ∷ es) s t m p f =
     run_along es (step s e) s e t m refl p f (λ u q. run_back es u t m q f)
 
-pub run_on : (es : List PlainEvent) (s : Stack) (m : List PlainEvent) → Fills s (es ++ m) → (t : Stack)
-    × (steps s es ≡ Some t) × Fills t m
+pub run_on : (es : List PlainEvent) (s : Stack) (m : List PlainEvent) → Fills s (es ++ m)
+    → (t : Stack) × (steps s es ≡ Some t) × Fills t m
 run_on [] s m f = (s, refl, f)
 run_on (e ∷ es) s m f =
     let g = fill_on s e (es ++ m) f in

@@ -20,6 +20,10 @@ abbrev pub HasTextYear : List ℕ → Type 0
 HasTextYear date =
     (second : ℤ) → second_of_bytes date ≡ Some second → HasFourDigitYear (second +ℤ plist_epoch)
 
+-- the year of its second is another
+abbrev pub HasOtherYear : List ℕ → Type 0
+HasOtherYear date = ¬ (HasTextYear date)
+
 -- the text of a date: it is whole, and the text is that of its second
 abbrev pub IsDateText : (date text : List ℕ) → Type 0
 IsDateText date text =

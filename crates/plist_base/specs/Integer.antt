@@ -1,5 +1,7 @@
--- The whole number that an `Integer` holds, and how it holds it.
+-- The whole number that an `Integer` holds, how it holds it, and how two stand to each other.
 use Rattle.std.specs.Prelude.{◌≡◌, ◌-◌, ◌^◌, ◌≤ℤ◌, ◌<ℤ◌, ℤ, pos, negsuc}
+use Rattle.std.specs.Ordering.{MatchOrdering}
+use Rattle.std.specs.declared.cmp.Ordering.{Ordering}
 use Rattle.plist_base.specs.declared.integer.Number.{Number}
 use Rattle.plist_base.specs.declared.integer.Number.TheVariants as number
 
@@ -15,3 +17,8 @@ number_of (negsuc n) = number.Negative (negsuc n)
 abbrev pub IsNumberOf : ℤ → Number → Type 0
 IsNumberOf z held =
     (negsuc (2 ^ 63 - 1) ≤ℤ z) × (z <ℤ pos (2 ^ 64)) × (number_of z ≡ held)
+
+-- how two whole numbers stand to each other
+abbrev pub IsOrderOf : (left right : ℤ) → Ordering → Type 0
+IsOrderOf left right order =
+    MatchOrdering order (left <ℤ right) (left ≡ right) (right <ℤ left)

@@ -22,7 +22,8 @@ abbrev pub IfRead : {A E : Type 0} → Result A E → (known : Option (List ℕ)
 IfRead answer known P = IfOk answer (λ value. IfSome known (λ bytes. P bytes value))
 
 -- where the bytes are known, they mean what was answered
-abbrev pub DecodesBy : {A E : Type 0} → Result A E → (known : Option (List ℕ)) → (List ℕ → A) → Type 0
+abbrev pub DecodesBy : {A E : Type 0} → Result A E → (known : Option (List ℕ)) → (List ℕ → A)
+    → Type 0
 DecodesBy answer known meaning = IfRead answer known (λ bytes value. value ≡ meaning bytes)
 
 -- where the bytes are known, this is so of them and of the fault

@@ -2,7 +2,7 @@
 
 ghost use Rattle.std.specs.Prelude.{◌≡◌, ℕ, ◌^◌, ◌<◌, ◌≤◌, ◌↔◌, not, ◌==◌, false, pos, ℤ, ◌*ℤ◌, ◌-ℤ◌, Some, None, IsSome, IfSome, IsErr, IfOk, IfErr, List, MatchOption};
 ghost use Rattle.plist_base.specs.Date.{IsDate, IsSecondOf, IsSecondOfDate, IsWhole, date_bytes, date_of_bytes, has_fraction, if_second_of_date, is_second_of_date, parts_in_second, parts_left, plist_epoch, real_bits, real_exponent, real_mantissa, real_parts, real_scale, rounded_down, second_of_bits, second_of_bytes, whole_seconds, HasNoSecond, IsExactly, IsOnlyAt, IsWholeAt};
-ghost use Rattle.plist_base.specs.inner.DateBits.{whole_bits, AreBitsAt};
+ghost use Rattle.plist_base.specs.inner.DateBits.{whole_bits, AreBitsAt, IsNoneFrom};
 
 use crate::ErrorKind;
 use std::marker::Model;
@@ -167,8 +167,7 @@ struct Small {
 impl Small {
     // `None` where it is 2^52 or more, infinite or no number.
     fn from_bits(bits: u64) -> Option<Small>
-        ensures range { MatchOption result (1075 ≤ real_exponent bits)
-            (λ _. real_exponent bits < 1075) }
+        ensures range { IsNoneFrom 1075 (real_exponent bits) result }
         ensures mantissa { IfSome result (λ small. small.mantissa ≡ real_mantissa bits) }
         ensures scale { IfSome result (λ small. small.scale ≡ real_scale bits) }
     {

@@ -3,7 +3,7 @@
 ghost use Rattle.std.specs.Prelude.{◌≡◌, ◌↔◌, ℕ, List, codes, Some, None, Ok, IsErr, IfOk, string_bytes};
 ghost use Rattle.plist_base.specs.Outcomes.{OnlyMemory};
 ghost use Rattle.plist_base.specs.Date.{IsWhole, has_fraction, second_of_bytes, HasFraction};
-ghost use Rattle.plist_base.specs.DateTexts.{HasTextYear, IsDateText, IsInUtc, IsRefused, ReadsAs, second_of_text, PrintsOnly};
+ghost use Rattle.plist_base.specs.DateTexts.{HasOtherYear, HasTextYear, IsDateText, IsInUtc, IsRefused, ReadsAs, second_of_text, PrintsOnly};
 ghost use Rattle.plist_base.specs.Faults.{FractionalDate, InvalidDateString, YearOutOfRange, fault_nowhere, fault_of};
 
 use crate::{Date, Error, ErrorKind};
@@ -49,10 +49,8 @@ impl Date {
     /// [`ErrorKind::YearOutOfRange`] if its year isn't one from 0 to 9999, else
     /// [`ErrorKind::OutOfMemory`] if memory runs out.
     pub fn to_xml_format(&self, alloc: Global) -> Result<String, Error>
-        ensures fraction { HasFraction self.now →
-            IsRefused FractionalDate result }
-        ensures year { IsWhole self.now → ¬ (HasTextYear self.now) →
-            IsRefused YearOutOfRange result }
+        ensures fraction { HasFraction self.now → IsRefused FractionalDate result }
+        ensures year { IsWhole self.now → HasOtherYear self.now → IsRefused YearOutOfRange result }
         ensures text { IfOk result (λ text. IsDateText self.now (string_bytes text)) }
         ensures memory { IsWhole self.now → HasTextYear self.now → OnlyMemory result }
         ensures only { (text : List ℕ) → IsDateText self.now text → PrintsOnly text result }

@@ -9,8 +9,8 @@ use std::fmt;
 use std::marker::Model;
 use std::str::FromStr;
 
-// A whole number in 64 bits, and whether it is negative. A value in 128 bits would lie at a multiple
-// of 16 bytes, and so would every event.
+// A whole number in 64 bits, and whether it is negative. A value in 128 bits would lie at a
+// multiple of 16 bytes, and so would every event.
 #[derive(Clone, Copy, PartialEq, Eq, Hash)]
 enum Number {
     Negative(i64),
@@ -100,7 +100,8 @@ impl PartialEq for Integer {
 impl Ord for Integer {
     ghost use Rattle.std.specs.Prelude.{refl};
     ghost use Rattle.std.specs.Cmp.{int_cmp_total};
-    ghost use Rattle.std.specs.Ordering.{MatchOrdering, int_cmp};
+    ghost use Rattle.std.specs.Ordering.{int_cmp};
+    ghost use Rattle.plist_base.specs.Integer.{IsOrderOf};
 
     ghost cmp = { int_cmp };
 
@@ -112,8 +113,7 @@ impl Ord for Integer {
 
     fn cmp(&self, other: &Integer) -> Ordering
         ensures value { result ≡ int_cmp self.now other.now }
-        ensures order { MatchOrdering result
-            (self.now <ℤ other.now) (self.now ≡ other.now) (other.now <ℤ self.now) }
+        ensures order { IsOrderOf self.now other.now result }
     {
         self.widened().cmp(&other.widened())
     }

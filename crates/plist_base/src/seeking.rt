@@ -34,8 +34,8 @@ fn part(bytes: &[u8], first: usize, size: usize) -> &[u8]
 /// A source over a reader that can seek, such as a file. Its bytes aren't known, since others may
 /// change them.
 ///
-/// It keeps windows of 8 KiB, which it lends, so that small reads near one another, in several parts
-/// of a file in turn, cost one read of `R`: eight of them, or up to 128 where it is given an
+/// It keeps windows of 8 KiB, which it lends, so that small reads near one another, in several
+/// parts of a file in turn, cost one read of `R`: eight of them, or up to 128 where it is given an
 /// allocator. A read or seek that answers `Interrupted` is a failure, too.
 #[derive(Drop)]
 pub struct Seeking<R> {

@@ -1,7 +1,6 @@
 //! What takes the events of a property list.
 
 ghost use Rattle.std.specs.Prelude.{◌≡◌, Bool, List, Err, false, true};
-ghost use Rattle.std.specs.Cow.{cow_slice_items, cow_str_bytes};
 ghost use Rattle.plist_base.specs.Faults.{WriterFailed, fault_nowhere};
 
 use crate::{Date, Error, Event, Integer, RealBits, Uid};
@@ -19,9 +18,7 @@ pub trait Sealed {}
 /// writer has failed then: each later call answers `WriterFailed` and changes nothing. No fault of
 /// a writer has an offset. Lengths of starts are hints, which decide nothing.
 pub trait Writer: Sealed {
-    ghost use Rattle.plist_base.specs.Events as events;
-    ghost use Rattle.plist_base.specs.Events.{PlainEvent, Single, event_of};
-    ghost use Rattle.plist_base.specs.Trees as scalar;
+    ghost use Rattle.plist_base.specs.Events.{EndCollection, PlainEvent, StartArray, StartDictionary, event_of};
     ghost use Rattle.plist_base.specs.Writing.{Answer, AnswersByPlace, answer_of};
 
     ghost held: { Self → List PlainEvent };
@@ -36,72 +33,70 @@ pub trait Writer: Sealed {
 
     /// Begins an array.
     fn write_start_array(&mut self, length: Option<u64>) -> Result<(), Error>
-        ensures { Step self.old (events.StartArray length) (answer_of result) self.new }
+        ensures { Step self.old (StartArray length) (answer_of result) self.new }
     {
         self.write(Event::StartArray(length))
     }
 
     /// Begins a dictionary.
     fn write_start_dictionary(&mut self, length: Option<u64>) -> Result<(), Error>
-        ensures { Step self.old (events.StartDictionary length) (answer_of result) self.new }
+        ensures { Step self.old (StartDictionary length) (answer_of result) self.new }
     {
         self.write(Event::StartDictionary(length))
     }
 
     /// Ends the innermost array or dictionary.
     fn write_end_collection(&mut self) -> Result<(), Error>
-        ensures { Step self.old events.EndCollection (answer_of result) self.new }
+        ensures { Step self.old EndCollection (answer_of result) self.new }
     {
         self.write(Event::EndCollection)
     }
 
     /// Writes a truth value.
     fn write_boolean(&mut self, value: bool) -> Result<(), Error>
-        ensures { Step self.old (Single (scalar.Boolean value)) (answer_of result) self.new }
+        ensures { Step self.old (event_of (Event.Boolean value)) (answer_of result) self.new }
     {
         self.write(Event::Boolean(value))
     }
 
     /// Writes bytes.
     fn write_data(&mut self, bytes: CowSlice<'_, u8>) -> Result<(), Error>
-        ensures { Step self.old (Single (scalar.Data (cow_slice_items bytes.entry)))
-            (answer_of result) self.new }
+        ensures { Step self.old (event_of (Event.Data bytes.entry)) (answer_of result) self.new }
     {
         self.write(Event::Data(bytes))
     }
 
     /// Writes a moment.
     fn write_date(&mut self, date: Date) -> Result<(), Error>
-        ensures { Step self.old (Single (scalar.Date date)) (answer_of result) self.new }
+        ensures { Step self.old (event_of (Event.Date date)) (answer_of result) self.new }
     {
         self.write(Event::Date(date))
     }
 
     /// Writes a whole number.
     fn write_integer(&mut self, value: Integer) -> Result<(), Error>
-        ensures { Step self.old (Single (scalar.Integer value)) (answer_of result) self.new }
+        ensures { Step self.old (event_of (Event.Integer value)) (answer_of result) self.new }
     {
         self.write(Event::Integer(value))
     }
 
     /// Writes the bytes of a real.
     fn write_real(&mut self, bits: RealBits) -> Result<(), Error>
-        ensures { Step self.old (Single (scalar.Real bits)) (answer_of result) self.new }
+        ensures { Step self.old (event_of (Event.Real bits)) (answer_of result) self.new }
     {
         self.write(Event::Real(bits))
     }
 
     /// Writes a text, or a key.
     fn write_string(&mut self, text: CowStr<'_>) -> Result<(), Error>
-        ensures { Step self.old (Single (scalar.String (cow_str_bytes text.entry)))
-            (answer_of result) self.new }
+        ensures { Step self.old (event_of (Event.String text.entry)) (answer_of result) self.new }
     {
         self.write(Event::String(text))
     }
 
     /// Writes the number of an object in a keyed archive.
     fn write_uid(&mut self, uid: Uid) -> Result<(), Error>
-        ensures { Step self.old (Single (scalar.Uid uid)) (answer_of result) self.new }
+        ensures { Step self.old (event_of (Event.Uid uid)) (answer_of result) self.new }
     {
         self.write(Event::Uid(uid))
     }
