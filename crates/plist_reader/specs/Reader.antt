@@ -1,5 +1,5 @@
 -- What contracts see of a reader of either format: the items that it has still to give.
-use Rattle.std.specs.Prelude.{◌≡◌, ℕ, ◌+◌, ◌^◌, List, [], ◌∷◌, Option, None, Some, Result, Ok, Err, MatchOption, MatchResult, IfSome, ⊤}
+use Rattle.std.specs.Prelude.{◌≡◌, ℕ, ◌+◌, ◌^◌, ◌<◌, List, [], ◌∷◌, Option, None, Some, Result, Ok, Err, MatchOption, MatchResult, IfSome, ⊤}
 use Rattle.std.specs.Option.{option_map}
 use Rattle.plist_base.specs.declared.error.Error.{Error}
 use Rattle.plist_base.specs.declared.event.Event.{Event}
@@ -73,10 +73,8 @@ abbrev pub HasEnded : {R : Type 0} {g : Ghosts R} → Reader R g → Type 0
 HasEnded reader = IsOver reader.state
 
 -- What was to come begins with this item and goes on with what is to come then; nothing comes only
--- where
--- nothing was to come. After a device's fault and want of memory nothing is to come, and want of
--- memory
--- comes only where something was.
+-- where nothing was to come. After a device's fault and want of memory nothing is to come, and want
+-- of memory comes only where something was.
 abbrev pub GivesItem : (before : List Item) → Option (Result Event Error) → (after : List Item)
     → Type 0
 GivesItem before item after =
@@ -135,3 +133,14 @@ steps_of (state.Binary reader) = binary.steps_to_come reader
 steps_of (state.Ascii reader) = ascii.steps_to_come reader
 steps_of (state.Refused source) = 0
 steps_of state.Moved = 0
+
+-- where nothing was asked for yet, this is the first item, and the state behind it
+abbrev pub GivesFirst : {R : Type 0} {g : Ghosts R} (known : R → Option (List ℕ)) (failed : R → ℕ)
+    → State R g → Option (Result Event Error) → State R g → Type 0
+GivesFirst {R} known failed old item new = (source : R) → old ≡ state.Unread source
+    → StateGives known failed (state.Unread source) item new
+
+-- where nothing was asked for yet and an item comes, fewer steps are left
+abbrev pub FirstFalls : {R A : Type 0} {g : Ghosts R} → State R g → Option A → State R g → Type 0
+FirstFalls {R} old item new = (source : R) → old ≡ state.Unread source
+    → IfSome item (λ _. steps_of new < all_steps)

@@ -1,7 +1,8 @@
 -- What contracts see of a source whose bytes are taken in turn.
-use Rattle.std.specs.Prelude.{ℕ, List, ◌++◌, take, drop, Option}
+use Rattle.std.specs.Prelude.{ℕ, List, ◌++◌, take, drop, Option, Result}
 use Rattle.std.specs.Option.{option_map}
 use Rattle.plist_base.specs.Sequential.{from_place}
+use Rattle.plist_base.specs.Sources.{CountsFailure}
 use Rattle.plist_reader.specs.declared.bytes.SourceBytes.{SourceBytes}
 
 -- the source inside
@@ -20,3 +21,8 @@ held reader = drop reader.from (take reader.end reader.window)
 abbrev pub bytes_left : {R : Type 0} → (R → Option (List ℕ)) → SourceBytes R → Option (List ℕ)
 bytes_left known reader =
     option_map (λ bytes. held reader ++ from_place reader.place bytes) (known reader.source)
+
+-- the source's count of failures rises by one where a read of it fails, and else stays
+abbrev pub ReadCounts : {R A E : Type 0} → (failed : R → ℕ) → SourceBytes R → Result A E
+    → SourceBytes R → Type 0
+ReadCounts failed old answer new = CountsFailure answer (failed old.source) (failed new.source)

@@ -47,7 +47,7 @@ pub struct SourceBytes<R> {
 impl<R: Source> SourceBytes<R> {
     ghost use Rattle.std.specs.Prelude.{◌≡◌, [], OnOk};
     ghost use Rattle.std.specs.Io.KnownBytes.{IsAtEnd};
-    ghost use Rattle.plist_reader.specs.Streams.{source_of, place_of, held, bytes_left};
+    ghost use Rattle.plist_reader.specs.Streams.{source_of, place_of, held, bytes_left, ReadCounts};
 
     /// No byte has been read.
     pub fn new(source: R) -> Self
@@ -68,8 +68,7 @@ impl<R: Source> SourceBytes<R> {
     fn fill(&mut self) -> Result<(), io::Error>
         ensures bytes { OnOk result (bytes_left R.known self.new ≡ bytes_left R.known self.old) }
         ensures end { OnOk result (held self.new ≡ [] → IsAtEnd (bytes_left R.known self.new)) }
-        ensures failures { CountsFailure result
-            (R.failures (source_of self.old)) (R.failures (source_of self.new)) }
+        ensures failures { ReadCounts R.failures self.old result self.new }
     {
         if self.from < self.end {
             return Ok(());

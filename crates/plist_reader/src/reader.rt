@@ -50,10 +50,10 @@ fn begin<R: Source>(alloc: Global, mut source: R) -> (State<R>, Option<Result<Ow
 
 /// Reads a property list of either format as events, from its first byte on.
 ///
-/// Where the first eight bytes are `bplist00` it is a [`BinaryReader`], else an [`AsciiReader`], for
-/// empty and short input too. Where the first byte past an optional mark of the byte order (EF BB
-/// BF) and white space is `<`, the one item is `XmlUnsupported`, with that byte's place. It chooses
-/// when its first item is asked for.
+/// Where the first eight bytes are `bplist00` it is a [`BinaryReader`], else an [`AsciiReader`],
+/// for empty and short input too. Where the first byte past an optional mark of the byte order (EF
+/// BB BF) and white space is `<`, the one item is `XmlUnsupported`, with that byte's place. It
+/// chooses when its first item is asked for.
 ///
 /// # Errors
 /// `XmlUnsupported`, after which nothing comes. `Io` where a read failed while it chose, with the
@@ -69,7 +69,7 @@ pub struct Reader<R: Source> {
 impl<R: Source> Reader<R> {
     ghost use Rattle.std.specs.Prelude.{◌≡◌};
     ghost use Rattle.std.specs.Option.{option_map};
-    ghost use Rattle.plist_reader.specs.Reader.{to_come, items_of_input, source_of};
+    ghost use Rattle.plist_reader.specs.Reader.{FirstFalls, GivesFirst, to_come, items_of_input, source_of};
 
     /// A reader over a source. It reads nothing before its first item is asked for.
     pub fn new(alloc: Global, source: R) -> Self
@@ -84,10 +84,8 @@ impl<R: Source> Reader<R> {
 
     // The first item. Only here is the state moved: it may be as large as a source's windows.
     fn first(&mut self) -> Option<Result<OwnedEvent, Error>>
-        ensures gives { (source : R) → self.old.state ≡ State.Unread source →
-            StateGives R.known R.failures (State.Unread source) result self.new.state }
-        ensures falls { (source : R) → self.old.state ≡ State.Unread source →
-            IfSome result (λ _. steps_of self.new.state < all_steps) }
+        ensures gives { GivesFirst R.known R.failures self.old.state result self.new.state }
+        ensures falls { FirstFalls self.old.state result self.new.state }
     {
         match mem::replace(&mut self.state, State::Moved) {
             State::Unread(source) => {
@@ -258,7 +256,9 @@ mod tests {
     fn reads_binary(rt: HostRuntime) -> Result<(), Fail> {
         let mut truth = Reader::new(
             rt.alloc(),
-            b"bplist00\x09\x08\0\0\0\0\0\0\x01\x01\0\0\0\0\0\0\0\x01\0\0\0\0\0\0\0\0\0\0\0\0\0\0\0\x09".as_slice(),
+            b"bplist00\x09\x08\0\0\0\0\0\0\x01\x01\0\0\0\0\0\0\0\x01\
+              \0\0\0\0\0\0\0\0\0\0\0\0\0\0\0\x09"
+                .as_slice(),
         );
         assert!(rt; matches!(&truth.next(), Some(Ok(OwnedEvent::Boolean(true)))));
         assert!(rt; truth.next().is_none());
