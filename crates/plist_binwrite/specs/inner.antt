@@ -3,6 +3,7 @@ pub mod Ending
 pub mod Entries
 pub mod Laws
 pub mod Laying
+pub mod Numbering
 pub mod Opening
 pub mod Planning
 pub mod PlansBy

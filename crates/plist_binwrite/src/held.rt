@@ -1,10 +1,10 @@
 //! The events of a property list, each different scalar once.
 
-ghost use Rattle.std.specs.Prelude.{◌≡◌, ◌+◌, ◌^◌, ◌<◌, true, length, map, OnOk, OnErr};
+ghost use Rattle.std.specs.Prelude.{◌≡◌, ◌+◌, ◌^◌, ◌<◌, true, length, OnOk, OnErr};
 ghost use Rattle.std.proofs.Props.{props};
 ghost use Rattle.plist_base.specs.Events.{EndCollection, event_of};
 ghost use Rattle.plist_base.specs.Outcomes.{OnlyMemory};
-ghost use Rattle.plist_binwrite.specs.inner.Entries.{IsKept, closed_at, is_leaf};
+ghost use Rattle.plist_binwrite.specs.inner.Entries.{closed_at, is_leaf, KeepsScalars};
 
 use crate::kinds::Kind;
 use indexmap::IndexSet;
@@ -41,15 +41,13 @@ pub struct Held<'e> {
     scalars: IndexSet<Event<'e>>,
     entries: Vec<Entry>,
     begun: Vec<usize>,
-    ghost kept: { IsKept (map event_of scalars.keys) entries.items begun.items } by { Prim.hlevel props },
+    ghost kept: { KeepsScalars scalars.keys entries.items begun.items } by { Prim.hlevel props },
 }
 
 impl<'e> Held<'e> {
-    ghost use Rattle.std.specs.Prelude.{◌⊎◌, ◌≤◌, ◌++◌, ◌∷◌, [], ℕ, Some, None, slice_get, false, IfSome};
-    ghost use Rattle.plist_base.specs.Trees.{Tree};
-    ghost use Rattle.plist_binwrite.specs.Held.{plain_event, plain_events, scalars_of, is_stop, kind_of, event_at};
-    ghost use Rattle.plist_binwrite.specs.Standing.{size, Sits};
-    ghost use Rattle.plist_binwrite.specs.inner.Entries.{behind_of, is_start, shown};
+    ghost use Rattle.std.specs.Prelude.{◌≤◌, [], Some, None, false, IfSome};
+    ghost use Rattle.plist_binwrite.specs.Held.{plain_event, plain_events, scalars_of, kind_of, EndsTree, GrowsBy, HasItem, IsScalarAt, LacksItem, held_at, shown_in};
+    ghost use Rattle.plist_binwrite.specs.inner.Entries.{is_start, IsUnclosed};
 
     /// No events. It takes no memory.
     pub fn new(alloc: Global) -> Held<'e>
@@ -80,7 +78,7 @@ impl<'e> Held<'e> {
     /// The kind of the event at a place.
     pub fn kind_at(&self, place: usize) -> Kind
         requires { place < length (plain_events self.now) }
-        ensures { result ≡ kind_of (event_at (plain_events self.now) place) }
+        ensures { result ≡ kind_of (held_at self.now place) }
     {
         match self.entries.as_slice()[place] {
             Entry::Array(_) => Kind::Array,
@@ -92,10 +90,8 @@ impl<'e> Held<'e> {
 
     /// Whether an item of a collection stands here, and not its end.
     pub fn has_item(&self, place: usize) -> bool
-        ensures yes { result ≡ true → (place < length (plain_events self.now))
-            × (is_stop (event_at (plain_events self.now) place) ≡ false) }
-        ensures no { result ≡ false → (is_stop (event_at (plain_events self.now) place)
-            ≡ true) ⊎ (length (plain_events self.now) ≤ place) }
+        ensures yes { result ≡ true → HasItem (plain_events self.now) place }
+        ensures no { result ≡ false → LacksItem (plain_events self.now) place }
     {
         if place >= self.len() {
             return false;
@@ -110,7 +106,7 @@ impl<'e> Held<'e> {
     pub fn skip(&self, place: usize) -> usize
         requires { place < length (plain_events self.now) }
         ensures forward { (place < result) × (result ≤ length (plain_events self.now)) }
-        ensures ends { (t : Tree) → Sits (plain_events self.now) t place → result ≡ place + size t }
+        ensures ends { EndsTree (plain_events self.now) place result }
     {
         match self.entries.as_slice()[place] {
             Entry::Array(behind) => behind,
@@ -123,10 +119,9 @@ impl<'e> Held<'e> {
     /// The place of the scalar here among the different ones, in the order in which they came.
     pub fn scalar_place(&self, place: usize) -> Option<usize>
         requires { place < length (plain_events self.now) }
-        ensures some { IfSome result (λ k. slice_get (scalars_of self.now) k
-            ≡ Some (event_at (plain_events self.now) place)) }
-        ensures leaf { IfSome result (λ k. is_leaf (event_at (plain_events self.now) place) ≡ true) }
-        ensures none { result ≡ None → is_leaf (event_at (plain_events self.now) place) ≡ false }
+        ensures some { IfSome result (IsScalarAt self.now place) }
+        ensures leaf { IfSome result (λ _. is_leaf (held_at self.now place) ≡ true) }
+        ensures none { result ≡ None → is_leaf (held_at self.now place) ≡ false }
     {
         match self.entries.as_slice()[place] {
             Entry::Scalar(scalar) => Some(scalar),
@@ -137,9 +132,8 @@ impl<'e> Held<'e> {
     /// The scalar here.
     pub fn scalar_at(&self, place: usize) -> Option<&Event<'e>>
         requires { place < length (plain_events self.now) }
-        ensures some { IfSome result (λ e. event_at (plain_events self.now) place
-            ≡ plain_event e.now) }
-        ensures none { result ≡ None → is_leaf (event_at (plain_events self.now) place) ≡ false }
+        ensures some { IfSome result (λ event. held_at self.now place ≡ plain_event event.now) }
+        ensures none { result ≡ None → is_leaf (held_at self.now place) ≡ false }
     {
         let scalar = self.scalar_place(place)?;
         self.scalars.get_index(scalar)
@@ -148,10 +142,8 @@ impl<'e> Held<'e> {
     // Takes a start, with the place behind itself.
     fn start(&mut self, entry: Entry) -> Result<(), Error>
         requires starts { is_start entry ≡ true }
-        requires behind { behind_of (length (plain_events self.old)) entry
-            ≡ length (plain_events self.old) + 1 }
-        ensures events { OnOk result (plain_events self.new
-            ≡ plain_events self.old ++ shown (scalars_of self.old) entry ∷ []) }
+        requires behind { IsUnclosed (length (plain_events self.old)) entry }
+        ensures events { OnOk result (GrowsBy self.old (shown_in self.old entry) self.new) }
         ensures unchanged { OnErr result (plain_events self.new ≡ plain_events self.old) }
         ensures memory { OnlyMemory result }
     {
@@ -165,8 +157,7 @@ impl<'e> Held<'e> {
 
     // Takes an end: the innermost start that has none is closed.
     fn end(&mut self) -> Result<(), Error>
-        ensures events { OnOk result (plain_events self.new
-            ≡ plain_events self.old ++ EndCollection ∷ []) }
+        ensures events { OnOk result (GrowsBy self.old EndCollection self.new) }
         ensures unchanged { OnErr result (plain_events self.new ≡ plain_events self.old) }
         ensures memory { OnlyMemory result }
     {
@@ -185,8 +176,7 @@ impl<'e> Held<'e> {
     // Takes a scalar: the place of its equal among the different ones, or a new one.
     fn scalar(&mut self, event: Event<'e>) -> Result<(), Error>
         requires { is_leaf (event_of event) ≡ true }
-        ensures events { OnOk result (plain_events self.new
-            ≡ plain_events self.old ++ event_of event.entry ∷ []) }
+        ensures events { OnOk result (GrowsBy self.old (event_of event.entry) self.new) }
         ensures unchanged { OnErr result (plain_events self.new ≡ plain_events self.old) }
         ensures memory { OnlyMemory result }
     {
@@ -206,8 +196,7 @@ impl<'e> Held<'e> {
     /// # Errors
     /// `OutOfMemory`, without an offset; the events held are the same then.
     pub fn push(&mut self, event: Event<'e>) -> Result<(), Error>
-        ensures events { OnOk result (plain_events self.new
-            ≡ plain_events self.old ++ plain_event event.entry ∷ []) }
+        ensures events { OnOk result (GrowsBy self.old (plain_event event.entry) self.new) }
         ensures unchanged { OnErr result (plain_events self.new ≡ plain_events self.old) }
         ensures memory { OnlyMemory result }
     {
@@ -231,16 +220,14 @@ impl<'e> Held<'e> {
 }
 
 impl Held<'static> {
-    ghost use Rattle.std.specs.Prelude.{◌++◌, ◌∷◌, []};
-    ghost use Rattle.plist_binwrite.specs.Held.{plain_event, plain_events};
+    ghost use Rattle.plist_binwrite.specs.Held.{plain_event, plain_events, GrowsBy};
 
     /// Takes a copy of an event. A scalar that equals one of those held isn't copied.
     ///
     /// # Errors
     /// `OutOfMemory`, without an offset; the events held are the same then.
     pub fn push_copy(&mut self, alloc: Global, event: Event<'_>) -> Result<(), Error>
-        ensures events { OnOk result (plain_events self.new
-            ≡ plain_events self.old ++ plain_event event.entry ∷ []) }
+        ensures events { OnOk result (GrowsBy self.old (plain_event event.entry) self.new) }
         ensures unchanged { OnErr result (plain_events self.new ≡ plain_events self.old) }
         ensures memory { OnlyMemory result }
     {
@@ -255,8 +242,7 @@ impl Held<'static> {
     // Takes a copy of a scalar, unless its equal is held.
     fn copy_scalar(&mut self, alloc: Global, event: Event<'_>) -> Result<(), Error>
         requires { is_leaf (event_of event) ≡ true }
-        ensures events { OnOk result (plain_events self.new
-            ≡ plain_events self.old ++ event_of event.entry ∷ []) }
+        ensures events { OnOk result (GrowsBy self.old (event_of event.entry) self.new) }
         ensures unchanged { OnErr result (plain_events self.new ≡ plain_events self.old) }
         ensures memory { OnlyMemory result }
     {

@@ -1,11 +1,10 @@
 //! The numbers of objects: one for each class.
 
-ghost use Rattle.std.specs.Prelude.{◌≡◌, ◌<◌, ℕ, length, get_or, false, IfOk, OnOk};
+ghost use Rattle.std.specs.Prelude.{◌≡◌, ◌<◌, length, IfOk, OnOk};
 ghost use Rattle.plist_base.specs.Outcomes.{OnlyMemory};
-ghost use Rattle.plist_base.specs.Trees.{Tree};
-ghost use Rattle.plist_base.specs.Bracketing.{shape};
-ghost use Rattle.plist_binwrite.specs.Held.{plain_events, is_stop, event_at, AllBelow, num_of, IsNumbered, Keeps, AllNumbered};
-ghost use Rattle.plist_binwrite.specs.inner.PlansBy.{IsPlan, HaveIds};
+ghost use Rattle.plist_binwrite.specs.Held.{plain_events, AllBelow};
+ghost use Rattle.plist_binwrite.specs.inner.PlansBy.{HaveIds};
+ghost use Rattle.plist_binwrite.specs.inner.Numbering.{BeginsAt, IsPlanOf, KeepsNumbers, NumbersItem, NumbersItems, NumbersRoot, NumbersTree};
 
 use crate::children::children;
 use crate::held::Held;
@@ -25,21 +24,15 @@ fn number_one(
     firsts: &mut Vec<usize>,
     place: usize,
 ) -> Result<(), Error>
-    requires plan { IsPlan (plain_events events.now)
-        (num_of classes.now) numbers.old.items firsts.old.items }
+    requires plan { IsPlanOf events.now classes.now numbers.old firsts.old }
     requires ids { HaveIds classes.now ids.old.items firsts.old.items }
     requires long { length classes.now ≡ length (plain_events events.now) }
     requires place { place < length (plain_events events.now) }
-    ensures plan { OnOk result (IsPlan (plain_events events.now)
-        (num_of classes.now) numbers.new.items firsts.new.items) }
+    ensures plan { OnOk result (IsPlanOf events.now classes.now numbers.new firsts.new) }
     ensures ids { OnOk result (HaveIds classes.now ids.new.items firsts.new.items) }
-    ensures keeps { OnOk result (Keeps numbers.old.items firsts.old.items
-        numbers.new.items firsts.new.items) }
-    ensures numbered { OnOk result (is_stop (event_at (plain_events events.now) place) ≡ false
-        → IsNumbered numbers.new.items firsts.new.items place) }
-    ensures first { OnOk result (length firsts.old.items ≡ 0
-        → is_stop (event_at (plain_events events.now) place) ≡ false
-        → get_or firsts.new.items 0 0 ≡ place) }
+    ensures keeps { OnOk result (KeepsNumbers numbers.old firsts.old numbers.new firsts.new) }
+    ensures numbered { OnOk result (NumbersItem events.now place numbers.new firsts.new) }
+    ensures first { OnOk result (BeginsAt events.now place firsts.old firsts.new) }
     ensures memory { OnlyMemory result }
 {
     if !events.has_item(place) {
@@ -69,19 +62,14 @@ fn number_all(
     firsts: &mut Vec<usize>,
     places: &[usize],
 ) -> Result<(), Error>
-    requires plan { IsPlan (plain_events events.now)
-        (num_of classes.now) numbers.old.items firsts.old.items }
+    requires plan { IsPlanOf events.now classes.now numbers.old firsts.old }
     requires ids { HaveIds classes.now ids.old.items firsts.old.items }
     requires long { length classes.now ≡ length (plain_events events.now) }
     requires places { AllBelow (length (plain_events events.now)) places.now }
-    ensures plan { OnOk result (IsPlan (plain_events events.now)
-        (num_of classes.now) numbers.new.items firsts.new.items) }
+    ensures plan { OnOk result (IsPlanOf events.now classes.now numbers.new firsts.new) }
     ensures ids { OnOk result (HaveIds classes.now ids.new.items firsts.new.items) }
-    ensures keeps { OnOk result (Keeps numbers.old.items firsts.old.items
-        numbers.new.items firsts.new.items) }
-    ensures numbered { OnOk result ((i : ℕ) → i < length places.now
-        → is_stop (event_at (plain_events events.now) (get_or places.now i 0)) ≡ false
-        → IsNumbered numbers.new.items firsts.new.items (get_or places.now i 0)) }
+    ensures keeps { OnOk result (KeepsNumbers numbers.old firsts.old numbers.new firsts.new) }
+    ensures numbered { OnOk result (NumbersItems events.now places.now numbers.new firsts.new) }
     ensures memory { OnlyMemory result }
 {
     for place in places {
@@ -108,12 +96,9 @@ pub fn number_by_class(
 ) -> Result<Numbering, Error>
     requires long { length classes.now ≡ length (plain_events events.now) }
     requires below { AllBelow count classes.now }
-    ensures plan { IfOk result (λ r. IsPlan (plain_events events.now)
-        (num_of classes.now) r.numbers.items r.firsts.items) }
-    ensures all { IfOk result (λ r. (t : Tree) → plain_events events.now ≡ shape t
-        → AllNumbered (plain_events events.now) r.numbers.items (length r.firsts.items)) }
-    ensures root { IfOk result (λ r. (t : Tree) → plain_events events.now ≡ shape t
-        → num_of r.numbers.items 0 ≡ 0) }
+    ensures plan { IfOk result (λ r. IsPlanOf events.now classes.now r.numbers r.firsts) }
+    ensures all { IfOk result (NumbersTree events.now) }
+    ensures root { IfOk result (NumbersRoot events.now) }
     ensures memory { OnlyMemory result }
 {
     let mut numbers = vec![in alloc; NO_NUMBER; events.len()]?;

@@ -46,8 +46,7 @@ pub fn plan_by_class(alloc: Global, events: &Held<'_>, classes: Classes) -> Resu
     requires below { AllBelow classes.count classes.of.items }
     requires classes { AreClasses (plain_events events.now) (num_of classes.of.items) }
     ensures planned { IfOk result (λ plan. IsPlanned (plain_events events.now) plan) }
-    ensures goes { IfOk result (λ plan. GoesBy (plain_events events.now)
-        (num_of classes.of.items) plan) }
+    ensures goes { IfOk result (GoesBy (plain_events events.now) (num_of classes.of.items)) }
     ensures memory { OnlyMemory result }
 {
     let numbering = number_by_class(alloc, events, classes.of.as_slice(), classes.count)?;

@@ -1,7 +1,8 @@
 -- The entries by which events are held: what they show, and what holds of them.
 use Rattle.std.specs.Prelude.{◌≡◌, ℕ, ◌+◌, ◌<◌, Bool, true, false, List, length, get_or, map, reverse, None, Some, slice_get}
 use Rattle.plist_base.specs.Bracketing.{unhinted}
-use Rattle.plist_base.specs.Events.{PlainEvent, StartArray, StartDictionary, EndCollection, Single}
+use Rattle.plist_base.specs.declared.event.Event.{Event}
+use Rattle.plist_base.specs.Events.{PlainEvent, event_of, StartArray, StartDictionary, EndCollection, Single}
 use Rattle.plist_binwrite.specs.Standing.{IsSkips}
 use Rattle.plist_binwrite.specs.inner.Opening.{open_after}
 use Rattle.plist_binwrite.specs.declared.held.Entry.{Entry}
@@ -56,6 +57,10 @@ behind_of place entry.End = place + 1
 abbrev pub behind_at : List Entry → (place : ℕ) → ℕ
 behind_at entries place = behind_of place (entry_at entries place)
 
+-- a start that has no end yet has the place behind itself
+abbrev pub IsUnclosed : (place : ℕ) → Entry → Type 0
+IsUnclosed place entry = behind_of place entry ≡ place + 1
+
 -- the entry with this place behind its end
 abbrev pub closed_at : Entry → ℕ → Entry
 closed_at (entry.Array old) behind = entry.Array behind
@@ -63,10 +68,14 @@ closed_at (entry.Dictionary old) behind = entry.Dictionary behind
 closed_at (entry.Scalar place) behind = entry.Scalar place
 closed_at entry.End behind = entry.End
 
--- what always holds: the scalars are different ones, and each entry of a scalar names one; these are
--- the starts that have no end, the innermost last; and the entries tell where trees end
+-- what always holds: the scalars are different ones, and each entry of a scalar names one; these
+-- are the starts that have no end, the innermost last; and the entries tell where trees end
 pub record IsKept (scalars : List PlainEvent) (entries : List Entry) (begun : List ℕ) : Type 0 where
   pub apart : AreApart scalars
   pub sound : (p : ℕ) → p < length entries → is_sound scalars (entry_at entries p) ≡ true
   pub starts : reverse begun ≡ open_after (all_shown scalars entries)
   pub skips : IsSkips (all_shown scalars entries) (behind_at entries)
+
+-- the same of events, which are the different scalars
+abbrev pub KeepsScalars : List Event → List Entry → (begun : List ℕ) → Type 0
+KeepsScalars scalars entries begun = IsKept (map event_of scalars) entries begun

@@ -7,7 +7,8 @@ abbrev pub without_innermost : List ℕ → List ℕ
 without_innermost [] = []
 without_innermost (place ∷ outer) = outer
 
--- the places of the starts that have no end yet, innermost first, once the event at a place has come
+-- the places of the starts that have no end yet, innermost first, once the event at a place has
+-- come
 abbrev pub open_behind : PlainEvent → (place : ℕ) → (begun : List ℕ) → List ℕ
 open_behind (StartArray hint) place begun = place ∷ begun
 open_behind (StartDictionary hint) place begun = place ∷ begun
