@@ -99,7 +99,8 @@ less-to-compare before mid after p is some most =
 nothing-left : (l : List Pair) (o : Option Pair) (n : ℕ) → n ≡ length l → (IsSome o ↔ (0 < n))
     → o ≡ None → l ≡ []
 nothing-left [] o n e h none = refl
-nothing-left (p ∷ l) o n e h none = absurd (true≢false (sym (subst IsSome none (h.1 (omega (arith, e))))))
+nothing-left (p ∷ l) o n e h none =
+    absurd (true≢false (sym (subst IsSome none (h.1 (omega (arith, e))))))
 
 -- the last pair is taken, or there is none
 pub taken : (was l m : List Pair) (o : Option Pair) (n : ℕ) → was ≡ l → n ≡ length l
@@ -299,8 +300,8 @@ get-within [] i k v e = none-at (k, v) e
 get-within (p ∷ ps) zero k v e = omega arith
 get-within (p ∷ ps) (suc i) k v e = let r = get-within ps i k v e in omega (arith, r)
 
-module _ (ps qs : Rows) (d : IsDistinct bytes_eq (keys_of ps)) (e : IsDistinct bytes_eq (keys_of qs))
-    (same-count : length ps ≡ length qs) where
+module _ (ps qs : Rows) (d : IsDistinct bytes_eq (keys_of ps))
+    (e : IsDistinct bytes_eq (keys_of qs)) (same-count : length ps ≡ length qs) where
   agrees : are_covered ps qs ≡ true → (i : ℕ) → i < length ps → (x : List ℕ)
       → option_eq same_values (lookup (bytes_eq (get_or (keys_of ps) i x)) ps)
       (lookup (bytes_eq (get_or (keys_of ps) i x)) qs) ≡ true

@@ -43,3 +43,13 @@ module _ {I V : Type 0} (next_gives : I → Option (String Global × V) → I �
   IsMadeOf made =
       (taken : List (String Global × V)) × Drains next_gives iter taken
       × (made ≡ insert_all bytes_eq [] (map shown_owned_pair taken))
+
+-- one is made of something: the same of its pairs
+module _ {I J V : Type 0} (becomes : J → I → Type 0)
+    (next_gives : I → Option (String Global × V) → I → Type 0) (made : J) where
+  abbrev pub Adds : Rows V → Result (Unit {0}) Error → Rows V → Type 0
+  Adds old answer new =
+      (iter : I) × becomes made iter × ExtendsBy next_gives iter old answer new
+
+  abbrev pub IsMadeFrom : Rows V → Type 0
+  IsMadeFrom pairs = (iter : I) × becomes made iter × IsMadeOf next_gives iter pairs

@@ -1,9 +1,13 @@
 -- What a writer is handed.
-use Rattle.std.specs.Prelude.{◌≡◌, ◌⊎◌, List, [], ◌∷◌, ◌++◌, Ok, Err}
+use Rattle.std.specs.Prelude.{◌≡◌, ◌⊎◌, List, [], ◌∷◌, ◌++◌, Result, Ok, Err}
+use Rattle.plist_base.specs.declared.error.Error.{Error}
+use Rattle.plist_base.specs.Bracketing.{bracketing}
 use Rattle.plist_base.specs.Events.{PlainEvent, Item}
 use Rattle.plist_base.specs.Faults.{Fault, fault_nowhere, OutOfMemory}
-use Rattle.plist_base.specs.Writing.{Answer}
+use Rattle.plist_base.specs.Writing.{Answer, answer_of}
 use Rattle.plist.specs.Events.{BeginsWithStart}
+use Rattle.plist.specs.declared.value.Value.{Value}
+use Rattle.plist.specs.Views.{tree_of}
 
 module _ {S : Type 0} (Step : S → PlainEvent → Answer → S → Type 0) where
   -- the writer took these events, one step for each
@@ -30,6 +34,11 @@ module _ {S : Type 0} (Step : S → PlainEvent → Answer → S → Type 0) wher
       (taken : List PlainEvent) × (left : List PlainEvent) × (events ≡ taken ++ left)
       × ((between : S) × Took before taken between
       × (RefusesNext between left fault after ⊎ WantsMemory between left fault after))
+
+  -- the events of a value
+  abbrev pub HandsValue : (before : S) → Value → Result (Unit {0}) Error → (after : S) → Type 0
+  HandsValue before value answer after =
+      Hands before (bracketing (tree_of value)) (answer_of answer) after
 
   -- one item
   abbrev pub HandsItem : (before : S) → Item → Answer → (after : S) → Type 0

@@ -46,7 +46,8 @@ abbrev pub Answers : Option (List Item) → Result Tree Fault → Type 0
 Answers items answer = IfSome items (λ all. IsReadFrom all answer)
 
 -- the value of the items that known bytes have
-abbrev pub ReadsItems : (List ℕ → List Item) → (known : Option (List ℕ)) → Result Value Error → Type 0
+abbrev pub ReadsItems : (List ℕ → List Item) → (known : Option (List ℕ)) → Result Value Error
+    → Type 0
 ReadsItems items_of known answer =
     IfSome known (λ bytes. IsReadFrom (items_of bytes) (built_tree answer))
 

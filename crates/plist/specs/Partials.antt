@@ -1,13 +1,18 @@
 -- What the run-time state of a builder holds.
-use Rattle.std.specs.Prelude.{◌≡◌, List, [], ◌∷◌, Option, Some, None, map, reverse, string_bytes}
-use Rattle.plist_base.specs.Events.{PlainEvent}
+use Rattle.std.specs.Prelude.{◌≡◌, List, [], ◌∷◌, Option, Some, None, MatchOption, String, map, option_map, reverse, string_bytes}
+use Rattle.std.specs.declared.alloc.Global.{Global}
+use Rattle.plist_base.specs.declared.error.ErrorKind.{ErrorKind}
+use Rattle.plist_base.specs.declared.event.Event.{Event}
+use Rattle.plist_base.specs.Events.{PlainEvent, Single, event_of}
+use Rattle.plist_base.specs.Faults.{kind_of}
+use Rattle.plist_base.specs.Trees as scalar
 use Rattle.plist.specs.declared.partial.Open.{Open}
 use Rattle.plist.specs.declared.partial.Open.TheVariants as run
 use Rattle.plist.specs.declared.partial.Partial.{Partial}
 use Rattle.plist.specs.declared.value.Value.{Value}
-use Rattle.plist.specs.Building.{OpenCollection, InArray, InDictionary, AfterKey, Unfinished, NotBegun, Within, Complete}
+use Rattle.plist.specs.Building.{OpenCollection, InArray, InDictionary, AfterKey, Unfinished, NotBegun, Within, Complete, refusal_of}
 use Rattle.plist.specs.LastWins.{last_values, with_pair}
-use Rattle.plist.specs.inner.Steps.{carried_on}
+use Rattle.plist.specs.inner.Steps.{and_tree, carried_on}
 use Rattle.plist.specs.Views.{tree_of, tree_pairs}
 
 -- an open collection with its trees; a dictionary's keys stand once each, so its last values are
@@ -35,3 +40,27 @@ unfinished_of partial = held_by partial.root (reverse partial.collections.items)
 abbrev pub CarriesOn : (before : Partial) → PlainEvent → (after : Partial) → Type 0
 CarriesOn before event after =
     carried_on with_pair (unfinished_of before) event ≡ Some (unfinished_of after)
+
+-- a text does
+abbrev pub TakesText : (before : Partial) → String Global → (after : Partial) → Type 0
+TakesText before text after = CarriesOn before (Single (scalar.String (string_bytes text))) after
+
+-- a value stands where the next one belongs
+abbrev pub AddsValue : (before : Partial) → Value → (after : Partial) → Type 0
+AddsValue before value after =
+    unfinished_of after ≡ and_tree with_pair (tree_of value) (collections_of before)
+
+-- a collection was opened inside those that are open
+abbrev pub Opens : (before : Partial) → Open → (after : Partial) → Type 0
+Opens before collection after =
+    unfinished_of after ≡ Within (open_of collection) (collections_of before)
+
+-- why the event can't come next, if it can't
+abbrev pub IsRefusalOf : Partial → Event → Option ErrorKind → Type 0
+IsRefusalOf partial event found =
+    option_map kind_of found ≡ refusal_of (unfinished_of partial) (event_of event)
+
+-- nothing is held where the root was taken out, and else nothing changed
+abbrev pub IsLeft : (before : Partial) → Option Value → (after : Partial) → Type 0
+IsLeft before taken after =
+    MatchOption taken (after ≡ before) (λ _. unfinished_of after ≡ NotBegun)

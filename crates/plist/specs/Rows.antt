@@ -21,8 +21,8 @@ array_row = vec.the_row the_row global.the_row ghosts
 abbrev pub dictionary_row : RattleType
 dictionary_row = pairs.the_row the_row
 
--- the value ends as an array, or a dictionary, of what the reference lends, and as it was where there
--- is none
+-- the value ends as an array, or a dictionary, of what the reference lends, and as it was where
+-- there is none
 abbrev pub LendsArray : MutBor Value → Option (MutBor (Vec Value Global)) → Value → Fml
 LendsArray value lent old = LendsIf the_row array_row value lent made.Array old
 

@@ -1,12 +1,15 @@
 -- What goes out where a value is written as a binary property list.
-use Rattle.std.specs.Prelude.{◌≡◌, ℕ, ◌^◌, ◌≤◌, List, Option, None, Ok, Err, ⊤}
+use Rattle.std.specs.Prelude.{◌≡◌, ℕ, ◌^◌, ◌≤◌, List, Option, None, Result, Ok, Err, ⊤}
 use Rattle.std.specs.Io.KnownBytes.{Appends}
+use Rattle.plist_base.specs.declared.error.Error.{Error}
 use Rattle.plist_base.specs.Faults.{FaultKind, Io, OutOfMemory, PlistTooLarge}
 use Rattle.plist_base.specs.Trees.{Tree}
-use Rattle.plist_base.specs.Writing.{Answer}
+use Rattle.plist_base.specs.Writing.{Answer, answer_of}
 use Rattle.plist_binwrite.specs.Files.{IsFileOf}
 use Rattle.plist_base.specs.Fronts.{AppendsFront}
 use Rattle.plist_binwrite.specs.Sizes.{file_size}
+use Rattle.plist.specs.declared.value.Value.{Value}
+use Rattle.plist.specs.Views.{tree_of}
 
 -- why no file of the tree is made: its size, which is 2^64 or more, or want of memory
 abbrev pub StopsFile : FaultKind → Tree → Type 0
@@ -27,3 +30,7 @@ module _ {W : Type 0} (contents : W → Option (List ℕ)) where
   SendsTree tree (Ok done) old new =
       (file : List ℕ) × IsFileOf tree file × Appends (contents old) (contents new) file
   SendsTree tree (Err fault) old new = (fault.offset ≡ None) × StopsSending fault.kind tree old new
+
+  -- the same of a value's tree
+  abbrev pub SendsValue : Value → Result (Unit {0}) Error → (old new : W) → Type 0
+  SendsValue value answer old new = SendsTree (tree_of value) (answer_of answer) old new

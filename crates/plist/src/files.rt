@@ -1,12 +1,11 @@
 //! Values in files.
 
-ghost use Rattle.std.specs.Prelude.{◌≡◌, None, IfErr, IsSome, OnOk};
+ghost use Rattle.std.specs.Prelude.{None, IfErr, IsSome, OnOk};
 ghost use Rattle.std.specs.Io.{WritesAtMost};
 ghost use Rattle.std.specs.Io.KnownBytes.{WriteAppends};
 ghost use Rattle.plist_base.specs.Faults.{fault_of};
 ghost use Rattle.plist_base.specs.Outcomes.{OnlyDevice};
-ghost use Rattle.plist_base.specs.Writing.{answer_of};
-ghost use Rattle.plist.specs.Sent.{SendsTree};
+ghost use Rattle.plist.specs.Sent.{SendsValue};
 ghost use Rattle.plist.specs.Stored.{IsUnstored};
 ghost use Rattle.plist.specs.Views.{tree_of};
 
@@ -18,7 +17,8 @@ use std::io::Write;
 use std::rt::Files;
 use std::{fs, io};
 
-/// A file that is created, or cut, at its first write. Where nothing is written, it stays as it was.
+/// A file that is created, or cut, at its first write. Where nothing is written, it stays as it
+/// was.
 #[derive(Drop)]
 pub struct Output<'a, R: Files> {
     rt: &'a R,
@@ -84,7 +84,7 @@ impl<'a, R: Files> Output<'a, R> {
     // Writes a file of the value and has it stored. Where memory or size refuse, there is no file
     // now where there was none.
     fn store(&mut self, alloc: Global, value: &Value) -> Result<(), Error>
-        ensures { SendsTree (λ _. None) (tree_of value.now) (answer_of result) self.old self.new }
+        ensures { SendsValue (λ _. None) value.now result self.old self.new }
     {
         value.to_writer_binary(alloc, self)?;
         self.sync()

@@ -1,14 +1,11 @@
 //! A value that isn't complete yet: the open collections, and at last the root.
 
-ghost use Rattle.std.specs.Prelude.{◌≡◌, None, Some, MatchOption, OnOk, option_map, string_bytes};
+ghost use Rattle.std.specs.Prelude.{◌≡◌, None, OnOk, option_map};
 ghost use Rattle.plist_base.specs.Events as events;
-ghost use Rattle.plist_base.specs.Events.{Single, event_of};
+ghost use Rattle.plist_base.specs.Events.{event_of};
 ghost use Rattle.plist_base.specs.Faults.{kind_of};
-ghost use Rattle.plist_base.specs.Trees as scalar;
-ghost use Rattle.plist.specs.Building.{NotBegun, Within, complete_tree, refusal_of, refusal_of_key, refusal_of_value};
-ghost use Rattle.plist.specs.LastWins.{with_pair};
-ghost use Rattle.plist.specs.Partials.{CarriesOn, collections_of, open_of, unfinished_of};
-ghost use Rattle.plist.specs.inner.Steps.{and_tree};
+ghost use Rattle.plist.specs.Building.{NotBegun, complete_tree, refusal_of, refusal_of_key, refusal_of_value};
+ghost use Rattle.plist.specs.Partials.{AddsValue, CarriesOn, IsLeft, IsRefusalOf, Opens, TakesText, unfinished_of};
 ghost use Rattle.plist.specs.Views.{tree_of};
 
 use crate::{Dictionary, Value};
@@ -80,8 +77,7 @@ impl Partial {
 
     /// Why the event can't come next, if it can't.
     pub(crate) fn refusal(&self, event: &Event<'_>) -> Option<ErrorKind>
-        ensures { option_map kind_of result
-            ≡ refusal_of (unfinished_of self.now) (event_of event.now) }
+        ensures { IsRefusalOf self.now event.now result }
     {
         if self.root.is_some() {
             return Some(ErrorKind::ExpectedEndOfEventStream {
@@ -98,8 +94,7 @@ impl Partial {
     // Opens a collection.
     fn begin(&mut self, collection: Open) -> Result<(), AllocError>
         requires { self.old.root ≡ None }
-        ensures { OnOk result (unfinished_of self.new
-            ≡ Within (open_of collection) (collections_of self.old)) }
+        ensures { OnOk result (Opens self.old collection self.new) }
     {
         self.collections.push(collection)?;
         Ok(())
@@ -108,8 +103,7 @@ impl Partial {
     // Puts a complete value where it belongs.
     fn add(&mut self, value: Value) -> Result<(), AllocError>
         requires { self.old.root ≡ None }
-        ensures { OnOk result (unfinished_of self.new
-            ≡ and_tree with_pair (tree_of value) (collections_of self.old)) }
+        ensures { OnOk result (AddsValue self.old value self.new) }
     {
         match self.collections.pop() {
             None => self.root = Some(value),
@@ -149,8 +143,7 @@ impl Partial {
     // Puts a text where it belongs, as a key or as a value.
     fn add_text(&mut self, text: String) -> Result<(), AllocError>
         requires { self.old.root ≡ None }
-        ensures { OnOk result
-            (CarriesOn self.old (Single (scalar.String (string_bytes text))) self.new) }
+        ensures { OnOk result (TakesText self.old text self.new) }
     {
         match self.collections.pop() {
             Some(Open::Dictionary(pairs)) => {
@@ -189,8 +182,7 @@ impl Partial {
     /// Takes the root out, if it is complete; nothing is held then.
     pub(crate) fn take_root(&mut self) -> Option<Value>
         ensures root { option_map tree_of result ≡ complete_tree (unfinished_of self.old) }
-        ensures left { MatchOption result (self.new ≡ self.old)
-            (λ _. unfinished_of self.new ≡ NotBegun) }
+        ensures left { IsLeft self.old result self.new }
     {
         let root = self.root.take()?;
         self.collections.clear();

@@ -2,8 +2,7 @@
 
 ghost use Rattle.std.specs.Prelude.{◌≡◌, ◌+◌, IfOk, IfSome, option_map, string_bytes};
 ghost use Rattle.plist_base.specs.Bracketing.{bracketing};
-ghost use Rattle.plist_base.specs.Writing.{answer_of};
-ghost use Rattle.plist.specs.Sent.{SendsTree};
+ghost use Rattle.plist.specs.Sent.{SendsValue};
 ghost use Rattle.plist.specs.Collecting.{built_tree};
 ghost use Rattle.plist.specs.Contents.{array_in, data_in, dictionary_in, text_in};
 ghost use Rattle.plist.specs.Inputs.{AnswersOf, CollectsOf, Ends, ReadsItems, TellsTrees};
@@ -280,8 +279,7 @@ impl Value {
     /// - `Io` where a write failed or took no byte, and where the flush failed: a beginning of the
     ///   file went out, all of it where the flush failed.
     pub fn to_writer_binary<W: Write>(&self, alloc: Global, writer: &mut W) -> Result<(), Error>
-        ensures sent { SendsTree W.contents (tree_of self.now)
-            (answer_of result) writer.old writer.new }
+        ensures sent { SendsValue W.contents self.now result writer.old writer.new }
     {
         match collect_events(alloc, self) {
             Ok(events) => complete(alloc, &events, writer),

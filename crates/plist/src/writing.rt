@@ -1,12 +1,12 @@
 //! Values as the events that a writer takes.
 
 ghost use Rattle.std.specs.Prelude.{◌≡◌, IfOk};
-ghost use Rattle.plist_base.specs.Bracketing.{bracketing, shape};
+ghost use Rattle.plist_base.specs.Bracketing.{shape};
 ghost use Rattle.plist_base.specs.Events.{item_of};
 ghost use Rattle.plist_base.specs.Outcomes.{OnlyMemory};
 ghost use Rattle.plist_base.specs.Writing.{answer_of};
 ghost use Rattle.plist_binwrite.specs.Held.{plain_events};
-ghost use Rattle.plist.specs.Handing.{Hands, HandsItem};
+ghost use Rattle.plist.specs.Handing.{HandsItem, HandsValue};
 ghost use Rattle.plist.specs.Views.{tree_of};
 
 use crate::Value;
@@ -29,8 +29,7 @@ fn hand<W: Writer>(writer: &mut W, item: Result<Event<'_>, Error>) -> Result<(),
 /// The writer's first refusal, after which it is handed nothing more; and `OutOfMemory` where the
 /// events of the value want memory, in the place of a start.
 pub fn write_value<W: Writer>(alloc: Global, value: &Value, writer: &mut W) -> Result<(), Error>
-    ensures handed { Hands W.Step writer.old (bracketing (tree_of value.now))
-        (answer_of result) writer.new }
+    ensures handed { HandsValue W.Step writer.old value.now result writer.new }
 {
     let mut events = value.events(alloc);
     while let Some(item) = events.next() {

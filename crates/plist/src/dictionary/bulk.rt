@@ -11,8 +11,8 @@ use plist_base::{Error, ErrorKind};
 use std::alloc::Global;
 
 impl<V> Pairs<V> {
-    ghost use Rattle.std.specs.Iterator.{IsFinite};
-    ghost use Rattle.plist.specs.Bulk.{ExtendsBy, IsMadeOf, Retains};
+    ghost use Rattle.plist.specs.Bulk.{Adds, IsMadeFrom, Retains};
+    ghost use Rattle.plist.specs.Inputs.{Ends};
 
     /// Keeps the pairs for which the closure answers `true`, in their order, and drops the others.
     /// It asks once for each pair, in their order.
@@ -38,16 +38,14 @@ impl<V> Pairs<V> {
     ///
     /// `OutOfMemory`: the pairs before the one that found no memory are inserted; that one and
     /// those behind it are dropped.
-    pub fn extend<I: IntoIterator<Item = (String, V)>>(&mut self, pairs: I) -> Result<(), Error>
+    pub fn extend<I: IntoIterator<Item = (String, V)>>(&mut self, more: I) -> Result<(), Error>
     where
         V: Drop,
-        requires asked { (iter : I.IntoIter) → I.into_iter_gives pairs iter
-            → I.IntoIter.can_next iter × IsFinite (I.IntoIter.remaining iter) }
-        ensures pairs { (iter : I.IntoIter) × I.into_iter_gives pairs iter
-            × ExtendsBy I.IntoIter.next_gives iter self.old result self.new }
+        requires asked { Ends I.into_iter_gives I.IntoIter.can_next I.IntoIter.remaining more }
+        ensures pairs { Adds I.into_iter_gives I.IntoIter.next_gives more self.old result self.new }
         ensures memory { OnlyMemory result }
     {
-        let mut rest = pairs.into_iter();
+        let mut rest = more.into_iter();
         while let Some((key, value)) = rest.next() {
             match self.insert(key, value) {
                 Ok(_old) => {}
@@ -68,10 +66,8 @@ impl<V> Pairs<V> {
     ) -> Result<Pairs<V>, Error>
     where
         V: Drop,
-        requires asked { (iter : I.IntoIter) → I.into_iter_gives pairs iter
-            → I.IntoIter.can_next iter × IsFinite (I.IntoIter.remaining iter) }
-        ensures pairs { IfOk result (λ made. (iter : I.IntoIter) × I.into_iter_gives pairs iter
-            × IsMadeOf I.IntoIter.next_gives iter made) }
+        requires asked { Ends I.into_iter_gives I.IntoIter.can_next I.IntoIter.remaining pairs }
+        ensures pairs { IfOk result (IsMadeFrom I.into_iter_gives I.IntoIter.next_gives pairs) }
         ensures memory { OnlyMemory result }
     {
         let mut made = Pairs::new(alloc);

@@ -174,7 +174,8 @@ impl<'a, V> Entry<'a, V> {
         }
     }
 
-    /// The same, with the value that the closure gives. It is called only where the key isn't there.
+    /// The same, with the value that the closure gives, which is called only where the key isn't
+    /// there.
     ///
     /// # Errors
     ///

@@ -115,8 +115,8 @@ compare_items-returns t c =
     ) in
     let now = are_same (waiting c.loop-i.self) in
     let so = c.loop-i.invariant.1 in (
-      sym (λ j. same_items (item_trees (drop-all vs i past j)) (item_trees (drop-all ws i past-too j))
-          && now)
+      sym (λ j. same_items (item_trees (drop-all vs i past j))
+          (item_trees (drop-all ws i past-too j)) && now)
           ∙ c.loop-i.invariant.0,
       omega (arith, so),
     )

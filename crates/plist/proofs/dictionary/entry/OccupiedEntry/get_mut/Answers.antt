@@ -16,7 +16,8 @@ same_entry : {V : Type 0} (o : OccupiedEntry V) (w : V)
     { pairs = record o.pairs { now = set_value_at o.pairs.now o.at w }; at = o.at; within = p })
     (with_entry_value o w)
 same_entry o w p =
-    let one : IsProp (o.at < length (set_value_at o.pairs.now o.at w)) = hlevel props in λ i. record {
+    let one : IsProp (o.at < length (set_value_at o.pairs.now o.at w)) = hlevel props in
+    λ i. record {
       pairs = record o.pairs { now = set_value_at o.pairs.now o.at w };
       at = o.at;
       within = one p
