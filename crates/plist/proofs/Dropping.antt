@@ -29,9 +29,7 @@ by-square a b o p less le =
 pub less-by-one : (xs ys : List Value) (v : Value) → weight v ≡ 1 → ys ≡ xs ++ v ∷ []
     → to_drop xs < to_drop ys
 less-by-one xs ys v one is =
-    let t : weights ys ≡ weights xs + weights (v ∷ []) =
-    ap weights is ∙ weights-append xs (v ∷ [])
-    in
+    let t : weights ys ≡ weights xs + weights (v ∷ []) = ap weights is ∙ weights-append xs _ in
     by-square (weights xs) (weights ys) (weights (others xs)) (weights (others ys))
     (omega (arith, t, one, weights-more v [])) (others-le xs)
 

@@ -1,15 +1,18 @@
 -- What becomes of a source's property list where its file is sent without a value.
-use Rattle.std.specs.Prelude.{◌≡◌, ◌⊎◌, ℕ, List, Option, Result, Ok, Err, IfSome}
+use Rattle.std.specs.Prelude.{◌≡◌, ◌⊎◌, ℕ, List, Option, Result, Ok, Err, IfErr, IfOk, IfSome}
 use Rattle.std.specs.Option.{option_map}
 use Rattle.plist_base.specs.Bracketing.{bracketing, AreAlike, AreWhole}
+use Rattle.plist_base.specs.declared.error.Error.{Error}
 use Rattle.plist_base.specs.declared.source.Source.{Ghosts}
 use Rattle.plist_base.specs.Events.{PlainEvent, Item}
-use Rattle.plist_base.specs.Faults.{Fault}
+use Rattle.plist_base.specs.Faults.{Fault, fault_of}
 use Rattle.plist_base.specs.Trees.{Tree}
 use Rattle.plist_base.specs.Writing.{Answer}
 use Rattle.plist_binread.specs.BinaryReader.{source_of, to_come}
 use Rattle.plist_binread.specs.declared.counter.DecodeCounter.{Ghosts as CounterGhosts}
 use Rattle.plist_binread.specs.declared.reader.BinaryReader.{BinaryReader}
+use Rattle.plist_binwrite.specs.declared.pending.Pending.{Pending}
+use Rattle.plist_binwrite.specs.Pendings.{events_held}
 use Rattle.plist_reader.specs.declared.format.Format.TheVariants.{Binary}
 use Rattle.plist_reader.specs.Formats.{format_of}
 use Rattle.plist_reader.specs.Reader.{items_of_input}
@@ -46,6 +49,18 @@ module _ {W : Type 0} (contents : W → Option (List ℕ)) (known : Option (List
   IsStopped fault old new =
       ((new ≡ old) × IsReadAs known (Err fault)) ⊎ SendsRead (Err fault) old new
 
+  -- all of it goes out
+  abbrev pub SendsAll : (old new : W) → Type 0
+  SendsAll old new = SendsRead (Ok tt) old new
+
+  -- the only refusal is a fault for which it stops
+  abbrev pub IsStoppedFor : {A : Type 0} → Result A Error → (old new : W) → Type 0
+  IsStoppedFor answer old new = IfErr answer (λ error. IsStopped (fault_of error) old new)
+
+-- this is so where a call is done with this answer
+abbrev pub IfOkIs : {A E : Type 0} → Result A E → A → Type 0 → Type 0
+IfOkIs answer wanted P = IfOk answer (λ found. found ≡ wanted → P)
+
 -- ---- the events of a reader, held
 
 -- the items that a reader has still to give, where its source's bytes are known
@@ -58,6 +73,15 @@ abbrev pub HoldsTree : (items : Option (List Item)) → (held : List PlainEvent)
 HoldsTree items held =
     AreWhole held
     × IfSome items (λ all. (tree : Tree) × AreOf all tree × AreAlike held (bracketing tree))
+
+-- what is found holds the events of a tree, and the items are of that tree
+abbrev pub FindsTree : (items : Option (List Item)) → Result (Option Pending) Error → Type 0
+FindsTree items answer =
+    IfOk answer (λ found. IfSome found (λ pending. HoldsTree items (events_held pending)))
+
+-- the only refusal is what a value of the items is refused for
+abbrev pub IsRefusedFor : {A : Type 0} → (items : Option (List Item)) → Result A Error → Type 0
+IsRefusedFor items answer = IfErr answer (λ error. Answers items (Err (fault_of error)))
 
 -- the items are no tree's
 abbrev pub AreNoTree : (items : Option (List Item)) → Type 0

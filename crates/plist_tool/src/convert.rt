@@ -1,11 +1,8 @@
 //! Writes a property list as a binary one.
 
-ghost use Rattle.std.specs.Prelude.{◌≡◌, None, Ok, Err, IfErr, IfOk, IfSome};
-ghost use Rattle.plist_base.specs.Faults.{fault_of};
+ghost use Rattle.std.specs.Prelude.{◌≡◌, None};
 ghost use Rattle.plist_binread.specs.BinaryReader.{source_of};
-ghost use Rattle.plist_binwrite.specs.Pendings.{events_held};
-ghost use Rattle.plist.specs.Inputs.{Answers};
-ghost use Rattle.plist_tool.specs.Converting.{AreNoTree, HoldsTree, IsNoBinaryTree, IsReadAs, IsStopped, LeavesToValue, SendsRead, items_left, items_of};
+ghost use Rattle.plist_tool.specs.Converting.{AreNoTree, FindsTree, IfOkIs, IsNoBinaryTree, IsRefusedFor, IsStoppedFor, LeavesToValue, SendsAll, items_left, items_of};
 ghost use Rattle.plist_tool.specs.Printing.{CountsReadsOf, LeavesSource};
 ghost use Rattle.plist_tool.specs.declared.convert.Streamed.TheVariants.{NeedsValue, Sent};
 
@@ -35,11 +32,9 @@ fn hold_events<S: Source>(
     alloc: Global,
     reader: &mut BinaryReader<S>,
 ) -> Result<Option<Pending>, Error>
-    ensures held { IfOk result (λ found. IfSome found (λ pending.
-        HoldsTree (items_left S.known reader.old) (events_held pending))) }
-    ensures none { IfOk result (λ found. found ≡ None → AreNoTree (items_left S.known reader.old)) }
-    ensures refused { IfErr result (λ error.
-        Answers (items_left S.known reader.old) (Err (fault_of error))) }
+    ensures held { FindsTree (items_left S.known reader.old) result }
+    ensures none { IfOkIs result None (AreNoTree (items_left S.known reader.old)) }
+    ensures refused { IsRefusedFor (items_left S.known reader.old) result }
     ensures unchanged { S.known (source_of reader.new) ≡ S.known (source_of reader.old) }
     ensures failures { CountsReadsOf S.failures reader.old result reader.new }
 {
@@ -67,10 +62,9 @@ fn hold_events<S: Source>(
 
 // Holds the events of a binary file, where they are those of a tree. The source isn't needed then.
 fn hold_file<S: Source>(alloc: Global, source: S) -> Result<Option<Pending>, Error>
-    ensures held { IfOk result (λ found. IfSome found (λ pending.
-        HoldsTree (items_of (S.known source)) (events_held pending))) }
-    ensures none { IfOk result (λ found. found ≡ None → IsNoBinaryTree (S.known source)) }
-    ensures refused { IfErr result (λ error. IsReadAs (S.known source) (Err (fault_of error))) }
+    ensures held { FindsTree (items_of (S.known source)) result }
+    ensures none { IfOkIs result None (IsNoBinaryTree (S.known source)) }
+    ensures refused { IsRefusedFor (items_of (S.known source)) result }
     ensures failures { (left : S) × LeavesSource S.known S.failures source result left }
 {
     let mut source = source;
@@ -83,24 +77,22 @@ fn hold_file<S: Source>(alloc: Global, source: S) -> Result<Option<Pending>, Err
     hold_events(alloc, &mut reader)
 }
 
-/// Sends the property list of a binary source as a binary file, without a value, where no key stands
-/// twice in a dictionary. All of the source is read before the first byte goes out, and what goes out
-/// is what [`Value::to_writer_binary`] sends of the value that [`Value::from_reader`] gives.
+/// Sends the property list of a binary source as a binary file, without a value, where no key
+/// stands twice in a dictionary. All of the source is read before the first byte goes out, and what
+/// goes out is what [`Value::to_writer_binary`] sends of the value that [`Value::from_reader`]
+/// gives.
 ///
 /// # Errors
-/// Those of [`Value::from_reader`], and nothing went out; those of [`Value::to_writer_binary`], with
-/// what went out then.
+/// Those of [`Value::from_reader`], and nothing went out; those of [`Value::to_writer_binary`],
+/// with what went out then.
 pub fn convert_binary<S: Source, W: Write>(
     alloc: Global,
     source: S,
     writer: &mut W,
 ) -> Result<Streamed, Error>
-    ensures sent { IfOk result (λ how. how ≡ Sent
-        → SendsRead W.contents (S.known source) (Ok tt) writer.old writer.new) }
-    ensures left { IfOk result (λ how. how ≡ NeedsValue
-        → LeavesToValue (S.known source) writer.old writer.new) }
-    ensures refused { IfErr result (λ error.
-        IsStopped W.contents (S.known source) (fault_of error) writer.old writer.new) }
+    ensures sent { IfOkIs result Sent (SendsAll W.contents (S.known source) writer.old writer.new) }
+    ensures left { IfOkIs result NeedsValue (LeavesToValue (S.known source) writer.old writer.new) }
+    ensures refused { IsStoppedFor W.contents (S.known source) result writer.old writer.new }
     ensures failures { (left : S) × LeavesSource S.known S.failures source result left }
 {
     let pending = match hold_file(alloc, source) {
@@ -217,7 +209,8 @@ mod tests {
         assert_missing(&rt, "plist_tool_of_xml")
     }
 
-    // `{a = 1, b = 2, a = 3}`, and what is written of it: the last value of a key in its first place.
+    // `{a = 1, b = 2, a = 3}`, and what is written of it: the last value of a key in its first
+    // place.
     const REPEATED: &[u8] = b"bplist00\
         \xd3\x01\x02\x01\x03\x04\x05\x51\x61\x51\x62\x10\x01\x10\x02\x10\x03\
         \x08\x0f\x11\x13\x15\x17\
