@@ -22,6 +22,24 @@ fn hold(room: &mut Vec<u8>, bytes: &[u8]) -> bool
     room.extend_from_slice(bytes).is_ok()
 }
 
+// Sends what waits, and then these bytes. It stands apart, since most bytes fit into the room.
+#[cold]
+#[inline(never)]
+fn pass_on<W: Write>(writer: &mut W, room: &mut Vec<u8>, bytes: &[u8]) -> Result<(), Error>
+    ensures { Puts (W.contents writer.old) room.old.items bytes.now
+        (answer_of result) (W.contents writer.new) room.new.items }
+{
+    match send(writer, room.as_slice()) {
+        Ok(()) => {}
+        Err(error) => return Err(error),
+    }
+    room.clear();
+    match send(writer, bytes) {
+        Ok(()) => Ok(()),
+        Err(error) => Err(error),
+    }
+}
+
 /// Bytes that fit wait in the room; where they don't, those that wait go out, and then these. The
 /// room never grows, so memory can't run out.
 ///
@@ -35,15 +53,7 @@ pub fn put<W: Write>(writer: &mut W, room: &mut Vec<u8>, bytes: &[u8]) -> Result
     if hold(room, bytes) {
         return Ok(());
     }
-    match send(writer, room.as_slice()) {
-        Ok(()) => {}
-        Err(error) => return Err(error),
-    }
-    room.clear();
-    match send(writer, bytes) {
-        Ok(()) => Ok(()),
-        Err(error) => Err(error),
-    }
+    pass_on(writer, room, bytes)
 }
 
 /// Sends what waits, and then has the writer pass on what it holds back.

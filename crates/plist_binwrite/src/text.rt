@@ -67,7 +67,12 @@ pub fn count_units(text: &str) -> usize
 pub fn is_ascii_text(text: &str) -> bool
     ensures value { result ≡ is_ascii_text text.now }
 {
-    text.as_bytes().iter().all(|byte| *byte < 128)
+    // without a stop, so that many bytes are looked at together
+    let mut ascii = true;
+    for byte in text.as_bytes() {
+        ascii &= *byte < 128;
+    }
+    ascii
 }
 
 fn put_ascii<W: Write>(writer: &mut W, room: &mut Vec<u8>, text: &str) -> Result<(), Error>
