@@ -1,10 +1,11 @@
 -- What is appended form by form.
-use Rattle.std.proofs.Common.{◌≡◌, ℕ, zero, suc, ◌+◌, ◌*◌, ◌/◌, ◌^◌, ◌<◌, ◌≤◌, ℤ, pos, negsuc, ◌≤ℤ◌, List, [], ◌∷◌, ◌++◌, length, refl, arith}
+use Rattle.std.proofs.Common.{◌≡◌, ℕ, zero, suc, ◌+◌, ◌-◌, ◌*◌, ◌/◌, ◌^◌, ◌<◌, ◌≤◌, ℤ, pos, negsuc, ◌≤ℤ◌, List, [], ◌∷◌, ◌++◌, length, take, drop, refl, ap, sym, ◌∙◌, arith}
 use Rattle.std.specs.Int.{byte_at}
 use Rattle.std.proofs.lemmas.Bool.{lt-ltb, le-ltb}
 use Rattle.std.proofs.lemmas.Int.{ints}
 use native.Mathlib.Nat.{div-eq_of_lt}
-use Rattle.plist_binwrite.specs.Forms.{big_endian, natural_form, integer_form, length_form, table_form, trailer_form}
+use Rattle.plist_binwrite.specs.Forms.{big_endian, doublings, least_width, natural_form, integer_form, length_form, table_form, trailer_form}
+use Rattle.plist_binwrite.proofs.Widths.{tail_of_digits}
 use Rattle.plist_binwrite.specs.Written.{reference_width, offset_width, ending}
 
 pub length_short : (high count : ℕ) → count < 15 → length_form high count ≡ (high * 16 + count) ∷ []
@@ -15,6 +16,17 @@ pub length_long : (high count : ℕ) → 15 ≤ count
     → length_form high count ≡ (high * 16 + 15) ∷ natural_form count
 unfolding length_form
 length_long high count h = rw (le-ltb count 15 h) refl
+
+-- the marker, the width of the length, and its digits
+pub length_told : (high count width doubled : ℕ) (digits : List ℕ) → 15 ≤ count
+    → width ≡ least_width count → width ≤ 8 → doubled ≡ doublings width
+    → digits ≡ big_endian 8 count
+    → (high * 16 + 15) ∷ (0x10 + doubled) ∷ take (8 - (8 - width)) (drop (8 - width) digits)
+    ≡ length_form high count
+length_told high count width doubled digits long least h twice is =
+    let told : (0x10 + doubled) ∷ big_endian width count ≡ natural_form count = cc in
+    ap (λ l. (high * 16 + 15) ∷ (0x10 + doubled) ∷ l) (tail_of_digits digits width count is h)
+    ∙ ap (λ l. (high * 16 + 15) ∷ l) told ∙ sym (length_long high count long)
 
 high_zero : (k n : ℕ) → n < 256 ^ k → byte_at k n ≡ 0
 high_zero zero n h = omega arith

@@ -10,7 +10,7 @@ ghost use Rattle.plist_binwrite.specs.Forms.{big_endian, doublings, least_width,
 ghost use Rattle.plist_binwrite.specs.Outlets.{Puts};
 ghost use Rattle.plist_binwrite.specs.Written.{reference_width, offset_width, ending};
 
-use crate::outlet::put;
+use crate::outlet::{put, put_both};
 pub use crate::scalar::put_scalar;
 pub use crate::text::put_text;
 use plist_base::{Date, Error, Integer, RealBits, Uid};
@@ -83,10 +83,7 @@ fn put_marked<W: Write>(
     ensures { Puts (W.contents writer.old) room.old.items (marker ∷ bytes.now)
         (answer_of result) (W.contents writer.new) room.new.items }
 {
-    match put_byte(writer, room, marker) {
-        Ok(()) => put(writer, room, bytes),
-        Err(error) => Err(error),
-    }
+    put_both(writer, room, &[marker], bytes)
 }
 
 /// Puts the lowest `width` bytes of a number, the highest of them first.
@@ -116,10 +113,8 @@ fn put_marked_number<W: Write>(
     ensures { Puts (W.contents writer.old) room.old.items (marker ∷ big_endian width number)
         (answer_of result) (W.contents writer.new) room.new.items }
 {
-    match put_byte(writer, room, marker) {
-        Ok(()) => put_number(writer, room, width, number),
-        Err(error) => Err(error),
-    }
+    let digits = number.to_be_bytes();
+    put_both(writer, room, &[marker], &digits[8 - width..])
 }
 
 /// Puts a number without sign, in the least of 1, 2, 4 and 8 bytes.
@@ -145,10 +140,14 @@ pub fn put_length<W: Write>(
     if count < 15 {
         return put_byte(writer, room, high * 16 + count as u8);
     }
-    match put_byte(writer, room, high * 16 + 15) {
-        Ok(()) => put_natural(writer, room, count),
-        Err(error) => Err(error),
-    }
+    let width = least_width(count);
+    let digits = count.to_be_bytes();
+    put_both(
+        writer,
+        room,
+        &[high * 16 + 15, 0x10 + doublings(width)],
+        &digits[8 - width..],
+    )
 }
 
 /// Puts a truth value.

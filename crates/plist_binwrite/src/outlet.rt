@@ -56,6 +56,59 @@ pub fn put<W: Write>(writer: &mut W, room: &mut Vec<u8>, bytes: &[u8]) -> Result
     pass_on(writer, room, bytes)
 }
 
+// Has bytes wait and others behind them, where all of them fit into the room.
+fn hold_both(room: &mut Vec<u8>, first: &[u8], second: &[u8]) -> bool
+    ensures yes { result ≡ true → room.new.items ≡ room.old.items ++ first.now ++ second.now }
+    ensures no { result ≡ false → room.new.items ≡ room.old.items }
+{
+    let before = room.len();
+    let free = room.capacity() - before;
+    if first.len() > free || second.len() > free - first.len() || !hold(room, first) {
+        return false;
+    }
+    if hold(room, second) {
+        return true;
+    }
+    room.truncate(before);
+    false
+}
+
+#[cold]
+#[inline(never)]
+fn pass_both<W: Write>(
+    writer: &mut W,
+    room: &mut Vec<u8>,
+    first: &[u8],
+    second: &[u8],
+) -> Result<(), Error>
+    ensures { Puts (W.contents writer.old) room.old.items (first.now ++ second.now)
+        (answer_of result) (W.contents writer.new) room.new.items }
+{
+    match put(writer, room, first) {
+        Ok(()) => put(writer, room, second),
+        Err(error) => Err(error),
+    }
+}
+
+/// Puts bytes and others behind them, as `put` does.
+///
+/// # Errors
+/// Those of `put`.
+pub fn put_both<W: Write>(
+    writer: &mut W,
+    room: &mut Vec<u8>,
+    first: &[u8],
+    second: &[u8],
+) -> Result<(), Error>
+    ensures { Puts (W.contents writer.old) room.old.items (first.now ++ second.now)
+        (answer_of result) (W.contents writer.new) room.new.items }
+{
+    if hold_both(room, first, second) {
+        return Ok(());
+    }
+    pass_both(writer, room, first, second)
+}
+
 /// Sends what waits, and then has the writer pass on what it holds back.
 ///
 /// # Errors

@@ -1,9 +1,9 @@
-use Rattle.plist_binwrite.specs.Forms.{big_endian}
-use Rattle.plist_binwrite.proofs.Outgoing.{puts_then, puts_front}
+use Rattle.std.proofs.Common.{◌∷◌, ap}
+use Rattle.plist_binwrite.proofs.Widths.{tail_of_digits}
+use Rattle.plist_binwrite.proofs.Outgoing.{puts_as}
 use Rattle.plist_binwrite.proofs.forms.put_marked_number.Goals as goal
 
-pub returns-in-Ok : goal.returns-in-Ok
-returns-in-Ok g c = puts_then c.in-Ok.ensures c.put_number.ensures
-
-pub returns-in-Err : goal.returns-in-Err
-returns-in-Err g c = puts_front (big_endian c.args.width c.args.number) c.in-Err.ensures
+pub returns : goal.returns
+returns g c =
+    puts_as (ap (λ digits. c.args.marker ∷ digits) (tail_of_digits c.to_be_bytes-digits.result
+    c.args.width c.args.number c.to_be_bytes-digits.ensures c.requires.width)) c.put_both.ensures
