@@ -1,5 +1,5 @@
 -- Equality of values, of which some are put off.
-use Rattle.std.proofs.Common.{◌≡◌, ℕ, zero, suc, sum, map, ◌<◌, ◌≤◌, ◌+◌, ◌-◌, Bool, true, false, ◌&&◌, Option, Some, None, List, [], ◌∷◌, ◌++◌, length, drop, get_or, if◌then◌else◌, IsSome, ◌↔◌, MatchOption, true≢false, Vec, Global, refl, sym, ap, ◌∙◌, subst, arith}
+use Rattle.std.proofs.Common.{◌≡◌, ℕ, zero, suc, ◌<◌, ◌≤◌, ◌+◌, ◌-◌, Bool, true, false, ◌&&◌, Option, Some, None, List, [], ◌∷◌, ◌++◌, length, drop, get_or, if◌then◌else◌, IsSome, ◌↔◌, MatchOption, true≢false, refl, sym, ap, ◌∙◌, subst, arith}
 use Rattle.std.specs.Prelude.{slice_get}
 use Rattle.std.specs.Str.{bytes_eq}
 use Rattle.std.specs.List.{IsDistinct}
@@ -13,15 +13,12 @@ use Rattle.plist_base.specs.Trees.{Dictionary}
 use Rattle.plist.specs.declared.same.Later.{Later}
 use Rattle.plist.specs.declared.same.Pair.{Pair}
 use Rattle.plist.specs.declared.value.Value.{Value}
-use Rattle.plist.specs.declared.value.Value.{Value-F, fold-roll-Value, fold_out-Value}
-use Rattle.plist.specs.declared.value.Value.TheVariants as made
-use Rattle.plist.specs.declared.value.Value.TheVariants.{rolls-Array, rolls-Dictionary}
+use Rattle.plist.specs.declared.value.Value.{Value-F, fold_out-Value}
 use Rattle.plist.specs.inner.PairsSame.{as_map}
 use Rattle.plist.specs.inner.PutOff.{Compares, PutsOff, are_covered, are_same, same_values, to_compare, waiting}
 use Rattle.plist.specs.Same.{same, same_items, same_pairs}
-use Rattle.plist.specs.Views.{item_trees, pair_trees, tree_of}
+use Rattle.plist.specs.Views.{item_trees, pair_trees}
 use Rattle.plist.specs.inner.Weights.{weight, weight_step, weights}
-use Rattle.plist.proofs.TreeOf.{tree_of-Array, tree_of-Dictionary}
 use Rattle.plist.proofs.Copies.{none-at, only-one}
 use Rattle.plist.proofs.Dropping.{weights-more}
 use Rattle.plist.proofs.SameTrees.{same-dictionaries}
@@ -130,25 +127,6 @@ puts-off before after p ps false false was e is = is ∙ was
 puts-off before after p ps true false was e is = absurd (cc)
 puts-off before after p ps false true was e is = absurd (cc)
 
-pub put-off : (value other : Value) (before after : Later) (done : Bool) → done ≡ true
-    → PutsOff value other before done after
-    → Compares (same_values value other) (weight value) before true after
-put-off value other before after true e h = let n = h.1 in (h.0, omega (arith, n))
-put-off value other before after false e h = absurd (cc)
-
--- nothing is put off before the comparison
-pub not-put-off : (value other : Value) (before mid after : Later) (done answer : Bool)
-    → done ≡ false → PutsOff value other before done mid
-    → Compares (same_values value other) (weight value - 1) mid answer after
-    → Compares (same_values value other) (weight value) before answer after
-not-put-off value other before mid after true answer e h c = absurd (cc)
-not-put-off value other before mid after false answer e h c =
-    let n = ap to_compare h in
-    let m = c.1 in (
-      c.0 ∙ ap (λ l. same_values value other && are_same l) h,
-      omega (arith, n, m),
-    )
-
 pub fewer : (equal answer : Bool) (value : Value) (before after : Later)
     → Compares equal (weight value - 1) before answer after
     → Compares equal (weight value) before answer after
@@ -168,51 +146,6 @@ step-some (Value-F.Uid n) = omega arith
 pub weight-some : (value : Value) → 1 ≤ weight value
 weight-some value =
     subst (λ n. 1 ≤ n) (sym (fold_out-Value ℕ weight_step value)) (step-some _)
-
-weight-Array : (items : Vec Value Global) → weight (made.Array items) ≡ 1 + weights items.items
-weight-Array items =
-    ap weight (sym (rolls-Array items)) ∙ fold-roll-Value ℕ weight_step (Value-F.Array items)
-
-weights-listed : (pairs : List (List ℕ × Value))
-    → values_of (map (λ p. (p.0, weight p.1)) pairs) ≡ map weight (values_of pairs)
-weights-listed [] = refl
-weights-listed (p ∷ pairs) = ap (λ l. weight p.1 ∷ l) (weights-listed pairs)
-
-weight-Dictionary : (pairs : List (List ℕ × Value))
-    → weight (made.Dictionary pairs) ≡ 1 + weights (values_of pairs)
-weight-Dictionary pairs =
-    ap weight (sym (rolls-Dictionary pairs))
-    ∙ fold-roll-Value ℕ weight_step (Value-F.Dictionary pairs)
-    ∙ ap (λ l. 1 + sum l) (weights-listed pairs)
-
-pub of-items : (value other : Value) (items others : Vec Value Global) (before after : Later)
-    (answer : Bool) → value ≡ made.Array items → other ≡ made.Array others
-    → Compares (same_items (item_trees items.items) (item_trees others.items))
-    (weights items.items) before answer after
-    → Compares (same_values value other) (weight value - 1) before answer after
-of-items value other items others before after answer e f c =
-    let w : weight value ≡ 1 + weights items.items = ap weight e ∙ weight-Array items in
-    let n = c.1 in (
-      c.0 ∙ ap (λ b. b && are_same (waiting before))
-          (λ i. same (sym (ap tree_of e ∙ tree_of-Array items) i)
-          (sym (ap tree_of f ∙ tree_of-Array others) i)),
-      omega (arith, n, w),
-    )
-
-pub of-pairs : (value other : Value) (pairs others : List (List ℕ × Value)) (before after : Later)
-    (answer : Bool) → value ≡ made.Dictionary pairs → other ≡ made.Dictionary others
-    → Compares (same (Dictionary (pair_trees pairs)) (Dictionary (pair_trees others)))
-    (weights (values_of pairs)) before answer after
-    → Compares (same_values value other) (weight value - 1) before answer after
-of-pairs value other pairs others before after answer e f c =
-    let w : weight value ≡ 1 + weights (values_of pairs) =
-    ap weight e ∙ weight-Dictionary pairs in
-    let n = c.1 in (
-      c.0 ∙ ap (λ b. b && are_same (waiting before))
-          (λ i. same (sym (ap tree_of e ∙ tree_of-Dictionary pairs) i)
-          (sym (ap tree_of f ∙ tree_of-Dictionary others) i)),
-      omega (arith, n, w),
-    )
 
 -- ---- arrays
 

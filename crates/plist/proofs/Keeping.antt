@@ -4,7 +4,7 @@ use Rattle.std.proofs.Common.{◌≡◌, ℕ, Bool, true, false, List, [], ◌�
 use Rattle.std.specs.Str.{bytes_eq}
 use Rattle.std.proofs.lemmas.Slice.Eq.{bytes_eq-Decides}
 use Rattle.indexmap.specs.IndexMap.{insert_entry, insert_all}
-use Rattle.plist_base.specs.Trees.{Tree, Leaf, Array, Dictionary, Trees, NoTrees, TreeAnd, Members, NoMembers, MemberAnd, trees_of, members_of}
+use Rattle.plist_base.specs.Trees.{Tree, Dictionary, trees_of, members_of}
 use Rattle.plist.specs.LastWins.{Rows, with_pair, last_values, last_wins, last_wins_in_items, last_wins_in_pairs}
 
 -- no pair has the key
@@ -140,19 +140,3 @@ pub settled-items : (ts : List Tree) → SettledItems ts → last_wins_in_items 
 settled-items [] d = refl
 settled-items (t ∷ ts) d =
     ap (λ u. u ∷ last_wins_in_items (trees_of ts)) d.0 ∙ ap (λ l. t ∷ l) (settled-items ts d.1)
-
-mutual
-  -- once the last has won, it has won
-  pub last-wins-twice : (t : Tree) → last_wins (last_wins t) ≡ last_wins t
-  last-wins-twice (Leaf s) = refl
-  last-wins-twice (Array ts) =
-      ap (λ l. Array (trees_of l)) (settled-items (last_wins_in_items ts) (items-settled ts))
-  last-wins-twice (Dictionary ms) = settled-dictionary (last_wins_in_pairs ms) (pairs-settled ms)
-
-  items-settled : (ts : Trees) → SettledItems (last_wins_in_items ts)
-  items-settled NoTrees = tt
-  items-settled (TreeAnd t ts) = (last-wins-twice t, items-settled ts)
-
-  pairs-settled : (ms : Members) → Settled (last_wins_in_pairs ms)
-  pairs-settled NoMembers = tt
-  pairs-settled (MemberAnd k t ms) = (last-wins-twice t, pairs-settled ms)

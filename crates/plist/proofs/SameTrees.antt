@@ -1,5 +1,5 @@
 -- Sameness of values, list by list.
-use Rattle.std.proofs.Common.{◌≡◌, ℕ, zero, suc, ◌<◌, Bool, true, false, ◌&&◌, cond, Option, Some, None, option_map, List, [], ◌∷◌, length, get_or, refl, sym, ap, ◌∙◌, arith, subst}
+use Rattle.std.proofs.Common.{◌≡◌, ℕ, suc, Bool, true, false, ◌&&◌, cond, Option, Some, None, option_map, List, [], ◌∷◌, length, refl, sym, ap, ◌∙◌, subst}
 use Rattle.std.specs.Str.{bytes_eq}
 use Rattle.std.specs.List.{IsDistinct, AllByRecursion}
 use Rattle.std.specs.Map.{lookup, keys_of}
@@ -102,37 +102,3 @@ unequal-lengths vs ws n =
     by : (b : Bool) → (b ≡ true → ⊥) → false ≡ b
     by true f = absurd (f refl)
     by false f = refl
-
-fails : (b c : Bool) → c ≡ false → false ≡ b && c
-fails true c h = sym h
-fails false c h = refl
-
-pub unequal-at : (vs ws : List Value) (i : ℕ) (v w : Value) → i < length vs → i < length ws
-    → v ≡ get_or vs i v → w ≡ get_or ws i w → same_by tree_of v w ≡ false
-    → false ≡ same_items (item_trees vs) (item_trees ws)
-unequal-at [] ws i v w p q a b h = absurd (omega (arith, p))
-unequal-at (x ∷ vs) [] i v w p q a b h = absurd (omega (arith, q))
-unequal-at (x ∷ vs) (y ∷ ws) zero v w p q a b h =
-    ap (λ c. c && same_items (item_trees vs) (item_trees ws))
-    (sym (ap (λ u. same_by tree_of u y) (sym a) ∙ ap (same_by tree_of v) (sym b) ∙ h))
-unequal-at (x ∷ vs) (y ∷ ws) (suc i) v w p q a b h =
-    fails (same_by tree_of x y) (same_items (item_trees vs) (item_trees ws))
-    (sym (unequal-at vs ws i v w (omega (arith, p)) (omega (arith, q)) a b h))
-
-pub equal-at-all : (vs ws : List Value) → length vs ≡ length ws
-    → ((i : ℕ) → i < length vs → (d e : Value)
-    → same_by tree_of (get_or vs i d) (get_or ws i e) ≡ true)
-    → true ≡ same_items (item_trees vs) (item_trees ws)
-equal-at-all [] [] e f = refl
-equal-at-all [] (w ∷ ws) e f = absurd (omega (arith, e))
-equal-at-all (v ∷ vs) [] e f = absurd (omega (arith, e))
-equal-at-all (v ∷ vs) (w ∷ ws) e f =
-    equal-at-all vs ws (omega (arith, e)) (λ i p. f (suc i) (omega (arith, p)))
-    ∙ ap (λ c. c && same_items (item_trees vs) (item_trees ws)) (sym (f 0 (omega arith) v w))
-
--- a place that is there has one value
-pub read-any : {X : Type 0} (xs : List X) (i : ℕ) (d x : X) → i < length xs → x ≡ get_or xs i x
-    → get_or xs i d ≡ x
-read-any [] i d x p e = absurd (omega (arith, p))
-read-any (y ∷ xs) zero d x p e = sym e
-read-any (y ∷ xs) (suc i) d x p e = read-any xs i d x (omega (arith, p)) e

@@ -128,13 +128,6 @@ module _ (objects : List (List PlainEvent)) where
       ∙ append_assoc (steps_of_event f e) (steps_of f (remaining_events after))
       (None ∷ owed_by objects below path)
 
-  -- it has no event left
-  closes : (left : Events) (below : List Events) (uid : ℕ) (path : List ℕ)
-      → remaining_events left ≡ [] → owed_by objects (left ∷ below) (uid ∷ path) ≡ None
-      ∷ owed_by objects below path
-  closes left below uid path is =
-      ap (λ l. steps_of (follow_in objects (uid ∷ path)) l ++ None ∷ owed_by objects below path) is
-
 -- the innermost place is another one, on the same path
 module _ (old new : Walk) (left after : Events) (below : List Events) (o : IsWalk old)
     (same : new.objects ≡ old.objects) (keys : new.path.keys ≡ old.path.keys)

@@ -1,15 +1,14 @@
 -- What is held of the items that a reader has told.
-use Rattle.std.proofs.Common.{◌≡◌, ◌↔◌, inl, inr, Bool, true, false, List, [], ◌∷◌, ◌++◌, Option, Some, None, Result, Ok, Err, IfOk, IfSome, map, refl, sym, ap, ◌∙◌, subst, append-nil}
+use Rattle.std.proofs.Common.{◌≡◌, ◌↔◌, Bool, true, false, List, [], ◌∷◌, ◌++◌, Option, Some, None, Result, Ok, Err, IfOk, IfSome, map, refl, sym, ap, ◌∙◌, subst, append-nil}
 use Rattle.std.specs.Prelude.{ℕ}
 use Rattle.std.specs.Option.{option_map}
 use Rattle.plist_base.specs.declared.error.Error.{Error}
 use Rattle.plist_base.specs.Bracketing.{bracketing, unhinted, AreAlike, AreWhole, CanContinue}
 use Rattle.plist_base.specs.Events.{PlainEvent, Item}
-use Rattle.plist_base.specs.Faults.{Fault, FaultKind, IsIo, MatchFault, OutOfMemory, fault_nowhere, fault_of, kind_of, error_kind_of, offset_of}
+use Rattle.plist_base.specs.Faults.{Fault, FaultKind, MatchFault, fault_of, kind_of, error_kind_of}
 use Rattle.plist_base.specs.Trees.{Tree, Leaf, Array, Dictionary}
 use Rattle.plist_base.proofs.Grammar.{alike_last, alike_with, complete_of_whole, continue_alike, whole_alike}
-use Rattle.plist_base.proofs.Refusals.{MatchFault-all, MatchFault-at, MatchFault-from_io, MatchFault-weaker}
-use Rattle.plist_base.specs.Sources.{CountsIo}
+use Rattle.plist_base.proofs.Refusals.{MatchFault-weaker}
 use Rattle.plist_base.specs.Writing.{Answer}
 use Rattle.plist_binread.specs.Telling.{TellsItem}
 use Rattle.plist_binread.specs.Unfolding.{items_of_file}
@@ -22,7 +21,7 @@ use Rattle.plist_reader.specs.declared.format.Format.TheVariants as format
 use Rattle.plist_reader.specs.Formats.{format_of}
 use Rattle.plist_reader.specs.Reader.{items_by, items_of_input}
 use Rattle.plist.specs.Building.{Unfinished, NotBegun, IsNested, events_so_far, last_wins_so_far, refusal_of}
-use Rattle.plist.specs.Inputs.{AreOf, IsReadFrom, Answers, StopsAt}
+use Rattle.plist.specs.Inputs.{AreOf, IsReadFrom, Answers}
 use Rattle.plist.specs.LastWins.{last_wins}
 use Rattle.plist.specs.inner.OneTree.{one_tree}
 use Rattle.plist.specs.inner.Carried.{carried-taken, carried-nested, carried-events}
@@ -33,7 +32,6 @@ use Rattle.plist.proofs.Gathered.{sends_tree}
 use Rattle.plist.proofs.Inputs.{all-events, event-more, no-events, reads-refused}
 use Rattle.plist.proofs.KeysOnce.{keys-once, last-wins-nothing}
 use Rattle.plist_tool.specs.Converting.{HoldsTree, AreNoTree, IsDirect, IsNoBinaryTree, SendsRead, items_of}
-use Rattle.plist_tool.specs.Printing.{CountsReads}
 
 -- of the items these events were taken, which are alike to those held, and these items are to come
 abbrev TookOf : (all coming : List Item) → (held : List PlainEvent) → Type 0
@@ -47,14 +45,14 @@ HasTaken items coming held =
     IfSome items (λ all. (left : List Item) × (coming ≡ Some left) × TookOf all left held)
 
 -- what a call tells of the items to come, where they are known
-abbrev pub TellsOn : {A : Type 0} (fresh : Bool) (before : Option (List Item)) → Option (Result A Error)
-    → (told : PlainEvent) → (after : Option (List Item)) → Type 0
+abbrev pub TellsOn : {A : Type 0} (fresh : Bool) (before : Option (List Item))
+    → Option (Result A Error) → (told : PlainEvent) → (after : Option (List Item)) → Type 0
 TellsOn fresh before item told after =
     IfSome before (λ all. (left : List Item) × (after ≡ Some left)
     × TellsItem fresh all item told left)
 
-pub tells_on : {A : Type 0} (k l : Option (List ℕ)) (before after : List ℕ → List Item) (fresh : Bool)
-    (item : Option (Result A Error)) (told : PlainEvent) → l ≡ k
+pub tells_on : {A : Type 0} (k l : Option (List ℕ)) (before after : List ℕ → List Item)
+    (fresh : Bool) (item : Option (Result A Error)) (told : PlainEvent) → l ≡ k
     → IfSome k (λ bytes. TellsItem fresh (before bytes) item told (after bytes))
     → TellsOn fresh (option_map before k) item told (option_map after l)
 tells_on None l before after fresh item told e h = tt
@@ -169,7 +167,8 @@ module _ {A : Type 0} (items o n : Option (List Item)) (fresh : Bool) (answer : 
   first_of : (e : PlainEvent) (more : List Item) (es : List PlainEvent) → Ok e ∷ more ≡ map Ok es
       → (rest : List PlainEvent) × (es ≡ e ∷ rest)
   first_of e more [] p =
-      let never : (Ok e ∷ more ≡ []) → (rest : List PlainEvent) × ([] ≡ e ∷ rest) = λ q. cc in never p
+      let never : (Ok e ∷ more ≡ []) → (rest : List PlainEvent) × ([] ≡ e ∷ rest) = λ q. cc in
+      never p
   first_of e more (x ∷ es) p = (es, ap (λ y. y ∷ es) (sym (same_event e x more (map Ok es) p)))
 
   goes_on : (all before after : List Item) (e : PlainEvent) → before ≡ Ok e ∷ after
@@ -199,14 +198,6 @@ module _ {A : Type 0} (items o n : Option (List Item)) (fresh : Bool) (answer : 
 
 module _ {A : Type 0} (items o n : Option (List Item)) (fresh : Bool)
     (given : Option (Result A Error)) (told : PlainEvent) (held : List PlainEvent) where
-  ends : (all left : List Item) → left ≡ [] → TookOf all left held → (tree : Tree)
-      → AreAlike held (bracketing tree) → AreOf all tree
-  ends all left none (events, u, is, ok, alike, like) tree whole = (
-    events,
-    is ∙ ap (λ l. map Ok events ++ l) none ∙ append-nil (map Ok events),
-    like ∙ whole,
-  )
-
   no_end : (all left : List Item) → left ≡ [] → TookOf all left held → (AreWhole held → ⊥)
       → (tree : Tree) → AreOf all tree → ⊥
   no_end all left none (events, u, is, ok, alike, like) never tree (others, same, whole) =
@@ -215,17 +206,6 @@ module _ {A : Type 0} (items o n : Option (List Item)) (fresh : Bool)
       let e : others ≡ events = s.2 ∙ ap (λ l. events ++ l) (no-events s.0 s.1) ∙ append-nil events
       in
       never (tree, sym like ∙ ap (map unhinted) (sym e) ∙ whole)
-
-  pub taken_whole : HasTaken items o held → TellsOn fresh o given told n → given ≡ None
-      → AreWhole held → HoldsTree items held
-  taken_whole h tells is whole =
-      elim items as (λ i. HasTaken i o held → HoldsTree i held) [
-        | None ↦ λ _. (whole, tt)
-        | Some all ↦ λ t.
-            let g = there o n t.0 fresh given told t.1 tells in
-            let none = (subst (λ x. TellsItem fresh t.0 x told g.0) is g.2).0 in
-            (whole, (whole.0, ends all t.0 none t.2 whole.0 whole.1, whole.1))
-      ] h
 
   pub taken_early : HasTaken items o held → TellsOn fresh o given told n → given ≡ None
       → (AreWhole held → ⊥) → AreNoTree items
@@ -238,40 +218,7 @@ module _ {A : Type 0} (items o n : Option (List Item)) (fresh : Bool)
             no_end all t.0 none t.2 never
       ] h
 
--- ---- faults from outside
-
-pub read_memory : (items : Option (List Item)) (fault : Fault) → fault ≡ fault_nowhere OutOfMemory
-    → Answers items (Err fault)
-read_memory None fault is = tt
-read_memory (Some all) fault is =
-    MatchFault-at fault.kind OutOfMemory (Unit {0}) (Unit {0}) (StopsAt all fault)
-    (ap (λ (f : Fault). f.kind) is) tt
-
-pub read_io : (items : Option (List Item)) (error : Error) → IsIo (kind_of (error_kind_of error))
-    → Answers items (Err (fault_of error))
-read_io None error h = tt
-read_io (Some all) error h =
-    MatchFault-from_io (kind_of (error_kind_of error)) (Unit {0}) (Unit {0})
-    (StopsAt all (fault_of error)) h tt
-
--- a source's failure is told, and no other changes its count
-pub counts_reads : (A : Type 0) (error : Error) (old new : ℕ) → CountsIo error old new
-    → CountsReads {A = A} (Err error) old new
-counts_reads A error old new h =
-    MatchFault-weaker (kind_of (error_kind_of error)) (λ r. inr r) (λ s. s) (λ s. s) h
-
-pub counts_own : (A : Type 0) (error : Error) (old new : ℕ) → offset_of error ≡ None → new ≡ old
-    → CountsReads {A = A} (Err error) old new
-counts_own A error old new none same =
-    MatchFault-all (kind_of (error_kind_of error)) (inl (none, same)) same same
-
 -- ---- the format
-
-pub other_format : (known : Option (List ℕ)) (found : Format)
-    → IfSome known (λ bytes. found ≡ format_of bytes) → (found ≡ format.Binary → ⊥)
-    → IsNoBinaryTree known
-other_format None found is other = tt
-other_format (Some bytes) found is other = λ binary. absurd (other (is ∙ binary))
 
 pub no_binary_tree : (known : Option (List ℕ)) → AreNoTree (items_of known) → IsNoBinaryTree known
 no_binary_tree None h = tt
@@ -320,36 +267,36 @@ same_of all t u (events, same, alike) (others, also, like) =
     let e : others ≡ events = s.2 ∙ ap (λ l. events ++ l) (no-events s.0 s.1) ∙ append-nil events in
     one_tree t u (sym alike ∙ ap (map unhinted) (sym e) ∙ like)
 
-module _ (known : Option (List ℕ)) (held : List PlainEvent) (holds : HoldsTree (items_of known) held)
-  where
-    pub not_direct : (repeats : Bool)
-        → ((tree : Tree) → AreAlike held (bracketing tree) → (repeats ≡ false) ↔ HasKeysOnce tree)
-        → (repeats ≡ false → ⊥) → IfSome known (λ bytes. IsDirect bytes → ⊥)
-    not_direct repeats once repeated =
-        elim known as (λ k. HoldsTree (items_of k) held → IfSome k (λ bytes. IsDirect bytes → ⊥)) [
-          | None ↦ λ _. tt
-          | Some bytes ↦ λ h (binary, (tree, of, last)).
-              let same : h.1.0 ≡ tree = same_of (items_of_input bytes) h.1.0 tree h.1.1 of in
-              repeated ((once h.1.0 h.1.2).1 (keys-once h.1.0
-              (ap last_wins same ∙ last ∙ sym same)))
-        ] holds
+module _ (known : Option (List ℕ)) (held : List PlainEvent)
+    (holds : HoldsTree (items_of known) held) where
+  pub not_direct : (repeats : Bool)
+      → ((tree : Tree) → AreAlike held (bracketing tree) → (repeats ≡ false) ↔ HasKeysOnce tree)
+      → (repeats ≡ false → ⊥) → IfSome known (λ bytes. IsDirect bytes → ⊥)
+  not_direct repeats once repeated =
+      elim known as (λ k. HoldsTree (items_of k) held → IfSome k (λ bytes. IsDirect bytes → ⊥)) [
+        | None ↦ λ _. tt
+        | Some bytes ↦ λ h (binary, (tree, of, last)).
+            let same : h.1.0 ≡ tree = same_of (items_of_input bytes) h.1.0 tree h.1.1 of in
+            repeated ((once h.1.0 h.1.2).1 (keys-once h.1.0
+            (ap last_wins same ∙ last ∙ sym same)))
+      ] holds
 
-    module _ {W : Type 0} (contents : W → Option (List ℕ)) (answer : Answer) (old new : W) where
-      pub sends_read : ((tree : Tree) → AreAlike held (bracketing tree) → HasKeysOnce tree)
-          → Sends contents held answer old new → SendsRead contents known answer old new
-      sends_read once sent =
-          elim known as (λ k. HoldsTree (items_of k) held → SendsRead contents k answer old new) [
-            | None ↦ λ h. (
-              h.0.0,
-              tt,
-              sends_tree h.0.0 held h.0.1 contents old new answer sent,
-            )
-            | Some bytes ↦ λ h. (
-              h.1.0,
-              (h.1.0, h.1.1, sym (last-wins-nothing h.1.0 (once h.1.0 h.1.2))),
-              sends_tree h.1.0 held h.1.2 contents old new answer sent,
-            )
-          ] holds
+  module _ {W : Type 0} (contents : W → Option (List ℕ)) (answer : Answer) (old new : W) where
+    pub sends_read : ((tree : Tree) → AreAlike held (bracketing tree) → HasKeysOnce tree)
+        → Sends contents held answer old new → SendsRead contents known answer old new
+    sends_read once sent =
+        elim known as (λ k. HoldsTree (items_of k) held → SendsRead contents k answer old new) [
+          | None ↦ λ h. (
+            h.0.0,
+            tt,
+            sends_tree h.0.0 held h.0.1 contents old new answer sent,
+          )
+          | Some bytes ↦ λ h. (
+            h.1.0,
+            (h.1.0, h.1.1, sym (last-wins-nothing h.1.0 (once h.1.0 h.1.2))),
+            sends_tree h.1.0 held h.1.2 contents old new answer sent,
+          )
+        ] holds
 
 -- known bytes are no such file
 pub not_binary : (known : Option (List ℕ)) → IsNoBinaryTree known

@@ -54,7 +54,8 @@ module _ {W : Type 0} (contents : W → Option (List ℕ)) where
   SendsLineInPart old held event new = SendsInPart old held (event_of event) new
 
 -- and of the event that a reader told last
-module _ {S C W : Type 0} {g : Ghosts S} {h : CounterGhosts C} (contents : W → Option (List ℕ)) where
+module _ {S C W : Type 0} {g : Ghosts S} {h : CounterGhosts C}
+    (contents : W → Option (List ℕ)) where
   abbrev pub PassesTold : Result (Unit {0}) Error → W → (held : Vec ℕ Global)
       → BinaryReader S C g h → W → (left : Vec ℕ Global) → Type 0
   PassesTold answer old held reader new left =

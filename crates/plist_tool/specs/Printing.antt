@@ -92,8 +92,8 @@ CountsReads answer old new = MatchResult answer (λ _. new ≡ old)
     (((offset_of error ≡ None) × (new ≡ old)) ⊎ Rises old new) (new ≡ old) (new ≡ old))
 
 -- the same of the source inside a reader
-abbrev pub CountsReadsOf : {S C A : Type 0} {g : Ghosts S} {h : CounterGhosts C} → (failures : S → ℕ)
-    → BinaryReader S C g h → Result A Error → BinaryReader S C g h → Type 0
+abbrev pub CountsReadsOf : {S C A : Type 0} {g : Ghosts S} {h : CounterGhosts C}
+    → (failures : S → ℕ) → BinaryReader S C g h → Result A Error → BinaryReader S C g h → Type 0
 CountsReadsOf failures old answer new =
     CountsReads answer (failures (source_of old)) (failures (source_of new))
 

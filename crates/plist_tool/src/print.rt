@@ -42,8 +42,8 @@ fn pass_line<W: Write>(out: &mut W, lines: &mut Vec<u8>, event: &Event<'_>) -> R
     Ok(())
 }
 
-// Puts the line of the event that a reader told last behind the lines that are held back, if it fits
-// there.
+// Puts the line of the event that a reader told last behind the lines that are held back, if it
+// fits there.
 fn push_near<S: Source>(lines: &mut Vec<u8>, reader: &BinaryReader<S>) -> Result<bool, AllocError>
     ensures pushed { IfOk result (λ fits. fits ≡ true → PushesTold lines.old reader.now lines.new) }
     ensures unchanged { IfOk result (λ fits. fits ≡ false → lines.new.items ≡ lines.old.items) }

@@ -2,7 +2,7 @@
 //! nothing.
 
 use crate::support::{Device, Fault, event_of, expect_answers, expect_io, front, must};
-use plist::{Value, write_value};
+use plist::Value;
 use plist_base::{Error, Writer};
 use plist_binwrite::BinaryWriter;
 use std::io::ErrorKind;
