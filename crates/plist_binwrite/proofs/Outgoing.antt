@@ -9,7 +9,7 @@ use Rattle.std.proofs.KnownBytes.{Appends-trans, Appends-nil}
 use Rattle.plist_base.specs.Faults.{Fault, Io, fault_nowhere}
 use Rattle.plist_base.specs.Writing.{Answer}
 use Rattle.plist_base.specs.Fronts.{AppendsFront}
-use Rattle.plist_binwrite.specs.Outlets.{IsOut, Follow, Puts}
+use Rattle.plist_binwrite.specs.Outlets.{IsOut, Follow, PutsBytes}
 
 -- a beginning of some bytes is one of more
 pub front_more : (a b : Option (List ℕ)) (xs ys : List ℕ) → AppendsFront a b xs
@@ -17,16 +17,16 @@ pub front_more : (a b : Option (List ℕ)) (xs ys : List ℕ) → AppendsFront a
 front_more a b xs ys f = (f.0, f.1 ++ ys, f.2, ap (λ l. l ++ ys) f.3 ∙ append_assoc f.0 f.1 ys)
 
 -- nothing yet
-pub puts_none : {a : Option (List ℕ)} {held : List ℕ} → Puts a held [] (Ok tt) a held
+pub puts_none : {a : Option (List ℕ)} {held : List ℕ} → PutsBytes a held [] (Ok tt) a held
 puts_none {a} {held} =
     record { follow = λ first done out. subst (IsOut first a held) (sym (append-nil done)) out }
 
 -- bytes, and then more
 pub puts_then : {a b c : Option (List ℕ)} {held h k xs ys : List ℕ} {answer : Answer}
-    → Puts a held xs (Ok tt) b h → Puts b h ys answer c k → Puts a held (xs ++ ys) answer c k
+    → PutsBytes a held xs (Ok tt) b h → PutsBytes b h ys answer c k → PutsBytes a held (xs ++ ys) answer c k
 puts_then {a} {b} {c} {held} {h} {k} {xs} {ys} {answer} p q = go answer q.follow
   where
-    go : (answer : Answer) → Follow b h ys answer c k → Puts a held (xs ++ ys) answer c k
+    go : (answer : Answer) → Follow b h ys answer c k → PutsBytes a held (xs ++ ys) answer c k
     go (Ok u) q =
         record {
           follow = λ first done out. subst (IsOut first c k) (append_assoc done xs ys)
@@ -43,7 +43,7 @@ puts_then {a} {b} {c} {held} {h} {k} {xs} {ys} {answer} p q = go answer q.follow
 
 -- what failed fails the whole
 pub puts_front : {a b : Option (List ℕ)} {held h xs : List ℕ} {fault : Fault} (ys : List ℕ)
-    → Puts a held xs (Err fault) b h → Puts a held (xs ++ ys) (Err fault) b h
+    → PutsBytes a held xs (Err fault) b h → PutsBytes a held (xs ++ ys) (Err fault) b h
 puts_front {a} {b} {held} {h} {xs} {fault} ys p =
     record {
       follow = (
@@ -55,12 +55,12 @@ puts_front {a} {b} {held} {h} {xs} {fault} ys p =
     }
 
 pub puts_as : {a b : Option (List ℕ)} {held k xs ys : List ℕ} {answer : Answer} → xs ≡ ys
-    → Puts a held xs answer b k → Puts a held ys answer b k
-puts_as {a} {b} {held} {k} {xs} {ys} {answer} e p = subst (λ l. Puts a held l answer b k) e p
+    → PutsBytes a held xs answer b k → PutsBytes a held ys answer b k
+puts_as {a} {b} {held} {k} {xs} {ys} {answer} e p = subst (λ l. PutsBytes a held l answer b k) e p
 
 -- what waited goes out
 puts_drain : (a : Option (List ℕ)) (held : List ℕ) (b : Option (List ℕ)) → Appends a b held
-    → Puts a held [] (Ok tt) b []
+    → PutsBytes a held [] (Ok tt) b []
 puts_drain a held b h =
     record {
       follow = λ first done out. record {
@@ -74,7 +74,7 @@ puts_drain a held b h =
 
 puts_broken : (a : Option (List ℕ)) (held bytes : List ℕ) (fault : Fault) (b : Option (List ℕ))
     (h : List ℕ) → fault ≡ fault_nowhere Io → AppendsFront a b held
-    → Puts a held bytes (Err fault) b h
+    → PutsBytes a held bytes (Err fault) b h
 puts_broken a held bytes fault b h io f = record {
   follow = (
     io,
@@ -88,7 +88,7 @@ puts_broken a held bytes fault b h io f = record {
 }
 
 -- nothing waits, and bytes go out
-puts_sent : (a b : Option (List ℕ)) (xs : List ℕ) → Appends a b xs → Puts a [] xs (Ok tt) b []
+puts_sent : (a b : Option (List ℕ)) (xs : List ℕ) → Appends a b xs → PutsBytes a [] xs (Ok tt) b []
 puts_sent a b xs h =
     record {
       follow = λ first done out. record {
@@ -101,7 +101,7 @@ puts_sent a b xs h =
     }
 
 puts_unsent : (a b : Option (List ℕ)) (xs : List ℕ) (fault : Fault) → fault ≡ fault_nowhere Io
-    → AppendsFront a b xs → Puts a [] xs (Err fault) b []
+    → AppendsFront a b xs → PutsBytes a [] xs (Err fault) b []
 puts_unsent a b xs fault io f = record {
   follow = (
     io,
@@ -118,20 +118,20 @@ puts_unsent a b xs fault io f = record {
 -- ---- what `put` does where bytes don't fit
 
 pub put_all : (a b c : Option (List ℕ)) (held now bytes k : List ℕ) → now ≡ held → k ≡ []
-    → Appends a b now → Appends b c bytes → Puts a held bytes (Ok tt) c k
+    → Appends a b now → Appends b c bytes → PutsBytes a held bytes (Ok tt) c k
 put_all a b c held now bytes k e n p q =
-    subst (λ l. Puts a held bytes (Ok tt) c l) (sym n)
+    subst (λ l. PutsBytes a held bytes (Ok tt) c l) (sym n)
     (puts_then (puts_drain a held b (subst (Appends a b) e p)) (puts_sent b c bytes q))
 
 pub put_half : (a b c : Option (List ℕ)) (held now bytes k : List ℕ) (fault : Fault) → now ≡ held
     → k ≡ [] → Appends a b now → fault ≡ fault_nowhere Io → AppendsFront b c bytes
-    → Puts a held bytes (Err fault) c k
+    → PutsBytes a held bytes (Err fault) c k
 put_half a b c held now bytes k fault e n p io q =
-    subst (λ l. Puts a held bytes (Err fault) c l) (sym n)
+    subst (λ l. PutsBytes a held bytes (Err fault) c l) (sym n)
     (puts_then (puts_drain a held b (subst (Appends a b) e p)) (puts_unsent b c bytes fault io q))
 
 pub put_stuck : (a b : Option (List ℕ)) (held now bytes k : List ℕ) (fault : Fault) → now ≡ held
-    → fault ≡ fault_nowhere Io → AppendsFront a b now → Puts a held bytes (Err fault) b k
+    → fault ≡ fault_nowhere Io → AppendsFront a b now → PutsBytes a held bytes (Err fault) b k
 put_stuck a b held now bytes k fault e io f =
     puts_broken a held bytes fault b k io (subst (AppendsFront a b) e f)
 
@@ -171,9 +171,9 @@ is_out : (a : Option (List ℕ)) → IsOut a a [] []
 is_out a = record { sent = []; went = Appends-nil a; is = refl }
 
 pub from_empty : {a b : Option (List ℕ)} {held bytes k : List ℕ} → held ≡ []
-    → Puts a held bytes (Ok tt) b k → IsOut a b k bytes
+    → PutsBytes a held bytes (Ok tt) b k → IsOut a b k bytes
 from_empty {a} e p = p.follow a [] (subst (λ l. IsOut a a l []) (sym e) (is_out a))
 
 pub from_empty_front : {a b : Option (List ℕ)} {held bytes k : List ℕ} {fault : Fault} → held ≡ []
-    → Puts a held bytes (Err fault) b k → AppendsFront a b bytes
+    → PutsBytes a held bytes (Err fault) b k → AppendsFront a b bytes
 from_empty_front {a} e p = p.follow.1 a [] (subst (λ l. IsOut a a l []) (sym e) (is_out a))

@@ -8,7 +8,7 @@ use Rattle.plist_binwrite.specs.Held.{is_stop, event_at, item_places, half_place
 use Rattle.plist_base.specs.Events.{PlainEvent, EndCollection}
 use Rattle.plist_base.specs.Trees.{Tree, Leaf, Trees, NoTrees, TreeAnd, Members, NoMembers, MemberAnd}
 use Rattle.plist_binwrite.specs.Standing.{size, Sits, SitsItems, SitsPairs}
-use Rattle.plist_binwrite.specs.Outlets.{Puts}
+use Rattle.plist_binwrite.specs.Outlets.{PutsBytes}
 use Rattle.plist_binwrite.proofs.Outgoing.{puts_none, puts_then, puts_front, puts_as}
 use Rattle.plist_binwrite.proofs.Sitting.{sits_item, sits_next, sits_key, sits_value, sits_next_pair}
 use Rattle.plist_binwrite.proofs.Skipping.{first_event, begins, sits_within, size_positive}
@@ -23,17 +23,17 @@ module _ (es : List PlainEvent) (num : ℕ → ℕ) (w : ℕ) (a : Option (List 
     pub left : Trees
     pub sits : SitsItems es left q
     pub goes : (answer : Answer) (c : Option (List ℕ)) (k : List ℕ)
-        → Puts b h (table_form w (map num (item_places left q))) answer c k
-        → Puts a held all answer c k
+        → PutsBytes b h (table_form w (map num (item_places left q))) answer c k
+        → PutsBytes a held all answer c k
 
   pub items_next : {b c : Option (List ℕ)} {h k : List ℕ} {q next : ℕ} → Items b h q
       → is_stop (event_at es q) ≡ false → ((t : Tree) → Sits es t q → next ≡ q + size t)
-      → Puts b h (big_endian w (num q)) (Ok tt) c k → Items c k next
+      → PutsBytes b h (big_endian w (num q)) (Ok tt) c k → Items c k next
   items_next {b} {c} {h} {k} {q} {next} l nostop skip p = go l.left l.sits l.goes
     where
       go : (ts : Trees) → SitsItems es ts q → ((answer : Answer) (c : Option (List ℕ)) (k : List ℕ)
-          → Puts b h (table_form w (map num (item_places ts q))) answer c k
-          → Puts a held all answer c k) → Items c k next
+          → PutsBytes b h (table_form w (map num (item_places ts q))) answer c k
+          → PutsBytes a held all answer c k) → Items c k next
       go NoTrees s f = not_both _ (ap is_stop (first_event es q EndCollection s.rest s.is)) nostop
       go (TreeAnd t ts) s f =
           let n : next ≡ q + size t = skip t (sits_item s) in
@@ -45,25 +45,25 @@ module _ (es : List PlainEvent) (num : ℕ → ℕ) (w : ℕ) (a : Option (List 
           })
 
   pub items_fail : {b c : Option (List ℕ)} {h k : List ℕ} {q : ℕ} {fault : Fault} → Items b h q
-      → is_stop (event_at es q) ≡ false → Puts b h (big_endian w (num q)) (Err fault) c k
-      → Puts a held all (Err fault) c k
+      → is_stop (event_at es q) ≡ false → PutsBytes b h (big_endian w (num q)) (Err fault) c k
+      → PutsBytes a held all (Err fault) c k
   items_fail {b} {c} {h} {k} {q} {fault} l nostop p = go l.left l.sits l.goes
     where
       go : (ts : Trees) → SitsItems es ts q → ((answer : Answer) (c : Option (List ℕ)) (k : List ℕ)
-          → Puts b h (table_form w (map num (item_places ts q))) answer c k
-          → Puts a held all answer c k) → Puts a held all (Err fault) c k
+          → PutsBytes b h (table_form w (map num (item_places ts q))) answer c k
+          → PutsBytes a held all answer c k) → PutsBytes a held all (Err fault) c k
       go NoTrees s f = not_both _ (ap is_stop (first_event es q EndCollection s.rest s.is)) nostop
       go (TreeAnd t ts) s f =
           f (Err fault) c k (puts_front (table_form w (map num (item_places ts (q + size t)))) p)
 
   pub items_stop : {b : Option (List ℕ)} {h : List ℕ} {q : ℕ} → Items b h q
-      → is_stop (event_at es q) ≡ true ⊎ (length es ≤ q) → Puts a held all (Ok tt) b h
+      → is_stop (event_at es q) ≡ true ⊎ (length es ≤ q) → PutsBytes a held all (Ok tt) b h
   items_stop {b} {h} {q} l end = go l.left l.sits l.goes end
     where
       go : (ts : Trees) → SitsItems es ts q → ((answer : Answer) (c : Option (List ℕ)) (k : List ℕ)
-          → Puts b h (table_form w (map num (item_places ts q))) answer c k
-          → Puts a held all answer c k)
-          → is_stop (event_at es q) ≡ true ⊎ (length es ≤ q) → Puts a held all (Ok tt) b h
+          → PutsBytes b h (table_form w (map num (item_places ts q))) answer c k
+          → PutsBytes a held all answer c k)
+          → is_stop (event_at es q) ≡ true ⊎ (length es ≤ q) → PutsBytes a held all (Ok tt) b h
       go NoTrees s f e = f (Ok tt) b h puts_none
       go (TreeAnd t ts) s f (inl e) = not_both _ e (begins t q (sits_item s))
       go (TreeAnd t ts) s f (inr e) =
@@ -87,7 +87,7 @@ module _ (es : List PlainEvent) (num : ℕ → ℕ) (w : ℕ) (one : ℕ → ℕ
       pub left : Members
       pub sits : SitsPairs es left q
       pub goes : (answer : Answer) (c : Option (List ℕ)) (k : List ℕ)
-          → Puts b h (put_of left q) answer c k → Puts a held all answer c k
+          → PutsBytes b h (put_of left q) answer c k → PutsBytes a held all answer c k
 
     pub each_within : {b : Option (List ℕ)} {h : List ℕ} {q : ℕ} → Each b h q
         → is_stop (event_at es q) ≡ false → q + 1 + 1 ≤ length es
@@ -99,12 +99,12 @@ module _ (es : List PlainEvent) (num : ℕ → ℕ) (w : ℕ) (one : ℕ → ℕ
 
     pub each_next : {b c : Option (List ℕ)} {h k : List ℕ} {q next : ℕ} → Each b h q
         → is_stop (event_at es q) ≡ false → ((t : Tree) → Sits es t (q + 1) → next ≡ q + 1 + size t)
-        → Puts b h (big_endian w (num (one q))) (Ok tt) c k → Each c k next
+        → PutsBytes b h (big_endian w (num (one q))) (Ok tt) c k → Each c k next
     each_next {b} {c} {h} {k} {q} {next} l nostop skip p = go l.left l.sits l.goes
       where
         go : (ms : Members) → SitsPairs es ms q
             → ((answer : Answer) (c : Option (List ℕ)) (k : List ℕ)
-            → Puts b h (put_of ms q) answer c k → Puts a held all answer c k) → Each c k next
+            → PutsBytes b h (put_of ms q) answer c k → PutsBytes a held all answer c k) → Each c k next
         go NoMembers s f =
             not_both _ (ap is_stop (first_event es q EndCollection s.rest s.is)) nostop
         go (MemberAnd key t ms) s f =
@@ -119,14 +119,14 @@ module _ (es : List PlainEvent) (num : ℕ → ℕ) (w : ℕ) (one : ℕ → ℕ
             })
 
     pub each_fail : {b c : Option (List ℕ)} {h k : List ℕ} {q : ℕ} {fault : Fault} → Each b h q
-        → is_stop (event_at es q) ≡ false → Puts b h (big_endian w (num (one q))) (Err fault) c k
-        → Puts a held all (Err fault) c k
+        → is_stop (event_at es q) ≡ false → PutsBytes b h (big_endian w (num (one q))) (Err fault) c k
+        → PutsBytes a held all (Err fault) c k
     each_fail {b} {c} {h} {k} {q} {fault} l nostop p = go l.left l.sits l.goes
       where
         go : (ms : Members) → SitsPairs es ms q
             → ((answer : Answer) (c : Option (List ℕ)) (k : List ℕ)
-            → Puts b h (put_of ms q) answer c k → Puts a held all answer c k)
-            → Puts a held all (Err fault) c k
+            → PutsBytes b h (put_of ms q) answer c k → PutsBytes a held all answer c k)
+            → PutsBytes a held all (Err fault) c k
         go NoMembers s f =
             not_both _ (ap is_stop (first_event es q EndCollection s.rest s.is)) nostop
         go (MemberAnd key t ms) s f =
@@ -134,13 +134,13 @@ module _ (es : List PlainEvent) (num : ℕ → ℕ) (w : ℕ) (one : ℕ → ℕ
             (puts_front (put_of ms (q + 1 + size t)) p))
 
     pub each_stop : {b : Option (List ℕ)} {h : List ℕ} {q : ℕ} → Each b h q
-        → is_stop (event_at es q) ≡ true ⊎ (length es ≤ q) → Puts a held all (Ok tt) b h
+        → is_stop (event_at es q) ≡ true ⊎ (length es ≤ q) → PutsBytes a held all (Ok tt) b h
     each_stop {b} {h} {q} l end = go l.left l.sits l.goes end
       where
         go : (ms : Members) → SitsPairs es ms q
             → ((answer : Answer) (c : Option (List ℕ)) (k : List ℕ)
-            → Puts b h (put_of ms q) answer c k → Puts a held all answer c k)
-            → is_stop (event_at es q) ≡ true ⊎ (length es ≤ q) → Puts a held all (Ok tt) b h
+            → PutsBytes b h (put_of ms q) answer c k → PutsBytes a held all answer c k)
+            → is_stop (event_at es q) ≡ true ⊎ (length es ≤ q) → PutsBytes a held all (Ok tt) b h
         go NoMembers s f e =
             f (Ok tt) b h (puts_as (ap (λ l. table_form w (map num l)) (sym (none q))) puts_none)
         go (MemberAnd key t ms) s f (inl e) =

@@ -1,12 +1,12 @@
 -- What is appended form by form.
-use Rattle.std.proofs.Common.{◌≡◌, ℕ, zero, suc, ◌+◌, ◌-◌, ◌*◌, ◌/◌, ◌^◌, ◌<◌, ◌≤◌, ℤ, pos, negsuc, ◌≤ℤ◌, List, [], ◌∷◌, ◌++◌, length, take, drop, refl, ap, sym, ◌∙◌, arith}
+use Rattle.std.proofs.Common.{◌≡◌, ℕ, zero, suc, ◌+◌, ◌-◌, ◌*◌, ◌/◌, ◌^◌, ◌<◌, ◌≤◌, ℤ, pos, negsuc, ◌≤ℤ◌, List, [], ◌∷◌, ◌++◌, take, drop, refl, ap, sym, ◌∙◌, append-nil, arith}
 use Rattle.std.specs.Int.{byte_at}
 use Rattle.std.proofs.lemmas.Bool.{lt-ltb, le-ltb}
 use Rattle.std.proofs.lemmas.Int.{ints}
 use native.Mathlib.Nat.{div-eq_of_lt}
-use Rattle.plist_binwrite.specs.Forms.{big_endian, doublings, least_width, natural_form, integer_form, length_form, table_form, trailer_form}
+use Rattle.plist_binwrite.specs.Forms.{big_endian, doublings, least_width, natural_form, integer_form, length_form}
 use Rattle.plist_binwrite.proofs.Widths.{tail_of_digits}
-use Rattle.plist_binwrite.specs.Written.{reference_width, offset_width, ending}
+use Rattle.plist_binwrite.specs.Written.{reference_width, offset_width, trailer_of}
 
 pub length_short : (high count : ℕ) → count < 15 → length_form high count ≡ (high * 16 + count) ∷ []
 unfolding length_form
@@ -53,9 +53,11 @@ integer_wide (pos m) n e h =
     rw (same, le-ltb m (2 ^ 63) large) refl
 integer_wide (negsuc m) n e h = absurd (omega (arith, ints, e))
 
--- the table and the trailer behind the objects
-pub ending_is : (places : List ℕ) (table w r n : ℕ) → w ≡ offset_width table
-    → r ≡ reference_width (length places) → n ≡ length places
-    → table_form w places ++ trailer_form w r n table ≡ ending places table
-ending_is places table w r n a b c =
-    λ i. table_form (a i) places ++ trailer_form (a i) (b i) (c i) table
+-- the trailer with the widths that were found
+pub trailer_is : (count table w r : ℕ) → w ≡ offset_width table → r ≡ reference_width count
+    → 0 ∷ 0 ∷ 0 ∷ 0 ∷ 0 ∷ 0 ∷ w ∷ r
+    ∷ (big_endian 8 count ++ (big_endian 8 0 ++ (big_endian 8 table ++ [])))
+    ≡ trailer_of count table
+trailer_is count table w r a b =
+    λ i. 0 ∷ 0 ∷ 0 ∷ 0 ∷ 0 ∷ 0 ∷ a i ∷ b i
+    ∷ (big_endian 8 count ++ (big_endian 8 0 ++ append-nil (big_endian 8 table) i))

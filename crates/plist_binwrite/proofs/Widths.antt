@@ -29,6 +29,8 @@ unfolding least_width
 width_8 n l =
     rw (le-ltb n (2 ^ 8) (omega arith), le-ltb n (2 ^ 16) (omega arith), le-ltb n (2 ^ 32) l) refl
 
+pub ruleset widths = (width_1, width_2, width_4, width_8)
+
 -- a width of 1, 2, 4 or 8
 pub data IsWidth : ℕ → Type 0 where
   one : IsWidth 1

@@ -1,5 +1,9 @@
--- Trees in whose dictionaries no key stands twice.
-use Rattle.std.specs.Prelude.{◌≢◌, ℕ, List, ⊤}
+-- Trees in whose dictionaries no key stands twice, and what is told of them.
+use Rattle.std.specs.Prelude.{◌≡◌, ◌≢◌, ◌↔◌, ℕ, Bool, false, List, MatchBool, ⊤}
+use Rattle.plist_base.specs.Bracketing.{bracketing, AreAlike}
+use Rattle.plist_binwrite.specs.Held.{plain_events}
+use Rattle.plist_binwrite.specs.Standing.{Sits}
+use Rattle.plist_binwrite.specs.declared.held.Held.{Held}
 use Rattle.plist_base.specs.Trees.{Tree, Leaf, Array, Dictionary, Trees, NoTrees, TreeAnd, Members, NoMembers, MemberAnd}
 
 -- no pair has the key
@@ -27,3 +31,13 @@ abbrev mutual
   ValuesHaveKeysOnce NoMembers = ⊤
   ValuesHaveKeysOnce (MemberAnd key tree members) =
       HasKeysOnce tree × ValuesHaveKeysOnce members
+
+-- tells whether the dictionary that begins at a place has a key twice
+abbrev pub TellsRepeats : Held → (place : ℕ) → Bool → Type 0
+TellsRepeats held place told = (pairs : Members) → Sits (plain_events held) (Dictionary pairs) place
+    → MatchBool told (HasDistinctKeys pairs → ⊥) (HasDistinctKeys pairs)
+
+-- tells whether a dictionary of the tree whose events these are has a key twice
+abbrev pub TellsKeysOnce : Held → Bool → Type 0
+TellsKeysOnce held told = (tree : Tree) → AreAlike (plain_events held) (bracketing tree)
+    → (told ≡ false) ↔ HasKeysOnce tree

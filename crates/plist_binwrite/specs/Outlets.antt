@@ -1,8 +1,15 @@
 -- Bytes on their way to a writer: some went out, and some wait in a room.
-use Rattle.std.specs.Prelude.{◌≡◌, ℕ, List, ◌++◌, Option, Ok, Err}
+use Rattle.std.specs.Prelude.{◌≡◌, ℕ, List, ◌++◌, Option, Result, Ok, Err}
 use Rattle.std.specs.Io.KnownBytes.{Appends}
+use Rattle.std.specs.declared.alloc.Global.{Global}
+use Rattle.std.specs.declared.vec.Vec.{Vec}
+use Rattle.plist_base.specs.declared.error.Error.{Error}
+use Rattle.plist_base.specs.declared.event.Event.{Event}
+use Rattle.plist_base.specs.Events.{event_of}
 use Rattle.plist_base.specs.Faults.{Io, fault_nowhere}
-use Rattle.plist_base.specs.Writing.{Answer}
+use Rattle.plist_base.specs.Writing.{Answer, answer_of}
+use Rattle.plist_binwrite.specs.Forms.{scalar_form}
+use Rattle.plist_binwrite.specs.Held.{IfScalar}
 use Rattle.plist_base.specs.Fronts.{AppendsFront}
 
 -- since `first`, what went out and then what waits are `done`
@@ -22,6 +29,28 @@ Follow old held bytes (Err fault) new holds = (fault ≡ fault_nowhere Io)
     → AppendsFront first new (done ++ bytes))
 
 -- what a call that puts some bytes does: before it `held` waited, and `holds` waits after it
-pub record Puts (old : Option (List ℕ)) (held bytes : List ℕ) (answer : Answer)
+pub record PutsBytes (old : Option (List ℕ)) (held bytes : List ℕ) (answer : Answer)
     (new : Option (List ℕ)) (holds : List ℕ) : Type 0 where
   pub follow : Follow old held bytes answer new holds
+
+module _ {W : Type 0} (contents : W → Option (List ℕ)) where
+  -- the same of a writer and of the room before it
+  abbrev pub Puts : (old : W) → (room : Vec ℕ Global) → (bytes : List ℕ)
+      → Result (Unit {0}) Error → (new : W) → (holds : Vec ℕ Global) → Type 0
+  Puts old room bytes result new holds =
+      PutsBytes (contents old) room.items bytes (answer_of result) (contents new) holds.items
+
+  -- the bytes of a scalar
+  abbrev pub PutsScalar : (old : W) → (room : Vec ℕ Global) → Event → Result (Unit {0}) Error
+      → (new : W) → (holds : Vec ℕ Global) → Type 0
+  PutsScalar old room event result new holds = IfScalar (event_of event)
+      (λ scalar. Puts old room (scalar_form scalar) result new holds)
+
+  -- all that was put goes out, or a beginning of it
+  abbrev pub Empties : (old : W) → (waiting : List ℕ) → (new : W) → Type 0
+  Empties old waiting new = (first : Option (List ℕ)) (done : List ℕ)
+      → IsOut first (contents old) waiting done → Appends first (contents new) done
+
+  abbrev pub EmptiesInPart : (old : W) → (waiting : List ℕ) → (new : W) → Type 0
+  EmptiesInPart old waiting new = (first : Option (List ℕ)) (done : List ℕ)
+      → IsOut first (contents old) waiting done → AppendsFront first (contents new) done

@@ -1,10 +1,11 @@
 -- What contracts see of the events of the open property list.
-use Rattle.std.specs.Prelude.{◌≡◌, Bool, List, [], ◌∷◌, ◌++◌, MatchBool}
+use Rattle.std.specs.Prelude.{◌≡◌, Bool, List, [], ◌∷◌, ◌++◌, Option, None, IfSome, MatchBool}
+use Rattle.plist_base.specs.declared.error.Error.{Error}
 use Rattle.plist_base.specs.declared.error.EventKind.{EventKind}
 use Rattle.plist_base.specs.declared.error.EventKind.TheVariants as event_kind
 use Rattle.plist_base.specs.Bracketing.{unhinted, AreWhole, AreComplete, CanContinue}
 use Rattle.plist_base.specs.Events.{PlainEvent, kind_of_event}
-use Rattle.plist_base.specs.Faults.{Fault, UnexpectedEventType, fault_nowhere}
+use Rattle.plist_base.specs.Faults.{Fault, UnexpectedEventType, fault_nowhere, fault_of}
 use Rattle.plist_binwrite.specs.declared.pending.Pending.{Pending}
 use Rattle.plist_binwrite.specs.Held.{plain_events}
 
@@ -39,3 +40,17 @@ Takes before event after =
 -- the event can't follow those held, and this is its fault
 abbrev pub IsRefused : (held : List PlainEvent) → PlainEvent → Fault → Type 0
 IsRefused held event fault = (CanContinue held event → ⊥) × (fault ≡ refusal_of held event)
+
+-- a refusal is that of an event that can't follow those held, and nothing changes
+abbrev pub Refuses : (before : Pending) → PlainEvent → (after : Pending) → Option Error → Type 0
+Refuses before event after refusal = IfSome refusal
+    (λ error. IsRefused (events_held before) event (fault_of error) × (after ≡ before))
+
+-- an event that isn't refused can follow those held, and is taken
+abbrev pub Accepts : (before : Pending) → PlainEvent → (after : Pending) → Option Error → Type 0
+Accepts before event after refusal =
+    refusal ≡ None → CanContinue (events_held before) event × Takes before event after
+
+-- the event can follow those held
+abbrev pub CanTake : Pending → PlainEvent → Type 0
+CanTake pending event = CanContinue (events_held pending) event

@@ -7,5 +7,7 @@ pub mod Numbering
 pub mod Opening
 pub mod Planning
 pub mod PlansBy
+pub mod Putting
 pub mod Scalars
+pub mod Sizing
 pub mod Stacks

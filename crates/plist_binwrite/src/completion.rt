@@ -1,22 +1,21 @@
 //! The end of a property list: its file is planned and sent.
 
-ghost use Rattle.std.specs.Prelude.{◌≡◌, [], ℕ, length, IfOk, IfErr};
+ghost use Rattle.std.specs.Prelude.{◌≡◌, [], length, IfOk, IfErr};
 ghost use Rattle.plist_base.specs.Outcomes.{OnlyMemory};
 ghost use Rattle.plist_base.specs.Bracketing.{AreWhole};
-ghost use Rattle.plist_base.specs.Faults.{fault_of};
 ghost use Rattle.plist_base.specs.Writing.{answer_of};
-ghost use Rattle.plist_binread.specs.Object.{Object};
-ghost use Rattle.plist_binwrite.specs.Classes.{AreClasses, IsUnplanned, SendsBy};
-ghost use Rattle.plist_binwrite.specs.inner.Ending.{IsReady, IsReadyBy, SendsReady, file_of, numbers_in};
-ghost use Rattle.plist_binwrite.specs.Held.{plain_events, num_of, AllBelow, IsBracketed, Describes};
-ghost use Rattle.plist_binwrite.specs.Outlets.{Puts};
+ghost use Rattle.plist_binwrite.specs.Classes.{AreClasses};
+ghost use Rattle.plist_binwrite.specs.inner.Ending.{IsReady, IsReadyBy};
+ghost use Rattle.plist_binwrite.specs.Held.{plain_events, num_of, AllBelow, IsBracketed};
 ghost use Rattle.plist_binwrite.specs.Sending.{Sends};
+ghost use Rattle.plist_binwrite.specs.Completing.{LacksPlan, SendsByClass};
+ghost use Rattle.plist_binwrite.specs.inner.Putting.{PutsFile, SendsPlanned};
 
 use crate::classes::{Classes, classes_of};
 use crate::forms::{put_ending, reference_width};
 use crate::held::Held;
 use crate::layout::order_objects;
-use crate::objects::put_objects;
+use crate::objects::{Planned, put_objects};
 use crate::outlet::{finish, put};
 use crate::plan::{Plan, plan_by_class};
 use crate::size::check_size;
@@ -42,10 +41,8 @@ fn make_ready(alloc: Global, events: &Held<'_>, classes: Classes) -> Result<Read
     requires long { length classes.of.items ≡ length (plain_events events.now) }
     requires below { AllBelow classes.count classes.of.items }
     requires classes { AreClasses (plain_events events.now) (num_of classes.of.items) }
-    ensures ready { IfOk result (λ ready. IsReadyBy (plain_events events.now)
-        (num_of classes.of.items) ready) }
-    ensures refused { IfErr result (λ error. IsUnplanned (num_of classes.of.items)
-        (plain_events events.now) (fault_of error)) }
+    ensures ready { IfOk result (IsReadyBy (plain_events events.now) (num_of classes.of.items)) }
+    ensures refused { IfErr result (LacksPlan classes events.now) }
 {
     let plan = plan_by_class(alloc, events, classes)?;
     let layout = order_objects(alloc, events, &plan)?;
@@ -64,44 +61,45 @@ fn make_ready(alloc: Global, events: &Held<'_>, classes: Classes) -> Result<Read
 
 // Puts a planned file.
 fn put_file<W: Write>(
-    writer: &mut W,
+    out: &mut W,
     room: &mut Vec<u8>,
     events: &Held<'_>,
     ready: &Ready,
 ) -> Result<(), Error>
     requires ready { IsReady (plain_events events.now) ready.now }
-    ensures { (objects : ℕ → Object)
-        → Describes (plain_events events.now) (numbers_in ready.now) objects
-        → Puts (W.contents writer.old) room.old.items (file_of ready.now objects)
-        (answer_of result) (W.contents writer.new) room.new.items }
+    ensures { PutsFile W.contents out.old room.old events.now ready.now result out.new room.new }
 {
     let order = ready.order.as_slice();
     let places = ready.places.as_slice();
     let width = reference_width(places.len() as u64);
-    match put(writer, room, b"bplist00") {
+    match put(out, room, b"bplist00") {
         Ok(()) => {}
         Err(error) => return Err(error),
     }
-    match put_objects(writer, room, events, &ready.plan, width, order) {
-        Ok(()) => put_ending(writer, room, places, ready.table),
+    let file = Planned {
+        events,
+        plan: &ready.plan,
+        width,
+    };
+    match put_objects(out, room, &file, order) {
+        Ok(()) => put_ending(out, room, places, ready.table),
         Err(error) => Err(error),
     }
 }
 
 // Sends a planned file through an empty room, and flushes. It takes no memory.
 fn send_file<W: Write>(
-    writer: &mut W,
+    out: &mut W,
     room: &mut Vec<u8>,
     events: &Held<'_>,
     ready: &Ready,
 ) -> Result<(), Error>
     requires ready { IsReady (plain_events events.now) ready.now }
     requires empty { room.old.items ≡ [] }
-    ensures { SendsReady W.contents (plain_events events.now) ready.now
-        (answer_of result) writer.old writer.new }
+    ensures { SendsPlanned W.contents events.now ready.now result out.old out.new }
 {
-    match put_file(writer, room, events, ready) {
-        Ok(()) => finish(writer, room.as_slice()),
+    match put_file(out, room, events, ready) {
+        Ok(()) => finish(out, room.as_slice()),
         Err(error) => Err(error),
     }
 }
@@ -115,8 +113,8 @@ fn make_room(alloc: Global) -> Result<Vec<u8>, Error>
 }
 
 /// Plans the file of the events of a whole property list with one object for each class, sends it
-/// and flushes. All memory is taken before the first byte is sent: besides the plan, a room of fixed
-/// size that bytes are sent through.
+/// and flushes. All memory is taken before the first byte is sent: besides the plan, a room of
+/// fixed size that bytes are sent through.
 ///
 /// Trees of one class have one object; the class of an end is of no account.
 ///
@@ -133,8 +131,7 @@ pub fn complete_by_class<W: Write>(
     requires long { length classes.of.items ≡ length (plain_events events.now) }
     requires below { AllBelow classes.count classes.of.items }
     requires classes { AreClasses (plain_events events.now) (num_of classes.of.items) }
-    ensures { SendsBy (num_of classes.of.items) W.contents (plain_events events.now)
-        (answer_of result) writer.old writer.new }
+    ensures { SendsByClass classes W.contents events.now result writer.old writer.new }
 {
     let mut room = make_room(alloc)?;
     let ready = make_ready(alloc, events, classes)?;
@@ -145,7 +142,8 @@ pub fn complete_by_class<W: Write>(
 }
 
 /// Plans the file of the events of a whole property list, sends it and flushes: one object for each
-/// collection, and one for each different scalar. All memory is taken before the first byte goes out.
+/// collection, and one for each different scalar. All memory is taken before the first byte goes
+/// out.
 ///
 /// # Errors
 /// Those of [`complete_by_class`].

@@ -1,14 +1,13 @@
-//! The bytes of each form of a file: scalars, lengths, references, the offset table and the trailer,
-//! each in the least form that holds it.
+//! The bytes of each form of a file: scalars, lengths, references, the offset table and the
+//! trailer, each in the least form that holds it.
 //!
-//! Each function puts its bytes through a room to a writer, as [`put`](crate::outlet::put) does. The
-//! one refusal is `Io` without an offset; a beginning of all that was put went out then.
+//! Each function puts its bytes through a room to a writer, as [`put`](crate::outlet::put) does.
+//! The one refusal is `Io` without an offset; a beginning of all that was put went out then.
 
 ghost use Rattle.std.specs.Prelude.{◌≡◌, ◌∷◌, [], ◌≤◌, ◌<◌, ◌^◌};
-ghost use Rattle.plist_base.specs.Writing.{answer_of};
-ghost use Rattle.plist_binwrite.specs.Forms.{big_endian, doublings, least_width, natural_form, integer_form, uid_form, length_form, boolean_form, data_form, date_form, real_form, table_form, trailer_form};
+ghost use Rattle.plist_binwrite.specs.Forms.{big_endian, doublings, least_width, natural_form, integer_form, uid_form, length_form, boolean_form, data_form, date_form, real_form, table_form, marked};
 ghost use Rattle.plist_binwrite.specs.Outlets.{Puts};
-ghost use Rattle.plist_binwrite.specs.Written.{reference_width, offset_width, ending};
+ghost use Rattle.plist_binwrite.specs.Written.{reference_width, offset_width, ending, trailer_of};
 
 use crate::outlet::{put, put_both};
 pub use crate::scalar::put_scalar;
@@ -17,7 +16,7 @@ use plist_base::{Date, Error, Integer, RealBits, Uid};
 use std::io::Write;
 
 /// The least of 1, 2, 4 and 8 bytes that hold a number.
-#[tactic(auto, using(crate::proofs::Widths::width_1, crate::proofs::Widths::width_2, crate::proofs::Widths::width_4, crate::proofs::Widths::width_8))]
+#[tactic(auto, using(crate::proofs::Widths::widths))]
 pub fn least_width(number: u64) -> usize
     ensures value { result ≡ least_width number }
     ensures range { (1 ≤ result) × (result ≤ 8) }
@@ -66,84 +65,78 @@ fn doublings(width: usize) -> u8
 }
 
 /// Puts a byte.
-pub fn put_byte<W: Write>(writer: &mut W, room: &mut Vec<u8>, byte: u8) -> Result<(), Error>
-    ensures { Puts (W.contents writer.old) room.old.items (byte ∷ [])
-        (answer_of result) (W.contents writer.new) room.new.items }
+pub fn put_byte<W: Write>(out: &mut W, room: &mut Vec<u8>, byte: u8) -> Result<(), Error>
+    ensures { Puts W.contents out.old room.old (byte ∷ []) result out.new room.new }
 {
-    put(writer, room, &[byte])
+    put(out, room, &[byte])
 }
 
 // Puts a marker and the bytes behind it.
 fn put_marked<W: Write>(
-    writer: &mut W,
+    out: &mut W,
     room: &mut Vec<u8>,
     marker: u8,
     bytes: &[u8],
 ) -> Result<(), Error>
-    ensures { Puts (W.contents writer.old) room.old.items (marker ∷ bytes.now)
-        (answer_of result) (W.contents writer.new) room.new.items }
+    ensures { Puts W.contents out.old room.old (marker ∷ bytes.now) result out.new room.new }
 {
-    put_both(writer, room, &[marker], bytes)
+    put_both(out, room, &[marker], bytes)
 }
 
 /// Puts the lowest `width` bytes of a number, the highest of them first.
 pub fn put_number<W: Write>(
-    writer: &mut W,
+    out: &mut W,
     room: &mut Vec<u8>,
     width: usize,
     number: u64,
 ) -> Result<(), Error>
     requires width { width ≤ 8 }
-    ensures { Puts (W.contents writer.old) room.old.items (big_endian width number)
-        (answer_of result) (W.contents writer.new) room.new.items }
+    ensures { Puts W.contents out.old room.old (big_endian width number) result out.new room.new }
 {
     let digits = number.to_be_bytes();
-    put(writer, room, &digits[8 - width..])
+    put(out, room, &digits[8 - width..])
 }
 
 // Puts a marker and the lowest `width` bytes of a number.
 fn put_marked_number<W: Write>(
-    writer: &mut W,
+    out: &mut W,
     room: &mut Vec<u8>,
-    marker: u8,
+    byte: u8,
     width: usize,
     number: u64,
 ) -> Result<(), Error>
     requires width { width ≤ 8 }
-    ensures { Puts (W.contents writer.old) room.old.items (marker ∷ big_endian width number)
-        (answer_of result) (W.contents writer.new) room.new.items }
+    ensures { Puts W.contents out.old room.old (marked byte width number) result out.new room.new }
 {
     let digits = number.to_be_bytes();
-    put_both(writer, room, &[marker], &digits[8 - width..])
+    put_both(out, room, &[byte], &digits[8 - width..])
 }
 
 /// Puts a number without sign, in the least of 1, 2, 4 and 8 bytes.
-pub fn put_natural<W: Write>(writer: &mut W, room: &mut Vec<u8>, number: u64) -> Result<(), Error>
-    ensures { Puts (W.contents writer.old) room.old.items (natural_form number)
-        (answer_of result) (W.contents writer.new) room.new.items }
+pub fn put_natural<W: Write>(out: &mut W, room: &mut Vec<u8>, number: u64) -> Result<(), Error>
+    ensures { Puts W.contents out.old room.old (natural_form number) result out.new room.new }
 {
     let width = least_width(number);
-    put_marked_number(writer, room, 0x10 + doublings(width), width, number)
+    put_marked_number(out, room, 0x10 + doublings(width), width, number)
 }
 
 /// Puts a marker of this high half with a length: in its low half below 15, else behind it.
 pub fn put_length<W: Write>(
-    writer: &mut W,
+    out: &mut W,
     room: &mut Vec<u8>,
     high: u8,
     count: u64,
 ) -> Result<(), Error>
     requires half { high < 16 }
-    ensures { Puts (W.contents writer.old) room.old.items (length_form high count)
-        (answer_of result) (W.contents writer.new) room.new.items }
+    ensures { Puts W.contents out.old room.old (length_form high count) result out.new room.new }
 {
     if count < 15 {
-        return put_byte(writer, room, high * 16 + count as u8);
+        return put_byte(out, room, high * 16 + count as u8);
     }
     let width = least_width(count);
     let digits = count.to_be_bytes();
     put_both(
-        writer,
+        out,
         room,
         &[high * 16 + 15, 0x10 + doublings(width)],
         &digits[8 - width..],
@@ -151,95 +144,83 @@ pub fn put_length<W: Write>(
 }
 
 /// Puts a truth value.
-pub fn put_boolean<W: Write>(writer: &mut W, room: &mut Vec<u8>, value: bool) -> Result<(), Error>
-    ensures { Puts (W.contents writer.old) room.old.items (boolean_form value)
-        (answer_of result) (W.contents writer.new) room.new.items }
+pub fn put_boolean<W: Write>(out: &mut W, room: &mut Vec<u8>, value: bool) -> Result<(), Error>
+    ensures { Puts W.contents out.old room.old (boolean_form value) result out.new room.new }
 {
-    put_byte(writer, room, if value { 0x09 } else { 0x08 })
+    put_byte(out, room, if value { 0x09 } else { 0x08 })
 }
 
 /// Puts data.
-pub fn put_data<W: Write>(writer: &mut W, room: &mut Vec<u8>, content: &[u8]) -> Result<(), Error>
-    ensures { Puts (W.contents writer.old) room.old.items (data_form content.now)
-        (answer_of result) (W.contents writer.new) room.new.items }
+pub fn put_data<W: Write>(out: &mut W, room: &mut Vec<u8>, content: &[u8]) -> Result<(), Error>
+    ensures { Puts W.contents out.old room.old (data_form content.now) result out.new room.new }
 {
     let count = content.len();
-    match put_length(writer, room, 0x4, count as u64) {
-        Ok(()) => put(writer, room, content),
+    match put_length(out, room, 0x4, count as u64) {
+        Ok(()) => put(out, room, content),
         Err(error) => Err(error),
     }
 }
 
 /// Puts a date by its eight bytes.
-pub fn put_date<W: Write>(writer: &mut W, room: &mut Vec<u8>, date: Date) -> Result<(), Error>
-    ensures { Puts (W.contents writer.old) room.old.items (date_form date)
-        (answer_of result) (W.contents writer.new) room.new.items }
+pub fn put_date<W: Write>(out: &mut W, room: &mut Vec<u8>, date: Date) -> Result<(), Error>
+    ensures { Puts W.contents out.old room.old (date_form date) result out.new room.new }
 {
-    put_marked(writer, room, 0x33, &date.to_plist_real())
+    put_marked(out, room, 0x33, &date.to_plist_real())
 }
 
 /// Puts a real in the width that it has.
-pub fn put_real<W: Write>(writer: &mut W, room: &mut Vec<u8>, bits: RealBits) -> Result<(), Error>
-    ensures { Puts (W.contents writer.old) room.old.items (real_form bits)
-        (answer_of result) (W.contents writer.new) room.new.items }
+pub fn put_real<W: Write>(out: &mut W, room: &mut Vec<u8>, bits: RealBits) -> Result<(), Error>
+    ensures { Puts W.contents out.old room.old (real_form bits) result out.new room.new }
 {
     match bits {
-        RealBits::Four(digits) => put_marked(writer, room, 0x22, &digits),
-        RealBits::Eight(digits) => put_marked(writer, room, 0x23, &digits),
+        RealBits::Four(digits) => put_marked(out, room, 0x22, &digits),
+        RealBits::Eight(digits) => put_marked(out, room, 0x23, &digits),
     }
 }
 
 /// Puts a Uid.
-pub fn put_uid<W: Write>(writer: &mut W, room: &mut Vec<u8>, uid: Uid) -> Result<(), Error>
-    ensures { Puts (W.contents writer.old) room.old.items (uid_form uid)
-        (answer_of result) (W.contents writer.new) room.new.items }
+pub fn put_uid<W: Write>(out: &mut W, room: &mut Vec<u8>, uid: Uid) -> Result<(), Error>
+    ensures { Puts W.contents out.old room.old (uid_form uid) result out.new room.new }
 {
     let width = least_width(uid.get());
-    put_marked_number(writer, room, 0x7f + width as u8, width, uid.get())
+    put_marked_number(out, room, 0x7f + width as u8, width, uid.get())
 }
 
 // Puts an integer above `i64::MAX`, in sixteen bytes.
-fn put_wide_integer<W: Write>(writer: &mut W, room: &mut Vec<u8>, number: u64) -> Result<(), Error>
-    ensures { Puts (W.contents writer.old) room.old.items (0x14 ∷ big_endian 16 number)
-        (answer_of result) (W.contents writer.new) room.new.items }
+fn put_wide_integer<W: Write>(out: &mut W, room: &mut Vec<u8>, number: u64) -> Result<(), Error>
+    ensures { Puts W.contents out.old room.old (marked 0x14 16 number) result out.new room.new }
 {
-    match put_marked_number(writer, room, 0x14, 8, 0) {
-        Ok(()) => put_number(writer, room, 8, number),
+    match put_marked_number(out, room, 0x14, 8, 0) {
+        Ok(()) => put_number(out, room, 8, number),
         Err(error) => Err(error),
     }
 }
 
 /// Puts an integer: one from 0 to `i64::MAX` in the least of 1, 2, 4 and 8 bytes, a negative one
 /// in eight, and one above `i64::MAX` in sixteen.
-pub fn put_integer<W: Write>(
-    writer: &mut W,
-    room: &mut Vec<u8>,
-    value: Integer,
-) -> Result<(), Error>
-    ensures { Puts (W.contents writer.old) room.old.items (integer_form value)
-        (answer_of result) (W.contents writer.new) room.new.items }
+pub fn put_integer<W: Write>(out: &mut W, room: &mut Vec<u8>, value: Integer) -> Result<(), Error>
+    ensures { Puts W.contents out.old room.old (integer_form value) result out.new room.new }
 {
     match (value.as_unsigned(), value.as_signed()) {
-        (Some(number), Some(_)) => put_natural(writer, room, number),
-        (Some(number), None) => put_wide_integer(writer, room, number),
-        (None, Some(number)) => { put_marked_number(writer, room, 0x13, 8, number.cast_unsigned()) }
+        (Some(number), Some(_)) => put_natural(out, room, number),
+        (Some(number), None) => put_wide_integer(out, room, number),
+        (None, Some(number)) => { put_marked_number(out, room, 0x13, 8, number.cast_unsigned()) }
         (None, None) => Ok(()),
     }
 }
 
 /// Puts some numbers of this width, as an offset table has them.
 pub fn put_numbers<W: Write>(
-    writer: &mut W,
+    out: &mut W,
     room: &mut Vec<u8>,
     width: usize,
-    numbers: &[usize],
+    list: &[usize],
 ) -> Result<(), Error>
     requires width { width ≤ 8 }
-    ensures { Puts (W.contents writer.old) room.old.items (table_form width numbers.now)
-        (answer_of result) (W.contents writer.new) room.new.items }
+    ensures { Puts W.contents out.old room.old (table_form width list.now) result out.new room.new }
 {
-    for number in numbers {
-        match put_number(writer, room, width, *number as u64) {
+    for number in list {
+        match put_number(out, room, width, *number as u64) {
             Ok(()) => {}
             Err(error) => return Err(error),
         }
@@ -247,44 +228,36 @@ pub fn put_numbers<W: Write>(
     Ok(())
 }
 
-/// Puts the trailer; the root is object 0.
+/// Puts the trailer of a file of so many objects, whose offset table lies at `table`; the root is
+/// object 0.
 pub fn put_trailer<W: Write>(
-    writer: &mut W,
+    out: &mut W,
     room: &mut Vec<u8>,
-    offset_width: u8,
-    reference_width: u8,
     count: usize,
     table: usize,
 ) -> Result<(), Error>
-    ensures { Puts (W.contents writer.old) room.old.items
-        (trailer_form offset_width reference_width count table)
-        (answer_of result) (W.contents writer.new) room.new.items }
+    ensures { Puts W.contents out.old room.old (trailer_of count table) result out.new room.new }
 {
-    match put(
-        writer,
-        room,
-        &[0, 0, 0, 0, 0, 0, offset_width, reference_width],
-    ) {
-        Ok(()) => put_numbers(writer, room, 8, &[count, 0, table]),
+    let wide = offset_width(table as u64) as u8;
+    let narrow = reference_width(count as u64) as u8;
+    match put(out, room, &[0, 0, 0, 0, 0, 0, wide, narrow]) {
+        Ok(()) => put_numbers(out, room, 8, &[count, 0, table]),
         Err(error) => Err(error),
     }
 }
 
 /// Puts the offset table, which lies at `table`, and the trailer.
 pub fn put_ending<W: Write>(
-    writer: &mut W,
+    out: &mut W,
     room: &mut Vec<u8>,
     places: &[usize],
     table: usize,
 ) -> Result<(), Error>
-    ensures { Puts (W.contents writer.old) room.old.items (ending places.now table)
-        (answer_of result) (W.contents writer.new) room.new.items }
+    ensures { Puts W.contents out.old room.old (ending places.now table) result out.new room.new }
 {
     let width = offset_width(table as u64);
-    let count = places.len();
-    let narrow = reference_width(count as u64);
-    match put_numbers(writer, room, width, places) {
-        Ok(()) => put_trailer(writer, room, width as u8, narrow as u8, count, table),
+    match put_numbers(out, room, width, places) {
+        Ok(()) => put_trailer(out, room, places.len(), table),
         Err(error) => Err(error),
     }
 }

@@ -1,6 +1,6 @@
 //! The events of a property list, each different scalar once.
 
-ghost use Rattle.std.specs.Prelude.{◌≡◌, ◌+◌, ◌^◌, ◌<◌, true, length, OnOk, OnErr};
+ghost use Rattle.std.specs.Prelude.{◌≡◌, ◌^◌, ◌<◌, true, length, OnOk, OnErr};
 ghost use Rattle.std.proofs.Props.{props};
 ghost use Rattle.plist_base.specs.Events.{EndCollection, event_of};
 ghost use Rattle.plist_base.specs.Outcomes.{OnlyMemory};
@@ -45,7 +45,7 @@ pub struct Held<'e> {
 }
 
 impl<'e> Held<'e> {
-    ghost use Rattle.std.specs.Prelude.{◌≤◌, [], Some, None, false, IfSome};
+    ghost use Rattle.std.specs.Prelude.{◌≤◌, [], None, false, IfSome};
     ghost use Rattle.plist_binwrite.specs.Held.{plain_event, plain_events, scalars_of, kind_of, EndsTree, GrowsBy, HasItem, IsScalarAt, LacksItem, held_at, shown_in};
     ghost use Rattle.plist_binwrite.specs.inner.Entries.{is_start, IsUnclosed};
 

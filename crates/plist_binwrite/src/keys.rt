@@ -1,13 +1,10 @@
 //! Whether a dictionary has a key twice.
 
-ghost use Rattle.std.specs.Prelude.{◌≡◌, ◌≢◌, ◌+◌, ◌<◌, ◌↔◌, true, false, length, get_or, set, IfOk, MatchBool};
-ghost use Rattle.plist_base.specs.Bracketing.{bracketing, AreAlike};
+ghost use Rattle.std.specs.Prelude.{◌≡◌, ◌≢◌, ◌+◌, ◌<◌, true, false, length, get_or, set, IfOk};
 ghost use Rattle.plist_base.specs.Outcomes.{OnlyMemory};
-ghost use Rattle.plist_base.specs.Trees.{Dictionary, Members, Tree};
-ghost use Rattle.plist_binwrite.specs.Held.{plain_events, scalars_of, AllBelow, event_at, kind_of};
+ghost use Rattle.plist_binwrite.specs.Held.{plain_events, scalars_of, AllBelow, kind_of, held_at};
 ghost use Rattle.plist_binwrite.specs.declared.kinds.Kind.TheVariants.{Dictionary as KindDictionary};
-ghost use Rattle.plist_binwrite.specs.Keys.{HasDistinctKeys, HasKeysOnce};
-ghost use Rattle.plist_binwrite.specs.Standing.{Sits};
+ghost use Rattle.plist_binwrite.specs.Keys.{TellsKeysOnce, TellsRepeats};
 
 use crate::held::Held;
 use crate::kinds::Kind;
@@ -34,8 +31,7 @@ fn repeats_here(events: &Held<'_>, start: usize, stamps: &mut Vec<usize>) -> boo
     requires older { AllBelow (start + 1) stamps.old.items }
     ensures long { length stamps.new.items ≡ length (scalars_of events.now) }
     ensures newer { AllBelow (start + 2) stamps.new.items }
-    ensures repeats { (ms : Members) → Sits (plain_events events.now) (Dictionary ms) start
-        → MatchBool result (HasDistinctKeys ms → ⊥) (HasDistinctKeys ms) }
+    ensures repeats { TellsRepeats events.now start result }
 {
     let mark = start + 1;
     let mut key = mark;
@@ -62,10 +58,8 @@ fn repeats_at(events: &Held<'_>, place: usize, stamps: &mut Vec<usize>) -> bool
     requires older { AllBelow (place + 1) stamps.old.items }
     ensures long { length stamps.new.items ≡ length (scalars_of events.now) }
     ensures newer { AllBelow (place + 2) stamps.new.items }
-    ensures begins { result ≡ true
-        → kind_of (event_at (plain_events events.now) place) ≡ KindDictionary }
-    ensures repeats { (ms : Members) → Sits (plain_events events.now) (Dictionary ms) place
-        → MatchBool result (HasDistinctKeys ms → ⊥) (HasDistinctKeys ms) }
+    ensures begins { result ≡ true → kind_of (held_at events.now place) ≡ KindDictionary }
+    ensures repeats { TellsRepeats events.now place result }
 {
     match events.kind_at(place) {
         Kind::Dictionary => repeats_here(events, place, stamps),
@@ -73,15 +67,13 @@ fn repeats_at(events: &Held<'_>, place: usize, stamps: &mut Vec<usize>) -> bool
     }
 }
 
-/// Whether a dictionary of the property list whose events these are has a key twice. Where none has,
-/// the last value of each key is its only one.
+/// Whether a dictionary of the property list whose events these are has a key twice. Where none
+/// has, the last value of each key is its only one.
 ///
 /// # Errors
 /// `OutOfMemory`, without an offset.
 pub fn repeats_key(alloc: Global, events: &Held<'_>) -> Result<bool, Error>
-    ensures once { IfOk result (λ repeats. (tree : Tree)
-        → AreAlike (plain_events events.now) (bracketing tree)
-        → (repeats ≡ false) ↔ HasKeysOnce tree) }
+    ensures once { IfOk result (TellsKeysOnce events.now) }
     ensures memory { OnlyMemory result }
 {
     let mut stamps = vec![in alloc; 0usize; events.count_scalars()]?;

@@ -1,11 +1,11 @@
 //! The order of a file's objects.
 
-ghost use Rattle.std.specs.Prelude.{◌≡◌, ◌≢◌, ◌<◌, ℕ, length, get_or, eqb, true, false, IfOk, OnOk};
+ghost use Rattle.std.specs.Prelude.{◌≡◌, ◌<◌, ℕ, length, get_or, IfOk, OnOk};
 ghost use Rattle.plist_base.specs.Outcomes.{OnlyMemory};
-ghost use Rattle.std.specs.List.{list_any};
-ghost use Rattle.plist_binwrite.specs.Held.{plain_events, is_stop, event_at, num_of};
-ghost use Rattle.plist_binwrite.specs.inner.Laying.{IsOrder, KeepsMarks};
-ghost use Rattle.plist_binwrite.specs.inner.Planning.{IsPlanned, count_of, numbers_of};
+ghost use Rattle.plist_binwrite.specs.Held.{plain_events};
+ghost use Rattle.plist_binwrite.specs.inner.Laying.{IsOrder, KeepsMarks, HasAll};
+ghost use Rattle.plist_binwrite.specs.inner.Planning.{IsPlanned, count_of};
+ghost use Rattle.plist_binwrite.specs.inner.Sizing.{MarksItem};
 
 use crate::held::Held;
 use crate::kinds::{Kind, push_place};
@@ -26,9 +26,7 @@ fn order_one(
     requires order { IsOrder (count_of plan.now) order.old.items marks.old.items }
     ensures order { OnOk result (IsOrder (count_of plan.now) order.new.items marks.new.items) }
     ensures keeps { OnOk result (KeepsMarks marks.old.items marks.new.items) }
-    ensures marked { OnOk result (place < length (plain_events events.now)
-        → is_stop (event_at (plain_events events.now) place) ≡ false
-        → get_or marks.new.items (num_of (numbers_of plan.now) place) 0 ≢ 0) }
+    ensures marked { OnOk result (MarksItem events.now plan.now place marks.new) }
     ensures memory { OnlyMemory result }
 {
     if !events.has_item(place) {
@@ -82,8 +80,7 @@ fn order_here(
     requires order { IsOrder (count_of plan.now) order.old.items marks.old.items }
     ensures order { OnOk result (IsOrder (count_of plan.now) order.new.items marks.new.items) }
     ensures keeps { OnOk result (KeepsMarks marks.old.items marks.new.items) }
-    ensures marked { OnOk result (is_stop (event_at (plain_events events.now) place) ≡ false
-        → get_or marks.new.items (num_of (numbers_of plan.now) place) 0 ≢ 0) }
+    ensures marked { OnOk result (MarksItem events.now plan.now place marks.new) }
     ensures memory { OnlyMemory result }
 {
     order_one(events, plan, place, order, marks)?;
@@ -117,8 +114,7 @@ pub struct Layout {
 pub fn order_objects(alloc: Global, events: &Held<'_>, plan: &Plan) -> Result<Layout, Error>
     requires planned { IsPlanned (plain_events events.now) plan.now }
     ensures order { IfOk result (λ r. IsOrder (count_of plan.now) r.order.items r.places.items) }
-    ensures all { IfOk result (λ r. (k : ℕ) → k < count_of plan.now
-        → list_any (eqb k) r.order.items ≡ true) }
+    ensures all { IfOk result (λ r. HasAll (count_of plan.now) r.order.items) }
     ensures memory { OnlyMemory result }
 {
     let count = plan.numbering.firsts.len();

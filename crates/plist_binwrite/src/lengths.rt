@@ -4,7 +4,7 @@ ghost use Rattle.std.specs.Prelude.{◌≡◌, ◌+◌, ◌*◌, ◌≤◌, ◌<
 ghost use Rattle.plist_base.specs.Events.{event_of};
 ghost use Rattle.plist_binwrite.specs.Forms.{IsDateBytes, IsInteger, IsReal, IsText, IsWritableScalar, natural_form, integer_form, uid_form, length_form, date_form, real_form, text_form};
 ghost use Rattle.plist_binwrite.specs.Held.{IfScalar};
-ghost use Rattle.plist_binwrite.specs.Sizes.{TellsSize, scalar_size};
+ghost use Rattle.plist_binwrite.specs.Sizes.{TellsSize, marked_size, scalar_size};
 
 use crate::forms::least_width;
 use crate::text::{count_units, is_ascii_text};
@@ -43,7 +43,7 @@ pub fn length_of_count(count: u64) -> u64
 
 // The length of so many bytes behind their marker.
 fn length_of_bytes(count: u64) -> Option<u64>
-    ensures value { (high : ℕ) → TellsSize result (length (length_form high count) + count) }
+    ensures value { (high : ℕ) → TellsSize result (marked_size high count count) }
 {
     count.checked_add(length_of_count(count))
 }
@@ -96,8 +96,7 @@ fn length_of_uid(uid: Uid) -> u64
 
 /// The length of a scalar. Of the start and the end of a collection nothing is told.
 pub fn length_of_scalar(event: &Event<'_>) -> Option<u64>
-    ensures value { IfScalar (event_of event.now) (λ scalar. TellsSize result
-        (scalar_size scalar)) }
+    ensures value { IfScalar (event_of event.now) (λ x. TellsSize result (scalar_size x)) }
     ensures writable { IfScalar (event_of event.now) IsWritableScalar }
 {
     match event {
@@ -114,8 +113,7 @@ pub fn length_of_scalar(event: &Event<'_>) -> Option<u64>
 
 /// The length of a collection of this count with so many references, each of this width.
 pub fn length_of_collection(count: u64, references: u64, width: u64) -> Option<u64>
-    ensures value { (high : ℕ) → TellsSize result (length
-        (length_form high count) + references * width) }
+    ensures value { (high : ℕ) → TellsSize result (marked_size high count (references * width)) }
 {
     add(Some(length_of_count(count)), references.checked_mul(width))
 }

@@ -1,11 +1,8 @@
 //! Sends bytes part by part, through a room of fixed size.
 
-ghost use Rattle.std.specs.Prelude.{◌≡◌, ◌++◌, ℕ, List, Option, true, false, OnOk};
+ghost use Rattle.std.specs.Prelude.{◌≡◌, ◌++◌, true, false, OnOk};
 ghost use Rattle.plist_base.specs.Outcomes.{OnlyDevice};
-ghost use Rattle.std.specs.Io.KnownBytes.{Appends};
-ghost use Rattle.plist_base.specs.Writing.{answer_of};
-ghost use Rattle.plist_base.specs.Fronts.{AppendsFront};
-ghost use Rattle.plist_binwrite.specs.Outlets.{IsOut, Puts};
+ghost use Rattle.plist_binwrite.specs.Outlets.{Puts, Empties, EmptiesInPart};
 
 use plist_base::Error;
 use plist_base::send::{send, send_whole};
@@ -25,16 +22,15 @@ fn hold(room: &mut Vec<u8>, bytes: &[u8]) -> bool
 // Sends what waits, and then these bytes. It stands apart, since most bytes fit into the room.
 #[cold]
 #[inline(never)]
-fn pass_on<W: Write>(writer: &mut W, room: &mut Vec<u8>, bytes: &[u8]) -> Result<(), Error>
-    ensures { Puts (W.contents writer.old) room.old.items bytes.now
-        (answer_of result) (W.contents writer.new) room.new.items }
+fn pass_on<W: Write>(out: &mut W, room: &mut Vec<u8>, bytes: &[u8]) -> Result<(), Error>
+    ensures { Puts W.contents out.old room.old bytes.now result out.new room.new }
 {
-    match send(writer, room.as_slice()) {
+    match send(out, room.as_slice()) {
         Ok(()) => {}
         Err(error) => return Err(error),
     }
     room.clear();
-    match send(writer, bytes) {
+    match send(out, bytes) {
         Ok(()) => Ok(()),
         Err(error) => Err(error),
     }
@@ -44,16 +40,15 @@ fn pass_on<W: Write>(writer: &mut W, room: &mut Vec<u8>, bytes: &[u8]) -> Result
 /// room never grows, so memory can't run out.
 ///
 /// # Errors
-/// `Io` without an offset where a write fails or takes no byte; a beginning of all that was put went
-/// out.
-pub fn put<W: Write>(writer: &mut W, room: &mut Vec<u8>, bytes: &[u8]) -> Result<(), Error>
-    ensures { Puts (W.contents writer.old) room.old.items bytes.now
-        (answer_of result) (W.contents writer.new) room.new.items }
+/// `Io` without an offset where a write fails or takes no byte; a beginning of all that was put
+/// went out.
+pub fn put<W: Write>(out: &mut W, room: &mut Vec<u8>, bytes: &[u8]) -> Result<(), Error>
+    ensures { Puts W.contents out.old room.old bytes.now result out.new room.new }
 {
     if hold(room, bytes) {
         return Ok(());
     }
-    pass_on(writer, room, bytes)
+    pass_on(out, room, bytes)
 }
 
 // Has bytes wait and others behind them, where all of them fit into the room.
@@ -76,16 +71,15 @@ fn hold_both(room: &mut Vec<u8>, first: &[u8], second: &[u8]) -> bool
 #[cold]
 #[inline(never)]
 fn pass_both<W: Write>(
-    writer: &mut W,
+    out: &mut W,
     room: &mut Vec<u8>,
     first: &[u8],
     second: &[u8],
 ) -> Result<(), Error>
-    ensures { Puts (W.contents writer.old) room.old.items (first.now ++ second.now)
-        (answer_of result) (W.contents writer.new) room.new.items }
+    ensures { Puts W.contents out.old room.old (first.now ++ second.now) result out.new room.new }
 {
-    match put(writer, room, first) {
-        Ok(()) => put(writer, room, second),
+    match put(out, room, first) {
+        Ok(()) => put(out, room, second),
         Err(error) => Err(error),
     }
 }
@@ -95,34 +89,29 @@ fn pass_both<W: Write>(
 /// # Errors
 /// Those of `put`.
 pub fn put_both<W: Write>(
-    writer: &mut W,
+    out: &mut W,
     room: &mut Vec<u8>,
     first: &[u8],
     second: &[u8],
 ) -> Result<(), Error>
-    ensures { Puts (W.contents writer.old) room.old.items (first.now ++ second.now)
-        (answer_of result) (W.contents writer.new) room.new.items }
+    ensures { Puts W.contents out.old room.old (first.now ++ second.now) result out.new room.new }
 {
     if hold_both(room, first, second) {
         return Ok(());
     }
-    pass_both(writer, room, first, second)
+    pass_both(out, room, first, second)
 }
 
 /// Sends what waits, and then has the writer pass on what it holds back.
 ///
 /// # Errors
 /// Those of `put`; and where the flush fails, after all of it went out.
-pub fn finish<W: Write>(writer: &mut W, room: &[u8]) -> Result<(), Error>
-    ensures sent { OnOk result ((first : Option (List ℕ)) (done : List ℕ)
-        → IsOut first (W.contents writer.old) room.now done
-        → Appends first (W.contents writer.new) done) }
-    ensures front { (first : Option (List ℕ)) (done : List ℕ)
-        → IsOut first (W.contents writer.old) room.now done
-        → AppendsFront first (W.contents writer.new) done }
+pub fn finish<W: Write>(out: &mut W, room: &[u8]) -> Result<(), Error>
+    ensures sent { OnOk result (Empties W.contents out.old room.now out.new) }
+    ensures front { EmptiesInPart W.contents out.old room.now out.new }
     ensures fault { OnlyDevice result }
 {
-    match send_whole(writer, room) {
+    match send_whole(out, room) {
         Ok(()) => Ok(()),
         Err(error) => Err(error),
     }

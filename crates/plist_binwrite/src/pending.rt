@@ -1,10 +1,9 @@
 //! The events of the open property list, with what is still to come.
 
-ghost use Rattle.std.specs.Prelude.{◌≡◌, true};
+ghost use Rattle.std.specs.Prelude.{◌≡◌};
 ghost use Rattle.std.proofs.Props.{props};
-ghost use Rattle.plist_base.specs.inner.Wants.{wanted_after};
 ghost use Rattle.plist_binwrite.specs.Held.{plain_events};
-ghost use Rattle.plist_binwrite.specs.inner.Stacks.{is_stack, wanted_now};
+ghost use Rattle.plist_binwrite.specs.inner.Stacks.{AreWanted};
 
 use crate::held::Held;
 use crate::wants::{Change, Want, change_on, put};
@@ -18,17 +17,16 @@ pub struct Pending {
     held: Held<'static>,
     wants: Vec<Want>,
     whole: bool,
-    ghost wanted: { is_stack (wanted_after (plain_events held)) (wanted_now whole wants.items) ≡ true } by { Prim.hlevel props },
+    ghost wanted: { AreWanted (plain_events held) whole wants.items } by { Prim.hlevel props },
 }
 
 impl Pending {
-    ghost use Rattle.std.specs.Prelude.{◌≡◌, [], false, None, OnOk, IfOk, IfErr, IfSome};
-    ghost use Rattle.plist_base.specs.Bracketing.{CanContinue};
+    ghost use Rattle.std.specs.Prelude.{◌≡◌, [], false, OnOk, IfOk, IfErr};
     ghost use Rattle.plist_base.specs.Events.{event_of};
     ghost use Rattle.plist_base.specs.Faults.{fault_of};
     ghost use Rattle.plist_base.specs.Outcomes.{OnlyMemory};
-    ghost use Rattle.plist_binwrite.specs.Pendings.{events_held, is_whole, Takes, IsRefused, refusal_of};
-    ghost use Rattle.plist_binwrite.specs.inner.Stacks.{change_seen, stack_of, change_on_top};
+    ghost use Rattle.plist_binwrite.specs.Pendings.{events_held, is_whole, Takes, refusal_of, Accepts, CanTake, Refuses};
+    ghost use Rattle.plist_binwrite.specs.inner.Stacks.{IsChangeBy};
 
     /// No events. It takes no memory.
     pub fn new(alloc: Global) -> Pending
@@ -58,9 +56,8 @@ impl Pending {
     // Takes an event that can follow those held, where this is what it does to the stack.
     fn hold(&mut self, alloc: Global, event: Event<'_>, change: Change) -> Result<(), Error>
         requires still { is_whole self.old ≡ false }
-        requires accepted { CanContinue (events_held self.old) (event_of event) }
-        requires change { change_seen change ≡ change_on_top
-            (stack_of self.old.wants.items) (event_of event) }
+        requires accepted { CanTake self.old (event_of event) }
+        requires change { IsChangeBy self.old.wants.items (event_of event) change }
         ensures taken { OnOk result (Takes self.old (event_of event.entry) self.new) }
         ensures memory { OnlyMemory result }
     {
@@ -78,14 +75,9 @@ impl Pending {
     /// `OutOfMemory`, without an offset, for an event that can follow those held.
     pub fn offer(&mut self, alloc: Global, event: Event<'_>) -> Result<Option<Error>, Error>
         requires still { is_whole self.old ≡ false }
-        ensures refused { IfOk result (λ refusal. IfSome refusal (λ error. IsRefused
-            (events_held self.old) (event_of event.entry) (fault_of error)
-            × (self.new ≡ self.old))) }
-        ensures taken { IfOk result (λ refusal. refusal ≡ None
-            → CanContinue (events_held self.old) (event_of event.entry)
-            × Takes self.old (event_of event.entry) self.new) }
-        ensures accepted { IfErr result (λ error. CanContinue
-            (events_held self.old) (event_of event.entry)) }
+        ensures refused { IfOk result (Refuses self.old (event_of event.entry) self.new) }
+        ensures taken { IfOk result (Accepts self.old (event_of event.entry) self.new) }
+        ensures accepted { IfErr result (λ _. CanTake self.old (event_of event.entry)) }
         ensures memory { OnlyMemory result }
     {
         let change = change_on(self.wants.as_slice(), &event);

@@ -3,10 +3,8 @@
 ghost use Rattle.std.specs.Prelude.{List, ℕ};
 ghost use Rattle.plist_base.specs.Bracketing.{AreWhole};
 ghost use Rattle.plist_base.specs.Trees.{Tree};
-ghost use Rattle.plist_base.specs.Writing.{answer_of};
 ghost use Rattle.plist_binwrite.specs.Files.{IsFileOf};
 ghost use Rattle.plist_binwrite.specs.Held.{plain_events};
-ghost use Rattle.plist_binwrite.specs.SendingAs.{Sends};
 ghost use Rattle.plist_binwrite.specs.Sizes.{file_size};
 
 use crate::completion;
@@ -17,6 +15,8 @@ use std::io::Write;
 
 /// Which equal trees of a property list are one object of its file.
 pub trait Sharing: Drop {
+    ghost use Rattle.plist_binwrite.specs.Completing.{SendsHeld};
+
     /// What is a file of a tree?
     ghost IsFile: { Tree → List ℕ → Type 0 };
     /// How many bytes it has.
@@ -26,12 +26,11 @@ pub trait Sharing: Drop {
     /// taken before the first byte is sent.
     ///
     /// # Errors
-    /// `PlistTooLarge` where the file would have 2^64 bytes or more, and `OutOfMemory`, before a byte
-    /// was sent; `Io` after a beginning of the file was.
+    /// `PlistTooLarge` where the file would have 2^64 bytes or more, and `OutOfMemory`, before a
+    /// byte was sent; `Io` after a beginning of the file was.
     fn complete<W: Write>(alloc: Global, events: &Held<'_>, writer: &mut W) -> Result<(), Error>
         requires whole { AreWhole (plain_events events.now) }
-        ensures { Sends IsFile size W.contents (plain_events events.now) (answer_of result)
-            writer.old writer.new };
+        ensures { SendsHeld IsFile size W.contents events.now result writer.old writer.new };
 }
 
 /// Equal scalars are one object, and each collection is one of its own.

@@ -1,21 +1,14 @@
 //! How many bytes the objects and the file will have, before any byte is sent. A size of 2^64 or
 //! more is `None`.
 
-ghost use Rattle.std.specs.Prelude.{◌≡◌, ◌+◌, ◌^◌, ◌<◌, ◌≤◌, ℕ, length, eqb, true, false, IfOk, IfErr, IfSome};
+ghost use Rattle.std.specs.Prelude.{◌≡◌, ◌+◌, ◌^◌, ◌<◌, ◌≤◌, ℕ, length, true, false, IfOk, IfErr, IfSome};
 ghost use Rattle.plist_base.specs.Outcomes.{OnlyFault};
-ghost use Rattle.std.specs.List.{list_any};
 ghost use Rattle.plist_base.specs.Faults.{PlistTooLarge, fault_nowhere};
-ghost use Rattle.plist_base.specs.Trees.{number_of_trees, Tree, Trees};
-ghost use Rattle.plist_binread.specs.Object.{Object};
-ghost use Rattle.plist_binwrite.specs.Classes.{Fits, IsOversized};
-ghost use Rattle.plist_binwrite.specs.Forms.{IsWritable};
-ghost use Rattle.plist_binwrite.specs.Standing.{Sits, SitsItems};
-ghost use Rattle.plist_binwrite.specs.Held.{plain_events, num_of, Describes};
-ghost use Rattle.plist_binwrite.specs.inner.Laying.{IsOrder, laid_out};
-ghost use Rattle.plist_binwrite.specs.Numberings.{obj_of};
-ghost use Rattle.plist_binwrite.specs.inner.Planning.{IsPlanned, GoesBy, count_of, numbers_of};
-ghost use Rattle.plist_binwrite.specs.Sizes.{TellsSize, object_size, size_with};
-ghost use Rattle.plist_binwrite.specs.Written.{Laid, reference_width};
+ghost use Rattle.plist_binwrite.specs.Held.{plain_events};
+ghost use Rattle.plist_binwrite.specs.inner.Laying.{IsOrder, HasAll};
+ghost use Rattle.plist_binwrite.specs.inner.Planning.{IsPlanned, count_of};
+ghost use Rattle.plist_binwrite.specs.Sizes.{TellsSize, size_with};
+ghost use Rattle.plist_binwrite.specs.inner.Sizing.{AreLaid, AreLaidOut, CountsItems, ExceedsPlan, ExceedsWith, FitsPlan, FitsWith, IsTable, IsWritableAt, TellsEnd, TellsSizeAt};
 
 use crate::forms::{offset_width, reference_width};
 use crate::held::Held;
@@ -26,8 +19,7 @@ use plist_base::{Error, ErrorKind};
 
 /// The number of items of an array from here on; a key is an item, and so is its value.
 pub fn count_items(events: &Held<'_>, from: usize) -> usize
-    ensures value { (ts : Trees) → SitsItems (plain_events events.now) ts from
-        → result ≡ number_of_trees ts }
+    ensures value { CountsItems events.now from result }
     ensures small { result < 2 ^ 64 }
 {
     let mut count = 0;
@@ -44,10 +36,8 @@ fn size_of_object(events: &Held<'_>, plan: &Plan, width: usize, place: usize) ->
     requires planned { IsPlanned (plain_events events.now) plan.now }
     requires place { place < length (plain_events events.now) }
     requires fits { count_of plan.now ≤ 256 ^ width }
-    ensures size { (t : Tree) → Sits (plain_events events.now) t place
-        → TellsSize result (object_size width t) }
-    ensures writable { (t : Tree) → Sits (plain_events events.now) t place
-        → IsWritable width (obj_of (num_of (numbers_of plan.now)) t place) }
+    ensures size { TellsSizeAt events.now width place result }
+    ensures writable { IsWritableAt events.now plan.now width place }
 {
     match events.kind_at(place) {
         Kind::Array => {
@@ -87,12 +77,8 @@ fn place_objects(
     requires fits { count_of plan.now ≤ 256 ^ width }
     requires order { IsOrder (count_of plan.now) order.now places.old.items }
     ensures long { length places.new.items ≡ count_of plan.now }
-    ensures size { (objects : ℕ → Object)
-        → Describes (plain_events events.now) (numbers_of plan.now) objects
-        → TellsSize result (length (laid_out width objects order.now)) }
-    ensures laid { IfSome result (λ end. (objects : ℕ → Object)
-        → Describes (plain_events events.now) (numbers_of plan.now) objects
-        → Laid width objects places.new.items order.now 8) }
+    ensures size { TellsEnd events.now plan.now width order.now result }
+    ensures laid { IfSome result (λ _. AreLaid events.now plan.now width order.now places.new) }
 {
     let mut at = Some(8);
     for number in order {
@@ -114,10 +100,8 @@ fn size_of_file(table: u64, count: u64) -> Option<u64>
 
 // Whether a file with so many objects, whose offset table lies here, has less than 2^64 bytes.
 fn has_size(table: u64, count: u64) -> bool
-    ensures yes { result ≡ true → (objects : ℕ) → table ≡ 8 + objects
-        → size_with count objects < 2 ^ 64 }
-    ensures no { result ≡ false → (objects : ℕ) → table ≡ 8 + objects
-        → 2 ^ 64 ≤ size_with count objects }
+    ensures yes { result ≡ true → FitsWith table count }
+    ensures no { result ≡ false → ExceedsWith table count }
 {
     match size_of_file(table, count) {
         Some(_) => true,
@@ -138,20 +122,13 @@ pub fn check_size(
 ) -> Result<u64, Error>
     requires planned { IsPlanned (plain_events events.now) plan.now }
     requires order { IsOrder (count_of plan.now) order.now places.old.items }
-    requires all { (k : ℕ) → k < count_of plan.now → list_any (eqb k) order.now ≡ true }
+    requires all { HasAll (count_of plan.now) order.now }
     ensures long { length places.new.items ≡ count_of plan.now }
-    ensures table { IfOk result (λ table. (objects : ℕ → Object)
-        → Describes (plain_events events.now) (numbers_of plan.now) objects
-        → table ≡ length (laid_out (reference_width (count_of plan.now)) objects order.now)) }
-    ensures laid { IfOk result (λ table. (objects : ℕ → Object)
-        → Describes (plain_events events.now) (numbers_of plan.now) objects
-        → Laid (reference_width (count_of plan.now)) objects places.new.items order.now 8) }
-    ensures fits { IfOk result (λ table. (class : ℕ → ℕ)
-        → GoesBy (plain_events events.now) class plan.now → Fits class (plain_events events.now)) }
+    ensures table { IfOk result (IsTable events.now plan.now order.now) }
+    ensures laid { IfOk result (λ _. AreLaidOut events.now plan.now order.now places.new) }
+    ensures fits { IfOk result (λ _. FitsPlan events.now plan.now) }
     ensures kind { OnlyFault result (fault_nowhere PlistTooLarge) }
-    ensures oversized { IfErr result (λ error. (class : ℕ → ℕ)
-        → GoesBy (plain_events events.now) class plan.now
-        → IsOversized class (plain_events events.now)) }
+    ensures oversized { IfErr result (λ _. ExceedsPlan events.now plan.now) }
 {
     let count = plan.numbering.firsts.len();
     let width = reference_width(count as u64);

@@ -1,10 +1,8 @@
 //! The bytes of texts: ASCII, or UTF-16.
 
-ghost use Rattle.std.specs.Prelude.{◌≡◌, ◌++◌, length};
-ghost use Rattle.std.specs.List.{flat_map};
+ghost use Rattle.std.specs.Prelude.{◌≡◌, length};
 ghost use Rattle.std.specs.Char.Escape.{encode_utf16};
-ghost use Rattle.plist_base.specs.Writing.{answer_of};
-ghost use Rattle.plist_binwrite.specs.Forms.{big_endian, length_form, units_of, is_ascii_text, text_form};
+ghost use Rattle.plist_binwrite.specs.Forms.{units_of, is_ascii_text, text_form, ascii_form, char_units, text_units, wide_form};
 ghost use Rattle.plist_binwrite.specs.Outlets.{Puts};
 
 use crate::forms::{put_length, put_number, put_numbers};
@@ -13,31 +11,27 @@ use plist_base::Error;
 use std::io::Write;
 
 // Puts the one or two units of a character.
-fn put_char<W: Write>(writer: &mut W, room: &mut Vec<u8>, c: char) -> Result<(), Error>
-    ensures { Puts (W.contents writer.old) room.old.items
-        (flat_map (big_endian 2) (encode_utf16 c))
-        (answer_of result) (W.contents writer.new) room.new.items }
+fn put_char<W: Write>(out: &mut W, room: &mut Vec<u8>, c: char) -> Result<(), Error>
+    ensures { Puts W.contents out.old room.old (char_units c) result out.new room.new }
 {
     let code = u64::from(c as u32);
     if code < 0x1_0000 {
-        return put_number(writer, room, 2, code);
+        return put_number(out, room, 2, code);
     }
     let above = (code - 0x1_0000) as usize;
     put_numbers(
-        writer,
+        out,
         room,
         2,
         &[0xd800 + above / 0x400, 0xdc00 + above % 0x400],
     )
 }
 
-fn put_units<W: Write>(writer: &mut W, room: &mut Vec<u8>, text: &str) -> Result<(), Error>
-    ensures { Puts (W.contents writer.old) room.old.items
-        (flat_map (big_endian 2) (units_of text.now))
-        (answer_of result) (W.contents writer.new) room.new.items }
+fn put_units<W: Write>(out: &mut W, room: &mut Vec<u8>, text: &str) -> Result<(), Error>
+    ensures { Puts W.contents out.old room.old (text_units text.now) result out.new room.new }
 {
     for c in text.chars() {
-        match put_char(writer, room, c) {
+        match put_char(out, room, c) {
             Ok(()) => {}
             Err(error) => return Err(error),
         }
@@ -75,39 +69,33 @@ pub fn is_ascii_text(text: &str) -> bool
     ascii
 }
 
-fn put_ascii<W: Write>(writer: &mut W, room: &mut Vec<u8>, text: &str) -> Result<(), Error>
-    ensures { Puts (W.contents writer.old) room.old.items
-        (length_form 0x5 (length text.now) ++ text.now)
-        (answer_of result) (W.contents writer.new) room.new.items }
+fn put_ascii<W: Write>(out: &mut W, room: &mut Vec<u8>, text: &str) -> Result<(), Error>
+    ensures { Puts W.contents out.old room.old (ascii_form text.now) result out.new room.new }
 {
     let count = text.len();
-    match put_length(writer, room, 0x5, count as u64) {
-        Ok(()) => put(writer, room, text.as_bytes()),
+    match put_length(out, room, 0x5, count as u64) {
+        Ok(()) => put(out, room, text.as_bytes()),
         Err(error) => Err(error),
     }
 }
 
-fn put_wide<W: Write>(writer: &mut W, room: &mut Vec<u8>, text: &str) -> Result<(), Error>
-    ensures { Puts (W.contents writer.old) room.old.items
-        (length_form 0x6 (length (units_of text.now))
-        ++ flat_map (big_endian 2) (units_of text.now))
-        (answer_of result) (W.contents writer.new) room.new.items }
+fn put_wide<W: Write>(out: &mut W, room: &mut Vec<u8>, text: &str) -> Result<(), Error>
+    ensures { Puts W.contents out.old room.old (wide_form text.now) result out.new room.new }
 {
     let count = count_units(text);
-    match put_length(writer, room, 0x6, count as u64) {
-        Ok(()) => put_units(writer, room, text),
+    match put_length(out, room, 0x6, count as u64) {
+        Ok(()) => put_units(out, room, text),
         Err(error) => Err(error),
     }
 }
 
 /// Puts a text: its bytes where all are ASCII, else its UTF-16 units.
-pub fn put_text<W: Write>(writer: &mut W, room: &mut Vec<u8>, text: &str) -> Result<(), Error>
-    ensures { Puts (W.contents writer.old) room.old.items (text_form text.now)
-        (answer_of result) (W.contents writer.new) room.new.items }
+pub fn put_text<W: Write>(out: &mut W, room: &mut Vec<u8>, text: &str) -> Result<(), Error>
+    ensures { Puts W.contents out.old room.old (text_form text.now) result out.new room.new }
 {
     if is_ascii_text(text) {
-        put_ascii(writer, room, text)
+        put_ascii(out, room, text)
     } else {
-        put_wide(writer, room, text)
+        put_wide(out, room, text)
     }
 }

@@ -22,7 +22,8 @@ use std::marker::PhantomData;
 /// `PlistTooLarge` where the file would have 2^64 bytes or more. `PlistTooLarge`, `OutOfMemory` and
 /// `Io` come only for an event that can follow those held, and the writer has failed then: each
 /// later event answers `WriterFailed`. After `PlistTooLarge` and `OutOfMemory` no byte of the
-/// property list went out; after `Io` a beginning of its file did, all of it where the flush failed.
+/// property list went out; after `Io` a beginning of its file did, all of it where the flush
+/// failed.
 pub type BinaryWriter<W> = FileWriter<W, EqualScalars>;
 
 /// Writes binary property lists, one behind the other, in which equal trees are one object as its

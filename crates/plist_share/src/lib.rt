@@ -1,7 +1,7 @@
 //! Writes binary property lists in which equal collections are one object.
 //!
-//! The main contract is that of [`SharingWriter`]: the event that completes a tree sends a file of it
-//! that has one object for each different subtree, and no file of the same events has fewer.
+//! The main contract is that of [`SharingWriter`]: the event that completes a tree sends a file of
+//! it that has one object for each different subtree, and no file of the same events has fewer.
 #![tactic(auto)]
 
 mod classes;

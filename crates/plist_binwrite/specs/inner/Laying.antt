@@ -13,6 +13,10 @@ pub record IsOrder (count : ℕ) (order marks : List ℕ) : Type 0 where
   pub marked : (k : ℕ) → list_any (eqb k) order ≡ true → get_or marks k 0 ≢ 0
   pub others : (k : ℕ) → list_any (eqb k) order ≡ false → get_or marks k 0 ≡ 0
 
+-- each number below the count stands in the order
+abbrev pub HasAll : (count : ℕ) → (order : List ℕ) → Type 0
+HasAll count order = (k : ℕ) → k < count → list_any (eqb k) order ≡ true
+
 -- no mark is taken away
 abbrev pub KeepsMarks : (old new : List ℕ) → Type 0
 KeepsMarks old new = (k : ℕ) → get_or old k 0 ≢ 0 → get_or new k 0 ≢ 0

@@ -3,7 +3,7 @@
 -- is held. In these lists the topmost want comes first.
 use Rattle.std.specs.Prelude.{◌≡◌, Bool, true, false, ◌&&◌, List, [], ◌∷◌, Option, None, Some, map, reverse, ⊤}
 use Rattle.plist_base.specs.Events.{PlainEvent}
-use Rattle.plist_base.specs.inner.Wants.{Want, OneValue, Items, Pairs, Change, Refused, Gone, Kept, Pushed, Became, change_of}
+use Rattle.plist_base.specs.inner.Wants.{Want, OneValue, Items, Pairs, Change, Refused, Gone, Kept, Pushed, Became, change_of, wanted_after}
 use Rattle.plist_binwrite.specs.declared.wants.Want as code_want
 use Rattle.plist_binwrite.specs.declared.wants.Want.TheVariants as want
 use Rattle.plist_binwrite.specs.declared.wants.Change as code_change
@@ -34,6 +34,10 @@ with_root (top ∷ rest) = top ∷ rest
 abbrev pub change_on_top : List Want → PlainEvent → Change
 change_on_top [] event = change_of OneValue event
 change_on_top (top ∷ rest) event = change_of top event
+
+-- this is what the event does to the stack that the code holds
+abbrev pub IsChangeBy : List code_want.Want → PlainEvent → code_change.Change → Type 0
+IsChangeBy wants event change = change_seen change ≡ change_on_top (stack_of wants) event
 
 -- the stack after a change that isn't refused
 abbrev pub Puts : (old : List Want) → Change → (new : List Want) → Type 0
@@ -74,3 +78,8 @@ is_stack (Some wants) stack = stack_eq wants stack
 abbrev pub wanted_now : (complete : Bool) → List code_want.Want → List Want
 wanted_now true wants = []
 wanted_now false wants = with_root (stack_of wants)
+
+-- the code holds what is wanted behind these events
+abbrev pub AreWanted : List PlainEvent → (complete : Bool) → List code_want.Want → Type 0
+AreWanted events complete wants =
+    is_stack (wanted_after events) (wanted_now complete wants) ≡ true

@@ -18,13 +18,13 @@ make_ready-requires g c = record {
 pub returns-in-Ok : goal.returns-in-Ok
 returns-in-Ok g c =
     ready_sends g.W.Write.contents c.args.events.now
-    (num_of c.args.classes.of.items) c.in_ok-ready.ready c.args.writer.now c.send_file.new.writer
+    (num_of c.args.classes.of.items) c.in_ok-ready.ready c.args.writer.now c.send_file.new.out
     c.requires.whole c.in_ok-ready.ensures.ready (Ok tt) c.in-Ok.ensures
 
 pub returns : goal.returns
 returns g c =
     ready_sends g.W.Write.contents c.args.events.now
-    (num_of c.args.classes.of.items) c.in_ok-ready.ready c.args.writer.now c.send_file.new.writer
+    (num_of c.args.classes.of.items) c.in_ok-ready.ready c.args.writer.now c.send_file.new.out
     c.requires.whole c.in_ok-ready.ensures.ready (Err (fault_of c.in-Err.error)) c.in-Err.ensures
 
 pub returns-in_err-room : goal.returns-in_err-room

@@ -9,11 +9,11 @@ use Rattle.plist_binwrite.proofs.completion.send_file.Goals as goal
 
 pub returns-in-Ok : goal.returns-in-Ok
 returns-in-Ok g c =
-    sends_end g.W.Write.contents (plain_events c.args.events.now) c.args.ready.now c.args.writer.now
-    c.put_file.new.writer c.finish.new.writer c.as_slice.result.now c.finish.result
+    sends_end g.W.Write.contents (plain_events c.args.events.now) c.args.ready.now c.args.out.now
+    c.put_file.new.out c.finish.new.out c.as_slice.result.now c.finish.result
     c.finish.ensures.sent c.finish.ensures.front c.finish.ensures.fault
-    (λ objects d. subst (λ l. IsOut (g.W.Write.contents c.args.writer.now)
-    (g.W.Write.contents c.put_file.new.writer) l (file_of c.args.ready.now objects))
+    (λ objects d. subst (λ l. IsOut (g.W.Write.contents c.args.out.now)
+    (g.W.Write.contents c.put_file.new.out) l (file_of c.args.ready.now objects))
     (sym c.as_slice.ensures.value) (from_empty c.requires.empty (c.in-Ok.ensures objects d)))
 
 pub returns-in-Err : goal.returns-in-Err

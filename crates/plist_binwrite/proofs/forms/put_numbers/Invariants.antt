@@ -1,10 +1,10 @@
 use Rattle.std.proofs.Common.{take, Ok}
 use Rattle.plist_binwrite.specs.Forms.{table_form}
-use Rattle.plist_binwrite.specs.Outlets.{Puts}
+use Rattle.plist_binwrite.specs.Outlets.{PutsBytes}
 use Rattle.plist_binwrite.proofs.forms.put_numbers.Given as goal
 
 abbrev pub invariant-loop-number : goal.invariant-loop-number
 invariant-loop-number g l =
-    Puts (g.W.Write.contents l.initial.writer) l.initial.room.items
-    (table_form l.width (take l.number-index l.numbers)) (Ok tt)
-    (g.W.Write.contents l.writer) l.room.items
+    PutsBytes (g.W.Write.contents l.initial.out) l.initial.room.items
+    (table_form l.width (take l.number-index l.list)) (Ok tt)
+    (g.W.Write.contents l.out) l.room.items

@@ -48,7 +48,8 @@ loop-place-preserved c = (
   c.in_ok-order_here.ensures.order,
   marked_more (plain_events c.args.events.now)
       (numbers_of c.args.plan.now) c.loop-place.places.items c.order_here.new.marks.items
-      c.loop-place.place c.in_ok-order_here.ensures.keeps c.in_ok-order_here.ensures.marked
+      c.loop-place.place c.in_ok-order_here.ensures.keeps
+      (c.in_ok-order_here.ensures.marked (omega (arith, c.loop-place-test.true)))
       c.loop-place.invariant.1,
 )
 

@@ -1,0 +1,28 @@
+-- What sending the file of held events does.
+use Rattle.std.specs.Prelude.{ℕ, List, Option, Result}
+use Rattle.plist_base.specs.Faults.{fault_of}
+use Rattle.plist_base.specs.Trees.{Tree}
+use Rattle.plist_base.specs.Writing.{answer_of}
+use Rattle.plist_base.specs.declared.error.Error.{Error}
+use Rattle.plist_binwrite.specs.Classes.{IsUnplanned, SendsBy}
+use Rattle.plist_binwrite.specs.Held.{num_of, plain_events}
+use Rattle.plist_binwrite.specs.SendingAs.{Sends}
+use Rattle.plist_binwrite.specs.declared.classes.Classes.{Classes}
+use Rattle.plist_binwrite.specs.declared.held.Held.{Held}
+
+-- why no file is planned by these classes
+abbrev pub LacksPlan : Classes → Held → Error → Type 0
+LacksPlan classes held error =
+    IsUnplanned (num_of classes.of.items) (plain_events held) (fault_of error)
+
+-- with one object for each class
+abbrev pub SendsByClass : {W : Type 0} → Classes → (W → Option (List ℕ)) → Held
+    → Result (Unit {0}) Error → (old new : W) → Type 0
+SendsByClass classes contents held result old new =
+    SendsBy (num_of classes.of.items) contents (plain_events held) (answer_of result) old new
+
+-- with any kind of file and its size
+abbrev pub SendsHeld : {W : Type 0} → (IsFile : Tree → List ℕ → Type 0) → (size : Tree → ℕ)
+    → (W → Option (List ℕ)) → Held → Result (Unit {0}) Error → (old new : W) → Type 0
+SendsHeld IsFile size contents held result old new =
+    Sends IsFile size contents (plain_events held) (answer_of result) old new

@@ -1,0 +1,84 @@
+-- Words for what is put and sent of a planned file.
+use Rattle.std.specs.Prelude.{ℕ, ◌+◌, Bool, List, map, Option, Result}
+use Rattle.std.specs.declared.alloc.Global.{Global}
+use Rattle.std.specs.declared.vec.Vec.{Vec}
+use Rattle.plist_base.specs.Writing.{answer_of}
+use Rattle.plist_base.specs.declared.error.Error.{Error}
+use Rattle.plist_base.specs.Events.{PlainEvent}
+use Rattle.plist_base.specs.Trees.{Tree, Trees, Members, Array, Dictionary}
+use Rattle.plist_binread.specs.Object.{Object}
+use Rattle.plist_binwrite.specs.Forms.{form, table_form}
+use Rattle.plist_binwrite.specs.Held.{plain_events, num_of, item_places, half_places, Describes}
+use Rattle.plist_binwrite.specs.Numberings.{obj_of}
+use Rattle.plist_binwrite.specs.Outlets.{Puts}
+use Rattle.plist_binwrite.specs.Standing.{Sits, SitsItems, SitsPairs}
+use Rattle.plist_binwrite.specs.Written.{bodies}
+use Rattle.plist_binwrite.specs.declared.completion.Ready.{Ready}
+use Rattle.plist_binwrite.specs.declared.held.Held.{Held}
+use Rattle.plist_binwrite.specs.declared.objects.Planned.{Planned}
+use Rattle.plist_binwrite.specs.inner.Ending.{SendsReady, file_of, numbers_in}
+use Rattle.plist_binwrite.specs.inner.Planning.{numbers_of}
+
+-- the events of a planned file, and the numbers of their objects
+abbrev pub events_in : Planned → List PlainEvent
+events_in file = plain_events file.events.now
+
+abbrev pub numbers_by : Planned → ℕ → ℕ
+numbers_by file = num_of (numbers_of file.plan.now)
+
+module _ {W : Type 0} (contents : W → Option (List ℕ)) (old : W) (room : Vec ℕ Global) where
+  -- references to the items of an array go out from here on
+  abbrev pub PutsItems : Planned → (from : ℕ) → Result (Unit {0}) Error → (new : W)
+      → (holds : Vec ℕ Global) → Type 0
+  PutsItems file from result new holds = (ts : Trees) → SitsItems (events_in file) ts from
+      → Puts contents old room
+      (table_form file.width (map (numbers_by file) (item_places ts from))) result new holds
+
+  -- those to the values of a dictionary, or to its keys
+  abbrev pub PutsHalf : Planned → (of_values : Bool) → (from : ℕ) → Result (Unit {0}) Error
+      → (new : W) → (holds : Vec ℕ Global) → Type 0
+  PutsHalf file of_values from result new holds =
+      (ms : Members) → SitsPairs (events_in file) ms from
+      → Puts contents old room
+      (table_form file.width (map (numbers_by file) (half_places of_values ms from)))
+      result new holds
+
+  -- the object of the array that begins here, of the dictionary, and of any tree
+  abbrev pub PutsArray : Planned → (place : ℕ) → Result (Unit {0}) Error → (new : W)
+      → (holds : Vec ℕ Global) → Type 0
+  PutsArray file place result new holds = (ts : Trees) → SitsItems (events_in file) ts (place + 1)
+      → Puts contents old room
+      (form file.width (obj_of (numbers_by file) (Array ts) place)) result new holds
+
+  abbrev pub PutsDictionary : Planned → (place : ℕ) → Result (Unit {0}) Error → (new : W)
+      → (holds : Vec ℕ Global) → Type 0
+  PutsDictionary file place result new holds =
+      (ms : Members) → SitsPairs (events_in file) ms (place + 1)
+      → Puts contents old room
+      (form file.width (obj_of (numbers_by file) (Dictionary ms) place)) result new holds
+
+  abbrev pub PutsObject : Planned → (place : ℕ) → Result (Unit {0}) Error → (new : W)
+      → (holds : Vec ℕ Global) → Type 0
+  PutsObject file place result new holds = (t : Tree) → Sits (events_in file) t place
+      → Puts contents old room
+      (form file.width (obj_of (numbers_by file) t place)) result new holds
+
+  -- the objects in this order
+  abbrev pub PutsOrder : Planned → (order : List ℕ) → Result (Unit {0}) Error → (new : W)
+      → (holds : Vec ℕ Global) → Type 0
+  PutsOrder file order result new holds = (objects : ℕ → Object)
+      → Describes (events_in file) (numbers_of file.plan.now) objects
+      → Puts contents old room (bodies file.width objects order) result new holds
+
+module _ {W : Type 0} (contents : W → Option (List ℕ)) where
+  -- the whole file is put
+  abbrev pub PutsFile : (old : W) → (room : Vec ℕ Global) → Held → Ready
+      → Result (Unit {0}) Error → (new : W) → (holds : Vec ℕ Global) → Type 0
+  PutsFile old room held ready result new holds = (objects : ℕ → Object)
+      → Describes (plain_events held) (numbers_in ready) objects
+      → Puts contents old room (file_of ready objects) result new holds
+
+  -- or sent
+  abbrev pub SendsPlanned : Held → Ready → Result (Unit {0}) Error → (old new : W) → Type 0
+  SendsPlanned held ready result old new =
+      SendsReady contents (plain_events held) ready (answer_of result) old new
