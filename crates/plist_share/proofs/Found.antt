@@ -12,6 +12,7 @@ use Rattle.plist_binwrite.specs.Numberings.{refs, pairs, obj_of}
 use Rattle.plist_binwrite.specs.Held.{item_places, key_places, value_places, keys_in, values_in}
 use Rattle.std.proofs.Common.{set}
 use Rattle.std.proofs.lemmas.List.{get_or-set_same, get_or-set_other}
+use Rattle.plist_binwrite.specs.declared.kinds.Kind.{Kind}
 use Rattle.plist_binwrite.specs.declared.kinds.Kind.TheVariants as kind
 use Rattle.plist_base.specs.Events.{StartArray, StartDictionary, EndCollection, Single}
 use Rattle.plist_base.specs.Bracketing.{shape_of_items, shape_of_pairs}
@@ -21,8 +22,7 @@ use Rattle.plist_binwrite.specs.Classes.{AreClasses}
 use Rattle.plist_binwrite.proofs.ClassObjects.{sound, cons_is}
 use Rattle.plist_share.proofs.Classed.{complete}
 use Rattle.plist_binwrite.specs.inner.Scalars.{AreOwners, AreApart, owner, own, shared}
-use Rattle.plist_share.specs.inner.Keys.{Key, IsIndexed, IsClass, HaveClasses, Extends, TellTrees}
-use Rattle.plist_binwrite.proofs.Placed.{no_kind}
+use Rattle.plist_share.specs.inner.Keys.{Key, is_dictionary, IsIndexed, IsClass, HaveClasses, Extends, TellTrees}
 
 some_is : (a b : Key) → Some a ≡ Some b → a ≡ b
 some_is a b p = cc
@@ -257,28 +257,20 @@ module _ (class after : ℕ → ℕ) (lo : ℕ) (agree : (q : ℕ) → lo ≤ q 
   )
 
 module _ (es : List PlainEvent) (scalar class : ℕ → ℕ) (count : ℕ) (keys : List Key) where
-  -- where an array begins, or a dictionary, the class is one of a collection
-  by_array : (t : Tree) (p c : ℕ) → Sits es t p → kind_of (event_at es p) ≡ kind.Array
-      → IsIndexed class count keys false t p c → IsClass class count scalar keys t p c
-  by_array (Leaf x) p c s k h =
-      absurd (no_kind (kind_of (event_at es p)) kind.Array kind.Scalar k
-      (ap kind_of (first_event es p (Single x) s.rest s.is)) (λ e. cc))
-  by_array (Array ts) p c s k h = h
-  by_array (Dictionary ms) p c s k h =
-      absurd (no_kind (kind_of (event_at es p)) kind.Array kind.Dictionary k
-      (ap kind_of (first_event es p (StartDictionary None)
-      ((shape_of_pairs ms ++ EndCollection ∷ []) ++ s.rest) s.is)) (λ e. cc))
-
-  by_dictionary : (t : Tree) (p c : ℕ) → Sits es t p → kind_of (event_at es p) ≡ kind.Dictionary
-      → IsIndexed class count keys true t p c → IsClass class count scalar keys t p c
-  by_dictionary (Leaf x) p c s k h =
-      absurd (no_kind (kind_of (event_at es p)) kind.Dictionary kind.Scalar k
-      (ap kind_of (first_event es p (Single x) s.rest s.is)) (λ e. cc))
-  by_dictionary (Array ts) p c s k h =
-      absurd (no_kind (kind_of (event_at es p)) kind.Dictionary kind.Array k
-      (ap kind_of (first_event es p (StartArray None)
-      ((shape_of_items ts ++ EndCollection ∷ []) ++ s.rest) s.is)) (λ e. cc))
-  by_dictionary (Dictionary ms) p c s k h = h
+  -- where a collection begins, the class is one of a collection
+  by_collection : (t : Tree) (p c : ℕ) → Sits es t p → (kind_of (event_at es p) ≡ kind.Scalar → ⊥)
+      → IsIndexed class count keys (is_dictionary (kind_of (event_at es p))) t p c
+      → IsClass class count scalar keys t p c
+  by_collection (Leaf x) p c s k h =
+      absurd (k (ap kind_of (first_event es p (Single x) s.rest s.is)))
+  by_collection (Array ts) p c s k h =
+      subst (λ b. IsIndexed class count keys b (Array ts) p c)
+      (ap (λ e. is_dictionary (kind_of e)) (first_event es p (StartArray None)
+      ((shape_of_items ts ++ EndCollection ∷ []) ++ s.rest) s.is)) h
+  by_collection (Dictionary ms) p c s k h =
+      subst (λ b. IsIndexed class count keys b (Dictionary ms) p c)
+      (ap (λ e. is_dictionary (kind_of e)) (first_event es p (StartDictionary None)
+      ((shape_of_pairs ms ++ EndCollection ∷ []) ++ s.rest) s.is)) h
 
   by_scalar : (t : Tree) (p c : ℕ) → Sits es t p → (kind_of (event_at es p) ≡ kind.Array → ⊥)
       → (kind_of (event_at es p) ≡ kind.Dictionary → ⊥) → c ≡ scalar p
@@ -333,31 +325,25 @@ module _ (es : List PlainEvent) (scalar : ℕ → ℕ) (count : ℕ) (classes : 
       ];
     }
 
-  pub array_written : (c : ℕ) → c < count + length new → kind_of (event_at es p) ≡ kind.Array
-      → ((t : Tree) → Sits es t p → IsIndexed (num_of classes) count new false t p c)
+  pub collection_written : (c : ℕ) → c < count + length new
+      → (kind_of (event_at es p) ≡ kind.Scalar → ⊥)
+      → ((t : Tree) → Sits es t p
+      → IsIndexed (num_of classes) count new (is_dictionary (kind_of (event_at es p))) t p c)
       → HaveClasses (num_of (set classes p c)) count scalar es new p
-  array_written c below k this =
-      one_written c below (λ t s. by_array es scalar (num_of classes) count new t p c s k
-      (this t s))
-
-  pub dictionary_written : (c : ℕ) → c < count + length new
-      → kind_of (event_at es p) ≡ kind.Dictionary
-      → ((t : Tree) → Sits es t p → IsIndexed (num_of classes) count new true t p c)
-      → HaveClasses (num_of (set classes p c)) count scalar es new p
-  dictionary_written c below k this =
-      one_written c below (λ t s. by_dictionary es scalar (num_of classes) count new t p c s k
+  collection_written c below k this =
+      one_written c below (λ t s. by_collection es scalar (num_of classes) count new t p c s k
       (this t s))
 
 -- where no collection begins, the classes are there
 pub none_written : (es : List PlainEvent) (scalar class : ℕ → ℕ) (count : ℕ) (keys : List Key)
-    (p : ℕ) → (kind_of (event_at es p) ≡ kind.Array → ⊥)
-    → (kind_of (event_at es p) ≡ kind.Dictionary → ⊥)
-    → HaveClasses class count scalar es keys (p + 1) → HaveClasses class count scalar es keys p
-none_written es scalar class count keys p a d old = record {
+    (p : ℕ) (k : Kind) → kind_of (event_at es p) ≡ k → (k ≡ kind.Array → ⊥)
+    → (k ≡ kind.Dictionary → ⊥) → HaveClasses class count scalar es keys (p + 1)
+    → HaveClasses class count scalar es keys p
+none_written es scalar class count keys p k is a d old = record {
   behind = λ t q le s. elim (eqb_tells q p) [
     | inl e ↦ subst (λ r. Sits es t r → IsClass class count scalar keys t r (class r)) (sym e.1)
-        (λ r. by_scalar es scalar class count keys t p (class p) r a d (old.before p (omega arith)))
-        s
+        (λ r. by_scalar es scalar class count keys t p (class p) r (λ e. a (sym is ∙ e))
+        (λ e. d (sym is ∙ e)) (old.before p (omega arith))) s
     | inr d ↦ old.behind t q (omega (arith, le, d.1)) s
   ];
   before = λ q h. old.before q (omega (arith, h));

@@ -1,14 +1,11 @@
 //! Classes of the trees among events: two events have one class exactly where the same tree begins.
 
-ghost use Rattle.std.specs.Prelude.{◌≡◌, ◌+◌, ◌<◌, ◌++◌, ℕ, Some, false, true, length, map, slice_get, IfOk, OnOk};
+ghost use Rattle.std.specs.Prelude.{◌≡◌, ◌+◌, ◌<◌, length, IfOk, OnOk};
 ghost use Rattle.plist_base.specs.Outcomes.{OnlyMemory};
-ghost use Rattle.plist_base.specs.Faults.{OutOfMemory};
-ghost use Rattle.plist_base.specs.Trees.{Tree};
 ghost use Rattle.plist_binwrite.specs.Classes.{AreClasses};
-ghost use Rattle.plist_binwrite.specs.Held.{plain_events, AllBelow, keys_in, values_in, num_of};
+ghost use Rattle.plist_binwrite.specs.Held.{plain_events, AllBelow, num_of, held_at, kind_of};
 ghost use Rattle.plist_binwrite.specs.inner.Scalars.{AreApart};
-ghost use Rattle.plist_binwrite.specs.Standing.{Sits};
-ghost use Rattle.plist_share.specs.inner.Keys.{HaveClasses, TellTrees, IsIndexed, Extends, key_of, keys_seen};
+ghost use Rattle.plist_share.specs.inner.Keys.{TellTrees, Extends, keys_seen, AddsClasses, AreClassesWithin, HaveFrom, IsClassAt, IsKeyAt, is_dictionary};
 
 use indexmap::IndexSet;
 use plist_base::{Error, ErrorKind};
@@ -33,16 +30,14 @@ pub struct Places {
 }
 
 // The index of a collection: that of its equal which came before, or a new one.
-fn index_of(collections: &mut IndexSet<Collection>, collection: Collection) -> Result<usize, Error>
-    ensures stored { IfOk result (λ index. slice_get (keys_seen collections.new.keys) index
-        ≡ Some (key_of collection)) }
-    ensures below { IfOk result (λ index. index < length (keys_seen collections.new.keys)) }
-    ensures extends { OnOk result (Extends (keys_seen collections.old.keys)
-        (keys_seen collections.new.keys)) }
-    ensures apart { OnOk result (AreApart (keys_seen collections.new.keys)) }
+fn index_of(seen: &mut IndexSet<Collection>, collection: Collection) -> Result<usize, Error>
+    ensures stored { IfOk result (IsKeyAt seen.new.keys collection) }
+    ensures below { IfOk result (λ index. index < length (keys_seen seen.new.keys)) }
+    ensures extends { OnOk result (Extends (keys_seen seen.old.keys) (keys_seen seen.new.keys)) }
+    ensures apart { OnOk result (AreApart (keys_seen seen.new.keys)) }
     ensures memory { OnlyMemory result }
 {
-    match collections.insert_full(collection) {
+    match seen.insert_full(collection) {
         Ok((index, _)) => return Ok(index),
         Err(_) => return Err(ErrorKind::OutOfMemory.without_position()),
     }
@@ -51,8 +46,7 @@ fn index_of(collections: &mut IndexSet<Collection>, collection: Collection) -> R
 // Appends the classes of the events at these places.
 fn push_classes(found: &mut Vec<usize>, classes: &[usize], places: &[usize]) -> Result<(), Error>
     requires { AllBelow (length classes.now) places.now }
-    ensures pushed { OnOk result (found.new.items
-        ≡ found.old.items ++ map (num_of classes.now) places.now) }
+    ensures pushed { OnOk result (AddsClasses found.old classes.now places.now found.new) }
     ensures memory { OnlyMemory result }
 {
     for place in places {
@@ -71,9 +65,7 @@ fn classes_within(
 ) -> Result<Vec<usize>, Error>
     requires place { place < length (plain_events events.now) }
     requires long { length classes.now ≡ length (plain_events events.now) }
-    ensures classes { IfOk result (λ found. (t : Tree) → Sits (plain_events events.now) t place
-        → found.items ≡ map (num_of classes.now) (keys_in t place)
-        ++ map (num_of classes.now) (values_in t place)) }
+    ensures classes { IfOk result (AreClassesWithin events.now classes.now place) }
     ensures memory { OnlyMemory result }
 {
     children(events, place, &mut places.keys, &mut places.values)?;
@@ -81,6 +73,17 @@ fn classes_within(
     push_classes(&mut found, classes, places.keys.as_slice())?;
     push_classes(&mut found, classes, places.values.as_slice())?;
     Ok(found)
+}
+
+// Whether a dictionary begins here.
+fn begins_dictionary(events: &Held<'_>, place: usize) -> bool
+    requires { place < length (plain_events events.now) }
+    ensures { result ≡ is_dictionary (kind_of (held_at events.now place)) }
+{
+    match events.kind_at(place) {
+        Kind::Dictionary => true,
+        _ => false,
+    }
 }
 
 // The class of the collection that begins here: those of collections go from the base on,
@@ -92,26 +95,22 @@ fn class_of_collection(
     base: usize,
     place: usize,
     places: &mut Places,
-    is_dictionary: bool,
-    collections: &mut IndexSet<Collection>,
+    seen: &mut IndexSet<Collection>,
 ) -> Result<usize, Error>
     requires place { place < length (plain_events events.now) }
     requires long { length classes.now ≡ length (plain_events events.now) }
-    ensures class { IfOk result (λ class. (t : Tree) → Sits (plain_events events.now) t place
-        → IsIndexed (num_of classes.now) base (keys_seen collections.new.keys)
-        is_dictionary t place class) }
-    ensures below { IfOk result (λ class. class < base + length (keys_seen collections.new.keys)) }
-    ensures extends { OnOk result (Extends (keys_seen collections.old.keys)
-        (keys_seen collections.new.keys)) }
-    ensures apart { OnOk result (AreApart (keys_seen collections.new.keys)) }
+    ensures class { IfOk result (IsClassAt events.now classes.now base seen.new.keys place) }
+    ensures below { IfOk result (λ class. class < base + length (keys_seen seen.new.keys)) }
+    ensures extends { OnOk result (Extends (keys_seen seen.old.keys) (keys_seen seen.new.keys)) }
+    ensures apart { OnOk result (AreApart (keys_seen seen.new.keys)) }
     ensures memory { OnlyMemory result }
 {
     let children = classes_within(alloc, events, classes, place, places)?;
     let collection = Collection {
-        is_dictionary,
+        is_dictionary: begins_dictionary(events, place),
         children,
     };
-    let index = index_of(collections, collection)?;
+    let index = index_of(seen, collection)?;
     match base.checked_add(index) {
         Some(class) => Ok(class),
         None => Err(ErrorKind::OutOfMemory.without_position()),
@@ -126,51 +125,33 @@ fn give_class(
     place: usize,
     places: &mut Places,
     classes: &mut Vec<usize>,
-    collections: &mut IndexSet<Collection>,
+    seen: &mut IndexSet<Collection>,
 ) -> Result<(), Error>
     requires place { place < length (plain_events events.now) }
     requires long { length classes.old.items ≡ length (plain_events events.now) }
-    requires apart { AreApart (keys_seen collections.old.keys) }
-    ensures classes { OnOk result ((scalar : ℕ → ℕ) → HaveClasses (num_of classes.old.items) base scalar
-        (plain_events events.now) (keys_seen collections.old.keys) (place + 1)
-        → HaveClasses (num_of classes.new.items) base scalar
-        (plain_events events.now) (keys_seen collections.new.keys) place) }
+    requires classes { HaveFrom events.now base classes.old seen.old.keys (place + 1) }
+    requires apart { AreApart (keys_seen seen.old.keys) }
+    ensures classes { OnOk result (HaveFrom events.now base classes.new seen.new.keys place) }
     ensures long { OnOk result (length classes.new.items ≡ length (plain_events events.now)) }
-    ensures apart { OnOk result (AreApart (keys_seen collections.new.keys)) }
+    ensures apart { OnOk result (AreApart (keys_seen seen.new.keys)) }
     ensures memory { OnlyMemory result }
 {
     match events.kind_at(place) {
-        Kind::Array => {
-            let found = classes.as_slice();
+        Kind::Scalar => Ok(()),
+        Kind::End => Ok(()),
+        _ => {
             let class = class_of_collection(
                 alloc,
                 events,
-                found,
+                classes.as_slice(),
                 base,
                 place,
                 places,
-                false,
-                collections,
+                seen,
             )?;
             classes[place] = class;
             Ok(())
         }
-        Kind::Dictionary => {
-            let found = classes.as_slice();
-            let class = class_of_collection(
-                alloc,
-                events,
-                found,
-                base,
-                place,
-                places,
-                true,
-                collections,
-            )?;
-            classes[place] = class;
-            Ok(())
-        }
-        _ => Ok(()),
     }
 }
 

@@ -2,7 +2,13 @@
 use Rattle.std.specs.Prelude.{◌≡◌, ◌↔◌, ℕ, ◌+◌, ◌<◌, ◌≤◌, Bool, true, false, List, ◌++◌, length, map, Some, slice_get}
 use Rattle.plist_base.specs.Events.{PlainEvent}
 use Rattle.plist_base.specs.Trees.{Tree, Leaf, Array, Dictionary}
-use Rattle.plist_binwrite.specs.Held.{keys_in, values_in}
+use Rattle.std.specs.declared.alloc.Global.{Global}
+use Rattle.std.specs.declared.vec.Vec.{Vec}
+use Rattle.plist_binwrite.specs.Held.{held_at, keys_in, kind_of, num_of, plain_events, values_in}
+use Rattle.plist_binwrite.specs.declared.held.Held.{Held}
+use Rattle.plist_binwrite.specs.declared.kinds.Kind.{Kind}
+use Rattle.plist_binwrite.specs.declared.kinds.Kind.TheVariants as kind
+use Rattle.plist_binwrite.specs.inner.Scalars.{AreOwners}
 use Rattle.plist_binwrite.specs.Standing.{Sits}
 use Rattle.plist_share.specs.declared.classes.Collection.{Collection}
 
@@ -50,3 +56,40 @@ module _ (class : ℕ → ℕ) (count : ℕ) where
 abbrev pub TellTrees : List PlainEvent → (class : ℕ → ℕ) → Type 0
 TellTrees es class =
     (t u : Tree) (p q : ℕ) → Sits es t p → Sits es u q → (class p ≡ class q) ↔ (t ≡ u)
+
+-- ---- of held events
+
+-- this is the index of a collection's key
+abbrev pub IsKeyAt : (seen : List Collection) → Collection → (index : ℕ) → Type 0
+IsKeyAt seen collection index = slice_get (keys_seen seen) index ≡ Some (key_of collection)
+
+-- the classes of the events at these places are added
+abbrev pub AddsClasses : (old : Vec ℕ Global) → (classes places : List ℕ) → (new : Vec ℕ Global)
+    → Type 0
+AddsClasses old classes places new = new.items ≡ old.items ++ map (num_of classes) places
+
+-- the classes of the children of the collection that begins here
+abbrev pub AreClassesWithin : Held → (classes : List ℕ) → (place : ℕ) → Vec ℕ Global → Type 0
+AreClassesWithin held classes place found = (t : Tree) → Sits (plain_events held) t place
+    → found.items ≡ map (num_of classes) (keys_in t place) ++ map (num_of classes) (values_in t place)
+
+-- is it the start of a dictionary?
+abbrev pub is_dictionary : Kind → Bool
+is_dictionary kind.Array = false
+is_dictionary kind.Dictionary = true
+is_dictionary kind.Scalar = false
+is_dictionary kind.End = false
+
+-- the class of the collection that begins here, behind so many others
+abbrev pub IsClassAt : Held → (classes : List ℕ) → (base : ℕ) → (seen : List Collection)
+    → (place class : ℕ) → Type 0
+IsClassAt held classes base seen place class = (t : Tree) → Sits (plain_events held) t place
+    → IsIndexed (num_of classes) base (keys_seen seen) (is_dictionary (kind_of (held_at held place)))
+    t place class
+
+-- from this place on each tree has its class, and before it the scalars have theirs
+abbrev pub HaveFrom : Held → (base : ℕ) → (classes : Vec ℕ Global) → (seen : List Collection)
+    → (from : ℕ) → Type 0
+HaveFrom held base classes seen from =
+    (scalar : ℕ → ℕ) × AreOwners (plain_events held) scalar base
+    × HaveClasses (num_of classes.items) base scalar (plain_events held) (keys_seen seen) from

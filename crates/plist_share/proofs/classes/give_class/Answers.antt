@@ -1,41 +1,45 @@
-use Rattle.std.proofs.Common.{◌<◌, false, true, length, arith, sym, ◌∙◌, subst}
-use Rattle.plist_binwrite.specs.Held.{plain_events, num_of}
-use Rattle.plist_share.specs.inner.Keys.{IsIndexed, keys_seen}
-use Rattle.plist_share.proofs.Found.{array_written, dictionary_written, none_written}
+use Rattle.std.proofs.Common.{◌<◌, length, arith, sym, ◌∙◌, subst}
+use Rattle.plist_binwrite.specs.Held.{event_at, kind_of, num_of, plain_events}
+use Rattle.plist_binwrite.specs.declared.kinds.Kind.TheVariants as kind
+use Rattle.plist_share.specs.inner.Keys.{IsIndexed, is_dictionary, keys_seen}
+use Rattle.plist_share.proofs.Found.{collection_written, none_written}
 use Rattle.plist_share.proofs.classes.give_class.Goals as goal
 
-pub returns-in_ok-class-in-Array-clause-classes : goal.returns-in_ok-class-in-Array-clause-classes
-returns-in_ok-class-in-Array-clause-classes c = λ scalar old.
+pub returns-in_ok-class-in_default-clause-classes : goal.returns-in_ok-class-in_default-clause-classes
+returns-in_ok-class-in_default-clause-classes c =
+    let es = plain_events c.args.events.now in
+    let have = c.requires.classes in
+    let keys = keys_seen c.class_of_collection.new.seen.keys in
+    let class = c.in_ok-class-in_default.class in
     let lt : c.args.place < length c.args.classes.now.items = omega
-    (arith, c.requires.place, c.requires.long) in
-    array_written (plain_events c.args.events.now) scalar c.args.base
-    c.args.classes.now.items (keys_seen c.args.collections.now.keys)
-    (keys_seen c.class_of_collection.new.collections.keys)
-    c.in_ok-class-in-Array.ensures.extends c.args.place lt old c.in_ok-class-in-Array.class
-    c.in_ok-class-in-Array.ensures.below (sym c.kind_at.ensures ∙ c.in-Array.is)
-    (λ t s. subst (λ l. IsIndexed (num_of l) c.args.base
-    (keys_seen c.class_of_collection.new.collections.keys) false t c.args.place
-    c.in_ok-class-in-Array.class) c.as_slice-found.ensures.value
-    (c.in_ok-class-in-Array.ensures.class t s))
+    (arith, c.requires.place, c.requires.long) in (
+      have.0,
+      have.1,
+      collection_written es have.0 c.args.base c.args.classes.now.items
+          (keys_seen c.args.seen.now.keys) keys c.in_ok-class-in_default.ensures.extends
+          c.args.place lt have.2 class c.in_ok-class-in_default.ensures.below
+          (λ k. c.in_default.not-Scalar (c.kind_at.ensures ∙ k))
+          (λ t s. subst (λ l. IsIndexed (num_of l) c.args.base keys
+          (is_dictionary (kind_of (event_at es c.args.place))) t c.args.place class)
+          c.as_slice.ensures.value (c.in_ok-class-in_default.ensures.class t s)),
+    )
 
-pub returns-in_ok-class-in-Dictionary-clause-classes : goal.returns-in_ok-class-in-Dictionary-clause-classes
-returns-in_ok-class-in-Dictionary-clause-classes c = λ scalar old.
-    let lt : c.args.place < length c.args.classes.now.items = omega
-    (arith, c.requires.place, c.requires.long) in
-    dictionary_written (plain_events c.args.events.now) scalar c.args.base
-    c.args.classes.now.items (keys_seen c.args.collections.now.keys)
-    (keys_seen c.class_of_collection-in-Dictionary.new.collections.keys)
-    c.in_ok-class-in-Dictionary.ensures.extends c.args.place lt old
-    c.in_ok-class-in-Dictionary.class c.in_ok-class-in-Dictionary.ensures.below
-    (sym c.kind_at.ensures ∙ c.in-Dictionary.is)
-    (λ t s. subst (λ l. IsIndexed (num_of l) c.args.base
-    (keys_seen c.class_of_collection-in-Dictionary.new.collections.keys) true t c.args.place
-    c.in_ok-class-in-Dictionary.class) c.as_slice-found-in-Dictionary.ensures.value
-    (c.in_ok-class-in-Dictionary.ensures.class t s))
+pub returns-in-Scalar-clause-classes : goal.returns-in-Scalar-clause-classes
+returns-in-Scalar-clause-classes c =
+    let have = c.requires.classes in (
+      have.0,
+      have.1,
+      none_written (plain_events c.args.events.now) have.0 (num_of c.args.classes.now.items)
+          c.args.base (keys_seen c.args.seen.now.keys) c.args.place kind.Scalar
+          (sym c.kind_at.ensures ∙ c.in-Scalar.is) (λ e. cc) (λ e. cc) have.2,
+    )
 
-pub returns-in_default-clause-classes : goal.returns-in_default-clause-classes
-returns-in_default-clause-classes c = λ scalar old.
-    none_written (plain_events c.args.events.now) scalar (num_of c.args.classes.now.items)
-    c.args.base (keys_seen c.args.collections.now.keys) c.args.place
-    (λ k. c.in_default.not-Array (c.kind_at.ensures ∙ k))
-    (λ k. c.in_default.not-Dictionary (c.kind_at.ensures ∙ k)) old
+pub returns-in-End-clause-classes : goal.returns-in-End-clause-classes
+returns-in-End-clause-classes c =
+    let have = c.requires.classes in (
+      have.0,
+      have.1,
+      none_written (plain_events c.args.events.now) have.0 (num_of c.args.classes.now.items)
+          c.args.base (keys_seen c.args.seen.now.keys) c.args.place kind.End
+          (sym c.kind_at.ensures ∙ c.in-End.is) (λ e. cc) (λ e. cc) have.2,
+    )

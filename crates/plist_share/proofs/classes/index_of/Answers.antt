@@ -18,9 +18,9 @@ returns-in-Ok-clause-below c =
 
 pub returns-in-Ok-clause-extends : goal.returns-in-Ok-clause-extends
 returns-in-Ok-clause-extends c = record {
-  keeps = keys_kept same key_of _ c.args.collections.now.keys c.insert_full.new.self.keys
+  keeps = keys_kept same key_of _ c.args.seen.now.keys c.insert_full.new.self.keys
       c.args.collection c.in-Ok.ensures.keys;
-  grows = (keys_grow same key_of _ c.args.collections.now.keys c.insert_full.new.self.keys
+  grows = (keys_grow same key_of _ c.args.seen.now.keys c.insert_full.new.self.keys
       c.args.collection c.in-Ok.ensures.keys).0;
 }
 
