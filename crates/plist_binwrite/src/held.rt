@@ -1,10 +1,10 @@
 //! The events of a property list, each different scalar once.
 
-ghost use Rattle.std.specs.Prelude.{◌≡◌, ◌^◌, ◌<◌, true, length, OnOk, OnErr};
+ghost use Rattle.std.specs.Prelude.{◌≡◌, ◌^◌, ◌<◌, true, length, OnOk, OnErr, ◌-◌};
 ghost use Rattle.std.proofs.Props.{props};
 ghost use Rattle.plist_base.specs.Events.{EndCollection, event_of};
 ghost use Rattle.plist_base.specs.Outcomes.{OnlyMemory};
-ghost use Rattle.plist_binwrite.specs.inner.Entries.{closed_at, is_leaf, KeepsScalars};
+ghost use Rattle.plist_binwrite.specs.inner.Entries.{closed_at, is_leaf, KeepsScalars, behind_of};
 
 use crate::kinds::Kind;
 use indexmap::IndexSet;
@@ -33,6 +33,19 @@ fn closed(entry: Entry, behind: usize) -> Entry
     }
 }
 
+// The place behind the tree that begins with the entry here.
+fn behind(place: usize, entry: Entry) -> usize
+    requires { place < 2 ^ 64 - 1 }
+    ensures { result ≡ behind_of place entry }
+{
+    match entry {
+        Entry::Array(behind) => behind,
+        Entry::Dictionary(behind) => behind,
+        Entry::Scalar(_) => place + 1,
+        Entry::End => place + 1,
+    }
+}
+
 /// The events of a property list, each different scalar once. Lengths of starts are left out.
 ///
 /// Nothing tests whether the events can follow one another.
@@ -47,7 +60,7 @@ pub struct Held<'e> {
 impl<'e> Held<'e> {
     ghost use Rattle.std.specs.Prelude.{◌≤◌, [], None, false, IfSome};
     ghost use Rattle.plist_binwrite.specs.Held.{plain_event, plain_events, scalars_of, kind_of, EndsTree, GrowsBy, HasItem, IsScalarAt, LacksItem, held_at, shown_in};
-    ghost use Rattle.plist_binwrite.specs.inner.Entries.{is_start, IsUnclosed};
+    ghost use Rattle.plist_binwrite.specs.inner.Entries.{is_start, IsUnclosed, entry_at};
 
     /// No events. It takes no memory.
     pub fn new(alloc: Global) -> Held<'e>
@@ -75,12 +88,20 @@ impl<'e> Held<'e> {
         self.scalars.len()
     }
 
+    // The entry at a place.
+    fn entry_at(&self, place: usize) -> Entry
+        requires { place < length (plain_events self.now) }
+        ensures { result ≡ entry_at self.now.entries.items place }
+    {
+        self.entries.as_slice()[place]
+    }
+
     /// The kind of the event at a place.
     pub fn kind_at(&self, place: usize) -> Kind
         requires { place < length (plain_events self.now) }
         ensures { result ≡ kind_of (held_at self.now place) }
     {
-        match self.entries.as_slice()[place] {
+        match self.entry_at(place) {
             Entry::Array(_) => Kind::Array,
             Entry::Dictionary(_) => Kind::Dictionary,
             Entry::Scalar(_) => Kind::Scalar,
@@ -108,12 +129,7 @@ impl<'e> Held<'e> {
         ensures forward { (place < result) × (result ≤ length (plain_events self.now)) }
         ensures ends { EndsTree (plain_events self.now) place result }
     {
-        match self.entries.as_slice()[place] {
-            Entry::Array(behind) => behind,
-            Entry::Dictionary(behind) => behind,
-            Entry::Scalar(_) => place + 1,
-            Entry::End => place + 1,
-        }
+        behind(place, self.entry_at(place))
     }
 
     /// The place of the scalar here among the different ones, in the order in which they came.
@@ -123,7 +139,7 @@ impl<'e> Held<'e> {
         ensures leaf { IfSome result (λ _. is_leaf (held_at self.now place) ≡ true) }
         ensures none { result ≡ None → is_leaf (held_at self.now place) ≡ false }
     {
-        match self.entries.as_slice()[place] {
+        match self.entry_at(place) {
             Entry::Scalar(scalar) => Some(scalar),
             _ => None,
         }
