@@ -1,9 +1,10 @@
 -- What lies in bytes that are lent, whatever follows them.
-use Rattle.std.proofs.Common.{◌≡◌, ℕ, suc, false, ◌+◌, ◌-◌, ◌*◌, ◌%◌, ◌^◌, ◌<◌, ◌≤◌, inl, inr, nat_eq, List, ◌∷◌, ◌++◌, length, take, drop, get_or, Option, None, Some, Ok, IfSome, refl, ap, sym, ◌∙◌, arith}
+use Rattle.std.proofs.Common.{◌≡◌, ℕ, suc, false, ◌+◌, ◌-◌, ◌*◌, ◌%◌, ◌^◌, ◌<◌, ◌≤◌, inl, inr, nat_eq, List, [], ◌∷◌, ◌++◌, length, take, drop, get_or, Option, None, Some, Ok, IfSome, refl, ap, sym, ◌∙◌, arith}
 use Rattle.std.proofs.lemmas.Bool.{le-leb, lt-ltb, le-ltb, cases_lt}
 use Rattle.std.proofs.lemmas.Bool.Decides.{nat_tests}
 use Rattle.std.proofs.lemmas.List.{length-append, take-append-le, drop-append-le, length-drop, length-take-le, drop-drop, take-append-drop}
-use Rattle.plist_base.specs.Events.{StartArray, StartDictionary}
+use Rattle.std.proofs.Math.Seq.{take-length}
+use Rattle.plist_base.specs.Events.{PlainEvent, StartArray, StartDictionary}
 use Rattle.plist_base.specs.Sources.{LiesAt}
 use Rattle.plist_base.specs.Faults.{ObjectOffsetTooLarge}
 use Rattle.std.proofs.Math.Nat.{mul-le-mul_right}
@@ -12,10 +13,12 @@ use Rattle.plist_binread.specs.declared.child.Asked.{Asked}
 use Rattle.plist_binread.specs.Container.{number_of, number_at, numbers_of}
 use Rattle.plist_binread.specs.Turning.{ReadsChild}
 use Rattle.plist_binread.specs.Decoding.{IsCollection, children_in}
-use Rattle.plist_binread.specs.Lent.{IsSlots, IsAsked, slot_of}
+use Rattle.plist_binread.specs.Lent.{IsLentAs, IsSlots, IsAsked, slot_of}
+use Rattle.plist_binread.specs.Nearby.{LendsWhole}
+use Rattle.plist_binread.specs.declared.lent.Lent.{Lent}
 use Rattle.plist_binread.specs.Object.{Object, Array, Faulty, dictionary, layout_of, length_in, meaning_counted, object_behind, object_in}
 use Rattle.plist_binread.proofs.Children.{length-numbers, get_or-numbers, length-dictionary, key, value, known_array, known_dictionary}
-use Rattle.plist_binread.proofs.Columns.{take-drop-take, take-take-le}
+use Rattle.plist_binread.proofs.Columns.{take-drop-take, take-take-le, known_at_hand}
 use Rattle.plist_binread.proofs.Extents.{leb_short, number_at-take}
 use Rattle.plist_binread.proofs.Markers.{layout-array, layout-dictionary, object_in-beyond}
 
@@ -215,6 +218,29 @@ known_front (Some bytes) lent found t p w near h cut is =
       lent_front bytes lent t p w near is h
           ∙ ap (λ ys. ys ++ drop w (drop p (take t bytes))) (sym cut),
     )
+
+-- what bytes tell that lie before the trailer, seen from the front of an object
+pub known_seen : (known : Option (List ℕ)) (t w p : ℕ) (seen : List ℕ) (told : PlainEvent)
+    (lent : Lent) → p + length seen ≤ t → IfSome known (λ bytes. LiesAt bytes p seen)
+    → LendsWhole (t - p) (object_in w) seen told lent → IfSome known
+    (λ bytes. t ≤ length bytes → IsLentAs (object_in w (drop p (take t bytes))) told lent)
+known_seen None t w p seen told lent near is means = tt
+known_seen (Some bytes) t w p seen told lent near is means = λ fits.
+    let cut = known_front (Some bytes) seen seen t p (length seen) near (omega arith)
+    (sym (take-length seen)) is fits in
+    let room : length (seen ++ cut.0) ≡ t - p = ap length (sym cut.1)
+    ∙ length-drop p (take t bytes) ∙ ap (λ m. m - p) (length-take-le t bytes fits) in
+    rw cut.1 (means cut.0 room)
+
+-- and their first byte
+pub known_first : (known : Option (List ℕ)) (p : ℕ) (seen : List ℕ) → 0 < length seen
+    → IfSome known (λ bytes. LiesAt bytes p seen)
+    → IfSome known (λ bytes. get_or seen 0 0 ≡ number_at bytes p 1)
+known_first known p seen some is = known_at_hand known seen p 1 (get_or seen 0 0) some (one seen) is
+  where
+    one : (xs : List ℕ) → get_or xs 0 0 ≡ number_of (take 1 xs)
+    one [] = refl
+    one (x ∷ xs) = omega arith
 
 -- what was found in bytes that are lent is there
 pub known_asks : (known : Option (List ℕ)) (bounds : Bounds) (asked : Asked) (place : ℕ)

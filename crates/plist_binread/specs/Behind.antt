@@ -8,7 +8,7 @@ use Rattle.plist_base.specs.Trees.{Data, Real, Uid}
 use Rattle.plist_binread.specs.Container.{number_at, number_of, numbers_of}
 use Rattle.plist_binread.specs.Decoding.{Decodes, GrowsAt, IsRefusedAs}
 use Rattle.plist_binread.specs.Lent.{IsAsked, IsSlots}
-use Rattle.plist_binread.specs.Object.{Array, Faulty, Object, Scalar, dictionary, layout_of, length_in, meaning_counted, meaning_of_front, object_behind, object_in}
+use Rattle.plist_binread.specs.Object.{Array, Faulty, Object, Scalar, dictionary, layout_of, length_in, meaning_counted, object_behind, object_in}
 use Rattle.plist_binread.specs.Turning.{ReadsChild}
 use Rattle.plist_binread.specs.declared.child.Asked.{Asked}
 use Rattle.std.specs.declared.alloc.Global.{Global}
@@ -127,29 +127,11 @@ IsCutAt place P error = MatchFault (kind_of (error_kind_of error)) ⊤ ⊥
     (P × IsTooLargeAt place (fault_of error))
 
 module _ (known : Option (List ℕ)) (trailer place : ℕ) where
-  -- this is so of the bytes behind an object's marker
-  abbrev pub IfBehind : (List ℕ → Type 0) → Type 0
-  IfBehind P = IfSome known (λ bytes. trailer ≤ length bytes → P (bytes_behind bytes trailer place))
-
-  -- an object of a fixed size is decoded, whose content means this
-  abbrev pub FrontMeans : (size : ℕ) → (List ℕ → Object) → Result Decoded Error → Type 0
-  FrontMeans size meaning answer = IfSome known (λ bytes. trailer ≤ length bytes →
-      Decodes (meaning_of_front size meaning (bytes_behind bytes trailer place)) place answer)
-
   -- an object is decoded that has so many elements as its length says, each of this size
   abbrev pub CountedMeans : (marker size : ℕ) → (List ℕ → Object) → Result Decoded Error → Type 0
   CountedMeans marker size meaning answer = IfSome known (λ bytes. trailer ≤ length bytes →
       Decodes (meaning_counted size (λ _. meaning)
       (length_in marker (bytes_behind bytes trailer place))) place answer)
-
-  -- the content of an object of a fixed size is read, and shown so
-  abbrev pub FrontGives : {A : Type 0} → (size : ℕ) → (List ℕ → A) → Result A Error → Type 0
-  FrontGives {A} size shown answer = (meaning : A → Object) →
-      IfSome known (λ bytes. trailer ≤ length bytes → MatchResult answer
-      (λ content. meaning_of_front size (λ content. meaning (shown content))
-      (bytes_behind bytes trailer place) ≡ meaning content)
-      (λ error. IsRefusedAs (meaning_of_front size (λ content. meaning (shown content))
-      (bytes_behind bytes trailer place)) place error))
 
   -- the bytes of a text or data are read
   abbrev pub CountedGives : {A : Type 0} → (marker : ℕ) → (A → List ℕ) → Result A Error → Type 0

@@ -74,3 +74,8 @@ IsRefusedAs object place error =
 abbrev pub Decodes : Object → (place : ℕ) → Result Decoded Error → Type 0
 Decodes object place answer =
     MatchResult answer (λ d. IsDecodedAs object d) (λ e. IsRefusedAs object place e)
+
+-- a text or data of this event is decoded, or memory was wanted for it
+abbrev pub DecodesEvent : (told : PlainEvent) → Result Decoded Error → Type 0
+DecodesEvent told answer = (object : Object) (place : ℕ) → GrowsAt object
+    → single_in object ≡ Some told → Decodes object place answer

@@ -1,5 +1,5 @@
 -- Words for what is decoded of bytes that are lent, whatever lies behind those that were seen.
-use Rattle.std.specs.Prelude.{◌≡◌, ℕ, ◌+◌, ◌-◌, ◌*◌, ◌<◌, ◌≤◌, false, List, ◌++◌, length, take, drop, Option, Some, MatchOption}
+use Rattle.std.specs.Prelude.{◌≡◌, ℕ, ◌+◌, ◌-◌, ◌*◌, ◌<◌, ◌≤◌, false, List, ◌++◌, length, take, drop, get_or, nat_lt, Option, None, Some, MatchOption, if◌then◌else◌}
 use Rattle.std.specs.Borrow.{Bor}
 use Rattle.std.specs.Option.{option_map}
 use Rattle.std.specs.Str.{IsUtf8}
@@ -7,11 +7,14 @@ use Rattle.plist_base.specs.declared.event.Event.{Event}
 use Rattle.plist_base.specs.Events.{PlainEvent, Single, event_of}
 use Rattle.plist_base.specs.Trees.{Scalar, String}
 use Rattle.plist_binread.specs.Container.{number_of, numbers_of}
+use Rattle.plist_binread.specs.Decoding.{single_in}
 use Rattle.plist_binread.specs.Lent.{IsLentAs, small_lent}
-use Rattle.plist_binread.specs.Object.{Array, Object, dictionary, layout_of, length_in, meaning_counted, meaning_of_front, object_behind}
+use Rattle.plist_binread.specs.Object.{Array, Object, dictionary, layout_of, length_in, meaning_counted, meaning_of_front, object_behind, text_of_units}
 use Rattle.plist_binread.specs.Packed.{content_bytes, is_small_event, scalar_of, single}
 use Rattle.plist_binread.specs.Told.{event_in}
+use Rattle.plist_binread.specs.declared.lent.Flaw.TheVariants.{TooLarge}
 use Rattle.plist_binread.specs.declared.lent.Lent.{Lent}
+use Rattle.plist_binread.specs.declared.lent.Lent.TheVariants.{Nothing, Faulty}
 use Rattle.plist_binread.specs.declared.told.Last.{Last}
 
 -- ---- what stands at the front of bytes
@@ -30,6 +33,10 @@ abbrev pub IsLength : (marker : ℕ) (rest : List ℕ) → ℕ × Bor (List ℕ)
 IsLength marker rest found =
     (more : List ℕ) → length_in marker (rest ++ more) ≡ Some (found.0, found.1.now ++ more)
 
+-- a length that isn't all there
+abbrev pub IsLengthCut : (marker : ℕ) (rest : List ℕ) → Type 0
+IsLengthCut marker rest = (length rest < 9) × (length_in marker rest ≡ None)
+
 abbrev pub LiesBehind : (rest : List ℕ) → ℕ × Bor (List ℕ) → Type 0
 LiesBehind rest found = drop (length rest - length found.1.now) rest ≡ found.1.now
 
@@ -46,21 +53,23 @@ IsCount marker size room rest count = (more : List ℕ) → length (rest ++ more
 
 -- ---- what is lent
 
--- an object of a fixed size, or one of as many bytes as its length says, whose content means this
-abbrev pub LendsFront : (size : ℕ) → (List ℕ → Object) → (rest : List ℕ) → PlainEvent → Lent → Type 0
-LendsFront size meaning rest told lent =
-    (more : List ℕ) → IsLentAs (meaning_of_front size meaning (rest ++ more)) told lent
-
-abbrev pub LendsCounted : (marker : ℕ) → (List ℕ → Object) → (rest : List ℕ) → PlainEvent → Lent
-    → Type 0
-LendsCounted marker meaning rest told lent = (more : List ℕ) →
-    IsLentAs (meaning_counted 1 (λ _. meaning) (length_in marker (rest ++ more))) told lent
-
 -- an object that all its bytes up to the trailer tell
 abbrev pub LendsWhole : (room : ℕ) → (List ℕ → Object) → (rest : List ℕ) → PlainEvent → Lent
     → Type 0
 LendsWhole room object rest told lent =
     (more : List ℕ) → length (rest ++ more) ≡ room → IsLentAs (object (rest ++ more)) told lent
+
+-- an object of a fixed size, or one of so many elements as its length says, whose content means
+-- this
+abbrev pub LendsFront : (room size : ℕ) → (List ℕ → Object) → (rest : List ℕ) → PlainEvent → Lent
+    → Type 0
+LendsFront room size meaning rest told lent =
+    LendsWhole room (meaning_of_front size meaning) rest told lent
+
+abbrev pub LendsCounted : (marker size : ℕ) → (List ℕ → Object) → (rest : List ℕ) → PlainEvent
+    → Lent → Type 0
+LendsCounted marker size meaning rest told lent = (more : List ℕ) →
+    IsLentAs (meaning_counted size (λ _. meaning) (length_in marker (rest ++ more))) told lent
 
 abbrev pub array_with : (width marker : ℕ) → List ℕ → Object
 array_with width marker rest =
@@ -70,8 +79,34 @@ abbrev pub pairs_with : (width marker : ℕ) → List ℕ → Object
 pairs_with width marker rest = meaning_counted (2 * width)
     (λ count content. dictionary count (numbers_of width content)) (length_in marker rest)
 
+-- a collection whose length isn't all there, or which doesn't end before the trailer
+abbrev pub RefusesCounted : (marker size room : ℕ) (rest : List ℕ) → Lent → Type 0
+RefusesCounted marker size room rest lent =
+    (meaning : ℕ → List ℕ → Object) (told : PlainEvent) (more : List ℕ)
+    → length (rest ++ more) ≡ room
+    → IsLentAs (meaning_counted size meaning (length_in marker (rest ++ more))) told lent
+
 abbrev pub object_with : (width marker : ℕ) → List ℕ → Object
 object_with width marker rest = object_behind marker (layout_of width marker) rest
+
+-- nothing is lent only of bytes that don't reach the trailer, and are less than sixteen
+abbrev pub IsFar : (room : ℕ) (rest : List ℕ) → Lent → Type 0
+IsFar room rest lent = lent ≡ Nothing → (length rest < 16) × (length rest < room)
+
+-- the same unless it is a text or data, by its marker
+abbrev pub IsFarOrText : (marker room : ℕ) (rest : List ℕ) → Lent → Type 0
+IsFarOrText marker room rest lent =
+    lent ≡ Nothing → (length rest < 16 → room ≤ length rest) → (64 ≤ marker) × (marker ≤ 111)
+
+-- and of bytes that begin with the marker
+abbrev pub IsFarOrLarge : (room : ℕ) (seen : List ℕ) → Lent → Type 0
+IsFarOrLarge room seen lent =
+    lent ≡ Nothing → (length seen < 17 → room ≤ length seen)
+    → (64 ≤ get_or seen 0 0) × (get_or seen 0 0 ≤ 111)
+
+-- what is said where so many bytes of an object are too few
+abbrev pub cut_at : (room size : ℕ) → Lent
+cut_at room size = if nat_lt size room then Nothing else Faulty TooLarge
 
 -- one for a small object that is lent, by which the counter rises
 abbrev pub small_told : Lent → Last → ℕ
@@ -102,6 +137,10 @@ PacksEvent event packed = MatchOption packed (is_small_event event ≡ false)
 -- the event of this scalar, if there is one
 abbrev pub ShowsScalar : Option Scalar → Option Event → Type 0
 ShowsScalar scalar found = option_map event_of found ≡ single scalar
+
+-- the units are a text, which is told
+abbrev pub TellsUnits : (units : List ℕ) → Last → Type 0
+TellsUnits units last = single_in (text_of_units units) ≡ Some (event_in last)
 
 -- the bytes are a text, which is told
 abbrev pub TellsText : (bytes : List ℕ) → Last → Type 0

@@ -1,15 +1,15 @@
-//! Objects that are decoded where they lie, in bytes that a source lends.
-//!
-//! What isn't whole there, or isn't right, is nothing here: it is read then, and its fault told.
+//! Objects that are decoded where they lie: in bytes that a source lends, or that were read of an
+//! object's front.
 
-ghost use Rattle.std.specs.Prelude.{◌≡◌, ◌-◌, ◌*◌, ◌^◌, ◌<◌, ◌≤◌, length, Some, IfSome, cond};
+ghost use Rattle.std.specs.Prelude.{◌≡◌, ◌-◌, ◌*◌, ◌^◌, ◌<◌, ◌≤◌, length, Some, IfSome, IfNone, IfOk, IfErr, cond};
 ghost use Rattle.plist_base.specs.declared.real.RealBits.TheVariants.{Eight};
 ghost use Rattle.plist_base.specs.Trees.{Real};
+ghost use Rattle.plist_binread.specs.Container.{numbers_of};
 ghost use Rattle.plist_binread.specs.Lent.{small_lent};
-ghost use Rattle.plist_binread.specs.Object.{Scalar, Array, date, text, unsigned_integer, signed_integer, object_in};
+ghost use Rattle.plist_binread.specs.Object.{Scalar, Array, date, text, wide_text, unsigned_integer, signed_integer, wide_integer, object_in};
 ghost use Rattle.plist_binread.specs.Told.{event_in};
-ghost use Rattle.plist_binread.specs.Nearby.{CountsLent, IsContent, IsCount, IsCounted, IsLength, IsNumber, LendsCounted, LendsFront, LendsWhole, LiesBehind, array_with, object_with, pairs_with};
-ghost use Rattle.plist_binread.specs.Behind.{data_in, long_real, uid_in};
+ghost use Rattle.plist_binread.specs.Nearby.{CountsLent, IsContent, IsCount, IsCounted, IsFar, IsFarOrLarge, IsFarOrText, IsLength, IsLengthCut, IsNumber, RefusesCounted, cut_at, LendsCounted, LendsFront, LendsWhole, LiesBehind, array_with, object_with, pairs_with};
+ghost use Rattle.plist_binread.specs.Behind.{data_in, short_real, long_real, uid_in};
 
 use crate::counter::DecodeCounter;
 use crate::extent::number_width;
@@ -17,11 +17,30 @@ use crate::numbers::number_from;
 use crate::told::{Last, Told};
 use plist_base::{Date, Event, RealBits};
 
-/// What lies whole in lent bytes.
+/// What is wrong with an object.
+#[derive(Clone, Copy)]
+pub enum Flaw {
+    /// It doesn't end before the trailer.
+    TooLarge,
+    /// It is a null.
+    Null,
+    /// It is a fill byte.
+    Fill,
+    /// No object has this marker.
+    Unknown(u8),
+    /// The number isn't one of 64 bits without sign.
+    OutOfRange,
+    /// It is no date.
+    NoDate,
+}
+
+/// What lies whole in the bytes that are seen of an object.
 #[derive(Clone, Copy)]
 pub enum Lent {
-    /// Nothing that is right, or not all of it.
+    /// Not all that is needed, or a text or data that is refused or that no room was found for.
     Nothing,
+    /// An object that is refused.
+    Faulty(Flaw),
     /// A scalar, which is told.
     Scalar,
     /// A collection of so many children, whose start is told.
@@ -33,6 +52,7 @@ fn lent_number(rest: &[u8], width: usize) -> Option<u64>
     requires { width ≤ 8 }
     ensures value { IfSome result (IsNumber width rest.now) }
     ensures small { IfSome result (λ n. n < 256 ^ width) }
+    ensures short { IfNone result (length rest.now < width) }
 {
     if rest.len() < width {
         return None;
@@ -40,9 +60,21 @@ fn lent_number(rest: &[u8], width: usize) -> Option<u64>
     Some(number_from(&rest[..width]))
 }
 
+// What is said of an object, where more of its bytes are needed than these.
+fn too_few(rest: &[u8], room: u64) -> Lent
+    requires { length rest.now ≤ room }
+    ensures { result ≡ cut_at room (length rest.now) }
+{
+    if (rest.len() as u64) < room {
+        return Lent::Nothing;
+    }
+    Lent::Faulty(Flaw::TooLarge)
+}
+
 // The content of an object of a fixed size.
 fn lent_content<const N: usize>(rest: &[u8]) -> Option<[u8; N]>
     ensures content { IfSome result (IsContent N rest.now) }
+    ensures short { IfNone result (length rest.now < N) }
 {
     match rest.first_chunk::<N>() {
         Some(content) => Some(*content),
@@ -55,6 +87,7 @@ pub fn lent_length(marker: u8, rest: &[u8]) -> Option<(u64, &[u8])>
     ensures length { IfSome result (IsLength marker rest.now) }
     ensures short { IfSome result (λ found. length found.1.now ≤ length rest.now) }
     ensures behind { IfSome result (LiesBehind rest.now) }
+    ensures cut { IfNone result (IsLengthCut marker rest.now) }
 {
     let low = marker % 16;
     if low < 15 {
@@ -83,55 +116,97 @@ fn lent_bytes(marker: u8, rest: &[u8]) -> Option<&[u8]>
     }
 }
 
-fn lent_unsigned(rest: &[u8], width: usize, last: &mut Last) -> Lent
-    requires { width ≤ 8 }
-    ensures lent { LendsFront width unsigned_integer rest.now (event_in last.new) result }
+fn lent_unsigned(rest: &[u8], room: u64, width: usize, last: &mut Last) -> Lent
+    requires width { width ≤ 8 }
+    requires room { length rest.now ≤ room }
+    ensures lent { LendsFront room width unsigned_integer rest.now (event_in last.new) result }
+    ensures far { IsFar room rest.now result }
 {
     match lent_number(rest, width) {
         Some(number) => {
             last.tell(Told::Unsigned(number));
             Lent::Scalar
         }
-        None => Lent::Nothing,
+        None => too_few(rest, room),
     }
 }
 
-fn lent_signed(rest: &[u8], last: &mut Last) -> Lent
-    ensures lent { LendsFront 8 signed_integer rest.now (event_in last.new) result }
+fn lent_signed(rest: &[u8], room: u64, last: &mut Last) -> Lent
+    requires room { length rest.now ≤ room }
+    ensures lent { LendsFront room 8 signed_integer rest.now (event_in last.new) result }
+    ensures far { IsFar room rest.now result }
 {
     match lent_number(rest, 8) {
         Some(number) => last.tell_signed(number),
-        None => Lent::Nothing,
+        None => too_few(rest, room),
     }
 }
 
-fn lent_uid(rest: &[u8], width: usize, last: &mut Last) -> Lent
-    requires { width ≤ 8 }
-    ensures lent { LendsFront width uid_in rest.now (event_in last.new) result }
+// A whole number of sixteen bytes, of which the first eight have to be zero.
+fn lent_wide(rest: &[u8], room: u64, last: &mut Last) -> Lent
+    requires room { length rest.now ≤ room }
+    ensures lent { LendsFront room 16 wide_integer rest.now (event_in last.new) result }
+    ensures far { IsFar room rest.now result }
+{
+    if rest.len() < 16 {
+        return too_few(rest, room);
+    }
+    let high = number_from(&rest[..8]);
+    let low = number_from(&rest[8..16]);
+    if high != 0 {
+        return Lent::Faulty(Flaw::OutOfRange);
+    }
+    last.tell(Told::Unsigned(low));
+    Lent::Scalar
+}
+
+fn lent_uid(rest: &[u8], room: u64, width: usize, last: &mut Last) -> Lent
+    requires width { width ≤ 8 }
+    requires room { length rest.now ≤ room }
+    ensures lent { LendsFront room width uid_in rest.now (event_in last.new) result }
+    ensures far { IsFar room rest.now result }
 {
     match lent_number(rest, width) {
         Some(number) => {
             last.tell(Told::Uid(number));
             Lent::Scalar
         }
-        None => Lent::Nothing,
+        None => too_few(rest, room),
     }
 }
 
-fn lent_real(rest: &[u8], last: &mut Last) -> Lent
-    ensures lent { LendsFront 8 long_real rest.now (event_in last.new) result }
+fn lent_real(rest: &[u8], room: u64, last: &mut Last) -> Lent
+    requires room { length rest.now ≤ room }
+    ensures lent { LendsFront room 8 long_real rest.now (event_in last.new) result }
+    ensures far { IsFar room rest.now result }
 {
     match lent_content(rest) {
         Some(bytes) => {
             last.hold(Event::Real(RealBits::Eight(bytes)));
             Lent::Scalar
         }
-        None => Lent::Nothing,
+        None => too_few(rest, room),
     }
 }
 
-fn lent_date(rest: &[u8], last: &mut Last) -> Lent
-    ensures lent { LendsFront 8 date rest.now (event_in last.new) result }
+fn lent_short_real(rest: &[u8], room: u64, last: &mut Last) -> Lent
+    requires room { length rest.now ≤ room }
+    ensures lent { LendsFront room 4 short_real rest.now (event_in last.new) result }
+    ensures far { IsFar room rest.now result }
+{
+    match lent_content(rest) {
+        Some(bytes) => {
+            last.hold(Event::Real(RealBits::Four(bytes)));
+            Lent::Scalar
+        }
+        None => too_few(rest, room),
+    }
+}
+
+fn lent_date(rest: &[u8], room: u64, last: &mut Last) -> Lent
+    requires room { length rest.now ≤ room }
+    ensures lent { LendsFront room 8 date rest.now (event_in last.new) result }
+    ensures far { IsFar room rest.now result }
 {
     match lent_content(rest) {
         Some(bytes) => match Date::from_plist_real(bytes) {
@@ -139,14 +214,14 @@ fn lent_date(rest: &[u8], last: &mut Last) -> Lent
                 last.hold(Event::Date(date));
                 Lent::Scalar
             }
-            Err(_) => Lent::Nothing,
+            Err(_) => Lent::Faulty(Flaw::NoDate),
         },
-        None => Lent::Nothing,
+        None => too_few(rest, room),
     }
 }
 
 fn lent_text(marker: u8, rest: &[u8], last: &mut Last) -> Lent
-    ensures lent { LendsCounted marker text rest.now (event_in last.new) result }
+    ensures lent { LendsCounted marker 1 text rest.now (event_in last.new) result }
 {
     match lent_bytes(marker, rest) {
         Some(bytes) => {
@@ -160,8 +235,40 @@ fn lent_text(marker: u8, rest: &[u8], last: &mut Last) -> Lent
     }
 }
 
+// Writes the units in these bytes, two a unit.
+fn write_units(bytes: &[u8], units: &mut [u16])
+    requires { length bytes.now ≡ length units.old * 2 }
+    ensures { units.new ≡ numbers_of 2 bytes.now }
+{
+    for i in 0..units.len() {
+        units[i] = number_from(&bytes[i * 2..i * 2 + 2]) as u16;
+    }
+}
+
+// A text of at most eight units of two bytes.
+fn lent_wide_text(marker: u8, rest: &[u8], last: &mut Last) -> Lent
+    ensures lent { LendsCounted marker 2 wide_text rest.now (event_in last.new) result }
+{
+    match lent_length(marker, rest) {
+        Some((count, behind)) => {
+            if count > 8 || count * 2 > behind.len() as u64 {
+                return Lent::Nothing;
+            }
+            let mut all = [0; 8];
+            let units = &mut all[..count as usize];
+            write_units(&behind[..count as usize * 2], units);
+            if last.tell_units(units) {
+                Lent::Scalar
+            } else {
+                Lent::Nothing
+            }
+        }
+        None => Lent::Nothing,
+    }
+}
+
 fn lent_data(marker: u8, rest: &[u8], last: &mut Last) -> Lent
-    ensures lent { LendsCounted marker data_in rest.now (event_in last.new) result }
+    ensures lent { LendsCounted marker 1 data_in rest.now (event_in last.new) result }
 {
     match lent_bytes(marker, rest) {
         Some(bytes) => {
@@ -177,19 +284,22 @@ fn lent_data(marker: u8, rest: &[u8], last: &mut Last) -> Lent
 
 // How many elements of this size a collection has that lies before the trailer, which is so far
 // away.
-fn lent_count(marker: u8, rest: &[u8], room: u64, size: u64) -> Option<u64>
+fn lent_count(marker: u8, rest: &[u8], room: u64, size: u64) -> Result<u64, Lent>
     requires { length rest.now ≤ room }
-    ensures count { IfSome result (IsCount marker size room rest.now) }
+    ensures count { IfOk result (IsCount marker size room rest.now) }
+    ensures small { IfOk result (λ count. count * size ≤ room) }
+    ensures refused { IfErr result (RefusesCounted marker size room rest.now) }
+    ensures far { IfErr result (IsFar room rest.now) }
 {
     match lent_length(marker, rest) {
         Some((count, behind)) => {
             let left = room - (rest.len() - behind.len()) as u64;
             match count.checked_mul(size) {
-                Some(all) if all <= left => Some(count),
-                _ => None,
+                Some(all) if all <= left => Ok(count),
+                _ => Err(Lent::Faulty(Flaw::TooLarge)),
             }
         }
-        None => None,
+        None => Err(too_few(rest, room)),
     }
 }
 
@@ -197,13 +307,14 @@ fn lent_array(marker: u8, rest: &[u8], room: u64, width: usize, last: &mut Last)
     requires room { length rest.now ≤ room }
     requires width { 0 < width }
     ensures lent { LendsWhole room (array_with width marker) rest.now (event_in last.new) result }
+    ensures far { IsFar room rest.now result }
 {
     match lent_count(marker, rest, room, width as u64) {
-        Some(count) => {
+        Ok(count) => {
             last.tell(Told::Array(count));
             Lent::Collection(count)
         }
-        None => Lent::Nothing,
+        Err(lent) => lent,
     }
 }
 
@@ -211,16 +322,14 @@ fn lent_dictionary(marker: u8, rest: &[u8], room: u64, width: usize, last: &mut 
     requires room { length rest.now ≤ room }
     requires width { (0 < width) × (width ≤ 8) }
     ensures lent { LendsWhole room (pairs_with width marker) rest.now (event_in last.new) result }
+    ensures far { IsFar room rest.now result }
 {
     match lent_count(marker, rest, room, 2 * width as u64) {
-        Some(count) => match count.checked_mul(2) {
-            Some(children) => {
-                last.tell(Told::Dictionary(count));
-                Lent::Collection(children)
-            }
-            None => Lent::Nothing,
-        },
-        None => Lent::Nothing,
+        Ok(count) => {
+            last.tell(Told::Dictionary(count));
+            Lent::Collection(2 * count)
+        }
+        Err(lent) => lent,
     }
 }
 
@@ -229,22 +338,28 @@ fn lent_behind(marker: u8, rest: &[u8], room: u64, width: usize, last: &mut Last
     requires room { length rest.now ≤ room }
     requires width { (0 < width) × (width ≤ 8) }
     ensures lent { LendsWhole room (object_with width marker) rest.now (event_in last.new) result }
+    ensures far { IsFarOrText marker room rest.now result }
 {
     match marker {
+        0x00 => Lent::Faulty(Flaw::Null),
         0x08 => last.tell_boolean(false),
         0x09 => last.tell_boolean(true),
-        0x10 => lent_unsigned(rest, 1, last),
-        0x11 => lent_unsigned(rest, 2, last),
-        0x12 => lent_unsigned(rest, 4, last),
-        0x13 => lent_signed(rest, last),
-        0x23 => lent_real(rest, last),
-        0x33 => lent_date(rest, last),
+        0x0f => Lent::Faulty(Flaw::Fill),
+        0x10 => lent_unsigned(rest, room, 1, last),
+        0x11 => lent_unsigned(rest, room, 2, last),
+        0x12 => lent_unsigned(rest, room, 4, last),
+        0x13 => lent_signed(rest, room, last),
+        0x14 => lent_wide(rest, room, last),
+        0x22 => lent_short_real(rest, room, last),
+        0x23 => lent_real(rest, room, last),
+        0x33 => lent_date(rest, room, last),
         0x40..=0x4f => lent_data(marker, rest, last),
         0x50..=0x5f => lent_text(marker, rest, last),
-        0x80..=0x87 => lent_uid(rest, usize::from(marker - 0x7f), last),
+        0x60..=0x6f => lent_wide_text(marker, rest, last),
+        0x80..=0x87 => lent_uid(rest, room, usize::from(marker - 0x7f), last),
         0xa0..=0xaf => lent_array(marker, rest, room, width, last),
         0xd0..=0xdf => lent_dictionary(marker, rest, room, width, last),
-        _ => Lent::Nothing,
+        other => Lent::Faulty(Flaw::Unknown(other)),
     }
 }
 
@@ -258,8 +373,8 @@ fn is_small_lent(lent: Lent, last: &Last) -> bool
     }
 }
 
-/// Decodes the object at the front of lent bytes, and counts it where it is small. The trailer is
-/// so far away.
+/// Decodes the object at the front of these bytes, and counts it where it is small. The trailer is
+/// so far away. No other function makes a small object of its bytes.
 pub fn decode_lent<C: DecodeCounter>(
     seen: &[u8],
     room: u64,
@@ -268,8 +383,10 @@ pub fn decode_lent<C: DecodeCounter>(
     last: &mut Last,
 ) -> Lent
     requires room { length seen.now ≤ room }
+    requires some { 0 < room }
     requires width { (0 < width) × (width ≤ 8) }
     ensures lent { LendsWhole room (object_in width) seen.now (event_in last.new) result }
+    ensures far { IsFarOrLarge room seen.now result }
     ensures counted { CountsLent C.counts C.count counter.old counter.new result last.new }
 {
     match seen.split_first() {

@@ -41,7 +41,7 @@ fn open_lent(walk: &mut Walk, number: u64, lent: Lent, last: &Last) -> bool
     ensures unchanged { result ≡ false → IsUnchanged walk.old walk.new }
 {
     match lent {
-        Lent::Nothing => false,
+        Lent::Nothing | Lent::Faulty(_) => false,
         Lent::Scalar => match last.pack() {
             Some((tag, content)) => {
                 keep(

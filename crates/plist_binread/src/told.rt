@@ -7,7 +7,7 @@ ghost use Rattle.plist_binread.specs.declared.lent.Lent.TheVariants.{Scalar as S
 ghost use Rattle.plist_binread.specs.Object.{signed};
 ghost use Rattle.plist_binread.specs.Packed.{cached, is_small_event, single};
 ghost use Rattle.plist_binread.specs.Told.{event_in, event_with};
-ghost use Rattle.plist_binread.specs.Nearby.{PacksEvent, TellsText};
+ghost use Rattle.plist_binread.specs.Nearby.{PacksEvent, TellsText, TellsUnits};
 
 use crate::lent::Lent;
 use crate::packed::{is_small, pack, pack_bytes, pack_text};
@@ -52,6 +52,8 @@ pub struct Last {
     pub text: String,
     /// Data.
     pub data: Vec<u8>,
+    /// Where room for a text of units comes from.
+    pub alloc: Global,
 }
 
 // The same event, whose text or data is lent.
@@ -80,6 +82,7 @@ impl Last {
             held: Event::EndCollection,
             text: String::new(alloc),
             data: Vec::new(alloc),
+            alloc,
         }
     }
 
@@ -171,6 +174,21 @@ impl Last {
                 self.text.push_str(text).is_ok()
             }
             Err(_) => false,
+        }
+    }
+
+    /// Tells the text in these units, if they are one and there is room for it.
+    pub fn tell_units(&mut self, units: &[u16]) -> bool
+        ensures { result ≡ true → TellsUnits units.now self.new }
+    {
+        let made: Result<Result<_, _>, _> = String::from_utf16(self.alloc, units);
+        match made {
+            Ok(Ok(text)) => {
+                self.text = text;
+                self.told = Told::Text;
+                true
+            }
+            _ => false,
         }
     }
 

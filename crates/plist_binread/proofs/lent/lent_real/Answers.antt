@@ -5,10 +5,7 @@ use Rattle.plist_binread.specs.Decoding.{single_in}
 use Rattle.plist_binread.specs.Object.{Scalar}
 use Rattle.plist_binread.proofs.lent.lent_real.Goals as goal
 
-pub returns-in-Some : goal.returns-in-Some
-returns-in-Some c =
-    record {
-      lent = λ more. ap single_in
-          (c.in-Some.ensures.content more (λ content. Scalar (Real (Eight content))))
-          ∙ ap Some (sym c.hold.ensures);
-    }
+pub returns-in-Some-clause-lent : goal.returns-in-Some-clause-lent
+returns-in-Some-clause-lent c = λ more whole. ap single_in
+    (c.in-Some.ensures.content more (λ content. Scalar (Real (Eight content))))
+    ∙ ap Some (sym c.hold.ensures)

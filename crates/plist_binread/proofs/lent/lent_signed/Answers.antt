@@ -4,9 +4,7 @@ use Rattle.plist_binread.specs.Decoding.{single_in}
 use Rattle.plist_binread.specs.Object.{Scalar, signed}
 use Rattle.plist_binread.proofs.lent.lent_signed.Goals as goal
 
-pub returns-in-Some : goal.returns-in-Some
-returns-in-Some c = record {
-  lent = λ more. rw c.tell_signed.ensures.scalar (ap single_in
-      (c.in-Some.ensures.value more (λ n. Scalar (Integer (signed 64 n))))
-      ∙ ap Some (sym c.tell_signed.ensures.told));
-}
+pub returns-in-Some-clause-lent : goal.returns-in-Some-clause-lent
+returns-in-Some-clause-lent c = λ more. rw c.tell_signed.ensures.scalar (λ whole. ap single_in
+    (c.in-Some.ensures.value more (λ n. Scalar (Integer (signed 64 n))))
+    ∙ ap Some (sym c.tell_signed.ensures.told))

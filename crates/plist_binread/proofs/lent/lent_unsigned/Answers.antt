@@ -4,10 +4,7 @@ use Rattle.plist_binread.specs.Decoding.{single_in}
 use Rattle.plist_binread.specs.Object.{Scalar}
 use Rattle.plist_binread.proofs.lent.lent_unsigned.Goals as goal
 
-pub returns-in-Some : goal.returns-in-Some
-returns-in-Some c =
-    record {
-      lent = λ more. ap single_in
-          (c.in-Some.ensures.value more (λ n. Scalar (Integer (pos n))))
-          ∙ ap Some (sym c.tell.ensures);
-    }
+pub returns-in-Some-clause-lent : goal.returns-in-Some-clause-lent
+returns-in-Some-clause-lent c = λ more whole. ap single_in
+    (c.in-Some.ensures.value more (λ n. Scalar (Integer (pos n))))
+    ∙ ap Some (sym c.tell.ensures)

@@ -1,0 +1,21 @@
+use Rattle.std.proofs.Common.{◌≡◌, ◌<◌, ◌++◌, pos, ap, sym, ◌∙◌, Some, arith}
+use Rattle.plist_base.specs.Trees.{Integer}
+use Rattle.plist_binread.specs.Decoding.{single_in}
+use Rattle.plist_binread.specs.Object.{Scalar, wide_integer, meaning_of_front}
+use Rattle.plist_binread.proofs.Contents.{wide_front, wide_low, wide_high}
+use Rattle.plist_binread.proofs.lent.lent_wide.Goals as goal
+
+pub returns-then-high-ne0-clause-lent : goal.returns-then-high-ne0-clause-lent
+returns-then-high-ne0-clause-lent c = λ more whole.
+    let some : 0 < c.number_from-high.result = omega arith in
+    wide_front c.args.rest.now more c.if-rest-lt16.false
+    ∙ rw (← c.number_from-high.ensures.value, ← c.number_from-low.ensures.value)
+    (wide_high c.number_from-high.result c.number_from-low.result some (omega arith) (omega arith))
+
+pub returns-clause-lent : goal.returns-clause-lent
+returns-clause-lent c = λ more whole.
+    let is : meaning_of_front 16 wide_integer (c.args.rest.now ++ more)
+    ≡ Scalar (Integer (pos c.number_from-low.result)) = wide_front c.args.rest.now more c.if-rest-lt16.false
+    ∙ rw (← c.number_from-high.ensures.value, ← c.number_from-low.ensures.value, c.if-high-ne0.false)
+    (wide_low c.number_from-low.result (omega arith)) in
+    ap single_in is ∙ ap Some (sym c.tell.ensures)
