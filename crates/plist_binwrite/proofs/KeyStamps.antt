@@ -88,15 +88,6 @@ module _ (scalars : List PlainEvent) (mark : ℕ) (es : List PlainEvent) (stamps
         → event_at es q ≡ Single (String key)
     key_is key tree ms s = first_event es q (Single (String key)) _ (sits_key s).is
 
-    -- a value stands behind each key
-    pub walked_value : {A : Type 0} → is_stop (event_at es q) ≡ false → length es ≤ q + 1 → A
-    walked_value h short = go w.left w.sits
-      where
-        go : {A : Type 0} (left : Members) → SitsPairs es left q → A
-        go NoMembers s = no_pair s h
-        go (MemberAnd key tree ms) s =
-            absurd (omega (arith, short, sits_within (sits_value s), size_positive tree))
-
     -- each key is a scalar
     pub walked_leaf : {A : Type 0} → is_stop (event_at es q) ≡ false
         → is_leaf (event_at es q) ≡ false → A

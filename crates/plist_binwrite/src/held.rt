@@ -58,7 +58,7 @@ pub struct Held<'e> {
 }
 
 impl<'e> Held<'e> {
-    ghost use Rattle.std.specs.Prelude.{◌≤◌, [], None, false, IfSome};
+    ghost use Rattle.std.specs.Prelude.{◌≤◌, [], None, false, IfSome, ◌+◌};
     ghost use Rattle.plist_binwrite.specs.Held.{plain_event, plain_events, scalars_of, kind_of, EndsTree, GrowsBy, HasItem, IsScalarAt, LacksItem, held_at, shown_in};
     ghost use Rattle.plist_binwrite.specs.inner.Entries.{is_start, IsUnclosed, entry_at};
 
@@ -130,6 +130,19 @@ impl<'e> Held<'e> {
         ensures ends { EndsTree (plain_events self.now) place result }
     {
         behind(place, self.entry_at(place))
+    }
+
+    /// The place behind the pair whose key stands here.
+    pub fn skip_pair(&self, key: usize) -> usize
+        requires { key < length (plain_events self.now) }
+        ensures forward { (key < result) × (result ≤ length (plain_events self.now)) }
+        ensures ends { EndsTree (plain_events self.now) (key + 1) result }
+    {
+        let value = key + 1;
+        if value >= self.len() {
+            return value;
+        }
+        self.skip(value)
     }
 
     /// The place of the scalar here among the different ones, in the order in which they came.

@@ -42,11 +42,7 @@ fn repeats_here(events: &Held<'_>, start: usize, stamps: &mut Vec<usize>) -> boo
         if stamp(stamps, scalar, mark) {
             return true;
         }
-        let value = key + 1;
-        if value >= events.len() {
-            return false;
-        }
-        key = events.skip(value);
+        key = events.skip_pair(key);
     }
     false
 }

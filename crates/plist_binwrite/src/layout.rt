@@ -58,11 +58,7 @@ fn order_keys(
     let mut key = from;
     'walk: while events.has_item(key) {
         order_one(events, plan, key, order, marks)?;
-        let value = key + 1;
-        if value >= events.len() {
-            return Ok(());
-        }
-        key = events.skip(value);
+        key = events.skip_pair(key);
     }
     Ok(())
 }

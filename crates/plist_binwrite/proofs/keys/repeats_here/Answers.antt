@@ -2,7 +2,7 @@ use Rattle.std.proofs.Common.{rules, ◌+◌, ◌<◌, length, arith, refl, sym,
 use Rattle.std.proofs.lemmas.List.{length-set}
 use Rattle.std.proofs.lemmas.Option.{slice_get_within}
 use Rattle.plist_binwrite.specs.Held.{plain_events, scalars_of, AllBelow}
-use Rattle.plist_binwrite.proofs.KeyStamps.{Walked, walked_start, walked_end, walked_value, walked_leaf, walked_repeats, walked_next, below_set}
+use Rattle.plist_binwrite.proofs.KeyStamps.{Walked, walked_start, walked_end, walked_leaf, walked_repeats, walked_next, below_set}
 use Rattle.plist_binwrite.proofs.keys.repeats_here.Goals as goal
 
 pub walk-init : goal.walk-init
@@ -37,12 +37,6 @@ returns-then-stamp-clause-repeats c = λ ms s.
     c.in-Some.ensures.some (c.has_item.ensures.yes c.walk-test.true).1
     (c.stamp.ensures.stood c.if-stamp.true)
 
-pub returns-then-value-len-clause-repeats : goal.returns-then-value-len-clause-repeats
-returns-then-value-len-clause-repeats c = λ ms s.
-    walked_value (scalars_of c.args.events.now) (c.args.start + 1) (plain_events c.args.events.now)
-    c.walk.stamps.items c.walk.key ms (c.walk.invariant.walked ms s)
-    (c.has_item.ensures.yes c.walk-test.true).1 (omega (arith, c.if-value-len.true, c.len.ensures))
-
 pub walk-preserved : goal.walk-preserved
 walk-preserved c =
     let within : c.in-Some.scalar < length c.walk.stamps.items = omega (
@@ -59,12 +53,12 @@ walk-preserved c =
           (below_set (c.args.start + 2) c.walk.stamps.items c.in-Some.scalar (c.args.start + 1)
           (omega arith) c.walk.invariant.newer);
       walked = λ ms s. subst (λ l. Walked (scalars_of c.args.events.now) (c.args.start + 1)
-          (plain_events c.args.events.now) l c.skip-key.result ms) (sym c.stamp.ensures.stamped)
+          (plain_events c.args.events.now) l c.skip_pair-key.result ms) (sym c.stamp.ensures.stamped)
           (walked_next (scalars_of c.args.events.now) (c.args.start + 1)
           (plain_events c.args.events.now) c.walk.stamps.items c.walk.key ms
           (c.walk.invariant.walked ms s) c.in-Some.scalar c.args.events.now.kept.apart
-          c.in-Some.ensures.some c.skip-key.result (c.stamp.ensures.other c.if-stamp.false) within
-          (c.has_item.ensures.yes c.walk-test.true).1 c.skip-key.ensures.ends);
+          c.in-Some.ensures.some c.skip_pair-key.result (c.stamp.ensures.other c.if-stamp.false) within
+          (c.has_item.ensures.yes c.walk-test.true).1 c.skip_pair-key.ensures.ends);
     }
 
 pub returns-clause-repeats : goal.returns-clause-repeats
