@@ -23,16 +23,21 @@ fn stamp(stamps: &mut Vec<usize>, scalar: usize, mark: usize) -> bool
     stood
 }
 
-// Whether the dictionary that begins here has a key twice. A stamp tells of each different scalar
+// Whether a dictionary begins here that has a key twice. A stamp tells of each different scalar
 // behind which start it was a key last.
-fn repeats_here(events: &Held<'_>, start: usize, stamps: &mut Vec<usize>) -> bool
+fn repeats_at(events: &Held<'_>, start: usize, stamps: &mut Vec<usize>) -> bool
     requires start { start < length (plain_events events.now) }
     requires long { length stamps.old.items ≡ length (scalars_of events.now) }
     requires older { AllBelow (start + 1) stamps.old.items }
     ensures long { length stamps.new.items ≡ length (scalars_of events.now) }
     ensures newer { AllBelow (start + 2) stamps.new.items }
+    ensures begins { result ≡ true → kind_of (held_at events.now start) ≡ KindDictionary }
     ensures repeats { TellsRepeats events.now start result }
 {
+    match events.kind_at(start) {
+        Kind::Dictionary => {}
+        _ => return false,
+    }
     let mark = start + 1;
     let mut key = mark;
     'walk: while events.has_item(key) {
@@ -45,22 +50,6 @@ fn repeats_here(events: &Held<'_>, start: usize, stamps: &mut Vec<usize>) -> boo
         key = events.skip_pair(key);
     }
     false
-}
-
-// Whether a dictionary begins here that has a key twice.
-fn repeats_at(events: &Held<'_>, place: usize, stamps: &mut Vec<usize>) -> bool
-    requires place { place < length (plain_events events.now) }
-    requires long { length stamps.old.items ≡ length (scalars_of events.now) }
-    requires older { AllBelow (place + 1) stamps.old.items }
-    ensures long { length stamps.new.items ≡ length (scalars_of events.now) }
-    ensures newer { AllBelow (place + 2) stamps.new.items }
-    ensures begins { result ≡ true → kind_of (held_at events.now place) ≡ KindDictionary }
-    ensures repeats { TellsRepeats events.now place result }
-{
-    match events.kind_at(place) {
-        Kind::Dictionary => repeats_here(events, place, stamps),
-        _ => false,
-    }
 }
 
 /// Whether a dictionary of the property list whose events these are has a key twice. Where none

@@ -3,7 +3,7 @@ use Rattle.plist_base.specs.Trees.{Dictionary, Members}
 use Rattle.plist_binwrite.specs.Held.{plain_events, scalars_of, AllBelow}
 use Rattle.plist_binwrite.specs.Standing.{Sits}
 use Rattle.plist_binwrite.proofs.KeyStamps.{Walked}
-use Rattle.plist_binwrite.proofs.keys.repeats_here.Given as goal
+use Rattle.plist_binwrite.proofs.keys.repeats_at.Given as goal
 
 abbrev pub invariant-walk : goal.invariant-walk
 invariant-walk l = record {
