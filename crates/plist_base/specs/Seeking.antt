@@ -20,7 +20,7 @@ abbrev pub bytes_of_window : {R : Type 0} → Seeking R → (window : ℕ) → L
 bytes_of_window source window =
     take (slice_index source.filled window)
     (if nat_lt window 8 then drop (window * 8192) source.own
-    else drop ((window - 8) * 8192) (memory_of source.more))
+    else drop (slice_index source.rooms (window - 8) * 8192) (memory_of source.more))
 
 -- nothing, or the window's bytes from a place on that it has
 abbrev pub LendsFrom : {R : Type 0} → Seeking R → (window place : ℕ) → List ℕ → Type 0

@@ -89,8 +89,8 @@ fn expect_calls(rt: &(impl Abort + AllocGlobal), places: &[u32], calls: u64) {
     assert_eq!(rt; source.into_inner().calls, calls, "{places:?}");
 }
 
-// Parts of a file in turn are read once each, two in one slot too (half a MiB apart). A third one
-// of the slot takes the place of the one that was filled first.
+// Parts of a file in turn are read once each, two in one slot too. A third one of the slot takes the
+// place of the one that was filled first. What is wanted again then is read again, once, and kept.
 #[test]
 fn keeps_its_windows(rt: HostRuntime) {
     expect_calls(&rt, &[0, 8_192, 5, 80_000, 8_200, 3, 80_005], 6);
@@ -101,6 +101,14 @@ fn keeps_its_windows(rt: HostRuntime) {
     );
     expect_calls(&rt, &[0, 524_288, 1_048_576, 1_048_580, 524_288], 6);
     expect_calls(&rt, &[0, 524_288, 1_048_576, 0, 1_048_576], 8);
+    expect_calls(&rt, &[0, 32_768, 65_536, 98_304], 8);
+    expect_calls(
+        &rt,
+        &[
+            0, 32_768, 65_536, 98_304, 0, 32_768, 65_536, 98_304, 0, 32_768, 65_536, 98_304, 5,
+        ],
+        12,
+    );
 }
 
 // Reads three bytes, and tells whether the disk failed.
