@@ -13,7 +13,7 @@ use Rattle.plist_binwrite.specs.inner.Entries.{AreApart, is_leaf}
 use Rattle.plist_binwrite.specs.Keys.{Lacks, HasDistinctKeys, HasKeysOnce, ItemsHaveKeysOnce, ValuesHaveKeysOnce}
 use Rattle.plist_binwrite.specs.Standing.{size, Sits, SitsItems, SitsPairs}
 use Rattle.plist_binwrite.proofs.Sitting.{sits_items, sits_pairs, sits_item, sits_next, sits_key, sits_value, sits_next_pair}
-use Rattle.plist_binwrite.proofs.Skipping.{first_event, begins, sits_within}
+use Rattle.plist_binwrite.proofs.Skipping.{FirstPair, pairs_on, pairs_off, first_event}
 
 not_both : {A : Type 0} (b : Bool) → b ≡ true → b ≡ false → A
 not_both b p q = cc
@@ -70,44 +70,32 @@ module _ (scalars : List PlainEvent) (mark : ℕ) (es : List PlainEvent) (stamps
 
   module _ (q : ℕ) (all : Members) (w : Walked scalars mark es stamps q all) where
     pub walked_end : is_stop (event_at es q) ≡ true ⊎ (length es ≤ q) → HasDistinctKeys all
-    walked_end h = go w.left w.sits w.up h
-      where
-        go : (left : Members) → SitsPairs es left q
-            → (HasDistinctKeys left × AreFresh scalars mark stamps left → HasDistinctKeys all)
-            → is_stop (event_at es q) ≡ true ⊎ (length es ≤ q) → HasDistinctKeys all
-        go NoMembers s up h = up (tt, tt)
-        go (MemberAnd key tree ms) s up (inl h) =
-            not_both _ h (begins (Leaf (String key)) q (sits_key s))
-        go (MemberAnd key tree ms) s up (inr h) =
-            absurd (omega (arith, sits_within (sits_key s)))
+    walked_end h =
+        w.up (subst (λ ms. HasDistinctKeys ms × AreFresh scalars mark stamps ms)
+        (sym (pairs_off w.left w.sits h)) (tt, tt))
 
-    no_pair : {A : Type 0} (s : SitsPairs es NoMembers q) → is_stop (event_at es q) ≡ false → A
-    no_pair s h = not_both _ (ap is_stop (first_event es q EndCollection s.rest s.is)) h
+    key_is : (f : FirstPair es w.left q) → event_at es q ≡ Single (String f.key)
+    key_is f = first_event es q (Single (String f.key)) _ f.here.is
 
-    key_is : (key : List ℕ) (tree : Tree) (ms : Members) → SitsPairs es (MemberAnd key tree ms) q
-        → event_at es q ≡ Single (String key)
-    key_is key tree ms s = first_event es q (Single (String key)) _ (sits_key s).is
+    down_first : (f : FirstPair es w.left q) → HasDistinctKeys all
+        → HasDistinctKeys (MemberAnd f.key f.tree f.rest)
+        × AreFresh scalars mark stamps (MemberAnd f.key f.tree f.rest)
+    down_first f d =
+        subst (λ ms. HasDistinctKeys ms × AreFresh scalars mark stamps ms) f.is (w.down d)
 
     -- each key is a scalar
     pub walked_leaf : {A : Type 0} → is_stop (event_at es q) ≡ false
         → is_leaf (event_at es q) ≡ false → A
-    walked_leaf h leaf = go w.left w.sits
-      where
-        go : {A : Type 0} (left : Members) → SitsPairs es left q → A
-        go NoMembers s = no_pair s h
-        go (MemberAnd key tree ms) s = not_both _ (ap is_leaf (key_is key tree ms s)) leaf
+    walked_leaf h leaf =
+        not_both _ (ap is_leaf (key_is (pairs_on w.left w.sits h))) leaf
 
     module _ (s : ℕ) (apart : AreApart scalars) (here : slice_get scalars s ≡ Some (event_at es q)) where
       -- a key that has the stamp stood there before
       pub walked_repeats : is_stop (event_at es q) ≡ false → get_or stamps s 0 ≡ mark
           → HasDistinctKeys all → ⊥
-      walked_repeats h is d = go w.left w.sits w.down
-        where
-          go : (left : Members) → SitsPairs es left q
-              → (HasDistinctKeys all → HasDistinctKeys left × AreFresh scalars mark stamps left) → ⊥
-          go NoMembers sits down = no_pair sits h
-          go (MemberAnd key tree ms) sits down =
-              (down d).1.0 (s, here ∙ ap Some (key_is key tree ms sits), is)
+      walked_repeats h is d =
+          let f = pairs_on w.left w.sits h in
+          (down_first f d).1.0 (s, here ∙ ap Some (key_is f), is)
 
       module _ (other : get_or stamps s 0 ≢ mark) (within : s < length stamps) (key : List ℕ)
           (is : slice_get scalars s ≡ Some (Single (String key))) where
@@ -157,28 +145,22 @@ module _ (scalars : List PlainEvent) (mark : ℕ) (es : List PlainEvent) (stamps
           → is_stop (event_at es q) ≡ false
           → ((t : Tree) → Sits es t (q + 1) → next ≡ q + 1 + size t)
           → Walked scalars mark es (set stamps s mark) next all
-      walked_next next other within h skip = go w.left w.sits w.down w.up
-        where
-          go : (left : Members) → SitsPairs es left q
-              → (HasDistinctKeys all → HasDistinctKeys left × AreFresh scalars mark stamps left)
-              → (HasDistinctKeys left × AreFresh scalars mark stamps left → HasDistinctKeys all)
-              → Walked scalars mark es (set stamps s mark) next all
-          go NoMembers sits down up = no_pair sits h
-          go (MemberAnd key tree ms) sits down up =
-              let is = here ∙ ap Some (key_is key tree ms sits) in
-              let n : next ≡ q + 1 + size tree = skip tree (sits_value sits) in
-              record {
-                left = ms;
-                sits = subst (λ k. SitsPairs es ms k) (sym n) (sits_next_pair sits);
-                down = λ d.
-                    let l = down d in
-                    (l.0.1, fresh_more other within key is ms l.0.0 l.1.1);
-                up = λ (d, f).
-                    up (
-                      (lacks_back other within key is ms f, d),
-                      (unstamped other within key is, fresh_back other within key is ms f),
-                    );
-              }
+      walked_next next other within h skip =
+          let f = pairs_on w.left w.sits h in
+          let is = here ∙ ap Some (key_is f) in
+          subst (λ k. Walked scalars mark es (set stamps s mark) k all) (sym (skip f.tree f.value))
+          (record {
+            left = f.rest;
+            sits = f.sits;
+            down = λ d.
+                let l = down_first f d in
+                (l.0.1, fresh_more other within f.key is f.rest l.0.0 l.1.1);
+            up = λ (d, fresh).
+                w.up (subst (λ ms. HasDistinctKeys ms × AreFresh scalars mark stamps ms) (sym f.is) (
+                  (lacks_back other within f.key is f.rest fresh, d),
+                  (unstamped other within f.key is, fresh_back other within f.key is f.rest fresh),
+                ));
+          })
 
 -- ---- what is told of one dictionary
 

@@ -1,20 +1,15 @@
 -- References put one by one, along a walk of a collection's items.
-use Rattle.std.proofs.Common.{◌≡◌, ◌⊎◌, inl, inr, ℕ, ◌+◌, ◌≤◌, Bool, true, false, List, [], ◌∷◌, length, map, Option, Ok, Err, if◌then◌else◌, refl, ap, sym, subst, arith}
+use Rattle.std.proofs.Common.{◌≡◌, ◌⊎◌, ℕ, ◌+◌, ◌≤◌, Bool, true, false, List, [], ◌∷◌, length, map, Option, Ok, Err, if◌then◌else◌, refl, ap, sym, ◌∙◌, subst, arith}
 use Rattle.plist_base.specs.Faults.{Fault}
-use Rattle.plist_base.specs.Trees as trees
 use Rattle.plist_base.specs.Writing.{Answer}
 use Rattle.plist_binwrite.specs.Forms.{big_endian, table_form}
 use Rattle.plist_binwrite.specs.Held.{is_stop, event_at, item_places, half_places}
-use Rattle.plist_base.specs.Events.{PlainEvent, EndCollection}
-use Rattle.plist_base.specs.Trees.{Tree, Leaf, Trees, NoTrees, TreeAnd, Members, NoMembers, MemberAnd}
+use Rattle.plist_base.specs.Events.{PlainEvent}
+use Rattle.plist_base.specs.Trees.{Tree, Trees, Members, NoMembers, MemberAnd}
 use Rattle.plist_binwrite.specs.Standing.{size, Sits, SitsItems, SitsPairs}
 use Rattle.plist_binwrite.specs.Outlets.{PutsBytes}
 use Rattle.plist_binwrite.proofs.Outgoing.{puts_none, puts_then, puts_front, puts_as}
-use Rattle.plist_binwrite.proofs.Sitting.{sits_item, sits_next, sits_key, sits_value, sits_next_pair}
-use Rattle.plist_binwrite.proofs.Skipping.{first_event, begins, sits_within, size_positive}
-
-not_both : {A : Type 0} (b : Bool) → b ≡ true → b ≡ false → A
-not_both b p q = cc
+use Rattle.plist_binwrite.proofs.Skipping.{FirstPair, items_on, items_off, pairs_on, pairs_off, sits_within, size_positive}
 
 module _ (es : List PlainEvent) (num : ℕ → ℕ) (w : ℕ) (a : Option (List ℕ))
     (held all : List ℕ) where
@@ -29,45 +24,30 @@ module _ (es : List PlainEvent) (num : ℕ → ℕ) (w : ℕ) (a : Option (List 
   pub items_next : {b c : Option (List ℕ)} {h k : List ℕ} {q next : ℕ} → Items b h q
       → is_stop (event_at es q) ≡ false → ((t : Tree) → Sits es t q → next ≡ q + size t)
       → PutsBytes b h (big_endian w (num q)) (Ok tt) c k → Items c k next
-  items_next {b} {c} {h} {k} {q} {next} l nostop skip p = go l.left l.sits l.goes
-    where
-      go : (ts : Trees) → SitsItems es ts q → ((answer : Answer) (c : Option (List ℕ)) (k : List ℕ)
-          → PutsBytes b h (table_form w (map num (item_places ts q))) answer c k
-          → PutsBytes a held all answer c k) → Items c k next
-      go NoTrees s f = not_both _ (ap is_stop (first_event es q EndCollection s.rest s.is)) nostop
-      go (TreeAnd t ts) s f =
-          let n : next ≡ q + size t = skip t (sits_item s) in
-          subst (λ r. Items c k r) (sym n) (record {
-            left =
-                ts;
-            sits = sits_next s;
-            goes = λ answer d j r. f answer d j (puts_then p r);
-          })
+  items_next {b} {c} {h} {k} {q} {next} l nostop skip p =
+      let f = items_on l.left l.sits nostop in
+      subst (λ r. Items c k r) (sym (skip f.tree f.here)) (record {
+        left = f.rest;
+        sits = f.sits;
+        goes = λ answer d j r. l.goes answer d j
+            (puts_as (sym (ap (λ ts. table_form w (map num (item_places ts q))) f.is))
+            (puts_then p r));
+      })
 
   pub items_fail : {b c : Option (List ℕ)} {h k : List ℕ} {q : ℕ} {fault : Fault} → Items b h q
       → is_stop (event_at es q) ≡ false → PutsBytes b h (big_endian w (num q)) (Err fault) c k
       → PutsBytes a held all (Err fault) c k
-  items_fail {b} {c} {h} {k} {q} {fault} l nostop p = go l.left l.sits l.goes
-    where
-      go : (ts : Trees) → SitsItems es ts q → ((answer : Answer) (c : Option (List ℕ)) (k : List ℕ)
-          → PutsBytes b h (table_form w (map num (item_places ts q))) answer c k
-          → PutsBytes a held all answer c k) → PutsBytes a held all (Err fault) c k
-      go NoTrees s f = not_both _ (ap is_stop (first_event es q EndCollection s.rest s.is)) nostop
-      go (TreeAnd t ts) s f =
-          f (Err fault) c k (puts_front (table_form w (map num (item_places ts (q + size t)))) p)
+  items_fail {b} {c} {h} {k} {q} {fault} l nostop p =
+      let f = items_on l.left l.sits nostop in
+      l.goes (Err fault) c k
+      (puts_as (sym (ap (λ ts. table_form w (map num (item_places ts q))) f.is))
+      (puts_front (table_form w (map num (item_places f.rest (q + size f.tree)))) p))
 
   pub items_stop : {b : Option (List ℕ)} {h : List ℕ} {q : ℕ} → Items b h q
       → is_stop (event_at es q) ≡ true ⊎ (length es ≤ q) → PutsBytes a held all (Ok tt) b h
-  items_stop {b} {h} {q} l end = go l.left l.sits l.goes end
-    where
-      go : (ts : Trees) → SitsItems es ts q → ((answer : Answer) (c : Option (List ℕ)) (k : List ℕ)
-          → PutsBytes b h (table_form w (map num (item_places ts q))) answer c k
-          → PutsBytes a held all answer c k)
-          → is_stop (event_at es q) ≡ true ⊎ (length es ≤ q) → PutsBytes a held all (Ok tt) b h
-      go NoTrees s f e = f (Ok tt) b h puts_none
-      go (TreeAnd t ts) s f (inl e) = not_both _ e (begins t q (sits_item s))
-      go (TreeAnd t ts) s f (inr e) =
-          absurd (omega (arith, sits_within (sits_item s), size_positive t))
+  items_stop {b} {h} {q} l end =
+      l.goes (Ok tt) b h (puts_as (sym (ap (λ ts. table_form w (map num (item_places ts q)))
+      (items_off l.left l.sits end))) puts_none)
 
 pub items_begin : (es : List PlainEvent) (num : ℕ
     → ℕ) (w : ℕ) (a : Option (List ℕ)) (held : List ℕ) (ts : Trees) (q : ℕ) → SitsItems es ts q
@@ -91,61 +71,41 @@ module _ (es : List PlainEvent) (num : ℕ → ℕ) (w : ℕ) (one : ℕ → ℕ
 
     pub each_within : {b : Option (List ℕ)} {h : List ℕ} {q : ℕ} → Each b h q
         → is_stop (event_at es q) ≡ false → q + 1 + 1 ≤ length es
-    each_within {b} {h} {q} l nostop = go l.left l.sits
-      where
-        go : (ms : Members) → SitsPairs es ms q → q + 1 + 1 ≤ length es
-        go NoMembers s = not_both _ (ap is_stop (first_event es q EndCollection s.rest s.is)) nostop
-        go (MemberAnd k t ms) s = omega (arith, sits_within (sits_value s), size_positive t)
+    each_within {b} {h} {q} l nostop =
+        let f = pairs_on l.left l.sits nostop in
+        omega (arith, sits_within f.value, size_positive f.tree)
+
+    -- the place of the first pair, and those of the others
+    first_of : {q : ℕ} {left : Members} (f : FirstPair es left q)
+        → places left q ≡ one q ∷ places f.rest (q + 1 + size f.tree)
+    first_of {q} f = ap (λ ms. places ms q) f.is ∙ some f.key f.tree f.rest q
 
     pub each_next : {b c : Option (List ℕ)} {h k : List ℕ} {q next : ℕ} → Each b h q
         → is_stop (event_at es q) ≡ false → ((t : Tree) → Sits es t (q + 1) → next ≡ q + 1 + size t)
         → PutsBytes b h (big_endian w (num (one q))) (Ok tt) c k → Each c k next
-    each_next {b} {c} {h} {k} {q} {next} l nostop skip p = go l.left l.sits l.goes
-      where
-        go : (ms : Members) → SitsPairs es ms q
-            → ((answer : Answer) (c : Option (List ℕ)) (k : List ℕ)
-            → PutsBytes b h (put_of ms q) answer c k → PutsBytes a held all answer c k) → Each c k next
-        go NoMembers s f =
-            not_both _ (ap is_stop (first_event es q EndCollection s.rest s.is)) nostop
-        go (MemberAnd key t ms) s f =
-            let n : next ≡ q + 1 + size t = skip t (sits_value s) in
-            subst (λ r. Each c k r) (sym n) (record {
-              left = ms;
-              sits = sits_next_pair s;
-              goes =
-                  λ answer d j r. f answer d j
-                  (puts_as (ap (λ l. table_form w (map num l)) (sym (some key t ms q)))
-                  (puts_then p r));
-            })
+    each_next {b} {c} {h} {k} {q} {next} l nostop skip p =
+        let f = pairs_on l.left l.sits nostop in
+        subst (λ r. Each c k r) (sym (skip f.tree f.value)) (record {
+          left = f.rest;
+          sits = f.sits;
+          goes = λ answer d j r. l.goes answer d j
+              (puts_as (sym (ap (λ l. table_form w (map num l)) (first_of f))) (puts_then p r));
+        })
 
     pub each_fail : {b c : Option (List ℕ)} {h k : List ℕ} {q : ℕ} {fault : Fault} → Each b h q
         → is_stop (event_at es q) ≡ false → PutsBytes b h (big_endian w (num (one q))) (Err fault) c k
         → PutsBytes a held all (Err fault) c k
-    each_fail {b} {c} {h} {k} {q} {fault} l nostop p = go l.left l.sits l.goes
-      where
-        go : (ms : Members) → SitsPairs es ms q
-            → ((answer : Answer) (c : Option (List ℕ)) (k : List ℕ)
-            → PutsBytes b h (put_of ms q) answer c k → PutsBytes a held all answer c k)
-            → PutsBytes a held all (Err fault) c k
-        go NoMembers s f =
-            not_both _ (ap is_stop (first_event es q EndCollection s.rest s.is)) nostop
-        go (MemberAnd key t ms) s f =
-            f (Err fault) c k (puts_as (ap (λ l. table_form w (map num l)) (sym (some key t ms q)))
-            (puts_front (put_of ms (q + 1 + size t)) p))
+    each_fail {b} {c} {h} {k} {q} {fault} l nostop p =
+        let f = pairs_on l.left l.sits nostop in
+        l.goes (Err fault) c k
+        (puts_as (sym (ap (λ l. table_form w (map num l)) (first_of f)))
+        (puts_front (put_of f.rest (q + 1 + size f.tree)) p))
 
     pub each_stop : {b : Option (List ℕ)} {h : List ℕ} {q : ℕ} → Each b h q
         → is_stop (event_at es q) ≡ true ⊎ (length es ≤ q) → PutsBytes a held all (Ok tt) b h
-    each_stop {b} {h} {q} l end = go l.left l.sits l.goes end
-      where
-        go : (ms : Members) → SitsPairs es ms q
-            → ((answer : Answer) (c : Option (List ℕ)) (k : List ℕ)
-            → PutsBytes b h (put_of ms q) answer c k → PutsBytes a held all answer c k)
-            → is_stop (event_at es q) ≡ true ⊎ (length es ≤ q) → PutsBytes a held all (Ok tt) b h
-        go NoMembers s f e =
-            f (Ok tt) b h (puts_as (ap (λ l. table_form w (map num l)) (sym (none q))) puts_none)
-        go (MemberAnd key t ms) s f (inl e) =
-            not_both _ e (begins (Leaf (trees.String key)) q (sits_key s))
-        go (MemberAnd key t ms) s f (inr e) = absurd (omega (arith, sits_within (sits_key s)))
+    each_stop {b} {h} {q} l end =
+        l.goes (Ok tt) b h (puts_as (sym (ap (λ l. table_form w (map num l))
+        (ap (λ ms. places ms q) (pairs_off l.left l.sits end) ∙ none q))) puts_none)
 
   pub each_begin : (a : Option (List ℕ)) (held : List ℕ) (ms : Members) (q : ℕ) → SitsPairs es ms q
       → Each a held (put_of ms q) a held q

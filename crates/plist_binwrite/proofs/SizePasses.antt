@@ -1,7 +1,7 @@
 -- The sizes that a pass over the events tells.
-use Rattle.std.proofs.Common.{◌≡◌, ◌⊎◌, inl, inr, ℕ, ◌+◌, ◌*◌, ◌/◌, ◌^◌, ◌<◌, ◌≤◌, Bool, false, true, List, [], ◌∷◌, ◌++◌, length, flat_map, Option, None, Some, SomeIff, refl, ap, sym, ◌∙◌, subst, arith, length-append}
+use Rattle.std.proofs.Common.{◌≡◌, ◌⊎◌, inl, inr, ℕ, ◌+◌, ◌*◌, ◌/◌, ◌^◌, ◌<◌, ◌≤◌, false, true, List, [], ◌∷◌, ◌++◌, length, flat_map, Option, None, Some, SomeIff, refl, ap, sym, ◌∙◌, subst, arith, length-append}
 use Rattle.std.proofs.lemmas.Bool.{cases_lt}
-use Rattle.plist_base.specs.Trees.{number_of_trees, number_of_members, Tree, Leaf, Array, Dictionary, Trees, NoTrees, TreeAnd, Members, NoMembers, MemberAnd}
+use Rattle.plist_base.specs.Trees.{number_of_trees, number_of_members, Tree, Leaf, Array, Dictionary, Trees, Members, NoMembers, MemberAnd}
 use Rattle.plist_binwrite.specs.declared.kinds.Kind.TheVariants as kind
 use Rattle.plist_base.specs.Events.{PlainEvent, StartArray, EndCollection, Single}
 use Rattle.plist_base.specs.Bracketing.{shape_of_items}
@@ -9,10 +9,10 @@ use Rattle.plist_binwrite.specs.Standing.{size, Sits, SitsItems}
 use Rattle.plist_binwrite.specs.Forms.{big_endian, length_form, units_of, is_ascii_text, text_form}
 use Rattle.plist_binwrite.specs.Sizes.{TellsSize, object_size}
 use Rattle.plist_binwrite.specs.Held.{is_stop, kind_of, event_at}
-use Rattle.plist_binwrite.proofs.Sitting.{sits_pairs, sits_item, sits_next}
+use Rattle.plist_binwrite.proofs.Sitting.{sits_pairs}
 use Rattle.plist_binwrite.proofs.Placed.{no_kind}
 use Rattle.plist_binwrite.proofs.ReadingNumbers.{length-table}
-use Rattle.plist_binwrite.proofs.Skipping.{first_event, begins, sits_within, size_positive, as_items, pairs_as_items}
+use Rattle.plist_binwrite.proofs.Skipping.{first_event, as_items, pairs_as_items, items_on, items_off}
 
 pub told_if : (told : Option ℕ) (size : ℕ) → SomeIff told (size < 2 ^ 64) size → TellsSize told size
 told_if None size h = elim (cases_lt size (2 ^ 64)) [ inl l ↦ absurd (h l) | inr l ↦ l ]
@@ -30,9 +30,6 @@ wide_length text wide =
 
 -- ---- items
 
-not_both : {A : Type 0} (b : Bool) → b ≡ true → b ≡ false → A
-not_both b p q = cc
-
 -- what a count has still to come to
 pub record Counts (es : List PlainEvent) (q count all : ℕ) : Type 0 where
   pub left : Trees
@@ -45,32 +42,19 @@ counts_begin ts q s = record { left = ts; sits = s; are = omega arith }
 
 pub counts_stop : {es : List PlainEvent} {q count all : ℕ} → Counts es q count all
     → is_stop (event_at es q) ≡ true ⊎ (length es ≤ q) → count ≡ all
-counts_stop {es} {q} {count} {all} l h = go l.left l.sits l.are h
-  where
-    go : (ts : Trees) → SitsItems es ts q → count + number_of_trees ts ≡ all
-        → is_stop (event_at es q) ≡ true ⊎ (length es ≤ q) → count ≡ all
-    go NoTrees s e h = omega (arith, e)
-    go (TreeAnd t ts) s e (inl h) = not_both _ h (begins t q (sits_item s))
-    go (TreeAnd t ts) s e (inr h) =
-        absurd (omega (arith, sits_within (sits_item s), size_positive t))
+counts_stop {es} {q} {count} {all} l h =
+    omega (arith, l.are, ap number_of_trees (items_off l.left l.sits h))
 
 pub counts_next : {es : List PlainEvent} {q count all next : ℕ} → Counts es q count all
     → is_stop (event_at es q) ≡ false → ((t : Tree) → Sits es t q → next ≡ q + size t)
     → Counts es next (count + 1) all
-counts_next {es} {q} {count} {all} {next} l h skip = go l.left l.sits l.are
-  where
-    go : (ts : Trees) → SitsItems es ts q → count + number_of_trees ts ≡ all
-        → Counts es next (count + 1) all
-    go NoTrees s e = not_both _ (ap is_stop (first_event es q EndCollection s.rest s.is)) h
-    go (TreeAnd t ts) s e =
-        let n : next ≡ q + size t = skip t (sits_item s) in
-        record {
-          left =
-              ts;
-          sits = subst (λ k. SitsItems es ts k) (sym n) (sits_next s);
-          are = omega
-              (arith, e);
-        }
+counts_next {es} {q} {count} {all} {next} l h skip =
+    let f = items_on l.left l.sits h in
+    subst (λ k. Counts es k (count + 1) all) (sym (skip f.tree f.here)) (record {
+      left = f.rest;
+      sits = f.sits;
+      are = omega (arith, l.are, ap number_of_trees f.is);
+    })
 
 -- the keys and the values of a dictionary are twice its pairs
 pub twice : (ms : Members) → number_of_trees (as_items ms) ≡ 2 * number_of_members ms
