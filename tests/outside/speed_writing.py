@@ -3,18 +3,25 @@
 
 The files and the programs are those of speed.py; the programs run in turn, and of each the run with
 the least processor time (user and system) counts, with its peak memory. Besides the shapes of
-speed.py there are wide ones: empty arrays, a dictionary of many keys, an array of equal texts.
-`plistlib` loads and dumps. `plistutil` isn't among them: it copies a file that is binary already.
+speed.py there are wide ones (empty arrays, a dictionary of many keys, an array of equal texts) and
+project files in ASCII, which neither the crate (1.3.1) nor `plistlib` reads. `plistlib` loads and
+dumps. `plistutil` isn't among them: it copies a file that is binary already.
 
-Usage: speed_writing.py [MEGABYTES ..]      1 and 10 where none are named.
+A second table is of events that are handed to a writer over memory as they are read from memory: to
+`BinaryWriter` by the program of `tests/outside/sharing`, which is proved and built by the kit's `rt`
+in a copy of the crates, and to the crate's.
+
+Usage: speed_writing.py [--program PROGRAM] [MEGABYTES ..]      1 and 10 where none are named.
 """
 import math
 import pathlib
+import random
 import subprocess
 import sys
 import tempfile
 
 import speed
+import speed_sharing
 
 DUMP = "import plistlib, sys; plistlib.dump(plistlib.load(open(sys.argv[1], 'rb')), open(sys.argv[2], 'wb'), fmt=plistlib.FMT_BINARY, sort_keys=False)"
 
@@ -33,6 +40,26 @@ def equal_texts(file):
     return file.array([text] * 10**6)
 
 
+def project(size):
+    """A project in ASCII: objects by their identifiers, with references, lists and settings."""
+    rng, names, lines = random.Random(5), [], ["// !$*UTF8*$!", "{", "archiveVersion = 1;", "objects = {"]
+    length = 0
+    while length < size - 200:
+        name = "%024X" % rng.getrandbits(96)
+        names.append(name)
+        number, other = len(names), rng.choice(names)
+        lines.append([
+            f"\t{name} /* file{number}.m */ = {{isa = PBXFileReference; fileEncoding = 4; path = file{number}.m; sourceTree = \"<group>\"; }};",
+            f"\t{name} /* file{number}.m in Sources */ = {{isa = PBXBuildFile; fileRef = {other} /* file */; }};",
+            f"\t{name} = {{\n\t\tisa = PBXGroup;\n\t\tchildren = (\n" + "".join(
+                f"\t\t\t{rng.choice(names)} /* child */,\n" for _ in range(6)) + f"\t\t);\n\t\tname = \"group {number}\";\n\t}};",
+            f"\t{name} = {{\n\t\tisa = XCBuildConfiguration;\n\t\tbuildSettings = {{\n\t\t\tCLANG_ENABLE_OBJC_ARC = YES;\n"
+            f"\t\t\tPRODUCT_NAME = \"$(TARGET_NAME) {number % 50}\";\n\t\t}};\n\t\tname = Debug;\n\t}};",
+        ][rng.randrange(4)])
+        length += len(lines[-1])
+    return "\n".join([*lines, "};", f"rootObject = {names[0]};", "}", ""]).encode()
+
+
 WIDE = {"66,000 empty arrays": empty_arrays, "10^6 keys": many_keys, "10^6 equal texts": equal_texts}
 
 
@@ -44,28 +71,42 @@ def programs(folder):
     yield "plistlib", [sys.executable, "-c", DUMP]
 
 
-def row(name, source, known):
-    """Prints a line of the table; the least processor seconds of plist_tool."""
-    target = source.with_name("written.plist")
+def row(name, source, known, first="plist_tool", written=True):
+    """Prints a line of the table; the least processor seconds of the first program."""
+    target = [source.with_name("written.plist")] if written else []
     runs = {program: [] for program, _ in known}
     for _ in range(speed.RUNS):
         for program, words in known:
             if None not in runs[program]:
-                runs[program].append(speed.measure([*words, source, target]))
+                runs[program].append(speed.measure([*words, source, *target]))
     found = {program: None if None in list_ else min(list_) for program, list_ in runs.items()}
-    ours, cells = found["plist_tool"], []
+    ours, cells = found[first], []
     for program, value in found.items():
         if value is None:
             cells.append("fails")
-        elif program == "plist_tool" or ours is None:
-            cells.append(f"{value[0]:.2f} s, {value[1] / 1e6:.0f} MB")
+        elif program == first or ours is None:
+            cells.append(f"{value[0]:.4f} s, {value[1] / 1e6:.1f} MB")
         else:
-            cells.append(f"{value[0]:.2f} s, {value[1] / 1e6:.0f} MB ({ours[0] / max(value[0], 0.001):.2f}, {ours[1] / value[1]:.2f})")
+            cells.append(f"{value[0]:.4f} s, {value[1] / 1e6:.1f} MB ({ours[0] / max(value[0], 0.001):.2f}, {ours[1] / value[1]:.2f})")
     print(f"| {name} | {source.stat().st_size:,} | " + " | ".join(cells) + " |", flush=True)
     return ours and ours[0]
 
 
+def print_events(sizes, path, known):
+    """Prints the table of events that are handed to a writer."""
+    print("\nEvents handed to a writer, from memory to memory:\n")
+    print("| shape | bytes | " + " | ".join(program for program, _ in known) + " |")
+    print("|" + "---|" * (2 + len(known)))
+    for shape in speed.SHAPES:
+        for size in sizes:
+            speed.make(path, shape, size)
+            row(f"{shape}, {size} MB", path, known, first="BinaryWriter", written=False)
+
+
 def main(words):
+    built = None
+    if words[:1] == ["--program"]:
+        built, words = pathlib.Path(words[1]).resolve(), words[2:]
     sizes = [int(word) for word in words] or [1, 10]
     with tempfile.TemporaryDirectory() as name:
         folder = pathlib.Path(name)
@@ -83,16 +124,26 @@ def main(words):
             # in a process of its own, since what this one holds would count for the programs
             subprocess.run([sys.executable, __file__, "--make", path, shape], check=True)
             row(shape, path, known)
-    print("\nIn brackets: processor time and peak memory of plist_tool to those of the program. Growth of its time:")
+        for size in sizes:
+            subprocess.run([sys.executable, __file__, "--make", path, "ASCII project", str(size)], check=True)
+            seconds = row(f"ASCII project, {size} MB", path, known)
+            if seconds:
+                grown.setdefault("ASCII project", []).append((path.stat().st_size, seconds))
+        built = built or speed_sharing.program(folder)
+        crate = dict(known).get("the crate")
+        if built:
+            print_events(sizes, path, [("BinaryWriter", [built, "plain"]), *([("the crate", [crate[0], "events"])] if crate else [])])
+    print("\nIn brackets: processor time and peak memory of the first program to those of the other. Growth of its time:")
     for shape, points in grown.items():
         (small, first), (large, last) = points[0], points[-1]
         if small < large:
             print(f"- {shape}: exponent {math.log(last / first) / math.log(large / small):.2f} from {small:,} to {large:,} bytes")
 
 
-def made(path, shape):
+def made(path, shape, *size):
     file = speed.File()
-    pathlib.Path(path).write_bytes(file.bytes(WIDE[shape](file)))
+    content = project(int(size[0]) * 1_000_000) if size else file.bytes(WIDE[shape](file))
+    pathlib.Path(path).write_bytes(content)
 
 
 if __name__ == "__main__":

@@ -1,7 +1,7 @@
 //! The Rust crate `plist` on the command line: `peer print FILE` prints a binary property list's events,
-//! `peer items FILE TIMES` only counts them, so many times, `peer convert IN OUT` reads a value and
-//! writes it.
-use plist::stream::{BinaryReader, Event};
+//! `peer items FILE TIMES` only counts them, so many times, `peer events FILE` hands them to a writer
+//! over memory and prints how many bytes it wrote, `peer convert IN OUT` reads a value and writes it.
+use plist::stream::{BinaryReader, BinaryWriter, Event, Writer};
 use std::io::{BufWriter, Cursor, Write};
 use std::{env, fs, io};
 
@@ -59,6 +59,14 @@ fn main() -> Result<(), Box<dyn std::error::Error>> {
                 }
             }
             println!("{count}");
+        }
+        "events" => {
+            let mut file = Vec::new();
+            let mut writer = BinaryWriter::new(&mut file);
+            for event in BinaryReader::new(Cursor::new(bytes)) {
+                writer.write(&event?)?;
+            }
+            println!("{}", file.len());
         }
         _ => {
             let value = plist::Value::from_reader(Cursor::new(bytes))?;
