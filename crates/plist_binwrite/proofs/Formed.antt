@@ -1,18 +1,18 @@
 -- The bytes of an object, by the kind of the event that begins it.
-use Rattle.std.proofs.Common.{◌≡◌, ℕ, ◌+◌, ◌*◌, ◌/◌, true, false, None, List, [], ◌∷◌, ◌++◌, map, ap, sym, ◌∙◌, subst, arith}
-use Rattle.plist_base.specs.Events.{PlainEvent, StartArray, StartDictionary, EndCollection, Single}
+use Rattle.std.proofs.Common.{◌≡◌, ℕ, ◌+◌, ◌*◌, ◌/◌, true, false, List, ◌++◌, map, ap, sym, ◌∙◌, subst, arith}
+use Rattle.plist_base.specs.Events.{PlainEvent}
 use Rattle.plist_base.specs.Trees.{number_of_trees, number_of_members, Scalar, Tree, Leaf, Array, Dictionary, Trees, Members}
 use Rattle.plist_binwrite.specs.declared.kinds.Kind.TheVariants as kind
 use Rattle.plist_binwrite.specs.Forms.{form, length_form, table_form}
 use Rattle.plist_binwrite.specs.inner.Entries.{is_leaf}
 use Rattle.plist_binwrite.specs.Held.{IfScalar, kind_of, event_at, item_places, key_places, value_places}
-use Rattle.plist_base.specs.Bracketing.{unhinted, shape_of_items, shape_of_pairs}
+use Rattle.plist_base.specs.Bracketing.{unhinted}
 use Rattle.plist_binwrite.specs.Standing.{Sits, SitsItems, SitsPairs}
 use Rattle.plist_binwrite.specs.Numberings.{obj_of}
 use Rattle.plist_binwrite.proofs.SizePasses.{twice}
 use Rattle.plist_binwrite.proofs.Placed.{no_kind, scalar_is, refs_are, keys_are, values_are}
 use Rattle.plist_binwrite.proofs.Sitting.{sits_items, sits_pairs}
-use Rattle.plist_binwrite.proofs.Skipping.{first_event, as_items, pairs_as_items}
+use Rattle.plist_binwrite.proofs.Skipping.{stands_single, starts_array, starts_dictionary, as_items, pairs_as_items}
 use Rattle.plist_binwrite.proofs.Unfold.{length-refs, length-pairs}
 
 pub array_is : (num : ℕ → ℕ) (w count : ℕ) (ts : Trees) (p : ℕ) → count ≡ number_of_trees ts
@@ -41,23 +41,21 @@ pub of_array : {es : List PlainEvent} (P : Tree → Type 0) (t : Tree) (p : ℕ)
     → P t
 of_array {es} P (Leaf x) p s k h =
     absurd (no_kind (kind_of (event_at es p)) kind.Array kind.Scalar k
-    (ap kind_of (first_event es p (Single x) s.rest s.is)) (λ e. cc))
+    (ap kind_of (stands_single s)) (λ e. cc))
 of_array {es} P (Array ts) p s k h = h ts (sits_items s)
 of_array {es} P (Dictionary ms) p s k h =
     absurd (no_kind (kind_of (event_at es p)) kind.Array kind.Dictionary k
-    (ap kind_of (first_event es p (StartDictionary None)
-    ((shape_of_pairs ms ++ EndCollection ∷ []) ++ s.rest) s.is)) (λ e. cc))
+    (ap kind_of (starts_dictionary s)) (λ e. cc))
 
 pub of_dictionary : {es : List PlainEvent} (P : Tree → Type 0) (t : Tree) (p : ℕ) → Sits es t p
     → kind_of (event_at es p) ≡ kind.Dictionary
     → ((ms : Members) → SitsPairs es ms (p + 1) → P (Dictionary ms)) → P t
 of_dictionary {es} P (Leaf x) p s k h =
     absurd (no_kind (kind_of (event_at es p)) kind.Dictionary kind.Scalar k
-    (ap kind_of (first_event es p (Single x) s.rest s.is)) (λ e. cc))
+    (ap kind_of (stands_single s)) (λ e. cc))
 of_dictionary {es} P (Array ts) p s k h =
     absurd (no_kind (kind_of (event_at es p)) kind.Dictionary kind.Array k
-    (ap kind_of (first_event es p (StartArray None)
-    ((shape_of_items ts ++ EndCollection ∷ []) ++ s.rest) s.is)) (λ e. cc))
+    (ap kind_of (starts_array s)) (λ e. cc))
 of_dictionary {es} P (Dictionary ms) p s k h = h ms (sits_pairs s)
 
 -- where no collection begins, a scalar stands
@@ -67,24 +65,20 @@ pub of_scalar : {es : List PlainEvent} (P : Scalar → Type 0) (Q : Tree
     → ((x : Scalar) → P x → Q (Leaf x)) → IfScalar e P → Q t
 of_scalar {es} P Q (Leaf x) p e s is a b to h =
     to x (subst (λ d. IfScalar d P) (scalar_is e x (sym is
-    ∙ first_event es p (Single x) s.rest s.is)) h)
+    ∙ stands_single s)) h)
 of_scalar {es} P Q (Array ts) p e s is a b to h =
-    absurd (a (ap kind_of (first_event es p (StartArray None)
-    ((shape_of_items ts ++ EndCollection ∷ []) ++ s.rest) s.is)))
+    absurd (a (ap kind_of (starts_array s)))
 of_scalar {es} P Q (Dictionary ms) p e s is a b to h =
-    absurd (b (ap kind_of (first_event es p (StartDictionary None)
-    ((shape_of_pairs ms ++ EndCollection ∷ []) ++ s.rest) s.is)))
+    absurd (b (ap kind_of (starts_dictionary s)))
 
 -- where neither a collection begins nor a scalar stands, no tree does
 pub of_nothing : {A : Type 0} {es : List PlainEvent} (t : Tree) (p : ℕ) → Sits es t p
     → (kind_of (event_at es p) ≡ kind.Array → ⊥) → (kind_of (event_at es p) ≡ kind.Dictionary → ⊥)
     → is_leaf (event_at es p) ≡ false → A
 of_nothing {es = es} (Leaf x) p s a b n =
-    let e : is_leaf (event_at es p) ≡ true = ap is_leaf (first_event es p (Single x) s.rest s.is) in
+    let e : is_leaf (event_at es p) ≡ true = ap is_leaf (stands_single s) in
     let none : ⊥ = cc in absurd none
 of_nothing {es = es} (Array ts) p s a b n =
-    absurd (a (ap kind_of (first_event es p (StartArray None)
-    ((shape_of_items ts ++ EndCollection ∷ []) ++ s.rest) s.is)))
+    absurd (a (ap kind_of (starts_array s)))
 of_nothing {es = es} (Dictionary ms) p s a b n =
-    absurd (b (ap kind_of (first_event es p (StartDictionary None)
-    ((shape_of_pairs ms ++ EndCollection ∷ []) ++ s.rest) s.is)))
+    absurd (b (ap kind_of (starts_dictionary s)))

@@ -1,11 +1,11 @@
 -- Stamps on the keys of a dictionary: where one that is met has the stamp, it stood there before.
-use Rattle.std.proofs.Common.{◌≡◌, ◌≢◌, ◌⊎◌, inl, inr, ℕ, ◌+◌, ◌<◌, ◌≤◌, Bool, true, false, None, Some, List, ◌∷◌, ◌++◌, [], length, get_or, set, ap, sym, ◌∙◌, subst, arith, append-nil, length-append}
+use Rattle.std.proofs.Common.{◌≡◌, ◌≢◌, ◌⊎◌, inl, inr, ℕ, ◌+◌, ◌<◌, ◌≤◌, Bool, true, false, None, Some, List, ◌∷◌, [], length, get_or, set, ap, sym, ◌∙◌, subst, arith, append-nil, length-append}
 use Rattle.std.specs.Prelude.{MatchBool, slice_get}
 use Rattle.std.proofs.lemmas.Bool.Decides.{eqb_tells, leb_tells}
 use Rattle.std.proofs.lemmas.List.{get_or-set_same, get_or-set_other, length-set}
 use Rattle.std.proofs.lemmas.Option.{slice_get_within}
 use Rattle.plist_base.specs.Bracketing.{shape, shape_of_items, shape_of_pairs}
-use Rattle.plist_base.specs.Events.{PlainEvent, StartArray, StartDictionary, EndCollection, Single}
+use Rattle.plist_base.specs.Events.{PlainEvent, StartArray, EndCollection, Single}
 use Rattle.plist_base.specs.Trees.{String, Tree, Leaf, Array, Dictionary, Trees, NoTrees, TreeAnd, Members, NoMembers, MemberAnd}
 use Rattle.plist_binwrite.specs.declared.kinds.Kind.TheVariants as kind
 use Rattle.plist_binwrite.specs.Held.{AllBelow, event_at, is_stop, kind_of}
@@ -13,7 +13,7 @@ use Rattle.plist_binwrite.specs.inner.Entries.{AreApart, is_leaf}
 use Rattle.plist_binwrite.specs.Keys.{Lacks, HasDistinctKeys, HasKeysOnce, ItemsHaveKeysOnce, ValuesHaveKeysOnce}
 use Rattle.plist_binwrite.specs.Standing.{size, Sits, SitsItems, SitsPairs}
 use Rattle.plist_binwrite.proofs.Sitting.{sits_items, sits_pairs, sits_item, sits_next, sits_key, sits_value, sits_next_pair}
-use Rattle.plist_binwrite.proofs.Skipping.{FirstPair, pairs_on, pairs_off, first_event}
+use Rattle.plist_binwrite.proofs.Skipping.{stands_single, starts_array, starts_dictionary, FirstPair, pairs_on, pairs_off, first_event}
 
 not_both : {A : Type 0} (b : Bool) → b ≡ true → b ≡ false → A
 not_both b p q = cc
@@ -177,8 +177,7 @@ told_repeats false ms h is = cc
 pub begins_dictionary : (es : List PlainEvent) (ms : Members) (p : ℕ) → Sits es (Dictionary ms) p
     → kind_of (event_at es p) ≡ kind.Dictionary
 begins_dictionary es ms p s =
-    ap kind_of (first_event es p (StartDictionary None)
-    ((shape_of_pairs ms ++ EndCollection ∷ []) ++ s.rest) s.is)
+    ap kind_of (starts_dictionary s)
 
 -- ---- the stamps
 
@@ -238,12 +237,11 @@ module _ (es : List PlainEvent) where
       found : (t : Tree) (q : ℕ) → Sits es t q → q ≤ p → p < q + size t
           → FoundIn (HasKeysOnce t) p
       found (Leaf x) q s le lt =
-          no_other q (Single x) (omega (arith, le, lt)) (first_event es q (Single x) s.rest s.is)
+          no_other q (Single x) (omega (arith, le, lt)) (stands_single s)
           (λ e. cc)
       found (Array ts) q s le lt =
           elim (eqb_tells p q) [
-            | inl e ↦ no_other q (StartArray None) e.1 (first_event es q (StartArray None)
-                ((shape_of_items ts ++ EndCollection ∷ []) ++ s.rest) s.is) (λ e. cc)
+            | inl e ↦ no_other q (StartArray None) e.1 (starts_array s) (λ e. cc)
             | inr d ↦ found_item ts (q + 1) (sits_items s) (omega (arith, le, d.1)) (omega
                 (arith, lt, length-append (shape_of_items ts) (EndCollection ∷ [])))
           ]

@@ -12,7 +12,7 @@ use Rattle.plist_binwrite.specs.Numberings.{refs, pairs, obj_of}
 use Rattle.plist_binwrite.specs.Forms.{keys_of, values_of, IsWritable, AllFit}
 use Rattle.plist_binwrite.specs.Held.{is_stop, kind_of, event_at, item_places, key_places, value_places, keys_in, values_in, num_of, AllNumbered, IsBracketed}
 use Rattle.plist_binwrite.proofs.Sitting.{sits_items, sits_pairs, sits_item, sits_next, sits_key, sits_value, sits_next_pair}
-use Rattle.plist_binwrite.proofs.Skipping.{first_event, begins, sits_within, size_positive}
+use Rattle.plist_binwrite.proofs.Skipping.{stands_single, begins, sits_within, size_positive}
 use Rattle.plist_binwrite.proofs.Inside.{inside}
 
 -- ---- references fit
@@ -82,7 +82,7 @@ pub collection_fits : (es : List PlainEvent) (numbers : List ℕ) (count w : ℕ
     → (kind_of (event_at es p) ≡ kind.Scalar → ⊥) → length (values_in t p) < 2 ^ 64
     → IsWritable w (obj_of (num_of numbers) t p)
 collection_fits es numbers count w all wide (Leaf x) p s k few =
-    absurd (k (ap kind_of (first_event es p (Single x) s.rest s.is)))
+    absurd (k (ap kind_of (stands_single s)))
 collection_fits es numbers count w all wide (Array ts) p s k few = (
   omega (arith, length-refs (num_of numbers) ts (p + 1)),
   refs_fit es numbers count w all wide ts

@@ -10,8 +10,7 @@ use Rattle.plist_binwrite.specs.declared.kinds.Kind.TheVariants as kind
 use Rattle.plist_binwrite.specs.Forms.{form, length_form, IsWritable}
 use Rattle.plist_binwrite.specs.Held.{kind_of, event_at, item_places, value_places, values_in, num_of, IsBracketed, Describes}
 use Rattle.plist_binwrite.specs.inner.PlansBy.{IsPlan}
-use Rattle.plist_base.specs.Events.{PlainEvent, StartDictionary, EndCollection, Single}
-use Rattle.plist_base.specs.Bracketing.{shape_of_pairs}
+use Rattle.plist_base.specs.Events.{PlainEvent}
 use Rattle.plist_binwrite.specs.Standing.{size, Sits, SitsItems}
 use Rattle.plist_binwrite.specs.Numberings.{obj_of}
 use Rattle.plist_binwrite.specs.Sizes.{TellsSize, object_size}
@@ -21,7 +20,7 @@ use Rattle.plist_binwrite.proofs.Layouts.{laid_snoc}
 use Rattle.plist_binwrite.proofs.Placed.{no_kind, sits_at}
 use Rattle.plist_binwrite.proofs.Sitting.{sits_items, sits_pairs}
 use Rattle.plist_binwrite.proofs.Sized.{form_size}
-use Rattle.plist_binwrite.proofs.Skipping.{first_event, as_items, pairs_as_items}
+use Rattle.plist_binwrite.proofs.Skipping.{stands_single, starts_dictionary, as_items, pairs_as_items}
 
 -- ---- the objects of collections
 
@@ -56,14 +55,13 @@ pub array_told : {es : List PlainEvent} (told : Option ℕ) (w count : ℕ) (t :
     → TellsSize told (length (length_form 0xa count) + count * w) → TellsSize told (object_size w t)
 array_told {es} told w count (Leaf x) p s k h told_is =
     absurd (no_kind (kind_of (event_at es p)) kind.Array kind.Scalar k
-    (ap kind_of (first_event es p (Single x) s.rest s.is)) (λ e. cc))
+    (ap kind_of (stands_single s)) (λ e. cc))
 array_told {es} told w count (Array ts) p s k h told_is =
     let n = h ts (sits_items s) in subst (λ v. TellsSize told v)
     (λ i. length (length_form 0xa (n i)) + n i * w) told_is
 array_told {es} told w count (Dictionary ms) p s k h told_is =
     absurd (no_kind (kind_of (event_at es p)) kind.Array kind.Dictionary k
-    (ap kind_of (first_event es p (StartDictionary None)
-    ((shape_of_pairs ms ++ EndCollection ∷ []) ++ s.rest) s.is)) (λ e. cc))
+    (ap kind_of (starts_dictionary s)) (λ e. cc))
 
 -- ---- a place of an order
 

@@ -1,10 +1,9 @@
 -- The sizes that a pass over the events tells.
-use Rattle.std.proofs.Common.{◌≡◌, ◌⊎◌, inl, inr, ℕ, ◌+◌, ◌*◌, ◌/◌, ◌^◌, ◌<◌, ◌≤◌, false, true, List, [], ◌∷◌, ◌++◌, length, flat_map, Option, None, Some, SomeIff, refl, ap, sym, ◌∙◌, subst, arith, length-append}
+use Rattle.std.proofs.Common.{◌≡◌, ◌⊎◌, inl, inr, ℕ, ◌+◌, ◌*◌, ◌/◌, ◌^◌, ◌<◌, ◌≤◌, false, true, List, length, flat_map, Option, None, Some, SomeIff, refl, ap, sym, ◌∙◌, subst, arith, length-append}
 use Rattle.std.proofs.lemmas.Bool.{cases_lt}
 use Rattle.plist_base.specs.Trees.{number_of_trees, number_of_members, Tree, Leaf, Array, Dictionary, Trees, Members, NoMembers, MemberAnd}
 use Rattle.plist_binwrite.specs.declared.kinds.Kind.TheVariants as kind
-use Rattle.plist_base.specs.Events.{PlainEvent, StartArray, EndCollection, Single}
-use Rattle.plist_base.specs.Bracketing.{shape_of_items}
+use Rattle.plist_base.specs.Events.{PlainEvent}
 use Rattle.plist_binwrite.specs.Standing.{size, Sits, SitsItems}
 use Rattle.plist_binwrite.specs.Forms.{big_endian, length_form, units_of, is_ascii_text, text_form}
 use Rattle.plist_binwrite.specs.Sizes.{TellsSize, object_size}
@@ -12,7 +11,7 @@ use Rattle.plist_binwrite.specs.Held.{is_stop, kind_of, event_at}
 use Rattle.plist_binwrite.proofs.Sitting.{sits_pairs}
 use Rattle.plist_binwrite.proofs.Placed.{no_kind}
 use Rattle.plist_binwrite.proofs.ReadingNumbers.{length-table}
-use Rattle.plist_binwrite.proofs.Skipping.{first_event, as_items, pairs_as_items, items_on, items_off}
+use Rattle.plist_binwrite.proofs.Skipping.{stands_single, starts_array, as_items, pairs_as_items, items_on, items_off}
 
 pub told_if : (told : Option ℕ) (size : ℕ) → SomeIff told (size < 2 ^ 64) size → TellsSize told size
 told_if None size h = elim (cases_lt size (2 ^ 64)) [ inl l ↦ absurd (h l) | inr l ↦ l ]
@@ -70,11 +69,10 @@ pub dictionary_told : {es : List PlainEvent} (told : Option ℕ) (w count : ℕ)
     → TellsSize told (object_size w t)
 dictionary_told {es} told w count (Leaf x) p s k h told_is =
     absurd (no_kind (kind_of (event_at es p)) kind.Dictionary kind.Scalar k
-    (ap kind_of (first_event es p (Single x) s.rest s.is)) (λ e. cc))
+    (ap kind_of (stands_single s)) (λ e. cc))
 dictionary_told {es} told w count (Array ts) p s k h told_is =
     absurd (no_kind (kind_of (event_at es p)) kind.Dictionary kind.Array k
-    (ap kind_of (first_event es p (StartArray None)
-    ((shape_of_items ts ++ EndCollection ∷ []) ++ s.rest) s.is)) (λ e. cc))
+    (ap kind_of (starts_array s)) (λ e. cc))
 dictionary_told {es} told w count (Dictionary ms) p s k h told_is =
     let n : count ≡ 2 * number_of_members ms = h (as_items ms) (pairs_as_items (sits_pairs s))
     ∙ twice ms in

@@ -1,5 +1,5 @@
 -- The classes that are found from the inside outwards: one class, one tree.
-use Rattle.std.proofs.Common.{◌≡◌, inl, inr, ℕ, suc, ◌+◌, ◌<◌, ◌≤◌, true, false, List, [], ◌∷◌, ◌++◌, length, map, Some, None, refl, sym, ap, ◌∙◌, subst, arith, length-append}
+use Rattle.std.proofs.Common.{◌≡◌, inl, inr, ℕ, suc, ◌+◌, ◌<◌, ◌≤◌, true, false, List, [], ◌∷◌, ◌++◌, length, map, Some, refl, sym, ap, ◌∙◌, subst, arith, length-append}
 use Rattle.std.specs.Prelude.{slice_get}
 use Rattle.std.proofs.lemmas.Bool.Decides.{eqb_tells}
 use Rattle.std.proofs.lemmas.List.{length-map}
@@ -14,10 +14,8 @@ use Rattle.std.proofs.Common.{set}
 use Rattle.std.proofs.lemmas.List.{get_or-set_same, get_or-set_other}
 use Rattle.plist_binwrite.specs.declared.kinds.Kind.{Kind}
 use Rattle.plist_binwrite.specs.declared.kinds.Kind.TheVariants as kind
-use Rattle.plist_base.specs.Events.{StartArray, StartDictionary, EndCollection, Single}
-use Rattle.plist_base.specs.Bracketing.{shape_of_items, shape_of_pairs}
 use Rattle.plist_binwrite.specs.Held.{kind_of, event_at, num_of}
-use Rattle.plist_binwrite.proofs.Skipping.{first_event, sits_within, size_positive}
+use Rattle.plist_binwrite.proofs.Skipping.{stands_single, starts_array, starts_dictionary, sits_within, size_positive}
 use Rattle.plist_binwrite.specs.Classes.{AreClasses}
 use Rattle.plist_binwrite.proofs.ClassObjects.{sound, cons_is}
 use Rattle.plist_share.proofs.Classed.{complete}
@@ -107,7 +105,7 @@ module _ (es : List PlainEvent) (scalar class : ℕ → ℕ) (count : ℕ) (keys
   within t p s = omega (arith, sits_within s, size_positive t)
 
   owner_is : (x : Scalar) (p : ℕ) → Sits es (Leaf x) p → owner es p ≡ shared x
-  owner_is x p s = ap (λ e. own e p) (first_event es p (Single x) s.rest s.is)
+  owner_is x p s = ap (λ e. own e p) (stands_single s)
 
   the_shared : (x y : Scalar) → shared x ≡ shared y → x ≡ y
   the_shared x y h = cc
@@ -262,26 +260,22 @@ module _ (es : List PlainEvent) (scalar class : ℕ → ℕ) (count : ℕ) (keys
       → IsIndexed class count keys (is_dictionary (kind_of (event_at es p))) t p c
       → IsClass class count scalar keys t p c
   by_collection (Leaf x) p c s k h =
-      absurd (k (ap kind_of (first_event es p (Single x) s.rest s.is)))
+      absurd (k (ap kind_of (stands_single s)))
   by_collection (Array ts) p c s k h =
       subst (λ b. IsIndexed class count keys b (Array ts) p c)
-      (ap (λ e. is_dictionary (kind_of e)) (first_event es p (StartArray None)
-      ((shape_of_items ts ++ EndCollection ∷ []) ++ s.rest) s.is)) h
+      (ap (λ e. is_dictionary (kind_of e)) (starts_array s)) h
   by_collection (Dictionary ms) p c s k h =
       subst (λ b. IsIndexed class count keys b (Dictionary ms) p c)
-      (ap (λ e. is_dictionary (kind_of e)) (first_event es p (StartDictionary None)
-      ((shape_of_pairs ms ++ EndCollection ∷ []) ++ s.rest) s.is)) h
+      (ap (λ e. is_dictionary (kind_of e)) (starts_dictionary s)) h
 
   by_scalar : (t : Tree) (p c : ℕ) → Sits es t p → (kind_of (event_at es p) ≡ kind.Array → ⊥)
       → (kind_of (event_at es p) ≡ kind.Dictionary → ⊥) → c ≡ scalar p
       → IsClass class count scalar keys t p c
   by_scalar (Leaf x) p c s a d h = h
   by_scalar (Array ts) p c s a d h =
-      absurd (a (ap kind_of (first_event es p (StartArray None)
-      ((shape_of_items ts ++ EndCollection ∷ []) ++ s.rest) s.is)))
+      absurd (a (ap kind_of (starts_array s)))
   by_scalar (Dictionary ms) p c s a d h =
-      absurd (d (ap kind_of (first_event es p (StartDictionary None)
-      ((shape_of_pairs ms ++ EndCollection ∷ []) ++ s.rest) s.is)))
+      absurd (d (ap kind_of (starts_dictionary s)))
 
 module _ (es : List PlainEvent) (scalar : ℕ → ℕ) (count : ℕ) (classes : List ℕ)
     (keys new : List Key) (more : Extends keys new) (p : ℕ) (lt : p < length classes)

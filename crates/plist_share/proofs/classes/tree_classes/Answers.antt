@@ -2,7 +2,7 @@ use Rattle.std.proofs.Common.{◌≡◌, length, arith, refl, sym, subst}
 use Rattle.plist_binwrite.specs.Held.{plain_events, num_of}
 use Rattle.plist_binwrite.specs.inner.Scalars.{AreApart}
 use Rattle.plist_binwrite.proofs.Skipping.{sits_within, size_positive}
-use Rattle.plist_share.specs.inner.Keys.{HaveClasses, keys_seen}
+use Rattle.plist_share.specs.inner.Keys.{HaveFrom, keys_seen}
 use Rattle.plist_share.proofs.Found.{found_classes, told_trees}
 use Rattle.plist_share.proofs.classes.tree_classes.Goals as goal
 
@@ -30,19 +30,17 @@ back-init c =
 
 pub returns-in-Some-clause-trees : goal.returns-in-Some-clause-trees
 returns-in-Some-clause-trees c =
-    let have = c.back.invariant.have in
     let all : c.back.place ≡ 0 = omega (arith, c.back-test.false) in
+    let have = subst (HaveFrom c.args.events.now c.in_ok-scalars.scalars.count c.back.of
+    c.back.collections.keys) all c.back.invariant.have in
     told_trees (plain_events c.args.events.now) have.0 (num_of c.back.of.items)
-    c.in_ok-scalars.scalars.count (keys_seen c.back.collections.keys) have.1
-    (subst (λ k. HaveClasses (num_of c.back.of.items) c.in_ok-scalars.scalars.count have.0
-    (plain_events c.args.events.now) (keys_seen c.back.collections.keys) k) all have.2)
+    c.in_ok-scalars.scalars.count (keys_seen c.back.collections.keys) have.1 have.2
     c.back.invariant.apart
 
 pub returns-in-Some-clause-objects : goal.returns-in-Some-clause-objects
 returns-in-Some-clause-objects c =
-    let have = c.back.invariant.have in
     let all : c.back.place ≡ 0 = omega (arith, c.back-test.false) in
+    let have = subst (HaveFrom c.args.events.now c.in_ok-scalars.scalars.count c.back.of
+    c.back.collections.keys) all c.back.invariant.have in
     found_classes (plain_events c.args.events.now) have.0 (num_of c.back.of.items)
-    c.in_ok-scalars.scalars.count (keys_seen c.back.collections.keys) have.1
-    (subst (λ k. HaveClasses (num_of c.back.of.items) c.in_ok-scalars.scalars.count have.0
-    (plain_events c.args.events.now) (keys_seen c.back.collections.keys) k) all have.2)
+    c.in_ok-scalars.scalars.count (keys_seen c.back.collections.keys) have.1 have.2
