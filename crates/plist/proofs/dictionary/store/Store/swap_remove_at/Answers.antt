@@ -1,32 +1,23 @@
-use Rattle.std.proofs.Common.{◌≡◌, ◌<◌, ◌+◌, if◌then◌else◌, length, refl, sym, ap, subst, ◌∙◌, arith}
+use Rattle.std.proofs.Common.{◌≡◌, ◌+◌, if◌then◌else◌, length, refl, sym, ap, subst, ◌∙◌, arith}
 use Rattle.std.specs.Prelude.{slice_get, swap_remove}
 use Rattle.std.specs.Map.{values_of}
 use Rattle.std.proofs.lemmas.Option.{slice_get_read}
-use Rattle.plist.proofs.Columns.{length-rows, values-rows, rows-taken, item_given, is_given, distinct-bytes}
+use Rattle.plist.proofs.Columns.{item-there, values-rows, rows-taken, item_given, is_given, distinct-bytes}
 use Rattle.plist.proofs.dictionary.store.Store.swap_remove_at.Goals as goal
 
 pub swap_remove-requires : goal.swap_remove-requires
 swap_remove-requires g c =
-    let k = c.self.inside in omega (
-      arith,
-      c.requires,
-      ap length c.self.view_is,
-      length-rows k.keys.keys k.items.items
-          c.self.invariant.0,
-      k.items.ok.0,
-    )
+    let k = c.self.inside in
+    let within = item-there k.keys.keys k.items.items c.self.invariant.0 c.args.self.now
+    c.self.view_is c.args.place c.requires in
+    omega (arith, within, k.items.ok.0)
 
 pub invariant_of-self : goal.invariant_of-self
 invariant_of-self g c =
     let k = c.self.inside in
     let e = c.swap_remove_index.ensures in
-    let within : c.args.place < length k.items.items = omega (
-      arith,
-      c.requires,
-      ap length c.self.view_is,
-      length-rows k.keys.keys k.items.items
-          c.self.invariant.0,
-    ) in
+    let within = item-there k.keys.keys k.items.items c.self.invariant.0 c.args.self.now
+    c.self.view_is c.args.place c.requires in
     let there = is_given k.keys.keys c.args.place c.swap_remove_index.result
     (omega (arith, within, c.self.invariant.0)) e.key in
     let len : length c.swap_remove_index.new.self.keys + 1
@@ -46,13 +37,8 @@ invariant_of-self g c =
 pub returns-clause-value : goal.returns-clause-value
 returns-clause-value g c =
     let k = c.self.inside in
-    let within : c.args.place < length k.items.items = omega (
-      arith,
-      c.requires,
-      ap length c.self.view_is,
-      length-rows k.keys.keys k.items.items
-          c.self.invariant.0,
-    ) in
+    let within = item-there k.keys.keys k.items.items c.self.invariant.0 c.args.self.now
+    c.self.view_is c.args.place c.requires in
     ap (λ l. slice_get l c.args.place)
     (sym (sym (values-rows k.keys.keys k.items.items c.self.invariant.0)
     ∙ ap values_of c.self.view_is))
@@ -64,13 +50,8 @@ returns-clause-pairs g c =
     let k = c.self.inside in
     let e = c.swap_remove_index.ensures in
     let i = c.args.place in
-    let within : i < length k.items.items = omega (
-      arith,
-      c.requires,
-      ap length c.self.view_is,
-      length-rows k.keys.keys k.items.items
-          c.self.invariant.0,
-    ) in
+    let within = item-there k.keys.keys k.items.items c.self.invariant.0 c.args.self.now
+    c.self.view_is i c.requires in
     let taken = item_given k.keys.keys i c.swap_remove_index.result
     (λ l. c.swap_remove_index.new.self.keys ≡ swap_remove k.keys.keys i l)
     (omega (arith, within, c.self.invariant.0)) e.key e.keys in

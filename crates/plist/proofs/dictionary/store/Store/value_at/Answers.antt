@@ -3,19 +3,15 @@ use Rattle.std.specs.Prelude.{slice_get}
 use Rattle.std.specs.Map.{values_of}
 use Rattle.std.proofs.lemmas.Option.{slice_get_read}
 use Rattle.indexmap.specs.IndexMap.{set_value_at}
-use Rattle.plist.proofs.Columns.{values-rows, length-rows, zip-set}
+use Rattle.plist.proofs.Columns.{item-there, values-rows, zip-set}
 use Rattle.plist.proofs.dictionary.store.Store.value_at.Goals as goal
 
 pub index_mut-requires : goal.index_mut-requires
 index_mut-requires g c =
-    omega (
-      arith,
-      c.requires,
-      ap length c.self.view_is,
-      length-rows c.self.inside.keys.keys
-          c.self.inside.items.items c.self.invariant.0,
-      c.self.inside.items.ok.0,
-    )
+    let k = c.self.inside in
+    let within = item-there k.keys.keys k.items.items c.self.invariant.0 c.args.self.now
+    c.self.view_is c.args.place c.requires in
+    omega (arith, within, k.items.ok.0)
 
 pub returns : goal.returns
 returns g c =
@@ -31,12 +27,7 @@ returns g c =
             (sym (sym (values-rows k.keys.keys k.items.items c.self.invariant.0)
             ∙ ap values_of c.self.view_is))
             ∙ slice_get_read k.items.items (length k.items.items) c.args.place
-            c.index_mut.result.now refl (omega (
-              arith,
-              c.requires,
-              ap length c.self.view_is,
-              length-rows k.keys.keys k.items.items
-                  c.self.invariant.0,
-            )) c.index_mut.ensures.value;
+            c.index_mut.result.now refl (item-there k.keys.keys k.items.items c.self.invariant.0
+            c.args.self.now c.self.view_is c.args.place c.requires) c.index_mut.ensures.value;
       },
     )
