@@ -1,24 +1,10 @@
 //! Trees of keyed archives.
 
-use crate::support::{bytes_of, event_of, must, words_of_value};
+use crate::support::{bytes_of, must, value_of, words_of_value, write_all};
 use plist::{Builder, Uid, Value};
 use plist_base::{Event, Writer};
 use plist_keyed::{Archive, KeyedError};
 use std::process::Abort;
-
-// Hands the events of these words to a writer.
-fn write_words<W: Writer>(rt: &(impl Abort + AllocGlobal), writer: &mut W, words: &str) {
-    for word in words.split(' ') {
-        must(rt, writer.write(event_of(rt, word)));
-    }
-}
-
-// The value whose events these words are.
-fn value_of(rt: &(impl Abort + AllocGlobal), words: &str) -> Value {
-    let mut builder = Builder::new(rt.alloc());
-    write_words(rt, &mut builder, words);
-    must(rt, builder.finish())
-}
 
 // An archive of objects, whose `$top` names the Uid 1.
 fn archive_of(rt: &(impl Abort + AllocGlobal), objects: &str) -> Value {
@@ -115,16 +101,16 @@ fn looks_up(rt: HostRuntime) {
 // behind it, which is a text, or the first one again.
 fn chain_of(rt: &(impl Abort + AllocGlobal), length: u64, times: u64, last: u64) -> Value {
     let mut builder = Builder::new(rt.alloc());
-    write_words(rt, &mut builder, "{ '$top' { end '$objects' [");
+    write_all(rt, &mut builder, "{ '$top' { end '$objects' [");
     for uid in 0..length {
-        write_words(rt, &mut builder, "[");
+        write_all(rt, &mut builder, "[");
         let next = if uid + 1 < length { uid + 1 } else { last };
         for _ in 0..times {
             must(rt, builder.write(Event::Uid(Uid::new(next))));
         }
-        write_words(rt, &mut builder, "end");
+        write_all(rt, &mut builder, "end");
     }
-    write_words(rt, &mut builder, "'x' end end");
+    write_all(rt, &mut builder, "'x' end end");
     must(rt, builder.finish())
 }
 

@@ -1,6 +1,8 @@
 //! What `AsciiReader` reads, and its faults.
 
-use crate::support::{By, Device, Fault, expect_io, expect_on_devices, must, words_of};
+use crate::support::{
+    By, Device, Fault, READ_FAILURES, expect_io, expect_on_devices, must, words_of,
+};
 use plist_ascii::AsciiReader;
 use plist_base::{Error, OwnedEvent};
 use std::alloc::Global;
@@ -214,10 +216,9 @@ fn expect_handed_on(rt: &(impl Abort + AllocGlobal), kind: ErrorKind) {
 
 #[test]
 fn ends_after_a_failure(rt: HostRuntime) {
-    expect_handed_on(&rt, ErrorKind::Interrupted);
-    expect_handed_on(&rt, ErrorKind::TimedOut);
-    expect_handed_on(&rt, ErrorKind::PermissionDenied);
-    expect_handed_on(&rt, ErrorKind::UnexpectedEof);
+    for kind in READ_FAILURES {
+        expect_handed_on(&rt, kind);
+    }
 }
 
 // After the end of the input nothing is read, though the device would go on.

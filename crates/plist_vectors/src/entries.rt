@@ -1,23 +1,14 @@
 //! Values and dictionaries: what they hold, equality, copies, entries, and calls that go over all
 //! pairs.
 
-use crate::support::{event_of, expect_value, must};
+use crate::support::{expect_value, must, value_of};
 use plist::dictionary::Entry;
-use plist::{Builder, Dictionary, Value};
-use plist_base::{Date, Integer, RealBits, Uid, Writer};
+use plist::{Dictionary, Value};
+use plist_base::{Date, Integer, RealBits, Uid};
 use std::process::Abort;
 
 fn text(rt: &(impl Abort + AllocGlobal), text: &str) -> String {
     must(rt, String::from_str(rt.alloc(), text))
-}
-
-// The value of these events.
-fn value_of(rt: &(impl Abort + AllocGlobal), words: &str) -> Value {
-    let mut builder = Builder::new(rt.alloc());
-    for word in words.split(' ') {
-        must(rt, builder.write(event_of(rt, word)));
-    }
-    must(rt, builder.finish())
 }
 
 // The dictionary of these events.

@@ -1,8 +1,8 @@
 //! What `BinaryReader` reads, and its faults.
 
 use crate::support::{
-    By, Device, Fault, bytes_of, expect_io, expect_on_devices, expect_on_shrinking_devices, file,
-    file_of_object, front, words_of,
+    By, Device, Fault, READ_FAILURES, bytes_of, expect_io, expect_on_devices,
+    expect_on_shrinking_devices, file, file_of_object, front, words_of,
 };
 use plist_base::{Error, OwnedEvent, read_exact_at};
 use plist_binread::BinaryReader;
@@ -308,8 +308,7 @@ fn expect_handed_on(rt: &(impl Abort + AllocGlobal), kind: ErrorKind) {
 
 #[test]
 fn ends_after_a_failure(rt: HostRuntime) {
-    expect_handed_on(&rt, ErrorKind::Interrupted);
-    expect_handed_on(&rt, ErrorKind::TimedOut);
-    expect_handed_on(&rt, ErrorKind::PermissionDenied);
-    expect_handed_on(&rt, ErrorKind::UnexpectedEof);
+    for kind in READ_FAILURES {
+        expect_handed_on(&rt, kind);
+    }
 }

@@ -1,10 +1,10 @@
 //! What `SharingWriter` writes, byte by byte, and that it is read back in order.
 
 use crate::support::{
-    Device, event_of, expect_answers, file, front, must, words_of, words_of_value,
+    Device, expect_answers, file, file_despite_refusals, file_of_true, front, must, words_of,
+    words_of_value, write_all,
 };
 use plist::{Value, write_value};
-use plist_base::Writer;
 use plist_binread::BinaryReader;
 use plist_binwrite::BinaryWriter;
 use plist_share::SharingWriter;
@@ -13,9 +13,7 @@ use std::process::Abort;
 // The file of the events of these words.
 fn shared(rt: &(impl Abort + AllocGlobal), words: &str) -> Vec<u8> {
     let mut writer = SharingWriter::new(rt.alloc(), Vec::new(rt.alloc()));
-    for word in words.split(' ') {
-        must(rt, writer.write(event_of(rt, word)));
-    }
+    write_all(rt, &mut writer, words);
     writer.into_inner()
 }
 
@@ -139,9 +137,7 @@ fn beside_the_plain_writer(rt: HostRuntime) {
     let words = "[2 [2 [2 [0 end [0 end end [2 [0 end [0 end end end \
                  [2 [2 [0 end [0 end end [2 [0 end [0 end end end end";
     let mut writer = BinaryWriter::new(rt.alloc(), Vec::new(rt.alloc()));
-    for word in words.split(' ') {
-        must(&rt, writer.write(event_of(&rt, word)));
-    }
+    write_all(&rt, &mut writer, words);
     assert_eq!(rt; writer.into_inner().len(), 84);
     assert_eq!(rt; shared(&rt, words).len(), 54);
 }
@@ -149,27 +145,14 @@ fn beside_the_plain_writer(rt: HostRuntime) {
 #[test]
 fn refusals_change_nothing(rt: HostRuntime) {
     let mut writer = SharingWriter::new(rt.alloc(), Vec::new(rt.alloc()));
-    expect_answers(
-        &rt,
-        &mut writer,
-        "end { 1 'k' end true end",
-        "UnexpectedEventType { expected: ValueOrStartCollection, found: EndCollection }; ok; \
-         UnexpectedEventType { expected: DictionaryKeyOrEndCollection, found: Integer }; ok; \
-         UnexpectedEventType { expected: DictionaryKeyOrEndCollection, found: EndCollection }; ok; ok",
-    );
-    let bytes = file(&rt, "d10102 516b 09 080b0d", [1, 1], [3, 0, 14]);
+    let bytes = file_despite_refusals(&rt, &mut writer);
     assert_eq!(rt; writer.into_inner().as_slice(), bytes.as_slice());
-}
-
-// The file of `true`.
-fn one_file(rt: &(impl Abort + AllocGlobal)) -> Vec<u8> {
-    file(rt, "09 08", [1, 1], [1, 0, 9])
 }
 
 #[test]
 fn files_stand_behind_each_other(rt: HostRuntime) {
-    let mut two = one_file(&rt);
-    must(&rt, two.extend_from_slice(one_file(&rt).as_slice()));
+    let mut two = file_of_true(&rt);
+    must(&rt, two.extend_from_slice(file_of_true(&rt).as_slice()));
     assert_eq!(rt; shared(&rt, "true true").as_slice(), two.as_slice());
 }
 
@@ -208,7 +191,7 @@ fn expect_failure(rt: &(impl Abort + AllocGlobal), fails_at: u64, bytes: &[u8]) 
 
 #[test]
 fn a_failed_write_ends_the_writer(rt: HostRuntime) {
-    let whole = one_file(&rt);
+    let whole = file_of_true(&rt);
     for fails_at in 0..42u32 {
         let sent = front(whole.as_slice(), fails_at as usize);
         expect_failure(&rt, u64::from(fails_at), sent);

@@ -1,8 +1,7 @@
 //! The examples to copy, run once each.
 
-use crate::support::{bytes_of, event_of, must, words_of_value};
-use plist::{Builder, Value};
-use plist_base::Writer;
+use crate::support::{bytes_of, must, value_of, words_of_value};
+use plist::Builder;
 use plist_uses::archive::root_of;
 use plist_uses::convert::convert;
 use plist_uses::counting::count;
@@ -10,15 +9,6 @@ use plist_uses::generated::{Reading, write_readings};
 use plist_uses::settings::{Settings, SettingsError};
 use plist_uses::strangers::read_upload;
 use std::process::Abort;
-
-// The value whose events these words are.
-fn value_of(rt: &(impl Abort + AllocGlobal), words: &str) -> Value {
-    let mut builder = Builder::new(rt.alloc());
-    for word in words.split(' ') {
-        must(rt, builder.write(event_of(rt, word)));
-    }
-    must(rt, builder.finish())
-}
 
 fn settings_of(rt: &(impl Abort + AllocGlobal), file: &[u8]) -> Settings {
     match Settings::open(rt.alloc(), file) {

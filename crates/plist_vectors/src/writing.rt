@@ -1,22 +1,14 @@
 //! What `BinaryWriter` writes, byte by byte, and that `BinaryReader` reads the same events of it.
 
 use crate::support::{
-    Device, Fault, event_of, expect_answers, expect_file_on_devices, file, file_of, file_of_object,
-    must, words_of, words_of_value,
+    Device, Fault, expect_answers, expect_file_on_devices, file, file_despite_refusals, file_of,
+    file_of_object, file_of_true, must, value_of, words_of, words_of_value, write_all,
 };
-use plist::{Builder, Value};
-use plist_base::Writer;
+use plist::Value;
 use plist_binread::BinaryReader;
 use plist_binwrite::BinaryWriter;
 use std::io::ErrorKind;
 use std::process::Abort;
-
-// The writer accepts the events of these words.
-fn write_all<W: Writer>(rt: &(impl Abort + AllocGlobal), writer: &mut W, words: &str) {
-    for word in words.split(' ') {
-        must(rt, writer.write(event_of(rt, word)));
-    }
-}
 
 // The file of the events of these words.
 fn written(rt: &(impl Abort + AllocGlobal), words: &str) -> Vec<u8> {
@@ -25,14 +17,7 @@ fn written(rt: &(impl Abort + AllocGlobal), words: &str) -> Vec<u8> {
     writer.into_inner()
 }
 
-// The value that these words build.
-fn value_of(rt: &(impl Abort + AllocGlobal), words: &str) -> Value {
-    let mut builder = Builder::new(rt.alloc());
-    write_all(rt, &mut builder, words);
-    must(rt, builder.finish())
-}
-
-// Its file.
+// The file of the value of these words.
 fn written_value(rt: &(impl Abort + AllocGlobal), words: &str) -> Vec<u8> {
     let mut bytes = Vec::new(rt.alloc());
     must(
@@ -292,34 +277,21 @@ fn widths_of_references(rt: HostRuntime) {
 #[test]
 fn refusals_change_nothing(rt: HostRuntime) {
     let mut writer = BinaryWriter::new(rt.alloc(), Vec::new(rt.alloc()));
-    expect_answers(
-        &rt,
-        &mut writer,
-        "end { 1 'k' end true end",
-        "UnexpectedEventType { expected: ValueOrStartCollection, found: EndCollection }; ok; \
-         UnexpectedEventType { expected: DictionaryKeyOrEndCollection, found: Integer }; ok; \
-         UnexpectedEventType { expected: DictionaryKeyOrEndCollection, found: EndCollection }; ok; ok",
-    );
-    let bytes = file(&rt, "d10102 516b 09 080b0d", [1, 1], [3, 0, 14]);
+    let bytes = file_despite_refusals(&rt, &mut writer);
     assert_eq!(rt; writer.into_inner().as_slice(), bytes.as_slice());
-}
-
-// The file of `true`.
-fn one_file(rt: &(impl Abort + AllocGlobal)) -> Vec<u8> {
-    file(rt, "09 08", [1, 1], [1, 0, 9])
 }
 
 #[test]
 fn files_stand_behind_each_other(rt: HostRuntime) {
-    let mut two = one_file(&rt);
-    must(&rt, two.extend_from_slice(one_file(&rt).as_slice()));
+    let mut two = file_of_true(&rt);
+    must(&rt, two.extend_from_slice(file_of_true(&rt).as_slice()));
     assert_eq!(rt; two.len(), 84);
     expect_written(&rt, "true true", two.as_slice());
 }
 
 // Two files went to the device, a byte a call and a flush behind each, and no call failed.
 fn expect_two_files(rt: &(impl Abort + AllocGlobal), device: &Device) {
-    let mut both = one_file(rt);
+    let mut both = file_of_true(rt);
     let second = file(rt, "a20101 5161 080b", [1, 1], [2, 0, 13]);
     must(rt, both.extend_from_slice(second.as_slice()));
     assert_eq!(rt; device.bytes.as_slice(), both.as_slice());

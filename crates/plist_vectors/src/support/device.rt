@@ -19,6 +19,14 @@ pub(crate) enum Fault {
     Shrinks(usize),
 }
 
+// A device's own errors, each of which ends a reader.
+pub(crate) const READ_FAILURES: [ErrorKind; 4] = [
+    ErrorKind::Interrupted,
+    ErrorKind::TimedOut,
+    ErrorKind::PermissionDenied,
+    ErrorKind::UnexpectedEof,
+];
+
 // It moves one byte a call, but for one call, counting from 0. A second try of that would succeed.
 #[derive(Drop)]
 pub(crate) struct Device {

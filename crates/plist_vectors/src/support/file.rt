@@ -49,6 +49,11 @@ pub(crate) fn file_of_object(rt: &(impl Abort + AllocGlobal), object: &str) -> V
     file_of(rt, body.as_slice(), [1, 1], [1, 0, table])
 }
 
+// The file of `true`.
+pub(crate) fn file_of_true(rt: &(impl Abort + AllocGlobal)) -> Vec<u8> {
+    file_of_object(rt, "09")
+}
+
 // At most this many bytes of the front.
 pub(crate) fn front(bytes: &[u8], count: usize) -> &[u8] {
     &bytes[..bytes.len().min(count)]

@@ -7,9 +7,9 @@
 
 ghost use Rattle.std.specs.Iterator.{IsFinite};
 
-use crate::support::must;
+use crate::support::{file, must};
 use hex::FromHex;
-use plist::Value;
+use plist::{Builder, Value};
 use plist_base::{Date, Error, Event, Integer, OwnedEvent, RealBits, Uid, Writer};
 use std::alloc::{AllocError, Global};
 use std::borrow::{CowSlice, CowStr};
@@ -203,4 +203,35 @@ pub(crate) fn expect_answers<W: Writer>(
         add_words(rt, &mut all, "; ", text_of(rt, answer).as_str());
     }
     assert_eq!(rt; all.as_str(), answers, "{words}");
+}
+
+// A writer accepts the events of these words.
+pub(crate) fn write_all<W: Writer>(rt: &(impl Abort + AllocGlobal), writer: &mut W, words: &str) {
+    for word in words.split(' ') {
+        must(rt, writer.write(event_of(rt, word)));
+    }
+}
+
+// The value whose events these words are.
+pub(crate) fn value_of(rt: &(impl Abort + AllocGlobal), words: &str) -> Value {
+    let mut builder = Builder::new(rt.alloc());
+    write_all(rt, &mut builder, words);
+    must(rt, builder.finish())
+}
+
+// Events that can't come next are refused, and change nothing: the file of the others.
+pub(crate) fn file_despite_refusals<W: Writer>(
+    rt: &(impl Abort + AllocGlobal),
+    writer: &mut W,
+) -> Vec<u8> {
+    expect_answers(
+        rt,
+        writer,
+        "end { 1 'k' end true end",
+        "UnexpectedEventType { expected: ValueOrStartCollection, found: EndCollection }; ok; \
+         UnexpectedEventType { expected: DictionaryKeyOrEndCollection, found: Integer }; ok; \
+         UnexpectedEventType { expected: DictionaryKeyOrEndCollection, found: EndCollection }; \
+         ok; ok",
+    );
+    file(rt, "d10102 516b 09 080b0d", [1, 1], [3, 0, 14])
 }
