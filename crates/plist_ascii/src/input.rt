@@ -7,7 +7,7 @@ ghost use Rattle.plist_base.specs.Outcomes.{OnlyFault, OnlyMemory};
 ghost use Rattle.plist_ascii.specs.Taken.{run};
 ghost use Rattle.plist_ascii.specs.Texts.{ends_bare};
 ghost use Rattle.plist_ascii.specs.Unread.{unread, stops};
-ghost use Rattle.plist_ascii.specs.inner.Inputs.{CountsFailed, IfCame, LooksAt, CanTake, TakesNoMore, DropsOne, TakesByte, HasNone, IsStopped, TakesPlain, IsOneOn, CountsByte, IsUnclosed, SkipsSome, AddsSome};
+ghost use Rattle.plist_ascii.specs.inner.Inputs.{CountsFailed, IfCame, LooksAt, CanTake, TakesNoMore, DropsOne, TakesByte, HasNone, IsStopped, TakesPlain, IsOneOn, CountsByte, IsUnclosed, SkipsSome, AddsTo};
 
 use crate::bytes::Bytes;
 use crate::dialect::Dialect;
@@ -216,7 +216,7 @@ impl<R: Bytes> Input<R> {
 
     /// Takes bytes that are at hand, up to a stop, and appends them.
     pub fn take_at_hand(&mut self, stop: Stop, text: &mut Vec<u8>) -> Result<(), Error>
-        ensures value { OnOk result (AddsSome R.remaining stop self.old text.old self.new text.new) }
+        ensures value { OnOk result (AddsTo R.remaining stop self.old text.old self.new text.new) }
         ensures fault { OnlyMemory result }
         ensures place { self.old.taken ≤ self.new.taken }
         ensures failures { R.failures self.new.inner ≡ R.failures self.old.inner }

@@ -121,9 +121,9 @@ SkipsSome known stop old new = Known (unread known old) (λ xs. (part : List ℕ
     × TakesPart (stops stop) old.taken [] (unread known new) new.taken part xs)
 
 -- some of the run was taken, and stands behind the text
-abbrev pub AddsSome : {R : Type 0} → (R → Option (List ℕ)) → Stop → Input R
+abbrev pub AddsTo : {R : Type 0} → (R → Option (List ℕ)) → Stop → Input R
     → (text : Vec ℕ Global) → Input R → (longer : Vec ℕ Global) → Type 0
-AddsSome known stop old text new longer = Known (unread known old)
+AddsTo known stop old text new longer = Known (unread known old)
     (TakesPart (stops stop) old.taken text.items (unread known new) new.taken longer.items)
 
 -- what stands behind a run was taken: the closing quote, or an escape that stands for a piece

@@ -14,4 +14,5 @@ returns-in-Ok-clause-value c =
 
 pub returns-clause-fault : goal.returns-clause-fault
 returns-clause-fault c =
-    (false_from_ne_true _ (λ t. false_true (c.in-Err.ensures.succeeds (IsUtf8-from_is_utf8 _ t))), refl)
+    let never = c.in-Err.ensures.succeeds in
+    (false_from_ne_true _ (λ t. false_true (never (IsUtf8-from_is_utf8 _ t))), refl)

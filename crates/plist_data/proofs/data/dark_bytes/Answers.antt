@@ -15,7 +15,8 @@ returns-clause-spelled c =
     λ bytes are. spelled c.args.text.now bytes (λ i. let fits = c.type_inv.text i in omega arith)
     are
 
-pub returns-in_err-extend_from_slice-clause-spelled : goal.returns-in_err-extend_from_slice-clause-spelled
+pub returns-in_err-extend_from_slice-clause-spelled
+    : goal.returns-in_err-extend_from_slice-clause-spelled
 returns-in_err-extend_from_slice-clause-spelled c =
     λ bytes are. spelled c.args.text.now bytes (λ i. let fits = c.type_inv.text i in omega arith)
     are

@@ -22,7 +22,8 @@ returns-in-None-clause-value g c = λ xs e.
       omega (arith, t.3, r.2),
     )
 
-pub returns-in_ok-push_piece-in-Some-clause-value : goal.returns-in_ok-push_piece-in-Some-clause-value
+pub returns-in_ok-push_piece-in-Some-clause-value
+    : goal.returns-in_ok-push_piece-in-Some-clause-value
 returns-in_ok-push_piece-in-Some-clause-value g c = λ xs e.
     let quote = c.args.quote in
     let m = run (ends_run quote) xs in
