@@ -11,14 +11,17 @@ use Rattle.plist_base.specs.Events.{PlainEvent, Single, Item, event_of}
 use Rattle.plist_base.specs.Trees.{Scalar}
 use Rattle.plist_base.proofs.Refusals.{MatchFault-at, MatchFault-weaker}
 use Rattle.plist_binread.specs.declared.frames.Frame.{Frame}
-use Rattle.plist_binread.specs.declared.object.Decoded.{Decoded}
+use Rattle.plist_binread.specs.declared.lent.Lent.{Lent}
+use Rattle.plist_binread.specs.declared.lent.Lent.TheVariants.{Nothing, Faulty, Scalar as ScalarLent, Collection}
+use Rattle.plist_binread.specs.Lent.{IsLentAs}
+use Rattle.plist_binread.specs.Stepping.{WantsRoom}
 use Rattle.plist_binread.specs.declared.table.Bounds.{Bounds}
 use Rattle.plist_binread.specs.Object.{Object, object_in}
-use Rattle.plist_binread.specs.Packed.{is_marked, unmarked, scalar_of, cached, single, IsTextOrData, Retagged, Remarked}
+use Rattle.plist_binread.specs.Packed.{is_marked, unmarked, scalar_of, cached, single, IsTextOrData, MayWantMemory, Retagged, Remarked}
 use Rattle.plist_binread.specs.Unfolding.{Entry, unfolding_of, until_fault}
 use Rattle.plist_binread.specs.Debt.{place_at, scalar_at, path_of, IsOpen, HoldsPlaceOr, IsHeld, IsKnown, places_of, entries_of, owed_by, Explains, Pays}
 use Rattle.plist_binread.specs.Decoding.{IsCollection, IsDecodedAs, IsRefusedAs, scalar_in}
-use Rattle.plist_binread.proofs.Steps.{slice_get-within, slice_get-beyond, length-table_of, collection_count, items_beyond, items_open, pays_scalar, pays_refused, refused_cached}
+use Rattle.plist_binread.proofs.Steps.{slice_get-within, slice_get-beyond, length-table_of, collection_count, items_beyond, items_open, pays_scalar, pays_refused, refused_cached, refused_memory}
 
 not_zero : (t : ℕ) → 0 < t → nat_eq t 0 ≡ false
 not_zero t h = grind (arith, nat_tests)
@@ -28,6 +31,13 @@ to_scalar : (b : Bool) (scalar : Option Scalar) (content : ℕ) (entry : Option 
 to_scalar true scalar content entry b h = absurd (cc)
 to_scalar false None content entry b h = absurd h
 to_scalar false (Some s) content entry b h = h
+
+-- memory is wanted for it, since something is held
+to_wanted : (b : Bool) (scalar : Option Scalar) (content : ℕ) (entry : Option Entry) → b ≡ false
+    → HoldsPlaceOr b scalar content entry → MayWantMemory scalar → IsTextOrData scalar
+to_wanted true scalar content entry b h wanted = absurd (cc)
+to_wanted false None content entry b h wanted = absurd h
+to_wanted false (Some s) content entry b h wanted = wanted
 
 -- the scalar of this event
 abbrev unsingle : Option PlainEvent → Option Scalar
@@ -185,13 +195,14 @@ module _ (bytes : List ℕ) (bounds : Bounds) where
         pub unfound_memory : (e : Error) → number < length tags
             → is_marked (get_or tags number 0) ≡ false → 0 < unmarked (get_or tags number 0)
             → fault_of e ≡ fault_nowhere OutOfMemory
-            → IsTextOrData (cached (get_or tags number 0) (get_or contents number 0))
+            → MayWantMemory (cached (get_or tags number 0) (get_or contents number 0))
             → Explains (until_fault before) e
         unfound_memory e h free some memory wanted =
             pays_refused table tags as_many (length fs) fs at number (entry_of number) refl o h
             (entry_there number h) (sym (o.marks number h) ∙ free) e
             (refused_cached (entry_of number).object (entry_of number).place e _ memory
-            (held_scalar number h some) wanted)
+            (held_scalar number h some)
+            (to_wanted _ _ _ (slice_get table number) (not_zero _ some) (k.held number h) wanted))
 
 -- ---- over bytes that may be unknown
 
@@ -269,15 +280,16 @@ known_refused (Some bytes) bounds tags contents fs after n at number place e dep
     (rw (place_is bytes bounds tags contents fs k number place h is) at (refused k.within))
 
 module _ (known : Option (List ℕ)) (bounds : Bounds) (tags contents new others : List ℕ)
-    (fs after : List Frame) (n at number place : ℕ) (d : Decoded) (answer : Result Event Error)
+    (fs after : List Frame) (n at number place : ℕ) (told : PlainEvent) (lent : Lent)
+    (answer : Result Event Error)
     (k : IfSome known (λ bytes. IsKnown bytes bounds tags contents fs)) (h : number < length tags)
     (is : (unmarked (get_or tags number 0) ≡ 0) × (place ≡ get_or contents number 0))
     (decoded : IfSome known (λ bytes. bounds.trailer ≤ length bytes
     → IsDecodedAs (object_in bounds.reference_width (drop place (take bounds.trailer bytes)))
-    d))
+    told lent))
     (pays : (bytes : List ℕ) (bounds : Bounds) (entry : Entry) (at : ℕ)
     → IsKnown bytes bounds tags contents fs
-    → slice_get (entries_of bytes bounds) number ≡ Some entry → IsDecodedAs entry.object d
+    → slice_get (entries_of bytes bounds) number ≡ Some entry → IsDecodedAs entry.object told lent
     → Entered bytes bounds tags n fs at number answer after
     × IsKnown bytes bounds new others after) where
   both : IfSome known (λ bytes. Entered bytes bounds tags n fs at number answer after
@@ -287,7 +299,7 @@ module _ (known : Option (List ℕ)) (bounds : Bounds) (tags contents new others
       go : (known : Option (List ℕ)) → IfSome known (λ bytes. IsKnown bytes bounds tags contents fs)
           → IfSome known (λ bytes. bounds.trailer ≤ length bytes
           → IsDecodedAs (object_in bounds.reference_width (drop place (take bounds.trailer bytes)))
-          d)
+          told lent)
           → IfSome known (λ bytes. Entered bytes bounds tags n fs at number answer after
           × IsKnown bytes bounds new others after)
       go None k decoded = tt
@@ -308,11 +320,37 @@ module _ (known : Option (List ℕ)) (bounds : Bounds) (tags contents new others
       (λ bytes. IsKnown bytes bounds new others after) both
 
 pub known_kept_by : (known : Option (List ℕ)) (bounds : Bounds) (tags contents : List ℕ)
-    (fs : List Frame) (place : ℕ) (d : Decoded) (X : Type 0)
+    (fs : List Frame) (place : ℕ) (told : PlainEvent) (lent : Lent) (X : Type 0)
     → IfSome known (λ bytes. IsKnown bytes bounds tags contents fs)
     → IfSome known (λ bytes. bounds.trailer ≤ length bytes
-    → IsDecodedAs (object_in bounds.reference_width (drop place (take bounds.trailer bytes))) d)
-    → ((object : Object) → IsDecodedAs object d → X) → IfSome known (λ bytes. X)
-known_kept_by None bounds tags contents fs place d X k decoded kept = tt
-known_kept_by (Some bytes) bounds tags contents fs place d X k decoded kept =
+    → IsDecodedAs (object_in bounds.reference_width (drop place (take bounds.trailer bytes)))
+    told lent)
+    → ((object : Object) → IsDecodedAs object told lent → X) → IfSome known (λ bytes. X)
+known_kept_by None bounds tags contents fs place told lent X k decoded kept = tt
+known_kept_by (Some bytes) bounds tags contents fs place told lent X k decoded kept =
     kept _ (decoded k.within)
+
+-- what is decoded is lent
+pub lent_as : (object : Object) (told : PlainEvent) (lent : Lent) → IsDecodedAs object told lent
+    → IsLentAs object told lent
+lent_as object told Nothing h = absurd h
+lent_as object told (Faulty flaw) h = absurd h
+lent_as object told ScalarLent h = h
+lent_as object told (Collection count) h = h
+
+-- a collection for which room is wanted
+pub known_full : (known : Option (List ℕ)) (t place : ℕ) (object : List ℕ → Object)
+    (told : PlainEvent) (lent : Lent) (e : Error) → fault_of e ≡ fault_nowhere OutOfMemory
+    → WantsRoom lent
+    → IfSome known (λ bytes. t ≤ length bytes → IsDecodedAs (object bytes) told lent)
+    → IfSome known (λ bytes. t ≤ length bytes → IsRefusedAs (object bytes) place e)
+known_full None t place object told lent e memory wanted decoded = tt
+known_full (Some bytes) t place object told lent e memory wanted decoded = λ fits.
+    by lent wanted (decoded fits)
+  where
+    by : (lent : Lent) → WantsRoom lent → IsDecodedAs (object bytes) told lent
+        → IsRefusedAs (object bytes) place e
+    by Nothing wanted h = absurd h
+    by (Faulty flaw) wanted h = absurd h
+    by ScalarLent wanted h = absurd wanted
+    by (Collection count) wanted h = refused_memory (object bytes) place e told count memory h

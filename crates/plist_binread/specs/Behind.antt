@@ -14,7 +14,7 @@ use Rattle.plist_binread.specs.declared.child.Asked.{Asked}
 use Rattle.std.specs.declared.alloc.Global.{Global}
 use Rattle.std.specs.declared.vec.Vec.{Vec}
 use Rattle.plist_binread.specs.declared.extent.Content.{Content}
-use Rattle.plist_binread.specs.declared.object.Decoded.{Decoded}
+use Rattle.plist_base.specs.declared.event.Event.{Event}
 use Rattle.plist_binread.specs.declared.table.Bounds.{Bounds}
 use Rattle.plist_binread.specs.inner.Places.{bytes_behind, IsTooLargeAt}
 
@@ -83,8 +83,8 @@ object_at bounds place bytes =
 
 -- ---- what is made of bytes that reach the trailer
 
--- an object is decoded, or refused
-abbrev pub DecodesAt : Result Decoded Error → (known : Option (List ℕ)) → Bounds → (place : ℕ)
+-- the event of an object that is a scalar is given, or the object refused
+abbrev pub DecodesAt : Result Event Error → (known : Option (List ℕ)) → Bounds → (place : ℕ)
     → (Bounds → ℕ → List ℕ → Object) → Type 0
 DecodesAt answer known bounds place object = IfSome known (λ bytes.
     bounds.trailer ≤ length bytes → Decodes (object bounds place bytes) place answer)
@@ -128,7 +128,7 @@ IsCutAt place P error = MatchFault (kind_of (error_kind_of error)) ⊤ ⊥
 
 module _ (known : Option (List ℕ)) (trailer place : ℕ) where
   -- an object is decoded that has so many elements as its length says, each of this size
-  abbrev pub CountedMeans : (marker size : ℕ) → (List ℕ → Object) → Result Decoded Error → Type 0
+  abbrev pub CountedMeans : (marker size : ℕ) → (List ℕ → Object) → Result Event Error → Type 0
   CountedMeans marker size meaning answer = IfSome known (λ bytes. trailer ≤ length bytes →
       Decodes (meaning_counted size (λ _. meaning)
       (length_in marker (bytes_behind bytes trailer place))) place answer)

@@ -1,12 +1,13 @@
 -- What was decoded of an object, and what the walk makes of it.
-use Rattle.std.specs.Prelude.{◌≡◌, ℕ, List, [], length, cond, Result, Ok, Err, Option, None, Some, MatchResult, ⊤}
+use Rattle.std.specs.Prelude.{◌≡◌, ℕ, List, [], length, false, Result, Option, None, Some, IfOk, MatchResult, ⊤}
 use Rattle.plist_base.specs.declared.error.Error.{Error}
 use Rattle.plist_base.specs.Faults.{InvalidUtf8String, InvalidUtf16String, MatchFault, kind_of, error_kind_of, offset_of}
 use Rattle.plist_base.specs.Events.{PlainEvent, StartArray, StartDictionary, event_of}
 use Rattle.plist_base.specs.Trees as trees
 use Rattle.plist_base.specs.Trees.{Data, String}
-use Rattle.plist_binread.specs.declared.object.Decoded.{Decoded}
-use Rattle.plist_binread.specs.declared.object.Decoded.TheVariants as decoded
+use Rattle.plist_base.specs.declared.event.Event.{Event}
+use Rattle.plist_binread.specs.declared.lent.Lent.{Lent}
+use Rattle.plist_binread.specs.declared.lent.Lent.TheVariants as lent
 use Rattle.plist_binread.specs.Packed.{is_small_event, single}
 use Rattle.plist_binread.specs.Object.{Object, Scalar, Array, Dictionary, Faulty, children_of}
 
@@ -39,19 +40,16 @@ scalar_in (Faulty kind) = None
 abbrev pub single_in : Object → Option PlainEvent
 single_in object = single (scalar_in object)
 
--- what was decoded is this object
-abbrev pub IsDecodedAs : Object → Decoded → Type 0
-IsDecodedAs object (decoded.Scalar event) = single_in object ≡ Some (event_of event)
-IsDecodedAs object (decoded.Collection start count) = IsCollection object (event_of start) count
+-- what was decoded is this object: the scalar that is told, or a collection whose start is told
+abbrev pub IsDecodedAs : Object → (told : PlainEvent) → Lent → Type 0
+IsDecodedAs object told lent.Nothing = ⊥
+IsDecodedAs object told (lent.Faulty flaw) = ⊥
+IsDecodedAs object told lent.Scalar = single_in object ≡ Some told
+IsDecodedAs object told (lent.Collection count) = IsCollection object told count
 
--- how many small objects were decoded
-abbrev pub small_in : Decoded → ℕ
-small_in (decoded.Scalar event) = cond (is_small_event (event_of event)) 1 0
-small_in (decoded.Collection start count) = 0
-
-abbrev pub small_decoded : Result Decoded Error → ℕ
-small_decoded (Ok decoded) = small_in decoded
-small_decoded (Err error) = 0
+-- the event isn't one of a small scalar
+abbrev pub IsLarge : Result Event Error → Type 0
+IsLarge answer = IfOk answer (λ event. is_small_event (event_of event) ≡ false)
 
 -- an object for which memory is wanted: a text, data, or a collection
 abbrev pub GrowsAt : Object → Type 0
@@ -71,11 +69,18 @@ IsRefusedAs object place error =
     MatchFault (kind_of (error_kind_of error)) ⊤ (GrowsAt object)
     ((object ≡ Faulty (kind_of (error_kind_of error))) × (offset_of error ≡ Some place))
 
-abbrev pub Decodes : Object → (place : ℕ) → Result Decoded Error → Type 0
+-- the event of a scalar is given, or its object refused
+abbrev pub Decodes : Object → (place : ℕ) → Result Event Error → Type 0
 Decodes object place answer =
-    MatchResult answer (λ d. IsDecodedAs object d) (λ e. IsRefusedAs object place e)
+    MatchResult answer (λ event. single_in object ≡ Some (event_of event))
+    (λ e. IsRefusedAs object place e)
+
+-- an object is decoded and told, or refused
+abbrev pub DecodesTold : Object → (place : ℕ) → (told : PlainEvent) → Result Lent Error → Type 0
+DecodesTold object place told answer =
+    MatchResult answer (λ lent. IsDecodedAs object told lent) (λ e. IsRefusedAs object place e)
 
 -- a text or data of this event is decoded, or memory was wanted for it
-abbrev pub DecodesEvent : (told : PlainEvent) → Result Decoded Error → Type 0
+abbrev pub DecodesEvent : (told : PlainEvent) → Result Event Error → Type 0
 DecodesEvent told answer = (object : Object) (place : ℕ) → GrowsAt object
     → single_in object ≡ Some told → Decodes object place answer

@@ -1,13 +1,14 @@
 -- Words for what is decoded of bytes that are lent, whatever lies behind those that were seen.
-use Rattle.std.specs.Prelude.{◌≡◌, ℕ, ◌+◌, ◌-◌, ◌*◌, ◌<◌, ◌≤◌, false, List, ◌++◌, length, take, drop, get_or, nat_lt, Option, None, Some, MatchOption, if◌then◌else◌}
+use Rattle.std.specs.Prelude.{◌≡◌, ℕ, ◌+◌, ◌-◌, ◌*◌, ◌<◌, ◌≤◌, false, List, ◌++◌, length, take, drop, get_or, nat_lt, Option, None, Some, Result, Ok, Err, IfSome, MatchOption, if◌then◌else◌}
 use Rattle.std.specs.Borrow.{Bor}
-use Rattle.std.specs.Option.{option_map}
 use Rattle.std.specs.Str.{IsUtf8}
-use Rattle.plist_base.specs.declared.event.Event.{Event}
-use Rattle.plist_base.specs.Events.{PlainEvent, Single, event_of}
-use Rattle.plist_base.specs.Trees.{Scalar, String}
+use Rattle.plist_base.specs.declared.error.Error.{Error}
+use Rattle.plist_base.specs.Events.{PlainEvent, Single}
+use Rattle.plist_base.specs.Trees.{String}
 use Rattle.plist_binread.specs.Container.{number_of, numbers_of}
-use Rattle.plist_binread.specs.Decoding.{single_in}
+use Rattle.plist_binread.specs.Decoding.{DecodesTold, single_in}
+use Rattle.plist_binread.specs.Behind.{object_at}
+use Rattle.plist_binread.specs.declared.table.Bounds.{Bounds}
 use Rattle.plist_binread.specs.Lent.{IsLentAs, small_lent}
 use Rattle.plist_binread.specs.Object.{Array, Object, dictionary, layout_of, length_in, meaning_counted, meaning_of_front, object_behind, text_of_units}
 use Rattle.plist_binread.specs.Packed.{content_bytes, is_small_event, scalar_of, single}
@@ -116,6 +117,23 @@ abbrev pub CountsLent : {C : Type 0} → (counts : Type 0) → (count : C → �
     → Last → Type 0
 CountsLent counts count old new lent last = counts → count new ≡ count old + small_told lent last
 
+-- the same of what is decoded by reads
+abbrev pub small_found : Result Lent Error → Last → ℕ
+small_found (Ok lent) last = small_told lent last
+small_found (Err error) last = 0
+
+abbrev pub CountsFound : {C : Type 0} → (counts : Type 0) → (count : C → ℕ) → (old new : C)
+    → Result Lent Error → Last → Type 0
+CountsFound counts count old new answer last =
+    counts → count new ≡ count old + small_found answer last
+
+-- the object at a place is told, or refused
+abbrev pub TellsObject : {S : Type 0} → (S → Option (List ℕ)) → S → Bounds → (place : ℕ) → Last
+    → Result Lent Error → Type 0
+TellsObject known source bounds place last answer = IfSome (known source) (λ bytes.
+    bounds.trailer ≤ length bytes
+    → DecodesTold (object_at bounds place bytes) place (event_in last) answer)
+
 -- ---- what is packed
 
 -- at most eight bytes, with the tag of their number
@@ -133,10 +151,6 @@ PacksText text packed = MatchOption packed (8 < length text)
 abbrev pub PacksEvent : PlainEvent → Option (ℕ × ℕ) → Type 0
 PacksEvent event packed = MatchOption packed (is_small_event event ≡ false)
     (λ p. single (scalar_of p.0 p.1) ≡ Some event)
-
--- the event of this scalar, if there is one
-abbrev pub ShowsScalar : Option Scalar → Option Event → Type 0
-ShowsScalar scalar found = option_map event_of found ≡ single scalar
 
 -- the units are a text, which is told
 abbrev pub TellsUnits : (units : List ℕ) → Last → Type 0

@@ -1,12 +1,11 @@
 -- Words for what a step of the walk does to the walk, to what is told, and to what is owed.
-use Rattle.std.specs.Prelude.{◌≡◌, ℕ, ◌-◌, ◌<◌, Bool, true, List, ◌++◌, length, get_or, Option, Some, Result, IfOk, IfSome, OnOk}
+use Rattle.std.specs.Prelude.{◌≡◌, ℕ, ◌-◌, ◌<◌, Bool, true, List, ◌++◌, length, get_or, Option, Some, Result, IfSome, OnOk, ⊤}
 use Rattle.std.specs.List.{slice_get}
 use Rattle.plist_base.specs.declared.error.Error.{Error}
 use Rattle.plist_base.specs.declared.event.Event.{Event}
-use Rattle.plist_base.specs.Events.{PlainEvent, EndCollection, event_of}
+use Rattle.plist_base.specs.Events.{PlainEvent, EndCollection}
 use Rattle.plist_binread.specs.Behind.{object_at}
 use Rattle.plist_binread.specs.Debt.{Explains, IsKnown, IsOpen, Pays, entries_of, next_number, owed_by, path_of, weight}
-use Rattle.plist_binread.specs.Decoding.{IsDecodedAs}
 use Rattle.plist_binread.specs.Lent.{EntersChild, IsKeptNear, IsLentAs, PaysNextTold, PaysTold}
 use Rattle.plist_binread.specs.Packed.{is_small_event, unmarked}
 use Rattle.plist_binread.specs.Told.{event_in}
@@ -16,7 +15,7 @@ use Rattle.plist_binread.specs.Walking.{IsWalkOf, objects_of, open_in, owed_ente
 use Rattle.plist_binread.specs.declared.enter.Found.{Found}
 use Rattle.plist_binread.specs.declared.frames.Frame.{Frame}
 use Rattle.plist_binread.specs.declared.lent.Lent.{Lent}
-use Rattle.plist_binread.specs.declared.object.Decoded.{Decoded}
+use Rattle.plist_binread.specs.declared.lent.Lent.TheVariants as lent
 use Rattle.plist_binread.specs.declared.table.Bounds.{Bounds}
 use Rattle.plist_binread.specs.declared.told.Last.{Last}
 use Rattle.plist_binread.specs.declared.walk.Turn.{Turn}
@@ -90,20 +89,10 @@ OpensLent number told lent old new = (bytes : List ℕ) (bounds : Bounds) (entry
     ((at : ℕ) → PaysTold (owed_entering bytes bounds old at number) told (owed_in bytes bounds new))
     × IsWalkOf bytes bounds new
 
--- the same of what was decoded
-abbrev pub KeepsDecoded : Decoded → (number : ℕ) → Result Event Error → Walk → Type 0
-KeepsDecoded decoded number answer walk = (object : Object) → IsDecodedAs object decoded →
-    IfOk answer (λ event. is_small_event (event_of event) ≡ true →
-    0 < unmarked (get_or walk.tags.items number 0))
-
-abbrev pub OpensDecoded : (number : ℕ) → Decoded → (old : Walk) → Result Event Error
-    → (new : Walk) → Type 0
-OpensDecoded number decoded old answer new =
-    (bytes : List ℕ) (bounds : Bounds) (entry : Entry) (at : ℕ) →
-    IsWalkOf bytes bounds old → slice_get (entries_of bytes bounds) number ≡ Some entry →
-    IsDecodedAs entry.object decoded →
-    Pays (owed_entering bytes bounds old at number) answer (owed_in bytes bounds new)
-    × IsWalkOf bytes bounds new
+-- only a collection wants room
+abbrev pub WantsRoom : Lent → Type 0
+WantsRoom lent.Scalar = ⊥
+WantsRoom lent = ⊤
 
 -- ---- over known bytes
 

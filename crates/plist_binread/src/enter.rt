@@ -5,16 +5,16 @@ ghost use Rattle.plist_base.specs.Outcomes.{OnlyMemory};
 ghost use Rattle.plist_base.specs.Faults.{MatchFault, kind_of, error_kind_of};
 ghost use Rattle.plist_base.specs.Sources.{AnswersIo};
 ghost use Rattle.plist_binread.specs.Packed.{is_marked};
-ghost use Rattle.plist_binread.specs.Decoding.{small_in};
 ghost use Rattle.plist_binread.specs.Walking.{IsWalkOf, cached_in, objects_of};
 ghost use Rattle.plist_binread.specs.Failures.{ErrWithin};
-ghost use Rattle.plist_binread.specs.Stepping.{ExplainsEntering, IsFoundAt, IsLighterEntered, KeepsDecoded, KeepsEntered, OpensDecoded, PaysEntered};
+ghost use Rattle.plist_binread.specs.Stepping.{ExplainsEntering, IsFoundAt, IsLighterEntered, KeepsEntered, PaysEntered};
 
 use crate::counter::DecodeCounter;
-use crate::object::{Decoded, decode};
-use crate::packed::{keep, mark, pack, unpack};
+use crate::near::open_lent;
+use crate::object::decode;
 use crate::table::Bounds;
-use crate::walk::{Walk, push_frame};
+use crate::told::Last;
+use crate::walk::Walk;
 use plist_base::{Error, ErrorKind, OwnedEvent, Source};
 use std::alloc::Global;
 
@@ -54,44 +54,11 @@ fn look_up(
     if tag == 0 {
         return Ok(Found::Place(content));
     }
-    match unpack(alloc, tag, content)? {
-        Some(event) => Ok(Found::Scalar(event)),
-        None => Err(ErrorKind::ObjectReferenceTooLarge.with_byte_offset(at)),
+    let mut last = Last::new(alloc);
+    if last.recall(tag, content) {
+        return Ok(Found::Scalar(last.take(alloc)));
     }
-}
-
-// Gives what was decoded, keeps it where it is a small scalar, and opens it where it is a
-// collection.
-fn open(walk: &mut Walk, number: u64, decoded: Decoded) -> Result<OwnedEvent, Error>
-    requires below { number < objects_of walk.old }
-    requires new { get_or walk.old.tags.items number 0 ≡ 0 }
-    ensures size { objects_of walk.new ≡ objects_of walk.old }
-    ensures counted { cached_in walk.new ≡ cached_in walk.old + small_in decoded }
-    ensures kept { KeepsDecoded decoded number result walk.new }
-    ensures falls { OnOk result (IsLighterEntered walk.old walk.new) }
-    ensures pays { OpensDecoded number decoded walk.old result walk.new }
-    ensures memory { OnlyMemory result }
-{
-    match decoded {
-        Decoded::Scalar(event) => match pack(&event) {
-            Some((tag, content)) => {
-                keep(
-                    &mut walk.tags,
-                    &mut walk.contents,
-                    number as usize,
-                    tag,
-                    content,
-                );
-                Ok(event)
-            }
-            None => Ok(event),
-        },
-        Decoded::Collection(start, count) => {
-            push_frame(&mut walk.frames, number, count)?;
-            mark(&mut walk.tags, number as usize);
-            Ok(start)
-        }
-    }
+    Err(ErrorKind::OutOfMemory.without_position())
 }
 
 /// The first item of an object, referred to from `at`. A collection is then open.
@@ -125,8 +92,12 @@ pub fn enter<S: Source, C: DecodeCounter>(
     )? {
         Found::Scalar(event) => Ok(event),
         Found::Place(place) => {
-            let decoded = decode(alloc, source, counter, bounds, place)?;
-            open(walk, number, decoded)
+            let mut last = Last::new(alloc);
+            let lent = decode(alloc, source, counter, bounds, place, &mut last)?;
+            if open_lent(walk, number, lent, &last) {
+                return Ok(last.take(alloc));
+            }
+            Err(ErrorKind::OutOfMemory.without_position())
         }
     }
 }

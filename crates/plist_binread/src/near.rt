@@ -7,7 +7,7 @@ ghost use Rattle.plist_binread.specs.Walking.{IsWalkOf, cached_in, objects_of};
 ghost use Rattle.plist_binread.specs.Nearby.{small_told};
 ghost use Rattle.plist_binread.specs.Behind.{IsAskedOf};
 ghost use Rattle.plist_binread.specs.Beginning.{IsKnownWalk};
-ghost use Rattle.plist_binread.specs.Stepping.{Goes, IsLighterEntered, IsUnchanged, KeepsLent, KeepsNear, OpensLent, PaysNear};
+ghost use Rattle.plist_binread.specs.Stepping.{Goes, IsLighterEntered, IsUnchanged, KeepsLent, KeepsNear, OpensLent, PaysNear, WantsRoom};
 
 use crate::child::{Asked, lent_before, near_child};
 use crate::counter::DecodeCounter;
@@ -28,9 +28,9 @@ fn push_near(frames: &mut Frames, object: u64, count: u64) -> bool
     frames.push(object, count).is_ok()
 }
 
-// Keeps what was lent and told where it is a small scalar, and opens it where it is a collection.
-// It answers no, and nothing has changed, where room for that is wanted or nothing was lent.
-fn open_lent(walk: &mut Walk, number: u64, lent: Lent, last: &Last) -> bool
+/// Keeps what was lent and told where it is a small scalar, and opens it where it is a collection.
+/// It answers no, and nothing has changed, where room for that is wanted or nothing was lent.
+pub fn open_lent(walk: &mut Walk, number: u64, lent: Lent, last: &Last) -> bool
     requires below { number < objects_of walk.old }
     requires new { get_or walk.old.tags.items number 0 ≡ 0 }
     ensures size { objects_of walk.new ≡ objects_of walk.old }
@@ -39,6 +39,7 @@ fn open_lent(walk: &mut Walk, number: u64, lent: Lent, last: &Last) -> bool
     ensures falls { result ≡ true → IsLighterEntered walk.old walk.new }
     ensures pays { result ≡ true → OpensLent number (event_in last.now) lent walk.old walk.new }
     ensures unchanged { result ≡ false → IsUnchanged walk.old walk.new }
+    ensures wanted { result ≡ false → WantsRoom lent }
 {
     match lent {
         Lent::Nothing | Lent::Faulty(_) => false,

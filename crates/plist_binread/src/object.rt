@@ -3,11 +3,12 @@
 ghost use Rattle.std.specs.Prelude.{ℕ, ◌≡◌, ◌+◌, ◌<◌, ◌≤◌};
 ghost use Rattle.plist_base.specs.Faults.{fault_of};
 ghost use Rattle.plist_base.specs.Sources.{AnswersIo, CountsIo};
-ghost use Rattle.plist_binread.specs.Decoding.{IsRefusedAs, small_decoded};
+ghost use Rattle.plist_binread.specs.Decoding.{IsLarge, IsRefusedAs};
 ghost use Rattle.plist_binread.specs.Failures.{ErrWithin, FailsWithin};
 ghost use Rattle.plist_binread.specs.Lent.{kind_of_flaw};
 ghost use Rattle.plist_binread.specs.Object.{Faulty};
-ghost use Rattle.plist_binread.specs.Behind.{DecodesAt, object_of, object_at};
+ghost use Rattle.plist_binread.specs.Behind.{DecodesAt, object_of};
+ghost use Rattle.plist_binread.specs.Nearby.{CountsFound, TellsObject};
 
 use crate::counter::DecodeCounter;
 use crate::lent::{Flaw, Lent, decode_lent};
@@ -16,15 +17,6 @@ use crate::text::{read_data, read_text, read_wide_text};
 use crate::told::Last;
 use plist_base::{Error, ErrorKind, OwnedEvent, Source, read_exact_at};
 use std::alloc::Global;
-
-/// What an object's bytes mean.
-#[derive(Drop)]
-pub enum Decoded {
-    /// A scalar is one event.
-    Scalar(OwnedEvent),
-    /// A collection is its start, and how many children it has.
-    Collection(OwnedEvent, u64),
-}
 
 // The fault of the object at a place that has this flaw.
 fn refuse(flaw: Flaw, place: u64) -> Error
@@ -50,11 +42,11 @@ fn read_large<S: Source>(
     bounds: &Bounds,
     place: u64,
     marker: u8,
-) -> Result<Decoded, Error>
+) -> Result<OwnedEvent, Error>
     requires place { place < bounds.now.trailer }
     requires marker { (64 ≤ marker) × (marker ≤ 111) }
     ensures decoded { DecodesAt result (S.known source.old) bounds.now place (object_of marker) }
-    ensures large { small_decoded result ≡ 0 }
+    ensures large { IsLarge result }
     ensures fault { ErrWithin place bounds.now.trailer result }
     ensures unchanged { S.known source.new ≡ S.known source.old }
     ensures failures { AnswersIo result (S.failures source.old) (S.failures source.new) }
@@ -71,7 +63,7 @@ fn read_large<S: Source>(
 // content of what is small.
 const FRONT: usize = 26;
 
-/// Reads the object at a place, and counts it where it is small. A text or data that isn't small
+/// Tells the object at a place, and counts it where it is small. A text or data that isn't small
 /// is read into room of its own.
 pub fn decode<S: Source, C: DecodeCounter>(
     alloc: Global,
@@ -79,9 +71,10 @@ pub fn decode<S: Source, C: DecodeCounter>(
     counter: &mut C,
     bounds: &Bounds,
     place: u64,
-) -> Result<Decoded, Error>
-    ensures decoded { DecodesAt result (S.known source.old) bounds.now place object_at }
-    ensures counted { C.counts → C.count counter.new ≡ C.count counter.old + small_decoded result }
+    last: &mut Last,
+) -> Result<Lent, Error>
+    ensures decoded { TellsObject S.known source.old bounds.now place last.new result }
+    ensures counted { CountsFound C.counts C.count counter.old counter.new result last.new }
     ensures fault { ErrWithin place bounds.now.trailer result }
     ensures unchanged { S.known source.new ≡ S.known source.old }
     ensures failures { AnswersIo result (S.failures source.old) (S.failures source.new) }
@@ -93,11 +86,14 @@ pub fn decode<S: Source, C: DecodeCounter>(
     let mut front = [0; FRONT];
     let seen = &mut front[..room.min(FRONT as u64) as usize];
     read_exact_at(source, place, seen)?;
-    let mut last = Last::new(alloc);
-    match decode_lent(seen, room, bounds.reference_width, counter, &mut last) {
-        Lent::Scalar => Ok(Decoded::Scalar(last.take(alloc))),
-        Lent::Collection(count) => Ok(Decoded::Collection(last.take(alloc), count)),
+    match decode_lent(seen, room, bounds.reference_width, counter, last) {
+        Lent::Scalar => Ok(Lent::Scalar),
+        Lent::Collection(count) => Ok(Lent::Collection(count)),
         Lent::Faulty(flaw) => Err(refuse(flaw, place)),
-        Lent::Nothing => read_large(alloc, source, bounds, place, seen[0]),
+        Lent::Nothing => {
+            let event = read_large(alloc, source, bounds, place, seen[0])?;
+            last.hold(event);
+            Ok(Lent::Scalar)
+        }
     }
 }

@@ -5,7 +5,7 @@ ghost use Rattle.plist_base.specs.Events.{Single, event_of};
 ghost use Rattle.plist_base.specs.Trees.{Boolean as BooleanScalar, Data as DataScalar, Integer as IntegerScalar};
 ghost use Rattle.plist_binread.specs.declared.lent.Lent.TheVariants.{Scalar as ScalarLent};
 ghost use Rattle.plist_binread.specs.Object.{signed};
-ghost use Rattle.plist_binread.specs.Packed.{cached, is_small_event, single};
+ghost use Rattle.plist_binread.specs.Packed.{MayWantMemory, cached, is_small_event, single};
 ghost use Rattle.plist_binread.specs.Told.{event_in, event_with};
 ghost use Rattle.plist_binread.specs.Nearby.{PacksEvent, TellsText, TellsUnits};
 
@@ -234,7 +234,8 @@ impl Last {
 
     /// Tells the scalar that a tag and a content hold, if they hold one and there is room for it.
     pub fn recall(&mut self, tag: u8, content: u64) -> bool
-        ensures { result ≡ true → single (cached tag content) ≡ Some (event_in self.new) }
+        ensures told { result ≡ true → single (cached tag content) ≡ Some (event_in self.new) }
+        ensures wanted { result ≡ false → MayWantMemory (cached tag content) }
     {
         let bytes = content.to_be_bytes();
         match tag % 128 {
@@ -245,6 +246,11 @@ impl Last {
             3 => self.tell(Told::Unsigned(content)),
             4 => self.hold(Event::Integer(Integer::from(content.cast_signed()))),
             5 => self.hold(Event::Real(RealBits::Eight(bytes))),
+            6 => {
+                let mut four = [0; 4];
+                four.copy_from_slice(&bytes[..4]);
+                self.hold(Event::Real(RealBits::Four(four)));
+            }
             7 => self.tell(Told::Uid(content)),
             _ => return false,
         }

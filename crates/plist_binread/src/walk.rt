@@ -1,16 +1,13 @@
 //! Where a walk stands: the collections that are open, and what is held of each object.
 
 ghost use Rattle.std.specs.Prelude.{◌≡◌, ◌^◌, ◌<◌, [], ◌∷◌, ◌++◌, length, reverse, true, OnOk, OnErr};
-ghost use Rattle.plist_base.specs.Outcomes.{OnlyMemory};
 ghost use Rattle.std.proofs.Props.{props};
 ghost use Rattle.plist_binread.specs.declared.walk.Turn.TheVariants.{Closed};
 ghost use Rattle.plist_binread.specs.Debt.{IsOpen};
-ghost use Rattle.plist_binread.specs.Frames.{frame_of};
 ghost use Rattle.plist_binread.specs.Turning.{IsWithin, closes, given_back};
 
 use crate::frames::{Frames, Wanted};
 use crate::packed::unmark;
-use plist_base::Error;
 use std::alloc::Global;
 
 /// What the innermost collection asks for.
@@ -81,15 +78,4 @@ impl Walk {
     {
         self.frames.give_back();
     }
-}
-
-/// Opens a collection of so many children.
-pub fn push_frame(frames: &mut Frames, object: u64, count: u64) -> Result<(), Error>
-    ensures value { OnOk result (frames.new ≡ frames.old ++ frame_of object 0 count ∷ []) }
-    ensures small { count < 2 ^ 64 }
-    ensures memory { OnlyMemory result }
-    ensures unchanged { OnErr result (frames.new ≡ frames.old) }
-{
-    frames.push(object, count)?;
-    Ok(())
 }

@@ -1,8 +1,10 @@
-use Rattle.std.proofs.Common.{arith, sym, length, ◌-◌, reverse}
+use Rattle.std.proofs.Common.{arith, sym, length, ◌-◌, reverse, Ok}
 use Rattle.std.proofs.lemmas.List.{length-reverse}
 use Rattle.std.proofs.lemmas.Result.{err_from_is_err_and}
 use Rattle.plist_binread.proofs.Steps.{steps_positive}
-use Rattle.plist_binread.proofs.Known.{known_scalar, known_refused, known_entered, known_entered_pays, known_kept_by}
+use Rattle.plist_binread.proofs.Known.{known_scalar, known_refused, known_entered, known_entered_pays, known_kept_by, known_full, lent_as}
+use Rattle.plist_binread.specs.Behind.{object_at}
+use Rattle.plist_binread.specs.Told.{event_in}
 use Rattle.plist_binread.proofs.enter.enter.Goals as goal
 
 pub returns-in-Scalar-clause-falls : goal.returns-in-Scalar-clause-falls
@@ -23,10 +25,10 @@ returns-in-Scalar-clause-pays g c =
     (rw (c.in-Scalar.is, c.as_slice.ensures.value, c.as_slice-2.ensures.value) at
     c.in_ok-event.ensures.found)
 
-pub returns-in_err-decoded-in-Place-clause-pays : goal.returns-in_err-decoded-in-Place-clause-pays
-returns-in_err-decoded-in-Place-clause-pays g c =
-    let p = err_from_is_err_and c.from_residual-in_err-decoded-in-Place.result
-    c.from_residual-in_err-decoded-in-Place.ensures.1 in
+pub returns-in_err-lent-in-Place-clause-pays : goal.returns-in_err-lent-in-Place-clause-pays
+returns-in_err-lent-in-Place-clause-pays g c =
+    let p = err_from_is_err_and c.from_residual-in_err-lent-in-Place.result
+    c.from_residual-in_err-lent-in-Place.ensures.1 in
     rw (p.1, p.2) (known_refused _ c.args.bounds.now c.args.walk.now.tags.items
     c.args.walk.now.contents.items (reverse c.args.walk.now.frames)
     (reverse c.args.walk.now.frames) _ c.args.at c.args.number c.in-Place.place _
@@ -34,32 +36,57 @@ returns-in_err-decoded-in-Place-clause-pays g c =
     (rw c.as_slice.ensures.value at c.in_ok-event.ensures.below)
     (rw c.as_slice.ensures.value at c.in_ok-event.ensures.new)
     (rw (c.in-Place.is, c.as_slice.ensures.value, c.as_slice-2.ensures.value) at
-    c.in_ok-event.ensures.found) c.in_err-decoded-in-Place.ensures.decoded)
+    c.in_ok-event.ensures.found) c.in_err-lent-in-Place.ensures.decoded)
 
-pub returns-in_ok-decoded-in-Place-clause-known : goal.returns-in_ok-decoded-in-Place-clause-known
-returns-in_ok-decoded-in-Place-clause-known g c =
+pub returns-then-open_lent-clause-known : goal.returns-then-open_lent-clause-known
+returns-then-open_lent-clause-known g c =
     known_entered _ c.args.bounds.now c.args.walk.now.tags.items c.args.walk.now.contents.items
-    c.open.new.walk.tags.items c.open.new.walk.contents.items
-    (reverse c.args.walk.now.frames) (reverse c.open.new.walk.frames)
+    c.open_lent.new.walk.tags.items c.open_lent.new.walk.contents.items
+    (reverse c.args.walk.now.frames) (reverse c.open_lent.new.walk.frames)
     (length c.args.walk.now.frames) c.args.at c.args.number c.in-Place.place
-    c.in_ok-decoded-in-Place.decoded c.open.result c.requires.known
+    (event_in c.decode.new.last) c.in_ok-lent-in-Place.lent (Ok c.take.result) c.requires.known
     (rw c.as_slice.ensures.value at c.in_ok-event.ensures.below)
     (rw (c.in-Place.is, c.as_slice.ensures.value, c.as_slice-2.ensures.value) at
-    c.in_ok-event.ensures.found) c.in_ok-decoded-in-Place.ensures.decoded c.open.ensures.pays
+    c.in_ok-event.ensures.found) c.in_ok-lent-in-Place.ensures.decoded
+    (λ bytes bounds entry at k is decoded.
+    let p = c.open_lent.ensures.pays c.if-open_lent.true bytes bounds entry k is
+    (lent_as entry.object _ c.in_ok-lent-in-Place.lent decoded) in
+    (rw c.take.ensures (p.0 at), p.1))
 
-pub returns-in_ok-decoded-in-Place-clause-pays : goal.returns-in_ok-decoded-in-Place-clause-pays
-returns-in_ok-decoded-in-Place-clause-pays g c =
+pub returns-then-open_lent-clause-pays : goal.returns-then-open_lent-clause-pays
+returns-then-open_lent-clause-pays g c =
     known_entered_pays _ c.args.bounds.now c.args.walk.now.tags.items c.args.walk.now.contents.items
-    c.open.new.walk.tags.items c.open.new.walk.contents.items
-    (reverse c.args.walk.now.frames) (reverse c.open.new.walk.frames)
+    c.open_lent.new.walk.tags.items c.open_lent.new.walk.contents.items
+    (reverse c.args.walk.now.frames) (reverse c.open_lent.new.walk.frames)
     (length c.args.walk.now.frames) c.args.at c.args.number c.in-Place.place
-    c.in_ok-decoded-in-Place.decoded c.open.result c.requires.known
+    (event_in c.decode.new.last) c.in_ok-lent-in-Place.lent (Ok c.take.result) c.requires.known
     (rw c.as_slice.ensures.value at c.in_ok-event.ensures.below)
     (rw (c.in-Place.is, c.as_slice.ensures.value, c.as_slice-2.ensures.value) at
-    c.in_ok-event.ensures.found) c.in_ok-decoded-in-Place.ensures.decoded c.open.ensures.pays
+    c.in_ok-event.ensures.found) c.in_ok-lent-in-Place.ensures.decoded
+    (λ bytes bounds entry at k is decoded.
+    let p = c.open_lent.ensures.pays c.if-open_lent.true bytes bounds entry k is
+    (lent_as entry.object _ c.in_ok-lent-in-Place.lent decoded) in
+    (rw c.take.ensures (p.0 at), p.1))
 
-pub returns-in_ok-decoded-in-Place-clause-kept : goal.returns-in_ok-decoded-in-Place-clause-kept
-returns-in_ok-decoded-in-Place-clause-kept g c =
+pub returns-then-open_lent-clause-kept : goal.returns-then-open_lent-clause-kept
+returns-then-open_lent-clause-kept g c =
     known_kept_by _ c.args.bounds.now c.args.walk.now.tags.items c.args.walk.now.contents.items
-    (reverse c.args.walk.now.frames) c.in-Place.place c.in_ok-decoded-in-Place.decoded _
-    c.requires.known c.in_ok-decoded-in-Place.ensures.decoded c.open.ensures.kept
+    (reverse c.args.walk.now.frames) c.in-Place.place (event_in c.decode.new.last)
+    c.in_ok-lent-in-Place.lent _ c.requires.known c.in_ok-lent-in-Place.ensures.decoded
+    (λ object decoded. rw c.take.ensures (c.open_lent.ensures.kept c.if-open_lent.true object
+    (lent_as object _ c.in_ok-lent-in-Place.lent decoded)))
+
+pub returns-else-open_lent-clause-pays : goal.returns-else-open_lent-clause-pays
+returns-else-open_lent-clause-pays g c =
+    known_refused _ c.args.bounds.now c.args.walk.now.tags.items
+    c.args.walk.now.contents.items (reverse c.args.walk.now.frames)
+    (reverse c.open_lent.new.walk.frames) _ c.args.at c.args.number c.in-Place.place _
+    (sym (length-reverse c.args.walk.now.frames)) c.args.walk.now.path c.requires.known
+    (rw c.as_slice.ensures.value at c.in_ok-event.ensures.below)
+    (rw c.as_slice.ensures.value at c.in_ok-event.ensures.new)
+    (rw (c.in-Place.is, c.as_slice.ensures.value, c.as_slice-2.ensures.value) at
+    c.in_ok-event.ensures.found)
+    (known_full _ c.args.bounds.now.trailer c.in-Place.place
+    (object_at c.args.bounds.now c.in-Place.place) (event_in c.decode.new.last)
+    c.in_ok-lent-in-Place.lent c.without_position.result c.without_position.ensures.fault
+    (c.open_lent.ensures.wanted c.if-open_lent.false) c.in_ok-lent-in-Place.ensures.decoded)

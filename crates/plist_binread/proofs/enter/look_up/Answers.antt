@@ -1,6 +1,5 @@
 use Rattle.std.proofs.Common.{arith}
 use Rattle.std.proofs.lemmas.Bool.{le-leb}
-use Rattle.std.proofs.lemmas.Result.{err_from_is_err_and}
 use Rattle.plist_binread.proofs.Extents.{leb_short}
 use Rattle.plist_binread.proofs.Known.{unfound_beyond, unfound_open, unfound_memory}
 use Rattle.plist_binread.proofs.enter.look_up.Goals as goal
@@ -16,10 +15,8 @@ returns-then-tag-ge128-clause-refused c = λ bytes bounds fs o k.
     (omega arith) (le-leb 128 _ c.if-tag-ge128.true)
     c.with_byte_offset-then-tag-ge128.ensures.fault
 
-pub returns-in_err-event-clause-refused : goal.returns-in_err-event-clause-refused
-returns-in_err-event-clause-refused c =
-    let p = err_from_is_err_and c.from_residual.result c.from_residual.ensures.1 in
-    rw (p.1, p.2) (λ bytes bounds fs o k.
+pub returns-clause-refused : goal.returns-clause-refused
+returns-clause-refused c = λ bytes bounds fs o k.
     unfound_memory bytes bounds c.args.tags.now c.args.contents.now fs k o c.args.at c.args.number _
-    (omega arith) (leb_short 128 _ (omega arith)) (omega arith) c.in_err-event.ensures.memory
-    c.in_err-event.ensures.wanted)
+    (omega arith) (leb_short 128 _ (omega arith)) (omega arith) c.without_position.ensures.fault
+    (c.recall.ensures.wanted c.if-recall.false)

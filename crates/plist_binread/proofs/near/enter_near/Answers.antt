@@ -20,7 +20,7 @@ returns-then-held-ne0-clause-pays g c = λ yes.
     known_recalled (g.S.Source.known c.args.source.now) c.args.bounds.now c.args.walk.now.tags.items
     c.args.walk.now.contents.items (reverse c.args.walk.now.frames) _ c.args.number _
     (sym (length-reverse c.args.walk.now.frames)) c.args.walk.now.path c.requires.known h
-    (rw tag at free) (rw tag at some) (rw (tag, content) at (c.recall.ensures yes))
+    (rw tag at free) (rw tag at some) (rw (tag, content) at (c.recall.ensures.told yes))
 
 pub returns-then-held-ne0-clause-falls : goal.returns-then-held-ne0-clause-falls
 returns-then-held-ne0-clause-falls g c =

@@ -1,4 +1,5 @@
-use Rattle.std.proofs.Common.{rules, Err, arith}
+use Rattle.std.proofs.Common.{rules, Ok, Err, arith}
+use Rattle.std.proofs.lemmas.Result.{err_from_is_err_and}
 use Rattle.plist_binread.specs.declared.lent.Lent.TheVariants as lent
 use Rattle.plist_binread.specs.Told.{event_in}
 use Rattle.plist_binread.specs.Lent.{kind_of_flaw}
@@ -15,16 +16,16 @@ returns-then-place-bounds-clause-decoded g c =
 
 pub returns-in-Scalar-clause-decoded : goal.returns-in-Scalar-clause-decoded
 returns-in-Scalar-clause-decoded g c =
-    rw c.take.ensures (known_seen _ c.args.bounds.now.trailer c.args.bounds.now.reference_width
+    known_seen _ c.args.bounds.now.trailer c.args.bounds.now.reference_width
     c.args.place _ (event_in c.decode_lent.new.last)
-    lent.Scalar (search rules) c.in_ok-read_exact_at.ensures.bytes c.in-Scalar.ensures.lent)
+    lent.Scalar (search rules) c.in_ok-read_exact_at.ensures.bytes c.in-Scalar.ensures.lent
 
 pub returns-in-Collection-clause-decoded : goal.returns-in-Collection-clause-decoded
 returns-in-Collection-clause-decoded g c =
-    rw c.take-in-Collection.ensures (known_seen _ c.args.bounds.now.trailer
+    known_seen _ c.args.bounds.now.trailer
     c.args.bounds.now.reference_width c.args.place _ (event_in c.decode_lent.new.last)
     (lent.Collection c.in-Collection.count) (search rules)
-    c.in_ok-read_exact_at.ensures.bytes c.in-Collection.ensures.lent)
+    c.in_ok-read_exact_at.ensures.bytes c.in-Collection.ensures.lent
 
 pub returns-in-Faulty-clause-decoded : goal.returns-in-Faulty-clause-decoded
 returns-in-Faulty-clause-decoded g c =
@@ -35,9 +36,20 @@ returns-in-Faulty-clause-decoded g c =
     (lent.Faulty c.in-Faulty.flaw) (search rules) c.in_ok-read_exact_at.ensures.bytes c.in-Faulty.ensures.lent)
     c.refuse.ensures.refused
 
-pub returns-clause-decoded : goal.returns-clause-decoded
-returns-clause-decoded g c =
-    known_marked _ _ c.args.bounds.now.reference_width c.args.bounds.now.trailer c.args.place
-    _ _ c.in_ok-read_exact_at.ensures.unchanged (omega arith)
+pub returns-in_ok-event-in-Nothing-clause-decoded : goal.returns-in_ok-event-in-Nothing-clause-decoded
+returns-in_ok-event-in-Nothing-clause-decoded g c =
+    rw c.hold.ensures (known_marked _ _ c.args.bounds.now.reference_width
+    c.args.bounds.now.trailer c.args.place _ (Ok c.in_ok-event-in-Nothing.event)
+    c.in_ok-read_exact_at.ensures.unchanged (omega arith)
     (known_first _ c.args.place _ (search rules) c.in_ok-read_exact_at.ensures.bytes)
-    c.read_large.ensures.decoded
+    c.in_ok-event-in-Nothing.ensures.decoded)
+
+pub returns-in_err-event-in-Nothing-clause-decoded : goal.returns-in_err-event-in-Nothing-clause-decoded
+returns-in_err-event-in-Nothing-clause-decoded g c =
+    let p = err_from_is_err_and c.from_residual-in_err-event-in-Nothing.result
+    c.from_residual-in_err-event-in-Nothing.ensures.1 in
+    rw (p.1, p.2) (known_marked _ _ c.args.bounds.now.reference_width
+    c.args.bounds.now.trailer c.args.place _ (Err c.in_err-event-in-Nothing.field-0.0)
+    c.in_ok-read_exact_at.ensures.unchanged (omega arith)
+    (known_first _ c.args.place _ (search rules) c.in_ok-read_exact_at.ensures.bytes)
+    c.in_err-event-in-Nothing.ensures.decoded)
