@@ -12,7 +12,7 @@ use Rattle.plist_base.specs.Trees.{Scalar}
 use Rattle.plist_base.proofs.Refusals.{MatchFault-at, MatchFault-weaker}
 use Rattle.plist_binread.specs.declared.frames.Frame.{Frame}
 use Rattle.plist_binread.specs.declared.lent.Lent.{Lent}
-use Rattle.plist_binread.specs.declared.lent.Lent.TheVariants.{Nothing, Faulty, Scalar as ScalarLent, Collection}
+use Rattle.plist_binread.specs.declared.lent.Lent.TheVariants.{Nothing, TooLarge, Null, Fill, Unknown, OutOfRange, NoDate, Scalar as ScalarLent, Collection}
 use Rattle.plist_binread.specs.Lent.{IsLentAs}
 use Rattle.plist_binread.specs.Stepping.{WantsRoom}
 use Rattle.plist_binread.specs.declared.table.Bounds.{Bounds}
@@ -334,7 +334,12 @@ known_kept_by (Some bytes) bounds tags contents fs place told lent X k decoded k
 pub lent_as : (object : Object) (told : PlainEvent) (lent : Lent) → IsDecodedAs object told lent
     → IsLentAs object told lent
 lent_as object told Nothing h = absurd h
-lent_as object told (Faulty flaw) h = absurd h
+lent_as object told TooLarge h = absurd h
+lent_as object told Null h = absurd h
+lent_as object told Fill h = absurd h
+lent_as object told (Unknown marker) h = absurd h
+lent_as object told OutOfRange h = absurd h
+lent_as object told NoDate h = absurd h
 lent_as object told ScalarLent h = h
 lent_as object told (Collection count) h = h
 
@@ -351,6 +356,11 @@ known_full (Some bytes) t place object told lent e memory wanted decoded = λ fi
     by : (lent : Lent) → WantsRoom lent → IsDecodedAs (object bytes) told lent
         → IsRefusedAs (object bytes) place e
     by Nothing wanted h = absurd h
-    by (Faulty flaw) wanted h = absurd h
+    by TooLarge wanted h = absurd h
+    by Null wanted h = absurd h
+    by Fill wanted h = absurd h
+    by (Unknown marker) wanted h = absurd h
+    by OutOfRange wanted h = absurd h
+    by NoDate wanted h = absurd h
     by ScalarLent wanted h = absurd wanted
     by (Collection count) wanted h = refused_memory (object bytes) place e told count memory h

@@ -6,16 +6,18 @@ use Rattle.std.proofs.lemmas.List.{length-append, take-append-le, drop-append-le
 use Rattle.std.proofs.Math.Seq.{take-length}
 use Rattle.plist_base.specs.Events.{PlainEvent, StartArray, StartDictionary}
 use Rattle.plist_base.specs.Sources.{LiesAt}
-use Rattle.plist_base.specs.Faults.{ObjectOffsetTooLarge}
+use Rattle.plist_base.specs.declared.error.Error.{Error}
+use Rattle.plist_base.specs.Faults.{FaultKind, ObjectOffsetTooLarge}
 use Rattle.std.proofs.Math.Nat.{mul-le-mul_right}
 use Rattle.plist_binread.specs.declared.table.Bounds.{Bounds}
 use Rattle.plist_binread.specs.declared.child.Asked.{Asked}
 use Rattle.plist_binread.specs.Container.{number_of, number_at, numbers_of}
 use Rattle.plist_binread.specs.Turning.{ReadsChild}
-use Rattle.plist_binread.specs.Decoding.{IsCollection, children_in}
+use Rattle.plist_binread.specs.Decoding.{IsCollection, IsRefusedAs, IsUnknownAt, children_in}
 use Rattle.plist_binread.specs.Lent.{IsLentAs, IsSlots, IsAsked, slot_of}
 use Rattle.plist_binread.specs.Nearby.{LendsWhole}
 use Rattle.plist_binread.specs.declared.lent.Lent.{Lent}
+use Rattle.plist_binread.specs.declared.lent.Lent.TheVariants as lent
 use Rattle.plist_binread.specs.Object.{Object, Array, Faulty, dictionary, layout_of, length_in, meaning_counted, object_behind, object_in}
 use Rattle.plist_binread.proofs.Children.{length-numbers, get_or-numbers, length-dictionary, key, value, known_array, known_dictionary}
 use Rattle.plist_binread.proofs.Columns.{take-drop-take, take-take-le, known_at_hand}
@@ -231,6 +233,30 @@ known_seen (Some bytes) t w p seen told lent near is means = λ fits.
     let room : length (seen ++ cut.0) ≡ t - p = ap length (sym cut.1)
     ∙ length-drop p (take t bytes) ∙ ap (λ m. m - p) (length-take-le t bytes fits) in
     rw cut.1 (means cut.0 room)
+
+-- an object that is refused where what was seen of it is refused
+pub known_refused : (known : Option (List ℕ)) (t w p : ℕ) (seen : List ℕ) (told : PlainEvent)
+    (lent : Lent) (kind : FaultKind) (error : Error) → p + length seen ≤ t
+    → IfSome known (λ bytes. LiesAt bytes p seen)
+    → LendsWhole (t - p) (object_in w) seen told lent
+    → ((object : Object) → IsLentAs object told lent → object ≡ Faulty kind)
+    → IsRefusedAs (Faulty kind) p error → IfSome known (λ bytes. t ≤ length bytes
+    → IsRefusedAs (object_in w (drop p (take t bytes))) p error)
+known_refused None t w p seen told lent kind error near is means same h = tt
+known_refused (Some bytes) t w p seen told lent kind error near is means same h = λ fits.
+    rw (same _ (known_seen (Some bytes) t w p seen told lent near is means fits)) h
+
+-- one whose marker is unknown
+pub known_unknown : (known : Option (List ℕ)) (t w p : ℕ) (seen : List ℕ) (told : PlainEvent)
+    (marker : ℕ) (error : Error) → p + length seen ≤ t
+    → IfSome known (λ bytes. LiesAt bytes p seen)
+    → LendsWhole (t - p) (object_in w) seen told (lent.Unknown marker)
+    → (marker < 256 → IsUnknownAt marker p error) → IfSome known (λ bytes. t ≤ length bytes
+    → IsRefusedAs (object_in w (drop p (take t bytes))) p error)
+known_unknown None t w p seen told marker error near is means named = tt
+known_unknown (Some bytes) t w p seen told marker error near is means named = λ fits.
+    let found = known_seen (Some bytes) t w p seen told (lent.Unknown marker) near is means fits in
+    rw found.1 (named found.0)
 
 -- and their first byte
 pub known_first : (known : Option (List ℕ)) (p : ℕ) (seen : List ℕ) → 0 < length seen

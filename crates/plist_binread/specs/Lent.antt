@@ -1,12 +1,10 @@
 -- What lies in bytes that are lent, and where the references of a collection stand.
 use Rattle.std.specs.Prelude.{◌≡◌, ℕ, ◌+◌, ◌-◌, ◌*◌, ◌/◌, ◌%◌, ◌<◌, ◌≤◌, true, List, [], ◌∷◌, ◌++◌, Option, Some, Result, Ok, Err, MatchOption, MatchResult, length, take, drop, get_or, cond, nat_eq}
 use Rattle.plist_base.specs.declared.error.Error.{Error}
-use Rattle.plist_base.specs.Faults.{FaultKind, ObjectOffsetTooLarge, NullObjectUnimplemented, FillObjectUnimplemented, UnknownObjectType, IntegerOutOfRange, OverflowOrNanDate}
+use Rattle.plist_base.specs.Faults.{ObjectOffsetTooLarge, NullObjectUnimplemented, FillObjectUnimplemented, UnknownObjectType, IntegerOutOfRange, OverflowOrNanDate}
 use Rattle.plist_base.specs.Events.{PlainEvent, EndCollection, Item, event_of}
 use Rattle.plist_base.specs.declared.event.Event.{Event}
 use Rattle.plist_binread.specs.declared.child.Asked.{Asked}
-use Rattle.plist_binread.specs.declared.lent.Flaw.{Flaw}
-use Rattle.plist_binread.specs.declared.lent.Flaw.TheVariants as flaw
 use Rattle.plist_binread.specs.declared.lent.Lent.{Lent}
 use Rattle.plist_binread.specs.declared.lent.Lent.TheVariants as lent
 use Rattle.plist_binread.specs.declared.table.Bounds.{Bounds}
@@ -19,27 +17,29 @@ use Rattle.plist_binread.specs.Object.{Object, Faulty, object_in}
 use Rattle.plist_binread.specs.Packed.{is_small_event, unmarked}
 use Rattle.plist_binread.specs.Unfolding.{Entry, unfolding_of, until_fault}
 
--- the fault of an object that has this flaw
-abbrev pub kind_of_flaw : Flaw → FaultKind
-kind_of_flaw flaw.TooLarge = ObjectOffsetTooLarge
-kind_of_flaw flaw.Null = NullObjectUnimplemented
-kind_of_flaw flaw.Fill = FillObjectUnimplemented
-kind_of_flaw (flaw.Unknown marker) = UnknownObjectType marker
-kind_of_flaw flaw.OutOfRange = IntegerOutOfRange
-kind_of_flaw flaw.NoDate = OverflowOrNanDate
-
 -- what was lent is this object: the scalar that is told, a collection whose start is told, or a
 -- fault
 abbrev pub IsLentAs : Object → (told : PlainEvent) → Lent → Type 0
 IsLentAs object told lent.Nothing = Unit {0}
-IsLentAs object told (lent.Faulty flaw) = object ≡ Faulty (kind_of_flaw flaw)
+IsLentAs object told lent.TooLarge = object ≡ Faulty ObjectOffsetTooLarge
+IsLentAs object told lent.Null = object ≡ Faulty NullObjectUnimplemented
+IsLentAs object told lent.Fill = object ≡ Faulty FillObjectUnimplemented
+IsLentAs object told (lent.Unknown marker) =
+    (marker < 256) × (object ≡ Faulty (UnknownObjectType marker))
+IsLentAs object told lent.OutOfRange = object ≡ Faulty IntegerOutOfRange
+IsLentAs object told lent.NoDate = object ≡ Faulty OverflowOrNanDate
 IsLentAs object told lent.Scalar = single_in object ≡ Some told
 IsLentAs object told (lent.Collection count) = IsCollection object told count
 
 -- how many small objects were decoded
 abbrev pub small_lent : Lent → (told : PlainEvent) → ℕ
 small_lent lent.Nothing told = 0
-small_lent (lent.Faulty flaw) told = 0
+small_lent lent.TooLarge told = 0
+small_lent lent.Null told = 0
+small_lent lent.Fill told = 0
+small_lent (lent.Unknown marker) told = 0
+small_lent lent.OutOfRange told = 0
+small_lent lent.NoDate told = 0
 small_lent lent.Scalar told = cond (is_small_event told) 1 0
 small_lent (lent.Collection count) told = 0
 

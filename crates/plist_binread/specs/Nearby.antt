@@ -13,9 +13,8 @@ use Rattle.plist_binread.specs.Lent.{IsLentAs, small_lent}
 use Rattle.plist_binread.specs.Object.{Array, Object, dictionary, layout_of, length_in, meaning_counted, meaning_of_front, object_behind, text_of_units}
 use Rattle.plist_binread.specs.Packed.{content_bytes, is_small_event, scalar_of, single}
 use Rattle.plist_binread.specs.Told.{event_in}
-use Rattle.plist_binread.specs.declared.lent.Flaw.TheVariants.{TooLarge}
 use Rattle.plist_binread.specs.declared.lent.Lent.{Lent}
-use Rattle.plist_binread.specs.declared.lent.Lent.TheVariants.{Nothing, Faulty}
+use Rattle.plist_binread.specs.declared.lent.Lent.TheVariants.{Nothing, TooLarge}
 use Rattle.plist_binread.specs.declared.told.Last.{Last}
 
 -- ---- what stands at the front of bytes
@@ -107,7 +106,7 @@ IsFarOrLarge room seen lent =
 
 -- what is said where so many bytes of an object are too few
 abbrev pub cut_at : (room size : ℕ) → Lent
-cut_at room size = if nat_lt size room then Nothing else Faulty TooLarge
+cut_at room size = if nat_lt size room then Nothing else TooLarge
 
 -- one for a small object that is lent, by which the counter rises
 abbrev pub small_told : Lent → Last → ℕ

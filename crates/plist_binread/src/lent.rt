@@ -17,9 +17,13 @@ use crate::numbers::number_from;
 use crate::told::{Last, Told};
 use plist_base::{Date, Event, RealBits};
 
-/// What is wrong with an object.
+/// What lies whole in the bytes that are seen of an object, or what is wrong with it.
+///
+/// It is a tag and a number, and no more, since one is made for each item.
 #[derive(Clone, Copy)]
-pub enum Flaw {
+pub enum Lent {
+    /// Not all that is needed, or a text or data that is refused or that no room was found for.
+    Nothing,
     /// It doesn't end before the trailer.
     TooLarge,
     /// It is a null.
@@ -27,20 +31,11 @@ pub enum Flaw {
     /// It is a fill byte.
     Fill,
     /// No object has this marker.
-    Unknown(u8),
+    Unknown(u64),
     /// The number isn't one of 64 bits without sign.
     OutOfRange,
     /// It is no date.
     NoDate,
-}
-
-/// What lies whole in the bytes that are seen of an object.
-#[derive(Clone, Copy)]
-pub enum Lent {
-    /// Not all that is needed, or a text or data that is refused or that no room was found for.
-    Nothing,
-    /// An object that is refused.
-    Faulty(Flaw),
     /// A scalar, which is told.
     Scalar,
     /// A collection of so many children, whose start is told.
@@ -68,7 +63,7 @@ fn too_few(rest: &[u8], room: u64) -> Lent
     if (rest.len() as u64) < room {
         return Lent::Nothing;
     }
-    Lent::Faulty(Flaw::TooLarge)
+    Lent::TooLarge
 }
 
 // The content of an object of a fixed size.
@@ -154,7 +149,7 @@ fn lent_wide(rest: &[u8], room: u64, last: &mut Last) -> Lent
     let high = number_from(&rest[..8]);
     let low = number_from(&rest[8..16]);
     if high != 0 {
-        return Lent::Faulty(Flaw::OutOfRange);
+        return Lent::OutOfRange;
     }
     last.tell(Told::Unsigned(low));
     Lent::Scalar
@@ -214,7 +209,7 @@ fn lent_date(rest: &[u8], room: u64, last: &mut Last) -> Lent
                 last.hold(Event::Date(date));
                 Lent::Scalar
             }
-            Err(_) => Lent::Faulty(Flaw::NoDate),
+            Err(_) => Lent::NoDate,
         },
         None => too_few(rest, room),
     }
@@ -296,7 +291,7 @@ fn lent_count(marker: u8, rest: &[u8], room: u64, size: u64) -> Result<u64, Lent
             let left = room - (rest.len() - behind.len()) as u64;
             match count.checked_mul(size) {
                 Some(all) if all <= left => Ok(count),
-                _ => Err(Lent::Faulty(Flaw::TooLarge)),
+                _ => Err(Lent::TooLarge),
             }
         }
         None => Err(too_few(rest, room)),
@@ -341,10 +336,10 @@ fn lent_behind(marker: u8, rest: &[u8], room: u64, width: usize, last: &mut Last
     ensures far { IsFarOrText marker room rest.now result }
 {
     match marker {
-        0x00 => Lent::Faulty(Flaw::Null),
+        0x00 => Lent::Null,
         0x08 => last.tell_boolean(false),
         0x09 => last.tell_boolean(true),
-        0x0f => Lent::Faulty(Flaw::Fill),
+        0x0f => Lent::Fill,
         0x10 => lent_unsigned(rest, room, 1, last),
         0x11 => lent_unsigned(rest, room, 2, last),
         0x12 => lent_unsigned(rest, room, 4, last),
@@ -359,7 +354,7 @@ fn lent_behind(marker: u8, rest: &[u8], room: u64, width: usize, last: &mut Last
         0x80..=0x87 => lent_uid(rest, room, usize::from(marker - 0x7f), last),
         0xa0..=0xaf => lent_array(marker, rest, room, width, last),
         0xd0..=0xdf => lent_dictionary(marker, rest, room, width, last),
-        other => Lent::Faulty(Flaw::Unknown(other)),
+        other => Lent::Unknown(u64::from(other)),
     }
 }
 

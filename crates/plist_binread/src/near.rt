@@ -42,7 +42,13 @@ pub fn open_lent(walk: &mut Walk, number: u64, lent: Lent, last: &Last) -> bool
     ensures wanted { result ≡ false → WantsRoom lent }
 {
     match lent {
-        Lent::Nothing | Lent::Faulty(_) => false,
+        Lent::Nothing
+        | Lent::TooLarge
+        | Lent::Null
+        | Lent::Fill
+        | Lent::Unknown(_)
+        | Lent::OutOfRange
+        | Lent::NoDate => false,
         Lent::Scalar => match last.pack() {
             Some((tag, content)) => {
                 keep(

@@ -3,36 +3,27 @@
 ghost use Rattle.std.specs.Prelude.{ℕ, ◌≡◌, ◌+◌, ◌<◌, ◌≤◌};
 ghost use Rattle.plist_base.specs.Faults.{fault_of};
 ghost use Rattle.plist_base.specs.Sources.{AnswersIo, CountsIo};
-ghost use Rattle.plist_binread.specs.Decoding.{IsLarge, IsRefusedAs};
+ghost use Rattle.plist_binread.specs.Decoding.{IsLarge, IsUnknownAt};
 ghost use Rattle.plist_binread.specs.Failures.{ErrWithin, FailsWithin};
-ghost use Rattle.plist_binread.specs.Lent.{kind_of_flaw};
-ghost use Rattle.plist_binread.specs.Object.{Faulty};
 ghost use Rattle.plist_binread.specs.Behind.{DecodesAt, object_of};
 ghost use Rattle.plist_binread.specs.Nearby.{CountsFound, TellsObject};
 
 use crate::counter::DecodeCounter;
-use crate::lent::{Flaw, Lent, decode_lent};
+use crate::lent::{Lent, decode_lent};
 use crate::table::Bounds;
 use crate::text::{read_data, read_text, read_wide_text};
 use crate::told::Last;
 use plist_base::{Error, ErrorKind, OwnedEvent, Source, read_exact_at};
 use std::alloc::Global;
 
-// The fault of the object at a place that has this flaw.
-fn refuse(flaw: Flaw, place: u64) -> Error
-    ensures refused { IsRefusedAs (Faulty (kind_of_flaw flaw)) place result }
+// The fault of the object at a place whose marker no object has.
+fn unknown(marker: u64, place: u64) -> Error
+    ensures refused { marker < 256 → IsUnknownAt marker place result }
     ensures fault { (end : ℕ) → FailsWithin place end (fault_of result) }
     ensures failures { (count : ℕ) → CountsIo result count count }
 {
-    let kind = match flaw {
-        Flaw::TooLarge => ErrorKind::ObjectOffsetTooLarge,
-        Flaw::Null => ErrorKind::NullObjectUnimplemented,
-        Flaw::Fill => ErrorKind::FillObjectUnimplemented,
-        Flaw::Unknown(marker) => ErrorKind::UnknownObjectType(marker),
-        Flaw::OutOfRange => ErrorKind::IntegerOutOfRange,
-        Flaw::NoDate => ErrorKind::OverflowOrNanDate,
-    };
-    kind.with_byte_offset(place)
+    let marker = u8::try_from(marker).unwrap_or(u8::MAX);
+    ErrorKind::UnknownObjectType(marker).with_byte_offset(place)
 }
 
 // Reads the text or data at a place, whose marker is this, and which isn't small.
@@ -89,7 +80,12 @@ pub fn decode<S: Source, C: DecodeCounter>(
     match decode_lent(seen, room, bounds.reference_width, counter, last) {
         Lent::Scalar => Ok(Lent::Scalar),
         Lent::Collection(count) => Ok(Lent::Collection(count)),
-        Lent::Faulty(flaw) => Err(refuse(flaw, place)),
+        Lent::TooLarge => Err(ErrorKind::ObjectOffsetTooLarge.with_byte_offset(place)),
+        Lent::Null => Err(ErrorKind::NullObjectUnimplemented.with_byte_offset(place)),
+        Lent::Fill => Err(ErrorKind::FillObjectUnimplemented.with_byte_offset(place)),
+        Lent::Unknown(marker) => Err(unknown(marker, place)),
+        Lent::OutOfRange => Err(ErrorKind::IntegerOutOfRange.with_byte_offset(place)),
+        Lent::NoDate => Err(ErrorKind::OverflowOrNanDate.with_byte_offset(place)),
         Lent::Nothing => {
             let event = read_large(alloc, source, bounds, place, seen[0])?;
             last.hold(event);
