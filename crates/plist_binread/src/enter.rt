@@ -1,7 +1,6 @@
 //! Entering an object that is read: its first item.
 
-ghost use Rattle.std.specs.Prelude.{◌≡◌, ◌+◌, ◌-◌, ◌<◌, length, get_or, false, IfOk, IfErr, OnOk, IfSome, Some, ⊤};
-ghost use Rattle.plist_base.specs.Outcomes.{OnlyMemory};
+ghost use Rattle.std.specs.Prelude.{◌≡◌, ◌-◌, ◌<◌, length, get_or, false, IfOk, IfErr, OnOk, IfSome, ⊤};
 ghost use Rattle.plist_base.specs.Faults.{MatchFault, kind_of, error_kind_of};
 ghost use Rattle.plist_base.specs.Sources.{AnswersIo};
 ghost use Rattle.plist_binread.specs.Packed.{is_marked};

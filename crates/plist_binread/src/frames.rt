@@ -1,6 +1,6 @@
 //! The open collections, each in few bytes.
 
-ghost use Rattle.std.specs.Prelude.{◌≡◌, List, [], ◌∷◌, ◌++◌, reverse, IfSome, OnOk, OnErr, MatchOption};
+ghost use Rattle.std.specs.Prelude.{◌≡◌, List, [], ◌∷◌, ◌++◌, reverse, IfSome, OnOk, OnErr};
 ghost use Rattle.plist_binread.specs.Frames.{AsksFor, IsLast, frame_of, widened};
 ghost use Rattle.plist_binread.specs.Turning.{given_back};
 

@@ -1,6 +1,6 @@
 //! One object, read from its bytes.
 
-ghost use Rattle.std.specs.Prelude.{ℕ, ◌≡◌, ◌+◌, ◌<◌, ◌≤◌};
+ghost use Rattle.std.specs.Prelude.{ℕ, ◌≡◌, ◌<◌, ◌≤◌};
 ghost use Rattle.plist_base.specs.Faults.{fault_of};
 ghost use Rattle.plist_base.specs.Sources.{AnswersIo, CountsIo};
 ghost use Rattle.plist_binread.specs.Decoding.{IsLarge, IsUnknownAt};
