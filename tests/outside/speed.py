@@ -42,10 +42,8 @@ SECONDS = 60
 PASSES = 10
 # a program that takes so many seconds isn't run again
 LONG = 2
-# of fewer objects the memory isn't told: what is the same for each file would count for them
-MANY = 50_000
-# what the windows over a file take
-WINDOWS = 1 << 20
+# of fewer objects the memory isn't told: up to 1 MiB of windows would count for them
+MANY = 500_000
 
 # ---- the files
 
@@ -326,7 +324,7 @@ def print_table(path, sizes, known):
     # enough for the program to be looked at
     make(path, "doubling, 2^17 arrays")
     few = best([measure([*known["plist_tool"], path]) for _ in range(RUNS)])
-    memory = (few or (0, 0))[1] + WINDOWS
+    memory = (few or (0, 0))[1]
     heading(["shape", "bytes", *known, "bytes an object"])
     grown = {}
     for shape in SHAPES:
