@@ -1,6 +1,6 @@
 //! Where a walk stands: the collections that are open, and what is held of each object.
 
-ghost use Rattle.std.specs.Prelude.{◌≡◌, ◌<◌, length, reverse, true, OnErr};
+ghost use Rattle.std.specs.Prelude.{◌≡◌, ◌<◌, length, reverse, true};
 ghost use Rattle.std.proofs.Props.{props};
 ghost use Rattle.plist_binread.specs.declared.walk.Turn.TheVariants.{Closed};
 ghost use Rattle.plist_binread.specs.Debt.{IsOpen};
