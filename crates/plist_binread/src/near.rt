@@ -30,6 +30,7 @@ fn push_near(frames: &mut Frames, object: u64, count: u64) -> bool
 
 /// Keeps what was lent and told where it is a small scalar, and opens it where it is a collection.
 /// It answers no, and nothing has changed, where room for that is wanted or nothing was lent.
+#[inline(always)]
 pub fn open_lent(walk: &mut Walk, number: u64, lent: Lent, last: &Last) -> bool
     requires below { number < objects_of walk.old }
     requires new { get_or walk.old.tags.items number 0 ≡ 0 }

@@ -1,4 +1,5 @@
 pub mod Dates
+pub mod Digits
 pub mod HeldBack
 pub mod Steps
 pub mod Streaming

@@ -1,16 +1,19 @@
 //! The line of each event.
 
-ghost use Rattle.std.specs.Prelude.{◌≡◌, ◌++◌, ◌<◌, true, OnOk};
+ghost use Rattle.std.specs.Prelude.{◌≡◌, ◌++◌, ◌<◌, length, true, OnOk};
 ghost use Rattle.std.specs.Fmt.{decimal, signed_decimal};
 ghost use Rattle.plist_base.specs.Events.{event_of};
 ghost use Rattle.plist_base.specs.Trees.{String};
 ghost use Rattle.plist_binread.specs.Telling.{event_told};
 ghost use Rattle.plist_tool.specs.Lines.{hexadecimal, hexadecimal_digit, stands_for_itself, text_of_byte, text_of_bytes, text_of_data, text_of_date, text_of_real, text_of_start, words_of, words_of_scalar, line_of};
 
-use itoa::Buffer;
+use itoa::{Buffer, write_digits};
 use plist_base::{Date, Event, Integer, RealBits, Source};
 use plist_binread::{BinaryReader, Told};
 use std::alloc::AllocError;
+
+// No number has more digits.
+const MOST_DIGITS: usize = 20;
 
 fn hexadecimal_digit_of(value: u8) -> u8
     requires { value < 16 }
@@ -122,7 +125,50 @@ fn push_integer(line: &mut Vec<u8>, integer: Integer) -> Result<(), AllocError>
     }
 }
 
+// How many digits a number has.
+fn digits_of(number: u64) -> usize
+    ensures { result ≡ length (decimal number) }
+{
+    match number {
+        0..=9 => 1,
+        10..=99 => 2,
+        100..=999 => 3,
+        1_000..=9_999 => 4,
+        10_000..=99_999 => 5,
+        100_000..=999_999 => 6,
+        1_000_000..=9_999_999 => 7,
+        10_000_000..=99_999_999 => 8,
+        100_000_000..=999_999_999 => 9,
+        1_000_000_000..=9_999_999_999 => 10,
+        10_000_000_000..=99_999_999_999 => 11,
+        100_000_000_000..=999_999_999_999 => 12,
+        1_000_000_000_000..=9_999_999_999_999 => 13,
+        10_000_000_000_000..=99_999_999_999_999 => 14,
+        100_000_000_000_000..=999_999_999_999_999 => 15,
+        1_000_000_000_000_000..=9_999_999_999_999_999 => 16,
+        10_000_000_000_000_000..=99_999_999_999_999_999 => 17,
+        100_000_000_000_000_000..=999_999_999_999_999_999 => 18,
+        1_000_000_000_000_000_000..=9_999_999_999_999_999_999 => 19,
+        _ => 20,
+    }
+}
+
+// A number behind its word. Its digits are written where they stay: a copy of bytes that were just
+// stored waits for them, which took an eighth of the time of a list of integers.
+#[inline(always)]
+fn push_number(line: &mut Vec<u8>, word: &[u8], number: u64) -> Result<(), AllocError>
+    ensures { OnOk result (line.new.items ≡ line.old.items ++ word.now ++ decimal number) }
+{
+    line.extend_from_slice(word)?;
+    line.extend_from_slice(&[b'0'; MOST_DIGITS])?;
+    let end = line.len() - (MOST_DIGITS - digits_of(number));
+    write_digits(number, line.as_mut_slice(), end);
+    line.truncate(end);
+    Ok(())
+}
+
 // The word of a start, and its length where that is known.
+#[inline(always)]
 fn push_start(line: &mut Vec<u8>, word: &[u8], length: Option<u64>) -> Result<(), AllocError>
     ensures { OnOk result (line.new.items ≡ line.old.items ++ text_of_start word.now length) }
 {
@@ -130,8 +176,7 @@ fn push_start(line: &mut Vec<u8>, word: &[u8], length: Option<u64>) -> Result<()
     let Some(length) = length else {
         return Ok(());
     };
-    line.push(b' ')?;
-    line.extend_from_slice(Buffer::new().format(length).as_bytes())
+    push_number(line, b" ", length)
 }
 
 // A text between its quotes.
@@ -142,14 +187,6 @@ fn push_string(line: &mut Vec<u8>, text: &str) -> Result<(), AllocError>
     push_text(line, text.as_bytes())?;
     line.push(b'"')?;
     Ok(())
-}
-
-// A number behind its word.
-fn push_number(line: &mut Vec<u8>, word: &[u8], number: u64) -> Result<(), AllocError>
-    ensures { OnOk result (line.new.items ≡ line.old.items ++ word.now ++ decimal number) }
-{
-    line.extend_from_slice(word)?;
-    line.extend_from_slice(Buffer::new().format(number).as_bytes())
 }
 
 fn push_words(line: &mut Vec<u8>, event: &Event<'_>) -> Result<(), AllocError>
@@ -178,10 +215,7 @@ fn push_words(line: &mut Vec<u8>, event: &Event<'_>) -> Result<(), AllocError>
             push_real(line, *real)
         }
         Event::String(text) => push_string(line, text.as_str()),
-        Event::Uid(uid) => {
-            line.extend_from_slice(b"Uid ")?;
-            line.extend_from_slice(Buffer::new().format(uid.get()).as_bytes())
-        }
+        Event::Uid(uid) => push_number(line, b"Uid ", uid.get()),
     }
 }
 
