@@ -4,11 +4,10 @@ ghost use Rattle.std.specs.Prelude.{◌≡◌, ◌<◌, length, IfOk, OnOk};
 ghost use Rattle.plist_base.specs.Outcomes.{OnlyMemory};
 ghost use Rattle.plist_binwrite.specs.Held.{plain_events, AllBelow};
 ghost use Rattle.plist_binwrite.specs.inner.PlansBy.{HaveIds};
-ghost use Rattle.plist_binwrite.specs.inner.Numbering.{BeginsAt, IsPlanOf, KeepsNumbers, NumbersItem, NumbersItems, NumbersRoot, NumbersTree};
+ghost use Rattle.plist_binwrite.specs.inner.Numbering.{BeginsAt, IsPlanOf, KeepsNumbers, NumbersChildren, NumbersHalf, NumbersItem, NumbersItems, NumbersRoot, NumbersTree};
 
-use crate::children::children;
 use crate::held::Held;
-use crate::kinds::push_place;
+use crate::kinds::{Kind, half_of, push_place};
 use plist_base::Error;
 use std::alloc::Global;
 
@@ -27,7 +26,6 @@ fn number_one(
     requires plan { IsPlanOf events.now classes.now numbers.old firsts.old }
     requires ids { HaveIds classes.now ids.old.items firsts.old.items }
     requires long { length classes.now ≡ length (plain_events events.now) }
-    requires place { place < length (plain_events events.now) }
     ensures plan { OnOk result (IsPlanOf events.now classes.now numbers.new firsts.new) }
     ensures ids { OnOk result (HaveIds classes.now ids.new.items firsts.new.items) }
     ensures keeps { OnOk result (KeepsNumbers numbers.old firsts.old numbers.new firsts.new) }
@@ -54,28 +52,89 @@ fn number_one(
     Ok(())
 }
 
-fn number_all(
+// Numbers the items of an array from here on.
+fn number_items(
     events: &Held<'_>,
     classes: &[usize],
     ids: &mut Vec<usize>,
     numbers: &mut Vec<usize>,
     firsts: &mut Vec<usize>,
-    places: &[usize],
+    from: usize,
 ) -> Result<(), Error>
     requires plan { IsPlanOf events.now classes.now numbers.old firsts.old }
     requires ids { HaveIds classes.now ids.old.items firsts.old.items }
     requires long { length classes.now ≡ length (plain_events events.now) }
-    requires places { AllBelow (length (plain_events events.now)) places.now }
     ensures plan { OnOk result (IsPlanOf events.now classes.now numbers.new firsts.new) }
     ensures ids { OnOk result (HaveIds classes.now ids.new.items firsts.new.items) }
     ensures keeps { OnOk result (KeepsNumbers numbers.old firsts.old numbers.new firsts.new) }
-    ensures numbered { OnOk result (NumbersItems events.now places.now numbers.new firsts.new) }
+    ensures numbered { OnOk result (NumbersItems events.now from numbers.new firsts.new) }
     ensures memory { OnlyMemory result }
 {
-    for place in places {
-        number_one(events, classes, ids, numbers, firsts, *place)?;
+    let mut place = from;
+    'walk: while events.has_item(place) {
+        number_one(events, classes, ids, numbers, firsts, place)?;
+        place = events.skip(place);
     }
     Ok(())
+}
+
+// Numbers the values of a dictionary, or its keys, from here on.
+fn number_halves(
+    events: &Held<'_>,
+    classes: &[usize],
+    ids: &mut Vec<usize>,
+    numbers: &mut Vec<usize>,
+    firsts: &mut Vec<usize>,
+    from: usize,
+    values: bool,
+) -> Result<(), Error>
+    requires plan { IsPlanOf events.now classes.now numbers.old firsts.old }
+    requires ids { HaveIds classes.now ids.old.items firsts.old.items }
+    requires long { length classes.now ≡ length (plain_events events.now) }
+    ensures plan { OnOk result (IsPlanOf events.now classes.now numbers.new firsts.new) }
+    ensures ids { OnOk result (HaveIds classes.now ids.new.items firsts.new.items) }
+    ensures keeps { OnOk result (KeepsNumbers numbers.old firsts.old numbers.new firsts.new) }
+    ensures numbered { OnOk result (NumbersHalf events.now values from numbers.new firsts.new) }
+    ensures memory { OnlyMemory result }
+{
+    let mut key = from;
+    'walk: while events.has_item(key) {
+        let place = half_of(key, key + 1, values);
+        number_one(events, classes, ids, numbers, firsts, place)?;
+        key = events.skip_pair(key);
+    }
+    Ok(())
+}
+
+// Numbers the keys of the collection that begins here, and then its values.
+fn number_children(
+    events: &Held<'_>,
+    classes: &[usize],
+    ids: &mut Vec<usize>,
+    numbers: &mut Vec<usize>,
+    firsts: &mut Vec<usize>,
+    place: usize,
+) -> Result<(), Error>
+    requires plan { IsPlanOf events.now classes.now numbers.old firsts.old }
+    requires ids { HaveIds classes.now ids.old.items firsts.old.items }
+    requires long { length classes.now ≡ length (plain_events events.now) }
+    requires place { place < length (plain_events events.now) }
+    ensures plan { OnOk result (IsPlanOf events.now classes.now numbers.new firsts.new) }
+    ensures ids { OnOk result (HaveIds classes.now ids.new.items firsts.new.items) }
+    ensures keeps { OnOk result (KeepsNumbers numbers.old firsts.old numbers.new firsts.new) }
+    ensures numbered { OnOk result (NumbersChildren events.now place numbers.new firsts.new) }
+    ensures memory { OnlyMemory result }
+{
+    let inside = place + 1;
+    match events.kind_at(place) {
+        Kind::Array => number_items(events, classes, ids, numbers, firsts, inside),
+        Kind::Dictionary => {
+            number_halves(events, classes, ids, numbers, firsts, inside, false)?;
+            number_halves(events, classes, ids, numbers, firsts, inside, true)?;
+            Ok(())
+        }
+        _ => Ok(()),
+    }
 }
 
 /// The number of each held event's object, and by number the place of the first event of that
@@ -104,30 +163,12 @@ pub fn number_by_class(
     let mut numbers = vec![in alloc; NO_NUMBER; events.len()]?;
     let mut firsts = Vec::new(alloc);
     let mut ids = vec![in alloc; NO_NUMBER; count]?;
-    let mut keys = Vec::new(alloc);
-    let mut values = Vec::new(alloc);
     if events.len() == 0 {
         return Ok(Numbering { numbers, firsts });
     }
     number_one(events, classes, &mut ids, &mut numbers, &mut firsts, 0)?;
     for place in 0..events.len() {
-        children(events, place, &mut keys, &mut values)?;
-        number_all(
-            events,
-            classes,
-            &mut ids,
-            &mut numbers,
-            &mut firsts,
-            keys.as_slice(),
-        )?;
-        number_all(
-            events,
-            classes,
-            &mut ids,
-            &mut numbers,
-            &mut firsts,
-            values.as_slice(),
-        )?;
+        number_children(events, classes, &mut ids, &mut numbers, &mut firsts, place)?;
     }
     Ok(Numbering { numbers, firsts })
 }

@@ -1,13 +1,13 @@
 //! Puts the objects of a planned file.
 
-ghost use Rattle.std.specs.Prelude.{◌≡◌, ◌<◌, ◌≤◌, if◌then◌else◌, length};
+ghost use Rattle.std.specs.Prelude.{◌≡◌, ◌<◌, ◌≤◌, length};
 ghost use Rattle.plist_binwrite.specs.Held.{AllBelow};
 ghost use Rattle.plist_binwrite.specs.inner.Planning.{IsPlanned, count_of};
 ghost use Rattle.plist_binwrite.specs.inner.Putting.{PutsArray, PutsDictionary, PutsHalf, PutsItems, PutsObject, PutsOrder, events_in};
 
 use crate::forms::{put_length, put_number, put_scalar};
 use crate::held::Held;
-use crate::kinds::Kind;
+use crate::kinds::{Kind, half_of};
 use crate::plan::Plan;
 use crate::size::count_items;
 use plist_base::Error;
@@ -42,15 +42,6 @@ fn put_items<W: Write>(
         place = file.events.skip(place);
     }
     Ok(())
-}
-
-// One of a pair's children.
-fn half_of(key: usize, value: usize, of_values: bool) -> usize
-    requires { key ≤ value }
-    ensures half { result ≡ (if of_values then value else key) }
-    ensures within { result ≤ value }
-{
-    if of_values { value } else { key }
 }
 
 // Puts references to the values of a dictionary, or to its keys, from here on.

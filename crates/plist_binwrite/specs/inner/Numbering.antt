@@ -1,12 +1,14 @@
 -- Words for the numbers that held events have so far, and for what a call does to them.
-use Rattle.std.specs.Prelude.{◌≡◌, ℕ, ◌<◌, false, List, length, get_or}
+use Rattle.std.specs.Prelude.{◌≡◌, ℕ, Bool, false, List, length, get_or}
+use Rattle.std.specs.List.{AllByRecursion}
 use Rattle.std.specs.declared.alloc.Global.{Global}
 use Rattle.std.specs.declared.vec.Vec.{Vec}
 use Rattle.plist_base.specs.Bracketing.{shape}
-use Rattle.plist_base.specs.Trees.{Tree}
+use Rattle.plist_base.specs.Trees.{Tree, Trees, Members}
+use Rattle.plist_binwrite.specs.Standing.{Sits, SitsItems, SitsPairs}
 use Rattle.plist_binwrite.specs.declared.held.Held.{Held}
 use Rattle.plist_binwrite.specs.declared.numbering.Numbering.{Numbering}
-use Rattle.plist_binwrite.specs.Held.{plain_events, is_stop, event_at, num_of, AllNumbered, IsNumbered, Keeps}
+use Rattle.plist_binwrite.specs.Held.{plain_events, is_stop, event_at, num_of, item_places, half_places, keys_in, values_in, AllNumbered, IsNumbered, Keeps}
 use Rattle.plist_binwrite.specs.inner.PlansBy.{IsPlan}
 
 -- the numbers given so far go by these classes
@@ -25,10 +27,24 @@ NumbersItem held place numbers firsts =
     is_stop (event_at (plain_events held) place) ≡ false
     → IsNumbered numbers.items firsts.items place
 
--- the items that stand at these places have numbers
-abbrev pub NumbersItems : Held → (places : List ℕ) → (numbers firsts : Vec ℕ Global) → Type 0
-NumbersItems held places numbers firsts =
-    (i : ℕ) → i < length places → NumbersItem held (get_or places i 0) numbers firsts
+module _ (held : Held) where
+  -- the items of an array have numbers, from here on
+  abbrev pub NumbersItems : (from : ℕ) → (numbers firsts : Vec ℕ Global) → Type 0
+  NumbersItems from numbers firsts = (ts : Trees) → SitsItems (plain_events held) ts from
+      → AllByRecursion (IsNumbered numbers.items firsts.items) (item_places ts from)
+
+  -- the values of a dictionary have, or its keys
+  abbrev pub NumbersHalf : (of_values : Bool) → (from : ℕ) → (numbers firsts : Vec ℕ Global)
+      → Type 0
+  NumbersHalf of_values from numbers firsts =
+      (ms : Members) → SitsPairs (plain_events held) ms from
+      → AllByRecursion (IsNumbered numbers.items firsts.items) (half_places of_values ms from)
+
+  -- the keys and the values of the collection that begins here have
+  abbrev pub NumbersChildren : (place : ℕ) → (numbers firsts : Vec ℕ Global) → Type 0
+  NumbersChildren place numbers firsts = (t : Tree) → Sits (plain_events held) t place
+      → AllByRecursion (IsNumbered numbers.items firsts.items) (keys_in t place)
+      × AllByRecursion (IsNumbered numbers.items firsts.items) (values_in t place)
 
 -- an item that is numbered before all others has the first number
 abbrev pub BeginsAt : Held → (place : ℕ) → (old_firsts new_firsts : Vec ℕ Global) → Type 0

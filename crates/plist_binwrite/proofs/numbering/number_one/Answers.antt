@@ -26,7 +26,7 @@ small c =
     )
 
 within : (c : After-numbers-2-1) → c.args.place < length (plain_events c.args.events.now)
-within c = c.requires.place
+within c = (c.if-not-has_item.ensures.yes refl).0
 
 unnumbered : (c : After-numbers-2-1)
     → length c.args.firsts.now.items ≤ get_or c.args.numbers.now.items c.args.place 0
@@ -48,7 +48,7 @@ returns-clause-ids c =
     (subst (λ l. HaveIds c.args.classes.now (set c.args.ids.now.items
     (num_of c.args.classes.now c.args.place) (length c.args.firsts.now.items)) l) (sym (pushed c))
     (ids_new c.args.classes.now c.args.ids.now.items c.args.firsts.now.items c.requires.ids
-    c.args.place (omega (arith, c.requires.place, c.requires.long)) (small c) (without c)))
+    c.args.place (omega (arith, within c, c.requires.long)) (small c) (without c)))
 
 pub returns-clause-plan : goal.returns-clause-plan
 returns-clause-plan c =
@@ -60,4 +60,4 @@ returns-clause-plan c =
     (num_of c.args.classes.now) c.args.numbers.now.items c.args.firsts.now.items c.args.place
     c.requires.plan (within c) (unnumbered c) (small c) (c.if-not-has_item.ensures.yes refl).1
     (none_yet c.args.classes.now c.args.ids.now.items c.args.firsts.now.items c.requires.ids
-    c.args.place (omega (arith, c.requires.place, c.requires.long)) (small c) (without c))))
+    c.args.place (omega (arith, within c, c.requires.long)) (small c) (without c))))

@@ -1,0 +1,15 @@
+use Rattle.std.proofs.Common.{◌∙◌, sym}
+use Rattle.plist_binwrite.specs.Held.{IsNumbered}
+use Rattle.plist_binwrite.proofs.Numbered.{dictionary_whole}
+use Rattle.plist_binwrite.proofs.numbering.number_children.Goals as goal
+
+pub returns-in_ok-number_halves-in-Dictionary-2-clause-numbered :
+    goal.returns-in_ok-number_halves-in-Dictionary-2-clause-numbered
+returns-in_ok-number_halves-in-Dictionary-2-clause-numbered c =
+    let keys = c.in_ok-number_halves-in-Dictionary.ensures in
+    let values = c.in_ok-number_halves-in-Dictionary-2.ensures in
+    dictionary_whole
+    (IsNumbered c.number_halves.new.numbers.items c.number_halves.new.firsts.items)
+    (IsNumbered c.number_halves-in-Dictionary.new.numbers.items
+    c.number_halves-in-Dictionary.new.firsts.items) c.args.place
+    (sym c.kind_at.ensures ∙ c.in-Dictionary.is) values.keeps.numbered keys.numbered values.numbered
