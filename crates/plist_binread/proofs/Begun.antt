@@ -16,7 +16,6 @@ use Rattle.plist_binread.specs.Object.{Object}
 use Rattle.plist_binread.specs.Unfolding.{table_of, items_of, unfolding_of, until_fault, items_with, items_of_file}
 use Rattle.plist_binread.specs.declared.table.Bounds.{Bounds}
 use Rattle.plist_binread.specs.Debt.{path_of, owed_by, entries_of, places_with, places_of, IsHeld, IsKnown, IsOwed, WantsMemory, Pays}
-use Rattle.plist_binread.specs.Turning.{IsKept}
 use Rattle.plist_binread.specs.inner.Tables.{head_seen}
 use Rattle.plist_binread.proofs.Steps.{slice_get-within, slice_get-beyond, items_beyond, items_step, owed_at}
 use Rattle.plist_binread.proofs.Opened.{get_or-zeros}
@@ -158,11 +157,6 @@ known_begun (Some bytes) now table bounds tags fs gs answer same len count trail
     (unfolding_of (entries_of bytes bounds) (length table.places.items) [] table.trailer
     table.root))))
     pays'
-
--- a fault keeps nothing
-kept_fault : (number : Option ℕ) (e : Error) (tags : List ℕ) → IsKept number (Some (Err e)) tags
-kept_fault None e tags = tt
-kept_fault (Some number) e tags = tt
 
 pub known_few : (known : Option (List ℕ)) (tags : List ℕ) → length tags ≡ 0
     → IfSome known (λ bytes. length tags ≤ length (places_of bytes))

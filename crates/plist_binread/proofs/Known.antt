@@ -223,19 +223,6 @@ Entered bytes bounds tags n fs at number answer after =
     Pays (unfolding_of (entries_of bytes bounds) (length tags - n) (path_of fs) at number
     ++ owed_by (entries_of bytes bounds) fs) answer (owed_by (entries_of bytes bounds) after)
 
-pub known_unfound : (known : Option (List ℕ)) (bounds : Bounds) (tags contents : List ℕ)
-    (fs after : List Frame) (n at number : ℕ) (e : Error) → n ≡ length fs → IsOpen tags fs
-    → IfSome known (λ bytes. IsKnown bytes bounds tags contents fs)
-    → ((bytes : List ℕ) (bounds : Bounds) (frames : List Frame) → IsOpen tags frames
-    → IsKnown bytes bounds tags contents frames
-    → Explains (until_fault (unfolding_of (entries_of bytes bounds)
-    (length tags - length frames) (path_of frames) at number
-    ++ owed_by (entries_of bytes bounds) frames)) e)
-    → IfSome known (λ bytes. Entered bytes bounds tags n fs at number (Err e) after)
-known_unfound None bounds tags contents fs after n at number e depth o k refused = tt
-known_unfound (Some bytes) bounds tags contents fs after n at number e depth o k refused =
-    rw depth (refused bytes bounds fs o k)
-
 pub known_scalar : (known : Option (List ℕ)) (bounds : Bounds) (tags contents : List ℕ)
     (fs : List Frame) (n at number : ℕ) (event : Event) → n ≡ length fs → IsOpen tags fs
     → IfSome known (λ bytes. IsKnown bytes bounds tags contents fs) → number < length tags
@@ -292,9 +279,9 @@ module _ (known : Option (List ℕ)) (bounds : Bounds) (tags contents new others
     → slice_get (entries_of bytes bounds) number ≡ Some entry → IsDecodedAs entry.object told lent
     → Entered bytes bounds tags n fs at number answer after
     × IsKnown bytes bounds new others after) where
-  both : IfSome known (λ bytes. Entered bytes bounds tags n fs at number answer after
+  pub known_entered : IfSome known (λ bytes. Entered bytes bounds tags n fs at number answer after
       × IsKnown bytes bounds new others after)
-  both = go known k decoded
+  known_entered = go known k decoded
     where
       go : (known : Option (List ℕ)) → IfSome known (λ bytes. IsKnown bytes bounds tags contents fs)
           → IfSome known (λ bytes. bounds.trailer ≤ length bytes
@@ -307,17 +294,6 @@ module _ (known : Option (List ℕ)) (bounds : Bounds) (tags contents new others
           pays bytes bounds (entry_of bytes bounds number) at k
           (entry_there bytes bounds tags contents fs k number h)
           (rw (place_is bytes bounds tags contents fs k number place h is) at (decoded k.within))
-
-  pub known_entered_pays : IfSome known
-      (λ bytes. Entered bytes bounds tags n fs at number answer after)
-  known_entered_pays =
-      first known (λ bytes. Entered bytes bounds tags n fs at number answer after)
-      (λ bytes. IsKnown bytes bounds new others after) both
-
-  pub known_entered : IfSome known (λ bytes. IsKnown bytes bounds new others after)
-  known_entered =
-      second known (λ bytes. Entered bytes bounds tags n fs at number answer after)
-      (λ bytes. IsKnown bytes bounds new others after) both
 
 pub known_kept_by : (known : Option (List ℕ)) (bounds : Bounds) (tags contents : List ℕ)
     (fs : List Frame) (place : ℕ) (told : PlainEvent) (lent : Lent) (X : Type 0)

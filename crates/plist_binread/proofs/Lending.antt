@@ -1,13 +1,14 @@
 -- What lies in bytes that are lent, whatever follows them.
 use Rattle.std.proofs.Common.{◌≡◌, ℕ, suc, false, ◌+◌, ◌-◌, ◌*◌, ◌%◌, ◌^◌, ◌<◌, ◌≤◌, inl, inr, nat_eq, List, [], ◌∷◌, ◌++◌, length, take, drop, get_or, Option, None, Some, Ok, IfSome, refl, ap, sym, ◌∙◌, arith}
-use Rattle.std.proofs.lemmas.Bool.{le-leb, lt-ltb, le-ltb, cases_lt}
+use Rattle.std.proofs.lemmas.Bool.{le-leb, cases_lt}
 use Rattle.std.proofs.lemmas.Bool.Decides.{nat_tests}
-use Rattle.std.proofs.lemmas.List.{length-append, take-append-le, drop-append-le, length-drop, length-take-le, drop-drop, take-append-drop}
+use Rattle.std.proofs.lemmas.List.{length-append, drop-append-le, length-drop, length-take-le, drop-drop, take-append-drop}
 use Rattle.std.proofs.Math.Seq.{take-length}
 use Rattle.plist_base.specs.Events.{PlainEvent, StartArray, StartDictionary}
 use Rattle.plist_base.specs.Sources.{LiesAt}
 use Rattle.plist_base.specs.declared.error.Error.{Error}
-use Rattle.plist_base.specs.Faults.{FaultKind, ObjectOffsetTooLarge}
+use Rattle.std.specs.Prelude.{⊤}
+use Rattle.plist_base.specs.Faults.{FaultKind, MatchFault, ObjectOffsetTooLarge, fault_of, fault_at}
 use Rattle.std.proofs.Math.Nat.{mul-le-mul_right}
 use Rattle.plist_binread.specs.declared.table.Bounds.{Bounds}
 use Rattle.plist_binread.specs.declared.child.Asked.{Asked}
@@ -20,28 +21,10 @@ use Rattle.plist_binread.specs.declared.lent.Lent.{Lent}
 use Rattle.plist_binread.specs.declared.lent.Lent.TheVariants as lent
 use Rattle.plist_binread.specs.Object.{Object, Array, Faulty, dictionary, layout_of, length_in, meaning_counted, object_behind, object_in}
 use Rattle.plist_binread.proofs.Children.{length-numbers, get_or-numbers, length-dictionary, key, value, known_array, known_dictionary}
+use Rattle.plist_binread.proofs.Contents.{refused_as}
 use Rattle.plist_binread.proofs.Columns.{take-drop-take, take-take-le, known_at_hand}
 use Rattle.plist_binread.proofs.Extents.{leb_short, number_at-take}
 use Rattle.plist_binread.proofs.Markers.{layout-array, layout-dictionary, object_in-beyond}
-
--- a length in the marker
-pub length_short : (m : ℕ) (ys : List ℕ) → m % 16 < 15 → length_in m ys ≡ Some (m % 16, ys)
-length_short m ys h = rw (lt-ltb (m % 16) 15 h) refl
-
--- and one that follows it
-pub length_long : (m byte w : ℕ) (xs more : List ℕ) → 15 ≤ m % 16 → w ≡ 2 ^ (byte % 4)
-    → w ≤ length xs → length_in m ((byte ∷ xs) ++ more)
-    ≡ Some (number_of (take w xs), drop w xs ++ more)
-length_long m byte w xs more high width h =
-    let enough : w ≤ length (xs ++ more) = omega (arith, length-append xs more) in
-    rw (
-      le-ltb (m % 16) 15 high,
-      ← width,
-      le-leb w (length (xs ++ more)) enough,
-      take-append-le w xs
-          more h,
-      drop-append-le w xs more h,
-    ) refl
 
 -- the object behind a marker
 pub object_lent : (w m : ℕ) (xs ys : List ℕ) → xs ≡ m ∷ ys
@@ -240,11 +223,13 @@ pub known_refused : (known : Option (List ℕ)) (t w p : ℕ) (seen : List ℕ) 
     → IfSome known (λ bytes. LiesAt bytes p seen)
     → LendsWhole (t - p) (object_in w) seen told lent
     → ((object : Object) → IsLentAs object told lent → object ≡ Faulty kind)
-    → IsRefusedAs (Faulty kind) p error → IfSome known (λ bytes. t ≤ length bytes
+    → fault_of error ≡ fault_at kind p → MatchFault kind ⊥ ⊥ ⊤
+    → IfSome known (λ bytes. t ≤ length bytes
     → IsRefusedAs (object_in w (drop p (take t bytes))) p error)
-known_refused None t w p seen told lent kind error near is means same h = tt
-known_refused (Some bytes) t w p seen told lent kind error near is means same h = λ fits.
-    rw (same _ (known_seen (Some bytes) t w p seen told lent near is means fits)) h
+known_refused None t w p seen told lent kind error near is means same fault inside = tt
+known_refused (Some bytes) t w p seen told lent kind error near is means same fault inside =
+    λ fits. refused_as _ p error kind fault inside
+    (same _ (known_seen (Some bytes) t w p seen told lent near is means fits))
 
 -- one whose marker is unknown
 pub known_unknown : (known : Option (List ℕ)) (t w p : ℕ) (seen : List ℕ) (told : PlainEvent)

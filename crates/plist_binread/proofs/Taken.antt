@@ -3,7 +3,7 @@ use Rattle.std.proofs.Common.{◌≡◌, ℕ, ◌≤◌, arith, List, length, re
 use Rattle.std.proofs.lemmas.List.{length-reverse}
 use Rattle.plist_base.specs.declared.error.Error.{Error}
 use Rattle.plist_base.specs.declared.event.Event.{Event}
-use Rattle.plist_base.specs.Events.{PlainEvent, EndCollection, Item, event_of}
+use Rattle.plist_base.specs.Events.{PlainEvent, Item, event_of}
 use Rattle.plist_binread.specs.declared.frames.Frame.{Frame}
 use Rattle.plist_binread.specs.Unfolding.{until_fault}
 use Rattle.plist_binread.specs.declared.reader.State.{State}
@@ -145,9 +145,3 @@ kept_end (Some bytes) number tags told = by_number (number bytes)
     by_number : (n : Option ℕ) → IsKeptTold {A = Unit {0}} n None told tags
     by_number None = tt
     by_number (Some n) = tt
-
--- the event of an item, or an end
-abbrev event_at : Option (Result Event Error) → PlainEvent
-event_at None = EndCollection
-event_at (Some (Ok event)) = event_of event
-event_at (Some (Err e)) = EndCollection

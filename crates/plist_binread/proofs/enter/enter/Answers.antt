@@ -1,11 +1,13 @@
-use Rattle.std.proofs.Common.{arith, sym, length, ◌-◌, reverse, Ok}
+use Rattle.std.proofs.Common.{arith, sym, length, ◌-◌, reverse, Ok, IfSome}
 use Rattle.std.proofs.lemmas.List.{length-reverse}
 use Rattle.std.proofs.lemmas.Result.{err_from_is_err_and}
 use Rattle.plist_binread.proofs.Steps.{steps_positive}
-use Rattle.plist_binread.proofs.Known.{known_scalar, known_refused, known_entered, known_entered_pays, known_kept_by, known_full, lent_as}
+use Rattle.plist_binread.proofs.Known.{Entered, first, second, known_scalar, known_refused, known_entered, known_kept_by, known_full, lent_as}
 use Rattle.plist_binread.specs.Behind.{object_at}
 use Rattle.plist_binread.specs.Told.{event_in}
+use Rattle.plist_binread.specs.Walking.{IsWalkOf}
 use Rattle.plist_binread.proofs.enter.enter.Goals as goal
+use Rattle.plist_binread.proofs.enter.enter.Goals.{After-take}
 
 pub returns-in-Scalar-clause-falls : goal.returns-in-Scalar-clause-falls
 returns-in-Scalar-clause-falls g c =
@@ -38,8 +40,13 @@ returns-in_err-lent-in-Place-clause-pays g c =
     (rw (c.in-Place.is, c.as_slice.ensures.value, c.as_slice-2.ensures.value) at
     c.in_ok-event.ensures.found) c.in_err-lent-in-Place.ensures.decoded)
 
-pub returns-then-open_lent-clause-known : goal.returns-then-open_lent-clause-known
-returns-then-open_lent-clause-known g c =
+-- what is owed and known where what was decoded is entered
+entered : (g : _) (c : After-take g)
+    → IfSome (g.S.Source.known c.args.source.now) (λ bytes.
+    Entered bytes c.args.bounds.now c.args.walk.now.tags.items (length c.args.walk.now.frames)
+    (reverse c.args.walk.now.frames) c.args.at c.args.number (Ok c.take.result)
+    (reverse c.open_lent.new.walk.frames) × IsWalkOf bytes c.args.bounds.now c.open_lent.new.walk)
+entered g c =
     known_entered _ c.args.bounds.now c.args.walk.now.tags.items c.args.walk.now.contents.items
     c.open_lent.new.walk.tags.items c.open_lent.new.walk.contents.items
     (reverse c.args.walk.now.frames) (reverse c.open_lent.new.walk.frames)
@@ -53,20 +60,13 @@ returns-then-open_lent-clause-known g c =
     (lent_as entry.object _ c.in_ok-lent-in-Place.lent decoded) in
     (rw c.take.ensures (p.0 at), p.1))
 
+pub returns-then-open_lent-clause-known : goal.returns-then-open_lent-clause-known
+returns-then-open_lent-clause-known g c =
+    second _ _ _ (entered g (goal.at.returns-then-open_lent-clause-known g c).After-take)
+
 pub returns-then-open_lent-clause-pays : goal.returns-then-open_lent-clause-pays
 returns-then-open_lent-clause-pays g c =
-    known_entered_pays _ c.args.bounds.now c.args.walk.now.tags.items c.args.walk.now.contents.items
-    c.open_lent.new.walk.tags.items c.open_lent.new.walk.contents.items
-    (reverse c.args.walk.now.frames) (reverse c.open_lent.new.walk.frames)
-    (length c.args.walk.now.frames) c.args.at c.args.number c.in-Place.place
-    (event_in c.decode.new.last) c.in_ok-lent-in-Place.lent (Ok c.take.result) c.requires.known
-    (rw c.as_slice.ensures.value at c.in_ok-event.ensures.below)
-    (rw (c.in-Place.is, c.as_slice.ensures.value, c.as_slice-2.ensures.value) at
-    c.in_ok-event.ensures.found) c.in_ok-lent-in-Place.ensures.decoded
-    (λ bytes bounds entry at k is decoded.
-    let p = c.open_lent.ensures.pays c.if-open_lent.true bytes bounds entry k is
-    (lent_as entry.object _ c.in_ok-lent-in-Place.lent decoded) in
-    (rw c.take.ensures (p.0 at), p.1))
+    first _ _ _ (entered g (goal.at.returns-then-open_lent-clause-pays g c).After-take)
 
 pub returns-then-open_lent-clause-kept : goal.returns-then-open_lent-clause-kept
 returns-then-open_lent-clause-kept g c =

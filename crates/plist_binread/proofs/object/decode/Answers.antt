@@ -1,10 +1,8 @@
-use Rattle.std.proofs.Common.{rules, Ok, Err, arith, refl}
+use Rattle.std.proofs.Common.{rules, Ok, Err, arith}
 use Rattle.std.proofs.lemmas.Result.{err_from_is_err_and}
 use Rattle.plist_binread.specs.declared.lent.Lent.TheVariants as lent
 use Rattle.plist_binread.specs.Told.{event_in}
 use Rattle.plist_base.specs.Faults.{ObjectOffsetTooLarge, NullObjectUnimplemented, FillObjectUnimplemented, IntegerOutOfRange, OverflowOrNanDate}
-use Rattle.plist_binread.specs.Object.{Faulty}
-use Rattle.plist_binread.proofs.Contents.{refused_as}
 use Rattle.plist_binread.proofs.Lending.{known_seen, known_refused, known_unknown, known_first}
 use Rattle.plist_binread.proofs.Markers.{known_beyond, known_marked}
 use Rattle.plist_binread.proofs.object.decode.Goals as goal
@@ -30,37 +28,37 @@ returns-in-Collection-clause-decoded g c =
 pub returns-in-TooLarge-clause-decoded : goal.returns-in-TooLarge-clause-decoded
 returns-in-TooLarge-clause-decoded g c =
     known_refused _ c.args.bounds.now.trailer c.args.bounds.now.reference_width c.args.place _
-    (event_in c.decode_lent.new.last) lent.TooLarge ObjectOffsetTooLarge c.with_byte_offset-in-TooLarge.result (search rules)
+    (event_in c.decode_lent.new.last) lent.TooLarge ObjectOffsetTooLarge _ (search rules)
     c.in_ok-read_exact_at.ensures.bytes c.in-TooLarge.ensures.lent (λ object h. h)
-    (refused_as (Faulty ObjectOffsetTooLarge) c.args.place _ ObjectOffsetTooLarge c.with_byte_offset-in-TooLarge.ensures.fault tt refl)
+    c.with_byte_offset-in-TooLarge.ensures.fault tt
 
 pub returns-in-Null-clause-decoded : goal.returns-in-Null-clause-decoded
 returns-in-Null-clause-decoded g c =
     known_refused _ c.args.bounds.now.trailer c.args.bounds.now.reference_width c.args.place _
-    (event_in c.decode_lent.new.last) lent.Null NullObjectUnimplemented c.with_byte_offset-in-Null.result (search rules)
+    (event_in c.decode_lent.new.last) lent.Null NullObjectUnimplemented _ (search rules)
     c.in_ok-read_exact_at.ensures.bytes c.in-Null.ensures.lent (λ object h. h)
-    (refused_as (Faulty NullObjectUnimplemented) c.args.place _ NullObjectUnimplemented c.with_byte_offset-in-Null.ensures.fault tt refl)
+    c.with_byte_offset-in-Null.ensures.fault tt
 
 pub returns-in-Fill-clause-decoded : goal.returns-in-Fill-clause-decoded
 returns-in-Fill-clause-decoded g c =
     known_refused _ c.args.bounds.now.trailer c.args.bounds.now.reference_width c.args.place _
-    (event_in c.decode_lent.new.last) lent.Fill FillObjectUnimplemented c.with_byte_offset-in-Fill.result (search rules)
+    (event_in c.decode_lent.new.last) lent.Fill FillObjectUnimplemented _ (search rules)
     c.in_ok-read_exact_at.ensures.bytes c.in-Fill.ensures.lent (λ object h. h)
-    (refused_as (Faulty FillObjectUnimplemented) c.args.place _ FillObjectUnimplemented c.with_byte_offset-in-Fill.ensures.fault tt refl)
+    c.with_byte_offset-in-Fill.ensures.fault tt
 
 pub returns-in-OutOfRange-clause-decoded : goal.returns-in-OutOfRange-clause-decoded
 returns-in-OutOfRange-clause-decoded g c =
     known_refused _ c.args.bounds.now.trailer c.args.bounds.now.reference_width c.args.place _
-    (event_in c.decode_lent.new.last) lent.OutOfRange IntegerOutOfRange c.with_byte_offset-in-OutOfRange.result (search rules)
+    (event_in c.decode_lent.new.last) lent.OutOfRange IntegerOutOfRange _ (search rules)
     c.in_ok-read_exact_at.ensures.bytes c.in-OutOfRange.ensures.lent (λ object h. h)
-    (refused_as (Faulty IntegerOutOfRange) c.args.place _ IntegerOutOfRange c.with_byte_offset-in-OutOfRange.ensures.fault tt refl)
+    c.with_byte_offset-in-OutOfRange.ensures.fault tt
 
 pub returns-in-NoDate-clause-decoded : goal.returns-in-NoDate-clause-decoded
 returns-in-NoDate-clause-decoded g c =
     known_refused _ c.args.bounds.now.trailer c.args.bounds.now.reference_width c.args.place _
-    (event_in c.decode_lent.new.last) lent.NoDate OverflowOrNanDate c.with_byte_offset-in-NoDate.result (search rules)
+    (event_in c.decode_lent.new.last) lent.NoDate OverflowOrNanDate _ (search rules)
     c.in_ok-read_exact_at.ensures.bytes c.in-NoDate.ensures.lent (λ object h. h)
-    (refused_as (Faulty OverflowOrNanDate) c.args.place _ OverflowOrNanDate c.with_byte_offset-in-NoDate.ensures.fault tt refl)
+    c.with_byte_offset-in-NoDate.ensures.fault tt
 
 pub returns-in-Unknown-clause-decoded : goal.returns-in-Unknown-clause-decoded
 returns-in-Unknown-clause-decoded g c =
