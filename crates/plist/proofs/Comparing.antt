@@ -127,11 +127,6 @@ puts-off before after p ps false false was e is = is ∙ was
 puts-off before after p ps true false was e is = absurd (cc)
 puts-off before after p ps false true was e is = absurd (cc)
 
-pub fewer : (equal answer : Bool) (value : Value) (before after : Later)
-    → Compares equal (weight value - 1) before answer after
-    → Compares equal (weight value) before answer after
-fewer equal answer value before after c = let n = c.1 in (c.0, omega (arith, n))
-
 step-some : (layer : Value-F ℕ) → 1 ≤ weight_step layer
 step-some (Value-F.Array items) = omega arith
 step-some (Value-F.Dictionary pairs) = omega arith

@@ -2,7 +2,7 @@
 use Rattle.std.proofs.Common.{◌≡◌, ℕ, true, false, Some, refl, sym, ap, subst}
 use Rattle.plist_base.specs.declared.error.Error.{Error}
 use Rattle.plist_base.specs.Faults.{Fault, FaultKind, Io, OutOfMemory, MatchFault, fault_of, fault_at, kind_of, error_kind_of}
-use Rattle.plist_ascii.specs.Kinds.{IsFaultOfBytes, IsAsciiFault}
+use Rattle.plist_ascii.specs.Kinds.{IsFaultOfBytes}
 use Rattle.plist_ascii.specs.Unread.{IsAt, is_from_outside}
 
 -- the fact that a fault in the bytes has
@@ -41,13 +41,6 @@ pub is_at_inside : (f : Error) (kind : FaultKind) (place : ℕ) → fault_of f �
 is_at_inside f kind place e i =
     let P : Fault → Type 0 = λ fault. IsAt fault place in subst P (sym e)
     (inside_gets kind _ _ _ (bytes_inside kind i) (i, refl))
-
--- where a fault stands says which kinds it can have
-pub kind_at : (kind : FaultKind) (A B C : Type 0) → MatchFault kind A B (IsFaultOfBytes kind × C)
-    → IsAsciiFault kind
-kind_at Io A B C h = tt
-kind_at OutOfMemory A B C h = tt
-kind_at kind A B C h = h.0
 
 -- the place of a fault in the bytes
 fault_by : (fault : Fault) (place : ℕ) → fault.offset ≡ Some place

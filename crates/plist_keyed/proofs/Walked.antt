@@ -90,12 +90,6 @@ uid_steps f (StartDictionary n) uid h = cc
 uid_steps f EndCollection uid h = cc
 uid_steps f (Single x) uid h = ap (λ found. option_map_or f found (Some (Ok (Single x)) ∷ [])) h
 
--- a Uid's object is entered
-pub passes : (old new : Walk) (e : PlainEvent) (uid : ℕ) → uid_in e ≡ Some uid
-    → follow old uid ++ owed old ≡ None ∷ owed new
-    → steps_of_event (follow old) e ++ owed old ≡ None ∷ owed new
-passes old new e uid is h = ap (λ l. l ++ owed old) (uid_steps (follow old) e uid is) ∙ h
-
 -- a Uid's object isn't entered
 pub refuses : (old new : Walk) (e : PlainEvent) (uid : ℕ) (fault : Fault) → uid_in e ≡ Some uid
     → owed new ≡ owed old → FailsAt (follow old uid) fault

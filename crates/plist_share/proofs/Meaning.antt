@@ -58,9 +58,6 @@ module _ (table : List Entry) where
   the_text : (k l : List ℕ) → trees.String k ≡ trees.String l → k ≡ l
   the_text k l p = cc
 
-  other : {A : Type 0} (a b : Object) → a ≡ b → (a ≡ b → ⊥) → A
-  other a b p h = absurd (h p)
-
   mutual
     -- no number stands for two trees
     pub one_tree : (t u : Tree) (i : ℕ) → Means t i → Means u i → t ≡ u
