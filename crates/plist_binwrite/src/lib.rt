@@ -14,6 +14,7 @@ pub mod kinds;
 mod layout;
 mod lengths;
 mod numbering;
+mod numbers;
 mod objects;
 pub mod outlet;
 pub mod pending;

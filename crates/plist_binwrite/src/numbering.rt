@@ -7,7 +7,8 @@ ghost use Rattle.plist_binwrite.specs.inner.PlansBy.{HaveIds};
 ghost use Rattle.plist_binwrite.specs.inner.Numbering.{BeginsAt, IsPlanOf, KeepsNumbers, NumbersChildren, NumbersHalf, NumbersItem, NumbersItems, NumbersRoot, NumbersTree};
 
 use crate::held::Held;
-use crate::kinds::{Kind, half_of, push_place};
+use crate::kinds::{Kind, half_of};
+use crate::numbers::Numbers;
 use plist_base::Error;
 use std::alloc::Global;
 
@@ -20,14 +21,14 @@ fn number_one(
     classes: &[usize],
     ids: &mut Vec<usize>,
     numbers: &mut Vec<usize>,
-    firsts: &mut Vec<usize>,
+    firsts: &mut Numbers,
     place: usize,
 ) -> Result<(), Error>
     requires plan { IsPlanOf events.now classes.now numbers.old firsts.old }
-    requires ids { HaveIds classes.now ids.old.items firsts.old.items }
+    requires ids { HaveIds classes.now ids.old.items firsts.old }
     requires long { length classes.now ≡ length (plain_events events.now) }
     ensures plan { OnOk result (IsPlanOf events.now classes.now numbers.new firsts.new) }
-    ensures ids { OnOk result (HaveIds classes.now ids.new.items firsts.new.items) }
+    ensures ids { OnOk result (HaveIds classes.now ids.new.items firsts.new) }
     ensures keeps { OnOk result (KeepsNumbers numbers.old firsts.old numbers.new firsts.new) }
     ensures numbered { OnOk result (NumbersItem events.now place numbers.new firsts.new) }
     ensures first { OnOk result (BeginsAt events.now place firsts.old firsts.new) }
@@ -46,7 +47,7 @@ fn number_one(
         return Ok(());
     }
     let count = firsts.len();
-    push_place(firsts, place)?;
+    firsts.push(place)?;
     ids[class] = count;
     numbers[place] = count;
     Ok(())
@@ -58,14 +59,14 @@ fn number_items(
     classes: &[usize],
     ids: &mut Vec<usize>,
     numbers: &mut Vec<usize>,
-    firsts: &mut Vec<usize>,
+    firsts: &mut Numbers,
     from: usize,
 ) -> Result<(), Error>
     requires plan { IsPlanOf events.now classes.now numbers.old firsts.old }
-    requires ids { HaveIds classes.now ids.old.items firsts.old.items }
+    requires ids { HaveIds classes.now ids.old.items firsts.old }
     requires long { length classes.now ≡ length (plain_events events.now) }
     ensures plan { OnOk result (IsPlanOf events.now classes.now numbers.new firsts.new) }
-    ensures ids { OnOk result (HaveIds classes.now ids.new.items firsts.new.items) }
+    ensures ids { OnOk result (HaveIds classes.now ids.new.items firsts.new) }
     ensures keeps { OnOk result (KeepsNumbers numbers.old firsts.old numbers.new firsts.new) }
     ensures numbered { OnOk result (NumbersItems events.now from numbers.new firsts.new) }
     ensures memory { OnlyMemory result }
@@ -84,15 +85,15 @@ fn number_halves(
     classes: &[usize],
     ids: &mut Vec<usize>,
     numbers: &mut Vec<usize>,
-    firsts: &mut Vec<usize>,
+    firsts: &mut Numbers,
     from: usize,
     values: bool,
 ) -> Result<(), Error>
     requires plan { IsPlanOf events.now classes.now numbers.old firsts.old }
-    requires ids { HaveIds classes.now ids.old.items firsts.old.items }
+    requires ids { HaveIds classes.now ids.old.items firsts.old }
     requires long { length classes.now ≡ length (plain_events events.now) }
     ensures plan { OnOk result (IsPlanOf events.now classes.now numbers.new firsts.new) }
-    ensures ids { OnOk result (HaveIds classes.now ids.new.items firsts.new.items) }
+    ensures ids { OnOk result (HaveIds classes.now ids.new.items firsts.new) }
     ensures keeps { OnOk result (KeepsNumbers numbers.old firsts.old numbers.new firsts.new) }
     ensures numbered { OnOk result (NumbersHalf events.now values from numbers.new firsts.new) }
     ensures memory { OnlyMemory result }
@@ -112,15 +113,15 @@ fn number_children(
     classes: &[usize],
     ids: &mut Vec<usize>,
     numbers: &mut Vec<usize>,
-    firsts: &mut Vec<usize>,
+    firsts: &mut Numbers,
     place: usize,
 ) -> Result<(), Error>
     requires plan { IsPlanOf events.now classes.now numbers.old firsts.old }
-    requires ids { HaveIds classes.now ids.old.items firsts.old.items }
+    requires ids { HaveIds classes.now ids.old.items firsts.old }
     requires long { length classes.now ≡ length (plain_events events.now) }
     requires place { place < length (plain_events events.now) }
     ensures plan { OnOk result (IsPlanOf events.now classes.now numbers.new firsts.new) }
-    ensures ids { OnOk result (HaveIds classes.now ids.new.items firsts.new.items) }
+    ensures ids { OnOk result (HaveIds classes.now ids.new.items firsts.new) }
     ensures keeps { OnOk result (KeepsNumbers numbers.old firsts.old numbers.new firsts.new) }
     ensures numbered { OnOk result (NumbersChildren events.now place numbers.new firsts.new) }
     ensures memory { OnlyMemory result }
@@ -142,7 +143,7 @@ fn number_children(
 #[derive(Drop)]
 pub struct Numbering {
     pub numbers: Vec<usize>,
-    pub firsts: Vec<usize>,
+    pub firsts: Numbers,
 }
 
 /// Numbers the objects of the held events, one for each class: a collection, when its turn comes,
@@ -161,7 +162,7 @@ pub fn number_by_class(
     ensures memory { OnlyMemory result }
 {
     let mut numbers = vec![in alloc; NO_NUMBER; events.len()]?;
-    let mut firsts = Vec::new(alloc);
+    let mut firsts = Numbers::new(alloc);
     let mut ids = vec![in alloc; NO_NUMBER; count]?;
     if events.len() == 0 {
         return Ok(Numbering { numbers, firsts });

@@ -32,7 +32,7 @@ impl Plan {
         requires { number < length (firsts_of self.now) }
         ensures { result ≡ num_of (firsts_of self.now) number }
     {
-        self.numbering.firsts.as_slice()[number]
+        self.numbering.firsts.get(number)
     }
 }
 

@@ -11,7 +11,7 @@ abbrev pub numbers_of : Plan → List ℕ
 numbers_of plan = plan.numbering.numbers.items
 
 abbrev pub firsts_of : Plan → List ℕ
-firsts_of plan = plan.numbering.firsts.items
+firsts_of plan = plan.numbering.firsts
 
 -- how many objects there are
 abbrev pub count_of : Plan → ℕ

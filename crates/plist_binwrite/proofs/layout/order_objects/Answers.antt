@@ -33,7 +33,7 @@ pub loop-place-init : goal.loop-place-init
 loop-place-init c =
     let count = c.len-count.result in
     let n : c.len-count.result ≡ count_of c.args.plan.now = omega
-    (arith, c.len-count.ensures, c.args.plan.now.numbering.firsts.ok.0) in (
+    (arith, c.len-count.ensures) in (
       subst (λ l. IsOrder (count_of c.args.plan.now) l c.in_ok-places.places.items)
           (sym c.new-order.ensures.items)
           (order_none (count_of c.args.plan.now) c.in_ok-places.places.items
