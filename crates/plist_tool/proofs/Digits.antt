@@ -5,13 +5,14 @@ use Rattle.std.proofs.lemmas.List.{take-append-drop}
 use Rattle.std.proofs.lemmas.Fmt.{decimal_digit, decimal_step, length-decimal-le}
 use Rattle.std.specs.Fmt.{decimal}
 
-pub one_digit : (n : ℕ) → n < 10 → length (decimal n) ≡ 1
-one_digit n below = ap length (decimal_digit n below)
+pub one_digit : (n : ℕ) → n < 10 → 1 ≡ length (decimal n)
+one_digit n below = sym (ap length (decimal_digit n below))
 
-pub digits_between : (k n : ℕ) → 10 ^ k ≤ n → n < 10 ^ suc k → n < 2 ^ 64 → length (decimal n) ≡ suc k
-digits_between zero n least below fits = one_digit n (omega arith)
-digits_between (suc k) n least below fits =
-    let shorter = digits_between k (n / 10) (omega arith) (omega arith) (omega arith) in
+pub has_digits : (k n : ℕ) → n < 2 ^ 64 → 10 ^ k ≤ n → n < 10 ^ suc k
+    → suc k ≡ length (decimal n)
+has_digits zero n fits least below = one_digit n (omega arith)
+has_digits (suc k) n fits least below =
+    let shorter = has_digits k (n / 10) (omega arith) (omega arith) (omega arith) in
     rw (decimal_step n (omega arith) fits, length-append) (omega (arith, shorter))
 
 -- digits that are written behind a front, in room for more
@@ -21,7 +22,8 @@ pub written_behind : (front room digits rest new : List ℕ) (start : ℕ)
     → take (length front + length digits) new ≡ front ++ digits
 written_behind front room digits rest new start ends before written =
     let here : start ≡ length front = omega (arith, ends) in
-    let front_stays : take start new ≡ front = before ∙ ap (λ i. take i (front ++ room)) here ∙ take-append_seam front room in
+    let front_stays : take start new ≡ front =
+    before ∙ ap (λ i. take i (front ++ room)) here ∙ take-append_seam front room in
     let whole : new ≡ front ++ (digits ++ rest) =
     sym (take-append-drop start new)
     ∙ ap (λ xs. xs ++ drop start new) front_stays ∙ ap (λ xs. front ++ xs) written in

@@ -12,7 +12,8 @@ use Rattle.plist_binwrite.specs.Held.{plain_events, is_stop, event_at, num_of, i
 use Rattle.plist_binwrite.specs.inner.PlansBy.{IsPlan}
 
 -- the numbers given so far go by these classes
-abbrev pub IsPlanOf : Held → (classes : List ℕ) → (numbers : Vec ℕ Global) → (firsts : List ℕ) → Type 0
+abbrev pub IsPlanOf : Held → (classes : List ℕ) → (numbers : Vec ℕ Global) → (firsts : List ℕ)
+    → Type 0
 IsPlanOf held classes numbers firsts =
     IsPlan (plain_events held) (num_of classes) numbers.items firsts
 
@@ -35,8 +36,8 @@ module _ (held : Held) where
       → AllByRecursion (IsNumbered numbers.items firsts) (item_places ts from)
 
   -- the values of a dictionary have, or its keys
-  abbrev pub NumbersHalf : (of_values : Bool) → (from : ℕ) → (numbers : Vec ℕ Global) → (firsts : List ℕ)
-      → Type 0
+  abbrev pub NumbersHalf : (of_values : Bool) → (from : ℕ) → (numbers : Vec ℕ Global)
+      → (firsts : List ℕ) → Type 0
   NumbersHalf of_values from numbers firsts =
       (ms : Members) → SitsPairs (plain_events held) ms from
       → AllByRecursion (IsNumbered numbers.items firsts) (half_places of_values ms from)
