@@ -3,6 +3,7 @@ pub mod Ending
 pub mod Entries
 pub mod Laws
 pub mod Laying
+pub mod Narrow
 pub mod Numbering
 pub mod Opening
 pub mod Planning

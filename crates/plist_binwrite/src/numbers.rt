@@ -1,14 +1,54 @@
-//! A list of numbers, which has four bytes for each while they fit.
+//! Lists of numbers, of which each has four bytes while they fit.
 
-ghost use Rattle.std.specs.Prelude.{◌≡◌, ◌^◌, ◌<◌, ◌++◌, ◌∷◌, [], length, get_or, OnOk};
+ghost use Rattle.std.specs.Prelude.{◌≡◌, ◌^◌, ◌<◌, ◌++◌, ◌∷◌, [], length, get_or, map, replicate, set, IfSome, IfOk, OnOk, OnErr, ◌-◌};
 ghost use Rattle.plist_base.specs.Outcomes.{OnlyMemory};
+ghost use Rattle.plist_binwrite.specs.inner.Narrow.{wide_of};
 
 use plist_base::Error;
 use std::alloc::Global;
 use std::marker::Model;
 
-/// A list of numbers. From the first one on that needs more than four bytes all of them have eight;
-/// those before it have four.
+// What a number of four bytes stands for: the greatest one for the greatest of eight, with which
+// lists mark what they don't tell.
+fn wide_of(stored: u32) -> usize
+    ensures { result ≡ wide_of stored }
+{
+    if stored == u32::MAX {
+        usize::MAX
+    } else {
+        stored as usize
+    }
+}
+
+// The four bytes that stand for a number, if there are such.
+fn narrowed(number: usize) -> Option<u32>
+    ensures { IfSome result (λ stored. wide_of stored ≡ number) }
+{
+    if number < u32::MAX as usize {
+        Some(number as u32)
+    } else if number == usize::MAX {
+        Some(u32::MAX)
+    } else {
+        None
+    }
+}
+
+// All of these numbers with eight bytes.
+#[cold]
+#[inline(never)]
+fn widened(narrow: &Vec<u32>, wide: &Vec<usize>) -> Result<Vec<usize>, Error>
+    ensures all { IfOk result (λ r. r.items ≡ map wide_of narrow.now.items ++ wide.now.items) }
+    ensures memory { OnlyMemory result }
+{
+    let mut all: Vec<usize> = narrow
+        .iter()
+        .map(|stored| wide_of(*stored))
+        .collect(*wide.allocator())?;
+    all.extend_from_slice(wide.as_slice())?;
+    Ok(all)
+}
+
+/// A list of numbers. Those of eight bytes stand behind those of four.
 #[derive(Drop)]
 pub struct Numbers {
     narrow: Vec<u32>,
@@ -16,11 +56,12 @@ pub struct Numbers {
 }
 
 impl Model for Numbers {
-    ghost use Rattle.std.specs.Prelude.{List, ℕ, ◌++◌};
+    ghost use Rattle.std.specs.Prelude.{List, ℕ, ◌++◌, map};
+    ghost use Rattle.plist_binwrite.specs.inner.Narrow.{wide_of};
 
     ghost Value = { List ℕ };
 
-    ghost view = { λ numbers. numbers.narrow.items ++ numbers.wide.items };
+    ghost view = { λ numbers. map wide_of numbers.narrow.items ++ numbers.wide.items };
 }
 
 impl Numbers {
@@ -32,6 +73,31 @@ impl Numbers {
             narrow: Vec::new(alloc),
             wide: Vec::new(alloc),
         }
+    }
+
+    /// So many times the number 0.
+    pub fn zeros(alloc: Global, count: usize) -> Result<Numbers, Error>
+        ensures zeros { IfOk result (λ r. r ≡ replicate count 0) }
+        ensures memory { OnlyMemory result }
+    {
+        let narrow = vec![in alloc; 0u32; count]?;
+        Ok(Numbers {
+            narrow,
+            wide: Vec::new(alloc),
+        })
+    }
+
+    /// So many times the number 2^64 - 1.
+    #[tactic(auto, using(crate::proofs::Narrow::marks_wide))]
+    pub fn marks(alloc: Global, count: usize) -> Result<Numbers, Error>
+        ensures marks { IfOk result (λ r. r ≡ replicate count (2 ^ 64 - 1)) }
+        ensures memory { OnlyMemory result }
+    {
+        let narrow = vec![in alloc; u32::MAX; count]?;
+        Ok(Numbers {
+            narrow,
+            wide: Vec::new(alloc),
+        })
     }
 
     /// How many numbers there are.
@@ -48,7 +114,7 @@ impl Numbers {
     {
         let below = self.narrow.len();
         if index < below {
-            return self.narrow.as_slice()[index] as usize;
+            return wide_of(self.narrow.as_slice()[index]);
         }
         self.wide.as_slice()[index - below]
     }
@@ -59,11 +125,33 @@ impl Numbers {
         ensures small { length self.new < 2 ^ 64 }
         ensures memory { OnlyMemory result }
     {
-        if self.wide.is_empty() && number < 1 << 32 {
-            self.narrow.push(number as u32)?;
+        match narrowed(number) {
+            Some(stored) if self.wide.is_empty() => self.narrow.push(stored)?,
+            _ => self.wide.push(number)?,
+        }
+        Ok(())
+    }
+
+    /// Puts another number in the place of one.
+    pub fn set(&mut self, index: usize, number: usize) -> Result<(), Error>
+        requires { index < length self.old }
+        ensures set { OnOk result (self.new ≡ set self.old index number) }
+        ensures unchanged { OnErr result (self.new ≡ self.old) }
+        ensures memory { OnlyMemory result }
+    {
+        let below = self.narrow.len();
+        if index >= below {
+            self.wide[index - below] = number;
             return Ok(());
         }
-        self.wide.push(number)?;
+        if let Some(stored) = narrowed(number) {
+            self.narrow[index] = stored;
+            return Ok(());
+        }
+        let mut wide = widened(&self.narrow, &self.wide)?;
+        wide[index] = number;
+        self.narrow.clear();
+        self.wide = wide;
         Ok(())
     }
 }
