@@ -1,5 +1,5 @@
 -- What is appended form by form.
-use Rattle.std.proofs.Common.{◌≡◌, ℕ, zero, suc, ◌+◌, ◌-◌, ◌*◌, ◌/◌, ◌^◌, ◌<◌, ◌≤◌, ℤ, pos, negsuc, ◌≤ℤ◌, List, [], ◌∷◌, ◌++◌, take, drop, refl, ap, sym, ◌∙◌, append-nil, arith}
+use Rattle.std.proofs.Common.{◌≡◌, ℕ, zero, suc, ◌+◌, ◌-◌, ◌*◌, ◌/◌, ◌^◌, ◌<◌, ◌≤◌, ℤ, pos, negsuc, ◌≤ℤ◌, List, [], ◌∷◌, ◌++◌, take, drop, refl, ap, sym, ◌∙◌, arith}
 use Rattle.std.specs.Int.{byte_at}
 use Rattle.std.proofs.lemmas.Bool.{lt-ltb, le-ltb}
 use Rattle.std.proofs.lemmas.Int.{ints}
@@ -56,8 +56,8 @@ integer_wide (negsuc m) n e h = absurd (omega (arith, ints, e))
 -- the trailer with the widths that were found
 pub trailer_is : (count table w r : ℕ) → w ≡ offset_width table → r ≡ reference_width count
     → 0 ∷ 0 ∷ 0 ∷ 0 ∷ 0 ∷ 0 ∷ w ∷ r
-    ∷ (big_endian 8 count ++ (big_endian 8 0 ++ (big_endian 8 table ++ [])))
+    ∷ (big_endian 8 count ++ (big_endian 8 0 ++ big_endian 8 table))
     ≡ trailer_of count table
 trailer_is count table w r a b =
     λ i. 0 ∷ 0 ∷ 0 ∷ 0 ∷ 0 ∷ 0 ∷ a i ∷ b i
-    ∷ (big_endian 8 count ++ (big_endian 8 0 ++ append-nil (big_endian 8 table) i))
+    ∷ (big_endian 8 count ++ (big_endian 8 0 ++ big_endian 8 table))

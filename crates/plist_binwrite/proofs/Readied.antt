@@ -1,7 +1,6 @@
 -- A planned file is its tree's, and sending it sends the tree's file.
-use Rattle.std.proofs.Common.{◌≡◌, ℕ, ◌<◌, true, eqb, List, ◌++◌, length, get_or, Option, Result, Ok, Err, OnOk, IfErr, ap, sym, ◌∙◌, subst, arith, append_assoc}
+use Rattle.std.proofs.Common.{◌≡◌, ℕ, ◌<◌, List, ◌++◌, ◌+◌, ◌^◌, ◌≤◌, length, get_or, Option, None, Some, Result, Ok, Err, OnOk, IfErr, IfSome, ap, sym, ◌∙◌, subst, arith, append_assoc}
 use Rattle.std.specs.Io.KnownBytes.{Appends}
-use Rattle.std.specs.List.{list_any}
 use Rattle.plist_base.specs.declared.error.Error.{Error}
 use Rattle.plist_binwrite.specs.declared.held.Held.{Held}
 use Rattle.plist_base.specs.Bracketing.{AreWhole, shape}
@@ -12,59 +11,90 @@ use Rattle.plist_binread.specs.Container.{magic}
 use Rattle.plist_binread.specs.Object.{Object}
 use Rattle.plist_binwrite.specs.declared.completion.Ready.{Ready}
 use Rattle.plist_binwrite.specs.declared.plan.Plan.{Plan}
-use Rattle.plist_binwrite.specs.Classes.{IsFileBy, Fits, SendsBy, size_by}
+use Rattle.plist_binwrite.specs.Classes.{IsFileBy, IsOversized, Fits, SendsBy, count_by, objects_by, size_by}
 use Rattle.plist_binwrite.specs.inner.Ending.{numbers_in, file_of, IsReady, IsReadyBy, SendsReady}
 use Rattle.plist_base.specs.Fronts.{AppendsFront}
 use Rattle.plist_binwrite.specs.Outlets.{IsOut}
 use Rattle.plist_binwrite.specs.Held.{plain_events, AllBelow, Describes}
-use Rattle.plist_binwrite.specs.inner.Laying.{IsOrder, laid_out, closed}
+use Rattle.plist_binwrite.specs.inner.Laying.{IsOrder, HasAll, laid_out, closed}
+use Rattle.plist_binwrite.specs.inner.Sizing.{ExceedsWith, FitsWith}
+use Rattle.plist_binwrite.specs.Sizes.{TellsSize, size_with}
 use Rattle.plist_base.specs.Events.{PlainEvent}
 use Rattle.plist_base.specs.Trees.{Tree}
 use Rattle.plist_binwrite.specs.inner.Planning.{IsPlanned, GoesBy, count_of, numbers_of, firsts_of}
 use Rattle.plist_binwrite.specs.SendingAs.{IsFileOfEvents}
 use Rattle.plist_binwrite.specs.Written.{Laid, reference_width, bodies, ending}
-use Rattle.plist_binwrite.proofs.Finished.{finish, some_objects}
+use Rattle.plist_binwrite.proofs.Finished.{finish, some_objects, count_told, table_told}
 use Rattle.plist_binwrite.proofs.Unhinted.{plain_shape}
 use Rattle.plist_binwrite.proofs.Placing.{any_at}
 use Rattle.plist_binwrite.proofs.Sends.{sends_io}
 
-module _ (es : List PlainEvent) (plan : Plan) (order now marks places : List ℕ) (table : ℕ)
-    (same : now ≡ order) (p : IsPlanned es plan) (o : IsOrder (count_of plan) order marks)
-    (all : (k : ℕ) → k < count_of plan → list_any (eqb k) order ≡ true)
-    (long : length places ≡ count_of plan)
-    (at : (objects : ℕ → Object) → Describes es (numbers_of plan) objects
-    → table ≡ length (laid_out (reference_width (count_of plan)) objects now))
-    (laid : (objects : ℕ → Object) → Describes es (numbers_of plan) objects
-    → Laid (reference_width (count_of plan)) objects places now 8) (fits : (class : ℕ → ℕ)
-    → GoesBy es class plan → Fits class es) where
+module _ (es : List PlainEvent) (plan : Plan) (order marks : List ℕ) (told : Option ℕ)
+    (width count : ℕ) (wide : width ≡ reference_width count) (n : count ≡ count_of plan)
+    (p : IsPlanned es plan) (o : IsOrder (count_of plan) order marks)
+    (all : HasAll (count_of plan) order)
+    (size : (objects : ℕ → Object) → Describes es (numbers_of plan) objects
+    → TellsSize told (length (laid_out width objects order))) where
   pub ready_order : AllBelow (count_of plan) order
   ready_order i h = o.below (get_or order i 0) (any_at order i h)
 
-  pub ready_table : (objects : ℕ → Object) → Describes es (numbers_of plan) objects
-      → table ≡ length (laid_out (reference_width (length places)) objects order)
-  ready_table objects d =
-      at objects d ∙ (λ i. length (laid_out (reference_width (sym long i)) objects (same i)))
+  -- where the file doesn't fit, by any classes
+  pub oversized : IfSome told (λ table. ExceedsWith table count) → (class : ℕ → ℕ)
+      → GoesBy es class plan → IsOversized class es
+  oversized exceeds class goes t e =
+      far told exceeds (table_told es t class plan order marks told width count e goes p o all wide n
+      size)
+    where
+      objects : ℕ
+      objects = objects_by class (reference_width (count_by class t)) t
 
-  pub ready_file : (objects : ℕ → Object) → Describes es (numbers_of plan) objects → (class : ℕ → ℕ)
-      → GoesBy es class plan → (t : Tree) → es ≡ shape t
-      → IsFileBy class t (closed (laid_out (reference_width (length places)) objects order) places)
-  ready_file objects d class goes t e =
-      finish es t class p.class (numbers_of plan)
-      (firsts_of plan) order places objects e goes p.numbered p.classes p.all p.root d o.distinct
-      o.below all
-      (subst (λ l. Laid (reference_width (length places)) objects places l 8) same
-      (subst (λ n. Laid (reference_width n) objects places now 8) (sym long) (laid objects d)))
-      long (fits class goes t e) (omega (arith, long, p.numbered.small))
+      far : (told : Option ℕ) → IfSome told (λ table. ExceedsWith table count)
+          → TellsSize told (8 + objects) → 2 ^ 64 ≤ size_by class t
+      far None exceeds large = omega (arith, large)
+      far (Some table) exceeds is =
+          subst (λ k. 2 ^ 64 ≤ size_with k objects) (count_told es t class plan count e goes p n)
+          (exceeds objects is)
+
+  module _ (places : List ℕ) (table : ℕ) (at : told ≡ Some table) (fits : FitsWith table count)
+      (long : length places ≡ count_of plan)
+      (laid : IfSome told (λ _. (objects : ℕ → Object) → Describes es (numbers_of plan) objects
+      → Laid width objects places order 8)) where
+    widths : width ≡ reference_width (length places)
+    widths = wide ∙ ap reference_width (n ∙ sym long)
+
+    pub ready_table : (objects : ℕ → Object) → Describes es (numbers_of plan) objects
+        → table ≡ length (laid_out (reference_width (length places)) objects order)
+    ready_table objects d =
+        subst (λ t. TellsSize t (length (laid_out width objects order))) at (size objects d)
+        ∙ ap (λ w. length (laid_out w objects order)) widths
+
+    all_fit : (class : ℕ → ℕ) → GoesBy es class plan → Fits class es
+    all_fit class goes t e =
+        let objects = objects_by class (reference_width (count_by class t)) t in
+        subst (λ k. size_with k objects < 2 ^ 64) (count_told es t class plan count e goes p n)
+        (fits objects (subst (λ k. TellsSize k (8 + objects)) at
+        (table_told es t class plan order marks told width count e goes p o all wide n size)))
+
+    pub ready_file : (objects : ℕ → Object) → Describes es (numbers_of plan) objects
+        → (class : ℕ → ℕ) → GoesBy es class plan → (t : Tree) → es ≡ shape t
+        → IsFileBy class t (closed (laid_out (reference_width (length places)) objects order) places)
+    ready_file objects d class goes t e =
+        finish es t class p.class (numbers_of plan)
+        (firsts_of plan) order places objects e goes p.numbered p.classes p.all p.root d o.distinct
+        o.below all
+        (subst (λ w. Laid w objects places order 8) widths
+        (subst (λ k. IfSome k (λ _. (objects : ℕ → Object) → Describes es (numbers_of plan) objects
+        → Laid width objects places order 8)) at laid objects d))
+        long (all_fit class goes t e) (omega (arith, long, p.numbered.small))
 
 -- the parts that are put, one behind the other
-pub file_is : (objects : ℕ → Object) (order now places offsets : List ℕ) (table width : ℕ)
-    → now ≡ order → offsets ≡ places → width ≡ reference_width (length offsets)
+pub file_is : (objects : ℕ → Object) (order places : List ℕ) (table width : ℕ)
+    → width ≡ reference_width (length places)
     → table ≡ length (laid_out (reference_width (length places)) objects order)
-    → magic ++ (bodies width objects now ++ ending offsets table)
+    → magic ++ (bodies width objects order ++ ending places table)
     ≡ closed (laid_out (reference_width (length places)) objects order) places
-file_is objects order now places offsets table width a b wide e =
-    (λ i. magic ++ (bodies ((wide ∙ ap (λ l. reference_width (length l)) b) i) objects
-    (a i) ++ ending (b i) table))
+file_is objects order places table width wide e =
+    ap (λ w. magic ++ (bodies w objects order ++ ending places table)) wide
     ∙ sym (append_assoc magic (bodies (reference_width (length places)) objects order)
     (ending places table))
     ∙ ap (λ n. laid_out (reference_width (length places)) objects order ++ ending places n) e

@@ -13,13 +13,13 @@ use Rattle.plist_binwrite.specs.declared.held.Held.{Held}
 -- why no file is planned by these classes
 abbrev pub LacksPlan : Classes → Held → Error → Type 0
 LacksPlan classes held error =
-    IsUnplanned (num_of classes.of.items) (plain_events held) (fault_of error)
+    IsUnplanned (num_of classes.of) (plain_events held) (fault_of error)
 
 -- with one object for each class
 abbrev pub SendsByClass : {W : Type 0} → Classes → (W → Option (List ℕ)) → Held
     → Result (Unit {0}) Error → (old new : W) → Type 0
 SendsByClass classes contents held result old new =
-    SendsBy (num_of classes.of.items) contents (plain_events held) (answer_of result) old new
+    SendsBy (num_of classes.of) contents (plain_events held) (answer_of result) old new
 
 -- with any kind of file and its size
 abbrev pub SendsHeld : {W : Type 0} → (IsFile : Tree → List ℕ → Type 0) → (size : Tree → ℕ)

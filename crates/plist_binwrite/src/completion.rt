@@ -15,10 +15,11 @@ use crate::classes::{Classes, classes_of};
 use crate::forms::{put_ending, reference_width};
 use crate::held::Held;
 use crate::layout::order_objects;
+use crate::numbers::Numbers;
 use crate::objects::{Planned, put_objects};
 use crate::outlet::{finish, put};
 use crate::plan::{Plan, plan_by_class};
-use crate::size::check_size;
+use crate::size::{check_size, place_objects};
 use plist_base::Error;
 use std::alloc::Global;
 use std::io::Write;
@@ -30,25 +31,28 @@ const ROOM: usize = 1 << 16;
 #[derive(Drop)]
 struct Ready {
     plan: Plan,
-    order: Vec<usize>,
-    places: Vec<usize>,
+    order: Numbers,
+    places: Numbers,
     table: usize,
 }
 
 // Plans the file of the events of a tree, with one object for each class.
 fn make_ready(alloc: Global, events: &Held<'_>, classes: Classes) -> Result<Ready, Error>
     requires whole { IsBracketed (plain_events events.now) }
-    requires long { length classes.of.items ≡ length (plain_events events.now) }
-    requires below { AllBelow classes.count classes.of.items }
-    requires classes { AreClasses (plain_events events.now) (num_of classes.of.items) }
-    ensures ready { IfOk result (IsReadyBy (plain_events events.now) (num_of classes.of.items)) }
+    requires long { length classes.of ≡ length (plain_events events.now) }
+    requires below { AllBelow classes.count classes.of }
+    requires classes { AreClasses (plain_events events.now) (num_of classes.of) }
+    ensures ready { IfOk result (IsReadyBy (plain_events events.now) (num_of classes.of)) }
     ensures refused { IfErr result (LacksPlan classes events.now) }
 {
     let plan = plan_by_class(alloc, events, classes)?;
     let layout = order_objects(alloc, events, &plan)?;
     let mut places = layout.places;
     let order = layout.order;
-    match check_size(events, &plan, order.as_slice(), &mut places) {
+    let count = places.len() as u64;
+    let width = reference_width(count);
+    let table = place_objects(events, &plan, width, &order, &mut places)?;
+    match check_size(table, count) {
         Ok(table) => Ok(Ready {
             plan,
             order,
@@ -69,9 +73,7 @@ fn put_file<W: Write>(
     requires ready { IsReady (plain_events events.now) ready.now }
     ensures { PutsFile W.contents out.old room.old events.now ready.now result out.new room.new }
 {
-    let order = ready.order.as_slice();
-    let places = ready.places.as_slice();
-    let width = reference_width(places.len() as u64);
+    let width = reference_width(ready.places.len() as u64);
     match put(out, room, b"bplist00") {
         Ok(()) => {}
         Err(error) => return Err(error),
@@ -81,8 +83,8 @@ fn put_file<W: Write>(
         plan: &ready.plan,
         width,
     };
-    match put_objects(out, room, &file, order) {
-        Ok(()) => put_ending(out, room, places, ready.table),
+    match put_objects(out, room, &file, &ready.order) {
+        Ok(()) => put_ending(out, room, &ready.places, ready.table),
         Err(error) => Err(error),
     }
 }
@@ -128,9 +130,9 @@ pub fn complete_by_class<W: Write>(
     writer: &mut W,
 ) -> Result<(), Error>
     requires whole { AreWhole (plain_events events.now) }
-    requires long { length classes.of.items ≡ length (plain_events events.now) }
-    requires below { AllBelow classes.count classes.of.items }
-    requires classes { AreClasses (plain_events events.now) (num_of classes.of.items) }
+    requires long { length classes.of ≡ length (plain_events events.now) }
+    requires below { AllBelow classes.count classes.of }
+    requires classes { AreClasses (plain_events events.now) (num_of classes.of) }
     ensures { SendsByClass classes W.contents events.now result writer.old writer.new }
 {
     let mut room = make_room(alloc)?;

@@ -9,6 +9,7 @@ ghost use Rattle.plist_binwrite.specs.Forms.{big_endian, doublings, least_width,
 ghost use Rattle.plist_binwrite.specs.Outlets.{Puts};
 ghost use Rattle.plist_binwrite.specs.Written.{reference_width, offset_width, ending, trailer_of};
 
+use crate::numbers::Numbers;
 use crate::outlet::{put, put_both};
 pub use crate::scalar::put_scalar;
 pub use crate::text::put_text;
@@ -214,13 +215,13 @@ pub fn put_numbers<W: Write>(
     out: &mut W,
     room: &mut Vec<u8>,
     width: usize,
-    list: &[usize],
+    list: &Numbers,
 ) -> Result<(), Error>
     requires width { width ≤ 8 }
     ensures { Puts W.contents out.old room.old (table_form width list.now) result out.new room.new }
 {
-    for number in list {
-        match put_number(out, room, width, *number as u64) {
+    for index in 0..list.len() {
+        match put_number(out, room, width, list.get(index) as u64) {
             Ok(()) => {}
             Err(error) => return Err(error),
         }
@@ -241,7 +242,15 @@ pub fn put_trailer<W: Write>(
     let wide = offset_width(table as u64) as u8;
     let narrow = reference_width(count as u64) as u8;
     match put(out, room, &[0, 0, 0, 0, 0, 0, wide, narrow]) {
-        Ok(()) => put_numbers(out, room, 8, &[count, 0, table]),
+        Ok(()) => {}
+        Err(error) => return Err(error),
+    }
+    match put_number(out, room, 8, count as u64) {
+        Ok(()) => {}
+        Err(error) => return Err(error),
+    }
+    match put_number(out, room, 8, 0) {
+        Ok(()) => put_number(out, room, 8, table as u64),
         Err(error) => Err(error),
     }
 }
@@ -250,7 +259,7 @@ pub fn put_trailer<W: Write>(
 pub fn put_ending<W: Write>(
     out: &mut W,
     room: &mut Vec<u8>,
-    places: &[usize],
+    places: &Numbers,
     table: usize,
 ) -> Result<(), Error>
     ensures { Puts W.contents out.old room.old (ending places.now table) result out.new room.new }

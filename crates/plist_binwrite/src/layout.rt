@@ -1,6 +1,6 @@
 //! The order of a file's objects.
 
-ghost use Rattle.std.specs.Prelude.{◌≡◌, ◌<◌, ℕ, length, get_or, IfOk, OnOk};
+ghost use Rattle.std.specs.Prelude.{◌≡◌, ◌<◌, length, IfOk, OnOk};
 ghost use Rattle.plist_base.specs.Outcomes.{OnlyMemory};
 ghost use Rattle.plist_binwrite.specs.Held.{plain_events};
 ghost use Rattle.plist_binwrite.specs.inner.Laying.{IsOrder, KeepsMarks, HasAll};
@@ -8,7 +8,8 @@ ghost use Rattle.plist_binwrite.specs.inner.Planning.{IsPlanned, count_of};
 ghost use Rattle.plist_binwrite.specs.inner.Sizing.{MarksItem};
 
 use crate::held::Held;
-use crate::kinds::{Kind, push_place};
+use crate::kinds::Kind;
+use crate::numbers::Numbers;
 use crate::plan::Plan;
 use plist_base::Error;
 use std::alloc::Global;
@@ -19,13 +20,13 @@ fn order_one(
     events: &Held<'_>,
     plan: &Plan,
     place: usize,
-    order: &mut Vec<usize>,
-    marks: &mut Vec<usize>,
+    order: &mut Numbers,
+    marks: &mut Numbers,
 ) -> Result<(), Error>
     requires planned { IsPlanned (plain_events events.now) plan.now }
-    requires order { IsOrder (count_of plan.now) order.old.items marks.old.items }
-    ensures order { OnOk result (IsOrder (count_of plan.now) order.new.items marks.new.items) }
-    ensures keeps { OnOk result (KeepsMarks marks.old.items marks.new.items) }
+    requires order { IsOrder (count_of plan.now) order.old marks.old }
+    ensures order { OnOk result (IsOrder (count_of plan.now) order.new marks.new) }
+    ensures keeps { OnOk result (KeepsMarks marks.old marks.new) }
     ensures marked { OnOk result (MarksItem events.now plan.now place marks.new) }
     ensures memory { OnlyMemory result }
 {
@@ -33,11 +34,11 @@ fn order_one(
         return Ok(());
     }
     let number = plan.number(place);
-    if marks.as_slice()[number] != 0 {
+    if marks.get(number) != 0 {
         return Ok(());
     }
-    push_place(order, number)?;
-    marks[number] = 1;
+    order.push(number)?;
+    marks.set(number, 1)?;
     Ok(())
 }
 
@@ -46,13 +47,13 @@ fn order_keys(
     events: &Held<'_>,
     plan: &Plan,
     from: usize,
-    order: &mut Vec<usize>,
-    marks: &mut Vec<usize>,
+    order: &mut Numbers,
+    marks: &mut Numbers,
 ) -> Result<(), Error>
     requires planned { IsPlanned (plain_events events.now) plan.now }
-    requires order { IsOrder (count_of plan.now) order.old.items marks.old.items }
-    ensures order { OnOk result (IsOrder (count_of plan.now) order.new.items marks.new.items) }
-    ensures keeps { OnOk result (KeepsMarks marks.old.items marks.new.items) }
+    requires order { IsOrder (count_of plan.now) order.old marks.old }
+    ensures order { OnOk result (IsOrder (count_of plan.now) order.new marks.new) }
+    ensures keeps { OnOk result (KeepsMarks marks.old marks.new) }
     ensures memory { OnlyMemory result }
 {
     let mut key = from;
@@ -68,14 +69,14 @@ fn order_here(
     events: &Held<'_>,
     plan: &Plan,
     place: usize,
-    order: &mut Vec<usize>,
-    marks: &mut Vec<usize>,
+    order: &mut Numbers,
+    marks: &mut Numbers,
 ) -> Result<(), Error>
     requires planned { IsPlanned (plain_events events.now) plan.now }
     requires place { place < length (plain_events events.now) }
-    requires order { IsOrder (count_of plan.now) order.old.items marks.old.items }
-    ensures order { OnOk result (IsOrder (count_of plan.now) order.new.items marks.new.items) }
-    ensures keeps { OnOk result (KeepsMarks marks.old.items marks.new.items) }
+    requires order { IsOrder (count_of plan.now) order.old marks.old }
+    ensures order { OnOk result (IsOrder (count_of plan.now) order.new marks.new) }
+    ensures keeps { OnOk result (KeepsMarks marks.old marks.new) }
     ensures marked { OnOk result (MarksItem events.now plan.now place marks.new) }
     ensures memory { OnlyMemory result }
 {
@@ -86,20 +87,11 @@ fn order_here(
     }
 }
 
-fn zeros(alloc: Global, count: usize) -> Result<Vec<usize>, Error>
-    ensures long { IfOk result (λ v. length v.items ≡ count) }
-    ensures zero { IfOk result (λ v. (k : ℕ) → k < count → get_or v.items k 0 ≡ 0) }
-    ensures memory { OnlyMemory result }
-{
-    let places = vec![in alloc; 0usize; count]?;
-    Ok(places)
-}
-
 /// The numbers of a file's objects in its order, and a list with room for the place of each.
 #[derive(Drop)]
 pub struct Layout {
-    pub order: Vec<usize>,
-    pub places: Vec<usize>,
+    pub order: Numbers,
+    pub places: Numbers,
 }
 
 /// Puts the objects into order: that of the events, where the keys of a dictionary come before its
@@ -109,13 +101,13 @@ pub struct Layout {
 /// `OutOfMemory`, without an offset.
 pub fn order_objects(alloc: Global, events: &Held<'_>, plan: &Plan) -> Result<Layout, Error>
     requires planned { IsPlanned (plain_events events.now) plan.now }
-    ensures order { IfOk result (λ r. IsOrder (count_of plan.now) r.order.items r.places.items) }
-    ensures all { IfOk result (λ r. HasAll (count_of plan.now) r.order.items) }
+    ensures order { IfOk result (λ r. IsOrder (count_of plan.now) r.order r.places) }
+    ensures all { IfOk result (λ r. HasAll (count_of plan.now) r.order) }
     ensures memory { OnlyMemory result }
 {
     let count = plan.numbering.firsts.len();
-    let mut places = zeros(alloc, count)?;
-    let mut order = Vec::new(alloc);
+    let mut places = Numbers::zeros(alloc, count)?;
+    let mut order = Numbers::new(alloc);
     for place in 0..events.len() {
         order_here(events, plan, place, &mut order, &mut places)?;
     }

@@ -14,7 +14,7 @@ pub mod kinds;
 mod layout;
 mod lengths;
 mod numbering;
-mod numbers;
+pub mod numbers;
 mod objects;
 pub mod outlet;
 pub mod pending;

@@ -12,23 +12,20 @@ use crate::numbers::Numbers;
 use plist_base::Error;
 use std::alloc::Global;
 
-// An event that has no number yet.
-const NO_NUMBER: usize = usize::MAX;
-
 // Numbers the object of the event here, unless it has a number.
 fn number_one(
     events: &Held<'_>,
-    classes: &[usize],
-    ids: &mut Vec<usize>,
-    numbers: &mut Vec<usize>,
+    classes: &Numbers,
+    ids: &mut Numbers,
+    numbers: &mut Numbers,
     firsts: &mut Numbers,
     place: usize,
 ) -> Result<(), Error>
     requires plan { IsPlanOf events.now classes.now numbers.old firsts.old }
-    requires ids { HaveIds classes.now ids.old.items firsts.old }
+    requires ids { HaveIds classes.now ids.old firsts.old }
     requires long { length classes.now ≡ length (plain_events events.now) }
     ensures plan { OnOk result (IsPlanOf events.now classes.now numbers.new firsts.new) }
-    ensures ids { OnOk result (HaveIds classes.now ids.new.items firsts.new) }
+    ensures ids { OnOk result (HaveIds classes.now ids.new firsts.new) }
     ensures keeps { OnOk result (KeepsNumbers numbers.old firsts.old numbers.new firsts.new) }
     ensures numbered { OnOk result (NumbersItem events.now place numbers.new firsts.new) }
     ensures first { OnOk result (BeginsAt events.now place firsts.old firsts.new) }
@@ -37,36 +34,36 @@ fn number_one(
     if !events.has_item(place) {
         return Ok(());
     }
-    if numbers.as_slice()[place] < firsts.len() {
+    if numbers.get(place) < firsts.len() {
         return Ok(());
     }
-    let class = classes[place];
-    let number = ids.as_slice()[class];
+    let class = classes.get(place);
+    let number = ids.get(class);
     if number < firsts.len() {
-        numbers[place] = number;
+        numbers.set(place, number)?;
         return Ok(());
     }
     let count = firsts.len();
     firsts.push(place)?;
-    ids[class] = count;
-    numbers[place] = count;
+    ids.set(class, count)?;
+    numbers.set(place, count)?;
     Ok(())
 }
 
 // Numbers the items of an array from here on.
 fn number_items(
     events: &Held<'_>,
-    classes: &[usize],
-    ids: &mut Vec<usize>,
-    numbers: &mut Vec<usize>,
+    classes: &Numbers,
+    ids: &mut Numbers,
+    numbers: &mut Numbers,
     firsts: &mut Numbers,
     from: usize,
 ) -> Result<(), Error>
     requires plan { IsPlanOf events.now classes.now numbers.old firsts.old }
-    requires ids { HaveIds classes.now ids.old.items firsts.old }
+    requires ids { HaveIds classes.now ids.old firsts.old }
     requires long { length classes.now ≡ length (plain_events events.now) }
     ensures plan { OnOk result (IsPlanOf events.now classes.now numbers.new firsts.new) }
-    ensures ids { OnOk result (HaveIds classes.now ids.new.items firsts.new) }
+    ensures ids { OnOk result (HaveIds classes.now ids.new firsts.new) }
     ensures keeps { OnOk result (KeepsNumbers numbers.old firsts.old numbers.new firsts.new) }
     ensures numbered { OnOk result (NumbersItems events.now from numbers.new firsts.new) }
     ensures memory { OnlyMemory result }
@@ -82,18 +79,18 @@ fn number_items(
 // Numbers the values of a dictionary, or its keys, from here on.
 fn number_halves(
     events: &Held<'_>,
-    classes: &[usize],
-    ids: &mut Vec<usize>,
-    numbers: &mut Vec<usize>,
+    classes: &Numbers,
+    ids: &mut Numbers,
+    numbers: &mut Numbers,
     firsts: &mut Numbers,
     from: usize,
     values: bool,
 ) -> Result<(), Error>
     requires plan { IsPlanOf events.now classes.now numbers.old firsts.old }
-    requires ids { HaveIds classes.now ids.old.items firsts.old }
+    requires ids { HaveIds classes.now ids.old firsts.old }
     requires long { length classes.now ≡ length (plain_events events.now) }
     ensures plan { OnOk result (IsPlanOf events.now classes.now numbers.new firsts.new) }
-    ensures ids { OnOk result (HaveIds classes.now ids.new.items firsts.new) }
+    ensures ids { OnOk result (HaveIds classes.now ids.new firsts.new) }
     ensures keeps { OnOk result (KeepsNumbers numbers.old firsts.old numbers.new firsts.new) }
     ensures numbered { OnOk result (NumbersHalf events.now values from numbers.new firsts.new) }
     ensures memory { OnlyMemory result }
@@ -110,18 +107,18 @@ fn number_halves(
 // Numbers the keys of the collection that begins here, and then its values.
 fn number_children(
     events: &Held<'_>,
-    classes: &[usize],
-    ids: &mut Vec<usize>,
-    numbers: &mut Vec<usize>,
+    classes: &Numbers,
+    ids: &mut Numbers,
+    numbers: &mut Numbers,
     firsts: &mut Numbers,
     place: usize,
 ) -> Result<(), Error>
     requires plan { IsPlanOf events.now classes.now numbers.old firsts.old }
-    requires ids { HaveIds classes.now ids.old.items firsts.old }
+    requires ids { HaveIds classes.now ids.old firsts.old }
     requires long { length classes.now ≡ length (plain_events events.now) }
     requires place { place < length (plain_events events.now) }
     ensures plan { OnOk result (IsPlanOf events.now classes.now numbers.new firsts.new) }
-    ensures ids { OnOk result (HaveIds classes.now ids.new.items firsts.new) }
+    ensures ids { OnOk result (HaveIds classes.now ids.new firsts.new) }
     ensures keeps { OnOk result (KeepsNumbers numbers.old firsts.old numbers.new firsts.new) }
     ensures numbered { OnOk result (NumbersChildren events.now place numbers.new firsts.new) }
     ensures memory { OnlyMemory result }
@@ -142,7 +139,7 @@ fn number_children(
 /// object.
 #[derive(Drop)]
 pub struct Numbering {
-    pub numbers: Vec<usize>,
+    pub numbers: Numbers,
     pub firsts: Numbers,
 }
 
@@ -151,7 +148,7 @@ pub struct Numbering {
 pub fn number_by_class(
     alloc: Global,
     events: &Held<'_>,
-    classes: &[usize],
+    classes: &Numbers,
     count: usize,
 ) -> Result<Numbering, Error>
     requires long { length classes.now ≡ length (plain_events events.now) }
@@ -161,9 +158,9 @@ pub fn number_by_class(
     ensures root { IfOk result (NumbersRoot events.now) }
     ensures memory { OnlyMemory result }
 {
-    let mut numbers = vec![in alloc; NO_NUMBER; events.len()]?;
+    let mut numbers = Numbers::marks(alloc, events.len())?;
     let mut firsts = Numbers::new(alloc);
-    let mut ids = vec![in alloc; NO_NUMBER; count]?;
+    let mut ids = Numbers::marks(alloc, count)?;
     if events.len() == 0 {
         return Ok(Numbering { numbers, firsts });
     }

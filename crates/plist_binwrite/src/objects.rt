@@ -8,6 +8,7 @@ ghost use Rattle.plist_binwrite.specs.inner.Putting.{PutsArray, PutsDictionary, 
 use crate::forms::{put_length, put_number, put_scalar};
 use crate::held::Held;
 use crate::kinds::{Kind, half_of};
+use crate::numbers::Numbers;
 use crate::plan::Plan;
 use crate::size::count_items;
 use plist_base::Error;
@@ -139,15 +140,15 @@ pub fn put_objects<W: Write>(
     out: &mut W,
     room: &mut Vec<u8>,
     file: &Planned<'_>,
-    order: &[usize],
+    order: &Numbers,
 ) -> Result<(), Error>
     requires planned { IsPlanned (events_in file.now) file.now.plan.now }
     requires width { file.now.width ≤ 8 }
     requires order { AllBelow (count_of file.now.plan.now) order.now }
     ensures { PutsOrder W.contents out.old room.old file.now order.now result out.new room.new }
 {
-    for number in order {
-        let first = file.plan.first(*number);
+    for index in 0..order.len() {
+        let first = file.plan.first(order.get(index));
         match put_object(out, room, file, first) {
             Ok(()) => {}
             Err(error) => return Err(error),

@@ -24,7 +24,7 @@ impl Plan {
         requires { place < length (numbers_of self.now) }
         ensures { result ≡ num_of (numbers_of self.now) place }
     {
-        self.numbering.numbers.as_slice()[place]
+        self.numbering.numbers.get(place)
     }
 
     /// The place of the first event of an object.
@@ -42,13 +42,13 @@ impl Plan {
 /// `OutOfMemory`, without an offset.
 pub fn plan_by_class(alloc: Global, events: &Held<'_>, classes: Classes) -> Result<Plan, Error>
     requires whole { IsBracketed (plain_events events.now) }
-    requires long { length classes.of.items ≡ length (plain_events events.now) }
-    requires below { AllBelow classes.count classes.of.items }
-    requires classes { AreClasses (plain_events events.now) (num_of classes.of.items) }
+    requires long { length classes.of ≡ length (plain_events events.now) }
+    requires below { AllBelow classes.count classes.of }
+    requires classes { AreClasses (plain_events events.now) (num_of classes.of) }
     ensures planned { IfOk result (λ plan. IsPlanned (plain_events events.now) plan) }
-    ensures goes { IfOk result (GoesBy (plain_events events.now) (num_of classes.of.items)) }
+    ensures goes { IfOk result (GoesBy (plain_events events.now) (num_of classes.of)) }
     ensures memory { OnlyMemory result }
 {
-    let numbering = number_by_class(alloc, events, classes.of.as_slice(), classes.count)?;
+    let numbering = number_by_class(alloc, events, &classes.of, classes.count)?;
     Ok(Plan { numbering })
 }

@@ -1,19 +1,20 @@
 //! How many bytes the objects and the file will have, before any byte is sent. A size of 2^64 or
 //! more is `None`.
 
-ghost use Rattle.std.specs.Prelude.{◌≡◌, ◌+◌, ◌^◌, ◌<◌, ◌≤◌, ℕ, length, true, false, IfOk, IfErr, IfSome};
-ghost use Rattle.plist_base.specs.Outcomes.{OnlyFault};
+ghost use Rattle.std.specs.Prelude.{◌≡◌, ◌+◌, ◌^◌, ◌<◌, ◌≤◌, ℕ, length, true, false, IfOk, IfErr, IfSome, OnOk, Some};
+ghost use Rattle.plist_base.specs.Outcomes.{OnlyFault, OnlyMemory};
 ghost use Rattle.plist_base.specs.Faults.{PlistTooLarge, fault_nowhere};
 ghost use Rattle.plist_binwrite.specs.Held.{plain_events};
-ghost use Rattle.plist_binwrite.specs.inner.Laying.{IsOrder, HasAll};
+ghost use Rattle.plist_binwrite.specs.inner.Laying.{IsOrder};
 ghost use Rattle.plist_binwrite.specs.inner.Planning.{IsPlanned, count_of};
 ghost use Rattle.plist_binwrite.specs.Sizes.{TellsSize, size_with};
-ghost use Rattle.plist_binwrite.specs.inner.Sizing.{AreLaid, AreLaidOut, CountsItems, ExceedsPlan, ExceedsWith, FitsPlan, FitsWith, IsTable, IsWritableAt, TellsEnd, TellsSizeAt};
+ghost use Rattle.plist_binwrite.specs.inner.Sizing.{AreLaid, CountsItems, ExceedsWith, FitsWith, IsWritableAt, TellsEnd, TellsSizeAt};
 
 use crate::forms::{offset_width, reference_width};
 use crate::held::Held;
 use crate::kinds::Kind;
 use crate::lengths::{add, length_of_collection, length_of_scalar};
+use crate::numbers::Numbers;
 use crate::plan::Plan;
 use plist_base::{Error, ErrorKind};
 
@@ -65,29 +66,35 @@ fn place_or_none(told: Option<u64>) -> usize
     }
 }
 
-// Gives each object its place, in this order from behind the magic on. The place behind them all.
-fn place_objects(
+/// Gives each object its place, in this order from behind the magic on. The place behind them all,
+/// which is that of the offset table.
+///
+/// # Errors
+/// `OutOfMemory`, without an offset.
+pub fn place_objects(
     events: &Held<'_>,
     plan: &Plan,
     width: usize,
-    order: &[usize],
-    places: &mut Vec<usize>,
-) -> Option<u64>
+    order: &Numbers,
+    places: &mut Numbers,
+) -> Result<Option<u64>, Error>
     requires planned { IsPlanned (plain_events events.now) plan.now }
     requires fits { count_of plan.now ≤ 256 ^ width }
-    requires order { IsOrder (count_of plan.now) order.now places.old.items }
-    ensures long { length places.new.items ≡ count_of plan.now }
-    ensures size { TellsEnd events.now plan.now width order.now result }
-    ensures laid { IfSome result (λ _. AreLaid events.now plan.now width order.now places.new) }
+    requires order { IsOrder (count_of plan.now) order.now places.old }
+    ensures long { OnOk result (length places.new ≡ count_of plan.now) }
+    ensures size { IfOk result (TellsEnd events.now plan.now width order.now) }
+    ensures laid { IfOk result (AreLaid events.now plan.now width order.now places.new) }
+    ensures memory { OnlyMemory result }
 {
     let mut at = Some(8);
-    for number in order {
-        places[*number] = place_or_none(at);
-        let first = plan.first(*number);
+    for index in 0..order.len() {
+        let number = order.get(index);
+        places.set(number, place_or_none(at))?;
+        let first = plan.first(number);
         let size = size_of_object(events, plan, width, first);
         at = add(at, size);
     }
-    at
+    Ok(at)
 }
 
 // The size of a file with so many objects, whose offset table lies here.
@@ -109,37 +116,19 @@ fn has_size(table: u64, count: u64) -> bool
     }
 }
 
-/// Gives each object its place, and tests the size of the file of the tree whose events these are.
-/// The place of its offset table. It takes no memory.
+/// Tests the size of a file of so many objects, whose offset table lies here. The place of the
+/// table. It takes no memory.
 ///
 /// # Errors
 /// `PlistTooLarge`, without an offset, exactly where the file would have 2^64 bytes or more.
-pub fn check_size(
-    events: &Held<'_>,
-    plan: &Plan,
-    order: &[usize],
-    places: &mut Vec<usize>,
-) -> Result<u64, Error>
-    requires planned { IsPlanned (plain_events events.now) plan.now }
-    requires order { IsOrder (count_of plan.now) order.now places.old.items }
-    requires all { HasAll (count_of plan.now) order.now }
-    ensures long { length places.new.items ≡ count_of plan.now }
-    ensures table { IfOk result (IsTable events.now plan.now order.now) }
-    ensures laid { IfOk result (λ _. AreLaidOut events.now plan.now order.now places.new) }
-    ensures fits { IfOk result (λ _. FitsPlan events.now plan.now) }
+pub fn check_size(table: Option<u64>, count: u64) -> Result<u64, Error>
+    ensures table { IfOk result (λ place. table ≡ Some place) }
+    ensures fits { IfOk result (λ place. FitsWith place count) }
     ensures kind { OnlyFault result (fault_nowhere PlistTooLarge) }
-    ensures oversized { IfErr result (λ _. ExceedsPlan events.now plan.now) }
+    ensures oversized { IfErr result (λ _. IfSome table (λ place. ExceedsWith place count)) }
 {
-    let count = plan.numbering.firsts.len();
-    let width = reference_width(count as u64);
-    match place_objects(events, plan, width, order, places) {
-        Some(table) => {
-            if has_size(table, count as u64) {
-                Ok(table)
-            } else {
-                Err(ErrorKind::PlistTooLarge.without_position())
-            }
-        }
-        None => Err(ErrorKind::PlistTooLarge.without_position()),
+    match table {
+        Some(place) if has_size(place, count) => Ok(place),
+        _ => Err(ErrorKind::PlistTooLarge.without_position()),
     }
 }

@@ -5,7 +5,7 @@ ghost use Rattle.std.specs.Char.Escape.{encode_utf16};
 ghost use Rattle.plist_binwrite.specs.Forms.{units_of, is_ascii_text, text_form, ascii_form, char_units, text_units, wide_form};
 ghost use Rattle.plist_binwrite.specs.Outlets.{Puts};
 
-use crate::forms::{put_length, put_number, put_numbers};
+use crate::forms::{put_length, put_number};
 use crate::outlet::put;
 use plist_base::Error;
 use std::io::Write;
@@ -18,13 +18,11 @@ fn put_char<W: Write>(out: &mut W, room: &mut Vec<u8>, c: char) -> Result<(), Er
     if code < 0x1_0000 {
         return put_number(out, room, 2, code);
     }
-    let above = (code - 0x1_0000) as usize;
-    put_numbers(
-        out,
-        room,
-        2,
-        &[0xd800 + above / 0x400, 0xdc00 + above % 0x400],
-    )
+    let above = code - 0x1_0000;
+    match put_number(out, room, 2, 0xd800 + above / 0x400) {
+        Ok(()) => put_number(out, room, 2, 0xdc00 + above % 0x400),
+        Err(error) => Err(error),
+    }
 }
 
 fn put_units<W: Write>(out: &mut W, room: &mut Vec<u8>, text: &str) -> Result<(), Error>

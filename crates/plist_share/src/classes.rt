@@ -13,6 +13,7 @@ use plist_binwrite::Held;
 use plist_binwrite::children::children;
 use plist_binwrite::classes::{Classes, classes_of};
 use plist_binwrite::kinds::{Kind, push_place};
+use plist_binwrite::numbers::Numbers;
 use std::alloc::Global;
 
 // A collection by its kind and the classes of its children, a dictionary's keys before its values.
@@ -44,13 +45,13 @@ fn index_of(seen: &mut IndexSet<Collection>, collection: Collection) -> Result<u
 }
 
 // Appends the classes of the events at these places.
-fn push_classes(found: &mut Vec<usize>, classes: &[usize], places: &[usize]) -> Result<(), Error>
+fn push_classes(found: &mut Vec<usize>, classes: &Numbers, places: &[usize]) -> Result<(), Error>
     requires { AllBelow (length classes.now) places.now }
     ensures pushed { OnOk result (AddsClasses found.old classes.now places.now found.new) }
     ensures memory { OnlyMemory result }
 {
     for place in places {
-        push_place(found, classes[*place])?;
+        push_place(found, classes.get(*place))?;
     }
     Ok(())
 }
@@ -59,7 +60,7 @@ fn push_classes(found: &mut Vec<usize>, classes: &[usize], places: &[usize]) -> 
 fn classes_within(
     alloc: Global,
     events: &Held<'_>,
-    classes: &[usize],
+    classes: &Numbers,
     place: usize,
     places: &mut Places,
 ) -> Result<Vec<usize>, Error>
@@ -91,7 +92,7 @@ fn begins_dictionary(events: &Held<'_>, place: usize) -> bool
 fn class_of_collection(
     alloc: Global,
     events: &Held<'_>,
-    classes: &[usize],
+    classes: &Numbers,
     base: usize,
     place: usize,
     places: &mut Places,
@@ -124,15 +125,15 @@ fn give_class(
     base: usize,
     place: usize,
     places: &mut Places,
-    classes: &mut Vec<usize>,
+    classes: &mut Numbers,
     seen: &mut IndexSet<Collection>,
 ) -> Result<(), Error>
     requires place { place < length (plain_events events.now) }
-    requires long { length classes.old.items ≡ length (plain_events events.now) }
+    requires long { length classes.old ≡ length (plain_events events.now) }
     requires classes { HaveFrom events.now base classes.old seen.old.keys (place + 1) }
     requires apart { AreApart (keys_seen seen.old.keys) }
     ensures classes { OnOk result (HaveFrom events.now base classes.new seen.new.keys place) }
-    ensures long { OnOk result (length classes.new.items ≡ length (plain_events events.now)) }
+    ensures long { OnOk result (length classes.new ≡ length (plain_events events.now)) }
     ensures apart { OnOk result (AreApart (keys_seen seen.new.keys)) }
     ensures memory { OnlyMemory result }
 {
@@ -140,16 +141,8 @@ fn give_class(
         Kind::Scalar => Ok(()),
         Kind::End => Ok(()),
         _ => {
-            let class = class_of_collection(
-                alloc,
-                events,
-                classes.as_slice(),
-                base,
-                place,
-                places,
-                seen,
-            )?;
-            classes[place] = class;
+            let class = class_of_collection(alloc, events, classes, base, place, places, seen)?;
+            classes.set(place, class)?;
             Ok(())
         }
     }
@@ -160,10 +153,10 @@ fn give_class(
 /// # Errors
 /// `OutOfMemory`, without an offset.
 pub fn tree_classes(alloc: Global, events: &Held<'_>) -> Result<Classes, Error>
-    ensures long { IfOk result (λ r. length r.of.items ≡ length (plain_events events.now)) }
-    ensures below { IfOk result (λ r. AllBelow r.count r.of.items) }
-    ensures objects { IfOk result (λ r. AreClasses (plain_events events.now) (num_of r.of.items)) }
-    ensures trees { IfOk result (λ r. TellTrees (plain_events events.now) (num_of r.of.items)) }
+    ensures long { IfOk result (λ r. length r.of ≡ length (plain_events events.now)) }
+    ensures below { IfOk result (λ r. AllBelow r.count r.of) }
+    ensures objects { IfOk result (λ r. AreClasses (plain_events events.now) (num_of r.of)) }
+    ensures trees { IfOk result (λ r. TellTrees (plain_events events.now) (num_of r.of)) }
     ensures memory { OnlyMemory result }
 {
     let scalars = classes_of(alloc, events)?;

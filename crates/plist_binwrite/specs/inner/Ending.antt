@@ -22,17 +22,17 @@ numbers_in ready = numbers_of ready.plan
 -- the file that is planned, where its objects are these
 abbrev pub file_of : Ready → (ℕ → Object) → List ℕ
 file_of ready objects =
-    closed (laid_out (reference_width (length ready.places.items)) objects ready.order.items)
-    ready.places.items
+    closed (laid_out (reference_width (length ready.places)) objects ready.order)
+    ready.places
 
 -- all is ready for sending the file of the tree whose events these are
 pub record IsReady (es : List PlainEvent) (ready : Ready) : Type 0 where
   pub planned : IsPlanned es ready.plan
-  pub order : AllBelow (count_of ready.plan) ready.order.items
-  pub long : length ready.places.items ≡ count_of ready.plan
+  pub order : AllBelow (count_of ready.plan) ready.order
+  pub long : length ready.places ≡ count_of ready.plan
   pub table : (objects : ℕ → Object) → Describes es (numbers_of ready.plan) objects
       → ready.table
-      ≡ length (laid_out (reference_width (length ready.places.items)) objects ready.order.items)
+      ≡ length (laid_out (reference_width (length ready.places)) objects ready.order)
   pub file : (objects : ℕ → Object) → Describes es (numbers_of ready.plan) objects
       → (class : ℕ → ℕ) → GoesBy es class ready.plan → (t : Tree) → es ≡ shape t
       → IsFileBy class t (file_of ready objects)

@@ -8,7 +8,7 @@ use Rattle.plist_binwrite.specs.inner.PlansBy.{IsPlan}
 
 -- by event, the number of its object; and by number, the place of the first event of that object
 abbrev pub numbers_of : Plan → List ℕ
-numbers_of plan = plan.numbering.numbers.items
+numbers_of plan = plan.numbering.numbers
 
 abbrev pub firsts_of : Plan → List ℕ
 firsts_of plan = plan.numbering.firsts

@@ -1,26 +1,23 @@
 -- Words for the order of a planned file's objects, their places, and its size.
-use Rattle.std.specs.Prelude.{◌≡◌, ◌≢◌, ℕ, ◌+◌, ◌^◌, ◌<◌, ◌≤◌, false, List, length, get_or, Option}
-use Rattle.std.specs.declared.alloc.Global.{Global}
-use Rattle.std.specs.declared.vec.Vec.{Vec}
+use Rattle.std.specs.Prelude.{◌≡◌, ◌≢◌, ℕ, ◌+◌, ◌^◌, ◌<◌, ◌≤◌, false, List, length, get_or, Option, IfSome}
 use Rattle.plist_base.specs.Trees.{Tree, Trees, number_of_trees}
 use Rattle.plist_binread.specs.Object.{Object}
-use Rattle.plist_binwrite.specs.Classes.{Fits, IsOversized}
 use Rattle.plist_binwrite.specs.Forms.{IsWritable}
 use Rattle.plist_binwrite.specs.Held.{plain_events, is_stop, held_at, num_of, Describes}
 use Rattle.plist_binwrite.specs.Numberings.{obj_of}
 use Rattle.plist_binwrite.specs.Sizes.{TellsSize, object_size, size_with}
 use Rattle.plist_binwrite.specs.Standing.{Sits, SitsItems}
-use Rattle.plist_binwrite.specs.Written.{Laid, reference_width}
+use Rattle.plist_binwrite.specs.Written.{Laid}
 use Rattle.plist_binwrite.specs.declared.held.Held.{Held}
 use Rattle.plist_binwrite.specs.declared.plan.Plan.{Plan}
 use Rattle.plist_binwrite.specs.inner.Laying.{laid_out}
-use Rattle.plist_binwrite.specs.inner.Planning.{GoesBy, count_of, numbers_of}
+use Rattle.plist_binwrite.specs.inner.Planning.{numbers_of}
 
 -- the object of an item that stands here has a mark
-abbrev pub MarksItem : Held → Plan → (place : ℕ) → (marks : Vec ℕ Global) → Type 0
+abbrev pub MarksItem : Held → Plan → (place : ℕ) → (marks : List ℕ) → Type 0
 MarksItem held plan place marks = place < length (plain_events held)
     → is_stop (held_at held place) ≡ false
-    → get_or marks.items (num_of (numbers_of plan) place) 0 ≢ 0
+    → get_or marks (num_of (numbers_of plan) place) 0 ≢ 0
 
 -- so many items of an array stand from here on
 abbrev pub CountsItems : Held → (from count : ℕ) → Type 0
@@ -53,26 +50,8 @@ module _ (held : Held) (plan : Plan) where
       → Describes (plain_events held) (numbers_of plan) objects
       → TellsSize told (length (laid_out width objects order))
 
-  -- they lie at these places
-  abbrev pub AreLaid : (width : ℕ) → (order : List ℕ) → (places : Vec ℕ Global) → Type 0
-  AreLaid width order places = (objects : ℕ → Object)
+  -- they lie at these places, if their end is told
+  abbrev pub AreLaid : (width : ℕ) → (order places : List ℕ) → (told : Option ℕ) → Type 0
+  AreLaid width order places told = IfSome told (λ _. (objects : ℕ → Object)
       → Describes (plain_events held) (numbers_of plan) objects
-      → Laid width objects places.items order 8
-
-  -- the same with the least width of references, and where the offset table lies then
-  abbrev pub AreLaidOut : (order : List ℕ) → (places : Vec ℕ Global) → Type 0
-  AreLaidOut order places = AreLaid (reference_width (count_of plan)) order places
-
-  abbrev pub IsTable : (order : List ℕ) → (table : ℕ) → Type 0
-  IsTable order table = (objects : ℕ → Object)
-      → Describes (plain_events held) (numbers_of plan) objects
-      → table ≡ length (laid_out (reference_width (count_of plan)) objects order)
-
-  -- the file has less than 2^64 bytes, or hasn't
-  abbrev pub FitsPlan : Type 0
-  FitsPlan = (class : ℕ → ℕ) → GoesBy (plain_events held) class plan
-      → Fits class (plain_events held)
-
-  abbrev pub ExceedsPlan : Type 0
-  ExceedsPlan = (class : ℕ → ℕ) → GoesBy (plain_events held) class plan
-      → IsOversized class (plain_events held)
+      → Laid width objects places order 8)

@@ -88,8 +88,8 @@ IsClassAt held classes base seen place class = (t : Tree) → Sits (plain_events
     t place class
 
 -- from this place on each tree has its class, and before it the scalars have theirs
-abbrev pub HaveFrom : Held → (base : ℕ) → (classes : Vec ℕ Global) → (seen : List Collection)
+abbrev pub HaveFrom : Held → (base : ℕ) → (classes : List ℕ) → (seen : List Collection)
     → (from : ℕ) → Type 0
 HaveFrom held base classes seen from =
     (scalar : ℕ → ℕ) × AreOwners (plain_events held) scalar base
-    × HaveClasses (num_of classes.items) base scalar (plain_events held) (keys_seen seen) from
+    × HaveClasses (num_of classes) base scalar (plain_events held) (keys_seen seen) from

@@ -4,8 +4,8 @@ use Rattle.plist_binwrite.proofs.Holding.{long_shown}
 use Rattle.plist_binwrite.proofs.Owners.{owners}
 use Rattle.plist_binwrite.proofs.classes.classes_of.Goals as goal
 
-pub give_class-count-requires-clause-high : goal.give_class-count-requires-clause-high
-give_class-count-requires-clause-high c =
+pub give_class-requires-clause-high : goal.give_class-requires-clause-high
+give_class-requires-clause-high c =
     let entries = c.args.events.now.entries in
     omega (
       arith,
@@ -20,7 +20,7 @@ give_class-count-requires-clause-high c =
 
 pub returns-clause-classes : goal.returns-clause-classes
 returns-clause-classes c =
-    owners (plain_events c.args.events.now) (num_of c.loop-place.of.items)
+    owners (plain_events c.args.events.now) (num_of c.loop-place.of)
     (scalars_of c.args.events.now) c.loop-place.count c.loop-place.place
     (omega (arith, c.loop-place-test.false)) c.loop-place.invariant.have
     c.args.events.now.kept.apart c.loop-place.invariant.low

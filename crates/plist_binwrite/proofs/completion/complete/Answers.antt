@@ -14,23 +14,23 @@ complete_by_class-requires g c =
       whole = c.requires.whole;
       long = c.in_ok-classes.ensures.long;
       below =
-          owners_below c.args.events.now classes.of.items classes.count
+          owners_below c.args.events.now classes.of classes.count
           c.in_ok-classes.ensures.long o;
       classes =
-          owners_classes (plain_events c.args.events.now) (num_of classes.of.items) classes.count o;
+          owners_classes (plain_events c.args.events.now) (num_of classes.of) classes.count o;
     }
 
 pub returns-in-Ok : goal.returns-in-Ok
 returns-in-Ok g c =
     let classes = c.in_ok-classes.classes in
-    sends_plainly g.W.Write.contents c.args.events.now (num_of classes.of.items)
+    sends_plainly g.W.Write.contents c.args.events.now (num_of classes.of)
     classes.count (Ok tt) c.args.writer.now c.complete_by_class.new.writer
     c.in_ok-classes.ensures.classes c.in-Ok.ensures
 
 pub returns-in-Err : goal.returns-in-Err
 returns-in-Err g c =
     let classes = c.in_ok-classes.classes in
-    sends_plainly g.W.Write.contents c.args.events.now (num_of classes.of.items)
+    sends_plainly g.W.Write.contents c.args.events.now (num_of classes.of)
     classes.count (Err (fault_of c.in-Err.error)) c.args.writer.now
     c.complete_by_class.new.writer c.in_ok-classes.ensures.classes c.in-Err.ensures
 

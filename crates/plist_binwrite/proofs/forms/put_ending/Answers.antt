@@ -8,7 +8,8 @@ pub returns-in-Ok : goal.returns-in-Ok
 returns-in-Ok g c =
     puts_as (ap
     (λ w. table_form w c.args.places.now ++ trailer_of (length c.args.places.now) c.args.table)
-    c.offset_width-width.ensures.value) (puts_then c.in-Ok.ensures c.put_trailer.ensures)
+    c.offset_width-width.ensures.value) (puts_then c.in-Ok.ensures
+    (puts_as (ap (λ count. trailer_of count c.args.table) c.len.ensures) c.put_trailer.ensures))
 
 pub returns-in-Err : goal.returns-in-Err
 returns-in-Err g c =

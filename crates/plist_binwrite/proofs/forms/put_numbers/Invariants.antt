@@ -3,8 +3,8 @@ use Rattle.plist_binwrite.specs.Forms.{table_form}
 use Rattle.plist_binwrite.specs.Outlets.{PutsBytes}
 use Rattle.plist_binwrite.proofs.forms.put_numbers.Given as goal
 
-abbrev pub invariant-loop-number : goal.invariant-loop-number
-invariant-loop-number g l =
+abbrev pub invariant-loop-index : goal.invariant-loop-index
+invariant-loop-index g l =
     PutsBytes (g.W.Write.contents l.initial.out) l.initial.room.items
-    (table_form l.width (take l.number-index l.list)) (Ok tt)
+    (table_form l.width (take l.index l.list)) (Ok tt)
     (g.W.Write.contents l.out) l.room.items

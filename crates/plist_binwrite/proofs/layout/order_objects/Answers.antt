@@ -1,5 +1,6 @@
-use Rattle.std.proofs.Common.{◌≡◌, ◌≢◌, inl, inr, ℕ, ◌+◌, ◌<◌, List, length, get_or, arith, sym, ◌∙◌, subst, false}
+use Rattle.std.proofs.Common.{◌≡◌, ◌≢◌, inl, inr, ℕ, ◌+◌, ◌<◌, List, length, get_or, arith, sym, ap, ◌∙◌, subst, false}
 use Rattle.std.proofs.lemmas.Bool.Decides.{eqb_tells, leb_tells}
+use Rattle.std.proofs.lemmas.List.{length-replicate, get_or-replicate}
 use Rattle.std.proofs.Math.ListN.{get_or-eq_default}
 use Rattle.plist_binwrite.specs.Held.{plain_events, is_stop, event_at, num_of}
 use Rattle.plist_binwrite.specs.inner.Laying.{IsOrder, KeepsMarks}
@@ -32,14 +33,14 @@ all_zero xs n e h k =
 pub loop-place-init : goal.loop-place-init
 loop-place-init c =
     let count = c.len-count.result in
+    let places = c.in_ok-places.places in
+    let zeros = c.in_ok-places.ensures.zeros in
     let n : c.len-count.result ≡ count_of c.args.plan.now = omega
-    (arith, c.len-count.ensures) in (
-      subst (λ l. IsOrder (count_of c.args.plan.now) l c.in_ok-places.places.items)
-          (sym c.new-order.ensures.items)
-          (order_none (count_of c.args.plan.now) c.in_ok-places.places.items
-          (c.in_ok-places.ensures.long
-          ∙ n) (all_zero c.in_ok-places.places.items count c.in_ok-places.ensures.long
-          c.in_ok-places.ensures.zero)),
+    (arith, c.len-count.ensures) in
+    let long : length places ≡ count = ap length zeros ∙ length-replicate count 0 in (
+      subst (λ l. IsOrder (count_of c.args.plan.now) l places) (sym c.new-order.ensures)
+          (order_none (count_of c.args.plan.now) places (long ∙ n) (all_zero places count long
+          (λ k h. ap (λ l. get_or l k 0) zeros ∙ get_or-replicate count k 0 0 h))),
       λ p h s. absurd (omega (arith, h)),
     )
 
@@ -47,7 +48,7 @@ pub loop-place-preserved : goal.loop-place-preserved
 loop-place-preserved c = (
   c.in_ok-order_here.ensures.order,
   marked_more (plain_events c.args.events.now)
-      (numbers_of c.args.plan.now) c.loop-place.places.items c.order_here.new.marks.items
+      (numbers_of c.args.plan.now) c.loop-place.places c.order_here.new.marks
       c.loop-place.place c.in_ok-order_here.ensures.keeps
       (c.in_ok-order_here.ensures.marked (omega (arith, c.loop-place-test.true)))
       c.loop-place.invariant.1,
@@ -56,7 +57,7 @@ loop-place-preserved c = (
 pub returns-clause-all : goal.returns-clause-all
 returns-clause-all c = λ k h.
     let known = c.requires.planned.numbered.known k h in
-    in_order (count_of c.args.plan.now) c.loop-place.order.items c.loop-place.places.items k
+    in_order (count_of c.args.plan.now) c.loop-place.order c.loop-place.places k
     c.loop-place.invariant.0
-    (subst (λ j. get_or c.loop-place.places.items j 0 ≢ 0) known.1
+    (subst (λ j. get_or c.loop-place.places j 0 ≢ 0) known.1
     (c.loop-place.invariant.1 _ (omega (arith, known.0, c.loop-place-test.false)) known.2))

@@ -1,4 +1,4 @@
-use Rattle.std.proofs.Common.{◌≡◌, ◌<◌, get_or, set, arith, sym, ap, ◌∙◌, subst, refl}
+use Rattle.std.proofs.Common.{◌≡◌, ◌<◌, get_or, set, arith, sym, subst, refl}
 use Rattle.plist_binwrite.specs.inner.Laying.{IsOrder}
 use Rattle.plist_binwrite.specs.inner.Planning.{count_of}
 use Rattle.plist_binwrite.proofs.Layouts.{order_more}
@@ -6,6 +6,7 @@ use Rattle.plist_binwrite.proofs.layout.order_one.Goals as goal
 
 pub returns-clause-order : goal.returns-clause-order
 returns-clause-order c =
+    let count = count_of c.args.plan.now in
     let k = c.number-number.result in
     let y = c.if-not-has_item.ensures.yes refl in
     let low : c.number-number.result < count_of c.args.plan.now = omega (
@@ -14,9 +15,9 @@ returns-clause-order c =
       c.requires.planned.all c.args.place
           (omega (arith, y.0)) y.1,
     ) in
-    let zero : get_or c.args.marks.now.items c.number-number.result 0
-    ≡ 0 = ap (λ l. get_or l k 0) (sym c.as_slice.ensures.value) ∙ c.if-as_slice-number-ne0.false in
-    subst (λ l. IsOrder (count_of c.args.plan.now) l
-    (set c.args.marks.now.items c.number-number.result 1)) (sym c.in_ok-push_place.ensures.pushed)
-    (order_more (count_of c.args.plan.now) c.args.order.now.items c.args.marks.now.items k
-    c.requires.order low zero)
+    let zero : get_or c.args.marks.now c.number-number.result 0 ≡ 0 = omega
+    (arith, c.get.ensures, c.if-get-ne0.false) in
+    subst (λ marks. IsOrder count c.push.new.self marks) (sym c.in_ok-set.ensures.set)
+    (subst (λ order. IsOrder count order (set c.args.marks.now k 1))
+    (sym c.in_ok-push.ensures.pushed)
+    (order_more count c.args.order.now c.args.marks.now k c.requires.order low zero))

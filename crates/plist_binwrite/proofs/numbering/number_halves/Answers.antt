@@ -8,12 +8,12 @@ pub walk-preserved : goal.walk-preserved
 walk-preserved c =
     let y = c.walk-test.ensures.yes refl in
     let one = c.in_ok-number_one.ensures in
-    let ns = c.number_one.new.numbers.items in
+    let ns = c.number_one.new.numbers in
     let fs = c.number_one.new.firsts in (
       one.ids,
       one.plan,
       keeps_then c.walk.invariant.2 one.keeps,
-      λ ms s. half_next c.args.values (IsNumbered c.walk.numbers.items c.walk.firsts)
+      λ ms s. half_next c.args.values (IsNumbered c.walk.numbers c.walk.firsts)
           (IsNumbered ns fs) (c.walk.invariant.3 ms s) one.keeps.numbered y.1
           (subst (λ p. is_stop (event_at (plain_events c.args.events.now) p) ≡ false
           → IsNumbered ns fs p) c.half_of-place.ensures.half one.numbered)
@@ -22,6 +22,6 @@ walk-preserved c =
 
 pub returns-clause-numbered : goal.returns-clause-numbered
 returns-clause-numbered c = λ ms s.
-    half_stop c.args.values (IsNumbered c.walk.numbers.items c.walk.firsts)
+    half_stop c.args.values (IsNumbered c.walk.numbers c.walk.firsts)
     (c.walk.invariant.3 ms s)
     (elim (c.walk-test.ensures.no refl) [ inl h ↦ inl h | inr h ↦ inr (omega arith) ])

@@ -8,11 +8,11 @@ use Rattle.plist_binwrite.proofs.numbering.number_halves.Given as goal
 
 abbrev pub invariant-walk : goal.invariant-walk
 invariant-walk l =
-    HaveIds l.classes l.ids.items l.firsts
-    × IsPlan (plain_events l.events) (num_of l.classes) l.numbers.items l.firsts
-    × Keeps l.initial.numbers.items l.initial.firsts l.numbers.items l.firsts
+    HaveIds l.classes l.ids l.firsts
+    × IsPlan (plain_events l.events) (num_of l.classes) l.numbers l.firsts
+    × Keeps l.initial.numbers l.initial.firsts l.numbers l.firsts
     × ((ms : Members) → SitsPairs (plain_events l.events) ms l.from
-    → Half l.values (plain_events l.events) (IsNumbered l.numbers.items l.firsts) l.key
+    → Half l.values (plain_events l.events) (IsNumbered l.numbers l.firsts) l.key
     (half_places l.values ms l.from))
 
 abbrev pub decreases-walk : goal.decreases-walk

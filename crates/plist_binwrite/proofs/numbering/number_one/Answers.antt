@@ -1,61 +1,59 @@
-use Rattle.std.proofs.Common.{◌≡◌, ◌+◌, ◌<◌, ◌^◌, ◌++◌, ◌∷◌, [], length, set, arith, get_or, ◌≤◌, refl, length-append, sym, ap, subst}
+use Rattle.std.proofs.Common.{◌≡◌, ◌+◌, ◌<◌, ◌^◌, ◌∷◌, [], length, set, arith, get_or, ◌≤◌, refl, length-append, sym, ap, ◌∙◌, subst}
 use Rattle.plist_binwrite.specs.Held.{plain_events, num_of}
 use Rattle.plist_binwrite.specs.inner.PlansBy.{IsPlan, HaveIds}
 use Rattle.plist_binwrite.proofs.PlannedBy.{plan_new}
 use Rattle.plist_binwrite.proofs.Ids.{ids_new, none_yet}
 use Rattle.plist_binwrite.proofs.numbering.number_one.Goals as goal
-use Rattle.plist_binwrite.proofs.numbering.number_one.Goals.{After-numbers-2-1}
+use Rattle.plist_binwrite.proofs.numbering.number_one.Goals.{In_ok-set-3}
 
-count : (c : After-numbers-2-1) → c.len-count.result ≡ length c.args.firsts.now
-count c = c.len-count.ensures
-
-pushed : (c : After-numbers-2-1) → c.push.new.self
-    ≡ c.args.firsts.now ++ c.args.place ∷ []
-pushed c = c.in_ok-push.ensures.pushed
-
-small : (c : After-numbers-2-1) → length c.args.firsts.now + 1 < 2 ^ 64
+small : (c : In_ok-set-3) → length c.args.firsts.now + 1 < 2 ^ 64
 small c =
     omega (
       arith,
-      ap length (pushed c),
-      length-append c.args.firsts.now
-          (c.args.place ∷ []),
+      ap length c.in_ok-push.ensures.pushed,
+      length-append c.args.firsts.now (c.args.place ∷ []),
       c.in_ok-push.ensures.small,
     )
 
-within : (c : After-numbers-2-1) → c.args.place < length (plain_events c.args.events.now)
+within : (c : In_ok-set-3) → c.args.place < length (plain_events c.args.events.now)
 within c = (c.if-not-has_item.ensures.yes refl).0
 
-unnumbered : (c : After-numbers-2-1)
-    → length c.args.firsts.now ≤ get_or c.args.numbers.now.items c.args.place 0
-unnumbered c =
-    let v = ap (λ l. get_or l c.args.place 0) c.as_slice.ensures.value in omega
-    (arith, c.if-as_slice-place.false, v, c.len.ensures)
-
-without : (c : After-numbers-2-1) → length c.args.firsts.now ≤ get_or c.args.ids.now.items
-    (num_of c.args.classes.now c.args.place) 0
+without : (c : In_ok-set-3)
+    → length c.args.firsts.now ≤ get_or c.args.ids.now (num_of c.args.classes.now c.args.place) 0
 without c =
-    let v = ap (λ l. get_or l (num_of c.args.classes.now c.args.place) 0)
-    c.as_slice-2.ensures.value in omega
-    (arith, c.if-number-len.false, v, c.len-2.ensures)
+    let here = ap (λ k. get_or c.args.ids.now k 0) c.get-class.ensures in
+    omega (arith, c.if-number-len.false, c.get-number.ensures, here, c.len-2.ensures)
+
+ids_are : (c : In_ok-set-3) → c.set-2.new.self
+    ≡ set c.args.ids.now (num_of c.args.classes.now c.args.place) (length c.args.firsts.now)
+ids_are c =
+    c.in_ok-set-2.ensures.set
+    ∙ ap (λ k. set c.args.ids.now k c.len-count.result) c.get-class.ensures
+    ∙ ap (set c.args.ids.now (num_of c.args.classes.now c.args.place)) c.len-count.ensures
+
+numbers_are : (c : In_ok-set-3) → c.set-3.new.self
+    ≡ set c.args.numbers.now c.args.place (length c.args.firsts.now)
+numbers_are c =
+    c.in_ok-set-3.ensures.set ∙ ap (set c.args.numbers.now c.args.place) c.len-count.ensures
 
 pub returns-clause-ids : goal.returns-clause-ids
 returns-clause-ids c =
-    subst (λ k. HaveIds c.args.classes.now (set c.args.ids.now.items
-    (num_of c.args.classes.now c.args.place) k) c.push.new.self) (sym (count c))
-    (subst (λ l. HaveIds c.args.classes.now (set c.args.ids.now.items
-    (num_of c.args.classes.now c.args.place) (length c.args.firsts.now)) l) (sym (pushed c))
-    (ids_new c.args.classes.now c.args.ids.now.items c.args.firsts.now c.requires.ids
-    c.args.place (omega (arith, within c, c.requires.long)) (small c) (without c)))
+    let classes = c.args.classes.now in
+    subst (λ ids. HaveIds classes ids c.push.new.self) (sym (ids_are c))
+    (subst (λ firsts. HaveIds classes (set c.args.ids.now (num_of classes c.args.place)
+    (length c.args.firsts.now)) firsts) (sym c.in_ok-push.ensures.pushed)
+    (ids_new classes c.args.ids.now c.args.firsts.now c.requires.ids c.args.place
+    (omega (arith, within c, c.requires.long)) (small c) (without c)))
 
 pub returns-clause-plan : goal.returns-clause-plan
 returns-clause-plan c =
-    subst (λ k. IsPlan (plain_events c.args.events.now) (num_of c.args.classes.now)
-    (set c.args.numbers.now.items c.args.place k) c.push.new.self) (sym (count c))
-    (subst (λ l. IsPlan (plain_events c.args.events.now) (num_of c.args.classes.now)
-    (set c.args.numbers.now.items c.args.place (length c.args.firsts.now)) l) (sym (pushed c))
-    (plan_new (plain_events c.args.events.now)
-    (num_of c.args.classes.now) c.args.numbers.now.items c.args.firsts.now c.args.place
-    c.requires.plan (within c) (unnumbered c) (small c) (c.if-not-has_item.ensures.yes refl).1
-    (none_yet c.args.classes.now c.args.ids.now.items c.args.firsts.now c.requires.ids
-    c.args.place (omega (arith, within c, c.requires.long)) (small c) (without c))))
+    let es = plain_events c.args.events.now in
+    let class = num_of c.args.classes.now in
+    subst (λ numbers. IsPlan es class numbers c.push.new.self) (sym (numbers_are c))
+    (subst (λ firsts. IsPlan es class (set c.args.numbers.now c.args.place
+    (length c.args.firsts.now)) firsts) (sym c.in_ok-push.ensures.pushed)
+    (plan_new es class c.args.numbers.now c.args.firsts.now c.args.place
+    c.requires.plan (within c) (omega (arith, c.if-get-len.false, c.get.ensures, c.len.ensures))
+    (small c) (c.if-not-has_item.ensures.yes refl).1
+    (none_yet c.args.classes.now c.args.ids.now c.args.firsts.now c.requires.ids c.args.place
+    (omega (arith, within c, c.requires.long)) (small c) (without c))))

@@ -1,5 +1,6 @@
-use Rattle.std.proofs.Common.{◌+◌, get_or, drop, ap, sym, arith}
+use Rattle.std.proofs.Common.{◌+◌, ◌<◌, length, get_or, drop, ap, sym, ◌∙◌, arith}
 use Rattle.plist_binwrite.specs.Forms.{form}
+use Rattle.plist_binwrite.specs.Held.{num_of}
 use Rattle.plist_binwrite.specs.inner.Planning.{numbers_of, firsts_of}
 use Rattle.plist_binwrite.specs.Written.{bodies}
 use Rattle.plist_binwrite.specs.inner.Putting.{events_in}
@@ -7,43 +8,48 @@ use Rattle.plist_binwrite.proofs.Outgoing.{puts_none, puts_then, puts_front, put
 use Rattle.plist_binwrite.proofs.Placing.{described}
 use Rattle.plist_binwrite.proofs.objects.put_objects.Goals as goal
 
-pub loop-number-init : goal.loop-number-init
-loop-number-init g c = λ objects d. puts_none
+pub loop-index-init : goal.loop-index-init
+loop-index-init g c = λ objects d. puts_none
 
 pub first-first-requires : goal.first-first-requires
-first-first-requires g c = c.requires.order c.loop-number.number-index c.loop-number-test.true
+first-first-requires g c =
+    let below = c.requires.order c.loop-index.index
+    (omega (arith, c.loop-index-test.true, c.len-index-end.ensures)) in
+    omega (arith, below, c.get.ensures)
 
-pub loop-number-preserved : goal.loop-number-preserved
-loop-number-preserved g c = λ objects d.
+pub loop-index-preserved : goal.loop-index-preserved
+loop-index-preserved g c = λ objects d.
+    let order = c.args.order.now in
+    let i = c.loop-index.index in
+    let within : i < length order = omega (arith, c.loop-index-test.true, c.len-index-end.ensures) in
     let u = described (events_in c.args.file.now) c.requires.planned.class
     (numbers_of c.args.file.now.plan.now) (firsts_of c.args.file.now.plan.now) objects
-    (get_or c.args.order.now c.loop-number.number-index 0) c.first-first.result
-    c.first-first.ensures
-    (c.requires.order c.loop-number.number-index c.loop-number-test.true) c.requires.planned.whole
-    c.requires.planned.numbered d in
-    puts_as (one_part (λ k. form c.args.file.now.width
-    (objects k)) c.args.order.now c.loop-number.number-index c.loop-number-test.true)
-    (puts_then (c.loop-number.invariant objects d)
+    (get_or order i 0) c.first-first.result
+    (c.first-first.ensures ∙ ap (num_of (firsts_of c.args.file.now.plan.now)) c.get.ensures)
+    (c.requires.order i within) c.requires.planned.whole c.requires.planned.numbered d in
+    puts_as (one_part (λ k. form c.args.file.now.width (objects k)) order i within)
+    (puts_then (c.loop-index.invariant objects d)
     (puts_as (ap (form c.args.file.now.width) (sym u.2)) (c.in-Ok.ensures u.0 u.1)))
 
 pub returns-in-Err : goal.returns-in-Err
 returns-in-Err g c = λ objects d.
+    let order = c.args.order.now in
+    let i = c.loop-index.index in
+    let within : i < length order = omega (arith, c.loop-index-test.true, c.len-index-end.ensures) in
     let u = described (events_in c.args.file.now) c.requires.planned.class
     (numbers_of c.args.file.now.plan.now) (firsts_of c.args.file.now.plan.now) objects
-    (get_or c.args.order.now c.loop-number.number-index 0) c.first-first.result
-    c.first-first.ensures
-    (c.requires.order c.loop-number.number-index c.loop-number-test.true) c.requires.planned.whole
-    c.requires.planned.numbered d in
-    puts_as (all_parts (λ k. form c.args.file.now.width
-    (objects k)) c.args.order.now c.loop-number.number-index c.loop-number-test.true)
-    (puts_front (bodies c.args.file.now.width objects (drop
-    (c.loop-number.number-index + 1) c.args.order.now))
-    (puts_then (c.loop-number.invariant objects d)
+    (get_or order i 0) c.first-first.result
+    (c.first-first.ensures ∙ ap (num_of (firsts_of c.args.file.now.plan.now)) c.get.ensures)
+    (c.requires.order i within) c.requires.planned.whole c.requires.planned.numbered d in
+    puts_as (all_parts (λ k. form c.args.file.now.width (objects k)) order i within)
+    (puts_front (bodies c.args.file.now.width objects (drop (i + 1) order))
+    (puts_then (c.loop-index.invariant objects d)
     (puts_as (ap (form c.args.file.now.width) (sym u.2)) (c.in-Err.ensures u.0 u.1))))
 
 pub returns : goal.returns
 returns g c = λ objects d.
     puts_as (ap (bodies c.args.file.now.width objects)
-    (last_part c.args.order.now c.loop-number.number-index
-    (omega (arith, c.loop-number-test.false)) c.loop-number.auto.number-index-end))
-    (c.loop-number.invariant objects d)
+    (last_part c.args.order.now c.loop-index.index
+    (omega (arith, c.loop-index-test.false, c.len-index-end.ensures))
+    (omega (arith, c.loop-index.auto.index-end, c.len-index-end.ensures))))
+    (c.loop-index.invariant objects d)

@@ -7,9 +7,9 @@ use Rattle.plist_binwrite.specs.Written.{bodies}
 use Rattle.plist_binwrite.specs.inner.Putting.{events_in}
 use Rattle.plist_binwrite.proofs.objects.put_objects.Given as goal
 
-abbrev pub invariant-loop-number : goal.invariant-loop-number
-invariant-loop-number g l = (objects : ℕ → Object)
+abbrev pub invariant-loop-index : goal.invariant-loop-index
+invariant-loop-index g l = (objects : ℕ → Object)
     → Describes (events_in l.file) (numbers_of l.file.plan.now) objects
     → PutsBytes (g.W.Write.contents l.initial.out) l.initial.room.items
-    (bodies l.file.width objects (take l.number-index l.order)) (Ok tt)
+    (bodies l.file.width objects (take l.index l.order)) (Ok tt)
     (g.W.Write.contents l.out) l.room.items

@@ -5,7 +5,7 @@ use Rattle.plist_binwrite.specs.inner.Planning.{count_of, numbers_of}
 use Rattle.plist_binwrite.proofs.Placing.{Along}
 use Rattle.plist_binwrite.proofs.size.place_objects.Given as goal
 
-abbrev pub invariant-loop-number : goal.invariant-loop-number
-invariant-loop-number l = (length l.places.items ≡ count_of l.plan)
+abbrev pub invariant-loop-index : goal.invariant-loop-index
+invariant-loop-index l = (length l.places ≡ count_of l.plan)
     × ((objects : ℕ → Object) → Describes (plain_events l.events) (numbers_of l.plan) objects
-    → Along l.width objects l.order l.places.items l.number-index l.at)
+    → Along l.width objects l.order l.places l.index l.at)

@@ -13,7 +13,7 @@ back-init c =
     let place : c.len-place.result ≡ length es = c.len-place.ensures in
     record {
       have = (
-        num_of c.in_ok-scalars.scalars.of.items,
+        num_of c.in_ok-scalars.scalars.of,
         owners,
         record {
           behind = λ t p le s. absurd
@@ -33,7 +33,7 @@ returns-in-Some-clause-trees c =
     let all : c.back.place ≡ 0 = omega (arith, c.back-test.false) in
     let have = subst (HaveFrom c.args.events.now c.in_ok-scalars.scalars.count c.back.of
     c.back.collections.keys) all c.back.invariant.have in
-    told_trees (plain_events c.args.events.now) have.0 (num_of c.back.of.items)
+    told_trees (plain_events c.args.events.now) have.0 (num_of c.back.of)
     c.in_ok-scalars.scalars.count (keys_seen c.back.collections.keys) have.1 have.2
     c.back.invariant.apart
 
@@ -42,5 +42,5 @@ returns-in-Some-clause-objects c =
     let all : c.back.place ≡ 0 = omega (arith, c.back-test.false) in
     let have = subst (HaveFrom c.args.events.now c.in_ok-scalars.scalars.count c.back.of
     c.back.collections.keys) all c.back.invariant.have in
-    found_classes (plain_events c.args.events.now) have.0 (num_of c.back.of.items)
+    found_classes (plain_events c.args.events.now) have.0 (num_of c.back.of)
     c.in_ok-scalars.scalars.count (keys_seen c.back.collections.keys) have.1 have.2

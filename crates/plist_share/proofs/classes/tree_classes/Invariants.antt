@@ -7,7 +7,7 @@ use Rattle.plist_share.proofs.classes.tree_classes.Given as goal
 abbrev pub invariant-back : goal.invariant-back
 invariant-back l = record {
   have : HaveFrom l.events l.base l.of l.collections.keys l.place;
-  long : length l.of.items ≡ length (plain_events l.events);
+  long : length l.of ≡ length (plain_events l.events);
   within : l.place ≤ length (plain_events l.events);
   apart : AreApart (keys_seen l.collections.keys);
 }

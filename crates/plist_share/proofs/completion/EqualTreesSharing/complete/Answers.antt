@@ -8,13 +8,13 @@ use Rattle.plist_share.proofs.completion.EqualTreesSharing.complete.Goals as goa
 pub returns-in-Ok : goal.returns-in-Ok
 returns-in-Ok g c =
     sends_shared g.W.Write.contents c.args.events.now
-    (num_of c.in_ok-classes.classes.of.items) c.in_ok-classes.ensures.trees (Ok tt)
+    (num_of c.in_ok-classes.classes.of) c.in_ok-classes.ensures.trees (Ok tt)
     c.args.writer.now c.complete_by_class.new.writer c.in-Ok.ensures
 
 pub returns-in-Err : goal.returns-in-Err
 returns-in-Err g c =
     sends_shared g.W.Write.contents c.args.events.now
-    (num_of c.in_ok-classes.classes.of.items) c.in_ok-classes.ensures.trees
+    (num_of c.in_ok-classes.classes.of) c.in_ok-classes.ensures.trees
     (Err (fault_of c.in-Err.error)) c.args.writer.now c.complete_by_class.new.writer
     c.in-Err.ensures
 
