@@ -1,5 +1,5 @@
 -- What holds of the entries of held events, kept by each event that comes.
-use Rattle.std.proofs.Common.{◌≡◌, ◌≢◌, inl, inr, ℕ, zero, suc, ◌+◌, ◌<◌, ◌≤◌, true, false, Some, List, [], ◌∷◌, ◌++◌, length, get_or, set, reverse, slice_get, refl, ap, sym, ◌∙◌, subst, arith}
+use Rattle.std.proofs.Common.{◌≡◌, ◌≢◌, inl, inr, ℕ, zero, suc, ◌+◌, ◌^◌, ◌<◌, ◌≤◌, true, false, Some, Result, Ok, Err, OnOk, OnErr, List, [], ◌∷◌, ◌++◌, length, get_or, set, reverse, slice_get, refl, ap, sym, ◌∙◌, subst, arith}
 use Rattle.std.proofs.Math.ListN.{get_or-append}
 use Rattle.std.proofs.Math.Seq.{get_or-append_seam}
 use Rattle.std.proofs.lemmas.Bool.Decides.{eqb_tells, leb_tells}
@@ -7,12 +7,14 @@ use Rattle.std.proofs.lemmas.List.{length-map, length-append, length-set, map-ap
 use Rattle.std.proofs.lemmas.Option.{get_or_from_slice_get, slice_get-get_or}
 use Rattle.plist_base.specs.Bracketing.{unhinted}
 use Rattle.plist_base.specs.Events.{PlainEvent, StartArray, StartDictionary, EndCollection, Single}
-use Rattle.plist_binwrite.specs.Held.{event_at}
+use Rattle.plist_binwrite.specs.Held.{event_at, kind_of}
 use Rattle.plist_base.specs.Trees.{Tree}
 use Rattle.plist_binwrite.specs.Standing.{size, Sits, IsSkips}
-use Rattle.plist_binwrite.specs.declared.held.Entry.{Entry}
-use Rattle.plist_binwrite.specs.declared.held.Entry.TheVariants as entry
-use Rattle.plist_binwrite.specs.inner.Entries.{AreApart, is_leaf, entry_at, shown, all_shown, is_sound, is_start, behind_of, behind_at, closed_at, IsKept}
+use Rattle.plist_binwrite.specs.declared.entries.Entry.{Entry}
+use Rattle.plist_binwrite.specs.declared.entries.Entry.TheVariants as entry
+use Rattle.plist_binwrite.specs.declared.kinds.Kind.TheVariants as kind
+use Rattle.plist_binwrite.specs.inner.Columns.{kind_in}
+use Rattle.plist_binwrite.specs.inner.Entries.{AreApart, is_leaf, entry_at, shown, all_shown, is_sound, is_start, behind_of, behind_at, closed_at, ended_at, IsKept}
 use Rattle.plist_binwrite.specs.inner.Opening.{open_behind, open_after, without_innermost}
 use Rattle.plist_binwrite.proofs.Opened as opened
 use Rattle.plist_binwrite.proofs.Opened.{open_more, innermost_within, innermost_starts, skips_alone, begins_alone, stray_alone, skips_end}
@@ -228,8 +230,8 @@ module _ (scalars : List PlainEvent) (es : List Entry) (begun : List ℕ)
     abbrev closing : Entry
     closing = closed_at (entry_at ended start) (length es + 1)
 
-    abbrev pub closed : List Entry
-    closed = set ended start closing
+    abbrev closed : List Entry
+    closed = ended_at es start
 
     within : start < length ended
     within = omega (arith, start_within, length-append es (entry.End ∷ []))
@@ -276,7 +278,8 @@ module _ (scalars : List PlainEvent) (es : List Entry) (begun : List ℕ)
 
     pub closed_shown : all_shown scalars closed ≡ events ++ EndCollection ∷ []
     closed_shown =
-        same_events ended start closing within (closing_shown (entry_at ended start) (length es + 1))
+        same_events ended start closing within
+        (closing_shown (entry_at ended start) (length es + 1))
         ∙ shown_more scalars es entry.End
 
     sound_ended : (p : ℕ) → p < length ended → is_sound scalars (entry_at ended p) ≡ true
@@ -308,7 +311,8 @@ module _ (scalars : List PlainEvent) (es : List Entry) (begun : List ℕ)
             apart_end ∙ entry_last es entry.End) ∙ ap (λ n. n + 1) (sym long)
 
         was_start : opened.is_start (shown scalars (entry_at ended start)) ≡ true
-        was_start = ap opened.is_start (ap (shown scalars) (entry_before es entry.End start start_within)
+        was_start = ap opened.is_start
+            (ap (shown scalars) (entry_before es entry.End start start_within)
             ∙ sym (shown_at scalars es start start_within))
             ∙ innermost_starts events start (reverse outer) innermost
 
@@ -323,19 +327,25 @@ module _ (scalars : List PlainEvent) (es : List Entry) (begun : List ℕ)
 
 -- ---- what is read of an entry
 
-any_default : (es : List Entry) (p : ℕ) (a b : Entry) → p < length es
-    → get_or es p a ≡ get_or es p b
-any_default [] p a b lt = absurd (omega (arith, lt))
-any_default (e ∷ es) zero a b lt = refl
-any_default (e ∷ es) (suc p) a b lt = any_default es p a b (omega (arith, lt))
+leaf_kind : (e : PlainEvent) → is_leaf e ≡ true → kind_of (unhinted e) ≡ kind.Scalar
+leaf_kind (StartArray hint) h = cc
+leaf_kind (StartDictionary hint) h = cc
+leaf_kind EndCollection h = cc
+leaf_kind (Single x) h = refl
 
-pub read_entry : (es slice : List Entry) (p : ℕ) (d : Entry) → slice ≡ es → p < length es
-    → get_or slice p d ≡ entry_at es p
-read_entry es slice p d same lt =
-    ap (λ l. get_or l p d) same ∙ any_default es p d entry.End lt
+kind_shown : (scalars : List PlainEvent) (e : Entry) → is_sound scalars e ≡ true
+    → kind_of (shown scalars e) ≡ kind_in e
+kind_shown scalars (entry.Array behind) h = refl
+kind_shown scalars (entry.Dictionary behind) h = refl
+kind_shown scalars (entry.Scalar place) h = leaf_kind (get_or scalars place EndCollection) h
+kind_shown scalars entry.End h = refl
 
 module _ (scalars : List PlainEvent) (es : List Entry) (begun : List ℕ)
     (kept : IsKept scalars es begun) (place : ℕ) (lt : place < length es) where
+  pub kind_held : kind_in (entry_at es place) ≡ kind_of (event_at (all_shown scalars es) place)
+  kind_held = sym (ap kind_of (shown_at scalars es place lt)
+      ∙ kind_shown scalars (entry_at es place) (kept.sound place lt))
+
   module _ (k : ℕ) (is : entry_at es place ≡ entry.Scalar k) where
     names : is_leaf (get_or scalars k EndCollection) ≡ true
     names = ap (is_sound scalars) (sym is) ∙ kept.sound place lt
@@ -361,6 +371,21 @@ module _ (scalars : List PlainEvent) (es : List Entry) (begun : List ℕ)
 
 -- ---- the same, as the calls make the lists
 
+-- an entry came, or none for want of memory
+pub either_few : {T E : Type 0} (r : Result T E) (es now : List Entry)
+    → OnOk r (length now < 2 ^ 63) → OnErr r (now ≡ es) → length es < 2 ^ 63 → length now < 2 ^ 63
+either_few (Ok x) es now small same few = small
+either_few (Err x) es now small same few = omega (arith, ap length same, few)
+
+either_kept : {T E : Type 0} (r : Result T E) (es now : List Entry) (e : Entry)
+    → OnOk r (now ≡ es ++ e ∷ []) → OnErr r (now ≡ es) → (scalars : List PlainEvent)
+    (begun : List ℕ) → IsKept scalars es begun → IsKept scalars (es ++ e ∷ []) begun
+    → IsKept scalars now begun
+either_kept (Ok x) es now e more same scalars begun old new =
+    subst (λ l. IsKept scalars l begun) (sym more) new
+either_kept (Err x) es now e more same scalars begun old new =
+    subst (λ l. IsKept scalars l begun) (sym same) old
+
 module _ (scalars : List PlainEvent) (es : List Entry) (begun : List ℕ)
     (kept : IsKept scalars es begun) where
   pub long_events : length (all_shown scalars es) ≡ length es
@@ -382,50 +407,40 @@ module _ (scalars : List PlainEvent) (es : List Entry) (begun : List ℕ)
       (kept_start scalars es begun kept e starts
       (subst (λ n. behind_of n e ≡ n + 1) long_events behind)))
 
-  pub stray_kept : (now : List Entry) (after : List ℕ) → now ≡ es ++ entry.End ∷ [] → begun ≡ []
-      → after ≡ [] → IsKept scalars now after
-  stray_kept now after is none empty =
-      subst (λ l. IsKept scalars l after) (sym is)
+  pub stray_kept : {T E : Type 0} (r : Result T E) (now : List Entry) (after : List ℕ)
+      → OnOk r (now ≡ es ++ entry.End ∷ []) → OnErr r (now ≡ es) → begun ≡ [] → after ≡ []
+      → IsKept scalars now after
+  stray_kept r now after more same none empty =
+      either_kept r es now entry.End more same scalars after
+      (subst (IsKept scalars es) (none ∙ sym empty) kept)
       (kept_stray scalars es begun kept none after empty)
 
-  module _ (start : ℕ) (outer : List ℕ) (now : List Entry) (is : begun ≡ outer ++ start ∷ [])
-      (grown : now ≡ es ++ entry.End ∷ []) where
-    pub start_below : start < length now
-    start_below = omega (
-      arith,
-      start_within scalars es begun kept start outer is,
-      ap length grown,
-      length-append es (entry.End ∷ []),
-    )
+  module _ (start : ℕ) (outer : List ℕ) (is : begun ≡ outer ++ start ∷ []) where
+    pub start_there : start < length es
+    start_there = start_within scalars es begun kept start outer is
 
-    module _ (e : Entry) (behind : ℕ) (closes : e ≡ closed_at (entry_at now start) behind)
-        (last : behind ≡ length now) where
-      is_closed : set now start e ≡ closed scalars es begun kept start outer is
-      is_closed =
-          ap (set now start) (closes ∙ ap (closed_at (entry_at now start)) (last ∙ ap length grown
-          ∙ length-append es (entry.End ∷ [])))
-          ∙ ap (λ l. set l start (closed_at (entry_at l start) (length es + 1))) grown
-
-      pub end_kept : IsKept scalars (set now start e) outer
-      end_kept = subst (λ l. IsKept scalars l outer) (sym is_closed)
+    module _ (now : List Entry) (ends : now ≡ ended_at es start) where
+      pub end_kept : IsKept scalars now outer
+      end_kept = subst (λ l. IsKept scalars l outer) (sym ends)
           (kept_end scalars es begun kept start outer is)
 
-      pub end_shown : all_shown scalars (set now start e)
-          ≡ all_shown scalars es ++ EndCollection ∷ []
-      end_shown = ap (all_shown scalars) is_closed
+      pub end_shown : all_shown scalars now ≡ all_shown scalars es ++ EndCollection ∷ []
+      end_shown = ap (all_shown scalars) ends
           ∙ closed_shown scalars es begun kept start outer is
 
 -- a scalar that is there
 module _ (scalars : List PlainEvent) (es : List Entry) (begun : List ℕ)
     (kept : IsKept scalars es begun) (i : ℕ) (e : PlainEvent) (now : List Entry)
-    (leaf : is_leaf e ≡ true) (stored : get_or scalars i EndCollection ≡ e)
-    (is : now ≡ es ++ entry.Scalar i ∷ []) where
-  pub found_kept : IsKept scalars now begun
-  found_kept = subst (λ l. IsKept scalars l begun) (sym is)
+    (leaf : is_leaf e ≡ true) (stored : get_or scalars i EndCollection ≡ e) where
+  pub found_kept : {T E : Type 0} (r : Result T E) → OnOk r (now ≡ es ++ entry.Scalar i ∷ [])
+      → OnErr r (now ≡ es) → IsKept scalars now begun
+  found_kept r more same =
+      either_kept r es now (entry.Scalar i) more same scalars begun kept
       (kept_scalar scalars es begun kept i e stored leaf)
 
-  pub found_shown : all_shown scalars now ≡ all_shown scalars es ++ e ∷ []
-  found_shown = ap (all_shown scalars) is ∙ shown_more scalars es (entry.Scalar i)
+  pub found_shown : now ≡ es ++ entry.Scalar i ∷ []
+      → all_shown scalars now ≡ all_shown scalars es ++ e ∷ []
+  found_shown is = ap (all_shown scalars) is ∙ shown_more scalars es (entry.Scalar i)
       ∙ ap (λ d. all_shown scalars es ++ d ∷ []) (ap unhinted stored ∙ leaf_unhinted e leaf)
 
 -- a scalar, where the different scalars may have become one more
@@ -434,22 +449,28 @@ module _ (old more new : List PlainEvent) (es : List Entry) (begun : List ℕ)
   grown_kept : IsKept (old ++ more) es begun
   grown_kept = kept_scalars old more es begun (subst AreApart grown apart) kept
 
-  pub grown_shown : all_shown new es ≡ all_shown old es
+  grown_shown : all_shown new es ≡ all_shown old es
   grown_shown = ap (λ l. all_shown l es) grown ∙ same_shown old more es begun kept
 
-  pub more_kept : IsKept new es begun
+  more_kept : IsKept new es begun
   more_kept = subst (λ l. IsKept l es begun) (sym grown) grown_kept
 
+  pub unnamed_shown : (now : List Entry) → now ≡ es → all_shown new now ≡ all_shown old es
+  unnamed_shown now same = ap (all_shown new) same ∙ grown_shown
+
   module _ (i : ℕ) (e : PlainEvent) (now : List Entry) (leaf : is_leaf e ≡ true)
-      (stored : slice_get new i ≡ Some e) (is : now ≡ es ++ entry.Scalar i ∷ []) where
+      (stored : slice_get new i ≡ Some e) where
     at : get_or new i EndCollection ≡ e
     at = get_or_from_slice_get new i e EndCollection stored
 
-    pub scalar_kept : IsKept new now begun
-    scalar_kept = subst (λ l. IsKept new l begun) (sym is)
+    pub scalar_kept : {T E : Type 0} (r : Result T E) → OnOk r (now ≡ es ++ entry.Scalar i ∷ [])
+        → OnErr r (now ≡ es) → IsKept new now begun
+    scalar_kept r more same =
+        either_kept r es now (entry.Scalar i) more same new begun more_kept
         (kept_scalar new es begun more_kept i e at leaf)
 
-    pub scalar_shown : all_shown new now ≡ all_shown old es ++ e ∷ []
-    scalar_shown = ap (all_shown new) is ∙ shown_more new es (entry.Scalar i)
+    pub scalar_shown : now ≡ es ++ entry.Scalar i ∷ []
+        → all_shown new now ≡ all_shown old es ++ e ∷ []
+    scalar_shown is = ap (all_shown new) is ∙ shown_more new es (entry.Scalar i)
         ∙ ap (λ l. l ++ unhinted (get_or new i EndCollection) ∷ []) grown_shown
         ∙ ap (λ d. all_shown old es ++ d ∷ []) (ap unhinted at ∙ leaf_unhinted e leaf)

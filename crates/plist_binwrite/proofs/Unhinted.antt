@@ -4,8 +4,8 @@ use Rattle.plist_base.specs.Bracketing.{bracketing, shape, unhinted, AreAlike, A
 use Rattle.plist_base.specs.Events.{PlainEvent, StartArray, StartDictionary, EndCollection, Single}
 use Rattle.plist_base.specs.Trees.{Tree}
 use Rattle.plist_base.proofs.Stacks.{shape-is}
-use Rattle.plist_binwrite.specs.declared.held.Entry.{Entry}
-use Rattle.plist_binwrite.specs.declared.held.Entry.TheVariants as entry
+use Rattle.plist_binwrite.specs.declared.entries.Entry.{Entry}
+use Rattle.plist_binwrite.specs.declared.entries.Entry.TheVariants as entry
 use Rattle.plist_binwrite.specs.declared.held.Held.{Held}
 use Rattle.plist_binwrite.specs.Held.{plain_events, scalars_of, IsBracketed}
 use Rattle.plist_binwrite.specs.inner.Entries.{shown, all_shown}
@@ -32,7 +32,7 @@ all_twice scalars (e ∷ es) =
 
 -- nothing is left to strike out
 pub plain_twice : (held : Held) → map unhinted (plain_events held) ≡ plain_events held
-plain_twice held = all_twice (scalars_of held) held.entries.items
+plain_twice held = all_twice (scalars_of held) held.entries
 
 pub plain_shape : (held : Held) (t : Tree) → AreAlike (plain_events held) (bracketing t)
     → plain_events held ≡ shape t

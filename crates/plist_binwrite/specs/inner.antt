@@ -1,4 +1,5 @@
 -- What bodies and proofs speak of, and no public clause.
+pub mod Columns
 pub mod Ending
 pub mod Entries
 pub mod Laws

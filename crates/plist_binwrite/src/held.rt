@@ -4,34 +4,13 @@ ghost use Rattle.std.specs.Prelude.{◌≡◌, ◌^◌, ◌<◌, true, length, O
 ghost use Rattle.std.proofs.Props.{props};
 ghost use Rattle.plist_base.specs.Events.{EndCollection, event_of};
 ghost use Rattle.plist_base.specs.Outcomes.{OnlyMemory};
-ghost use Rattle.plist_binwrite.specs.inner.Entries.{closed_at, is_leaf, KeepsScalars, behind_of};
+ghost use Rattle.plist_binwrite.specs.inner.Entries.{is_leaf, KeepsScalars, behind_of};
 
+use crate::entries::{Entries, Entry};
 use crate::kinds::Kind;
 use indexmap::IndexSet;
 use plist_base::{Error, ErrorKind, Event};
 use std::alloc::Global;
-
-// An event in its place: a start with the place behind its end, or behind itself as long as it has
-// none; a scalar by its place among the different ones.
-#[derive(Clone, Copy)]
-pub enum Entry {
-    Array(usize),
-    Dictionary(usize),
-    Scalar(usize),
-    End,
-}
-
-// The entry with this place behind its end, if it is a start.
-fn closed(entry: Entry, behind: usize) -> Entry
-    ensures { result ≡ closed_at entry behind }
-{
-    match entry {
-        Entry::Array(_) => Entry::Array(behind),
-        Entry::Dictionary(_) => Entry::Dictionary(behind),
-        Entry::Scalar(place) => Entry::Scalar(place),
-        Entry::End => Entry::End,
-    }
-}
 
 // The place behind the tree that begins with the entry here.
 fn behind(place: usize, entry: Entry) -> usize
@@ -52,9 +31,10 @@ fn behind(place: usize, entry: Entry) -> usize
 #[derive(Drop)]
 pub struct Held<'e> {
     scalars: IndexSet<Event<'e>>,
-    entries: Vec<Entry>,
+    entries: Entries,
     begun: Vec<usize>,
-    ghost kept: { KeepsScalars scalars.keys entries.items begun.items } by { Prim.hlevel props },
+    ghost kept: { KeepsScalars scalars.keys entries begun.items } by { Prim.hlevel props },
+    ghost few: { length entries < 2 ^ 63 },
 }
 
 impl<'e> Held<'e> {
@@ -68,7 +48,7 @@ impl<'e> Held<'e> {
     {
         Held {
             scalars: IndexSet::new(alloc),
-            entries: Vec::new(alloc),
+            entries: Entries::new(alloc),
             begun: Vec::new(alloc),
         }
     }
@@ -91,9 +71,9 @@ impl<'e> Held<'e> {
     // The entry at a place.
     fn entry_at(&self, place: usize) -> Entry
         requires { place < length (plain_events self.now) }
-        ensures { result ≡ entry_at self.now.entries.items place }
+        ensures { result ≡ entry_at self.now.entries place }
     {
-        self.entries.as_slice()[place]
+        self.entries.get(place)
     }
 
     /// The kind of the event at a place.
@@ -101,12 +81,7 @@ impl<'e> Held<'e> {
         requires { place < length (plain_events self.now) }
         ensures { result ≡ kind_of (held_at self.now place) }
     {
-        match self.entry_at(place) {
-            Entry::Array(_) => Kind::Array,
-            Entry::Dictionary(_) => Kind::Dictionary,
-            Entry::Scalar(_) => Kind::Scalar,
-            Entry::End => Kind::End,
-        }
+        self.entries.kind_at(place)
     }
 
     /// Whether an item of a collection stands here, and not its end.
@@ -176,10 +151,9 @@ impl<'e> Held<'e> {
         ensures unchanged { OnErr result (plain_events self.new ≡ plain_events self.old) }
         ensures memory { OnlyMemory result }
     {
-        self.entries.reserve(1)?;
         self.begun.reserve(1)?;
         let place = self.entries.len();
-        self.entries.push_reserved(entry);
+        self.entries.push(entry)?;
         self.begun.push_reserved(place);
         Ok(())
     }
@@ -190,29 +164,32 @@ impl<'e> Held<'e> {
         ensures unchanged { OnErr result (plain_events self.new ≡ plain_events self.old) }
         ensures memory { OnlyMemory result }
     {
-        self.entries.push(Entry::End)?;
         match self.begun.pop() {
-            Some(start) => {
-                let behind = self.entries.len();
-                let entry = self.entries.as_slice()[start];
-                self.entries[start] = closed(entry, behind);
+            Some(start) => match self.entries.close(start) {
+                Ok(()) => Ok(()),
+                Err(error) => {
+                    self.begun.push_reserved(start);
+                    Err(error)
+                }
+            },
+            None => {
+                self.entries.push(Entry::End)?;
                 Ok(())
             }
-            None => Ok(()),
         }
     }
 
-    // Takes a scalar: the place of its equal among the different ones, or a new one.
+    // Takes a scalar: the place of its equal among the different ones, or a new one. A new one stays
+    // where there is no memory for the entry, and no entry names it then.
     fn scalar(&mut self, event: Event<'e>) -> Result<(), Error>
         requires { is_leaf (event_of event) ≡ true }
         ensures events { OnOk result (GrowsBy self.old (event_of event.entry) self.new) }
         ensures unchanged { OnErr result (plain_events self.new ≡ plain_events self.old) }
         ensures memory { OnlyMemory result }
     {
-        self.entries.reserve(1)?;
         match self.scalars.insert_full(event) {
             Ok((place, _)) => {
-                self.entries.push_reserved(Entry::Scalar(place));
+                self.entries.push(Entry::Scalar(place))?;
                 return Ok(());
             }
             Err(_) => return Err(ErrorKind::OutOfMemory.without_position()),
@@ -275,10 +252,9 @@ impl Held<'static> {
         ensures unchanged { OnErr result (plain_events self.new ≡ plain_events self.old) }
         ensures memory { OnlyMemory result }
     {
-        self.entries.reserve(1)?;
         match self.scalars.get_index_of(&event) {
             Some(place) => {
-                self.entries.push_reserved(Entry::Scalar(place));
+                self.entries.push(Entry::Scalar(place))?;
                 return Ok(());
             }
             None => {

@@ -7,6 +7,7 @@
 pub mod children;
 pub mod classes;
 pub mod completion;
+mod entries;
 pub mod forms;
 pub mod held;
 pub mod keys;

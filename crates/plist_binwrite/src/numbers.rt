@@ -1,6 +1,6 @@
 //! Lists of numbers, of which each has four bytes while they fit.
 
-ghost use Rattle.std.specs.Prelude.{◌≡◌, ◌^◌, ◌<◌, ◌++◌, ◌∷◌, [], length, get_or, map, replicate, set, IfSome, IfOk, OnOk, OnErr, ◌-◌};
+ghost use Rattle.std.specs.Prelude.{◌≡◌, ◌^◌, ◌<◌, ◌++◌, ◌∷◌, [], length, get_or, map, replicate, set, take, IfSome, IfOk, OnOk, OnErr, ◌-◌};
 ghost use Rattle.plist_base.specs.Outcomes.{OnlyMemory};
 ghost use Rattle.plist_binwrite.specs.inner.Narrow.{wide_of};
 
@@ -122,6 +122,7 @@ impl Numbers {
     /// Appends a number.
     pub fn push(&mut self, number: usize) -> Result<(), Error>
         ensures pushed { OnOk result (self.new ≡ self.old ++ number ∷ []) }
+        ensures unchanged { OnErr result (self.new ≡ self.old) }
         ensures small { length self.new < 2 ^ 64 }
         ensures memory { OnlyMemory result }
     {
@@ -130,6 +131,18 @@ impl Numbers {
             _ => self.wide.push(number)?,
         }
         Ok(())
+    }
+
+    /// Drops the last number, if there is one.
+    pub fn pop(&mut self)
+        ensures { self.new ≡ take (length self.old - 1) self.old }
+    {
+        match self.wide.pop() {
+            Some(_) => {}
+            None => {
+                self.narrow.pop();
+            }
+        }
     }
 
     /// Puts another number in the place of one.
@@ -153,5 +166,13 @@ impl Numbers {
         self.narrow.clear();
         self.wide = wide;
         Ok(())
+    }
+
+    /// Drops the numbers. What room they had is kept.
+    pub fn clear(&mut self)
+        ensures { self.new ≡ [] }
+    {
+        self.narrow.clear();
+        self.wide.clear();
     }
 }

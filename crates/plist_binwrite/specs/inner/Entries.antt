@@ -1,12 +1,12 @@
 -- The entries by which events are held: what they show, and what holds of them.
-use Rattle.std.specs.Prelude.{◌≡◌, ℕ, ◌+◌, ◌<◌, Bool, true, false, List, length, get_or, map, reverse, None, Some, slice_get}
+use Rattle.std.specs.Prelude.{◌≡◌, ℕ, ◌+◌, ◌<◌, Bool, true, false, List, [], ◌∷◌, ◌++◌, length, get_or, set, map, reverse, None, Some, slice_get}
 use Rattle.plist_base.specs.Bracketing.{unhinted}
 use Rattle.plist_base.specs.declared.event.Event.{Event}
 use Rattle.plist_base.specs.Events.{PlainEvent, event_of, StartArray, StartDictionary, EndCollection, Single}
 use Rattle.plist_binwrite.specs.Standing.{IsSkips}
 use Rattle.plist_binwrite.specs.inner.Opening.{open_after}
-use Rattle.plist_binwrite.specs.declared.held.Entry.{Entry}
-use Rattle.plist_binwrite.specs.declared.held.Entry.TheVariants as entry
+use Rattle.plist_binwrite.specs.declared.entries.Entry.{Entry}
+use Rattle.plist_binwrite.specs.declared.entries.Entry.TheVariants as entry
 
 -- no key stands twice
 abbrev pub AreApart : {K : Type 0} → List K → Type 0
@@ -67,6 +67,12 @@ closed_at (entry.Array old) behind = entry.Array behind
 closed_at (entry.Dictionary old) behind = entry.Dictionary behind
 closed_at (entry.Scalar place) behind = entry.Scalar place
 closed_at entry.End behind = entry.End
+
+-- an end behind the entries, which closes the start here
+abbrev pub ended_at : List Entry → (start : ℕ) → List Entry
+ended_at entries start =
+    set (entries ++ entry.End ∷ []) start
+    (closed_at (entry_at (entries ++ entry.End ∷ []) start) (length entries + 1))
 
 -- what always holds: the scalars are different ones, and each entry of a scalar names one; these
 -- are the starts that have no end, the innermost last; and the entries tell where trees end

@@ -6,16 +6,14 @@ use Rattle.plist_binwrite.proofs.classes.classes_of.Goals as goal
 
 pub give_class-requires-clause-high : goal.give_class-requires-clause-high
 give_class-requires-clause-high c =
-    let entries = c.args.events.now.entries in
+    let events = c.args.events.now in
     omega (
       arith,
       c.loop-place.invariant.high,
       c.loop-place.invariant.few,
       c.loop-place-test.true,
-      long_shown (scalars_of c.args.events.now) entries.items,
-      entries.ok.0,
-      entries.ok.1,
-      entries.small,
+      long_shown (scalars_of events) events.entries,
+      events.few,
     )
 
 pub returns-clause-classes : goal.returns-clause-classes

@@ -1,4 +1,4 @@
-use Rattle.std.proofs.Common.{map, ap}
+use Rattle.std.proofs.Common.{length, map, ap, arith}
 use Rattle.plist_base.specs.Events.{event_of}
 use Rattle.plist_binwrite.proofs.Holding.{kept_nothing}
 use Rattle.plist_binwrite.proofs.held.Held.new.Goals as goal
@@ -6,6 +6,7 @@ use Rattle.plist_binwrite.proofs.held.Held.new.Goals as goal
 pub invariant_of-result : goal.invariant_of-result
 invariant_of-result c =
     record {
-      kept = kept_nothing _ _ _ (ap (map event_of) c.new.ensures.empty) c.new-2.ensures.items
+      kept = kept_nothing _ _ _ (ap (map event_of) c.new.ensures.empty) c.new-2.ensures
           c.new-3.ensures.items;
+      few = omega (arith, ap length c.new-2.ensures);
     }

@@ -1,0 +1,120 @@
+-- Entries by the lists of their kinds and of their numbers.
+use Rattle.std.proofs.Common.{◌≡◌, ℕ, zero, suc, ◌-◌, ◌<◌, List, [], ◌∷◌, ◌++◌, length, get_or, set, take, refl, ap, sym, ◌∙◌, arith}
+use Rattle.std.proofs.lemmas.List.{get_or_default}
+use Rattle.plist_binwrite.specs.declared.entries.Entry.{Entry}
+use Rattle.plist_binwrite.specs.declared.entries.Entry.TheVariants as entry
+use Rattle.plist_binwrite.specs.declared.kinds.Kind.{Kind}
+use Rattle.plist_binwrite.specs.declared.kinds.Kind.TheVariants as kind
+use Rattle.plist_binwrite.specs.inner.Columns.{kind_in, number_in, entry_of, entries_of}
+use Rattle.plist_binwrite.specs.inner.Entries.{entry_at}
+
+-- an entry is that of its kind and its number
+pub same_entry : (e : Entry) → entry_of (kind_in e) (number_in e) ≡ e
+same_entry (entry.Array behind) = refl
+same_entry (entry.Dictionary behind) = refl
+same_entry (entry.Scalar place) = refl
+same_entry entry.End = refl
+
+pub same_kind : (k : Kind) (n : ℕ) → kind_in (entry_of k n) ≡ k
+same_kind kind.Array n = refl
+same_kind kind.Dictionary n = refl
+same_kind kind.Scalar n = refl
+same_kind kind.End n = refl
+
+pub long_entries : (kinds : List Kind) (numbers : List ℕ) → length kinds ≡ length numbers
+    → length (entries_of kinds numbers) ≡ length kinds
+long_entries [] numbers same = refl
+long_entries (k ∷ kinds) [] same = absurd (omega (arith, same))
+long_entries (k ∷ kinds) (n ∷ numbers) same =
+    ap suc (long_entries kinds numbers (omega (arith, same)))
+
+pub entries_at : (kinds : List Kind) (numbers : List ℕ) (p : ℕ) → length kinds ≡ length numbers
+    → entry_at (entries_of kinds numbers) p
+    ≡ entry_of (get_or kinds p kind.End) (get_or numbers p 0)
+entries_at [] numbers p same = refl
+entries_at (k ∷ kinds) [] p same = absurd (omega (arith, same))
+entries_at (k ∷ kinds) (n ∷ numbers) zero same = refl
+entries_at (k ∷ kinds) (n ∷ numbers) (suc p) same =
+    entries_at kinds numbers p (omega (arith, same))
+
+-- what is read of an entry
+module _ (kinds : List Kind) (numbers : List ℕ) (same : length kinds ≡ length numbers)
+    (slice : List Kind) (lent : slice ≡ kinds) (p : ℕ) (d : Kind) (lt : p < length kinds) where
+  kind_there : get_or slice p d ≡ get_or kinds p kind.End
+  kind_there = ap (λ l. get_or l p d) lent ∙ get_or_default kinds p d kind.End lt
+
+  pub kind_read : get_or slice p d ≡ kind_in (entry_at (entries_of kinds numbers) p)
+  kind_read = kind_there ∙ sym (ap kind_in (entries_at kinds numbers p same)
+      ∙ same_kind (get_or kinds p kind.End) (get_or numbers p 0))
+
+  pub entry_read : entry_of (get_or slice p d) (get_or numbers p 0)
+      ≡ entry_at (entries_of kinds numbers) p
+  entry_read = ap (λ k. entry_of k (get_or numbers p 0)) kind_there
+      ∙ sym (entries_at kinds numbers p same)
+
+-- one more
+pub entries_more : (kinds : List Kind) (numbers : List ℕ) (e : Entry)
+    → length kinds ≡ length numbers
+    → entries_of (kinds ++ kind_in e ∷ []) (numbers ++ number_in e ∷ [])
+    ≡ entries_of kinds numbers ++ e ∷ []
+entries_more [] [] e same = ap (λ d. d ∷ []) (same_entry e)
+entries_more [] (n ∷ numbers) e same = absurd (omega (arith, same))
+entries_more (k ∷ kinds) [] e same = absurd (omega (arith, same))
+entries_more (k ∷ kinds) (n ∷ numbers) e same =
+    ap (λ l. entry_of k n ∷ l) (entries_more kinds numbers e (omega (arith, same)))
+
+-- another one in the place of one
+pub entries_set : (kinds : List Kind) (numbers : List ℕ) (p : ℕ) (e : Entry)
+    → entries_of (set kinds p (kind_in e)) (set numbers p (number_in e))
+    ≡ set (entries_of kinds numbers) p e
+entries_set [] numbers p e = refl
+entries_set (k ∷ kinds) [] zero e = refl
+entries_set (k ∷ kinds) [] (suc p) e = refl
+entries_set (k ∷ kinds) (n ∷ numbers) zero e =
+    ap (λ d. d ∷ entries_of kinds numbers) (same_entry e)
+entries_set (k ∷ kinds) (n ∷ numbers) (suc p) e =
+    ap (λ l. entry_of k n ∷ l) (entries_set kinds numbers p e)
+
+-- the first ones
+pub entries_first : (count : ℕ) (kinds : List Kind) (numbers : List ℕ)
+    → entries_of (take count kinds) (take count numbers) ≡ take count (entries_of kinds numbers)
+entries_first zero kinds numbers = refl
+entries_first (suc count) [] numbers = refl
+entries_first (suc count) (k ∷ kinds) [] = refl
+entries_first (suc count) (k ∷ kinds) (n ∷ numbers) =
+    ap (λ l. entry_of k n ∷ l) (entries_first count kinds numbers)
+
+-- ---- the same, as the calls make the lists
+
+module _ (kinds : List Kind) (numbers : List ℕ) (es : List Entry)
+    (same : length kinds ≡ length numbers) (is : entries_of kinds numbers ≡ es) where
+  long : length es ≡ length kinds
+  long = ap length (sym is) ∙ long_entries kinds numbers same
+
+  pub pushed_entries : (room more : List Kind) (all : List ℕ) (e : Entry) (k : Kind) (n : ℕ)
+      → room ≡ kinds → more ≡ room ++ k ∷ [] → all ≡ numbers ++ n ∷ [] → k ≡ kind_in e
+      → n ≡ number_in e → entries_of more all ≡ es ++ e ∷ []
+  pushed_entries room more all e k n reserved one other kind_is number_is =
+      ap (λ l. entries_of l all) (one ∙ ap (λ l. l ++ k ∷ []) reserved
+      ∙ ap (λ x. kinds ++ x ∷ []) kind_is)
+      ∙ ap (entries_of (kinds ++ kind_in e ∷ [])) (other ∙ ap (λ x. numbers ++ x ∷ []) number_is)
+      ∙ entries_more kinds numbers e same ∙ ap (λ l. l ++ e ∷ []) is
+
+  pub popped_entries : (rest : List Kind) (left : List ℕ) (count : ℕ) → count ≡ length kinds
+      → rest ≡ take (count - 1) kinds → left ≡ take (length numbers - 1) numbers
+      → entries_of rest left ≡ take (length es - 1) es
+  popped_entries rest left count counted p q =
+      let fewer : count - 1 ≡ length es - 1 = omega (arith, counted, long) in
+      let as_many : length numbers - 1 ≡ length es - 1 = omega (arith, same, long) in
+      ap (λ l. entries_of l left) (p ∙ ap (λ m. take m kinds) fewer)
+      ∙ ap (entries_of (take (length es - 1) kinds)) (q ∙ ap (λ m. take m numbers) as_many)
+      ∙ entries_first (length es - 1) kinds numbers ∙ ap (take (length es - 1)) is
+
+-- an entry in the place of one
+pub replaced_entries : (kinds : List Kind) (numbers all : List ℕ) (es : List Entry) (p : ℕ)
+    (e : Entry) (k : Kind) (n : ℕ) → entries_of kinds numbers ≡ es → all ≡ set numbers p n
+    → k ≡ kind_in e → n ≡ number_in e → entries_of (set kinds p k) all ≡ set es p e
+replaced_entries kinds numbers all es p e k n is other kind_is number_is =
+    ap (λ x. entries_of (set kinds p x) all) kind_is
+    ∙ ap (entries_of (set kinds p (kind_in e))) (other ∙ ap (set numbers p) number_is)
+    ∙ entries_set kinds numbers p e ∙ ap (λ l. set l p e) is

@@ -1,0 +1,27 @@
+use Rattle.std.proofs.Common.{◌≡◌, length, ap, arith}
+use Rattle.std.proofs.lemmas.List.{length_push}
+use Rattle.plist_binwrite.proofs.Columns.{long_entries, pushed_entries}
+use Rattle.plist_binwrite.proofs.entries.Entries.push.Goals as goal
+
+pub returns-clause-pushed : goal.returns-clause-pushed
+returns-clause-pushed c =
+    let s = c.self.inside in
+    pushed_entries s.kinds.items s.numbers c.args.self.now c.self.invariant c.self.view_is
+    c.reserve.new.self.items c.push_reserved.new.self.items c.push.new.self c.args.entry
+    c.kind_in.result c.number_in.result c.in_ok-reserve.ensures.items c.push_reserved.ensures.items
+    c.in_ok-push.ensures.pushed c.kind_in.ensures c.number_in.ensures
+
+pub returns-clause-small : goal.returns-clause-small
+returns-clause-small c =
+    let s = c.self.inside in
+    let now = c.push_reserved.new.self in
+    let same : length now.items ≡ length c.push.new.self = omega (
+      arith,
+      c.self.invariant,
+      ap length c.in_ok-reserve.ensures.items,
+      ap length c.push_reserved.ensures.items,
+      ap length c.in_ok-push.ensures.pushed,
+      length_push c.reserve.new.self.items c.kind_in.result,
+      length_push s.numbers c.number_in.result,
+    ) in
+    omega (arith, long_entries now.items c.push.new.self same, now.ok.0, now.ok.1, now.small)

@@ -1,0 +1,33 @@
+-- Entries as two lists: of their kinds, and of their numbers.
+use Rattle.std.specs.Prelude.{ℕ, List, [], ◌∷◌}
+use Rattle.plist_binwrite.specs.declared.entries.Entry.{Entry}
+use Rattle.plist_binwrite.specs.declared.entries.Entry.TheVariants as entry
+use Rattle.plist_binwrite.specs.declared.kinds.Kind.{Kind}
+use Rattle.plist_binwrite.specs.declared.kinds.Kind.TheVariants as kind
+
+-- the kind of an entry
+abbrev pub kind_in : Entry → Kind
+kind_in (entry.Array behind) = kind.Array
+kind_in (entry.Dictionary behind) = kind.Dictionary
+kind_in (entry.Scalar place) = kind.Scalar
+kind_in entry.End = kind.End
+
+-- its number: that of an end is 0
+abbrev pub number_in : Entry → ℕ
+number_in (entry.Array behind) = behind
+number_in (entry.Dictionary behind) = behind
+number_in (entry.Scalar place) = place
+number_in entry.End = 0
+
+-- the entry of a kind and a number
+abbrev pub entry_of : Kind → ℕ → Entry
+entry_of kind.Array number = entry.Array number
+entry_of kind.Dictionary number = entry.Dictionary number
+entry_of kind.Scalar number = entry.Scalar number
+entry_of kind.End number = entry.End
+
+-- the entries, place by place
+abbrev pub entries_of : List Kind → List ℕ → List Entry
+entries_of [] numbers = []
+entries_of (k ∷ kinds) [] = []
+entries_of (k ∷ kinds) (n ∷ numbers) = entry_of k n ∷ entries_of kinds numbers

@@ -1,0 +1,183 @@
+//! The entries of held events: a kind of one byte for each, and a number, of four while they fit.
+
+ghost use Rattle.std.specs.Prelude.{◌≡◌, ◌-◌, ◌^◌, ◌<◌, ◌++◌, ◌∷◌, [], length, set, take, OnOk, OnErr};
+ghost use Rattle.plist_base.specs.Outcomes.{OnlyMemory};
+ghost use Rattle.plist_binwrite.specs.inner.Columns.{entry_of, kind_in, number_in};
+ghost use Rattle.plist_binwrite.specs.inner.Entries.{closed_at, ended_at, entry_at};
+
+use crate::kinds::Kind;
+use crate::numbers::Numbers;
+use plist_base::Error;
+use std::alloc::Global;
+use std::marker::Model;
+
+/// An event in its place: a start with the place behind its end, or behind itself as long as it has
+/// none; a scalar by its place among the different ones.
+#[derive(Clone, Copy)]
+pub enum Entry {
+    Array(usize),
+    Dictionary(usize),
+    Scalar(usize),
+    End,
+}
+
+// The kind of an entry.
+fn kind_in(entry: Entry) -> Kind
+    ensures { result ≡ kind_in entry }
+{
+    match entry {
+        Entry::Array(_) => Kind::Array,
+        Entry::Dictionary(_) => Kind::Dictionary,
+        Entry::Scalar(_) => Kind::Scalar,
+        Entry::End => Kind::End,
+    }
+}
+
+// The number of an entry: that of an end is 0.
+fn number_in(entry: Entry) -> usize
+    ensures { result ≡ number_in entry }
+{
+    match entry {
+        Entry::Array(behind) => behind,
+        Entry::Dictionary(behind) => behind,
+        Entry::Scalar(place) => place,
+        Entry::End => 0,
+    }
+}
+
+// The entry of a kind and a number.
+fn entry_of(kind: Kind, number: usize) -> Entry
+    ensures { result ≡ entry_of kind number }
+{
+    match kind {
+        Kind::Array => Entry::Array(number),
+        Kind::Dictionary => Entry::Dictionary(number),
+        Kind::Scalar => Entry::Scalar(number),
+        Kind::End => Entry::End,
+    }
+}
+
+// The entry with this place behind its end, if it is a start.
+fn closed(entry: Entry, behind: usize) -> Entry
+    ensures { result ≡ closed_at entry behind }
+{
+    match entry {
+        Entry::Array(_) => Entry::Array(behind),
+        Entry::Dictionary(_) => Entry::Dictionary(behind),
+        Entry::Scalar(place) => Entry::Scalar(place),
+        Entry::End => Entry::End,
+    }
+}
+
+/// A list of entries, as a list of their kinds and one of their numbers.
+#[derive(Drop)]
+pub struct Entries {
+    kinds: Vec<Kind>,
+    numbers: Numbers,
+}
+
+impl Model for Entries {
+    ghost use Rattle.std.specs.Prelude.{◌≡◌, List, length};
+    ghost use Rattle.plist_binwrite.specs.declared.entries.Entry.{Entry};
+    ghost use Rattle.plist_binwrite.specs.inner.Columns.{entries_of};
+
+    ghost Value = { List Entry };
+
+    ghost view = { λ entries. entries_of entries.kinds.items entries.numbers };
+
+    ghost invariant = { λ entries. length entries.kinds.items ≡ length entries.numbers };
+}
+
+impl Entries {
+    /// No entries. It takes no memory.
+    pub fn new(alloc: Global) -> Entries
+        ensures { result ≡ [] }
+    {
+        Entries {
+            kinds: Vec::new(alloc),
+            numbers: Numbers::new(alloc),
+        }
+    }
+
+    /// How many entries there are.
+    pub fn len(&self) -> usize
+        ensures { result ≡ length self.now }
+    {
+        self.kinds.len()
+    }
+
+    /// The kind of the entry at a place, of which its number isn't read.
+    pub fn kind_at(&self, place: usize) -> Kind
+        requires { place < length self.now }
+        ensures { result ≡ kind_in (entry_at self.now place) }
+    {
+        self.kinds.as_slice()[place]
+    }
+
+    /// The entry at a place.
+    pub fn get(&self, place: usize) -> Entry
+        requires { place < length self.now }
+        ensures { result ≡ entry_at self.now place }
+    {
+        entry_of(self.kinds.as_slice()[place], self.numbers.get(place))
+    }
+
+    /// Appends an entry.
+    pub fn push(&mut self, entry: Entry) -> Result<(), Error>
+        ensures pushed { OnOk result (self.new ≡ self.old ++ entry ∷ []) }
+        ensures unchanged { OnErr result (self.new ≡ self.old) }
+        ensures small { OnOk result (length self.new < 2 ^ 63) }
+        ensures memory { OnlyMemory result }
+    {
+        self.kinds.reserve(1)?;
+        self.numbers.push(number_in(entry))?;
+        self.kinds.push_reserved(kind_in(entry));
+        Ok(())
+    }
+
+    // Drops the last entry, if there is one.
+    fn pop(&mut self)
+        ensures { self.new ≡ take (length self.old - 1) self.old }
+    {
+        self.kinds.pop();
+        self.numbers.pop();
+    }
+
+    // Puts another entry in the place of one.
+    fn set(&mut self, place: usize, entry: Entry) -> Result<(), Error>
+        requires { place < length self.old }
+        ensures set { OnOk result (self.new ≡ set self.old place entry) }
+        ensures unchanged { OnErr result (self.new ≡ self.old) }
+        ensures memory { OnlyMemory result }
+    {
+        self.numbers.set(place, number_in(entry))?;
+        self.kinds[place] = kind_in(entry);
+        Ok(())
+    }
+
+    /// Appends an end, which closes the start at a place.
+    pub fn close(&mut self, start: usize) -> Result<(), Error>
+        requires { start < length self.old }
+        ensures closed { OnOk result (self.new ≡ ended_at self.old start) }
+        ensures unchanged { OnErr result (self.new ≡ self.old) }
+        ensures small { OnOk result (length self.new < 2 ^ 63) }
+        ensures memory { OnlyMemory result }
+    {
+        self.push(Entry::End)?;
+        match self.set(start, closed(self.get(start), self.len())) {
+            Ok(()) => Ok(()),
+            Err(error) => {
+                self.pop();
+                Err(error)
+            }
+        }
+    }
+
+    /// Drops the entries. What room they had is kept.
+    pub fn clear(&mut self)
+        ensures { self.new ≡ [] }
+    {
+        self.kinds.clear();
+        self.numbers.clear();
+    }
+}
