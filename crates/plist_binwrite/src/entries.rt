@@ -1,14 +1,12 @@
 //! The entries of held events: a kind of one byte for each, and a number, of four while they fit.
 
 ghost use Rattle.std.specs.Prelude.{◌≡◌, ◌-◌, ◌^◌, ◌<◌, ◌++◌, ◌∷◌, [], length, set, take, OnOk, OnErr};
-ghost use Rattle.plist_base.specs.Outcomes.{OnlyMemory};
 ghost use Rattle.plist_binwrite.specs.inner.Columns.{entry_of, kind_in, number_in};
 ghost use Rattle.plist_binwrite.specs.inner.Entries.{closed_at, ended_at, entry_at};
 
 use crate::kinds::Kind;
 use crate::numbers::Numbers;
-use plist_base::Error;
-use std::alloc::Global;
+use std::alloc::{AllocError, Global};
 use std::marker::Model;
 
 /// An event in its place: a start with the place behind its end, or behind itself as long as it has
@@ -123,11 +121,10 @@ impl Entries {
     }
 
     /// Appends an entry.
-    pub fn push(&mut self, entry: Entry) -> Result<(), Error>
+    pub fn push(&mut self, entry: Entry) -> Result<(), AllocError>
         ensures pushed { OnOk result (self.new ≡ self.old ++ entry ∷ []) }
         ensures unchanged { OnErr result (self.new ≡ self.old) }
         ensures small { OnOk result (length self.new < 2 ^ 63) }
-        ensures memory { OnlyMemory result }
     {
         self.kinds.reserve(1)?;
         self.numbers.push(number_in(entry))?;
@@ -144,11 +141,10 @@ impl Entries {
     }
 
     // Puts another entry in the place of one.
-    fn set(&mut self, place: usize, entry: Entry) -> Result<(), Error>
+    fn set(&mut self, place: usize, entry: Entry) -> Result<(), AllocError>
         requires { place < length self.old }
         ensures set { OnOk result (self.new ≡ set self.old place entry) }
         ensures unchanged { OnErr result (self.new ≡ self.old) }
-        ensures memory { OnlyMemory result }
     {
         self.numbers.set(place, number_in(entry))?;
         self.kinds[place] = kind_in(entry);
@@ -156,12 +152,11 @@ impl Entries {
     }
 
     /// Appends an end, which closes the start at a place.
-    pub fn close(&mut self, start: usize) -> Result<(), Error>
+    pub fn close(&mut self, start: usize) -> Result<(), AllocError>
         requires { start < length self.old }
         ensures closed { OnOk result (self.new ≡ ended_at self.old start) }
         ensures unchanged { OnErr result (self.new ≡ self.old) }
         ensures small { OnOk result (length self.new < 2 ^ 63) }
-        ensures memory { OnlyMemory result }
     {
         self.push(Entry::End)?;
         match self.set(start, closed(self.get(start), self.len())) {

@@ -169,7 +169,7 @@ impl<'e> Held<'e> {
                 Ok(()) => Ok(()),
                 Err(error) => {
                     self.begun.push_reserved(start);
-                    Err(error)
+                    Err(error.into())
                 }
             },
             None => {

@@ -12,7 +12,7 @@ use crate::kinds::Kind;
 use crate::numbers::Numbers;
 use crate::plan::Plan;
 use plist_base::Error;
-use std::alloc::Global;
+use std::alloc::{AllocError, Global};
 
 // Puts the object of the event here into the order, unless it is there already. A mark that isn't 0
 // tells of each object that it is.
@@ -22,13 +22,12 @@ fn order_one(
     place: usize,
     order: &mut Numbers,
     marks: &mut Numbers,
-) -> Result<(), Error>
+) -> Result<(), AllocError>
     requires planned { IsPlanned (plain_events events.now) plan.now }
     requires order { IsOrder (count_of plan.now) order.old marks.old }
     ensures order { OnOk result (IsOrder (count_of plan.now) order.new marks.new) }
     ensures keeps { OnOk result (KeepsMarks marks.old marks.new) }
     ensures marked { OnOk result (MarksItem events.now plan.now place marks.new) }
-    ensures memory { OnlyMemory result }
 {
     if !events.has_item(place) {
         return Ok(());
@@ -49,12 +48,11 @@ fn order_keys(
     from: usize,
     order: &mut Numbers,
     marks: &mut Numbers,
-) -> Result<(), Error>
+) -> Result<(), AllocError>
     requires planned { IsPlanned (plain_events events.now) plan.now }
     requires order { IsOrder (count_of plan.now) order.old marks.old }
     ensures order { OnOk result (IsOrder (count_of plan.now) order.new marks.new) }
     ensures keeps { OnOk result (KeepsMarks marks.old marks.new) }
-    ensures memory { OnlyMemory result }
 {
     let mut key = from;
     'walk: while events.has_item(key) {
@@ -71,14 +69,13 @@ fn order_here(
     place: usize,
     order: &mut Numbers,
     marks: &mut Numbers,
-) -> Result<(), Error>
+) -> Result<(), AllocError>
     requires planned { IsPlanned (plain_events events.now) plan.now }
     requires place { place < length (plain_events events.now) }
     requires order { IsOrder (count_of plan.now) order.old marks.old }
     ensures order { OnOk result (IsOrder (count_of plan.now) order.new marks.new) }
     ensures keeps { OnOk result (KeepsMarks marks.old marks.new) }
     ensures marked { OnOk result (MarksItem events.now plan.now place marks.new) }
-    ensures memory { OnlyMemory result }
 {
     order_one(events, plan, place, order, marks)?;
     match events.kind_at(place) {

@@ -10,7 +10,7 @@ use crate::held::Held;
 use crate::kinds::{Kind, half_of};
 use crate::numbers::Numbers;
 use plist_base::Error;
-use std::alloc::Global;
+use std::alloc::{AllocError, Global};
 
 // Numbers the object of the event here, unless it has a number.
 fn number_one(
@@ -20,7 +20,7 @@ fn number_one(
     numbers: &mut Numbers,
     firsts: &mut Numbers,
     place: usize,
-) -> Result<(), Error>
+) -> Result<(), AllocError>
     requires plan { IsPlanOf events.now classes.now numbers.old firsts.old }
     requires ids { HaveIds classes.now ids.old firsts.old }
     requires long { length classes.now ≡ length (plain_events events.now) }
@@ -29,7 +29,6 @@ fn number_one(
     ensures keeps { OnOk result (KeepsNumbers numbers.old firsts.old numbers.new firsts.new) }
     ensures numbered { OnOk result (NumbersItem events.now place numbers.new firsts.new) }
     ensures first { OnOk result (BeginsAt events.now place firsts.old firsts.new) }
-    ensures memory { OnlyMemory result }
 {
     if !events.has_item(place) {
         return Ok(());
@@ -58,7 +57,7 @@ fn number_items(
     numbers: &mut Numbers,
     firsts: &mut Numbers,
     from: usize,
-) -> Result<(), Error>
+) -> Result<(), AllocError>
     requires plan { IsPlanOf events.now classes.now numbers.old firsts.old }
     requires ids { HaveIds classes.now ids.old firsts.old }
     requires long { length classes.now ≡ length (plain_events events.now) }
@@ -66,7 +65,6 @@ fn number_items(
     ensures ids { OnOk result (HaveIds classes.now ids.new firsts.new) }
     ensures keeps { OnOk result (KeepsNumbers numbers.old firsts.old numbers.new firsts.new) }
     ensures numbered { OnOk result (NumbersItems events.now from numbers.new firsts.new) }
-    ensures memory { OnlyMemory result }
 {
     let mut place = from;
     'walk: while events.has_item(place) {
@@ -85,7 +83,7 @@ fn number_halves(
     firsts: &mut Numbers,
     from: usize,
     values: bool,
-) -> Result<(), Error>
+) -> Result<(), AllocError>
     requires plan { IsPlanOf events.now classes.now numbers.old firsts.old }
     requires ids { HaveIds classes.now ids.old firsts.old }
     requires long { length classes.now ≡ length (plain_events events.now) }
@@ -93,7 +91,6 @@ fn number_halves(
     ensures ids { OnOk result (HaveIds classes.now ids.new firsts.new) }
     ensures keeps { OnOk result (KeepsNumbers numbers.old firsts.old numbers.new firsts.new) }
     ensures numbered { OnOk result (NumbersHalf events.now values from numbers.new firsts.new) }
-    ensures memory { OnlyMemory result }
 {
     let mut key = from;
     'walk: while events.has_item(key) {
@@ -112,7 +109,7 @@ fn number_children(
     numbers: &mut Numbers,
     firsts: &mut Numbers,
     place: usize,
-) -> Result<(), Error>
+) -> Result<(), AllocError>
     requires plan { IsPlanOf events.now classes.now numbers.old firsts.old }
     requires ids { HaveIds classes.now ids.old firsts.old }
     requires long { length classes.now ≡ length (plain_events events.now) }
@@ -121,7 +118,6 @@ fn number_children(
     ensures ids { OnOk result (HaveIds classes.now ids.new firsts.new) }
     ensures keeps { OnOk result (KeepsNumbers numbers.old firsts.old numbers.new firsts.new) }
     ensures numbered { OnOk result (NumbersChildren events.now place numbers.new firsts.new) }
-    ensures memory { OnlyMemory result }
 {
     let inside = place + 1;
     match events.kind_at(place) {

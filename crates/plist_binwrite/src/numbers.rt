@@ -1,15 +1,14 @@
 //! Lists of numbers, of which each has four bytes while they fit.
 
 ghost use Rattle.std.specs.Prelude.{◌≡◌, ◌^◌, ◌<◌, ◌++◌, ◌∷◌, [], length, get_or, map, replicate, set, take, IfSome, IfOk, OnOk, OnErr, ◌-◌};
-ghost use Rattle.plist_base.specs.Outcomes.{OnlyMemory};
 ghost use Rattle.plist_binwrite.specs.inner.Narrow.{wide_of};
 
-use plist_base::Error;
-use std::alloc::Global;
+use std::alloc::{AllocError, Global};
 use std::marker::Model;
 
 // What a number of four bytes stands for: the greatest one for the greatest of eight, with which
 // lists mark what they don't tell.
+#[inline(always)]
 fn wide_of(stored: u32) -> usize
     ensures { result ≡ wide_of stored }
 {
@@ -21,6 +20,7 @@ fn wide_of(stored: u32) -> usize
 }
 
 // The four bytes that stand for a number, if there are such.
+#[inline(always)]
 fn narrowed(number: usize) -> Option<u32>
     ensures { IfSome result (λ stored. wide_of stored ≡ number) }
 {
@@ -36,9 +36,8 @@ fn narrowed(number: usize) -> Option<u32>
 // All of these numbers with eight bytes.
 #[cold]
 #[inline(never)]
-fn widened(narrow: &Vec<u32>, wide: &Vec<usize>) -> Result<Vec<usize>, Error>
+fn widened(narrow: &Vec<u32>, wide: &Vec<usize>) -> Result<Vec<usize>, AllocError>
     ensures all { IfOk result (λ r. r.items ≡ map wide_of narrow.now.items ++ wide.now.items) }
-    ensures memory { OnlyMemory result }
 {
     let mut all: Vec<usize> = narrow
         .iter()
@@ -76,9 +75,8 @@ impl Numbers {
     }
 
     /// So many times the number 0.
-    pub fn zeros(alloc: Global, count: usize) -> Result<Numbers, Error>
+    pub fn zeros(alloc: Global, count: usize) -> Result<Numbers, AllocError>
         ensures zeros { IfOk result (λ r. r ≡ replicate count 0) }
-        ensures memory { OnlyMemory result }
     {
         let narrow = vec![in alloc; 0u32; count]?;
         Ok(Numbers {
@@ -89,9 +87,8 @@ impl Numbers {
 
     /// So many times the number 2^64 - 1.
     #[tactic(auto, using(crate::proofs::Narrow::marks_wide))]
-    pub fn marks(alloc: Global, count: usize) -> Result<Numbers, Error>
+    pub fn marks(alloc: Global, count: usize) -> Result<Numbers, AllocError>
         ensures marks { IfOk result (λ r. r ≡ replicate count (2 ^ 64 - 1)) }
-        ensures memory { OnlyMemory result }
     {
         let narrow = vec![in alloc; u32::MAX; count]?;
         Ok(Numbers {
@@ -108,6 +105,7 @@ impl Numbers {
     }
 
     /// One of the numbers.
+    #[inline(always)]
     pub fn get(&self, index: usize) -> usize
         requires { index < length self.now }
         ensures { result ≡ get_or self.now index 0 }
@@ -120,11 +118,11 @@ impl Numbers {
     }
 
     /// Appends a number.
-    pub fn push(&mut self, number: usize) -> Result<(), Error>
+    #[inline(always)]
+    pub fn push(&mut self, number: usize) -> Result<(), AllocError>
         ensures pushed { OnOk result (self.new ≡ self.old ++ number ∷ []) }
         ensures unchanged { OnErr result (self.new ≡ self.old) }
         ensures small { length self.new < 2 ^ 64 }
-        ensures memory { OnlyMemory result }
     {
         match narrowed(number) {
             Some(stored) if self.wide.is_empty() => self.narrow.push(stored)?,
@@ -146,11 +144,11 @@ impl Numbers {
     }
 
     /// Puts another number in the place of one.
-    pub fn set(&mut self, index: usize, number: usize) -> Result<(), Error>
+    #[inline(always)]
+    pub fn set(&mut self, index: usize, number: usize) -> Result<(), AllocError>
         requires { index < length self.old }
         ensures set { OnOk result (self.new ≡ set self.old index number) }
         ensures unchanged { OnErr result (self.new ≡ self.old) }
-        ensures memory { OnlyMemory result }
     {
         let below = self.narrow.len();
         if index >= below {
