@@ -228,7 +228,7 @@ impl<'e> Held<'e> {
 impl Held<'static> {
     ghost use Rattle.plist_binwrite.specs.Held.{plain_event, plain_events, GrowsBy};
 
-    /// Takes a copy of an event. A scalar that equals one of those held isn't copied.
+    /// Takes a copy of an event. A text or data that equals one of those held isn't copied.
     ///
     /// # Errors
     /// `OutOfMemory`, without an offset; the events held are the same then.
@@ -241,12 +241,17 @@ impl Held<'static> {
             Event::StartArray(length) => self.push(Event::StartArray(length)),
             Event::StartDictionary(length) => self.push(Event::StartDictionary(length)),
             Event::EndCollection => self.push(Event::EndCollection),
-            scalar => self.copy_scalar(alloc, scalar),
+            Event::Boolean(value) => self.scalar(Event::Boolean(value)),
+            Event::Date(date) => self.scalar(Event::Date(date)),
+            Event::Integer(value) => self.scalar(Event::Integer(value)),
+            Event::Real(bits) => self.scalar(Event::Real(bits)),
+            Event::Uid(uid) => self.scalar(Event::Uid(uid)),
+            content => self.copy_content(alloc, content),
         }
     }
 
-    // Takes a copy of a scalar, unless its equal is held.
-    fn copy_scalar(&mut self, alloc: Global, event: Event<'_>) -> Result<(), Error>
+    // Takes a copy of a text or data, unless its equal is held.
+    fn copy_content(&mut self, alloc: Global, event: Event<'_>) -> Result<(), Error>
         requires { is_leaf (event_of event) ≡ true }
         ensures events { OnOk result (GrowsBy self.old (event_of event.entry) self.new) }
         ensures unchanged { OnErr result (plain_events self.new ≡ plain_events self.old) }

@@ -3,7 +3,7 @@ use Rattle.plist_base.specs.Events.{EndCollection, event_of}
 use Rattle.plist_base.specs.inner.Hashing.{same, same_event}
 use Rattle.plist_binwrite.proofs.Holding.{found_kept, found_shown, either_few}
 use Rattle.plist_binwrite.proofs.Keyed.{key_found}
-use Rattle.plist_binwrite.proofs.held.Held.copy_scalar.Goals as goal
+use Rattle.plist_binwrite.proofs.held.Held.copy_content.Goals as goal
 
 pub invariant_of-self : goal.invariant_of-self
 invariant_of-self c =
