@@ -1,12 +1,13 @@
 -- Entries by the lists of their kinds and of their numbers.
-use Rattle.std.proofs.Common.{◌≡◌, ℕ, zero, suc, ◌-◌, ◌<◌, List, [], ◌∷◌, ◌++◌, length, get_or, set, take, refl, ap, sym, ◌∙◌, arith}
+use Rattle.std.proofs.Common.{◌≡◌, ℕ, zero, suc, ◌-◌, ◌<◌, List, [], ◌∷◌, ◌++◌, length, get_or, set, take, None, Some, false, refl, ap, sym, ◌∙◌, arith}
 use Rattle.std.proofs.lemmas.List.{get_or_default}
 use Rattle.plist_binwrite.specs.declared.entries.Entry.{Entry}
 use Rattle.plist_binwrite.specs.declared.entries.Entry.TheVariants as entry
 use Rattle.plist_binwrite.specs.declared.kinds.Kind.{Kind}
 use Rattle.plist_binwrite.specs.declared.kinds.Kind.TheVariants as kind
-use Rattle.plist_binwrite.specs.inner.Columns.{kind_in, number_in, entry_of, entries_of}
-use Rattle.plist_binwrite.specs.inner.Entries.{entry_at}
+use Rattle.plist_binwrite.specs.inner.Columns.{kind_in, number_in, scalar_in, entry_of, entries_of, IsNumberAt}
+use Rattle.plist_binwrite.specs.inner.Entries.{entry_at, is_leaf, shown}
+use Rattle.plist_base.specs.Events.{PlainEvent}
 
 -- an entry is that of its kind and its number
 pub same_entry : (e : Entry) → entry_of (kind_in e) (number_in e) ≡ e
@@ -47,10 +48,34 @@ module _ (kinds : List Kind) (numbers : List ℕ) (same : length kinds ≡ lengt
   kind_read = kind_there ∙ sym (ap kind_in (entries_at kinds numbers p same)
       ∙ same_kind (get_or kinds p kind.End) (get_or numbers p 0))
 
-  pub entry_read : entry_of (get_or slice p d) (get_or numbers p 0)
-      ≡ entry_at (entries_of kinds numbers) p
-  entry_read = ap (λ k. entry_of k (get_or numbers p 0)) kind_there
-      ∙ sym (entries_at kinds numbers p same)
+pub number_read : (kinds : List Kind) (numbers : List ℕ) (p : ℕ) → length kinds ≡ length numbers
+    → IsNumberAt (entries_of kinds numbers) p (get_or numbers p 0)
+number_read kinds numbers p same =
+    let there = entries_at kinds numbers p same in
+    ap (λ k. entry_of k (get_or numbers p 0))
+    (ap kind_in there ∙ same_kind (get_or kinds p kind.End) (get_or numbers p 0)) ∙ sym there
+
+-- an entry whose kind is known
+pub of_kind : (e : Entry) (k : Kind) → k ≡ kind_in e → entry_of k (number_in e) ≡ e
+of_kind e k is = ap (λ k. entry_of k (number_in e)) is ∙ same_entry e
+
+pub of_number : (e : Entry) (k : Kind) (n : ℕ) → k ≡ kind_in e → entry_of (kind_in e) n ≡ e
+    → entry_of k n ≡ e
+of_number e k n is told = ap (λ k. entry_of k n) is ∙ told
+
+-- the scalar that is named
+pub named : (e : Entry) (k : ℕ) → scalar_in e ≡ Some k → e ≡ entry.Scalar k
+named (entry.Array behind) k is = cc
+named (entry.Dictionary behind) k is = cc
+named (entry.Scalar place) k is = cc
+named entry.End k is = cc
+
+pub unnamed : (scalars : List PlainEvent) (e : Entry) → scalar_in e ≡ None
+    → is_leaf (shown scalars e) ≡ false
+unnamed scalars (entry.Array behind) is = refl
+unnamed scalars (entry.Dictionary behind) is = refl
+unnamed scalars (entry.Scalar place) is = cc
+unnamed scalars entry.End is = refl
 
 -- one more
 pub entries_more : (kinds : List Kind) (numbers : List ℕ) (e : Entry)

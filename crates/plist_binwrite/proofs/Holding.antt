@@ -1,5 +1,5 @@
 -- What holds of the entries of held events, kept by each event that comes.
-use Rattle.std.proofs.Common.{◌≡◌, ◌≢◌, inl, inr, ℕ, zero, suc, ◌+◌, ◌^◌, ◌<◌, ◌≤◌, true, false, Some, Result, Ok, Err, OnOk, OnErr, List, [], ◌∷◌, ◌++◌, length, get_or, set, reverse, slice_get, refl, ap, sym, ◌∙◌, subst, arith}
+use Rattle.std.proofs.Common.{◌≡◌, ◌≢◌, inl, inr, ℕ, zero, suc, ◌+◌, ◌^◌, ◌<◌, ◌≤◌, true, false, None, Some, Result, Ok, Err, OnOk, OnErr, List, [], ◌∷◌, ◌++◌, length, get_or, set, reverse, slice_get, refl, ap, sym, ◌∙◌, subst, arith}
 use Rattle.std.proofs.Math.ListN.{get_or-append}
 use Rattle.std.proofs.Math.Seq.{get_or-append_seam}
 use Rattle.std.proofs.lemmas.Bool.Decides.{eqb_tells, leb_tells}
@@ -13,9 +13,10 @@ use Rattle.plist_binwrite.specs.Standing.{size, Sits, IsSkips}
 use Rattle.plist_binwrite.specs.declared.entries.Entry.{Entry}
 use Rattle.plist_binwrite.specs.declared.entries.Entry.TheVariants as entry
 use Rattle.plist_binwrite.specs.declared.kinds.Kind.TheVariants as kind
-use Rattle.plist_binwrite.specs.inner.Columns.{kind_in}
+use Rattle.plist_binwrite.specs.inner.Columns.{kind_in, scalar_in}
 use Rattle.plist_binwrite.specs.inner.Entries.{AreApart, is_leaf, entry_at, shown, all_shown, is_sound, is_start, behind_of, behind_at, closed_at, ended_at, IsKept}
 use Rattle.plist_binwrite.specs.inner.Opening.{open_behind, open_after, without_innermost}
+use Rattle.plist_binwrite.proofs.Columns.{unnamed}
 use Rattle.plist_binwrite.proofs.Opened as opened
 use Rattle.plist_binwrite.proofs.Opened.{open_more, innermost_within, innermost_starts, skips_alone, begins_alone, stray_alone, skips_end}
 use Rattle.plist_binwrite.proofs.Skipping.{sits_within, size_positive}
@@ -345,6 +346,11 @@ module _ (scalars : List PlainEvent) (es : List Entry) (begun : List ℕ)
   pub kind_held : kind_in (entry_at es place) ≡ kind_of (event_at (all_shown scalars es) place)
   kind_held = sym (ap kind_of (shown_at scalars es place lt)
       ∙ kind_shown scalars (entry_at es place) (kept.sound place lt))
+
+  pub no_scalar : scalar_in (entry_at es place) ≡ None
+      → is_leaf (event_at (all_shown scalars es) place) ≡ false
+  no_scalar none = ap is_leaf (shown_at scalars es place lt)
+      ∙ unnamed scalars (entry_at es place) none
 
   module _ (k : ℕ) (is : entry_at es place ≡ entry.Scalar k) where
     names : is_leaf (get_or scalars k EndCollection) ≡ true

@@ -1,8 +1,8 @@
 //! The entries of held events: a kind of one byte for each, and a number, of four while they fit.
 
 ghost use Rattle.std.specs.Prelude.{◌≡◌, ◌-◌, ◌^◌, ◌<◌, ◌++◌, ◌∷◌, [], length, set, take, OnOk, OnErr};
-ghost use Rattle.plist_binwrite.specs.inner.Columns.{entry_of, kind_in, number_in};
-ghost use Rattle.plist_binwrite.specs.inner.Entries.{closed_at, ended_at, entry_at};
+ghost use Rattle.plist_binwrite.specs.inner.Columns.{entry_of, kind_in, number_in, scalar_in, IsNumberAt};
+ghost use Rattle.plist_binwrite.specs.inner.Entries.{behind_at, closed_at, ended_at, entry_at};
 
 use crate::kinds::Kind;
 use crate::numbers::Numbers;
@@ -112,12 +112,48 @@ impl Entries {
         self.kinds.as_slice()[place]
     }
 
-    /// The entry at a place.
-    pub fn get(&self, place: usize) -> Entry
+    // The number of the entry at a place. That of an end means nothing.
+    fn number_at(&self, place: usize) -> usize
+        requires { place < length self.now }
+        ensures { IsNumberAt self.now place result }
+    {
+        self.numbers.get(place)
+    }
+
+    // The entry at a place.
+    fn get(&self, place: usize) -> Entry
         requires { place < length self.now }
         ensures { result ≡ entry_at self.now place }
     {
-        entry_of(self.kinds.as_slice()[place], self.numbers.get(place))
+        entry_of(self.kind_at(place), self.number_at(place))
+    }
+
+    /// The place behind the tree that begins with the entry at a place.
+    pub fn behind(&self, place: usize) -> usize
+        requires within { place < length self.now }
+        requires small { place < 2 ^ 64 - 1 }
+        ensures { result ≡ behind_at self.now place }
+    {
+        match self.kind_at(place) {
+            Kind::Array => self.number_at(place),
+            Kind::Dictionary => self.number_at(place),
+            Kind::Scalar => place + 1,
+            Kind::End => place + 1,
+        }
+    }
+
+    /// The place among the different scalars of the one that the entry at a place names, if it
+    /// names one.
+    pub fn scalar(&self, place: usize) -> Option<usize>
+        requires { place < length self.now }
+        ensures { result ≡ scalar_in (entry_at self.now place) }
+    {
+        match self.kind_at(place) {
+            Kind::Array => None,
+            Kind::Dictionary => None,
+            Kind::Scalar => Some(self.number_at(place)),
+            Kind::End => None,
+        }
     }
 
     /// Appends an entry.

@@ -4,26 +4,13 @@ ghost use Rattle.std.specs.Prelude.{◌≡◌, ◌^◌, ◌<◌, true, length, O
 ghost use Rattle.std.proofs.Props.{props};
 ghost use Rattle.plist_base.specs.Events.{EndCollection, event_of};
 ghost use Rattle.plist_base.specs.Outcomes.{OnlyMemory};
-ghost use Rattle.plist_binwrite.specs.inner.Entries.{is_leaf, KeepsScalars, behind_of};
+ghost use Rattle.plist_binwrite.specs.inner.Entries.{is_leaf, KeepsScalars};
 
 use crate::entries::{Entries, Entry};
 use crate::kinds::Kind;
 use indexmap::IndexSet;
 use plist_base::{Error, ErrorKind, Event};
 use std::alloc::Global;
-
-// The place behind the tree that begins with the entry here.
-fn behind(place: usize, entry: Entry) -> usize
-    requires { place < 2 ^ 64 - 1 }
-    ensures { result ≡ behind_of place entry }
-{
-    match entry {
-        Entry::Array(behind) => behind,
-        Entry::Dictionary(behind) => behind,
-        Entry::Scalar(_) => place + 1,
-        Entry::End => place + 1,
-    }
-}
 
 /// The events of a property list, each different scalar once. Lengths of starts are left out.
 ///
@@ -40,7 +27,7 @@ pub struct Held<'e> {
 impl<'e> Held<'e> {
     ghost use Rattle.std.specs.Prelude.{◌≤◌, [], None, false, IfSome, ◌+◌};
     ghost use Rattle.plist_binwrite.specs.Held.{plain_event, plain_events, scalars_of, kind_of, EndsTree, GrowsBy, HasItem, IsScalarAt, LacksItem, held_at, shown_in};
-    ghost use Rattle.plist_binwrite.specs.inner.Entries.{is_start, IsUnclosed, entry_at};
+    ghost use Rattle.plist_binwrite.specs.inner.Entries.{is_start, IsUnclosed};
 
     /// No events. It takes no memory.
     pub fn new(alloc: Global) -> Held<'e>
@@ -66,14 +53,6 @@ impl<'e> Held<'e> {
         ensures small { result < 2 ^ 63 }
     {
         self.scalars.len()
-    }
-
-    // The entry at a place.
-    fn entry_at(&self, place: usize) -> Entry
-        requires { place < length (plain_events self.now) }
-        ensures { result ≡ entry_at self.now.entries place }
-    {
-        self.entries.get(place)
     }
 
     /// The kind of the event at a place.
@@ -104,7 +83,7 @@ impl<'e> Held<'e> {
         ensures forward { (place < result) × (result ≤ length (plain_events self.now)) }
         ensures ends { EndsTree (plain_events self.now) place result }
     {
-        behind(place, self.entry_at(place))
+        self.entries.behind(place)
     }
 
     /// The place behind the pair whose key stands here.
@@ -127,9 +106,9 @@ impl<'e> Held<'e> {
         ensures leaf { IfSome result (λ _. is_leaf (held_at self.now place) ≡ true) }
         ensures none { result ≡ None → is_leaf (held_at self.now place) ≡ false }
     {
-        match self.entry_at(place) {
-            Entry::Scalar(scalar) => Some(scalar),
-            _ => None,
+        match self.entries.scalar(place) {
+            Some(scalar) => Some(scalar),
+            None => None,
         }
     }
 

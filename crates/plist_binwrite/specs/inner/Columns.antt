@@ -1,5 +1,6 @@
 -- Entries as two lists: of their kinds, and of their numbers.
-use Rattle.std.specs.Prelude.{ℕ, List, [], ◌∷◌}
+use Rattle.std.specs.Prelude.{◌≡◌, ℕ, List, [], ◌∷◌, Option, None, Some}
+use Rattle.plist_binwrite.specs.inner.Entries.{entry_at}
 use Rattle.plist_binwrite.specs.declared.entries.Entry.{Entry}
 use Rattle.plist_binwrite.specs.declared.entries.Entry.TheVariants as entry
 use Rattle.plist_binwrite.specs.declared.kinds.Kind.{Kind}
@@ -19,12 +20,24 @@ number_in (entry.Dictionary behind) = behind
 number_in (entry.Scalar place) = place
 number_in entry.End = 0
 
+-- the scalar that an entry names
+abbrev pub scalar_in : Entry → Option ℕ
+scalar_in (entry.Array behind) = None
+scalar_in (entry.Dictionary behind) = None
+scalar_in (entry.Scalar place) = Some place
+scalar_in entry.End = None
+
 -- the entry of a kind and a number
 abbrev pub entry_of : Kind → ℕ → Entry
 entry_of kind.Array number = entry.Array number
 entry_of kind.Dictionary number = entry.Dictionary number
 entry_of kind.Scalar number = entry.Scalar number
 entry_of kind.End number = entry.End
+
+-- with this number an entry is that of its kind
+abbrev pub IsNumberAt : List Entry → (place number : ℕ) → Type 0
+IsNumberAt entries place number =
+    entry_of (kind_in (entry_at entries place)) number ≡ entry_at entries place
 
 -- the entries, place by place
 abbrev pub entries_of : List Kind → List ℕ → List Entry

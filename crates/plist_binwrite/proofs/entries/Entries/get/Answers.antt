@@ -1,42 +1,9 @@
-use Rattle.std.proofs.Common.{◌<◌, length, get_or, ap, ◌∙◌, arith}
-use Rattle.plist_binwrite.specs.inner.Columns.{entry_of}
+use Rattle.std.proofs.Common.{◌∙◌}
 use Rattle.plist_binwrite.specs.inner.Entries.{entry_at}
-use Rattle.plist_binwrite.proofs.Columns.{long_entries, entry_read}
+use Rattle.plist_binwrite.proofs.Columns.{of_number}
 use Rattle.plist_binwrite.proofs.entries.Entries.get.Goals as goal
-
-pub bounds-as_slice-place : goal.bounds-as_slice-place
-bounds-as_slice-place c =
-    let s = c.self.inside in
-    omega (
-      arith,
-      c.requires,
-      ap length c.as_slice.ensures.value,
-      long_entries s.kinds.items s.numbers c.self.invariant,
-      ap length c.self.view_is,
-    )
-
-pub get-requires : goal.get-requires
-get-requires c =
-    let s = c.self.inside in
-    omega (
-      arith,
-      c.requires,
-      long_entries s.kinds.items s.numbers c.self.invariant,
-      c.self.invariant,
-      ap length c.self.view_is,
-    )
 
 pub returns : goal.returns
 returns c =
-    let s = c.self.inside in
-    let within : c.args.place < length s.kinds.items = omega (
-      arith,
-      c.requires,
-      long_entries s.kinds.items s.numbers c.self.invariant,
-      ap length c.self.view_is,
-    ) in
-    c.entry_of.ensures
-    ∙ ap (entry_of (get_or c.as_slice.result.now c.args.place _)) c.get.ensures
-    ∙ entry_read s.kinds.items s.numbers c.self.invariant c.as_slice.result.now
-    c.as_slice.ensures.value c.args.place _ within
-    ∙ ap (λ es. entry_at es c.args.place) c.self.view_is
+    c.entry_of.ensures ∙ of_number (entry_at c.args.self.now c.args.place) c.kind_at.result
+    c.number_at.result c.kind_at.ensures c.number_at.ensures

@@ -1,20 +1,34 @@
-use Rattle.std.proofs.Common.{map, arith, sym, ◌∙◌}
-use Rattle.plist_base.specs.Events.{event_of}
-use Rattle.plist_binwrite.proofs.Holding.{long_shown, scalar_stored, scalar_is_leaf}
+use Rattle.std.proofs.Common.{arith, sym, ◌∙◌}
+use Rattle.plist_binwrite.specs.Held.{scalars_of}
+use Rattle.plist_binwrite.specs.inner.Entries.{entry_at}
+use Rattle.plist_binwrite.proofs.Columns.{named}
+use Rattle.plist_binwrite.proofs.Holding.{long_shown, no_scalar, scalar_stored, scalar_is_leaf}
 use Rattle.plist_binwrite.proofs.held.Held.scalar_place.Goals as goal
 
-pub returns-in-Scalar-clause-some : goal.returns-in-Scalar-clause-some
-returns-in-Scalar-clause-some c =
+pub scalar-requires : goal.scalar-requires
+scalar-requires c =
     let s = c.args.self.now in
-    let scalars = map event_of s.scalars.keys in
-    scalar_stored scalars s.entries s.begun.items s.kept c.args.place
-    (omega (arith, c.requires, long_shown scalars s.entries)) c.in-Scalar.scalar
-    (sym c.entry_at.ensures ∙ c.in-Scalar.is)
+    omega (arith, c.requires, long_shown (scalars_of s) s.entries)
 
-pub returns-in-Scalar-clause-leaf : goal.returns-in-Scalar-clause-leaf
-returns-in-Scalar-clause-leaf c =
+pub returns-in-Some-clause-some : goal.returns-in-Some-clause-some
+returns-in-Some-clause-some c =
     let s = c.args.self.now in
-    let scalars = map event_of s.scalars.keys in
-    scalar_is_leaf scalars s.entries s.begun.items s.kept c.args.place
-    (omega (arith, c.requires, long_shown scalars s.entries)) c.in-Scalar.scalar
-    (sym c.entry_at.ensures ∙ c.in-Scalar.is)
+    scalar_stored (scalars_of s) s.entries s.begun.items s.kept c.args.place
+    (omega (arith, c.requires, long_shown (scalars_of s) s.entries)) c.in-Some.scalar
+    (named (entry_at s.entries c.args.place) c.in-Some.scalar
+    (sym c.scalar.ensures ∙ c.in-Some.is))
+
+pub returns-in-Some-clause-leaf : goal.returns-in-Some-clause-leaf
+returns-in-Some-clause-leaf c =
+    let s = c.args.self.now in
+    scalar_is_leaf (scalars_of s) s.entries s.begun.items s.kept c.args.place
+    (omega (arith, c.requires, long_shown (scalars_of s) s.entries)) c.in-Some.scalar
+    (named (entry_at s.entries c.args.place) c.in-Some.scalar
+    (sym c.scalar.ensures ∙ c.in-Some.is))
+
+pub returns-in-None-clause-none : goal.returns-in-None-clause-none
+returns-in-None-clause-none c = λ none.
+    let s = c.args.self.now in
+    no_scalar (scalars_of s) s.entries s.begun.items s.kept c.args.place
+    (omega (arith, c.requires, long_shown (scalars_of s) s.entries))
+    (sym c.scalar.ensures ∙ c.in-None.is)
