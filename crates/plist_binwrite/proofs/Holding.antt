@@ -1,10 +1,14 @@
 -- What holds of the entries of held events, kept by each event that comes.
-use Rattle.std.proofs.Common.{◌≡◌, ◌≢◌, inl, inr, ℕ, zero, suc, ◌+◌, ◌^◌, ◌<◌, ◌≤◌, true, false, None, Some, Result, Ok, Err, OnOk, OnErr, List, [], ◌∷◌, ◌++◌, length, get_or, set, reverse, slice_get, refl, ap, sym, ◌∙◌, subst, arith}
+use Rattle.std.proofs.Common.{◌≡◌, ◌≢◌, ◌⊎◌, inl, inr, ℕ, zero, suc, ◌+◌, ◌^◌, ◌<◌, ◌≤◌, true, false, None, Some, Result, Ok, Err, OnOk, OnErr, List, [], ◌∷◌, ◌++◌, length, get_or, set, reverse, slice_get, refl, ap, sym, ◌∙◌, subst, arith}
 use Rattle.std.proofs.Math.ListN.{get_or-append}
 use Rattle.std.proofs.Math.Seq.{get_or-append_seam}
+use Rattle.std.proofs.lemmas.Bool.{eq-eqb}
 use Rattle.std.proofs.lemmas.Bool.Decides.{eqb_tells, leb_tells}
 use Rattle.std.proofs.lemmas.List.{length-map, length-append, length-set, map-append, reverse-append, get_or-map, get_or-set_same, get_or-set_other, get_or_past}
+use Rattle.std.proofs.lemmas.List.Folds.{list_any-append, list_any_at}
 use Rattle.std.proofs.lemmas.Option.{get_or_from_slice_get, slice_get-get_or}
+use Rattle.std.specs.List.{list_any}
+use Rattle.std.specs.Prelude.{◌||◌}
 use Rattle.plist_base.specs.Bracketing.{unhinted}
 use Rattle.plist_base.specs.Events.{PlainEvent, StartArray, StartDictionary, EndCollection, Single}
 use Rattle.plist_binwrite.specs.Held.{event_at, kind_of}
@@ -14,7 +18,7 @@ use Rattle.plist_binwrite.specs.declared.entries.Entry.{Entry}
 use Rattle.plist_binwrite.specs.declared.entries.Entry.TheVariants as entry
 use Rattle.plist_binwrite.specs.declared.kinds.Kind.TheVariants as kind
 use Rattle.plist_binwrite.specs.inner.Columns.{kind_in, scalar_in}
-use Rattle.plist_binwrite.specs.inner.Entries.{AreApart, is_leaf, entry_at, shown, all_shown, is_sound, is_start, behind_of, behind_at, closed_at, ended_at, IsKept}
+use Rattle.plist_binwrite.specs.inner.Entries.{AreApart, is_leaf, entry_at, shown, all_shown, is_sound, is_start, behind_of, behind_at, closed_at, ended_at, names, IsKept}
 use Rattle.plist_binwrite.specs.inner.Opening.{open_behind, open_after, without_innermost}
 use Rattle.plist_binwrite.proofs.Columns.{unnamed}
 use Rattle.plist_binwrite.proofs.Opened as opened
@@ -61,6 +65,21 @@ behind_before es e p lt = ap (behind_of p) (entry_before es e p lt)
 behind_last : (es : List Entry) (e : Entry)
     → behind_at (es ++ e ∷ []) (length es) ≡ behind_of (length es) e
 behind_last es e = ap (behind_of (length es)) (entry_last es e)
+
+-- ---- scalars that are named
+
+-- that a scalar is named stays so
+named_more : (i : ℕ) (es : List Entry) (e : Entry) → list_any (names i) es ≡ true
+    → list_any (names i) (es ++ e ∷ []) ≡ true
+named_more i es e h =
+    list_any-append (names i) es (e ∷ []) ∙ ap (λ b. b || list_any (names i) (e ∷ [])) h
+
+-- and the last entry names its own
+named_last : (i : ℕ) (es : List Entry) → list_any (names i) (es ++ entry.Scalar i ∷ []) ≡ true
+named_last i es =
+    list_any_at (names i) (es ++ entry.Scalar i ∷ []) (length es) entry.End
+    (omega (arith, length-append es (entry.Scalar i ∷ [])))
+    (ap (names i) (entry_last es (entry.Scalar i)) ∙ eq-eqb i i refl)
 
 -- ---- scalars
 
@@ -114,28 +133,13 @@ module _ (old more : List PlainEvent) where
       ap (λ d. d ∷ all_shown (old ++ more) es) (one_kept e (sound 0 (omega arith))).1
       ∙ ap (λ l. shown old e ∷ l) (shown_kept es (λ p lt. sound (suc p) (omega (arith, lt))))
 
-  -- with more scalars the same holds
-  pub kept_scalars : (es : List Entry) (begun : List ℕ) → AreApart (old ++ more)
-      → IsKept old es begun → IsKept (old ++ more) es begun
-  kept_scalars es begun apart kept =
-      let same = shown_kept es kept.sound in
-      record {
-        apart = apart;
-        sound = λ p lt. (one_kept (entry_at es p) (kept.sound p lt)).0;
-        starts = kept.starts ∙ ap open_after (sym same);
-        skips = subst (λ l. IsSkips l (behind_at es)) (sym same) kept.skips;
-      }
-
-  pub same_shown : (es : List Entry) (begun : List ℕ) → IsKept old es begun
-      → all_shown (old ++ more) es ≡ all_shown old es
-  same_shown es begun kept = shown_kept es kept.sound
-
 -- ---- no events
 
 pub kept_none : IsKept [] [] []
 kept_none = record {
   apart = λ i j k p q. cc;
   sound = λ p lt. absurd (omega (arith, lt));
+  used = λ i lt. absurd (omega (arith, lt));
   starts = refl;
   skips = record {
     forward = λ q lt. absurd (omega (arith, lt));
@@ -151,6 +155,50 @@ kept_nothing scalars es begun p q r =
 
 -- ---- one more event
 
+-- an entry behind these, with which each scalar is named
+module _ (scalars : List PlainEvent) (es : List Entry) (apart : AreApart scalars)
+    (sound : (p : ℕ) → p < length es → is_sound scalars (entry_at es p) ≡ true)
+    (skips : IsSkips (all_shown scalars es) (behind_at es)) where
+  abbrev told : List PlainEvent
+  told = all_shown scalars es
+
+  -- one that ends no other
+  alone : (e : Entry) (now : List ℕ) → is_sound scalars e ≡ true
+      → ((i : ℕ) → i < length scalars → list_any (names i) (es ++ e ∷ []) ≡ true)
+      → behind_of (length es) e ≡ length es + 1
+      → reverse now ≡ open_behind (shown scalars e) (length es) (open_after told)
+      → opened.EndsAlone told (shown scalars e) → IsKept scalars (es ++ e ∷ []) now
+  alone e now one used behind starts ends =
+      let long = long_shown scalars es in
+      let more = shown_more scalars es e in
+      let last : behind_at (es ++ e ∷ []) (length told) ≡ length told + 1
+      = ap (behind_at (es ++ e ∷ [])) long ∙ behind_last es e ∙ behind
+      ∙ ap (λ n. n + 1) (sym long) in
+      record {
+        apart = apart;
+        sound = each_more (λ d. is_sound scalars d ≡ true) es e sound one;
+        used = used;
+        starts = starts ∙ ap (λ n. open_behind (shown scalars e) n (open_after told)) (sym long)
+            ∙ sym (open_more told (shown scalars e)) ∙ ap open_after (sym more);
+        skips = subst (λ l. IsSkips l (behind_at (es ++ e ∷ []))) (sym more)
+            (skips_alone told (shown scalars e) (behind_at es) (behind_at (es ++ e ∷ []))
+            skips last (λ q lt. behind_before es e q (omega (arith, lt, long))) ends);
+      }
+
+  -- a scalar
+  pub kept_scalar : (i : ℕ) (e : PlainEvent) → get_or scalars i EndCollection ≡ e
+      → is_leaf e ≡ true
+      → ((j : ℕ) → j < length scalars → list_any (names j) (es ++ entry.Scalar i ∷ []) ≡ true)
+      → (begun : List ℕ) → reverse begun ≡ open_after told
+      → IsKept scalars (es ++ entry.Scalar i ∷ []) begun
+  kept_scalar i e is leaf used begun starts =
+      let one : shown scalars (entry.Scalar i) ≡ unhinted e = ap unhinted is in
+      alone (entry.Scalar i) begun (ap is_leaf is ∙ leaf) used refl
+      (starts ∙ sym (leaf_opens e (length es) (open_after told) leaf)
+      ∙ ap (λ d. open_behind d (length es) (open_after told)) (sym one))
+      (begins_alone told (shown scalars (entry.Scalar i))
+      (λ p. leaf_no_end e leaf (sym one ∙ p)))
+
 module _ (scalars : List PlainEvent) (es : List Entry) (begun : List ℕ)
     (kept : IsKept scalars es begun) where
   abbrev events : List PlainEvent
@@ -159,25 +207,10 @@ module _ (scalars : List PlainEvent) (es : List Entry) (begun : List ℕ)
   long : length events ≡ length es
   long = long_shown scalars es
 
-  -- behind an entry that ends no other
-  alone : (e : Entry) (now : List ℕ) → is_sound scalars e ≡ true
-      → behind_of (length es) e ≡ length es + 1
-      → reverse now ≡ open_behind (shown scalars e) (length es) (open_after events)
-      → opened.EndsAlone events (shown scalars e) → IsKept scalars (es ++ e ∷ []) now
-  alone e now sound behind starts ends =
-      let more = shown_more scalars es e in
-      let last : behind_at (es ++ e ∷ []) (length events) ≡ length events + 1
-      = ap (behind_at (es ++ e ∷ [])) long ∙ behind_last es e ∙ behind
-      ∙ ap (λ n. n + 1) (sym long) in
-      record {
-        apart = kept.apart;
-        sound = each_more (λ d. is_sound scalars d ≡ true) es e kept.sound sound;
-        starts = starts ∙ ap (λ n. open_behind (shown scalars e) n (open_after events)) (sym long)
-            ∙ sym (open_more events (shown scalars e)) ∙ ap open_after (sym more);
-        skips = subst (λ l. IsSkips l (behind_at (es ++ e ∷ []))) (sym more)
-            (skips_alone events (shown scalars e) (behind_at es) (behind_at (es ++ e ∷ []))
-            kept.skips last (λ q lt. behind_before es e q (omega (arith, lt, long))) ends);
-      }
+  -- each scalar is named still
+  still_used : (e : Entry) (i : ℕ) → i < length scalars
+      → list_any (names i) (es ++ e ∷ []) ≡ true
+  still_used e i lt = named_more i es e (kept.used i lt)
 
   start_parts : (e : Entry) → is_start e ≡ true → (is_sound scalars e ≡ true)
       × ((p : ℕ) (now : List ℕ) → open_behind (shown scalars e) p now ≡ p ∷ now)
@@ -192,29 +225,19 @@ module _ (scalars : List PlainEvent) (es : List Entry) (begun : List ℕ)
       → IsKept scalars (es ++ e ∷ []) (begun ++ length es ∷ [])
   kept_start e starts behind =
       let parts = start_parts e starts in
-      alone e (begun ++ length es ∷ []) parts.0 behind
+      alone scalars es kept.apart kept.sound kept.skips e (begun ++ length es ∷ [])
+      parts.0 (still_used e) behind
       (reverse-append begun (length es ∷ []) ∙ ap (λ l. length es ∷ l) kept.starts
       ∙ sym (parts.1 (length es) (open_after events)))
       (begins_alone events (shown scalars e) parts.2)
-
-  -- a scalar
-  pub kept_scalar : (i : ℕ) (e : PlainEvent) → get_or scalars i EndCollection ≡ e
-      → is_leaf e ≡ true → IsKept scalars (es ++ entry.Scalar i ∷ []) begun
-  kept_scalar i e is leaf =
-      let one : shown scalars (entry.Scalar i) ≡ unhinted e = ap unhinted is in
-      alone (entry.Scalar i) begun (ap is_leaf is ∙ leaf) refl
-      (kept.starts ∙ sym (leaf_opens e (length es) (open_after events) leaf)
-      ∙ ap (λ d. open_behind d (length es) (open_after events)) (sym one))
-      (begins_alone events (shown scalars (entry.Scalar i))
-      (λ p. leaf_no_end e leaf (sym one ∙ p)))
 
   -- an end where nothing is begun
   pub kept_stray : begun ≡ [] → (now : List ℕ) → now ≡ []
       → IsKept scalars (es ++ entry.End ∷ []) now
   kept_stray none now empty =
       let nothing : open_after events ≡ [] = sym kept.starts ∙ ap reverse none in
-      alone entry.End now refl refl
-      (ap reverse empty ∙ sym (ap without_innermost nothing))
+      alone scalars es kept.apart kept.sound kept.skips entry.End now refl
+      (still_used entry.End) refl (ap reverse empty ∙ sym (ap without_innermost nothing))
       (stray_alone events nothing)
 
   -- an end, which closes the innermost start
@@ -286,6 +309,21 @@ module _ (scalars : List PlainEvent) (es : List Entry) (begun : List ℕ)
     sound_ended : (p : ℕ) → p < length ended → is_sound scalars (entry_at ended p) ≡ true
     sound_ended = each_more (λ d. is_sound scalars d ≡ true) es entry.End kept.sound refl
 
+    -- closing a start names what was named
+    closing_names : (i : ℕ) (e : Entry) (n : ℕ) → names i (closed_at e n) ≡ names i e
+    closing_names i (entry.Array behind) n = refl
+    closing_names i (entry.Dictionary behind) n = refl
+    closing_names i (entry.Scalar place) n = refl
+    closing_names i entry.End n = refl
+
+    same_named : (i : ℕ) (l : List Entry) (p : ℕ) (e : Entry) → p < length l
+        → names i e ≡ names i (entry_at l p)
+        → list_any (names i) (set l p e) ≡ list_any (names i) l
+    same_named i [] p e lt h = refl
+    same_named i (d ∷ l) zero e lt h = ap (λ b. b || list_any (names i) l) h
+    same_named i (d ∷ l) (suc p) e lt h =
+        ap (λ b. names i d || b) (same_named i l p e (omega (arith, lt)) h)
+
     pub kept_end : IsKept scalars closed outer
     kept_end = record {
       apart = kept.apart;
@@ -297,6 +335,9 @@ module _ (scalars : List PlainEvent) (es : List Entry) (begun : List ℕ)
             | inr d ↦ ap (is_sound scalars) (closed_other p d.1)
                 ∙ sound_ended p (omega (arith, lt, length-set ended start closing))
           ];
+      used = λ i lt.
+          same_named i ended start closing within
+          (closing_names i (entry_at ended start) (length es + 1)) ∙ still_used entry.End i lt;
       starts = sym (ap without_innermost innermost) ∙ sym (open_more events EndCollection)
           ∙ ap open_after (sym closed_shown);
       skips = subst (λ l. IsSkips l (behind_at closed)) (sym closed_shown)
@@ -353,19 +394,19 @@ module _ (scalars : List PlainEvent) (es : List Entry) (begun : List ℕ)
       ∙ unnamed scalars (entry_at es place) none
 
   module _ (k : ℕ) (is : entry_at es place ≡ entry.Scalar k) where
-    names : is_leaf (get_or scalars k EndCollection) ≡ true
-    names = ap (is_sound scalars) (sym is) ∙ kept.sound place lt
+    leaf_here : is_leaf (get_or scalars k EndCollection) ≡ true
+    leaf_here = ap (is_sound scalars) (sym is) ∙ kept.sound place lt
 
     there : event_at (all_shown scalars es) place ≡ get_or scalars k EndCollection
     there = shown_at scalars es place lt ∙ ap (shown scalars) is
-        ∙ leaf_unhinted (get_or scalars k EndCollection) names
+        ∙ leaf_unhinted (get_or scalars k EndCollection) leaf_here
 
     pub scalar_stored : slice_get scalars k ≡ Some (event_at (all_shown scalars es) place)
-    scalar_stored = slice_get-get_or scalars k EndCollection (leaf_below scalars k names)
+    scalar_stored = slice_get-get_or scalars k EndCollection (leaf_below scalars k leaf_here)
         ∙ ap Some (sym there)
 
     pub scalar_is_leaf : is_leaf (event_at (all_shown scalars es) place) ≡ true
-    scalar_is_leaf = ap is_leaf there ∙ names
+    scalar_is_leaf = ap is_leaf there ∙ leaf_here
 
   module _ (behind : ℕ) (is : behind_at es place ≡ behind) where
     pub behind_forward : (place < behind) × (behind ≤ length (all_shown scalars es))
@@ -442,7 +483,8 @@ module _ (scalars : List PlainEvent) (es : List Entry) (begun : List ℕ)
       → OnErr r (now ≡ es) → IsKept scalars now begun
   found_kept r more same =
       either_kept r es now (entry.Scalar i) more same scalars begun kept
-      (kept_scalar scalars es begun kept i e stored leaf)
+      (kept_scalar scalars es kept.apart kept.sound kept.skips i e stored leaf
+      (still_used scalars es begun kept (entry.Scalar i)) begun kept.starts)
 
   pub found_shown : now ≡ es ++ entry.Scalar i ∷ []
       → all_shown scalars now ≡ all_shown scalars es ++ e ∷ []
@@ -452,28 +494,37 @@ module _ (scalars : List PlainEvent) (es : List Entry) (begun : List ℕ)
 -- a scalar, where the different scalars may have become one more
 module _ (old more new : List PlainEvent) (es : List Entry) (begun : List ℕ)
     (kept : IsKept old es begun) (grown : new ≡ old ++ more) (apart : AreApart new) where
-  grown_kept : IsKept (old ++ more) es begun
-  grown_kept = kept_scalars old more es begun (subst AreApart grown apart) kept
+  grown_sound : (p : ℕ) → p < length es → is_sound new (entry_at es p) ≡ true
+  grown_sound p lt =
+      ap (λ l. is_sound l (entry_at es p)) grown
+      ∙ (one_kept old more (entry_at es p) (kept.sound p lt)).0
 
   grown_shown : all_shown new es ≡ all_shown old es
-  grown_shown = ap (λ l. all_shown l es) grown ∙ same_shown old more es begun kept
-
-  more_kept : IsKept new es begun
-  more_kept = subst (λ l. IsKept l es begun) (sym grown) grown_kept
-
-  pub unnamed_shown : (now : List Entry) → now ≡ es → all_shown new now ≡ all_shown old es
-  unnamed_shown now same = ap (all_shown new) same ∙ grown_shown
+  grown_shown = ap (λ l. all_shown l es) grown ∙ shown_kept old more es kept.sound
 
   module _ (i : ℕ) (e : PlainEvent) (now : List Entry) (leaf : is_leaf e ≡ true)
       (stored : slice_get new i ≡ Some e) where
     at : get_or new i EndCollection ≡ e
     at = get_or_from_slice_get new i e EndCollection stored
 
-    pub scalar_kept : {T E : Type 0} (r : Result T E) → OnOk r (now ≡ es ++ entry.Scalar i ∷ [])
-        → OnErr r (now ≡ es) → IsKept new now begun
-    scalar_kept r more same =
-        either_kept r es now (entry.Scalar i) more same new begun more_kept
-        (kept_scalar new es begun more_kept i e at leaf)
+    -- each scalar was there, and then it is named, or it is the one that came
+    grown_used : ((j : ℕ) → j < length new → (j < length old) ⊎ (slice_get new j ≡ Some e))
+        → (j : ℕ) → j < length new → list_any (names j) (es ++ entry.Scalar i ∷ []) ≡ true
+    grown_used came j lt =
+        elim (came j lt) [
+          | inl a ↦ still_used old es begun kept (entry.Scalar i) j a
+          | inr b ↦ subst (λ n. list_any (names n) (es ++ entry.Scalar i ∷ []) ≡ true)
+              (apart i j e stored b) (named_last i es)
+        ]
+
+    pub scalar_kept : ((j : ℕ) → j < length new
+        → (j < length old) ⊎ (slice_get new j ≡ Some e)) → now ≡ es ++ entry.Scalar i ∷ []
+        → IsKept new now begun
+    scalar_kept came is =
+        subst (λ l. IsKept new l begun) (sym is)
+        (kept_scalar new es apart grown_sound
+        (subst (λ l. IsSkips l (behind_at es)) (sym grown_shown) kept.skips) i e at leaf
+        (grown_used came) begun (kept.starts ∙ ap open_after (sym grown_shown)))
 
     pub scalar_shown : now ≡ es ++ entry.Scalar i ∷ []
         → all_shown new now ≡ all_shown old es ++ e ∷ []

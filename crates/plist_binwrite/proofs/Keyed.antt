@@ -1,10 +1,12 @@
 -- Keys of a set: equal ones show the same.
-use Rattle.std.proofs.Common.{◌≡◌, ℕ, zero, suc, ◌+◌, ◌<◌, ◌≤◌, Bool, true, false, if◌then◌else◌, List, [], ◌∷◌, ◌++◌, length, get_or, map, position, Some, refl, sym, ap, ◌∙◌, arith, append-nil}
-use Rattle.std.proofs.lemmas.List.{map-append, get_or-map}
+use Rattle.std.proofs.Common.{◌≡◌, ◌⊎◌, inl, inr, ℕ, zero, suc, ◌+◌, ◌<◌, ◌≤◌, Bool, true, false, if◌then◌else◌, List, [], ◌∷◌, ◌++◌, length, get_or, map, take, position, Some, refl, sym, ap, ◌∙◌, subst, arith, append-nil}
+use Rattle.std.proofs.Math.Seq.{get_or-append_seam, take-append_seam, take-length}
+use Rattle.std.proofs.lemmas.Bool.Decides.{leb_tells}
+use Rattle.std.proofs.lemmas.List.{length-append, map-append, get_or-map}
 use Rattle.std.proofs.lemmas.List.Quantifiers.{position-Some}
 use Rattle.std.specs.Prelude.{slice_get, option_map}
 use Rattle.std.specs.List.{AllByRecursion, IsDistinct}
-use Rattle.std.proofs.lemmas.Option.{slice_get-map}
+use Rattle.std.proofs.lemmas.Option.{slice_get-map, slice_get-get_or}
 use Rattle.plist_binwrite.specs.inner.Scalars.{AreApart}
 
 module _ {T P : Type 0} (same : T → T → Bool) (view : T → P) where
@@ -56,6 +58,36 @@ module _ {T P : Type 0} (same : T → T → Bool) (view : T → P) where
       → (more : List P) × (map view new ≡ map view old ++ more)
   keys_more true old new x e = ([], ap (map view) e ∙ sym (append-nil (map view old)))
   keys_more false old new x e = (view x ∷ [], ap (map view) e ∙ map-append view old (x ∷ []))
+
+  -- a key is one of those before, or the one that came
+  pub key_came : (b : Bool) (old new : List T) (x : T) → new ≡ (if b then old else old ++ x ∷ [])
+      → (i : ℕ) → i < length (map view new)
+      → (i < length (map view old)) ⊎ (slice_get (map view new) i ≡ Some (view x))
+  key_came true old new x e i h = inl (subst (λ l. i < length (map view l)) e h)
+  key_came false old new x e i h =
+      elim (leb_tells (length (map view old)) i) [
+        | inl a ↦ inr (last (omega (arith, a.1, h, longer)))
+        | inr b ↦ inl b.1
+      ]
+    where
+      grown : map view new ≡ map view old ++ view x ∷ []
+      grown = ap (map view) e ∙ map-append view old (x ∷ [])
+
+      longer : length (map view new) ≡ length (map view old) + 1
+      longer = ap length grown ∙ length-append (map view old) (view x ∷ [])
+
+      last : i ≡ length (map view old) → slice_get (map view new) i ≡ Some (view x)
+      last is =
+          slice_get-get_or (map view new) i (view x) h
+          ∙ ap Some (ap (λ l. get_or l i (view x)) grown
+          ∙ ap (λ n. get_or (map view old ++ view x ∷ []) n (view x)) is
+          ∙ get_or-append_seam (map view old) (view x) [] (view x))
+
+  -- the keys once the one that came is dropped
+  pub keys_back : (b : Bool) (old new : List T) (x : T) → new ≡ (if b then old else old ++ x ∷ [])
+      → take (length old) new ≡ old
+  keys_back true old new x e = ap (take (length old)) e ∙ take-length old
+  keys_back false old new x e = ap (take (length old)) e ∙ take-append_seam old (x ∷ [])
 
   module _ (key_same : (x y : T) → view x ≡ view y → same x y ≡ true) where
     no_key : (x : T) (cs : List T) (j : ℕ) → AllByRecursion (λ y. same x y ≡ false) cs

@@ -158,18 +158,24 @@ impl<'e> Held<'e> {
         }
     }
 
-    // Takes a scalar: the place of its equal among the different ones, or a new one. A new one stays
-    // where there is no memory for the entry, and no entry names it then.
+    // Takes a scalar: the place of its equal among the different ones, or a new one. A new one is
+    // dropped again where there is no memory for its entry.
     fn scalar(&mut self, event: Event<'e>) -> Result<(), Error>
         requires { is_leaf (event_of event) ≡ true }
         ensures events { OnOk result (GrowsBy self.old (event_of event.entry) self.new) }
         ensures unchanged { OnErr result (plain_events self.new ≡ plain_events self.old) }
         ensures memory { OnlyMemory result }
     {
+        let before = self.scalars.len();
         match self.scalars.insert_full(event) {
             Ok((place, _)) => {
-                self.entries.push(Entry::Scalar(place))?;
-                return Ok(());
+                match self.entries.push(Entry::Scalar(place)) {
+                    Ok(()) => return Ok(()),
+                    Err(error) => {
+                        self.scalars.truncate(before);
+                        return Err(error.into());
+                    }
+                }
             }
             Err(_) => return Err(ErrorKind::OutOfMemory.without_position()),
         }

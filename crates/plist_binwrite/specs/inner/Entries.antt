@@ -1,5 +1,6 @@
 -- The entries by which events are held: what they show, and what holds of them.
-use Rattle.std.specs.Prelude.{◌≡◌, ℕ, ◌+◌, ◌<◌, Bool, true, false, List, [], ◌∷◌, ◌++◌, length, get_or, set, map, reverse, None, Some, slice_get}
+use Rattle.std.specs.Prelude.{◌≡◌, ℕ, ◌+◌, ◌<◌, ◌==◌, Bool, true, false, List, [], ◌∷◌, ◌++◌, length, get_or, set, map, reverse, None, Some, slice_get}
+use Rattle.std.specs.List.{list_any}
 use Rattle.plist_base.specs.Bracketing.{unhinted}
 use Rattle.plist_base.specs.declared.event.Event.{Event}
 use Rattle.plist_base.specs.Events.{PlainEvent, event_of, StartArray, StartDictionary, EndCollection, Single}
@@ -40,6 +41,13 @@ is_sound scalars (entry.Dictionary behind) = true
 is_sound scalars (entry.Scalar place) = is_leaf (get_or scalars place EndCollection)
 is_sound scalars entry.End = true
 
+-- does the entry name the scalar of this number?
+abbrev pub names : (scalar : ℕ) → Entry → Bool
+names scalar (entry.Array behind) = false
+names scalar (entry.Dictionary behind) = false
+names scalar (entry.Scalar place) = place == scalar
+names scalar entry.End = false
+
 -- is it a start?
 abbrev pub is_start : Entry → Bool
 is_start (entry.Array behind) = true
@@ -74,11 +82,13 @@ ended_at entries start =
     set (entries ++ entry.End ∷ []) start
     (closed_at (entry_at (entries ++ entry.End ∷ []) start) (length entries + 1))
 
--- what always holds: the scalars are different ones, and each entry of a scalar names one; these
--- are the starts that have no end, the innermost last; and the entries tell where trees end
+-- what always holds: the scalars are different ones, each entry of a scalar names one, and each of
+-- them is named; these are the starts that have no end, the innermost last; and the entries tell
+-- where trees end
 pub record IsKept (scalars : List PlainEvent) (entries : List Entry) (begun : List ℕ) : Type 0 where
   pub apart : AreApart scalars
   pub sound : (p : ℕ) → p < length entries → is_sound scalars (entry_at entries p) ≡ true
+  pub used : (i : ℕ) → i < length scalars → list_any (names i) entries ≡ true
   pub starts : reverse begun ≡ open_after (all_shown scalars entries)
   pub skips : IsSkips (all_shown scalars entries) (behind_at entries)
 
