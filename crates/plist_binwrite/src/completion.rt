@@ -16,9 +16,9 @@ use crate::forms::{put_ending, reference_width};
 use crate::held::Held;
 use crate::layout::order_objects;
 use crate::numbers::Numbers;
-use crate::objects::{Planned, put_objects};
+use crate::objects::put_objects;
 use crate::outlet::{finish, put};
-use crate::plan::{Plan, plan_by_class};
+use crate::plan::{Plan, Planned, plan_by_class};
 use crate::size::{check_size, place_objects};
 use plist_base::Error;
 use std::alloc::Global;
@@ -50,8 +50,12 @@ fn make_ready(alloc: Global, events: &Held<'_>, classes: Classes) -> Result<Read
     let mut places = layout.places;
     let order = layout.order;
     let count = places.len() as u64;
-    let width = reference_width(count);
-    let table = place_objects(events, &plan, width, &order, &mut places)?;
+    let file = Planned {
+        events,
+        plan: &plan,
+        width: reference_width(count),
+    };
+    let table = place_objects(&file, &order, &mut places)?;
     match check_size(table, count) {
         Ok(table) => Ok(Ready {
             plan,

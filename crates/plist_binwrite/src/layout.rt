@@ -14,30 +14,36 @@ use crate::plan::Plan;
 use plist_base::Error;
 use std::alloc::{AllocError, Global};
 
+/// The numbers of a file's objects in its order, and a list with room for the place of each.
+#[derive(Drop)]
+pub struct Layout {
+    pub order: Numbers,
+    pub places: Numbers,
+}
+
 // Puts the object of the event here into the order, unless it is there already. A mark that isn't 0
 // tells of each object that it is.
 fn order_one(
     events: &Held<'_>,
     plan: &Plan,
+    layout: &mut Layout,
     place: usize,
-    order: &mut Numbers,
-    marks: &mut Numbers,
 ) -> Result<(), AllocError>
     requires planned { IsPlanned (plain_events events.now) plan.now }
-    requires order { IsOrder (count_of plan.now) order.old marks.old }
-    ensures order { OnOk result (IsOrder (count_of plan.now) order.new marks.new) }
-    ensures keeps { OnOk result (KeepsMarks marks.old marks.new) }
-    ensures marked { OnOk result (MarksItem events.now plan.now place marks.new) }
+    requires order { IsOrder (count_of plan.now) layout.old.order layout.old.places }
+    ensures order { OnOk result (IsOrder (count_of plan.now) layout.new.order layout.new.places) }
+    ensures keeps { OnOk result (KeepsMarks layout.old.places layout.new.places) }
+    ensures marked { OnOk result (MarksItem events.now plan.now place layout.new.places) }
 {
     if !events.has_item(place) {
         return Ok(());
     }
     let number = plan.number(place);
-    if marks.get(number) != 0 {
+    if layout.places.get(number) != 0 {
         return Ok(());
     }
-    order.push(number)?;
-    marks.set(number, 1)?;
+    layout.order.push(number)?;
+    layout.places.set(number, 1)?;
     Ok(())
 }
 
@@ -45,18 +51,17 @@ fn order_one(
 fn order_keys(
     events: &Held<'_>,
     plan: &Plan,
+    layout: &mut Layout,
     from: usize,
-    order: &mut Numbers,
-    marks: &mut Numbers,
 ) -> Result<(), AllocError>
     requires planned { IsPlanned (plain_events events.now) plan.now }
-    requires order { IsOrder (count_of plan.now) order.old marks.old }
-    ensures order { OnOk result (IsOrder (count_of plan.now) order.new marks.new) }
-    ensures keeps { OnOk result (KeepsMarks marks.old marks.new) }
+    requires order { IsOrder (count_of plan.now) layout.old.order layout.old.places }
+    ensures order { OnOk result (IsOrder (count_of plan.now) layout.new.order layout.new.places) }
+    ensures keeps { OnOk result (KeepsMarks layout.old.places layout.new.places) }
 {
     let mut key = from;
     'walk: while events.has_item(key) {
-        order_one(events, plan, key, order, marks)?;
+        order_one(events, plan, layout, key)?;
         key = events.skip_pair(key);
     }
     Ok(())
@@ -66,29 +71,21 @@ fn order_keys(
 fn order_here(
     events: &Held<'_>,
     plan: &Plan,
+    layout: &mut Layout,
     place: usize,
-    order: &mut Numbers,
-    marks: &mut Numbers,
 ) -> Result<(), AllocError>
     requires planned { IsPlanned (plain_events events.now) plan.now }
     requires place { place < length (plain_events events.now) }
-    requires order { IsOrder (count_of plan.now) order.old marks.old }
-    ensures order { OnOk result (IsOrder (count_of plan.now) order.new marks.new) }
-    ensures keeps { OnOk result (KeepsMarks marks.old marks.new) }
-    ensures marked { OnOk result (MarksItem events.now plan.now place marks.new) }
+    requires order { IsOrder (count_of plan.now) layout.old.order layout.old.places }
+    ensures order { OnOk result (IsOrder (count_of plan.now) layout.new.order layout.new.places) }
+    ensures keeps { OnOk result (KeepsMarks layout.old.places layout.new.places) }
+    ensures marked { OnOk result (MarksItem events.now plan.now place layout.new.places) }
 {
-    order_one(events, plan, place, order, marks)?;
+    order_one(events, plan, layout, place)?;
     match events.kind_at(place) {
-        Kind::Dictionary => order_keys(events, plan, place + 1, order, marks),
+        Kind::Dictionary => order_keys(events, plan, layout, place + 1),
         _ => Ok(()),
     }
-}
-
-/// The numbers of a file's objects in its order, and a list with room for the place of each.
-#[derive(Drop)]
-pub struct Layout {
-    pub order: Numbers,
-    pub places: Numbers,
 }
 
 /// Puts the objects into order: that of the events, where the keys of a dictionary come before its
@@ -103,10 +100,11 @@ pub fn order_objects(alloc: Global, events: &Held<'_>, plan: &Plan) -> Result<La
     ensures memory { OnlyMemory result }
 {
     let count = plan.numbering.firsts.len();
-    let mut places = Numbers::zeros(alloc, count)?;
-    let mut order = Numbers::new(alloc);
+    let places = Numbers::zeros(alloc, count)?;
+    let order = Numbers::new(alloc);
+    let mut layout = Layout { order, places };
     for place in 0..events.len() {
-        order_here(events, plan, place, &mut order, &mut places)?;
+        order_here(events, plan, &mut layout, place)?;
     }
-    Ok(Layout { order, places })
+    Ok(layout)
 }

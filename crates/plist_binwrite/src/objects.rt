@@ -2,25 +2,17 @@
 
 ghost use Rattle.std.specs.Prelude.{◌≡◌, ◌<◌, ◌≤◌, length};
 ghost use Rattle.plist_binwrite.specs.Held.{AllBelow};
-ghost use Rattle.plist_binwrite.specs.inner.Planning.{IsPlanned, count_of};
-ghost use Rattle.plist_binwrite.specs.inner.Putting.{PutsArray, PutsDictionary, PutsHalf, PutsItems, PutsObject, PutsOrder, events_in};
+ghost use Rattle.plist_binwrite.specs.inner.Planning.{IsPlanned, count_of, events_in};
+ghost use Rattle.plist_binwrite.specs.inner.Putting.{PutsArray, PutsDictionary, PutsHalf, PutsItems, PutsObject, PutsOrder};
 
 use crate::forms::{put_length, put_number, put_scalar};
 use crate::held::Held;
 use crate::kinds::{Kind, half_of};
 use crate::numbers::Numbers;
-use crate::plan::Plan;
+use crate::plan::Planned;
 use crate::size::count_items;
 use plist_base::Error;
 use std::io::Write;
-
-/// A planned file: its events, what is planned of them, and how wide a reference is.
-#[derive(Clone, Copy)]
-pub struct Planned<'p> {
-    pub events: &'p Held<'p>,
-    pub plan: &'p Plan,
-    pub width: usize,
-}
 
 // Puts references to the items of an array, from here on.
 fn put_items<W: Write>(

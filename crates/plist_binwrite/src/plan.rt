@@ -36,6 +36,14 @@ impl Plan {
     }
 }
 
+/// A planned file: its events, what is planned of them, and how wide a reference is.
+#[derive(Clone, Copy)]
+pub struct Planned<'p> {
+    pub events: &'p Held<'p>,
+    pub plan: &'p Plan,
+    pub width: usize,
+}
+
 /// Plans the events of a tree: one object for each class, where the classes are below a count.
 ///
 /// # Errors

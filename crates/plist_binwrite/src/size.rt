@@ -4,9 +4,8 @@
 ghost use Rattle.std.specs.Prelude.{◌≡◌, ◌+◌, ◌^◌, ◌<◌, ◌≤◌, ℕ, length, true, false, IfOk, IfErr, IfSome, OnOk, Some};
 ghost use Rattle.plist_base.specs.Outcomes.{OnlyFault, OnlyMemory};
 ghost use Rattle.plist_base.specs.Faults.{PlistTooLarge, fault_nowhere};
-ghost use Rattle.plist_binwrite.specs.Held.{plain_events};
 ghost use Rattle.plist_binwrite.specs.inner.Laying.{IsOrder};
-ghost use Rattle.plist_binwrite.specs.inner.Planning.{IsPlanned, count_of};
+ghost use Rattle.plist_binwrite.specs.inner.Planning.{IsPlanned, count_of, events_in};
 ghost use Rattle.plist_binwrite.specs.Sizes.{TellsSize, size_with};
 ghost use Rattle.plist_binwrite.specs.inner.Sizing.{AreLaid, CountsItems, ExceedsWith, FitsWith, IsWritableAt, TellsEnd, TellsSizeAt};
 
@@ -15,7 +14,7 @@ use crate::held::Held;
 use crate::kinds::Kind;
 use crate::lengths::{add, length_of_collection, length_of_scalar};
 use crate::numbers::Numbers;
-use crate::plan::Plan;
+use crate::plan::Planned;
 use plist_base::{Error, ErrorKind};
 
 /// The number of items of an array from here on; a key is an item, and so is its value.
@@ -33,23 +32,23 @@ pub fn count_items(events: &Held<'_>, from: usize) -> usize
 }
 
 // The size of the object of the tree that begins here.
-fn size_of_object(events: &Held<'_>, plan: &Plan, width: usize, place: usize) -> Option<u64>
-    requires planned { IsPlanned (plain_events events.now) plan.now }
-    requires place { place < length (plain_events events.now) }
-    requires fits { count_of plan.now ≤ 256 ^ width }
-    ensures size { TellsSizeAt events.now width place result }
-    ensures writable { IsWritableAt events.now plan.now width place }
+fn size_of_object(file: &Planned<'_>, place: usize) -> Option<u64>
+    requires planned { IsPlanned (events_in file.now) file.now.plan.now }
+    requires place { place < length (events_in file.now) }
+    requires fits { count_of file.now.plan.now ≤ 256 ^ file.now.width }
+    ensures size { TellsSizeAt file.now place result }
+    ensures writable { IsWritableAt file.now place }
 {
-    match events.kind_at(place) {
+    match file.events.kind_at(place) {
         Kind::Array => {
-            let count = count_items(events, place + 1) as u64;
-            length_of_collection(count, count, width as u64)
+            let count = count_items(file.events, place + 1) as u64;
+            length_of_collection(count, count, file.width as u64)
         }
         Kind::Dictionary => {
-            let count = count_items(events, place + 1) as u64;
-            length_of_collection(count / 2, count, width as u64)
+            let count = count_items(file.events, place + 1) as u64;
+            length_of_collection(count / 2, count, file.width as u64)
         }
-        _ => match events.scalar_at(place) {
+        _ => match file.events.scalar_at(place) {
             Some(scalar) => length_of_scalar(scalar),
             None => Some(0),
         },
@@ -72,26 +71,24 @@ fn place_or_none(told: Option<u64>) -> usize
 /// # Errors
 /// `OutOfMemory`, without an offset.
 pub fn place_objects(
-    events: &Held<'_>,
-    plan: &Plan,
-    width: usize,
+    file: &Planned<'_>,
     order: &Numbers,
     places: &mut Numbers,
 ) -> Result<Option<u64>, Error>
-    requires planned { IsPlanned (plain_events events.now) plan.now }
-    requires fits { count_of plan.now ≤ 256 ^ width }
-    requires order { IsOrder (count_of plan.now) order.now places.old }
-    ensures long { OnOk result (length places.new ≡ count_of plan.now) }
-    ensures size { IfOk result (TellsEnd events.now plan.now width order.now) }
-    ensures laid { IfOk result (AreLaid events.now plan.now width order.now places.new) }
+    requires planned { IsPlanned (events_in file.now) file.now.plan.now }
+    requires fits { count_of file.now.plan.now ≤ 256 ^ file.now.width }
+    requires order { IsOrder (count_of file.now.plan.now) order.now places.old }
+    ensures long { OnOk result (length places.new ≡ count_of file.now.plan.now) }
+    ensures size { IfOk result (TellsEnd file.now order.now) }
+    ensures laid { IfOk result (AreLaid file.now order.now places.new) }
     ensures memory { OnlyMemory result }
 {
     let mut at = Some(8);
     for index in 0..order.len() {
         let number = order.get(index);
         places.set(number, place_or_none(at))?;
-        let first = plan.first(number);
-        let size = size_of_object(events, plan, width, first);
+        let first = file.plan.first(number);
+        let size = size_of_object(file, first);
         at = add(at, size);
     }
     Ok(at)

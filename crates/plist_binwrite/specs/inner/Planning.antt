@@ -1,9 +1,10 @@
 -- What is planned of the events of a tree.
 use Rattle.std.specs.Prelude.{◌≡◌, ℕ, List, length}
 use Rattle.plist_binwrite.specs.declared.plan.Plan.{Plan}
+use Rattle.plist_binwrite.specs.declared.plan.Planned.{Planned}
 use Rattle.plist_base.specs.Events.{PlainEvent}
 use Rattle.plist_binwrite.specs.Classes.{AreClasses}
-use Rattle.plist_binwrite.specs.Held.{IsBracketed, AllNumbered, num_of}
+use Rattle.plist_binwrite.specs.Held.{plain_events, IsBracketed, AllNumbered, num_of}
 use Rattle.plist_binwrite.specs.inner.PlansBy.{IsPlan}
 
 -- by event, the number of its object; and by number, the place of the first event of that object
@@ -29,3 +30,10 @@ pub record IsPlanned (es : List PlainEvent) (plan : Plan) : Type 0 where
 -- these are the classes that a plan goes by
 abbrev pub GoesBy : List PlainEvent → (class : ℕ → ℕ) → Plan → Type 0
 GoesBy es class plan = IsPlan es class (numbers_of plan) (firsts_of plan)
+
+-- the events of a planned file, and the numbers of their objects
+abbrev pub events_in : Planned → List PlainEvent
+events_in file = plain_events file.events.now
+
+abbrev pub numbers_by : Planned → ℕ → ℕ
+numbers_by file = num_of (numbers_of file.plan.now)

@@ -4,27 +4,19 @@ use Rattle.std.specs.declared.alloc.Global.{Global}
 use Rattle.std.specs.declared.vec.Vec.{Vec}
 use Rattle.plist_base.specs.Writing.{answer_of}
 use Rattle.plist_base.specs.declared.error.Error.{Error}
-use Rattle.plist_base.specs.Events.{PlainEvent}
 use Rattle.plist_base.specs.Trees.{Tree, Trees, Members, Array, Dictionary}
 use Rattle.plist_binread.specs.Object.{Object}
 use Rattle.plist_binwrite.specs.Forms.{form, table_form}
-use Rattle.plist_binwrite.specs.Held.{plain_events, num_of, item_places, half_places, Describes}
+use Rattle.plist_binwrite.specs.Held.{plain_events, item_places, half_places, Describes}
 use Rattle.plist_binwrite.specs.Numberings.{obj_of}
 use Rattle.plist_binwrite.specs.Outlets.{Puts}
 use Rattle.plist_binwrite.specs.Standing.{Sits, SitsItems, SitsPairs}
 use Rattle.plist_binwrite.specs.Written.{bodies}
 use Rattle.plist_binwrite.specs.declared.completion.Ready.{Ready}
 use Rattle.plist_binwrite.specs.declared.held.Held.{Held}
-use Rattle.plist_binwrite.specs.declared.objects.Planned.{Planned}
+use Rattle.plist_binwrite.specs.declared.plan.Planned.{Planned}
 use Rattle.plist_binwrite.specs.inner.Ending.{SendsReady, file_of, numbers_in}
-use Rattle.plist_binwrite.specs.inner.Planning.{numbers_of}
-
--- the events of a planned file, and the numbers of their objects
-abbrev pub events_in : Planned → List PlainEvent
-events_in file = plain_events file.events.now
-
-abbrev pub numbers_by : Planned → ℕ → ℕ
-numbers_by file = num_of (numbers_of file.plan.now)
+pub use Rattle.plist_binwrite.specs.inner.Planning.{numbers_of, events_in, numbers_by}
 
 module _ {W : Type 0} (contents : W → Option (List ℕ)) (old : W) (room : Vec ℕ Global) where
   -- references to the items of an array go out from here on

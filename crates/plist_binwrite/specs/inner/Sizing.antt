@@ -10,8 +10,9 @@ use Rattle.plist_binwrite.specs.Standing.{Sits, SitsItems}
 use Rattle.plist_binwrite.specs.Written.{Laid}
 use Rattle.plist_binwrite.specs.declared.held.Held.{Held}
 use Rattle.plist_binwrite.specs.declared.plan.Plan.{Plan}
+use Rattle.plist_binwrite.specs.declared.plan.Planned.{Planned}
 use Rattle.plist_binwrite.specs.inner.Laying.{laid_out}
-use Rattle.plist_binwrite.specs.inner.Planning.{numbers_of}
+use Rattle.plist_binwrite.specs.inner.Planning.{numbers_of, events_in, numbers_by}
 
 -- the object of an item that stands here has a mark
 abbrev pub MarksItem : Held → Plan → (place : ℕ) → (marks : List ℕ) → Type 0
@@ -24,11 +25,6 @@ abbrev pub CountsItems : Held → (from count : ℕ) → Type 0
 CountsItems held from count =
     (ts : Trees) → SitsItems (plain_events held) ts from → count ≡ number_of_trees ts
 
--- the object of the tree that begins here has this size
-abbrev pub TellsSizeAt : Held → (width place : ℕ) → Option ℕ → Type 0
-TellsSizeAt held width place told =
-    (t : Tree) → Sits (plain_events held) t place → TellsSize told (object_size width t)
-
 -- a file with so many objects, whose offset table lies here, has less than 2^64 bytes, or hasn't
 abbrev pub FitsWith : (table count : ℕ) → Type 0
 FitsWith table count =
@@ -38,20 +34,25 @@ abbrev pub ExceedsWith : (table count : ℕ) → Type 0
 ExceedsWith table count =
     (objects : ℕ) → table ≡ 8 + objects → 2 ^ 64 ≤ size_with count objects
 
-module _ (held : Held) (plan : Plan) where
+module _ (file : Planned) where
+  -- the object of the tree that begins here has this size
+  abbrev pub TellsSizeAt : (place : ℕ) → Option ℕ → Type 0
+  TellsSizeAt place told =
+      (t : Tree) → Sits (events_in file) t place → TellsSize told (object_size file.width t)
+
   -- the form holds the object of the tree that begins here
-  abbrev pub IsWritableAt : (width place : ℕ) → Type 0
-  IsWritableAt width place = (t : Tree) → Sits (plain_events held) t place
-      → IsWritable width (obj_of (num_of (numbers_of plan)) t place)
+  abbrev pub IsWritableAt : (place : ℕ) → Type 0
+  IsWritableAt place = (t : Tree) → Sits (events_in file) t place
+      → IsWritable file.width (obj_of (numbers_by file) t place)
 
   -- the objects of the plan end here, in this order
-  abbrev pub TellsEnd : (width : ℕ) → (order : List ℕ) → Option ℕ → Type 0
-  TellsEnd width order told = (objects : ℕ → Object)
-      → Describes (plain_events held) (numbers_of plan) objects
-      → TellsSize told (length (laid_out width objects order))
+  abbrev pub TellsEnd : (order : List ℕ) → Option ℕ → Type 0
+  TellsEnd order told = (objects : ℕ → Object)
+      → Describes (events_in file) (numbers_of file.plan.now) objects
+      → TellsSize told (length (laid_out file.width objects order))
 
   -- they lie at these places, if their end is told
-  abbrev pub AreLaid : (width : ℕ) → (order places : List ℕ) → (told : Option ℕ) → Type 0
-  AreLaid width order places told = IfSome told (λ _. (objects : ℕ → Object)
-      → Describes (plain_events held) (numbers_of plan) objects
-      → Laid width objects places order 8)
+  abbrev pub AreLaid : (order places : List ℕ) → (told : Option ℕ) → Type 0
+  AreLaid order places told = IfSome told (λ _. (objects : ℕ → Object)
+      → Describes (events_in file) (numbers_of file.plan.now) objects
+      → Laid file.width objects places order 8)

@@ -10,9 +10,9 @@ returns-in-Ok-clause-ready c =
     let order = c.in_ok-layout.layout.order in
     let marks = c.in_ok-layout.layout.places in
     let told = c.in_ok-table.table in
-    let width = c.reference_width-width.result in
+    let width = c.reference_width.result in
     let count = c.len-count.result in
-    let wide = c.reference_width-width.ensures.value in
+    let wide = c.reference_width.ensures.value in
     let planned = c.in_ok-plan.ensures.planned in
     let o = c.in_ok-layout.ensures.order in
     let n = c.len-count.ensures ∙ o.long in
@@ -44,7 +44,7 @@ returns-in-Err-clause-refused c =
       c.in-Err.ensures.kind,
       oversized (plain_events c.args.events.now) c.in_ok-plan.plan
           c.in_ok-layout.layout.order c.in_ok-layout.layout.places c.in_ok-table.table
-          c.reference_width-width.result c.len-count.result c.reference_width-width.ensures.value
+          c.reference_width.result c.len-count.result c.reference_width.ensures.value
           (c.len-count.ensures ∙ c.in_ok-layout.ensures.order.long) c.in_ok-plan.ensures.planned
           c.in_ok-layout.ensures.order c.in_ok-layout.ensures.all c.in_ok-table.ensures.size
           c.in-Err.ensures.oversized _ c.in_ok-plan.ensures.goes,

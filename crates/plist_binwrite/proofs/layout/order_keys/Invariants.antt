@@ -6,8 +6,8 @@ use Rattle.plist_binwrite.proofs.layout.order_keys.Given as goal
 
 abbrev pub invariant-walk : goal.invariant-walk
 invariant-walk l =
-    IsOrder (count_of l.plan) l.order l.marks
-    × KeepsMarks l.initial.marks l.marks
+    IsOrder (count_of l.plan) l.layout.order l.layout.places
+    × KeepsMarks l.initial.layout.places l.layout.places
 
 abbrev pub decreases-walk : goal.decreases-walk
 decreases-walk l = length (plain_events l.events) - l.key

@@ -48,7 +48,7 @@ pub loop-place-preserved : goal.loop-place-preserved
 loop-place-preserved c = (
   c.in_ok-order_here.ensures.order,
   marked_more (plain_events c.args.events.now)
-      (numbers_of c.args.plan.now) c.loop-place.places c.order_here.new.marks
+      (numbers_of c.args.plan.now) c.loop-place.layout.places c.order_here.new.layout.places
       c.loop-place.place c.in_ok-order_here.ensures.keeps
       (c.in_ok-order_here.ensures.marked (omega (arith, c.loop-place-test.true)))
       c.loop-place.invariant.1,
@@ -57,7 +57,7 @@ loop-place-preserved c = (
 pub returns-clause-all : goal.returns-clause-all
 returns-clause-all c = λ k h.
     let known = c.requires.planned.numbered.known k h in
-    in_order (count_of c.args.plan.now) c.loop-place.order c.loop-place.places k
+    in_order (count_of c.args.plan.now) c.loop-place.layout.order c.loop-place.layout.places k
     c.loop-place.invariant.0
-    (subst (λ j. get_or c.loop-place.places j 0 ≢ 0) known.1
+    (subst (λ j. get_or c.loop-place.layout.places j 0 ≢ 0) known.1
     (c.loop-place.invariant.1 _ (omega (arith, known.0, c.loop-place-test.false)) known.2))

@@ -5,6 +5,6 @@ use Rattle.plist_binwrite.specs.inner.Planning.{count_of, numbers_of}
 use Rattle.plist_binwrite.proofs.layout.order_objects.Given as goal
 
 abbrev pub invariant-loop-place : goal.invariant-loop-place
-invariant-loop-place l = IsOrder (count_of l.plan) l.order l.places
+invariant-loop-place l = IsOrder (count_of l.plan) l.layout.order l.layout.places
     × ((p : ℕ) → p < l.place → is_stop (event_at (plain_events l.events) p) ≡ false
-    → get_or l.places (num_of (numbers_of l.plan) p) 0 ≢ 0)
+    → get_or l.layout.places (num_of (numbers_of l.plan) p) 0 ≢ 0)

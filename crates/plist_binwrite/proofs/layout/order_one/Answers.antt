@@ -15,9 +15,9 @@ returns-clause-order c =
       c.requires.planned.all c.args.place
           (omega (arith, y.0)) y.1,
     ) in
-    let zero : get_or c.args.marks.now c.number-number.result 0 ≡ 0 = omega
+    let zero : get_or c.args.layout.now.places c.number-number.result 0 ≡ 0 = omega
     (arith, c.get.ensures, c.if-get-ne0.false) in
     subst (λ marks. IsOrder count c.push.new.self marks) (sym c.in_ok-set.ensures.set)
-    (subst (λ order. IsOrder count order (set c.args.marks.now k 1))
+    (subst (λ order. IsOrder count order (set c.args.layout.now.places k 1))
     (sym c.in_ok-push.ensures.pushed)
-    (order_more count c.args.order.now c.args.marks.now k c.requires.order low zero))
+    (order_more count c.args.layout.now.order c.args.layout.now.places k c.requires.order low zero))

@@ -18,7 +18,7 @@ low count order marks i k o is within =
 pub loop-index-init : goal.loop-index-init
 loop-index-init c = (
   c.requires.order.long,
-  λ objects d. along_begin c.args.width objects c.args.order.now
+  λ objects d. along_begin c.args.file.now.width objects c.args.order.now
       c.args.places.now,
 )
 
@@ -46,21 +46,21 @@ loop-index-preserved c =
     let order = c.args.order.now in
     let k = get_or order i 0 in
     let within : i < length order = omega (arith, c.loop-index-test.true, c.len-index-end.ensures) in
-    let below : k < count_of c.args.plan.now = c.requires.order.below _ (any_at order i within) in
+    let below : k < count_of c.args.file.now.plan.now = c.requires.order.below _ (any_at order i within) in
     let put : c.set.new.self ≡ set c.loop-index.places k c.place_or_none.result =
     c.in_ok-set.ensures.set
     ∙ ap (λ n. set c.loop-index.places n c.place_or_none.result) c.get-number.ensures in (
       ap length put ∙ length-set c.loop-index.places k c.place_or_none.result
           ∙ c.loop-index.invariant.0,
       λ objects d.
-          let z = sized (plain_events c.args.events.now) c.requires.planned.class
-          (numbers_of c.args.plan.now) (firsts_of c.args.plan.now) objects c.args.width k
+          let z = sized (plain_events c.args.file.now.events.now) c.requires.planned.class
+          (numbers_of c.args.file.now.plan.now) (firsts_of c.args.file.now.plan.now) objects c.args.file.now.width k
           c.first-first.result c.size_of_object-size.result
-          (c.first-first.ensures ∙ ap (num_of (firsts_of c.args.plan.now)) c.get-number.ensures) below
+          (c.first-first.ensures ∙ ap (num_of (firsts_of c.args.file.now.plan.now)) c.get-number.ensures) below
           c.requires.planned.whole c.requires.planned.numbered d c.size_of_object-size.ensures.size
           c.size_of_object-size.ensures.writable in
-          subst (λ places. Along c.args.width objects order places (i + 1) c.add-at.result) (sym put)
-          (along_next c.args.width objects order c.loop-index.places i
+          subst (λ places. Along c.args.file.now.width objects order places (i + 1) c.add-at.result) (sym put)
+          (along_next c.args.file.now.width objects order c.loop-index.places i
           c.place_or_none.result c.loop-index.at c.add-at.result within
           c.requires.order.distinct (omega (arith, below, c.loop-index.invariant.0)) z.1
           c.place_or_none.ensures (λ a told. c.add-at.ensures.sum a _ told z.0)
@@ -72,8 +72,8 @@ returns-clause-size c = λ objects d.
     let all = last_part c.args.order.now c.loop-index.index
     (omega (arith, c.loop-index-test.false, c.len-index-end.ensures))
     (omega (arith, c.loop-index.auto.index-end, c.len-index-end.ensures)) in
-    subst (TellsSize c.loop-index.at) (ap (λ l. 8 + length (bodies c.args.width objects l)) all
-    ∙ sym (length-magic (bodies c.args.width objects c.args.order.now)))
+    subst (TellsSize c.loop-index.at) (ap (λ l. 8 + length (bodies c.args.file.now.width objects l)) all
+    ∙ sym (length-magic (bodies c.args.file.now.width objects c.args.order.now)))
     (c.loop-index.invariant.1 objects d).told
 
 pub returns-clause-laid : goal.returns-clause-laid
@@ -81,9 +81,9 @@ returns-clause-laid c =
     let all = last_part c.args.order.now c.loop-index.index
     (omega (arith, c.loop-index-test.false, c.len-index-end.ensures))
     (omega (arith, c.loop-index.auto.index-end, c.len-index-end.ensures)) in
-    if_some_all c.loop-index.at (Describes (plain_events c.args.events.now)
-    (numbers_of c.args.plan.now))
-    (λ objects. Laid c.args.width objects c.loop-index.places c.args.order.now 8)
+    if_some_all c.loop-index.at (Describes (plain_events c.args.file.now.events.now)
+    (numbers_of c.args.file.now.plan.now))
+    (λ objects. Laid c.args.file.now.width objects c.loop-index.places c.args.order.now 8)
     (λ objects d. subst
-    (λ l. IfSome c.loop-index.at (λ n. Laid c.args.width objects c.loop-index.places l 8))
+    (λ l. IfSome c.loop-index.at (λ n. Laid c.args.file.now.width objects c.loop-index.places l 8))
     all (c.loop-index.invariant.1 objects d).laid)

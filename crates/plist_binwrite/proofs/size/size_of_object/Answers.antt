@@ -14,33 +14,33 @@ use Rattle.plist_binwrite.proofs.size.size_of_object.Goals as goal
 
 pub returns-in-Array-clause-size : goal.returns-in-Array-clause-size
 returns-in-Array-clause-size c = λ t s.
-    array_told c.length_of_collection.result c.args.width c.count_items-count.result t c.args.place
+    array_told c.length_of_collection.result c.args.file.now.width c.count_items-count.result t c.args.place
     s (sym c.kind_at.ensures ∙ c.in-Array.is) c.count_items-count.ensures.value
     (c.length_of_collection.ensures.value 0xa)
 
 pub returns-in-Array-clause-writable : goal.returns-in-Array-clause-writable
 returns-in-Array-clause-writable c = λ t s.
-    let k : kind_of (event_at (plain_events c.args.events.now) c.args.place)
+    let k : kind_of (event_at (plain_events c.args.file.now.events.now) c.args.place)
     ≡ kind.Array = sym c.kind_at.ensures ∙ c.in-Array.is in
-    collection_fits (plain_events c.args.events.now) (numbers_of c.args.plan.now)
-    (count_of c.args.plan.now) c.args.width c.requires.planned.all c.requires.fits t c.args.place s
+    collection_fits (plain_events c.args.file.now.events.now) (numbers_of c.args.file.now.plan.now)
+    (count_of c.args.file.now.plan.now) c.args.file.now.width c.requires.planned.all c.requires.fits t c.args.place s
     (λ e. no_kind _ kind.Array kind.Scalar k e (λ q. cc))
     (few_values t c.args.place c.count_items-count.result s c.count_items-count.ensures.small
     c.count_items-count.ensures.value)
 
 pub returns-in-Dictionary-clause-size : goal.returns-in-Dictionary-clause-size
 returns-in-Dictionary-clause-size c = λ t s.
-    dictionary_told c.length_of_collection-in-Dictionary.result c.args.width
+    dictionary_told c.length_of_collection-in-Dictionary.result c.args.file.now.width
     c.count_items-count-in-Dictionary.result t c.args.place s (sym c.kind_at.ensures
     ∙ c.in-Dictionary.is) c.count_items-count-in-Dictionary.ensures.value
     (c.length_of_collection-in-Dictionary.ensures.value 0xd)
 
 pub returns-in-Dictionary-clause-writable : goal.returns-in-Dictionary-clause-writable
 returns-in-Dictionary-clause-writable c = λ t s.
-    let k : kind_of (event_at (plain_events c.args.events.now) c.args.place)
+    let k : kind_of (event_at (plain_events c.args.file.now.events.now) c.args.place)
     ≡ kind.Dictionary = sym c.kind_at.ensures ∙ c.in-Dictionary.is in
-    collection_fits (plain_events c.args.events.now) (numbers_of c.args.plan.now)
-    (count_of c.args.plan.now) c.args.width c.requires.planned.all c.requires.fits t c.args.place s
+    collection_fits (plain_events c.args.file.now.events.now) (numbers_of c.args.file.now.plan.now)
+    (count_of c.args.file.now.plan.now) c.args.file.now.width c.requires.planned.all c.requires.fits t c.args.place s
     (λ e. no_kind _ kind.Dictionary kind.Scalar k e (λ q. cc))
     (few_values t c.args.place c.count_items-count-in-Dictionary.result s
     c.count_items-count-in-Dictionary.ensures.small c.count_items-count-in-Dictionary.ensures.value)
@@ -48,7 +48,7 @@ returns-in-Dictionary-clause-writable c = λ t s.
 pub returns-in-Some-clause-size : goal.returns-in-Some-clause-size
 returns-in-Some-clause-size c = λ t s.
     of_scalar (λ x. TellsSize c.length_of_scalar.result (scalar_size x))
-    (λ u. TellsSize c.length_of_scalar.result (object_size c.args.width u)) t c.args.place
+    (λ u. TellsSize c.length_of_scalar.result (object_size c.args.file.now.width u)) t c.args.place
     (event_of c.in-Some.scalar.now) s c.in-Some.ensures.some
     (λ e. c.in_default.not-Array (c.kind_at.ensures ∙ e))
     (λ e. c.in_default.not-Dictionary (c.kind_at.ensures ∙ e))
@@ -56,8 +56,8 @@ returns-in-Some-clause-size c = λ t s.
 
 pub returns-in-Some-clause-writable : goal.returns-in-Some-clause-writable
 returns-in-Some-clause-writable c = λ t s.
-    of_scalar IsWritableScalar (λ u. IsWritable c.args.width
-    (obj_of (num_of (numbers_of c.args.plan.now)) u c.args.place)) t c.args.place
+    of_scalar IsWritableScalar (λ u. IsWritable c.args.file.now.width
+    (obj_of (num_of (numbers_of c.args.file.now.plan.now)) u c.args.place)) t c.args.place
     (event_of c.in-Some.scalar.now) s c.in-Some.ensures.some
     (λ e. c.in_default.not-Array (c.kind_at.ensures ∙ e))
     (λ e. c.in_default.not-Dictionary (c.kind_at.ensures ∙ e))
