@@ -3,8 +3,7 @@
 ghost use Rattle.std.specs.Prelude.{◌≡◌, ◌<◌, length, IfOk, OnOk};
 ghost use Rattle.plist_base.specs.Outcomes.{OnlyMemory};
 ghost use Rattle.plist_binwrite.specs.Held.{plain_events, AllBelow};
-ghost use Rattle.plist_binwrite.specs.inner.PlansBy.{HaveIds};
-ghost use Rattle.plist_binwrite.specs.inner.Numbering.{BeginsAt, IsPlanOf, KeepsNumbers, NumbersChildren, NumbersHalf, NumbersItem, NumbersItems, NumbersRoot, NumbersTree};
+ghost use Rattle.plist_binwrite.specs.inner.Numbering.{BeginsAt, HasAllClasses, HaveIdsOf, IsNumberingOf, IsPlanOf, KeepsNumbers, NumbersChildren, NumbersHalf, NumbersItem, NumbersItems, NumbersRoot, NumbersTree};
 
 use crate::held::Held;
 use crate::kinds::{Kind, half_of};
@@ -12,119 +11,114 @@ use crate::numbers::Numbers;
 use plist_base::Error;
 use std::alloc::{AllocError, Global};
 
+// Held events, and the class of each.
+#[derive(Clone, Copy)]
+struct Classed<'p> {
+    events: &'p Held<'p>,
+    classes: &'p Numbers,
+}
+
+// The numbers so far: by class, by event, and by number the place of its first event.
+#[derive(Drop)]
+struct Numbered {
+    ids: Numbers,
+    numbers: Numbers,
+    firsts: Numbers,
+}
+
 // Numbers the object of the event here, unless it has a number.
-fn number_one(
-    events: &Held<'_>,
-    classes: &Numbers,
-    ids: &mut Numbers,
-    numbers: &mut Numbers,
-    firsts: &mut Numbers,
-    place: usize,
-) -> Result<(), AllocError>
-    requires plan { IsPlanOf events.now classes.now numbers.old firsts.old }
-    requires ids { HaveIds classes.now ids.old firsts.old }
-    requires long { length classes.now ≡ length (plain_events events.now) }
-    ensures plan { OnOk result (IsPlanOf events.now classes.now numbers.new firsts.new) }
-    ensures ids { OnOk result (HaveIds classes.now ids.new firsts.new) }
-    ensures keeps { OnOk result (KeepsNumbers numbers.old firsts.old numbers.new firsts.new) }
-    ensures numbered { OnOk result (NumbersItem events.now place numbers.new firsts.new) }
-    ensures first { OnOk result (BeginsAt events.now place firsts.old firsts.new) }
+fn number_one(given: &Classed<'_>, found: &mut Numbered, place: usize) -> Result<(), AllocError>
+    requires plan { IsPlanOf given.now found.old }
+    requires ids { HaveIdsOf given.now found.old }
+    requires long { HasAllClasses given.now }
+    ensures plan { OnOk result (IsPlanOf given.now found.new) }
+    ensures ids { OnOk result (HaveIdsOf given.now found.new) }
+    ensures keeps { OnOk result (KeepsNumbers found.old found.new) }
+    ensures numbered { OnOk result (NumbersItem given.now place found.new) }
+    ensures first { OnOk result (BeginsAt given.now place found.old found.new) }
 {
-    if !events.has_item(place) {
+    if !given.events.has_item(place) {
         return Ok(());
     }
-    if numbers.get(place) < firsts.len() {
+    if found.numbers.get(place) < found.firsts.len() {
         return Ok(());
     }
-    let class = classes.get(place);
-    let number = ids.get(class);
-    if number < firsts.len() {
-        numbers.set(place, number)?;
+    let class = given.classes.get(place);
+    let number = found.ids.get(class);
+    if number < found.firsts.len() {
+        found.numbers.set(place, number)?;
         return Ok(());
     }
-    let count = firsts.len();
-    firsts.push(place)?;
-    ids.set(class, count)?;
-    numbers.set(place, count)?;
+    let count = found.firsts.len();
+    found.firsts.push(place)?;
+    found.ids.set(class, count)?;
+    found.numbers.set(place, count)?;
     Ok(())
 }
 
 // Numbers the items of an array from here on.
-fn number_items(
-    events: &Held<'_>,
-    classes: &Numbers,
-    ids: &mut Numbers,
-    numbers: &mut Numbers,
-    firsts: &mut Numbers,
-    from: usize,
-) -> Result<(), AllocError>
-    requires plan { IsPlanOf events.now classes.now numbers.old firsts.old }
-    requires ids { HaveIds classes.now ids.old firsts.old }
-    requires long { length classes.now ≡ length (plain_events events.now) }
-    ensures plan { OnOk result (IsPlanOf events.now classes.now numbers.new firsts.new) }
-    ensures ids { OnOk result (HaveIds classes.now ids.new firsts.new) }
-    ensures keeps { OnOk result (KeepsNumbers numbers.old firsts.old numbers.new firsts.new) }
-    ensures numbered { OnOk result (NumbersItems events.now from numbers.new firsts.new) }
+fn number_items(given: &Classed<'_>, found: &mut Numbered, from: usize) -> Result<(), AllocError>
+    requires plan { IsPlanOf given.now found.old }
+    requires ids { HaveIdsOf given.now found.old }
+    requires long { HasAllClasses given.now }
+    ensures plan { OnOk result (IsPlanOf given.now found.new) }
+    ensures ids { OnOk result (HaveIdsOf given.now found.new) }
+    ensures keeps { OnOk result (KeepsNumbers found.old found.new) }
+    ensures numbered { OnOk result (NumbersItems given.now from found.new) }
 {
     let mut place = from;
-    'walk: while events.has_item(place) {
-        number_one(events, classes, ids, numbers, firsts, place)?;
-        place = events.skip(place);
+    'walk: while given.events.has_item(place) {
+        number_one(given, found, place)?;
+        place = given.events.skip(place);
     }
     Ok(())
 }
 
 // Numbers the values of a dictionary, or its keys, from here on.
 fn number_halves(
-    events: &Held<'_>,
-    classes: &Numbers,
-    ids: &mut Numbers,
-    numbers: &mut Numbers,
-    firsts: &mut Numbers,
+    given: &Classed<'_>,
+    found: &mut Numbered,
     from: usize,
     values: bool,
 ) -> Result<(), AllocError>
-    requires plan { IsPlanOf events.now classes.now numbers.old firsts.old }
-    requires ids { HaveIds classes.now ids.old firsts.old }
-    requires long { length classes.now ≡ length (plain_events events.now) }
-    ensures plan { OnOk result (IsPlanOf events.now classes.now numbers.new firsts.new) }
-    ensures ids { OnOk result (HaveIds classes.now ids.new firsts.new) }
-    ensures keeps { OnOk result (KeepsNumbers numbers.old firsts.old numbers.new firsts.new) }
-    ensures numbered { OnOk result (NumbersHalf events.now values from numbers.new firsts.new) }
+    requires plan { IsPlanOf given.now found.old }
+    requires ids { HaveIdsOf given.now found.old }
+    requires long { HasAllClasses given.now }
+    ensures plan { OnOk result (IsPlanOf given.now found.new) }
+    ensures ids { OnOk result (HaveIdsOf given.now found.new) }
+    ensures keeps { OnOk result (KeepsNumbers found.old found.new) }
+    ensures numbered { OnOk result (NumbersHalf given.now values from found.new) }
 {
     let mut key = from;
-    'walk: while events.has_item(key) {
+    'walk: while given.events.has_item(key) {
         let place = half_of(key, key + 1, values);
-        number_one(events, classes, ids, numbers, firsts, place)?;
-        key = events.skip_pair(key);
+        number_one(given, found, place)?;
+        key = given.events.skip_pair(key);
     }
     Ok(())
 }
 
 // Numbers the keys of the collection that begins here, and then its values.
 fn number_children(
-    events: &Held<'_>,
-    classes: &Numbers,
-    ids: &mut Numbers,
-    numbers: &mut Numbers,
-    firsts: &mut Numbers,
+    given: &Classed<'_>,
+    found: &mut Numbered,
     place: usize,
 ) -> Result<(), AllocError>
-    requires plan { IsPlanOf events.now classes.now numbers.old firsts.old }
-    requires ids { HaveIds classes.now ids.old firsts.old }
-    requires long { length classes.now ≡ length (plain_events events.now) }
-    requires place { place < length (plain_events events.now) }
-    ensures plan { OnOk result (IsPlanOf events.now classes.now numbers.new firsts.new) }
-    ensures ids { OnOk result (HaveIds classes.now ids.new firsts.new) }
-    ensures keeps { OnOk result (KeepsNumbers numbers.old firsts.old numbers.new firsts.new) }
-    ensures numbered { OnOk result (NumbersChildren events.now place numbers.new firsts.new) }
+    requires plan { IsPlanOf given.now found.old }
+    requires ids { HaveIdsOf given.now found.old }
+    requires long { HasAllClasses given.now }
+    requires place { place < length (plain_events given.now.events.now) }
+    ensures plan { OnOk result (IsPlanOf given.now found.new) }
+    ensures ids { OnOk result (HaveIdsOf given.now found.new) }
+    ensures keeps { OnOk result (KeepsNumbers found.old found.new) }
+    ensures numbered { OnOk result (NumbersChildren given.now place found.new) }
 {
     let inside = place + 1;
-    match events.kind_at(place) {
-        Kind::Array => number_items(events, classes, ids, numbers, firsts, inside),
+    match given.events.kind_at(place) {
+        Kind::Array => number_items(given, found, inside),
         Kind::Dictionary => {
-            number_halves(events, classes, ids, numbers, firsts, inside, false)?;
-            number_halves(events, classes, ids, numbers, firsts, inside, true)?;
+            number_halves(given, found, inside, false)?;
+            number_halves(given, found, inside, true)?;
             Ok(())
         }
         _ => Ok(()),
@@ -149,20 +143,31 @@ pub fn number_by_class(
 ) -> Result<Numbering, Error>
     requires long { length classes.now ≡ length (plain_events events.now) }
     requires below { AllBelow count classes.now }
-    ensures plan { IfOk result (λ r. IsPlanOf events.now classes.now r.numbers r.firsts) }
+    ensures plan { IfOk result (IsNumberingOf events.now classes.now) }
     ensures all { IfOk result (NumbersTree events.now) }
     ensures root { IfOk result (NumbersRoot events.now) }
     ensures memory { OnlyMemory result }
 {
-    let mut numbers = Numbers::marks(alloc, events.len())?;
-    let mut firsts = Numbers::new(alloc);
-    let mut ids = Numbers::marks(alloc, count)?;
+    let numbers = Numbers::marks(alloc, events.len())?;
+    let firsts = Numbers::new(alloc);
     if events.len() == 0 {
         return Ok(Numbering { numbers, firsts });
     }
-    number_one(events, classes, &mut ids, &mut numbers, &mut firsts, 0)?;
+    let ids = Numbers::marks(alloc, count)?;
+    let given = Classed { events, classes };
+    let mut found = Numbered {
+        ids,
+        numbers,
+        firsts,
+    };
+    number_one(&given, &mut found, 0)?;
     for place in 0..events.len() {
-        number_children(events, classes, &mut ids, &mut numbers, &mut firsts, place)?;
+        number_children(&given, &mut found, place)?;
     }
+    let Numbered {
+        numbers,
+        firsts,
+        ..
+    } = found;
     Ok(Numbering { numbers, firsts })
 }

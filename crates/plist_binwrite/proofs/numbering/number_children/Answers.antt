@@ -9,7 +9,7 @@ returns-in_ok-number_halves-in-Dictionary-2-clause-numbered c =
     let keys = c.in_ok-number_halves-in-Dictionary.ensures in
     let values = c.in_ok-number_halves-in-Dictionary-2.ensures in
     dictionary_whole
-    (IsNumbered c.number_halves.new.numbers c.number_halves.new.firsts)
-    (IsNumbered c.number_halves-in-Dictionary.new.numbers
-    c.number_halves-in-Dictionary.new.firsts) c.args.place
+    (IsNumbered c.number_halves.new.found.numbers c.number_halves.new.found.firsts)
+    (IsNumbered c.number_halves-in-Dictionary.new.found.numbers
+    c.number_halves-in-Dictionary.new.found.firsts) c.args.place
     (sym c.kind_at.ensures ∙ c.in-Dictionary.is) values.keeps.numbered keys.numbered values.numbered
