@@ -1,8 +1,8 @@
 #!/usr/bin/env python3
 """Measures `plist_tool convert` beside other programs: a value is read and written again.
 
-The files and the programs are those of speed.py; the programs run in turn, and of each the run with
-the least processor time (user and system) counts, with its peak memory. Besides the shapes of
+The files and the programs are those of speed.py, which run in turn, as often as there; of each the
+least processor time (user and system) and the largest peak memory count. Besides the shapes of
 speed.py there are wide ones (empty arrays, a dictionary of many keys, an array of equal texts) and
 project files in ASCII, which neither the crate (1.3.1) nor `plistlib` reads. `plistlib` loads and
 dumps. `plistutil` isn't among them: it copies a file that is binary already.
@@ -74,12 +74,7 @@ def programs(folder):
 def row(name, source, known, first="plist_tool", written=True):
     """Prints a line of the table; the least processor seconds of the first program."""
     target = [source.with_name("written.plist")] if written else []
-    runs = {program: [] for program, _ in known}
-    for _ in range(speed.RUNS):
-        for program, words in known:
-            if None not in runs[program]:
-                runs[program].append(speed.measure([*words, source, *target]))
-    found = {program: None if None in list_ else min(list_) for program, list_ in runs.items()}
+    found = speed.measured(source, dict(known), *target)
     ours, cells = found[first], []
     for program, value in found.items():
         if value is None:

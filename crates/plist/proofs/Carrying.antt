@@ -1,27 +1,21 @@
 -- Laws of what a builder holds.
 use Rattle.std.proofs.Common.{◌≡◌, ℕ, List, [], ◌∷◌, ◌++◌, Some, option_map, map, refl, ap, ◌∙◌}
-use Rattle.std.specs.Str.{bytes_eq}
 use Rattle.indexmap.proofs.MapLemmas.{insert_all_push}
 use Rattle.plist_base.specs.Events.{PlainEvent, StartArray, StartDictionary, EndCollection, Single}
-use Rattle.plist_base.specs.Trees as trees
-use Rattle.plist_base.specs.Trees.{Tree, Leaf, Array, Dictionary, trees_of, members_of}
-use Rattle.std.proofs.lemmas.List.{map-append}
+use Rattle.plist_base.specs.Trees.{String, Tree, Array, Dictionary, trees_of, members_of}
+use Rattle.std.proofs.lemmas.List.{map_push}
 use Rattle.plist.specs.LastWins.{Rows, with_pair, last_values, last_wins, last_wins_in_items, last_wins_in_pairs}
 use Rattle.plist.specs.Building.{OpenCollection, InArray, InDictionary, AfterKey, Unfinished, NotBegun, Within, Complete, last_wins_in_rows, last_wins_within, last_wins_so_far}
 use Rattle.plist.specs.inner.Steps.{and_pair, and_tree, begun, in_array, in_dictionary, carried_on}
 use Rattle.plist.proofs.Keeping.{Settled}
-
-pub map-snoc : {A B : Type 0} (f : A → B) (xs : List A) (x : A)
-    → map f (xs ++ x ∷ []) ≡ map f xs ++ f x ∷ []
-map-snoc f xs x = map-append f xs (x ∷ [])
 
 -- ---- the last value of each key
 
 rows-snoc : (ps : Rows) (k : List ℕ) (t : Tree)
     → last_wins_in_rows (ps ++ (k, t) ∷ []) ≡ with_pair (last_wins_in_rows ps) k (last_wins t)
 rows-snoc ps k t =
-    ap last_values (map-snoc (λ p. (p.0, last_wins p.1)) ps (k, t))
-    ∙ insert_all_push bytes_eq [] (map (λ p. (p.0, last_wins p.1)) ps) (k, last_wins t)
+    ap last_values (map_push (λ p. (p.0, last_wins p.1)) ps (k, t))
+    ∙ insert_all_push _ [] (map (λ p. (p.0, last_wins p.1)) ps) (k, last_wins t)
 
 items-last : (ts : List Tree) → last_wins_in_items (trees_of ts) ≡ map last_wins ts
 items-last [] = refl
@@ -36,7 +30,7 @@ tree-last : (t : Tree) (outer : List OpenCollection)
     ≡ and_tree with_pair (last_wins t) (map last_wins_within outer)
 tree-last t [] = refl
 tree-last t (InArray ts ∷ outer) =
-    ap (λ l. Within (InArray l) (map last_wins_within outer)) (map-snoc last_wins ts t)
+    ap (λ l. Within (InArray l) (map last_wins_within outer)) (map_push _ ts t)
 tree-last t (InDictionary ps ∷ outer) = refl
 tree-last t (AfterKey ps k ∷ outer) =
     ap (λ l. Within (InDictionary l) (map last_wins_within outer)) (rows-snoc ps k t)
@@ -47,44 +41,35 @@ begun-last : (outer : List OpenCollection) (e : PlainEvent)
 begun-last outer (StartArray n) = refl
 begun-last outer (StartDictionary n) = refl
 begun-last outer EndCollection = refl
-begun-last outer (Single x) = ap Some (tree-last (Leaf x) outer)
+begun-last outer (Single x) = ap Some (tree-last _ _)
 
 array-last : (ts : List Tree) (outer : List OpenCollection) (e : PlainEvent)
     → option_map last_wins_so_far (in_array and_pair ts outer e)
     ≡ in_array with_pair (map last_wins ts) (map last_wins_within outer) e
-array-last ts outer (StartArray n) = refl
-array-last ts outer (StartDictionary n) = refl
 array-last ts outer EndCollection =
     ap Some (tree-last (Array (trees_of ts)) outer
     ∙ ap (λ l. and_tree with_pair (Array (trees_of l)) (map last_wins_within outer))
     (items-last ts))
-array-last ts outer (Single x) = begun-last (InArray ts ∷ outer) (Single x)
+array-last ts outer e = begun-last (InArray ts ∷ outer) e
 
 dictionary-last : (ps : Rows) (outer : List OpenCollection) (e : PlainEvent)
     → option_map last_wins_so_far (in_dictionary and_pair ps outer e)
     ≡ in_dictionary with_pair (last_wins_in_rows ps) (map last_wins_within outer) e
-dictionary-last ps outer (StartArray n) = refl
-dictionary-last ps outer (StartDictionary n) = refl
 dictionary-last ps outer EndCollection =
-    ap Some (tree-last (Dictionary (members_of ps)) outer
+    ap Some (tree-last _ _
     ∙ ap (λ l. and_tree with_pair (Dictionary (members_of l)) (map last_wins_within outer))
     (ap last_values (pairs-last ps)))
-dictionary-last ps outer (Single (trees.Boolean b)) = refl
-dictionary-last ps outer (Single (trees.Data d)) = refl
-dictionary-last ps outer (Single (trees.Date d)) = refl
-dictionary-last ps outer (Single (trees.Integer z)) = refl
-dictionary-last ps outer (Single (trees.Real r)) = refl
-dictionary-last ps outer (Single (trees.String s)) = refl
-dictionary-last ps outer (Single (trees.Uid u)) = refl
+dictionary-last ps outer (Single (String k)) = refl
+dictionary-last ps outer e = refl
 
 -- to add a pair in its place is to take the last values of what was added at the end
 pub carried-last : (u : Unfinished) (e : PlainEvent)
     → option_map last_wins_so_far (carried_on and_pair u e)
     ≡ carried_on with_pair (last_wins_so_far u) e
 carried-last NotBegun e = begun-last [] e
-carried-last (Within (InArray ts) outer) e = array-last ts outer e
-carried-last (Within (InDictionary ps) outer) e = dictionary-last ps outer e
-carried-last (Within (AfterKey ps k) outer) e = begun-last (AfterKey ps k ∷ outer) e
+carried-last (Within (InArray ts) outer) e = array-last ts _ e
+carried-last (Within (InDictionary ps) outer) e = dictionary-last ps _ e
+carried-last (Within (AfterKey ps k) outer) e = begun-last _ e
 carried-last (Complete t) e = refl
 
 pub map-fixed : (ps : Rows) → Settled ps → map (λ p. (p.0, last_wins p.1)) ps ≡ ps

@@ -7,11 +7,13 @@ use Rattle.plist_base.specs.Faults.{FaultKind, Fault, UnexpectedEndOfEventStream
 use Rattle.plist_base.specs.Trees.{Tree}
 use Rattle.plist_base.specs.Bracketing.{unhinted, AreAlike}
 use Rattle.std.proofs.lemmas.List.{map-append}
+use Rattle.plist_base.proofs.Grammar.{alike_with}
 use Rattle.plist.specs.LastWins.{with_pair, last_wins}
 use Rattle.plist.specs.Building.{Unfinished, NotBegun, Within, Complete, Built, IsNested, nothing_built, complete_tree, events_so_far, last_wins_so_far, refusal_of, IsUnfinishedFor, IsUnfinished}
 use Rattle.plist.specs.inner.Steps.{and_pair, carried_on}
 use Rattle.plist.specs.inner.Following.{complete, refusal-last}
 use Rattle.std.specs.Prelude.{IfOk, IfErr}
+use Rattle.std.proofs.lemmas.Option.{none-some, same_Some}
 use Rattle.plist_base.specs.Faults.{fault_of}
 use Rattle.plist.specs.declared.value.Value.{Value}
 use Rattle.plist.specs.Views.{tree_of}
@@ -19,61 +21,57 @@ use Rattle.plist.specs.Collecting.{IsBuiltFrom, IsRefusal, Takes, Refuses, built
 use Rattle.plist.specs.inner.Carried.{carried-nested, carried-events}
 use Rattle.plist.proofs.Carrying.{carried-last}
 
--- what is held are the events of the items, with the last value of each key
+-- these events are held, with the last value of each key
+abbrev pub Holds : List PlainEvent → Built → Type 0
+Holds events built =
+    (held : Unfinished) × IsNested held × AreAlike (events_so_far held) events
+    × (built.unfinished ≡ last_wins_so_far held)
+
+-- what is held are the events of the items
 abbrev pub TookAll : List Item → Built → Type 0
 TookAll items built =
-    (events : List PlainEvent) × (held : Unfinished) × (items ≡ map Ok events) × IsNested held
-    × AreAlike (events_so_far held) events × (built.unfinished ≡ last_wins_so_far held)
-    × (built.failed ≡ false)
+    (events : List PlainEvent) × (items ≡ map Ok events) × (built.failed ≡ false)
+    × Holds events built
 
 pub took-none : (built : Built) → built ≡ nothing_built → TookAll [] built
 took-none built p = (
   [],
-  NotBegun,
   refl,
-  tt,
-  refl,
-  ap (λ (b : Built). b.unfinished) p,
-  ap (λ (b : Built). b.failed)
-      p,
+  ap (λ (b : Built). b.failed) p,
+  (NotBegun, tt, refl, ap (λ (b : Built). b.unfinished) p),
 )
-
-pub alike-more : (left right : List PlainEvent) (e : PlainEvent) → AreAlike left right
-    → AreAlike (left ++ e ∷ []) (right ++ e ∷ [])
-alike-more left right e p =
-    map-append unhinted left (e ∷ []) ∙ ap (λ l. l ++ unhinted e ∷ []) p
-    ∙ sym (map-append unhinted right (e ∷ []))
-
-no_some : {A : Type 0} (w : Unfinished) → None ≡ Some w → A
-no_some w p = cc
-
-the_same : (a b : Unfinished) → Some a ≡ Some b → b ≡ a
-the_same a b p = cc
 
 pub from_last : (o : Option Unfinished) (w : Unfinished) → option_map last_wins_so_far o ≡ Some w
     → (v : Unfinished) × (o ≡ Some v) × (w ≡ last_wins_so_far v)
-from_last None w p = no_some w p
-from_last (Some v) w p = (v, refl, the_same (last_wins_so_far v) w p)
+from_last None w p = absurd (none-some w p)
+from_last (Some v) w p = (v, refl, sym (same_Some _ w p))
+
+-- an event more is held
+pub holds-more : (events : List PlainEvent) (e : PlainEvent) (before after : Built)
+    → Holds events before → Takes before (Ok e) after → Holds (events ++ e ∷ []) after
+holds-more events e before after (held, ok, alike, last) k =
+    let w = from_last (carried_on and_pair held e) after.unfinished
+    (carried-last held e ∙ sym (ap (λ u. carried_on with_pair u e) last) ∙ k.0) in (
+      w.0,
+      carried-nested and_pair held e w.0 ok w.1,
+      carried-events held e w.0 ok w.1 ∙ alike_with (events_so_far held) events (e ∷ []) alike,
+      w.2,
+    )
 
 pub took-more : (items : List Item) (item : Item) (before after : Built) → TookAll items before
     → Takes before item after → TookAll (items ++ item ∷ []) after
 took-more items (Err fault) before after t k = absurd k
-took-more items (Ok e) before after (events, held, is, ok, alike, last, fine) k =
-    let w = from_last (carried_on and_pair held e) after.unfinished
-    (carried-last held e ∙ sym (ap (λ u. carried_on with_pair u e) last) ∙ k.0) in (
-      events ++ e ∷ [],
-      w.0,
-      ap (λ l. l ++ Ok e ∷ []) is ∙ sym (map-append Ok events (e ∷ [])),
-      carried-nested and_pair held e w.0 ok w.1,
-      carried-events held e w.0 ok w.1 ∙ alike-more (events_so_far held) events e alike,
-      w.2,
-      k.1,
-    )
+took-more items (Ok e) before after (events, is, fine, h) k = (
+  events ++ e ∷ [],
+  ap (λ l. l ++ Ok e ∷ []) is ∙ sym (map-append Ok events (e ∷ [])),
+  k.1,
+  holds-more events e before after h k,
+)
 
 pub refused-last : (ends : Type 0) (items : List Item) (item : Item) (built : Built) (fault : Fault)
     → TookAll items built → Refuses built.unfinished item fault
     → IsBuiltFrom ends (items ++ item ∷ []) (Err fault)
-refused-last ends items (Err error) built fault (events, held, is, ok, alike, last, fine) r = (
+refused-last ends items (Err error) built fault (events, is, fine, (held, ok, alike, last)) r = (
   events,
   held,
   ok,
@@ -81,7 +79,7 @@ refused-last ends items (Err error) built fault (events, held, is, ok, alike, la
   inl (ap (λ l. l ++ Err error ∷ []) is
       ∙ ap (λ d. map Ok events ++ d ∷ []) (ap Err (sym r))),
 )
-refused-last ends items (Ok e) built fault (events, held, is, ok, alike, last, fine) r = (
+refused-last ends items (Ok e) built fault (events, is, fine, (held, ok, alike, last)) r = (
   events,
   held,
   ok,
@@ -90,33 +88,27 @@ refused-last ends items (Ok e) built fault (events, held, is, ok, alike, last, f
     e,
     ap (λ l. l ++ Ok e ∷ []) is,
     subst (λ o. IsRefusal o fault)
-        (ap (λ u. refusal_of u e) last ∙ refusal-last held e) r,
+        (ap (λ u. refusal_of u e) last ∙ refusal-last _ e) r,
   )),
 )
 
-no_tree : {A : Type 0} (t : Tree) → None ≡ Some t → A
-no_tree t p = cc
-
-same_tree : (a b : Tree) → Some a ≡ Some b → b ≡ a
-same_tree a b p = cc
-
 pub complete_last : (u : Unfinished) (t : Tree) → complete_tree (last_wins_so_far u) ≡ Some t
     → (w : Tree) × (u ≡ Complete w) × (t ≡ last_wins w)
-complete_last NotBegun t p = no_tree t p
-complete_last (Within c outer) t p = no_tree t p
-complete_last (Complete w) t p = (w, refl, same_tree (last_wins w) t p)
+complete_last NotBegun t p = absurd (none-some t p)
+complete_last (Within c outer) t p = absurd (none-some t p)
+complete_last (Complete w) t p = (w, refl, sym (same_Some _ t p))
 
 built-tree : (ends : Type 0) (items : List Item) (built : Built) (t : Tree) → ends
     → TookAll items built → complete_tree built.unfinished ≡ Some t → IsBuiltFrom ends items (Ok t)
-built-tree ends items built t end (events, held, is, ok, alike, last, fine) p =
-    let w = complete_last held t (sym (ap complete_tree last) ∙ p) in
+built-tree ends items built t end (events, is, fine, (held, ok, alike, last)) p =
+    let w = complete_last _ t (sym (ap complete_tree last) ∙ p) in
     (events, w.0, is, end, sym alike ∙ ap (λ u. map unhinted (events_so_far u)) w.1, w.2)
 
 ended : (ends : Type 0) (items : List Item) (built : Built) (fault : Fault) (kind : FaultKind)
     → fault.kind ≡ kind → ends → TookAll items built → fault.offset ≡ None
     → IsUnfinishedFor kind built → IsBuiltFrom ends items (Err fault)
 ended ends items built fault UnexpectedEndOfEventStream q end
-    (events, held, is, ok, alike, last, fine) o k = (
+    (events, is, fine, (held, ok, alike, last)) o k = (
       events,
       held,
       ok,
@@ -125,11 +117,11 @@ ended ends items built fault UnexpectedEndOfEventStream q end
         is,
         end,
         (λ i. record { kind = q i; offset = o i }),
-        λ t a. k.1 (last_wins t) (ap (λ u. map unhinted (events_so_far u))
-            (last ∙ ap last_wins_so_far (complete held t ok (alike ∙ a)))),
+        λ t a. k.1 _ (ap (λ u. map unhinted (events_so_far u))
+            (last ∙ ap last_wins_so_far (complete _ t ok (alike ∙ a)))),
       )),
     )
-ended ends items built fault faults.WriterFailed q end (events, held, is, ok, alike, last, fine) o
+ended ends items built fault faults.WriterFailed q end (events, is, fine, (held, ok, alike, last)) o
     k = absurd (true≢false (sym k ∙ fine))
 ended ends items built fault kind q end t o k = absurd k
 
@@ -147,4 +139,4 @@ finished ends items built (Err error) end t ok err =
 -- one more of the items that are seen
 pub seen-more : {E : Type 0} (see : E → Item) (seen : List E) (item : E) (P : List Item → Type 0)
     → P (map see seen ++ see item ∷ []) → P (map see (seen ++ item ∷ []))
-seen-more see seen item P h = subst P (sym (map-append see seen (item ∷ []))) h
+seen-more see seen item P h = subst P (sym (map-append see _ _)) h

@@ -1,5 +1,5 @@
 -- Equality of values, of which some are put off.
-use Rattle.std.proofs.Common.{◌≡◌, ℕ, zero, suc, ◌<◌, ◌≤◌, ◌+◌, ◌-◌, Bool, true, false, ◌&&◌, Option, Some, None, List, [], ◌∷◌, ◌++◌, length, drop, get_or, if◌then◌else◌, IsSome, ◌↔◌, MatchOption, true≢false, refl, sym, ap, ◌∙◌, subst, arith}
+use Rattle.std.proofs.Common.{◌≡◌, ℕ, zero, suc, ◌<◌, ◌≤◌, ◌+◌, ◌-◌, Bool, true, false, ◌&&◌, Option, Some, None, List, [], ◌∷◌, ◌++◌, length, drop, get_or, if◌then◌else◌, IsSome, ◌↔◌, MatchOption, true≢false, refl, sym, ap, ◌∙◌, subst, arith, add-one}
 use Rattle.std.specs.Prelude.{slice_get}
 use Rattle.std.specs.Str.{bytes_eq}
 use Rattle.std.specs.List.{IsDistinct}
@@ -7,6 +7,10 @@ use Rattle.std.specs.Map.{lookup, keys_of, values_of}
 use Rattle.std.specs.Option.{option_eq, option_to_list}
 use Rattle.std.specs.Cmp.{both_ways}
 use Rattle.std.specs.Cmp.Lexicographic.{nat_list_eq_equiv}
+use Rattle.std.proofs.lemmas.Option.{none-some, same_Some, slice_get_within}
+use Rattle.std.proofs.lemmas.Bool.{and_parts}
+use Rattle.std.proofs.Math.Bool.{and-true, and-false}
+use Rattle.std.specs.Cmp.Derive.{both_true}
 use Rattle.std_collections.specs.HashMap.Eq.{get_from_hash_map_eq}
 use Rattle.std_collections.proofs.HashMapEq.{key_at, own_value, equal_by_keys}
 use Rattle.plist_base.specs.Trees.{Dictionary}
@@ -15,11 +19,10 @@ use Rattle.plist.specs.declared.same.Pair.{Pair}
 use Rattle.plist.specs.declared.value.Value.{Value}
 use Rattle.plist.specs.declared.value.Value.{Value-F, fold_out-Value}
 use Rattle.plist.specs.inner.PairsSame.{as_map}
-use Rattle.plist.specs.inner.PutOff.{Compares, PutsOff, are_covered, are_same, same_values, to_compare, waiting}
+use Rattle.plist.specs.inner.PutOff.{Compares, ComparesItems, ComparesPairs, ComparesValues, ItemsLeft, PairsLeft, PutsOff, are_covered, are_same, same_values, to_compare, waiting}
 use Rattle.plist.specs.Same.{same, same_items, same_pairs}
 use Rattle.plist.specs.Views.{item_trees, pair_trees}
 use Rattle.plist.specs.inner.Weights.{weight, weight_step, weights}
-use Rattle.plist.proofs.Copies.{none-at, only-one}
 use Rattle.plist.proofs.Dropping.{weights-more}
 use Rattle.plist.proofs.SameTrees.{same-dictionaries}
 
@@ -30,20 +33,31 @@ and-moved true b c = refl
 and-moved false true c = refl
 and-moved false false c = refl
 
-pub and-false : (a : Bool) → a && false ≡ false
-and-false true = refl
-and-false false = refl
+-- the first of what is left is compared
+module _ (all here left was : Bool) (bound one rest : ℕ) (before : Later) (answer : Bool)
+    (after : Later) (first : was ≡ here && left) (heavy : ℕ) (parts : heavy ≡ one + rest)
+    (so : (was && are_same (waiting before) ≡ all) × (to_compare (waiting before) + heavy ≤ bound))
+    (compared : Compares here one before answer after) where
+  decides : left && (answer && are_same (waiting after)) ≡ all
+  decides =
+      ap (λ b. left && b) compared.0 ∙ sym (and-moved here left (are_same (waiting before)))
+      ∙ ap (λ b. b && are_same (waiting before)) (sym first) ∙ so.0
 
--- an item is equal: what is left and what is put off decide
-pub goes-on : (all a left x y : Bool) → (a && left) && x ≡ all → true && y ≡ a && x
-    → left && y ≡ all
-goes-on all a left x y so here =
-    ap (λ b. left && b) here ∙ sym (and-moved a left x) ∙ so
+  -- it isn't equal
+  pub stops : answer ≡ false → (false ≡ all) × (to_compare (waiting after) ≤ bound)
+  stops unequal = (
+    sym (and-false left) ∙ ap (λ b. left && (b && are_same (waiting after))) (sym unequal)
+        ∙ decides,
+    omega (arith, so.1, compared.1),
+  )
 
--- an item isn't
-pub stops : (all a left x y : Bool) → (a && left) && x ≡ all → false && y ≡ a && x → false ≡ all
-stops all a left x y so here =
-    sym (and-false left) ∙ ap (λ b. left && b) here ∙ sym (and-moved a left x) ∙ so
+  -- it is: what is left and what is put off decide
+  pub goes-on : answer ≡ true → (left && are_same (waiting after) ≡ all)
+      × (to_compare (waiting after) + rest ≤ bound)
+  goes-on equal = (
+    ap (λ b. left && (b && are_same (waiting after))) (sym equal) ∙ decides,
+    omega (arith, so.1, compared.1),
+  )
 
 -- ---- pairs that are put off
 
@@ -64,10 +78,6 @@ pub left-behind : (ps : List Pair) (p : Pair)
     → to_compare (ps ++ p ∷ []) ≡ weight p.value.now + to_compare ps
 left-behind [] p = refl
 left-behind (q ∷ ps) p = let e = left-behind ps p in omega (arith, e)
-
-and-true : (a : Bool) → a && true ≡ a
-and-true true = refl
-and-true false = refl
 
 -- the first two differ
 pub never : (answer equal after : Bool) → answer ≡ false → answer && after ≡ equal && true
@@ -161,6 +171,23 @@ weights-from [] i v p a = absurd (omega (arith, p))
 weights-from (x ∷ vs) zero v p a = weights-more x vs ∙ ap (λ u. weight u + weights vs) (sym a)
 weights-from (x ∷ vs) (suc i) v p a = weights-from vs i v (omega (arith, p)) a
 
+-- an item of both arrays is compared
+module _ (vs ws : List Value) (i : ℕ) (v w : Value) (start before : Later) (answer : Bool)
+    (after : Later) (p : i < length vs) (q : i < length ws) (a : v ≡ get_or vs i v)
+    (b : w ≡ get_or ws i w) (so : ItemsLeft vs ws start i before)
+    (compared : ComparesValues v w before answer after) where
+  pub items-stop : answer ≡ false → ComparesItems vs ws start false after
+  items-stop unequal =
+      stops _ (same_values v w) (same_items (item_trees (drop (suc i) vs))
+      (item_trees (drop (suc i) ws))) _ _ (weight v) (weights (drop (suc i) vs)) before answer after
+      (items-from vs ws i v w p q a b) _ (weights-from vs i v p a) so compared unequal
+
+  pub items-go : answer ≡ true → ItemsLeft vs ws start (i + 1) after
+  items-go equal =
+      rw add-one (goes-on _ (same_values v w) (same_items (item_trees (drop (suc i) vs))
+      (item_trees (drop (suc i) ws))) _ _ (weight v) (weights (drop (suc i) vs)) before answer after
+      (items-from vs ws i v w p q a b) _ (weights-from vs i v p a) so compared equal)
+
 -- ---- dictionaries
 
 abbrev pub Rows : Type 0
@@ -169,25 +196,52 @@ Rows = List (List ℕ × Value)
 pub pairs-from : (ps qs : Rows) (i : ℕ) (k : List ℕ) (v : Value) → slice_get ps i ≡ Some (k, v)
     → are_covered (drop i ps) qs
     ≡ option_eq same_values (Some v) (lookup (bytes_eq k) qs) && are_covered (drop (suc i) ps) qs
-pairs-from [] qs i k v e = none-at (k, v) e
+pairs-from [] qs i k v e = absurd (none-some (k, v) e)
 pairs-from (p ∷ ps) qs zero k v e =
     ap (λ r. option_eq same_values (Some r.1) (lookup (bytes_eq r.0) qs) && are_covered ps qs)
-    (only-one p (k, v) e)
+    (same_Some p (k, v) e)
 pairs-from (p ∷ ps) qs (suc i) k v e = pairs-from ps qs i k v e
 
 pub values-from : (ps : Rows) (i : ℕ) (k : List ℕ) (v : Value) → slice_get ps i ≡ Some (k, v)
     → weights (values_of (drop i ps)) ≡ weight v + weights (values_of (drop (suc i) ps))
-values-from [] i k v e = none-at (k, v) e
+values-from [] i k v e = absurd (none-some (k, v) e)
 values-from (p ∷ ps) zero k v e =
     weights-more p.1 (values_of ps)
-    ∙ ap (λ r. weight r.1 + weights (values_of ps)) (only-one p (k, v) e)
+    ∙ ap (λ r. weight r.1 + weights (values_of ps)) (same_Some p (k, v) e)
 values-from (p ∷ ps) (suc i) k v e = values-from ps i k v e
 
-pub drop-all : {X : Type 0} (xs : List X) (i : ℕ) → length xs ≤ i → drop i xs ≡ []
-drop-all [] zero p = refl
-drop-all [] (suc i) p = refl
-drop-all (x ∷ xs) zero p = absurd (omega (arith, p))
-drop-all (x ∷ xs) (suc i) p = drop-all xs i (omega (arith, p))
+-- a key of the first that the others lack
+pub pairs-lack : (ps qs : Rows) (i : ℕ) (k : List ℕ) (v : Value) (start now : Later)
+    → slice_get ps i ≡ Some (k, v) → None ≡ lookup (bytes_eq k) qs → PairsLeft ps qs start i now
+    → Compares (are_covered ps qs) (weights (values_of ps)) start false now
+pairs-lack ps qs i k v start now at none so = (
+  (λ j. (option_eq same_values (Some v) (none j) && are_covered (drop (suc i) ps) qs)
+      && are_same (waiting now))
+      ∙ ap (λ s. s && are_same (waiting now)) (sym (pairs-from ps qs i k v at)) ∙ so.0,
+  omega (arith, so.1),
+)
+
+-- a key of both, whose values are compared
+module _ (ps qs : Rows) (i : ℕ) (k : List ℕ) (v w : Value) (start before : Later) (answer : Bool)
+    (after : Later) (at : slice_get ps i ≡ Some (k, v)) (found : Some w ≡ lookup (bytes_eq k) qs)
+    (so : PairsLeft ps qs start i before) (compared : ComparesValues v w before answer after) where
+  covered-from : are_covered (drop i ps) qs ≡ same_values v w && are_covered (drop (suc i) ps) qs
+  covered-from =
+      pairs-from ps qs i k v at
+      ∙ λ j. option_eq same_values (Some v) (sym found j) && are_covered (drop (suc i) ps) qs
+
+  pub pairs-stop : answer ≡ false
+      → Compares (are_covered ps qs) (weights (values_of ps)) start false after
+  pairs-stop unequal =
+      stops _ (same_values v w) (are_covered (drop (suc i) ps) qs) _ _ (weight v)
+      (weights (values_of (drop (suc i) ps))) before answer after covered-from _
+      (values-from ps i k v at) so compared unequal
+
+  pub pairs-go : answer ≡ true → PairsLeft ps qs start (i + 1) after
+  pairs-go equal =
+      rw add-one (goes-on _ (same_values v w) (are_covered (drop (suc i) ps) qs) _ _ (weight v)
+      (weights (values_of (drop (suc i) ps))) before answer after covered-from _
+      (values-from ps i k v at) so compared equal)
 
 pair-there : (ps : Rows) (i : ℕ) → i < length ps
     → (k : List ℕ) × (v : Value) × (slice_get ps i ≡ Some (k, v))
@@ -195,38 +249,21 @@ pair-there [] i p = absurd (omega (arith, p))
 pair-there (q ∷ ps) zero p = (q.0, q.1, refl)
 pair-there (q ∷ ps) (suc i) p = pair-there ps i (omega (arith, p))
 
-first-holds : (a b : Bool) → a && b ≡ true → a ≡ true
-first-holds true b h = refl
-first-holds false b h = h
-
-second-holds : (a b : Bool) → a && b ≡ true → b ≡ true
-second-holds true b h = h
-second-holds false b h = absurd (cc)
-
-both-hold : (a b : Bool) → a ≡ true → b ≡ true → a && b ≡ true
-both-hold a b p q = rw (p, q) refl
-
 covered-at : (rs qs : Rows) (i : ℕ) (k : List ℕ) (v : Value) → are_covered rs qs ≡ true
     → slice_get rs i ≡ Some (k, v) → option_eq same_values (Some v) (lookup (bytes_eq k) qs) ≡ true
-covered-at [] qs i k v h e = none-at (k, v) e
+covered-at [] qs i k v h e = absurd (none-some (k, v) e)
 covered-at (r ∷ rs) qs zero k v h e =
     subst (λ p. option_eq same_values (Some p.1) (lookup (bytes_eq p.0) qs) ≡ true)
-    (only-one r (k, v) e) (first-holds _ (are_covered rs qs) h)
+    (same_Some r (k, v) e) (and_parts _ (are_covered rs qs) h).0
 covered-at (r ∷ rs) qs (suc i) k v h e =
     covered-at rs qs i k v
-    (second-holds (option_eq same_values (Some r.1) (lookup (bytes_eq r.0) qs)) _ h) e
+    (and_parts (option_eq same_values (Some r.1) (lookup (bytes_eq r.0) qs)) _ h).1 e
 
 covered-by : (rs qs : Rows) → ((i : ℕ) (k : List ℕ) (v : Value) → slice_get rs i ≡ Some (k, v)
     → option_eq same_values (Some v) (lookup (bytes_eq k) qs) ≡ true) → are_covered rs qs ≡ true
 covered-by [] qs f = refl
 covered-by (r ∷ rs) qs f =
-    both-hold _ _ (f 0 r.0 r.1 refl) (covered-by rs qs (λ i k v e. f (suc i) k v e))
-
-get-within : (ps : Rows) (i : ℕ) (k : List ℕ) (v : Value) → slice_get ps i ≡ Some (k, v)
-    → i < length ps
-get-within [] i k v e = none-at (k, v) e
-get-within (p ∷ ps) zero k v e = omega arith
-get-within (p ∷ ps) (suc i) k v e = let r = get-within ps i k v e in omega (arith, r)
+    both_true (f 0 r.0 r.1 refl) (covered-by rs qs (λ i k v e. f (suc i) k v e))
 
 module _ (ps qs : Rows) (d : IsDistinct bytes_eq (keys_of ps))
     (e : IsDistinct bytes_eq (keys_of qs)) (same-count : length ps ≡ length qs) where
@@ -250,6 +287,13 @@ module _ (ps qs : Rows) (d : IsDistinct bytes_eq (keys_of ps))
       same-count (agrees h)))
       (λ h. covered-by ps qs (λ i k v at.
       ap (λ o. option_eq same_values o (lookup (bytes_eq k) qs))
-      (sym (own_value bytes_eq nat_list_eq_equiv ps i k v at d (get-within ps i k v at)))
+      (sym (own_value bytes_eq nat_list_eq_equiv ps i k v at d (slice_get_within ps i (k, v) at)))
       ∙ get_from_hash_map_eq bytes_eq same_values nat_list_eq_equiv (as_map ps) (as_map qs) h k))
       ∙ same-dictionaries ps qs d e
+
+  -- what was found of the pairs at each key is the answer for the dictionaries
+  pub covered-answers : (start : Later) (answer : Bool) (after : Later)
+      → Compares (are_covered ps qs) (weights (values_of ps)) start answer after
+      → ComparesPairs ps qs start answer after
+  covered-answers start answer after h =
+      (h.0 ∙ ap (λ s. s && are_same (waiting start)) covered-is-same, h.1)

@@ -2,7 +2,7 @@
 use Rattle.std.proofs.Common.{◌≡◌, ℕ, zero, suc, List, [], ◌∷◌, ◌++◌, length, refl, ap, sym, ◌∙◌, Some, None, cond}
 use Rattle.std.specs.Prelude.{slice_get, Option, position, Bool, true, false, is_some, get_or, swap_remove, if◌then◌else◌}
 use Rattle.std.proofs.lemmas.List.Quantifiers.{position-Some}
-use Rattle.std.proofs.lemmas.Option.{slice_get-get_or}
+use Rattle.std.proofs.lemmas.Option.{slice_get-get_or, none-some, same_Some}
 use Rattle.std.proofs.lemmas.Slice.Eq.{bytes_eq-Decides}
 use Rattle.std.specs.Map.{lookup, keys_of, values_of}
 use Rattle.std.specs.Str.{bytes_eq}
@@ -31,17 +31,11 @@ get_last : {K X : Type 0} (ps : List (K × X)) (k : K) (v : X)
 get_last [] k v = refl
 get_last (p ∷ ps) k v = get_last ps k v
 
-some_same : {X : Type 0} (a b : X) → ◌≡◌ {A = Option X} (Some a) (Some b) → a ≡ b
-some_same a b e = cc
-
 pub read_pushed : {K X : Type 0} (ps new : List (K × X)) (k : K) (v r : X) (n : ℕ)
     → new ≡ ps ++ (k, v) ∷ [] → n ≡ length ps → Some r ≡ slice_get (values_of new) n → r ≡ v
 read_pushed ps new k v r n e is read =
-    some_same r v (read ∙ ap (λ l. slice_get (values_of l) n) e
+    same_Some r v (read ∙ ap (λ l. slice_get (values_of l) n) e
     ∙ ap (λ m. slice_get (values_of (ps ++ (k, v) ∷ [])) m) is ∙ get_last ps k v)
-
-some_none : {A B : Type 0} (x : A) → Some x ≡ None → B
-some_none x e = cc
 
 -- a key that isn't there comes last
 pub comes_last : {X : Type 0} (k : List ℕ) (v : X) (ps : List (List ℕ × X))
@@ -52,7 +46,7 @@ comes_last {X} k v (p ∷ ps) e = by (bytes_eq k p.0) e (comes_last k v ps)
     by : (b : Bool) → cond b (Some p.1) (lookup (bytes_eq k) ps) ≡ None
         → (lookup (bytes_eq k) ps ≡ None → insert_entry bytes_eq ps k v ≡ ps ++ (k, v) ∷ [])
         → (if b then (p.0, v) ∷ ps else p ∷ insert_entry bytes_eq ps k v) ≡ p ∷ (ps ++ (k, v) ∷ [])
-    by true h rest = some_none p.1 h
+    by true h rest = absurd (none-some p.1 (sym h))
     by false h rest = ap (λ l. p ∷ l) (rest h)
 
 -- a key that is there keeps its place
@@ -60,13 +54,13 @@ pub keeps_place : {X : Type 0} (k : List ℕ) (v : X) (ps : List (List ℕ × X)
     → Some i ≡ position (bytes_eq k) (keys_of ps)
     → set_value_at ps i v ≡ insert_entry bytes_eq ps k v
 keeps_place k v ps i q =
-    sym (insert_entry-first bytes_eq k v ps i (Found-position (bytes_eq k) ps i (sym q)).first)
+    sym (insert_entry-first _ k v ps i (Found-position _ ps i (sym q)).first)
 
 -- the value of the pair at a place
 pub second_at : {K X : Type 0} (ps : List (K × X)) (i : ℕ) (k : K) (v : X)
     → slice_get ps i ≡ Some (k, v) → Some v ≡ slice_get (values_of ps) i
-second_at [] i k v e = some_none (k, v) (sym e)
-second_at (p ∷ ps) zero k v e = ap Some (ap (λ q. q.1) (some_same (k, v) p (sym e)))
+second_at [] i k v e = absurd (none-some (k, v) e)
+second_at (p ∷ ps) zero k v e = ap Some (ap (λ q. q.1) (same_Some (k, v) p (sym e)))
 second_at (p ∷ ps) (suc i) k v e = second_at ps i k v e
 
 pub none_of : {X : Type 0} (o : Option X) → is_some o ≡ false → o ≡ None
@@ -77,7 +71,7 @@ none_of (Some x) e = absurd (cc)
 module _ {X : Type 0} (k : List ℕ) where
   pub value-there : (ps : List (List ℕ × X)) (i : ℕ) → Some i ≡ position (bytes_eq k) (keys_of ps)
       → slice_get (values_of ps) i ≡ lookup (bytes_eq k) ps
-  value-there ps i q = sym (Found-position (bytes_eq k) ps i (sym q)).value
+  value-there ps i q = sym (Found-position _ ps i (sym q)).value
 
   pub key-there : (ps : List (List ℕ × X)) (i : ℕ) → Some i ≡ position (bytes_eq k) (keys_of ps)
       → slice_get (keys_of ps) i ≡ Some k
@@ -89,12 +83,12 @@ module _ {X : Type 0} (k : List ℕ) where
   pub kept-there : {T : Type 0} (ps : List (List ℕ × X)) (i : ℕ) (t : T)
       → Some i ≡ position (bytes_eq k) (keys_of ps)
       → None ≡ cond (is_some (lookup (bytes_eq k) ps)) None (Some t)
-  kept-there ps i t q = ap (λ b. cond b None (Some t)) (ap is_some q ∙ some_index (bytes_eq k) ps)
+  kept-there ps i t q = ap (λ b. cond b None (Some t)) (ap is_some q ∙ some_index _ ps)
 
   pub taken-there : (ps : List (List ℕ × X)) (i : ℕ) (after : List (List ℕ × X))
       → Some i ≡ position (bytes_eq k) (keys_of ps)
       → ((d : List ℕ × X) → after ≡ swap_remove ps i d) → after ≡ swap_remove_entry (bytes_eq k) ps
-  taken-there [] i after q is = some_none i q
+  taken-there [] i after q is = absurd (none-some i (sym q))
   taken-there (p ∷ ps) i after q is =
       is p ∙ sym (swap_remove_entry-found (bytes_eq k) (p ∷ ps) i p (sym q))
 
@@ -102,5 +96,5 @@ module _ {X : Type 0} (k : List ℕ) where
   pub none-taken : (ps : List (List ℕ × X)) → lookup (bytes_eq k) ps ≡ None
       → swap_remove_entry (bytes_eq k) ps ≡ ps
   none-taken ps e =
-      swap_remove_entry-missing (bytes_eq k) ps
-      (none_of (position (bytes_eq k) (keys_of ps)) (some_index (bytes_eq k) ps ∙ ap is_some e))
+      swap_remove_entry-missing _ ps
+      (none_of _ (some_index _ ps ∙ ap is_some e))

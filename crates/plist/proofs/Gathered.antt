@@ -33,12 +33,12 @@ gathered_more all held new before after item event so gives is grown =
 pub gathered_all : (tree : Tree) (held left : List PlainEvent)
     → held ++ map unhinted left ≡ map unhinted (bracketing tree) → left ≡ [] → held ≡ shape tree
 gathered_all tree held left so none =
-    sym (append-nil held) ∙ ap (λ l. held ++ map unhinted l) (sym none) ∙ so ∙ shape-is tree
+    sym (append-nil _) ∙ ap (λ l. held ++ map unhinted l) (sym none) ∙ so ∙ shape-is _
 
 pub gathered_alike : (tree : Tree) (es : List PlainEvent) → es ≡ shape tree
     → AreAlike es (bracketing tree)
 gathered_alike tree es is =
-    ap (map unhinted) (is ∙ sym (shape-is tree)) ∙ alike_unhinted (bracketing tree)
+    ap (map _) (is ∙ sym (shape-is _)) ∙ alike_unhinted _
 
 -- ---- sending them
 

@@ -1,7 +1,7 @@
 -- What a builder has taken of the items that are seen to come.
 use Rattle.std.proofs.Common.{◌≡◌, false, true≢false, List, [], ◌∷◌, ◌++◌, Option, Some, None, Result, Ok, Err, IfOk, IfErr, IfSome, map, refl, sym, ap, ◌∙◌, subst, append-nil}
 use Rattle.std.specs.Prelude.{⊤}
-use Rattle.std.proofs.lemmas.List.{map-append}
+use Rattle.std.proofs.lemmas.Option.{none-some}
 use Rattle.plist_base.specs.declared.error.Error.{Error}
 use Rattle.plist_base.specs.Events.{PlainEvent, Item}
 use Rattle.plist_base.specs.Faults as faults
@@ -10,24 +10,20 @@ use Rattle.plist_base.specs.Trees.{Tree}
 use Rattle.plist_base.specs.Bracketing.{bracketing, unhinted, AreAlike}
 use Rattle.plist.specs.declared.value.Value.{Value}
 use Rattle.plist.specs.Building.{Unfinished, NotBegun, Built, IsNested, nothing_built, complete_tree, events_so_far, last_wins_so_far, refusal_of, IsUnfinishedFor, IsUnfinished}
-use Rattle.plist.specs.inner.Carried.{carried-nested, carried-events}
 use Rattle.plist.specs.Collecting.{IsRefusal, Takes, Refuses, built_tree}
 use Rattle.plist.specs.inner.Following.{refused-ends, refusal-last, complete}
 use Rattle.plist.specs.Inputs.{AreOf, IsReadFrom, Answers, BeginsWith, GoesOn, GivesBack}
-use Rattle.plist.specs.LastWins.{with_pair, last_wins}
-use Rattle.plist.specs.inner.OneTree.{one_tree}
-use Rattle.plist.specs.inner.Steps.{and_pair, carried_on}
+use Rattle.plist.specs.LastWins.{last_wins}
+use Rattle.plist_base.proofs.OneTree.{one_tree}
 use Rattle.plist.specs.Views.{tree_of}
-use Rattle.plist.proofs.Carrying.{carried-last}
-use Rattle.plist.proofs.Collected.{from_last, alike-more, complete_last}
+use Rattle.plist.proofs.Collected.{Holds, holds-more, complete_last}
+use Rattle.plist_base.proofs.Grammar.{alike_with}
 use Rattle.plist_base.proofs.Refusals.{MatchFault-weaker, MatchFault-all, MatchFault-at}
 
 -- these events of the items were taken, and these items are to come
 abbrev pub TookFrom : (items coming : List Item) → Built → Type 0
 TookFrom items coming built =
-    (events : List PlainEvent) × (held : Unfinished) × (items ≡ map Ok events ++ coming)
-    × IsNested held × AreAlike (events_so_far held) events
-    × (built.unfinished ≡ last_wins_so_far held)
+    (events : List PlainEvent) × (items ≡ map Ok events ++ coming) × Holds events built
 
 -- the items of a source, where its bytes are known
 abbrev pub Reads : Option (List Item) → (coming : Option (List Item)) → Built → Type 0
@@ -38,7 +34,7 @@ pub reads-none : (items coming : Option (List Item)) (built : Built) → coming 
     → built ≡ nothing_built → Reads items coming built
 reads-none None coming built e b = tt
 reads-none (Some all) coming built e b =
-    (all, e, ([], NotBegun, refl, tt, refl, ap (λ (x : Built). x.unfinished) b))
+    (all, e, ([], refl, (NotBegun, tt, refl, ap (λ (x : Built). x.unfinished) b)))
 
 -- ---- one item
 
@@ -50,16 +46,11 @@ event-more (x ∷ events) e after = ap (λ l. Ok x ∷ l) (event-more events e a
 took-event : (all before after : List Item) (e : PlainEvent) (old new : Built)
     → before ≡ Ok e ∷ after → TookFrom all before old → Takes old (Ok e) new
     → TookFrom all after new
-took-event all before after e old new b (events, held, is, ok, alike, last) k =
-    let w = from_last (carried_on and_pair held e) new.unfinished
-    (carried-last held e ∙ sym (ap (λ u. carried_on with_pair u e) last) ∙ k.0) in (
-      events ++ e ∷ [],
-      w.0,
-      is ∙ ap (λ l. map Ok events ++ l) b ∙ event-more events e after,
-      carried-nested and_pair held e w.0 ok w.1,
-      carried-events held e w.0 ok w.1 ∙ alike-more (events_so_far held) events e alike,
-      w.2,
-    )
+took-event all before after e old new b (events, is, h) k = (
+  events ++ e ∷ [],
+  is ∙ ap (λ l. map Ok events ++ l) b ∙ event-more events e after,
+  holds-more events e old new h k,
+)
 
 took-given : (all before after : List Item) (item : Item) (old new : Built)
     → BeginsWith before (Some item) after → TookFrom all before old → Takes old item new
@@ -117,9 +108,6 @@ no-tree-error all events error more is tree (others, same, alike) =
     never [] p = cc
     never (x ∷ es) p = cc
 
-pub some-kind : {A : Type 0} (k : FaultKind) → Some k ≡ None → A
-some-kind k p = cc
-
 no-tree-event : (all : List Item) (events : List PlainEvent) (held : Unfinished) (e : PlainEvent)
     (kind : FaultKind) (more : List Item) → all ≡ map Ok events ++ Ok e ∷ more → IsNested held
     → AreAlike (events_so_far held) events → refusal_of held e ≡ Some kind
@@ -127,12 +115,10 @@ no-tree-event : (all : List Item) (events : List PlainEvent) (held : Unfinished)
 no-tree-event all events held e kind more is ok alike r tree (others, same, like) =
     let s = all-events events others (Ok e ∷ more) (sym is ∙ same) in
     let rest = first s.0 s.1 in
-    refused-ends held e ok (λ n. some-kind kind (sym r ∙ n)) (
+    refused-ends held e ok (λ n. none-some kind (sym n ∙ r)) (
       rest.0,
       tree,
-      map-append unhinted (events_so_far held) (e ∷ rest.0)
-          ∙ ap (λ l. l ++ map unhinted (e ∷ rest.0)) alike
-          ∙ sym (map-append unhinted events (e ∷ rest.0))
+      alike_with (events_so_far held) events (e ∷ rest.0) alike
           ∙ ap (λ l. map unhinted (events ++ l)) (sym rest.1) ∙ ap (map unhinted) (sym s.2) ∙ like,
     )
   where
@@ -157,7 +143,7 @@ no-tree-end all events is none tree (others, same, like) =
 stops-event : (all : List Item) (before after : List Item) (e : PlainEvent) (built : Built)
     (fault : Fault) → before ≡ Ok e ∷ after → TookFrom all before built
     → IsRefusal (refusal_of built.unfinished e) fault → IsReadFrom all (Err fault)
-stops-event all before after e built fault b (events, held, is, ok, alike, last) r =
+stops-event all before after e built fault b (events, is, (held, ok, alike, last)) r =
     by (refusal_of held e) refl (subst (λ o. IsRefusal o fault)
     (ap (λ u. refusal_of u e) last ∙ refusal-last held e) r)
   where
@@ -177,7 +163,7 @@ stops-event all before after e built fault b (events, held, is, ok, alike, last)
 stops-error : (all before after : List Item) (error : Fault) (built : Built) (fault : Fault)
     → BeginsWith before (Some (Err error)) after → TookFrom all before built → fault ≡ error
     → IsReadFrom all (Err fault)
-stops-error all before after error built fault g (events, held, is, ok, alike, last) r =
+stops-error all before after error built fault g (events, is, (held, ok, alike, last)) r =
     MatchFault-weaker fault.kind (λ _. tt) (λ _. tt)
     (λ b. let here : all ≡ map Ok events ++ Err error ∷ after = is
     ∙ ap (λ l. map Ok events ++ l) b in (
@@ -208,12 +194,12 @@ reads-refused (Some all) o n given item built fault is (left, e, t) h k =
 
 whole-tree : (all : List Item) (built : Built) (t : Tree) → TookFrom all [] built
     → complete_tree built.unfinished ≡ Some t → IsReadFrom all (Ok t)
-whole-tree all built t (events, held, is, ok, alike, last) p =
-    let w = complete_last held t (sym (ap complete_tree last) ∙ p) in (
+whole-tree all built t (events, is, (held, ok, alike, last)) p =
+    let w = complete_last _ t (sym (ap complete_tree last) ∙ p) in (
       w.0,
       (
         events,
-        is ∙ append-nil (map Ok events),
+        is ∙ append-nil _,
         sym alike
             ∙ ap (λ u. map unhinted (events_so_far u)) w.1,
       ),
@@ -223,8 +209,8 @@ whole-tree all built t (events, held, is, ok, alike, last) p =
 too-early : (all : List Item) (built : Built) (fault : Fault) (kind : FaultKind) → fault.kind ≡ kind
     → built.failed ≡ false → TookFrom all [] built → fault.offset ≡ None
     → IsUnfinishedFor kind built → IsReadFrom all (Err fault)
-too-early all built fault UnexpectedEndOfEventStream q fine (events, held, is, ok, alike, last) o k
-    =
+too-early all built fault UnexpectedEndOfEventStream q fine (events, is, (held, ok, alike, last)) o
+    k =
     let none : (tree : Tree) → AreAlike events (bracketing tree) → ⊥ = λ t a.
     k.1 (last_wins t) (ap (λ u. map unhinted (events_so_far u))
     (last ∙ ap last_wins_so_far (complete held t ok (alike ∙ a)))) in

@@ -4,17 +4,17 @@ use Rattle.std.specs.Prelude.{Some, None, position, string_bytes}
 use Rattle.std.specs.List.{zip, list_any, position_or_len}
 use Rattle.std.specs.Map.{lookup}
 use Rattle.std.specs.Str.{bytes_eq}
-use Rattle.std.proofs.lemmas.List.{length-map}
+use Rattle.std.proofs.lemmas.List.{length-map, map_push}
 use Rattle.std.proofs.lemmas.Bool.{lt-ltb}
 use Rattle.indexmap.specs.IndexMap.{insert_entry}
-use Rattle.plist.proofs.Columns.{Text, rows, any-rows, map-snoc, zip-snoc}
+use Rattle.plist.proofs.Columns.{Text, rows, any-rows, zip-snoc}
 use Rattle.plist.proofs.EntrySteps.{comes_last, none_of}
 
 at_first : {A : Type 0} (p : A → Bool) (xs : List A) (i : ℕ) → i ≡ position_or_len p xs
     → i < length xs → Some i ≡ position p xs
 at_first p xs i e h =
     ap Some e ∙ ap (λ b. cond b (Some (position_or_len p xs)) None)
-    (sym (lt-ltb (position_or_len p xs) (length xs) (subst (λ n. n < length xs) e h)))
+    (sym (lt-ltb _ _ (subst (λ n. n < length xs) e h)))
 
 pub is-not : (b c : Bool) → b ≡ not c → c ≡ not b
 is-not b true e = ap not (sym e)
@@ -32,12 +32,12 @@ module _ {X : Type 0} (ks : List Text) (vs : List X) (e : length vs ≡ length k
 
   pub put-lengths : length ws ≡ length ls
   put-lengths =
-      ap length hw ∙ length-append vs (v ∷ []) ∙ ap (λ n. n + 1) e ∙ sym (length-append ks (k ∷ []))
+      ap length hw ∙ length-append vs _ ∙ ap (λ n. n + 1) e ∙ sym (length-append ks _)
       ∙ ap length (sym put-keys)
 
   pub put-rows : rows ls ws ≡ rows ks vs ++ (string_bytes k, v) ∷ []
   put-rows =
-      (λ i. rows (put-keys i) (hw i)) ∙ ap (λ l. zip l (vs ++ v ∷ [])) (map-snoc string_bytes ks k)
+      (λ i. rows (put-keys i) (hw i)) ∙ ap (λ l. zip l (vs ++ v ∷ [])) (map_push string_bytes ks k)
       ∙ zip-snoc (map string_bytes ks) vs (string_bytes k) v (e ∙ sym (length-map ks string_bytes))
 
 module _ {X : Type 0} (ks : List Text) (vs : List X) (e : length vs ≡ length ks) (k : Text)
@@ -50,7 +50,7 @@ module _ {X : Type 0} (ks : List Text) (vs : List X) (e : length vs ≡ length k
   pub new-absent : is_some (lookup (bytes_eq (string_bytes k)) ps) ≡ false
   new-absent =
       ap (λ l. is_some (lookup (bytes_eq (string_bytes k)) l)) (sym is)
-      ∙ sym (any-rows ks vs (bytes_eq (string_bytes k)) e) ∙ lacks
+      ∙ sym (any-rows ks vs _ e) ∙ lacks
 
   pub new-none : None ≡ lookup (bytes_eq (string_bytes k)) ps
   new-none = sym (none_of (lookup (bytes_eq (string_bytes k)) ps) new-absent)

@@ -1,5 +1,6 @@
 -- A value is its own last-value form.
 use Rattle.std.proofs.Common.{◌≡◌, ℕ, List, [], ◌∷◌, Option, Some, None, option_map, map, refl, sym, ap, ◌∙◌, subst, string_bytes}
+use Rattle.std.proofs.lemmas.Option.{same_Some}
 use Rattle.plist_base.specs.Events.{PlainEvent}
 use Rattle.plist_base.specs.Trees.{Tree, Array, trees_of}
 use Rattle.plist.specs.declared.value.Value.{Value, ind-Value, fold-roll-Value, roll-Value}
@@ -24,7 +25,7 @@ abbrev Layer : Value-F Value → Type 0
 Layer x = let t = tree_step (map-Value Value Tree tree_of x) in last_wins t ≡ t
 
 from-layer : (x : Value-F Value) → Layer x → IsItself (roll-Value x)
-from-layer x p = let e = fold-roll-Value Tree tree_step x in ap last_wins e ∙ p ∙ sym e
+from-layer x p = let e = fold-roll-Value _ _ x in ap last_wins e ∙ p ∙ sym e
 
 items-itself : (vs : List ((v : Value) × IsItself v))
     → SettledItems (map tree_of (map (λ e. e.0) vs))
@@ -92,9 +93,6 @@ held-itself None (c ∷ cs) =
     ap (λ d. Within d (map last_wins_within (map open_of cs))) (open-itself c)
     ∙ ap (Within (open_of c)) (opens-itself cs)
 
-some_is : (a b : Unfinished) → Some a ≡ Some b → b ≡ a
-some_is a b p = cc
-
 -- what a builder holds is carried on by an event as the plain events are
 pub carry : (root : Option Value) (cs : List Open) (e : PlainEvent) (a : Unfinished)
     → IsNested (held_by root cs) → refusal_of (held_by root cs) e ≡ None
@@ -107,6 +105,5 @@ carry root cs e a ok p q =
       g.0,
       carried-nested and_pair b e g.0 ok g.1,
       carried-events b e g.0 ok g.1,
-      some_is
-          (last_wins_so_far g.0) a last,
+      sym (same_Some _ a last),
     )

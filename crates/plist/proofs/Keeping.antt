@@ -24,7 +24,7 @@ turned x k true p q =
 
 -- keys differ both ways
 pub differs : (x k : List ℕ) → bytes_eq x k ≡ false → bytes_eq k x ≡ false
-differs x k q = turned x k (bytes_eq k x) refl q
+differs x k q = turned x k _ refl q
 
 module _ {V : Type 0} where
   lacks-choice : (x k : List ℕ) (v : V) (e : List ℕ × V) (es : List (List ℕ × V)) (b : Bool)

@@ -6,7 +6,6 @@ use Rattle.plist_base.specs.Trees.{Tree, Leaf, Array, Dictionary, Trees, NoTrees
 use Rattle.plist_binwrite.specs.Keys as keys
 use Rattle.plist_binwrite.specs.Keys.{HasDistinctKeys, HasKeysOnce, ItemsHaveKeysOnce, ValuesHaveKeysOnce}
 use Rattle.plist.specs.LastWins.{Rows, last_values, last_wins, last_wins_in_items, last_wins_in_pairs}
-use Rattle.plist.specs.inner.OneTree.{list_of_trees, list_of_members}
 use Rattle.plist.proofs.Keeping.{Lacks, EachOnce, last-values-once, once-inserts}
 
 -- ---- keys that differ
@@ -23,7 +22,7 @@ differ k l p e = true≢false (sym ((bytes_eq-Decides k l).1 e) ∙ p)
 lacks-rows : (k : List ℕ) (ms : Members) → keys.Lacks k ms → Lacks k (last_wins_in_pairs ms)
 lacks-rows k NoMembers l = tt
 lacks-rows k (MemberAnd key t ms) (a, l) =
-    (not_eq k key a (bytes_eq k key) refl, lacks-rows k ms l)
+    (not_eq k key a _ refl, lacks-rows k ms l)
 
 once-rows : (ms : Members) → HasDistinctKeys ms → EachOnce (last_wins_in_pairs ms)
 once-rows NoMembers o = tt
@@ -51,6 +50,10 @@ mutual
       ∙ ap (MemberAnd key t) (pairs-nothing ms o)
 
 -- ---- and back
+
+abbrev list_of_members : Members → Rows
+list_of_members NoMembers = []
+list_of_members (MemberAnd key tree members) = (key, tree) ∷ list_of_members members
 
 rows-back : (rows : Rows) → list_of_members (members_of rows) ≡ rows
 rows-back [] = refl

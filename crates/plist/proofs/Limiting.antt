@@ -258,41 +258,37 @@ module _ (limits : Limits) where
         (let same : level + 1 - 1 ≡ level = omega arith in same) h.1,
   )
 
+  -- a start that passes finds room for its collection
+  room : (came level : ℕ)
+      → limit_at limits came level (event.StartArray None) ≡ None → level < limits.depth
+  room came level h =
+      below limits.depth level (allowed (nat_le limits.items came) (nat_le limits.depth level) h).1
+
+  -- what nests within a collection, nests one level deeper with it
+  around : (P : ℕ → Type 0) (level : ℕ) (rest : List PlainEvent) → level < limits.depth
+      → P (limits.depth - (level + 1))
+      × ((n : ℕ) × Pass n (level + 1) (event.EndCollection ∷ rest))
+      → ((1 ≤ limits.depth - level) × P (limits.depth - level - 1))
+      × ((n : ℕ) × Pass n level rest)
+  around P level rest less (inside, behind) =
+      let one : limits.depth - (level + 1) ≡ limits.depth - level - 1 = omega arith in
+      ((omega arith, subst P one inside), closed 0 level rest behind)
+
   mutual
     tree-nests : (t : Tree) (came level : ℕ) (rest : List PlainEvent) → level ≤ limits.depth
         → Pass came level (bracketing t ++ rest) → NestsWithin t (limits.depth - level)
         × ((n : ℕ) × Pass n level rest)
     tree-nests (Leaf s) came level rest l h = (tt, (came + 1, h.1))
     tree-nests (Array items) came level rest l h =
-        let less : level < limits.depth = below limits.depth level
-        (allowed (nat_le limits.items came) (nat_le limits.depth level) h.0).1 in
-        let inside = items-nest items (came + 1) (level + 1) (event.EndCollection ∷ rest)
-        (omega arith) (subst (λ es. Pass (came + 1) (level + 1) es)
-        (append_assoc (bracketing_of_items items) (event.EndCollection ∷ []) rest) h.1) in (
-          (
-            omega arith,
-            subst (λ d. ItemsNestWithin items d)
-                (let same : limits.depth - (level + 1)
-                ≡ limits.depth - level - 1 = omega arith in same)
-                inside.0,
-          ),
-          closed came level rest inside.1,
-        )
+        let less = room came level h.0 in
+        around (ItemsNestWithin items) level rest less
+        (items-nest items (came + 1) (level + 1) (event.EndCollection ∷ rest) (omega arith)
+        (subst (Pass (came + 1) (level + 1)) (append_assoc (bracketing_of_items items) _ rest) h.1))
     tree-nests (Dictionary pairs) came level rest l h =
-        let less : level < limits.depth = below limits.depth level
-        (allowed (nat_le limits.items came) (nat_le limits.depth level) h.0).1 in
-        let inside = pairs-nest pairs (came + 1) (level + 1) (event.EndCollection ∷ rest)
-        (omega arith) (subst (λ es. Pass (came + 1) (level + 1) es)
-        (append_assoc (bracketing_of_pairs pairs) (event.EndCollection ∷ []) rest) h.1) in (
-          (
-            omega arith,
-            subst (λ d. PairsNestWithin pairs d)
-                (let same : limits.depth - (level + 1)
-                ≡ limits.depth - level - 1 = omega arith in same)
-                inside.0,
-          ),
-          closed came level rest inside.1,
-        )
+        let less = room came level h.0 in
+        around (PairsNestWithin pairs) level rest less
+        (pairs-nest pairs (came + 1) (level + 1) (event.EndCollection ∷ rest) (omega arith)
+        (subst (Pass (came + 1) (level + 1)) (append_assoc (bracketing_of_pairs pairs) _ rest) h.1))
 
     items-nest : (items : Trees) (came level : ℕ) (rest : List PlainEvent) → level ≤ limits.depth
         → Pass came level (bracketing_of_items items ++ rest)

@@ -70,8 +70,8 @@ module _ {V : Type 0} where
 
       lacks : has ks k ≡ false
       lacks =
-          any-rows ks vs (bytes_eq (string_bytes k)) e
-          ∙ ap is_some (before (rows ks vs) (map shown_owned_pair less) (string_bytes k) v
+          any-rows ks vs _ e
+          ∙ ap is_some (before _ _ _ v
           (subst (λ l. IsDistinct bytes_eq (keys_of l)) (sym parts) d))
 
       module _ (ls : List Text) (ws : List V) (hl : ls ≡ cond (has ks k) ks (ks ++ k ∷ []))

@@ -1,19 +1,14 @@
 -- What a loop keeps that moves the items to be kept to the front.
 use Rattle.std.proofs.Common.{◌≡◌, ℕ, ◌+◌, ◌<◌, ◌≤◌, Bool, true, false, List, [], ◌∷◌, ◌++◌, length, take, set, get_or, refl, sym, ap, subst, ◌∙◌, append_assoc, arith, length-append}
-use Rattle.std.specs.Prelude.{Option, Some, None, slice_get}
+use Rattle.std.specs.Prelude.{Some, slice_get}
 use Rattle.std.specs.List.{AllZip, items_where_true, swap}
 use Rattle.std.specs.Map.{keys_of}
 use Rattle.std.proofs.lemmas.List.{append-nil}
 use Rattle.std.proofs.lemmas.List.Edits.{swap_is}
+use Rattle.std.proofs.lemmas.Option.{none-some, same_Some}
 use Rattle.plist.proofs.Columns.{get-map}
 
 module _ {X : Type 0} where
-  none-at : {B : Type 0} (x : X) → None ≡ Some x → B
-  none-at x e = cc
-
-  one : (x y : X) → ◌≡◌ {A = Option X} (Some x) (Some y) → x ≡ y
-  one x y e = cc
-
   get-at : (front : List X) (x : X) (todo : List X) (d : X)
       → get_or (front ++ x ∷ todo) (length front) d ≡ x
   get-at [] x todo d = refl
@@ -120,8 +115,8 @@ module _ {X : Type 0} (A : X → Bool → Type 0) where
   -- the next item is the first to do
   next-is : (front todo : List X) (x : X) → slice_get (front ++ todo) (length front) ≡ Some x
       → (rest : List X) × (todo ≡ x ∷ rest)
-  next-is [] [] x e = none-at x e
-  next-is [] (y ∷ todo) x e = (todo, ap (λ z. z ∷ todo) (one y x e))
+  next-is [] [] x e = absurd (none-some x e)
+  next-is [] (y ∷ todo) x e = (todo, ap (λ z. z ∷ todo) (same_Some y x e))
   next-is (z ∷ front) todo x e = next-is front todo x e
 
   next-of : (old now : List X) (i kept : ℕ) (x : X) (k : KeptSoFar old now i kept)
@@ -229,7 +224,7 @@ module _ {X : Type 0} (A : X → Bool → Type 0) where
 
   none-left : (todo : List X) → length todo ≡ 0 → todo ≡ []
   none-left [] e = refl
-  none-left (x ∷ todo) e = absurd (omega (arith, e))
+  none-left (x ∷ todo) e = absurd (omega arith)
 
   -- all were asked
   pub kept-all : (old now new : List X) (i kept : ℕ) → KeptSoFar old now i kept → length old ≤ i
@@ -249,4 +244,4 @@ module _ {X : Type 0} (A : X → Bool → Type 0) where
 -- the key of the pair at a place
 pub key-of : {K V : Type 0} (ps : List (K × V)) (i : ℕ) (k l : K) (v : V)
     → slice_get (keys_of ps) i ≡ Some k → slice_get ps i ≡ Some (l, v) → k ≡ l
-key-of ps i k l v a b = one k l (sym a ∙ get-map (λ p. p.0) ps i (l, v) b)
+key-of ps i k l v a b = same_Some k l (sym a ∙ get-map (λ p. p.0) ps i (l, v) b)

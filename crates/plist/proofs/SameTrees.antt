@@ -1,7 +1,7 @@
 -- Sameness of values, list by list.
 use Rattle.std.proofs.Common.{◌≡◌, ℕ, suc, Bool, true, false, ◌&&◌, cond, Option, Some, None, option_map, List, [], ◌∷◌, length, refl, sym, ap, ◌∙◌, subst}
 use Rattle.std.specs.Str.{bytes_eq}
-use Rattle.std.specs.List.{IsDistinct, AllByRecursion}
+use Rattle.std.specs.List.{IsDistinct}
 use Rattle.std.specs.Map.{lookup, keys_of}
 use Rattle.std.specs.Option.{option_eq}
 use Rattle.std.specs.Cmp.{both_ways}
@@ -13,19 +13,13 @@ use Rattle.plist.specs.Same.{AreSameAt, same, same_items, first_value, same_pair
 use Rattle.plist.specs.inner.Sameness.{dict_to, dict_from, same_by}
 use Rattle.plist.specs.inner.PairsSame.{as_map}
 use Rattle.plist.specs.Views.{tree_of, tree_pairs, item_trees, pair_trees}
-use Rattle.plist.proofs.Keeping.{Lacks, EachOnce, last-values-once}
+use Rattle.plist.proofs.Keeping.{EachOnce, last-values-once}
+use Rattle.plist.proofs.Tops.{once_from, once_trees}
 
 -- pairs with distinct keys, once more
-lacks-pairs : (k : List ℕ) (ps : List (List ℕ × Value))
-    → AllByRecursion (λ y. bytes_eq k y ≡ false) (keys_of ps) → Lacks k (tree_pairs ps)
-lacks-pairs k [] a = tt
-lacks-pairs k (p ∷ ps) a = (a.0, lacks-pairs k ps a.1)
-
 pub once-pairs : (ps : List (List ℕ × Value)) → IsDistinct bytes_eq (keys_of ps)
     → EachOnce (tree_pairs ps)
-unfolding IsDistinct
-once-pairs [] d = tt
-once-pairs (p ∷ ps) d = (lacks-pairs p.0 ps d.0, once-pairs ps d.1)
+once-pairs ps d = once_trees ps (once_from ps d)
 
 first-choice : (b : Bool) (v : Value) (o : Option Value) (q : Option Tree)
     → q ≡ option_map tree_of o → cond b (Some (tree_of v)) q

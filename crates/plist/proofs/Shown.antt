@@ -13,18 +13,19 @@ use Rattle.plist_ascii.specs.declared.dialect.Dialect.{Dialect}
 use Rattle.plist_ascii.specs.Texts.{ends_bare}
 use Rattle.plist_ascii.specs.Unread.{Known}
 use Rattle.plist_base.specs.declared.source.Source.{Ghosts}
-use Rattle.plist_binread.specs.declared.counter.DecodeCounter.{Ghosts as CounterGhosts}
 use Rattle.plist_binread.specs.declared.reader.BinaryReader.{BinaryReader}
 use Rattle.plist_binread.specs.BinaryReader as binary
 use Rattle.plist_binread.specs.Unfolding.{items_of_file}
 use Rattle.plist_reader.specs.Reader as reader
 use Rattle.plist_reader.specs.Reader.{items_of_input}
 use Rattle.plist_reader.specs.Formats.{front}
+use Rattle.plist_reader.proofs.Giving.{ascii-goes}
 use Rattle.plist.specs.declared.stream.events.Events.{Events}
 use Rattle.plist.specs.Collecting.{item_by}
 use Rattle.plist.specs.Inputs.{IsReadFrom, Answers, BeginsWith, GoesOn}
 use Rattle.plist.specs.Events.{GivesEvent, remaining_events}
 use Rattle.plist_base.proofs.Refusals.{MatchFault-weaker, MatchFault-at}
+use Rattle.plist_binread.specs.declared.counter.DecodeCounter.{Ghosts as CounterGhosts}
 
 abbrev Given : Type 0
 Given = Option (Result Event Error)
@@ -57,30 +58,6 @@ ascii_coming known reader =
     option_map (λ bytes. items_of_ascii (ascii.stops_of reader) bytes (ascii.place_of reader))
     (ascii.bytes_left known reader)
 
-ascii-item : (stops : ℕ → Bool) (bytes rest : List ℕ) (p q : ℕ) (item : Given)
-    → ascii.GivesItem stops bytes p item rest q
-    → BeginsWith (items_of_ascii stops bytes p) (option_map (item_by event_of) item)
-    (items_of_ascii stops rest q)
-ascii-item stops bytes rest p q None h = h.0
-ascii-item stops bytes rest p q (Some (Ok event)) h = h.items
-ascii-item stops bytes rest p q (Some (Err error)) h =
-    MatchFault-weaker (kind_of (error_kind_of error)) (λ _. tt) (λ _. tt) (λ b. b.items) h
-
--- the items go on under the same stops
-ascii-goes : (stops : ℕ → Bool) (k l : Option (List ℕ)) (p q : ℕ) (item : Given)
-    → Known k (λ bytes. (rest : List ℕ) × (l ≡ Some rest)
-    × ascii.GivesItem stops bytes p item rest q)
-    → GoesOn (option_map (λ bytes. items_of_ascii stops bytes p) k)
-    (option_map (item_by event_of) item) (option_map (λ bytes. items_of_ascii stops bytes q) l)
-ascii-goes stops None l p q item h = tt
-ascii-goes stops (Some bytes) l p q item h =
-    let r = h bytes refl in (
-      items_of_ascii stops r.0 q,
-      ap
-          (option_map (λ b. items_of_ascii stops b q)) r.1,
-      ascii-item stops bytes r.0 p q item r.2,
-    )
-
 pub ascii-shows : (now then : Dialect) (k l : Option (List ℕ)) (p q : ℕ) (item : Given) → then ≡ now
     → Known k (λ bytes. (rest : List ℕ) × (l ≡ Some rest)
     × ascii.GivesItem (ends_bare now) bytes p item rest q)
@@ -91,7 +68,7 @@ ascii-shows now then k l p q item same h =
     subst (λ d. GoesOn (option_map (λ bytes. items_of_ascii (ends_bare now) bytes p) k)
     (option_map (item_by event_of) item)
     (option_map (λ bytes. items_of_ascii (ends_bare d) bytes q) l)) (sym same)
-    (ascii-goes (ends_bare now) k l p q item h)
+    (reader-shows _ _ item (ascii-goes (ends_bare now) k l p q item h))
 
 pub of-ascii : (stops : ℕ → Bool) (k : Option (List ℕ)) (items : Option (List Item))
     (answer : Result Tree Fault) → items

@@ -1,25 +1,24 @@
 -- The tree of a value, kind by kind.
 use Rattle.std.proofs.Common.{◌≡◌, ℕ, Bool, true, false, if◌then◌else◌, List, [], ◌∷◌, refl, sym, ap, ◌∙◌, Vec, Global}
 use Rattle.plist_base.specs.Trees as tree
-use Rattle.plist_base.specs.Trees.{Tree}
-use Rattle.plist.specs.declared.value.Value.{Value, Value-F, fold-roll-Value}
+use Rattle.plist.specs.declared.value.Value.{Value, fold-roll-Value}
 use Rattle.plist.specs.declared.value.Value.TheVariants as value
 use Rattle.plist.specs.declared.value.Value.TheVariants.{rolls-Array, rolls-Dictionary}
 use Rattle.std.specs.Str.{bytes_eq}
 use Rattle.indexmap.specs.IndexMap.{insert_entry}
 use Rattle.plist.specs.LastWins.{with_pair}
-use Rattle.plist.specs.Views.{tree_of, tree_step, tree_pairs, item_trees, pair_trees}
+use Rattle.plist.specs.Views.{tree_of, tree_pairs, item_trees, pair_trees}
 
 pub tree_of-Array : (items : Vec Value Global)
     → tree_of (value.Array items) ≡ tree.Array (item_trees items.items)
 tree_of-Array items =
-    ap tree_of (sym (rolls-Array items)) ∙ fold-roll-Value Tree tree_step (Value-F.Array items)
+    ap tree_of (sym (rolls-Array _)) ∙ fold-roll-Value _ _ _
 
 pub tree_of-Dictionary : (pairs : List (List ℕ × Value))
     → tree_of (value.Dictionary pairs) ≡ tree.Dictionary (pair_trees pairs)
 tree_of-Dictionary pairs =
-    ap tree_of (sym (rolls-Dictionary pairs))
-    ∙ fold-roll-Value Tree tree_step (Value-F.Dictionary pairs)
+    ap tree_of (sym (rolls-Dictionary _))
+    ∙ fold-roll-Value _ _ _
 
 insert-choice : (k : List ℕ) (v : Value) (p : List ℕ × Value) (ps : List (List ℕ × Value))
     (b : Bool) → tree_pairs (insert_entry bytes_eq ps k v) ≡ with_pair (tree_pairs ps) k (tree_of v)

@@ -1,7 +1,6 @@
 -- What bodies and proofs speak of, and no public clause.
 pub mod Steps
 pub mod Carried
-pub mod OneTree
 pub mod Following
 pub mod Laws
 pub mod Sameness

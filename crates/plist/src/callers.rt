@@ -14,6 +14,7 @@ ghost use Rattle.plist.specs.inner.PutOff.{same_values_at};
 ghost use Rattle.plist.specs.Keys.{IsSetAt, IsTakenAt};
 
 pub mod contents;
+pub mod iterators;
 
 use crate::dictionary::Entry;
 use crate::{Dictionary, Pairs, Value};

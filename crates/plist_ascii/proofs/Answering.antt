@@ -1,5 +1,5 @@
 -- How the answers of the parts of a token make the answer of the whole.
-use Rattle.std.proofs.Common.{◌≡◌, ℕ, ◌+◌, ◌≤◌, false, List, [], ◌∷◌, drop, Option, Some, Result, Ok, Err, refl, sym, ap, subst, ◌∙◌, arith}
+use Rattle.std.proofs.Common.{◌≡◌, ℕ, ◌+◌, ◌≤◌, false, List, [], ◌∷◌, drop, Option, Some, Result, Ok, Err, refl, ap, ◌∙◌, arith}
 use Rattle.plist_base.specs.declared.error.Error.{Error}
 use Rattle.plist_base.specs.Faults.{FaultKind, UnclosedString, fault_of, fault_at, kind_of, error_kind_of}
 use Rattle.plist_ascii.specs.Taken.{Taken, taken, past_one}
@@ -8,36 +8,29 @@ use Rattle.plist_ascii.specs.Unread.{Known, Takes, TakesFront, Answers, IsAt, is
 use Rattle.plist_ascii.proofs.Inside.{kind_said, is_at_inside}
 
 module _ {X A : Type 0} (view : X → A) where
+  -- the next byte was only looked at
+  pub answers_looked : (front back : List ℕ → Taken A) (old mid : Option (List ℕ)) (p m : ℕ)
+      (new : Option (List ℕ)) (q : ℕ) (r : Result X Error)
+      → Known old (λ xs. (mid ≡ Some xs) × (front xs ≡ back xs)) → m ≡ p
+      → Answers view back mid m new q r → Answers view front old p new q r
+  answers_looked front back old mid p m new q (Ok x) h s a =
+      rw (← s) (a.0, λ xs e. let k = h xs e in rw k.1 (a.1 xs k.0))
+  answers_looked front back old mid p m new q (Err f) h s a =
+      rw (← s) (a.0, a.1, λ d xs e. let k = h xs e in rw k.1 (a.2 d xs k.0))
+
   pub answers_same : (front back : List ℕ → Taken A) (old : Option (List ℕ)) (p : ℕ)
       (new : Option (List ℕ)) (q : ℕ) (r : Result X Error)
       → ((xs : List ℕ) → front xs ≡ back xs) → Answers view back old p new q r
       → Answers view front old p new q r
-  answers_same front back old p new q (Ok x) same a = (
-    a.0,
-    λ xs e. let P : Taken A → Type 0 = λ t. TakesFront t (Ok (view x)) new p q xs in subst P
-        (sym (same xs)) (a.1 xs e),
-  )
-  answers_same front back old p new q (Err f) same a = (
-    a.0,
-    a.1,
-    λ d xs e. let P : Taken A
-        → Type 0 = λ t. TakesFront t (Err (kind_of (error_kind_of f))) new p q xs in subst P
-        (sym (same xs)) (a.2 d xs e),
-  )
-
-  front_past : (t : Taken A) (g : Result A FaultKind) (new : Option (List ℕ)) (p m q c : ℕ)
-      (ys : List ℕ) → m ≡ p + 1 → TakesFront t g new m q ys
-      → TakesFront (past_one t) g new p q (c ∷ ys)
-  front_past t g new p m q c ys e f = let place : q ≡ m + t.bytes = f.2 in (f.0, f.1, omega arith)
+  answers_same front back old p new q r same a =
+      answers_looked front back old old p p new q r (λ xs e. (e, same xs)) refl a
 
   front_at : (front : List ℕ → Taken A) (back : Taken A) (g : Result A FaultKind)
       (new : Option (List ℕ)) (p m q c : ℕ) (xs ys : List ℕ) → xs ≡ c ∷ ys
       → front (c ∷ ys) ≡ past_one back → m ≡ p + 1
       → TakesFront back g new m q ys → TakesFront (front xs) g new p q xs
   front_at front back g new p m q c xs ys e h s f =
-      let P : Taken A → Type 0 = λ t. TakesFront t g new p q (c ∷ ys) in
-      let Q : List ℕ → Type 0 = λ zs. TakesFront (front zs) g new p q zs in
-      subst Q (sym e) (subst P (sym h) (front_past back g new p m q c ys s f))
+      let place : q ≡ m + back.bytes = f.2 in rw (e, h) (f.0, f.1, omega arith)
 
   -- a byte was taken, and then what is behind it
   pub answers_past : (front back : List ℕ → Taken A) (old mid : Option (List ℕ)) (c p m : ℕ)
@@ -59,22 +52,17 @@ module _ {X A : Type 0} (view : X → A) where
   -- nothing was taken
   pub answers_here : (front : List ℕ → Taken A) (old : Option (List ℕ)) (p : ℕ) (x : X)
       → ((xs : List ℕ) → front xs ≡ taken 0 (Ok (view x))) → Answers view front old p old p (Ok x)
-  answers_here front old p x h = (
-    omega arith,
-    λ xs e. let P : Taken A
-        → Type 0 = λ t. TakesFront t (Ok (view x)) old p p xs in subst P (sym (h xs))
-        (refl, e, omega arith),
-  )
+  answers_here front old p x h = (omega arith, λ xs e. rw (h xs) (refl, e, omega arith))
 
-  pub answers_fault : (front : List ℕ → Taken A) (old : Option (List ℕ)) (p : ℕ) (f : Error)
-      (k : FaultKind) → fault_of f ≡ fault_at k p → IsFaultOfBytes k
-      → ((xs : List ℕ) → front xs ≡ taken 0 (Err k)) → Answers view front old p old p (Err f)
-  answers_fault front old p f k s i h = (
-    is_at_inside f k p s i,
-    omega arith,
-    λ d xs e.
-        let P : Taken A → Type 0 = λ t. TakesFront t (Err (kind_of (error_kind_of f))) old p p xs in
-        subst P (sym (h xs)) (ap Err (kind_said f k p s), e, omega arith),
+  -- a fault in the bytes that were taken
+  pub answers_fault : (front : List ℕ → Taken A) (old : Option (List ℕ)) (p : ℕ)
+      (new : Option (List ℕ)) (q : ℕ) (f : Error) (k : FaultKind) → fault_of f ≡ fault_at k q
+      → IsFaultOfBytes k → p ≤ q → Known old (λ xs. TakesFront (front xs) (Err k) new p q xs)
+      → Answers view front old p new q (Err f)
+  answers_fault front old p new q f k s i le h = (
+    is_at_inside f k q s i,
+    le,
+    λ d xs e. rw (← kind_said f k q s) (h xs e),
   )
 
   -- the input ended where a byte had to be taken
@@ -90,34 +78,11 @@ module _ {X A : Type 0} (view : X → A) where
     λ d xs e.
         let b = a.1 d in
         let k = b.1 xs e in
-        let P : Taken A → Type 0 = λ t. TakesFront t (Err (kind_of (error_kind_of f))) new p q [] in
-        let Q : List ℕ → Type 0 = λ zs. TakesFront (front zs) (Err (kind_of (error_kind_of f))) new
-        p q zs in
-        subst Q (sym k.1) (subst P (sym h)
-        (ap Err (kind_said f UnclosedString q b.0), k.0 ∙ ap Some k.1, omega arith)),
+        rw (k.1, h)
+        (ap Err (kind_said f UnclosedString q b.0), k.0 ∙ ap Some k.1, omega arith),
   )
 
 pub front_from : {A : Type 0} (t : Taken A) (g : Result A FaultKind) (new : Option (List ℕ))
     (p q n : ℕ) (xs : List ℕ) → t ≡ taken n g → new ≡ Some (drop n xs) → q ≡ p + n
     → TakesFront t g new p q xs
-front_from {A} t g new p q n xs e u s =
-    let P : Taken A → Type 0 = λ t. TakesFront t g new p q xs in subst P (sym e) (refl, u, s)
-
--- the next byte was only looked at
-pub answers_looked : {X A : Type 0} (view : X → A) (front back : List ℕ → Taken A)
-    (old mid : Option (List ℕ)) (p m : ℕ) (new : Option (List ℕ)) (q : ℕ) (r : Result X Error)
-    → Known old (λ xs. (mid ≡ Some xs) × (front xs ≡ back xs)) → m ≡ p
-    → Answers view back mid m new q r → Answers view front old p new q r
-answers_looked {X} {A} view front back old mid p m new q (Ok x) h s a = (
-  let le : m ≤ q = a.0 in omega arith,
-  λ xs e. let k = h xs e in let b = a.1 xs k.0 in
-      let P : Taken A → Type 0 = λ t. TakesFront t (Ok (view x)) new p q xs in subst P (sym k.1)
-      (b.0, b.1, let place : q ≡ m + (back xs).bytes = b.2 in omega arith),
-)
-answers_looked {X} {A} view front back old mid p m new q (Err f) h s a = (
-  a.0,
-  let le : m ≤ q = a.1 in omega arith,
-  λ d xs e. let k = h xs e in let b = a.2 d xs k.0 in
-      let P : Taken A → Type 0 = λ t. TakesFront t (Err (kind_of (error_kind_of f))) new p q xs in
-      subst P (sym k.1) (b.0, b.1, let place : q ≡ m + (back xs).bytes = b.2 in omega arith),
-)
+front_from t g new p q n xs e u s = rw e (refl, u, s)

@@ -3,8 +3,6 @@ pub mod Runs
 pub mod Unread
 pub mod Answering
 pub mod Octal
-pub mod Escapes
-pub mod Units
 pub mod Texts
 pub mod Quotes
 pub mod Comments

@@ -1,5 +1,5 @@
 -- A quoted text, part by part.
-use Rattle.std.proofs.Common.{◌≡◌, ℕ, zero, suc, ◌+◌, ◌<◌, ◌≤◌, false, cond, List, [], ◌∷◌, ◌++◌, length, take, drop, Option, Some, Result, Ok, Err, refl, sym, ap, ◌∙◌, arith, append_assoc, append-nil, length-drop}
+use Rattle.std.proofs.Common.{◌≡◌, ℕ, zero, suc, ◌+◌, ◌<◌, ◌≤◌, false, cond, List, [], ◌∷◌, ◌++◌, length, take, drop, Option, Some, Result, Ok, Err, refl, sym, ap, ◌∙◌, arith, rules, append_assoc, append-nil, length-drop}
 use Rattle.std.specs.Prelude.{◌==◌}
 use Rattle.std.proofs.lemmas.List.{drop-drop}
 use Rattle.plist_base.specs.Faults.{FaultKind}
@@ -10,21 +10,15 @@ use Rattle.plist_ascii.specs.Quoted.{behind, with_front, ends_run, run_end, quot
 
 -- behind a run
 
-end_on : (quote c : ℕ) (ys part : List ℕ) → (c == quote) ≡ false → (escape ys).gives ≡ Ok part
-    → (more : List ℕ → Taken (List ℕ))
-    → run_end quote more (c ∷ ys) ≡ behind (suc (escape ys).bytes) part
-    (more (drop (escape ys).bytes ys))
-end_on quote c ys part e g more =
-    let t = more (drop (escape ys).bytes ys) in
-    rw (e, g) (ap (λ n. taken n (with_front part t.gives))
-    (let n : suc ((escape ys).bytes + t.bytes) ≡ suc (escape ys).bytes
-    + t.bytes = omega arith in n))
-
 pub end_goes_on : (quote c : ℕ) (xs ys part : List ℕ) → xs ≡ c ∷ ys → (c == quote) ≡ false
     → (escape ys).gives ≡ Ok part → (more : List ℕ → Taken (List ℕ))
     → run_end quote more xs ≡ behind (suc (escape ys).bytes) part
     (more (drop (suc (escape ys).bytes) xs))
-end_goes_on quote c xs ys part s e g more = rw s (end_on quote c ys part e g more)
+end_goes_on quote c xs ys part s e g more =
+    let t = more (drop (escape ys).bytes ys) in
+    rw (s, e, g) (ap (λ n. taken n (with_front part t.gives))
+    (let n : suc ((escape ys).bytes + t.bytes) ≡ suc (escape ys).bytes
+    + t.bytes = omega arith in n))
 
 pub end_fails : (quote c : ℕ) (xs ys : List ℕ) (k : FaultKind) → xs ≡ c ∷ ys → (c == quote) ≡ false
     → (escape ys).gives ≡ Err k → (more : List ℕ → Taken (List ℕ))
@@ -35,17 +29,14 @@ pub drop_past : (now : Option (List ℕ)) (c n : ℕ) (xs ys : List ℕ) → xs 
     → now ≡ Some (drop n ys) → now ≡ Some (drop (suc n) xs)
 drop_past now c n xs ys s h = rw s h
 
-pub drop_past_run : (now : Option (List ℕ)) (m n : ℕ) (xs : List ℕ)
-    → now ≡ Some (drop n (drop m xs)) → now ≡ Some (drop (m + n) xs)
-drop_past_run now m n xs h = h ∙ ap Some (drop-drop n m xs)
-
 -- a run and what is behind it
 
-pub part_closes : (quote n : ℕ) (xs : List ℕ) → let m = run (ends_run quote) xs in
-    ((more : List ℕ → Taken (List ℕ)) → run_end quote more (drop m xs) ≡ taken n (Ok []))
+pub part_ends : (quote n : ℕ) (xs : List ℕ) (g : Result (List ℕ) FaultKind) → let m =
+    run (ends_run quote) xs in
+    ((more : List ℕ → Taken (List ℕ)) → run_end quote more (drop m xs) ≡ taken n g)
     → (more : List ℕ → Taken (List ℕ))
-    → quoted_by quote more xs ≡ taken (m + n) (Ok (take m xs ++ []))
-part_closes quote n xs h more = rw (h more) refl
+    → quoted_by quote more xs ≡ taken (m + n) (with_front (take m xs) g)
+part_ends quote n xs g h more = ap (behind _ (take _ xs)) (h more)
 
 with_with : (a b : List ℕ) (r : Result (List ℕ) FaultKind)
     → with_front a (with_front b r) ≡ with_front (a ++ b) r
@@ -57,7 +48,7 @@ pub behind_behind : (m n : ℕ) (a b : List ℕ) (t : Taken (List ℕ))
 behind_behind m n a b t =
     let place : m + (n + t.bytes) ≡ m + n + t.bytes = omega arith in
     ap (λ k. taken k (with_front a (with_front b t.gives))) place
-    ∙ ap (taken (m + n + t.bytes)) (with_with a b t.gives)
+    ∙ ap (taken _) (with_with a b _)
 
 pub part_goes_on : (quote n : ℕ) (xs part : List ℕ) → let m = run (ends_run quote) xs in
     ((more : List ℕ → Taken (List ℕ))
@@ -67,21 +58,14 @@ pub part_goes_on : (quote n : ℕ) (xs part : List ℕ) → let m = run (ends_ru
 part_goes_on quote n xs part h more =
     let m = run (ends_run quote) xs in
     ap (behind m (take m xs)) (h more)
-    ∙ behind_behind m n (take m xs) part (more (drop n (drop m xs)))
+    ∙ behind_behind m n (take m xs) part (more _)
     ∙ ap (λ zs. behind (m + n) (take m xs ++ part) (more zs)) (drop-drop n m xs)
-
-pub part_fails : (quote n : ℕ) (xs : List ℕ) (k : FaultKind) → let m = run (ends_run quote) xs in
-    ((more : List ℕ → Taken (List ℕ)) → run_end quote more (drop m xs) ≡ taken n (Err k))
-    → (more : List ℕ → Taken (List ℕ)) → quoted_by quote more xs ≡ taken (m + n) (Err k)
-part_fails quote n xs k h more =
-    ap (behind (run (ends_run quote) xs) (take (run (ends_run quote) xs) xs)) (h more)
 
 -- room
 
 then_same : (n : ℕ) (r : Result (List ℕ) FaultKind) (f g : ℕ → Taken (List ℕ)) → f n ≡ g n
     → escape_then n r f ≡ escape_then n r g
-then_same n (Ok text) f g h = ap (behind n text) h
-then_same n (Err k) f g h = refl
+then_same n r f g h = search rules
 
 end_same : (quote : ℕ) (f g : List ℕ → Taken (List ℕ)) (xs : List ℕ)
     → ((ys : List ℕ) → length ys < length xs → f ys ≡ g ys)
@@ -98,7 +82,7 @@ by_same : (quote : ℕ) (f g : List ℕ → Taken (List ℕ)) (xs : List ℕ)
     → quoted_by quote f xs ≡ quoted_by quote g xs
 by_same quote f g xs h =
     let m = run (ends_run quote) xs in
-    ap (behind m (take m xs)) (end_same quote f g (drop m xs)
+    ap (behind m _) (end_same _ f g (drop m xs)
     (λ ys l. let short : length (drop m xs)
     ≤ length xs = rw length-drop (omega arith) in h ys (omega arith)))
 
@@ -107,20 +91,20 @@ quoted_room : (quote r s : ℕ) (xs : List ℕ) → length xs ≤ r → length x
 unfolding quoted_in
 quoted_room quote zero zero xs l m = refl
 quoted_room quote zero (suc s) xs l m =
-    by_same quote (λ _. taken 0 (Err UnclosedString)) (quoted_in quote s) xs
+    by_same _ (λ _. taken 0 (Err UnclosedString)) (quoted_in _ s) xs
     (λ ys h. let none : ⊥ = omega arith in absurd none)
 quoted_room quote (suc r) zero xs l m =
-    by_same quote (quoted_in quote r) (λ _. taken 0 (Err UnclosedString)) xs
+    by_same _ (quoted_in _ r) (λ _. taken 0 (Err UnclosedString)) xs
     (λ ys h. let none : ⊥ = omega arith in absurd none)
 quoted_room quote (suc r) (suc s) xs l m =
-    by_same quote (quoted_in quote r) (quoted_in quote s) xs
+    by_same _ (quoted_in _ r) (quoted_in _ s) xs
     (λ ys h. quoted_room quote r s ys (omega arith) (omega arith))
 
 pub quoted_opens : (quote : ℕ) (xs : List ℕ) → quoted quote xs ≡ quoted_by quote (quoted quote) xs
 unfolding quoted_in
 quoted_opens quote [] = refl
 quoted_opens quote (c ∷ xs) =
-    by_same quote (quoted_in quote (length xs)) (quoted quote) (c ∷ xs)
+    by_same quote (quoted_in _ _) (quoted quote) (c ∷ xs)
     (λ ys h. quoted_room quote (length xs) (length ys) ys (omega arith) (omega arith))
 
 -- The text so far, where `k` bytes were taken.
@@ -128,39 +112,28 @@ pub record Quoting (quote : ℕ) (xs text : List ℕ) (k : ℕ) (ys : List ℕ) 
   pub all : quoted quote xs ≡ behind k text (quoted quote ys)
   pub rest : ys ≡ drop k xs
 
-pub quoting_more : (quote : ℕ) (xs text : List ℕ) (k n : ℕ) (ys part longer : List ℕ)
-    → Quoting quote xs text k ys
-    → ((more : List ℕ → Taken (List ℕ))
-    → quoted_by quote more ys ≡ behind n part (more (drop n ys))) → longer ≡ text ++ part
-    → Quoting quote xs longer (k + n) (drop n ys)
-quoting_more quote xs text k n ys part longer q h e = record {
-  all = q.all ∙ ap (behind k text) (quoted_opens quote ys ∙ h (quoted quote))
-      ∙ behind_behind k n text part (quoted quote (drop n ys))
-      ∙ ap (λ z. behind (k + n) z (quoted quote (drop n ys))) (sym e);
-  rest = ap (drop n) q.rest ∙ drop-drop n k xs;
-}
+module _ {quote : ℕ} {xs text : List ℕ} {k : ℕ} {ys : List ℕ} (q : Quoting quote xs text k ys)
+    (n : ℕ) where
+  pub quoting_more : (part longer : List ℕ) → ((more : List ℕ → Taken (List ℕ))
+      → quoted_by quote more ys ≡ behind n part (more (drop n ys))) → longer ≡ text ++ part
+      → Quoting quote xs longer (k + n) (drop n ys)
+  quoting_more part longer h e = record {
+    all = q.all ∙ ap (behind k text) (quoted_opens quote ys ∙ h (quoted quote))
+        ∙ behind_behind k n text part (quoted quote (drop n ys))
+        ∙ ap (λ z. behind (k + n) z (quoted quote (drop n ys))) (sym e);
+    rest = ap (drop n) q.rest ∙ drop-drop n k xs;
+  }
 
-pub quoting_closed : (quote : ℕ) (xs text : List ℕ) (k n : ℕ) (ys part longer : List ℕ)
-    → Quoting quote xs text k ys
-    → ((more : List ℕ → Taken (List ℕ)) → quoted_by quote more ys ≡ taken n (Ok part))
-    → longer ≡ text ++ part → quoted quote xs ≡ taken (k + n) (Ok longer)
-quoting_closed quote xs text k n ys part longer q h e =
-    q.all ∙ ap (behind k text) (quoted_opens quote ys ∙ h (quoted quote))
-    ∙ ap (λ z. taken (k + n) (Ok z)) (sym e)
+  pub quoting_ends : (g : Result (List ℕ) FaultKind)
+      → ((more : List ℕ → Taken (List ℕ)) → quoted_by quote more ys ≡ taken n g)
+      → quoted quote xs ≡ taken (k + n) (with_front text g)
+  quoting_ends g h = q.all ∙ ap (behind k _) (quoted_opens _ ys ∙ h (quoted _))
 
-pub quoting_fails : (quote : ℕ) (xs text : List ℕ) (k n : ℕ) (ys : List ℕ) (f : FaultKind)
-    → Quoting quote xs text k ys
-    → ((more : List ℕ → Taken (List ℕ)) → quoted_by quote more ys ≡ taken n (Err f))
-    → quoted quote xs ≡ taken (k + n) (Err f)
-quoting_fails quote xs text k n ys f q h =
-    q.all ∙ ap (behind k text) (quoted_opens quote ys ∙ h (quoted quote))
-
-pub quoting_rest : (quote : ℕ) (xs text : List ℕ) (k n : ℕ) (ys : List ℕ)
-    → Quoting quote xs text k ys → drop n ys ≡ drop (k + n) xs
-quoting_rest quote xs text k n ys q = ap (drop n) q.rest ∙ drop-drop n k xs
+  pub quoting_rest : drop n ys ≡ drop (k + n) xs
+  quoting_rest = ap (drop n) q.rest ∙ drop-drop n k xs
 
 pub text_closes : (text old more : List ℕ) → text ≡ old ++ more → text ≡ old ++ (more ++ [])
-text_closes text old more e = e ∙ ap (λ z. old ++ z) (sym (append-nil more))
+text_closes text old more e = e ∙ ap (λ z. old ++ z) (sym (append-nil _))
 
 pub text_goes_on : (text mid old more piece : List ℕ) → mid ≡ old ++ more → text ≡ mid ++ piece
     → text ≡ old ++ (more ++ piece)

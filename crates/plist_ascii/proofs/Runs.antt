@@ -21,29 +21,27 @@ run_behind : (stop : ℕ → Bool) (part zs : List ℕ) → run stop part ≡ le
     → run stop (part ++ zs) ≡ length part + run stop zs
 run_behind stop part zs h =
     prefix_len-append _ part zs ∙ ap (λ b. cond b (length part + run stop zs) (run stop part))
-    (eq-eqb (run stop part) (length part) h)
+    (eq-eqb _ _ h)
 
-pub runs_part : (stop : ℕ → Bool) (xs text : List ℕ) (p : ℕ) (ys part zs more longer : List ℕ)
-    (q r : ℕ) → RunsOn stop xs text p ys more q
-    → ys ≡ part ++ zs → run stop part ≡ length part → longer ≡ more ++ part → r ≡ q + length part
-    → RunsOn stop xs text p zs longer r
-runs_part stop xs text p ys part zs more longer q r on e h l s =
-    let n : run stop ys ≡ length part + run stop zs = rw e (run_behind stop part zs h) in
-    let front : take (run stop ys) ys ≡ part
-    ++ take (run stop zs) zs = rw n (rw e (take-append-add part zs (run stop zs))) in
-    let back : drop (run stop ys) ys
-    ≡ drop (run stop zs) zs = rw n (rw e (drop-append-add part zs (run stop zs))) in
-    record {
-      text = ap (λ z. z ++ take (run stop zs) zs) l ∙ append_assoc more part (take (run stop zs) zs)
-          ∙ ap (λ z. more ++ z) (sym front) ∙ on.text;
-      rest = sym back ∙ on.rest;
-      place = let place : q + run stop ys ≡ p + run stop xs =
-          on.place in omega (arith, n, s, place);
-    }
+module _ {stop : ℕ → Bool} {xs text : List ℕ} {p : ℕ} {ys more : List ℕ} {q : ℕ}
+    (on : RunsOn stop xs text p ys more q) where
+  pub runs_part : (part zs : List ℕ) {longer : List ℕ} {r : ℕ} → ys ≡ part ++ zs
+      → run stop part ≡ length part → longer ≡ more ++ part → r ≡ q + length part
+      → RunsOn stop xs text p zs longer r
+  runs_part part zs e h l s =
+      let n : run stop ys ≡ length part + run stop zs = rw e (run_behind _ _ zs h) in
+      let front : take (run stop ys) ys ≡ part
+      ++ take (run stop zs) zs = rw n (rw e (take-append-add _ zs _)) in
+      let back : drop (run stop ys) ys
+      ≡ drop (run stop zs) zs = rw n (rw e (drop-append-add _ zs _)) in
+      record {
+        text = ap (λ z. z ++ take (run stop zs) zs) l ∙ append_assoc more part (take _ zs)
+            ∙ ap (λ z. more ++ z) (sym front) ∙ on.text;
+        rest = sym back ∙ on.rest;
+        place = let place : q + run stop ys ≡ p + run stop xs =
+            on.place in omega (arith, n, s, place);
+      }
 
-pub runs_step : (stop : ℕ → Bool) (xs text : List ℕ) (p : ℕ) (ys zs more longer : List ℕ)
-    (q r c : ℕ) → RunsOn stop xs text p ys more q
-    → ys ≡ c ∷ zs → stop c ≡ false → longer ≡ more ++ c ∷ [] → r ≡ q + 1
-    → RunsOn stop xs text p zs longer r
-runs_step stop xs text p ys zs more longer q r c on e h l s =
-    runs_part stop xs text p ys (c ∷ []) zs more longer q r on e (run_more stop c [] h) l s
+  pub runs_step : {c : ℕ} {zs longer : List ℕ} {r : ℕ} → ys ≡ c ∷ zs → stop c ≡ false
+      → longer ≡ more ++ c ∷ [] → r ≡ q + 1 → RunsOn stop xs text p zs longer r
+  runs_step {c} {zs} e h l s = runs_part (c ∷ []) zs e (run_more stop c [] h) l s

@@ -1,8 +1,8 @@
 -- What a text gives.
-use Rattle.std.proofs.Common.{◌≡◌, ℕ, List, true, false, Option, None, Some, Ok, Err, refl, sym, subst}
+use Rattle.std.proofs.Common.{◌≡◌, ℕ, List, true, false, Option, Some, Ok, Err, refl, rules}
 use Rattle.std.specs.Str.{is_utf8}
 use Rattle.plist_base.specs.declared.error.ErrorKind.{ErrorKind}
-use Rattle.plist_base.specs.Faults.{FaultKind, InvalidUtf8AsciiStream, kind_of}
+use Rattle.plist_base.specs.Faults.{InvalidUtf8AsciiStream, kind_of}
 use Rattle.plist_base.specs.Events.{PlainEvent, Single}
 use Rattle.plist_base.specs.Trees.{Scalar}
 use Rattle.std.specs.Prelude.{ℤ}
@@ -11,15 +11,12 @@ use Rattle.plist_ascii.specs.Kinds.{IsFaultOfBytes, IsTextEvent}
 
 pub text_gives : (xs : List ℕ) (e : Scalar) (f : PlainEvent) → is_utf8 xs ≡ true → f ≡ Single e
     → IsTextEvent (Single e) → (utf8_or_fault xs e ≡ Ok (Some f)) × IsTextEvent f
-text_gives xs e f t h is =
-    (rw (t, h) refl, let P : PlainEvent → Type 0 = λ event. IsTextEvent event in subst P (sym h) is)
+text_gives xs e f t h is = rw (t, h) (refl, is)
 
 pub number_is_text : (text : List ℕ) (o : Option ℤ) → IsTextEvent (Single (number_or_text text o))
-number_is_text text None = tt
-number_is_text text (Some number) = tt
+number_is_text text o = search rules
 
 pub text_fails : (xs : List ℕ) (e : Scalar) (k : ErrorKind) → is_utf8 xs ≡ false
     → kind_of k ≡ InvalidUtf8AsciiStream → (utf8_or_fault xs e ≡ Err (kind_of k))
     × IsFaultOfBytes (kind_of k)
-text_fails xs e k t h =
-    (rw (t, h) refl, let P : FaultKind → Type 0 = λ kind. IsFaultOfBytes kind in subst P (sym h) tt)
+text_fails xs e k t h = rw (t, h) (refl, tt)

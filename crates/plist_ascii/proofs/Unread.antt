@@ -1,19 +1,18 @@
 -- What looking at a byte and taking it do to the bytes that are left.
-use Rattle.std.proofs.Common.{◌≡◌, ℕ, zero, suc, ◌+◌, ◌-◌, ◌^◌, ◌<◌, ◌≤◌, Bool, true, false, List, [], ◌∷◌, ◌++◌, length, take, drop, Option, None, Some, refl, sym, ap, ◌∙◌, arith}
+use Rattle.std.proofs.Common.{◌≡◌, ℕ, suc, ◌+◌, ◌-◌, ◌^◌, ◌<◌, ◌≤◌, Bool, true, false, List, [], ◌∷◌, ◌++◌, length, take, drop, Option, None, Some, refl, sym, ap, ◌∙◌, rules, arith}
 use Rattle.std.specs.Prelude.{is_some, IfSome}
 use Rattle.std.specs.Option.{option_map}
 use Rattle.std.specs.Io.KnownBytes.{Consumes}
 use Rattle.std.proofs.lemmas.List.{length-take-le}
-use Rattle.std.proofs.Math.Seq.{take-append-add}
+use Rattle.std.proofs.Math.Seq.{take-append-add, take-nil}
 use Rattle.plist_ascii.specs.Incoming.{GivesByte}
 use Rattle.plist_ascii.specs.Taken.{run}
-use Rattle.plist_ascii.specs.Unread.{unread_of, first, within, TakesPart}
+use Rattle.plist_ascii.specs.Unread.{unread_of, first, within, Known, Takes, TakesPart}
 
 pub ended_unread : (k : Option (List ℕ)) (e : Bool) (p : Option ℕ) (t : ℕ) (xs : List ℕ) → e ≡ true
     → unread_of k e p t ≡ Some xs → xs ≡ []
 unfolding unread_of
-ended_unread k true p t xs e h = cc
-ended_unread k false p t xs e h = cc
+ended_unread k e p t xs h g = let none = rw h at g in cc
 
 pub full_unread : (k : Option (List ℕ)) (e : Bool) (p : Option ℕ) (t : ℕ) (xs : List ℕ)
     → t ≡ 2 ^ 64 - 1 → unread_of k e p t ≡ Some xs → xs ≡ []
@@ -22,22 +21,16 @@ full_unread k true p t xs e h = cc
 full_unread None false p t xs e h = cc
 full_unread (Some a) false p t xs e h = let r : within p t a ≡ [] = rw e refl in cc
 
-take_nil : (n : ℕ) → take n (let xs : List ℕ = [] in xs) ≡ []
-take_nil zero = refl
-take_nil (suc n) = refl
-
-left_suc : (t : ℕ) → t < 2 ^ 64 - 1 → 2 ^ 64 - 1 - t ≡ suc (2 ^ 64 - 1 - (t + 1))
-left_suc t h = omega arith
-
 pub held_unread : (k : Option (List ℕ)) (c t : ℕ) (xs : List ℕ) → t < 2 ^ 64 - 1
     → unread_of k false (Some c) t ≡ Some xs
     → (ys : List ℕ) × (xs ≡ c ∷ ys) × (unread_of k false None (t + 1) ≡ Some ys)
 unfolding unread_of
 held_unread None c t xs l h = cc
 held_unread (Some a) c t xs l h =
-    let e : within (Some c) t a ≡ c ∷ within None (t + 1) a = rw (left_suc t l) refl in
+    let left : 2 ^ 64 - 1 - t ≡ suc (2 ^ 64 - 1 - (t + 1)) = omega arith in
+    let e : within (Some c) t a ≡ c ∷ within None (t + 1) a = rw left refl in
     let same : within (Some c) t a ≡ xs = cc in
-    (within None (t + 1) a, sym same ∙ e, refl)
+    (within None _ a, sym same ∙ e, refl)
 
 pub end_unread : (k now : Option (List ℕ)) (t : ℕ) (xs : List ℕ) → GivesByte k None now
     → unread_of k false None t ≡ Some xs → xs ≡ []
@@ -46,7 +39,7 @@ end_unread None now t xs h e = cc
 end_unread (Some a) None t xs h e = absurd h.0
 end_unread (Some a) (Some b) t xs h e =
     let none : a ≡ [] = h.0 ∙ h.1 in
-    let cut : within None t a ≡ [] = rw none (take_nil (2 ^ 64 - 1 - t)) in
+    let cut : within None t a ≡ [] = rw none (take-nil _) in
     cc
 
 pub one_unread : (k now : Option (List ℕ)) (c t : ℕ) (xs : List ℕ) → GivesByte k (Some c) now
@@ -61,45 +54,34 @@ one_unread (Some a) (Some b) c t xs h g = rw (← h) g
 abbrev pub Looks : Option (List ℕ) → Option ℕ → List ℕ → Type 0
 Looks now o xs = (now ≡ Some xs) × (o ≡ first xs)
 
-none_looks : (now : Option (List ℕ)) (xs : List ℕ) → xs ≡ [] → now ≡ Some xs → Looks now None xs
-none_looks now [] e h = (h, refl)
-none_looks now (c ∷ xs) e h = cc
-
-pub ended_looks : (k : Option (List ℕ)) (e : Bool) (p : Option ℕ) (t : ℕ) (xs : List ℕ) → e ≡ true
-    → unread_of k e p t ≡ Some xs → Looks (unread_of k e p t) None xs
-ended_looks k e p t xs h g = none_looks _ xs (ended_unread k e p t xs h g) g
-
-pub full_looks : (k : Option (List ℕ)) (e : Bool) (p : Option ℕ) (t : ℕ) (xs : List ℕ)
-    → t ≡ 2 ^ 64 - 1 → unread_of k e p t ≡ Some xs → Looks (unread_of k e p t) None xs
-full_looks k e p t xs h g = none_looks _ xs (full_unread k e p t xs h g) g
-
-pub held_looks : (k : Option (List ℕ)) (e : Bool) (p : Option ℕ) (c t : ℕ) (xs : List ℕ) → e ≡ false
-    → p ≡ Some c → t < 2 ^ 64 - 1 → unread_of k e p t ≡ Some xs
-    → Looks (unread_of k e p t) (Some c) xs
-held_looks k e p c t xs h q l g =
-    let known : unread_of k false (Some c) t ≡ Some xs = rw (← h, ← q) g in
-    let split = held_unread k c t xs l known in
-    (g, sym (ap first split.1))
+pub none_looks : (now : Option (List ℕ)) (xs : List ℕ) → xs ≡ [] → now ≡ Some xs → Looks now None xs
+none_looks now xs e h = (h, rw e refl)
 
 pub nothing_unread : (k : Option (List ℕ)) (p : Option ℕ) (t : ℕ) → unread_of k true p t ≡ Some []
 unfolding unread_of
 nothing_unread k p t = refl
 
-pub end_looks : (k now : Option (List ℕ)) (e : Bool) (p : Option ℕ) (t : ℕ) (xs : List ℕ)
-    → e ≡ false → p ≡ None → GivesByte k None now
-    → unread_of k e p t ≡ Some xs → Looks (unread_of now true p t) None xs
-end_looks k now e p t xs h q r g =
-    let known : unread_of k false None t ≡ Some xs = rw (← h, ← q) g in
-    let none : xs ≡ [] = end_unread k now t xs r known in
-    none_looks _ xs none (nothing_unread now p t ∙ ap Some (sym none))
+module _ (k : Option (List ℕ)) (e : Bool) (p : Option ℕ) (t : ℕ) (xs : List ℕ) (h : e ≡ false)
+    (g : unread_of k e p t ≡ Some xs) where
+  pub held_looks : (c : ℕ) → p ≡ Some c → t < 2 ^ 64 - 1 → Looks (unread_of k e p t) (Some c) xs
+  held_looks c q l =
+      let known : unread_of k false (Some c) t ≡ Some xs = rw (← h, ← q) g in
+      (g, sym (ap first (held_unread k c t xs l known).1))
+
+  pub end_looks : (now : Option (List ℕ)) → p ≡ None → GivesByte k None now
+      → Looks (unread_of now true p t) None xs
+  end_looks now q r =
+      let known : unread_of k false None t ≡ Some xs = rw (← h, ← q) g in
+      let none : xs ≡ [] = end_unread k _ t xs r known in
+      none_looks _ xs none (nothing_unread _ p t ∙ ap Some (sym none))
 
 pub one_looks : (k now : Option (List ℕ)) (e : Bool) (p : Option ℕ) (c t : ℕ) (xs : List ℕ)
     → e ≡ false → p ≡ None → t < 2 ^ 64 - 1 → GivesByte k (Some c) now
     → unread_of k e p t ≡ Some xs → Looks (unread_of now e (Some c) t) (Some c) xs
 one_looks k now e p c t xs h q room r g =
     let known : unread_of k false None t ≡ Some xs = rw (← h, ← q) g in
-    let read : unread_of now false (Some c) t ≡ Some xs = one_unread k now c t xs r known in
-    held_looks now e (Some c) c t xs h refl room (rw h read)
+    let read : unread_of now false (Some c) t ≡ Some xs = one_unread k _ c t xs r known in
+    held_looks _ e _ t xs h (rw h read) c refl room
 
 pub taken_next : (k : Option (List ℕ)) (e : Bool) (p : Option ℕ) (t : ℕ) (xs : List ℕ) → e ≡ false
     → is_some p ≡ true → t < 2 ^ 64 - 1 → unread_of k e p t ≡ Some xs
@@ -114,23 +96,26 @@ taken_next k e (Some c) t xs h q l g =
 
 pub first_splits : (o : Option ℕ) (b : ℕ) (xs : List ℕ) → o ≡ Some b → o ≡ first xs
     → xs ≡ b ∷ drop 1 xs
-first_splits o b [] e h = cc
-first_splits o b (c ∷ xs) e h = cc
-
-pub run_none : (stop : ℕ → Bool) (o : Option ℕ) (xs : List ℕ) → o ≡ None → o ≡ first xs
-    → run stop xs ≡ 0
-run_none stop o [] e h = refl
-run_none stop o (c ∷ xs) e h = cc
-
-pub run_stop : (stop : ℕ → Bool) (o : Option ℕ) (b : ℕ) (xs : List ℕ) → o ≡ Some b → o ≡ first xs
-    → stop b ≡ true → run stop xs ≡ 0
-run_stop stop o b [] e h t = refl
-run_stop stop o b (c ∷ xs) e h t =
-    let same : b ≡ c = cc in let stops : stop c ≡ true = rw (← same) t in rw stops refl
+first_splits o b xs e h = search rules
 
 pub first_none : (o : Option ℕ) (xs : List ℕ) → o ≡ None → o ≡ first xs → xs ≡ []
 first_none o [] e h = refl
 first_none o (c ∷ xs) e h = cc
+
+-- a byte that was looked at is taken
+pub takes_looked : (old mid new : Option (List ℕ)) (o : Option ℕ) (b : ℕ) → o ≡ Some b
+    → Known old (λ xs. (mid ≡ Some xs) × (o ≡ first xs))
+    → Known mid (λ xs. new ≡ Some (drop 1 xs)) → Takes old b new
+takes_looked old mid new o b is looked taken =
+    λ xs e. let h = looked xs e in (_, first_splits _ _ xs is h.1, taken xs h.0)
+
+pub run_none : (stop : ℕ → Bool) (o : Option ℕ) (xs : List ℕ) → o ≡ None → o ≡ first xs
+    → run stop xs ≡ 0
+run_none stop o xs e h = rw (first_none o xs e h) refl
+
+pub run_stop : (stop : ℕ → Bool) (o : Option ℕ) (b : ℕ) (xs : List ℕ) → o ≡ Some b → o ≡ first xs
+    → stop b ≡ true → run stop xs ≡ 0
+run_stop stop o b xs e h t = rw (first_splits o b xs e h, t) refl
 
 -- several bytes at once
 
@@ -143,9 +128,9 @@ known_behind (Some a) None t n part xs l room c g = absurd c
 known_behind (Some a) (Some b) t n part xs l room c g =
     let left : 2 ^ 64 - 1 - t ≡ length part + (2 ^ 64 - 1 - (t + n)) = omega (arith, l, room) in
     let e : within None t a ≡ part
-    ++ within None (t + n) b = rw c (rw left (take-append-add part b (2 ^ 64 - 1 - (t + n)))) in
+    ++ within None (t + n) b = rw c (rw left (take-append-add _ b _)) in
     let same : within None t a ≡ xs = cc in
-    (within None (t + n) b, sym same ∙ e, refl)
+    (within None _ b, sym same ∙ e, refl)
 
 pub part_unread : (k now : Option (List ℕ)) (e : Bool) (p : Option ℕ) (t n : ℕ) (part xs : List ℕ)
     → e ≡ false → is_some p ≡ false → length part ≡ n → t + n ≤ 2 ^ 64 - 1 → Consumes k now part
@@ -153,7 +138,7 @@ pub part_unread : (k now : Option (List ℕ)) (e : Bool) (p : Option ℕ) (t n :
     × (unread_of now e p (t + n) ≡ Some ys)
 part_unread k now e (Some b) t n part xs h q l room c g = cc
 part_unread k now true None t n part xs h q l room c g = cc
-part_unread k now false None t n part xs h q l room c g = known_behind k now t n part xs l room c g
+part_unread k now false None t n part xs h q l room c g = known_behind k _ t n _ xs l room c g
 
 -- bytes at hand were taken, and stand behind the text
 pub part_taken : (stop : ℕ → Bool) (hand : List ℕ) (k now : Option (List ℕ)) (e : Bool)
@@ -162,9 +147,9 @@ pub part_taken : (stop : ℕ → Bool) (hand : List ℕ) (k now : Option (List �
     → Consumes k now (take n hand) → longer ≡ text ++ take n hand → unread_of k e p t ≡ Some xs
     → TakesPart stop t text (unread_of now e p (t + n)) (t + n) longer xs
 part_taken stop hand k now e p t n text longer xs h q most room runs c is g =
-    let len : length (take n hand) ≡ n = length-take-le n hand most in
-    let left = part_unread k now e p t n (take n hand) xs h q len room c g in
-    (take n hand, left.0, left.1, runs ∙ sym len, is, left.2, omega (arith, len))
+    let len : length (take n hand) ≡ n = length-take-le n _ most in
+    let left = part_unread k _ e p t n _ xs h q len room c g in
+    (take n _, left.0, left.1, runs ∙ sym len, is, left.2, omega (arith, len))
 
 -- what a reader has before its first byte
 pub new_unread : {R : Type 0} (known : R → Option (List ℕ)) (r inner : R) (e : Bool) (p : Option ℕ)
@@ -177,6 +162,4 @@ new_unread known r inner e p t i n z g = rw (i, n, z, g) refl
 pub going_unread : (k : Option (List ℕ)) (e : Bool) (p : Option ℕ) (t : ℕ) → (e ≡ true → ⊥)
     → IfSome k (λ xs. unread_of k e p t ≡ Some (within p t xs))
 unfolding unread_of
-going_unread k true p t h = absurd (h refl)
-going_unread None false p t h = tt
-going_unread (Some xs) false p t h = refl
+going_unread k e p t h = search rules

@@ -48,8 +48,8 @@ encoded n h big =
     let z : count_leading_zeros 64 n + suc t.0 ≡ 64 = t.1 in
     let lo : 2 ^ t.0 ≤ n = t.2 in
     let hi : n < 2 ^ suc t.0 = t.3 in
-    let near : t.0 ≤ 52 = not_far n t.0 big lo in
-    let q : 2 ^ t.0 * 2 ^ (52 - t.0) ≡ 2 ^ 52 = powers t.0 (52 - t.0) (omega arith) in
+    let near : t.0 ≤ 52 = not_far n _ big lo in
+    let q : 2 ^ t.0 * 2 ^ (52 - t.0) ≡ 2 ^ 52 = powers _ _ (omega arith) in
     let none : eqb n 0 ≡ false = grind (arith, nat_tests) in
     let a : 1085 - count_leading_zeros 64 n ≡ 1022 + t.0 = omega arith in
     let b : count_leading_zeros 64 n - 11 ≡ 52 - t.0 = omega arith in
@@ -57,8 +57,8 @@ encoded n h big =
       j = t.0;
       small = near;
       zeros = omega arith;
-      low = scaled_low n t.0 (2 ^ (52 - t.0)) lo q;
-      high = scaled_high n t.0 (2 ^ (52 - t.0)) hi (one-le-pow (52 - t.0) 2 (omega arith)) q;
+      low = scaled_low n _ _ lo q;
+      high = scaled_high n _ _ hi (one-le-pow _ 2 (omega arith)) q;
       is = rw (none, a, b) refl;
     }
 
@@ -67,7 +67,7 @@ whole_parts : (n j : ℕ) → j ≤ 52 → parts_of (n * 2 ^ (52 - j)) (1023 + j
 unfolding parts_of parts_in_second
 whole_parts n j near =
     let s : (52 - j) + (1023 + j) ≡ 1075 = omega arith in
-    let p : 2 ^ (52 - j) * 2 ^ (1023 + j) ≡ 2 ^ 1075 = sym (pow-add 2 (52 - j) (1023 + j))
+    let p : 2 ^ (52 - j) * 2 ^ (1023 + j) ≡ 2 ^ 1075 = sym (pow-add 2 _ _)
     ∙ ap (λ k. 2 ^ k) s in
     let a : n * 2 ^ (52 - j) * 2 ^ (1023 + j) ≡ n * (2 ^ (52 - j) * 2 ^ (1023 + j)) = omega arith in
     a ∙ ap (λ k. n * k) p
@@ -99,7 +99,7 @@ module _ (n s : ℕ) (k : Encoded n) (bits : ℕ) (sign : s ≤ 1)
   scale_is = let x = exponent_is in omega arith
 
   parts_are : parts_of (real_mantissa bits) (real_scale bits) ≡ n * parts_in_second
-  parts_are = rw (mantissa_is, scale_is) (whole_parts n k.j k.small)
+  parts_are = rw (mantissa_is, scale_is) (whole_parts n _ k.small)
 
   whole_is : whole_seconds (real_mantissa bits) (real_scale bits) ≡ n
   unfolding whole_seconds
@@ -107,7 +107,7 @@ module _ (n s : ℕ) (k : Encoded n) (bits : ℕ) (sign : s ≤ 1)
 
   left_is : parts_left (real_mantissa bits) (real_scale bits) ≡ 0
   unfolding parts_left
-  left_is = ap (λ p. p % parts_in_second) parts_are ∙ mul-mod_left n parts_in_second
+  left_is = ap (λ p. p % parts_in_second) parts_are ∙ mul-mod_left n _
 
   pub second_is : second_of_bits bits ≡ if_second_of_date (rounded_down (is_negative bits) n 0)
   unfolding second_of_bits real_second
@@ -159,15 +159,15 @@ written_pos zero h = zero_written
 written_pos (suc n) h =
     let small : suc n < 2 ^ 53 = grind (arith, nat_tests) in
     let k = encoded (suc n) (omega arith) small in
-    let low = whole_small (suc n) k in
+    let low = whole_small _ k in
     let bits = whole_bits (suc n) in
     let plus : is_negative bits ≡ false = grind (arith, nat_tests) in
     record {
       ranged = h;
       is = refl;
-      back = second_is (suc n) 0 k bits (omega arith) (omega arith) ∙ rw (plus, h) refl;
+      back = second_is _ 0 k bits (omega arith) (omega arith) ∙ rw (plus, h) refl;
       whole = no_fraction (suc n) 0 k bits (omega arith) (omega arith);
-      exact = rw plus (ap pos (parts_are (suc n) 0 k bits (omega arith) (omega arith)));
+      exact = rw plus (ap pos (parts_are _ 0 k _ (omega arith) (omega arith)));
     }
 
 written_neg : (n : ℕ) → is_second_of_date (negsuc n) ≡ true
@@ -181,10 +181,10 @@ written_neg n h =
     record {
       ranged = h;
       is = rw add-one refl;
-      back = second_is (suc n) 1 k bits (omega arith) (omega arith) ∙ rw (minus, h) refl;
-      whole = no_fraction (suc n) 1 k bits (omega arith) (omega arith);
+      back = second_is _ 1 k bits (omega arith) (omega arith) ∙ rw (minus, h) refl;
+      whole = no_fraction _ 1 k _ (omega arith) (omega arith);
       exact = rw minus (ap (λ p. neg_ℤ (pos p))
-          (parts_are (suc n) 1 k bits (omega arith) (omega arith)));
+          (parts_are _ 1 k _ (omega arith) (omega arith)));
     }
 
 tested : (b : Bool) (z y : ℤ) → ◌≡◌ {A = Option ℤ} (Some y) (cond b (Some z) None) → b ≡ true
@@ -195,11 +195,11 @@ pub below_zero : (z y : ℤ) (b : ℕ) → Some y ≡ if_second_of_date z → lt
     → b ≡ whole_bits (unsigned_abs z) → AreWritten z (2 ^ 63 + b)
 below_zero (pos n) y b h lt e = absurd (grind (arith, ints))
 below_zero (negsuc n) y b h lt e =
-    rw e (written_neg n (tested (is_second_of_date (negsuc n)) (negsuc n) y h))
+    rw e (written_neg n (tested _ _ y h))
 
 pub from_zero : (z y : ℤ) (b : ℕ) → Some y ≡ if_second_of_date z → lt_z z (pos 0) ≡ false
     → b ≡ whole_bits (unsigned_abs z) → AreWritten z b
-from_zero (pos n) y b h le e = rw e (written_pos n (tested (is_second_of_date (pos n)) (pos n) y h))
+from_zero (pos n) y b h le e = rw e (written_pos n (tested _ _ y h))
 from_zero (negsuc n) y b h le e = absurd (cc)
 
 plain_low : (b : ℕ) → b < 2 ^ 63 → eqb b (2 ^ 63) ≡ false

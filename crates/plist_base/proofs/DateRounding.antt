@@ -5,7 +5,7 @@ use Rattle.std.proofs.Math.Nat.{div-add-mod, mod-lt, one-le-pow, mul-le-mul_righ
 use Rattle.std.specs.Int.Signed.{le_z}
 use Rattle.std.proofs.lemmas.Bool.Decides.{nat_tests}
 use Rattle.std.proofs.lemmas.Int.{ints}
-use Rattle.plist_base.specs.Date.{IsSecondOf, real_exponent, real_mantissa, real_scale, real_parts, parts_in_second, parts_of, whole_seconds, parts_left, real_second, rounded_down, is_negative, is_second_of_date, if_second_of_date, IsSecondOfDate, second_of_bits, date_if, is_no_number}
+use Rattle.plist_base.specs.Date.{IsSecondOf, real_exponent, real_mantissa, real_scale, real_parts, parts_in_second, parts_of, whole_seconds, parts_left, real_second, rounded_down, is_second_of_date, if_second_of_date, IsSecondOfDate, second_of_bits, date_if, is_no_number}
 
 -- d parts make a second
 abbrev Bounds : ℤ → ℤ → ℕ → Type 0
@@ -31,7 +31,7 @@ neg_times zero d = let z : 0 * d ≡ 0 = omega arith in rw z refl
 neg_times (suc w) d = refl
 
 bounds_pos : (w l d v : ℕ) → d * w + l ≡ v → l < d → Bounds (pos w) (pos v) d
-bounds_pos w l d v e h = (le_pos (w * d) v (omega arith), lt_pos v ((w + 1) * d) (omega arith))
+bounds_pos w l d v e h = (le_pos _ v (omega arith), lt_pos v _ (omega arith))
 
 -- where parts are left
 bounds_up : (w l d v : ℕ) → d * w + l ≡ v → 0 < l → l < d
@@ -61,7 +61,7 @@ bounds true w zero d v e h =
 bounds true w (suc l) d v e h =
     let next : w + 1 ≡ suc w = omega arith in let some : eqb (suc l) 0
     ≡ false = grind (arith, nat_tests) in rw (some, next)
-    (bounds_up w (suc l) d v e (omega arith) h)
+    (bounds_up w _ d v e (omega arith) h)
 
 second_pos : 0 < parts_in_second
 unfolding parts_in_second
@@ -71,15 +71,15 @@ pub second_is_greatest : (bits : ℕ) → IsSecondOf (real_second bits) bits
 unfolding real_second real_parts whole_seconds parts_left
 second_is_greatest bits =
     let v : ℕ = parts_of (real_mantissa bits) (real_scale bits) in
-    bounds (is_negative bits) (v / parts_in_second) (v % parts_in_second) parts_in_second v
-    (div-add-mod v parts_in_second) (mod-lt v second_pos)
+    bounds _ (v / parts_in_second) (v % parts_in_second) parts_in_second v
+    (div-add-mod v _) (mod-lt v second_pos)
 
 -- ---- a date's second
 
 pub second_kept : (b : Bool) (y z : ℤ) → cond b None (if_second_of_date y) ≡ Some z → (y ≡ z)
     × (is_second_of_date z ≡ true)
 second_kept true y z e = absurd (cc)
-second_kept false y z e = second_in_range (is_second_of_date y) y z refl e
+second_kept false y z e = second_in_range _ y z refl e
   where
     second_in_range : (b : Bool) (y z : ℤ) → is_second_of_date y ≡ b
         → cond (is_second_of_date y) (Some y) None ≡ Some z → (y ≡ z) × (is_second_of_date z ≡ true)
@@ -108,7 +108,7 @@ pub second_facts : (bits : ℕ) (z : ℤ) → second_of_bits bits ≡ Some z →
 unfolding second_of_bits
 second_facts bits z e =
     let kept = second_kept (eqb (real_exponent bits) 2047) (real_second bits) z e in
-    (subst (λ s. IsSecondOf s bits) kept.0 (second_is_greatest bits), in_bounds z kept.1)
+    (subst (λ s. IsSecondOf s bits) kept.0 (second_is_greatest _), in_bounds z kept.1)
 
 -- a date has a second
 pub date_has_second : (second : Option ℤ) (bs : List ℕ) → date_if second bs ≡ Some bs
@@ -120,22 +120,22 @@ date_has_second (Some s) bs e none = absurd (cc)
 
 times_le : (a b : ℤ) (d : ℕ) → a ≤ℤ b → (a *ℤ pos d) ≤ℤ (b *ℤ pos d)
 times_le (pos a) (pos b) d h =
-    let le : a ≤ b = omega (arith, ints) in le_pos (a * d) (b * d) (mul-le-mul_right d le)
+    let le : a ≤ b = omega (arith, ints) in le_pos _ _ (mul-le-mul_right d le)
 times_le (pos a) (negsuc b) d h = absurd (omega (arith, ints))
-times_le (negsuc a) (pos b) d h = neg_le_pos (suc a * d) (b * d)
+times_le (negsuc a) (pos b) d h = neg_le_pos _ _
   where
     neg_le_pos : (a b : ℕ) → neg_ℤ (pos a) ≤ℤ pos b
     neg_le_pos a b = omega (arith, ints)
 times_le (negsuc a) (negsuc b) d h =
-    let le : suc b ≤ suc a = omega (arith, ints) in le_neg (suc a * d) (suc b * d)
+    let le : suc b ≤ suc a = omega (arith, ints) in le_neg _ _
     (mul-le-mul_right d le)
 
 below_next : (s t v : ℤ) (d : ℕ) → (s *ℤ pos d) ≤ℤ v → v <ℤ ((t +ℤ pos 1) *ℤ pos d) → s ≤ℤ t
 below_next s t v d le lt =
     elim (at_most s t) [
       | inl h ↦ h
-      | inr h ↦ absurd (no_cycle (s *ℤ pos d) v ((t +ℤ pos 1) *ℤ pos d) le lt
-          (times_le (t +ℤ pos 1) s d h))
+      | inr h ↦ absurd (no_cycle _ v _ le lt
+          (times_le _ s d h))
     ]
   where
     by_test : (b : Bool) (s t : ℤ) → le_z s t ≡ b → (s ≤ℤ t) ⊎ ((t +ℤ pos 1) ≤ℤ s)
@@ -150,8 +150,8 @@ below_next s t v d le lt =
 
 second_is_unique : (bits : ℕ) (s t : ℤ) → IsSecondOf s bits → IsSecondOf t bits → s ≡ t
 second_is_unique bits s t h k =
-    let a : s ≤ℤ t = below_next s t (real_parts bits) parts_in_second h.0 k.1 in
-    let b : t ≤ℤ s = below_next t s (real_parts bits) parts_in_second k.0 h.1 in
+    let a : s ≤ℤ t = below_next s t (real_parts _) parts_in_second h.0 k.1 in
+    let b : t ≤ℤ s = below_next t s (real_parts _) parts_in_second k.0 h.1 in
     omega (arith, ints)
 
 -- a real that is refused, though it is a number, has no second in the range of dates
@@ -159,9 +159,9 @@ pub no_second : (bits : ℕ) → second_of_bits bits ≡ None → is_no_number b
     → IsSecondOf second bits → IsSecondOfDate second → ⊥
 unfolding second_of_bits
 no_second bits e number second is within =
-    let same : real_second bits ≡ second = second_is_unique bits (real_second bits) second
-    (second_is_greatest bits) is in
-    out_of_bounds second (none_out (is_no_number bits) (real_second bits) second number same e)
+    let same : real_second bits ≡ second = second_is_unique _ _ _
+    (second_is_greatest _) is in
+    out_of_bounds second (none_out (is_no_number _) (real_second _) second number same e)
     within
   where
     by_range : (b : Bool) (y : ℤ) → is_second_of_date y ≡ b

@@ -9,7 +9,7 @@ use Rattle.plist_base.specs.Date.{real_exponent, real_mantissa, real_scale, part
 split : (e : ℕ) → e < 1075 → parts_in_second ≡ 2 ^ (1075 - e) * 2 ^ e
 unfolding parts_in_second
 split e h = let s : 1075 ≡ (1075 - e) + e =
-    omega arith in ap (λ k. 2 ^ k) s ∙ pow-add 2 (1075 - e) e
+    omega arith in ap (λ k. 2 ^ k) s ∙ pow-add 2 _ e
 
 -- a quotient and its remainder, where both numbers have a factor
 factored : (m q c : ℕ) → 0 < q → 0 < c → (m * c / (q * c) ≡ m / q) × (m * c % (q * c) ≡ m % q * c)
@@ -19,8 +19,8 @@ factored m q c hq hc =
     let up : suc (m % q) * c ≤ q * c = mul-le-mul_right c lt in
     let small : m % q * c < q * c = omega arith in
     let e : m * c ≡ (m / q) * (q * c) + m % q * c = sym (ap (λ k. k * c) d) ∙ omega arith in (
-      ap (λ k. k / (q * c)) e ∙ div-mul-add (m / q) (q * c) (m % q * c) small,
-      ap (λ k. k % (q * c)) e ∙ mod-mul-add (m / q) (q * c) (m % q * c) small,
+      ap (λ k. k / (q * c)) e ∙ div-mul-add _ _ _ small,
+      ap (λ k. k % (q * c)) e ∙ mod-mul-add _ _ _ small,
     )
 
 pub power_pos : (k : ℕ) → 0 < 2 ^ k
@@ -29,12 +29,12 @@ power_pos k = let p : 1 ≤ 2 ^ k = one-le-pow k 2 (omega arith) in omega arith
 pub whole_shifted : (m e : ℕ) → e < 1075 → whole_seconds m e ≡ m / 2 ^ (1075 - e)
 unfolding whole_seconds parts_of
 whole_shifted m e h =
-    rw (split e h) ((factored m (2 ^ (1075 - e)) (2 ^ e) (power_pos (1075 - e)) (power_pos e)).0)
+    rw (split e h) ((factored m _ _ (power_pos _) (power_pos e)).0)
 
 left_scaled : (m e : ℕ) → e < 1075 → parts_left m e ≡ m % 2 ^ (1075 - e) * 2 ^ e
 unfolding parts_left parts_of
 left_scaled m e h =
-    rw (split e h) ((factored m (2 ^ (1075 - e)) (2 ^ e) (power_pos (1075 - e)) (power_pos e)).1)
+    rw (split e h) ((factored m _ _ (power_pos _) (power_pos e)).1)
 
 zero_scaled : (a c : ℕ) → 0 < c → eqb (a * c) 0 ≡ eqb a 0
 zero_scaled zero c h = let z : 0 * c ≡ 0 = omega arith in rw z refl
@@ -45,31 +45,31 @@ zero_scaled (suc a) c h =
 
 -- whether anything is left does not depend on the scale
 pub left_shifted : (m e : ℕ) → e < 1075 → eqb (parts_left m e) 0 ≡ eqb (m % 2 ^ (1075 - e)) 0
-left_shifted m e h = rw (left_scaled m e h) (zero_scaled (m % 2 ^ (1075 - e)) (2 ^ e) (power_pos e))
+left_shifted m e h = rw (left_scaled m e h) (zero_scaled _ _ (power_pos e))
 
 multiple : (m c d power : ℕ) → 0 < d → power ≡ c * d → m * power % d ≡ 0
 multiple m c d power h is =
     let e : m * (c * d) ≡ m * c * d + 0 = grind arith in
-    rw is (ap (λ k. k % d) e ∙ mod-mul-add (m * c) d 0 h)
+    rw is (ap (λ k. k % d) e ∙ mod-mul-add _ d 0 h)
 
 -- a value of 2 ^ 52 seconds or more is a whole number of them
 left_far : (m e : ℕ) → 1075 ≤ e → parts_left m e ≡ 0
 unfolding parts_left parts_of parts_in_second
 left_far m e h =
     let s : e ≡ (e - 1075) + 1075 = omega arith in
-    multiple m (2 ^ (e - 1075)) (2 ^ 1075) (2 ^ e) (power_pos 1075)
-    (ap (λ k. 2 ^ k) s ∙ pow-add 2 (e - 1075) 1075)
+    multiple m (2 ^ (e - 1075)) _ _ (power_pos 1075)
+    (ap (λ k. 2 ^ k) s ∙ pow-add 2 _ _)
 
 above : (m k : ℕ) → m < 2 ^ 53 → 53 ≤ k → m < 2 ^ k
 above m k h big = let p : 2 ^ 53 ≤ 2 ^ k = pow-le-pow_right {n = 2} (omega arith) big in omega arith
 
 -- a shift past all bits
 pub whole_none : (m e : ℕ) → m < 2 ^ 53 → e < 1075 → 64 ≤ 1075 - e → whole_seconds m e ≡ 0
-whole_none m e h lt far = whole_shifted m e lt ∙ div-eq_of_lt (above m (1075 - e) h (omega arith))
+whole_none m e h lt far = whole_shifted m e lt ∙ div-eq_of_lt (above m _ h (omega arith))
 
 pub left_all : (m e : ℕ) → m < 2 ^ 53 → e < 1075 → 64 ≤ 1075 - e → eqb (parts_left m e) 0 ≡ eqb m 0
 left_all m e h lt far =
-    left_shifted m e lt ∙ ap (λ k. eqb k 0) (mod-eq_of_lt (above m (1075 - e) h (omega arith)))
+    left_shifted m e lt ∙ ap (λ k. eqb k 0) (mod-eq_of_lt (above m _ h (omega arith)))
 
 far_pos : (w : ℕ) → 2 ^ 52 ≤ w → is_second_of_date (pos w) ≡ false
 far_pos w h = grind (arith, nat_tests)
@@ -81,7 +81,7 @@ far_neg (suc w) h = grind (arith, nat_tests)
 far_second : (negative : Bool) (w left : ℕ) → 2 ^ 52 ≤ w
     → is_second_of_date (rounded_down negative w left) ≡ false
 far_second false w left h = far_pos w h
-far_second true w left h = far_up (eqb left 0) w h
+far_second true w left h = far_up _ w h
   where
     far_up : (b : Bool) (w : ℕ) → 2 ^ 52 ≤ w
         → is_second_of_date (neg_ℤ (pos (cond b w (w + 1)))) ≡ false
@@ -93,7 +93,7 @@ whole_far : (m e : ℕ) → 2 ^ 52 ≤ m → 1075 ≤ e → 2 ^ 52 ≤ whole_sec
 unfolding whole_seconds parts_of parts_in_second
 whole_far m e h big =
     let p : 2 ^ 1075 ≤ 2 ^ e = pow-le-pow_right {n = 2} (omega arith) big in
-    far_quotient m (2 ^ e) (2 ^ 1075) h (power_pos 1075) p
+    far_quotient m _ _ h (power_pos 1075) p
   where
     far_quotient : (m c d : ℕ) → 2 ^ 52 ≤ m → 0 < d → d ≤ c → 2 ^ 52 ≤ m * c / d
     far_quotient m c d h hd le =
@@ -112,7 +112,7 @@ scale_far bits h = omega arith
 
 pub fraction_far : (bits : ℕ) → 1075 ≤ real_exponent bits → false ≡ has_fraction bits
 unfolding has_fraction
-fraction_far bits h = rw (left_far (real_mantissa bits) (real_scale bits) (scale_far bits h)) refl
+fraction_far bits h = rw (left_far (real_mantissa _) (real_scale _) (scale_far _ h)) refl
 
 pub fraction_is : (bits m e : ℕ) (is_left : Bool) → m ≡ real_mantissa bits → e ≡ real_scale bits
     → is_left ≡ not (eqb (parts_left m e) 0) → is_left ≡ has_fraction bits
@@ -128,10 +128,10 @@ pub second_far : (bits : ℕ) → 1075 ≤ real_exponent bits
     → ◌≡◌ {A = Option ℤ} None (second_of_bits bits)
 unfolding second_of_bits real_second
 second_far bits h =
-    sym (none_of (eqb (real_exponent bits) 2047) (real_second bits)
-    (far_second (is_negative bits) (whole_seconds (real_mantissa bits) (real_scale bits))
-    (parts_left (real_mantissa bits) (real_scale bits))
-    (whole_far (real_mantissa bits) (real_scale bits) (mantissa_far bits h) (scale_far bits h))))
+    sym (none_of (eqb (real_exponent _) 2047) (real_second bits)
+    (far_second (is_negative _) (whole_seconds _ _)
+    (parts_left _ _)
+    (whole_far _ _ (mantissa_far _ h) (scale_far _ h))))
 
 second_near : (bits : ℕ) → real_exponent bits < 1075
     → if_second_of_date (rounded_down (is_negative bits)
@@ -145,7 +145,7 @@ pub whole_small : (m e : ℕ) → m < 2 ^ 53 → e < 1075 → m / 2 ^ (1075 - e)
 whole_small m e h lt =
     let near : 1 ≤ 1075 - e = omega arith in
     let p : 2 ^ 1 ≤ 2 ^ (1075 - e) = pow-le-pow_right {n = 2} (omega arith) near in
-    let q : 2 * 2 ^ 52 ≤ 2 ^ (1075 - e) * 2 ^ 52 = mul-le-mul_right (2 ^ 52) p in
+    let q : 2 * 2 ^ 52 ≤ 2 ^ (1075 - e) * 2 ^ 52 = mul-le-mul_right _ p in
     (div-lt_iff_lt-mul {k = 2 ^ (1075 - e)} {x = m} {y = 2 ^ 52} (omega arith)).1 (omega arith)
 
 pub left_masked : (m k : ℕ) → k < 64 → m % (1 * 2 ^ k % 18446744073709551616) ≡ m % 2 ^ k
@@ -162,4 +162,4 @@ scale_is bits e is = omega arith
 pub second_is : (bits m e w : ℕ) → m ≡ real_mantissa bits → e ≡ real_scale bits
     → w ≡ whole_seconds m e → real_exponent bits < 1075
     → if_second_of_date (rounded_down (is_negative bits) w (parts_left m e)) ≡ second_of_bits bits
-second_is bits m e w is_m is_e is_w lt = rw (is_w, is_m, is_e) (second_near bits lt)
+second_is bits m e w is_m is_e is_w lt = rw (is_w, is_m, is_e) (second_near _ lt)

@@ -24,10 +24,10 @@ value_suc e fraction =
 
 value_low : (e fraction : ℕ) → 2 ^ 53 * 2 ^ e ≤ value (suc e) fraction
 value_low e fraction =
-    let p : 2 ^ 52 * 2 ^ suc e ≤ (2 ^ 52 + fraction) * 2 ^ suc e = mul-le-mul_right (2 ^ suc e)
+    let p : 2 ^ 52 * 2 ^ suc e ≤ (2 ^ 52 + fraction) * 2 ^ suc e = mul-le-mul_right _
     (omega arith) in
     let q : 2 ^ 53 * 2 ^ e ≡ 2 ^ 52 * 2 ^ suc e = omega arith in
-    rw (value_suc e fraction, q) p
+    rw (value_suc e _, q) p
 
 value_high : (e fraction : ℕ) → fraction < 2 ^ 52 → value e fraction < 2 ^ 53 * 2 ^ e
 value_high zero fraction small = omega arith
@@ -47,15 +47,15 @@ value_grows e (suc d) fraction other small less =
     let high = value_high e fraction small in
     let low = value_low d other in
     let powers : 2 ^ e ≤ 2 ^ d = pow-le-pow_right {n = 2} (omega arith) (omega arith) in
-    let between : 2 ^ e * 2 ^ 53 ≤ 2 ^ d * 2 ^ 53 = mul-le-mul_right (2 ^ 53) powers in
+    let between : 2 ^ e * 2 ^ 53 ≤ 2 ^ d * 2 ^ 53 = mul-le-mul_right _ powers in
     omega arith
 
 value_fraction : (e fraction other : ℕ) → value e fraction ≡ value e other → fraction ≡ other
 value_fraction zero fraction other same = omega arith
 value_fraction (suc e) fraction other same =
     let scaled : (2 ^ 52 + fraction) * 2 ^ suc e
-    ≡ (2 ^ 52 + other) * 2 ^ suc e = sym (value_suc e fraction) ∙ same ∙ value_suc e other in
-    let sums = eq_of_mul-eq-mul_right (2 ^ suc e) (power_pos (suc e)) (2 ^ 52 + fraction)
+    ≡ (2 ^ 52 + other) * 2 ^ suc e = sym (value_suc e _) ∙ same ∙ value_suc e other in
+    let sums = eq_of_mul-eq-mul_right _ (power_pos (suc e)) (2 ^ 52 + fraction)
     (2 ^ 52 + other) scaled in
     omega arith
 
@@ -68,7 +68,7 @@ value_once e d fraction other f o same =
           elim (cases_lt d e) [
             | inl less ↦ (let grows = value_grows d e other fraction o less in absurd (omega arith))
             | inr least ↦ (let is : e ≡ d = omega arith in
-                (is, value_fraction d fraction other (ap (λ k. value k fraction) (sym is) ∙ same)))
+                (is, value_fraction d _ _ (ap (λ k. value k fraction) (sym is) ∙ same)))
           ]
     ]
 
@@ -115,7 +115,7 @@ negative_zero : (a : ℕ) → a < 2 ^ 64 → is_negative a ≡ true
     → value (real_exponent a) (a % 2 ^ 52) ≡ 0 → eqb a (2 ^ 63) ≡ true
 negative_zero a small negative none =
     let once = value_once (real_exponent a) 0 (a % 2 ^ 52) 0 (omega arith) (omega arith) none in
-    let is : a ≡ 2 ^ 63 = bits_same a (2 ^ 63) small (omega arith) negative (once.0 ∙ zero_exponent)
+    let is : a ≡ 2 ^ 63 = bits_same a _ small (omega arith) negative (once.0 ∙ zero_exponent)
     (once.1) in
     rw is refl
 
@@ -139,27 +139,27 @@ module _ (a b : ℕ) (small_a : a < 2 ^ 64) (small_b : b < 2 ^ 64) (plain_a : eq
   same_sign true true is_c is_d same = refl
   same_sign false false is_c is_d same = refl
   same_sign true false is_c is_d same =
-      absurd (not_zero a small_a plain_a is_c (neg_pos (parts a) (parts b) same))
+      absurd (not_zero a small_a plain_a is_c (neg_pos _ (parts b) same))
   same_sign false true is_c is_d same =
-      absurd (not_zero b small_b plain_b is_d (neg_pos (parts b) (parts a) (sym same)))
+      absurd (not_zero b small_b plain_b is_d (neg_pos _ (parts a) (sym same)))
 
   same_parts : (c d : Bool) → c ≡ d → signed c (parts a) ≡ signed d (parts b) → parts a ≡ parts b
-  same_parts true true is same = neg_once (parts a) (parts b) same
-  same_parts false false is same = pos_once (parts a) (parts b) same
+  same_parts true true is same = neg_once _ _ same
+  same_parts false false is same = pos_once _ _ same
   same_parts true false is same = absurd (cc)
   same_parts false true is same = absurd (cc)
 
   one_real : signed (is_negative a) (parts a) ≡ signed (is_negative b) (parts b) → a ≡ b
   one_real same =
-      let sign = same_sign (is_negative a) (is_negative b) refl refl same in
-      let once = value_once (real_exponent a) (real_exponent b) (a % 2 ^ 52) (b % 2 ^ 52)
+      let sign = same_sign (is_negative a) _ refl refl same in
+      let once = value_once _ (real_exponent b) _ _
       (omega arith) (omega arith) (same_parts (is_negative a) (is_negative b) sign same) in
       bits_same a b small_a small_b sign once.0 once.1
 
 real_is : (bits : ℕ) → real_parts bits
     ≡ signed (is_negative bits) (value (real_exponent bits) (bits % 2 ^ 52))
 unfolding real_parts
-real_is bits = ap (signed (is_negative bits)) (parts_value bits)
+real_is bits = ap (signed _) (parts_value _)
 
 -- ---- a whole second
 
@@ -175,7 +175,7 @@ whole_value bits second whole is =
     let all : parts ≡ parts / parts_in_second * parts_in_second = omega arith in
     let kept = second_kept (eqb (real_exponent bits) 2047) (real_second bits) second is in
     ap (signed (is_negative bits)) all
-    ∙ times (is_negative bits) (parts / parts_in_second) parts_in_second
+    ∙ times _ (parts / parts_in_second) _
     ∙ ap (λ left. rounded_down (is_negative bits) (parts / parts_in_second) left *ℤ pos
     parts_in_second) (sym none)
     ∙ ap (λ (s : ℤ). s *ℤ pos parts_in_second) kept.0
@@ -219,11 +219,11 @@ pub one_date : (second : ℤ) (date other : List ℕ) → IsDate date → IsDate
     → second_of_bytes other ≡ Some second → other ≡ date
 one_date second date other is_date is_other whole whole_other is second_other =
     let same : real_parts (real_bits other) ≡ real_parts (real_bits date) =
-    whole_value (real_bits other) second whole_other second_other
-    ∙ sym (whole_value (real_bits date) second whole is) in
+    whole_value _ second whole_other second_other
+    ∙ sym (whole_value _ _ whole is) in
     let bits : real_bits other ≡ real_bits date =
-    one_real (real_bits other) (real_bits date) (bits_small other is_other.0)
+    one_real _ _ (bits_small other is_other.0)
     (bits_small date is_date.0) (no_signed_zero other is_other) (no_signed_zero date is_date)
-    (sym (real_is (real_bits other)) ∙ same ∙ real_is (real_bits date)) in
-    sym (be_bytes_8 other (real_bits other) is_other.0.0 is_other.0.1 refl)
-    ∙ ap (to_be_bytes w64) bits ∙ be_bytes_8 date (real_bits date) is_date.0.0 is_date.0.1 refl
+    (sym (real_is _) ∙ same ∙ real_is _) in
+    sym (be_bytes_8 _ _ is_other.0.0 is_other.0.1 refl)
+    ∙ ap (to_be_bytes w64) bits ∙ be_bytes_8 _ _ is_date.0.0 is_date.0.1 refl

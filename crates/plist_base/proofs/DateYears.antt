@@ -12,20 +12,20 @@ back_to_unix second = omega (arith, ints)
 pub unix_year : (date : List ℕ) (second : ℤ) → second_of_bytes date ≡ Some (second -ℤ plist_epoch)
     → HasTextYear date → HasFourDigitYear second
 unix_year date second is year =
-    subst HasFourDigitYear (back_to_unix second) (year (second -ℤ plist_epoch) is)
+    subst HasFourDigitYear (back_to_unix _) (year _ is)
 
 pub text_year : (date : List ℕ) (second : ℤ) → second_of_bytes date ≡ Some (second -ℤ plist_epoch)
     → HasFourDigitYear second → HasTextYear date
 text_year date second is year other is_other =
     let same : second -ℤ plist_epoch ≡ other = cc in
-    subst HasFourDigitYear (sym (back_to_unix second) ∙ ap (λ s. s +ℤ plist_epoch) same) year
+    subst HasFourDigitYear (sym (back_to_unix _) ∙ ap (λ s. s +ℤ plist_epoch) same) year
 
 -- what is a text of the date is one of its Unix second
 pub text_at : (date text : List ℕ) (second : ℤ)
     → second_of_bytes date ≡ Some (second -ℤ plist_epoch) → IsDateText date text
     → IsTextOfSecond second text
 text_at date text second is text_of =
-    subst (λ s. IsTextOfSecond s text) (back_to_unix second) (text_of.2 (second -ℤ plist_epoch) is)
+    subst (λ s. IsTextOfSecond s text) (back_to_unix _) (text_of.2 _ is)
 
 -- what is a text of the Unix second, in UTC, is one of a whole date there
 pub text_in_utc : (date text : List ℕ) (second : ℤ) → IsDate date → IsWhole date
@@ -49,7 +49,7 @@ pub record Printed (date text : List ℕ) : Type 0 where
   pub within : IsSecondOfDate at
 
 pub printed : (date text : List ℕ) → IsDateText date text → Printed date text
-printed date text is = by_second (second_of_bytes date) refl
+printed date text is = by_second _ refl
   where
     by_second : (second : Option ℤ) → second_of_bytes date ≡ second → Printed date text
     by_second None none = absurd (date_has_second (second_of_bytes date) date is.0.1 none)

@@ -12,12 +12,12 @@ pub fill_more : (xs buf part : List ℕ) (place at c k : ℕ) → at ≤ length 
     → take at buf ≡ take at (drop place xs) → take c part ≡ take c (drop (place + at) xs)
     → take (at + c) (put_mid at k buf part) ≡ take (at + c) (drop place xs)
 fill_more xs buf part place at c k h g front new =
-    take_seam (take at buf) (part ++ post_of at k buf) at c (length-take-le at buf h)
-    ∙ ap (λ z. take at buf ++ z) (take-append-le c part (post_of at k buf) g)
+    take_seam _ (part ++ post_of at k _) at c (length-take-le at _ h)
+    ∙ ap (λ z. take at buf ++ z) (take-append-le c _ _ g)
     ∙ ap (λ z. take at buf ++ z) new
     ∙ ap (λ z. z ++ take c (drop (place + at) xs)) front
-    ∙ ap (λ z. take at (drop place xs) ++ take c z) (sym (drop-drop at place xs))
-    ∙ sym (take-add at c (drop place xs))
+    ∙ ap (λ z. take at (drop place xs) ++ take c z) (sym (drop-drop at _ xs))
+    ∙ sym (take-add at c _)
 
 -- the same, where the bytes may not be known
 pub fill_more_known : (now start : Option (List ℕ)) (buf part : List ℕ) (place at c k : ℕ)
@@ -27,5 +27,5 @@ pub fill_more_known : (now start : Option (List ℕ)) (buf part : List ℕ) (pla
     → IfSome start (λ xs. take (at + c) (put_mid at k buf part) ≡ take (at + c) (drop place xs))
 fill_more_known now None buf part place at c k e h g front new = tt
 fill_more_known now (Some xs) buf part place at c k e h g front new =
-    let given : GivesAt xs (place + at) c part = rw e at new in fill_more xs buf part place at c k h
+    let given : GivesAt xs (place + at) c part = rw e at new in fill_more xs _ _ _ at c k h
     g front given.0

@@ -16,7 +16,7 @@ pub Appends-part : (a b c : Option (List ℕ)) (bytes : List ℕ) (done count : 
     → Appends a b (take done bytes) → Appends b c (take count (drop done bytes))
     → Appends a c (take (done + count) bytes)
 Appends-part a b c bytes done count h g =
-    Appends-at a c _ _ (sym (take-add done count bytes)) (Appends-trans a b c _ _ h g)
+    Appends-at a c _ _ (sym (take-add _ _ _)) (Appends-trans a b c _ _ h g)
 
 -- a write that failed
 pub front_kept : (a b c : Option (List ℕ)) (bytes : List ℕ) (done : ℕ)
@@ -44,4 +44,4 @@ front_none a b c bytes done h none = (
 pub front_whole : (a b c : Option (List ℕ)) (bytes : List ℕ) → Appends a b bytes → Keeps b c
     → AppendsFront a c bytes
 front_whole a b c bytes h kept =
-    (bytes, [], Appends-kept a b c bytes h kept, sym (append-nil bytes))
+    (bytes, [], Appends-kept a b c _ h kept, sym (append-nil _))

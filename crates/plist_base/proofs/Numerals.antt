@@ -14,19 +14,19 @@ use Rattle.plist_base.specs.IntegerText.{is_numeral, unsigned_of_text, signed_of
 all_digits : (radix : ℕ) (ds : List ℕ) → AllDigits radix ds
     → list_all (λ c. is_digit c radix) ds ≡ true
 all_digits radix [] h = refl
-all_digits radix (c ∷ cs) h = and_from _ _ (lt-ltb _ _ h.0) (all_digits radix cs h.1)
+all_digits radix (c ∷ cs) h = and_from _ _ (lt-ltb _ _ h.0) (all_digits _ cs h.1)
 
 digits_all : (radix : ℕ) (ds : List ℕ) → list_all (λ c. is_digit c radix) ds ≡ true
     → AllDigits radix ds
 digits_all radix [] h = tt
 digits_all radix (c ∷ cs) h =
-    let s = and_parts (is_digit c radix) _ h in (ltb-true _ _ s.0, digits_all radix cs s.1)
+    let s = and_parts (is_digit c _) _ h in (ltb-true _ _ s.0, digits_all _ cs s.1)
 
 pub numeral_true : (radix : ℕ) (ds : List ℕ) → IsNumeral radix ds → is_numeral radix ds ≡ true
-numeral_true radix ds h = and_from _ _ (lt-ltb _ _ h.0) (all_digits radix ds h.1)
+numeral_true radix ds h = and_from _ _ (lt-ltb _ _ h.0) (all_digits _ ds h.1)
 
 pub numeral_from : (radix : ℕ) (ds : List ℕ) → is_numeral radix ds ≡ true → IsNumeral radix ds
-numeral_from radix ds h = let s = and_parts _ _ h in (ltb-true _ _ s.0, digits_all radix ds s.1)
+numeral_from radix ds h = let s = and_parts _ _ h in (ltb-true _ _ s.0, digits_all _ ds s.1)
 
 decide : {A : Type 0} (b : Bool) (x : A) → (b ≡ true → ⊥) → None ≡ cond b (Some x) None
 decide true x h = absurd (h refl)
@@ -48,7 +48,7 @@ pub unsigned_err : (radix : ℕ) (text : List ℕ)
     → None ≡ unsigned_of_text radix text
 unsigned_err radix text h =
     decide _ _ (λ t. let s = and_parts _ _ t in h
-    (numeral_from radix (without_leading_plus text) s.0, ltb-true _ _ s.1))
+    (numeral_from _ _ s.0, ltb-true _ _ s.1))
 
 fits_true : (z : ℤ) → FitsSigned w64 z → fits_signed z ≡ true
 fits_true (pos n) h = let l : n < 2 ^ 63 = grind (arith, ints) in lt-ltb _ _ l
@@ -70,11 +70,11 @@ pub signed_err : (text : List ℕ)
     → None ≡ signed_of_text text
 signed_err text h =
     decide _ _ (λ t. let s = and_parts _ _ t in h
-    (numeral_from 10 (without_leading_sign text) s.0, fits_from _ s.1))
+    (numeral_from 10 _ s.0, fits_from _ s.1))
 
 pub signed_back : (x z : ℤ) (text : List ℕ) → x ≡ to_z w64 (of_z w64 z)
     → FitsSigned w64 (signed_digits_value 10 text) → z ≡ signed_digits_value 10 text → x ≡ z
-signed_back x z text e f h = let g : FitsSigned w64 z = rw h f in e ∙ to_z-of_z w64 z g
+signed_back x z text e f h = let g : FitsSigned w64 z = rw h f in e ∙ to_z-of_z _ z g
 
 -- prefixes
 
@@ -95,21 +95,21 @@ unprefixed [] h = refl
 unprefixed (a ∷ []) h = refl
 unprefixed (a ∷ b ∷ rest) h =
     false_from_ne_true _ (λ t. let s = and_parts _ _ t in h rest
-    (cons_same a b rest (eq_from a 48 s.0) (eq_from b 120 s.1)))
+    (cons_same a b _ (eq_from a 48 s.0) (eq_from b _ s.1)))
 
 pub integer_plain : (text : List ℕ) → ((rest : List ℕ) → text ≡ 48 ∷ 120 ∷ rest → ⊥)
     → integer_of_text text ≡ or_else (signed_of_text text) (unsigned_of_text 10 text)
 unfolding integer_of_text
-integer_plain text h = rw (unprefixed text h) refl
+integer_plain text h = rw (unprefixed _ h) refl
 
 pub integer_signed : (text : List ℕ) (o : Option ℤ) (z : ℤ)
     → ((rest : List ℕ) → text ≡ 48 ∷ 120 ∷ rest → ⊥) → o ≡ signed_of_text text → o ≡ Some z
     → Some z ≡ integer_of_text text
 integer_signed text o z h e i =
-    sym (integer_plain text h ∙ ap (λ o. or_else o (unsigned_of_text 10 text)) (sym e ∙ i))
+    sym (integer_plain _ h ∙ ap (λ o. or_else o (unsigned_of_text 10 text)) (sym e ∙ i))
 
 pub integer_unsigned : (text : List ℕ) (o r : Option ℤ)
     → ((rest : List ℕ) → text ≡ 48 ∷ 120 ∷ rest → ⊥) → o ≡ signed_of_text text → o ≡ None
     → r ≡ unsigned_of_text 10 text → r ≡ integer_of_text text
 integer_unsigned text o r h e i u =
-    u ∙ sym (integer_plain text h ∙ ap (λ o. or_else o (unsigned_of_text 10 text)) (sym e ∙ i))
+    u ∙ sym (integer_plain _ h ∙ ap (λ o. or_else o (unsigned_of_text 10 text)) (sym e ∙ i))

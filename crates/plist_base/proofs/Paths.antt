@@ -10,7 +10,7 @@ pub none_equal : (i : ℕ) (xs : List ℕ) → list_any (nat_eq i) xs ≡ false
     → AllByRecursion (λ y. nat_eq i y ≡ false) xs
 none_equal i [] h = tt
 none_equal i (x ∷ xs) h =
-    let k = or_parts (nat_eq i x) (list_any (nat_eq i) xs) h in (k.0, none_equal i xs k.1)
+    let k = or_parts _ _ h in (k.0, none_equal i xs k.1)
 
 pub any_none : (i : ℕ) (xs : List ℕ) → AllByRecursion (λ y. nat_eq i y ≡ false) xs
     → list_any (nat_eq i) xs ≡ false
@@ -50,7 +50,7 @@ path_pop i path o = record {
 
 -- no more are open than there are
 pub path_room : {count : ℕ} {path : List ℕ} → IsPath count path → length path ≤ count
-path_room {count} {path} o = length-le_from_distinct_below path count o.distinct o.below
+path_room {count} {path} o = length-le_from_distinct_below _ _ o.distinct o.below
 
 -- there is room for an object that isn't open
 pub path_rises : {count : ℕ} {path : List ℕ} (i : ℕ) → IsPath count path → i < count

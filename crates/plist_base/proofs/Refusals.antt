@@ -25,4 +25,4 @@ MatchFault-from_io kind A B C h a =
     MatchFault-weaker kind (λ _. a) (λ none. absurd none) (λ none. absurd none) h
 
 pub IsFromOutside-from_io : (kind : FaultKind) → IsIo kind → IsFromOutside kind
-IsFromOutside-from_io kind h = MatchFault-from_io kind ⊤ ⊤ ⊥ h tt
+IsFromOutside-from_io kind h = MatchFault-from_io _ ⊤ ⊤ ⊥ h tt

@@ -51,10 +51,10 @@ fn further_window(place: u64) -> usize
 /// A source over a reader that can seek, such as a file. Its bytes aren't known, since others may
 /// change them.
 ///
-/// It keeps windows of 8 KiB, which it lends, so that small reads near one another, in several parts
-/// of a file in turn, cost one read of `R`: eight of them, and up to 128 further ones for what is
-/// wanted again where it is given an allocator. A read or seek that answers `Interrupted` is a
-/// failure, too.
+/// It keeps windows of 8 KiB, which it lends, so that small reads near one another, in several
+/// parts of a file in turn, cost one read of `R`: eight of them, and up to 128 further ones for
+/// what is wanted again where it is given an allocator. A read or seek that answers `Interrupted`
+/// is a failure, too.
 #[derive(Drop)]
 pub struct Seeking<R> {
     inner: R,
@@ -159,9 +159,9 @@ impl<R: Read + Seek> Seeking<R> {
         Seeking::with_memory(inner, None)
     }
 
-    /// The same, but what is wanted again, once its window serves another part, is kept in up to 128
-    /// further windows, for which it asks the allocator as it needs them. Where that is refused, the
-    /// first windows serve alone.
+    /// The same, but what is wanted again, once its window serves another part, is kept in up to
+    /// 128 further windows, for which it asks the allocator as it needs them. Where that is
+    /// refused, the first windows serve alone.
     pub fn with_windows(alloc: Global, inner: R) -> Self
         ensures inner { inner_of result ≡ inner }
         ensures failures { failures_of result ≡ 0 }

@@ -5,9 +5,8 @@ use Rattle.std.specs.List.{slice_get}
 use Rattle.std.proofs.lemmas.Bool.{cases_lt}
 use Rattle.std.proofs.Math.ListN.{length-replicate}
 use Rattle.plist_base.specs.declared.error.Error.{Error}
-use Rattle.plist_base.specs.declared.event.Event.{Event}
 use Rattle.plist_base.specs.Faults.{Fault, OutOfMemory, MatchFault, fault_nowhere, kind_of, error_kind_of, fault_of}
-use Rattle.plist_base.specs.Events.{Item, event_of}
+use Rattle.plist_base.specs.Events.{PlainEvent, Item}
 use Rattle.plist_base.proofs.Refusals.{MatchFault-at, MatchFault-weaker}
 use Rattle.plist_binread.specs.declared.frames.Frame.{Frame}
 use Rattle.plist_binread.specs.declared.table.Table.{Table}
@@ -15,7 +14,9 @@ use Rattle.plist_binread.specs.Container.{Head, head_of}
 use Rattle.plist_binread.specs.Object.{Object}
 use Rattle.plist_binread.specs.Unfolding.{table_of, items_of, unfolding_of, until_fault, items_with, items_of_file}
 use Rattle.plist_binread.specs.declared.table.Bounds.{Bounds}
-use Rattle.plist_binread.specs.Debt.{path_of, owed_by, entries_of, places_with, places_of, IsHeld, IsKnown, IsOwed, WantsMemory, Pays}
+use Rattle.plist_binread.specs.Debt.{path_of, owed_by, entries_of, places_with, places_of, IsHeld, IsKnown, IsOwed, WantsMemory}
+use Rattle.plist_binread.specs.Beginning.{RefusesFirst}
+use Rattle.plist_binread.specs.Lent.{PaysAnswer}
 use Rattle.plist_binread.specs.inner.Tables.{head_seen}
 use Rattle.plist_binread.proofs.Steps.{slice_get-within, slice_get-beyond, items_beyond, items_step, owed_at}
 use Rattle.plist_binread.proofs.Opened.{get_or-zeros}
@@ -89,25 +90,23 @@ module _ (bytes : List ℕ) (table : Table) (bounds : Bounds)
           rw (zeros, get_or-zeros n number, there, is) refl
 
 -- the answer to the first call
-abbrev pub Begins : List ℕ → Result Event Error → List Item → Type 0
-Begins bytes answer after = MatchResult answer
-    (λ event. items_of_file bytes ≡ Ok (event_of event) ∷ until_fault after)
-    (λ e. MatchFault (kind_of (error_kind_of e)) (IsOwed (items_of_file bytes))
-    (IsOwed (items_of_file bytes)) (items_of_file bytes ≡ Err (fault_of e) ∷ []))
+abbrev pub Begins : List ℕ → Result (Unit {0}) Error → PlainEvent → List Item → Type 0
+Begins bytes answer told after = MatchResult answer
+    (λ _. items_of_file bytes ≡ Ok told ∷ until_fault after) (RefusesFirst bytes)
 
-pub known_unread : (known : Option (List ℕ)) (e : Error) (after : List ℕ → List Item)
+pub known_unread : (known : Option (List ℕ)) (e : Error)
     → IfSome known (λ bytes. MatchFault (kind_of (error_kind_of e)) ⊤ ⊤
-    (head_of bytes ≡ Err (fault_of e))) → IfSome known (λ bytes. Begins bytes (Err e) (after bytes))
-known_unread None e after refused = tt
-known_unread (Some bytes) e after refused =
+    (head_of bytes ≡ Err (fault_of e))) → IfSome known (λ bytes. RefusesFirst bytes e)
+known_unread None e refused = tt
+known_unread (Some bytes) e refused =
     MatchFault-weaker (kind_of (error_kind_of e)) (λ _. owed_file bytes) (λ _. owed_file bytes)
     (λ is. file_refused bytes (fault_of e) is) refused
 
-begins_with : (bytes : List ℕ) (before after : List Item) (answer : Result Event Error)
-    → items_of_file bytes ≡ until_fault before → Pays before answer after
-    → Begins bytes answer after
-begins_with bytes before after (Ok event) is pays = is ∙ pays
-begins_with bytes before after (Err e) is pays =
+begins_with : (bytes : List ℕ) (before after : List Item) (answer : Result (Unit {0}) Error)
+    (told : PlainEvent) → items_of_file bytes ≡ until_fault before
+    → PaysAnswer before answer told after → Begins bytes answer told after
+begins_with bytes before after (Ok _) told is pays = is ∙ pays
+begins_with bytes before after (Err e) told is pays =
     MatchFault-weaker (kind_of (error_kind_of e)) (λ owed. rw is owed)
     (λ wanted. rw is (owed_if_wanted (until_fault before) wanted)) (λ only. is ∙ only) pays
 
@@ -115,11 +114,10 @@ none : (fs : List Frame) → length fs ≡ 0 → fs ≡ []
 none [] h = refl
 none (f ∷ fs) h = absurd (omega arith)
 
-pub known_wanted : (known : Option (List ℕ)) (e : Error) (after : List ℕ → List Item)
-    → fault_of e ≡ fault_nowhere OutOfMemory
-    → IfSome known (λ bytes. Begins bytes (Err e) (after bytes))
-known_wanted None e after memory = tt
-known_wanted (Some bytes) e after memory =
+pub known_wanted : (known : Option (List ℕ)) (e : Error) → fault_of e ≡ fault_nowhere OutOfMemory
+    → IfSome known (λ bytes. RefusesFirst bytes e)
+known_wanted None e memory = tt
+known_wanted (Some bytes) e memory =
     MatchFault-at (kind_of (error_kind_of e)) OutOfMemory _ _ _ (ap (λ (f : Fault). f.kind) memory)
     (owed_file bytes)
 
@@ -137,21 +135,24 @@ known_opens (Some bytes) now table bounds tags n fs same value within trailer wi
     count within)
 
 pub known_begun : (known now : Option (List ℕ)) (table : Table) (bounds : Bounds) (tags : List ℕ)
-    (fs gs : List Frame) (answer : Result Event Error) → now ≡ known → length fs ≡ 0
+    (fs gs : List Frame) (answer : Result (Unit {0}) Error) (told : PlainEvent) → now ≡ known
+    → length fs ≡ 0
     → length tags ≡ length table.places.items → bounds.trailer ≡ table.trailer
     → bounds.reference_width ≡ table.reference_width
     → IfSome known (λ bytes. head_of bytes ≡ Ok (head_seen table))
-    → IfSome now (λ bytes. Pays (unfolding_of (entries_of bytes bounds) (length tags - length fs)
-    (path_of (reverse fs)) table.trailer table.root
-    ++ owed_by (entries_of bytes bounds) (reverse fs)) answer
+    → IfSome now (λ bytes. PaysAnswer (unfolding_of (entries_of bytes bounds)
+    (length tags - length fs) (path_of (reverse fs)) table.trailer table.root
+    ++ owed_by (entries_of bytes bounds) (reverse fs)) answer told
     (owed_by (entries_of bytes bounds) (reverse gs)))
-    → IfSome known (λ bytes. Begins bytes answer (owed_by (entries_of bytes bounds) (reverse gs)))
-known_begun None now table bounds tags fs gs answer same len count trailer width value pays = tt
-known_begun (Some bytes) now table bounds tags fs gs answer same len count trailer width value pays
-    =
+    → IfSome known (λ bytes. Begins bytes answer told
+    (owed_by (entries_of bytes bounds) (reverse gs)))
+known_begun None now table bounds tags fs gs answer told same len count trailer width value pays =
+    tt
+known_begun (Some bytes) now table bounds tags fs gs answer told same len count trailer width value
+    pays =
     let whole : length tags - 0 ≡ length table.places.items = omega arith in
     let pays' = rw (same, none fs len, whole) at pays in
-    begins_with bytes _ _ answer
+    begins_with bytes _ _ answer told
     (file_walked bytes table bounds value trailer width
     ∙ ap until_fault (sym (append-nil
     (unfolding_of (entries_of bytes bounds) (length table.places.items) [] table.trailer

@@ -1,23 +1,22 @@
 -- Entering an object that is lent.
-use Rattle.std.proofs.Common.{◌≡◌, ℕ, ◌-◌, ◌<◌, ◌≤◌, true, false, List, ◌++◌, length, take, drop, get_or, Option, None, Some, Result, Ok, Err, IfSome, OnOk, ap, sym, ◌∙◌}
+use Rattle.std.proofs.Common.{◌≡◌, ℕ, ◌-◌, ◌<◌, ◌≤◌, false, List, ◌++◌, length, take, drop, get_or, Option, None, Some, Result, Ok, IfSome, ap, sym, ◌∙◌}
 use Rattle.std.specs.List.{slice_get}
 use Rattle.std.proofs.lemmas.List.{length-drop, length-take-le}
+use Rattle.plist_base.specs.Events.{PlainEvent}
 use Rattle.plist_base.specs.declared.error.Error.{Error}
-use Rattle.plist_base.specs.declared.event.Event.{Event}
-use Rattle.plist_base.specs.Events.{PlainEvent, Item}
-use Rattle.plist_base.specs.Sources.{AnswersIo, ItemCountsIo}
-use Rattle.plist_binread.specs.Failures.{ErrWithin, ItemWithin}
+use Rattle.plist_binread.specs.Behind.{AsksAt, object_at}
 use Rattle.plist_binread.specs.declared.frames.Frame.{Frame}
 use Rattle.plist_binread.specs.declared.walk.Turn.TheVariants.{Child}
 use Rattle.plist_binread.specs.declared.lent.Lent.{Lent}
 use Rattle.plist_binread.specs.declared.table.Bounds.{Bounds}
-use Rattle.plist_binread.specs.Debt.{IsOpen, IsKnown, Pays, next_number, children_at, place_at, entries_of, owed_by, path_of}
-use Rattle.plist_binread.specs.Turning.{IsKept, IsKeptTold, ReadsChild}
-use Rattle.plist_binread.specs.Lent.{IsLentAs, IsToldAs, PaysTold, PaysNextTold, EntersChild}
+use Rattle.plist_binread.specs.Debt.{IsOpen, IsKnown, next_number, children_at, entries_of, owed_by, path_of}
+use Rattle.plist_binread.specs.Turning.{IsKeptTold}
+use Rattle.plist_binread.specs.Decoding.{IsDecodedAs}
+use Rattle.plist_binread.specs.Lent.{IsLentAs, PaysAnswer, PaysTold, EntersChild}
 use Rattle.plist_binread.specs.Object.{Object, object_in}
-use Rattle.plist_binread.specs.Packed.{is_small_event, is_marked, unmarked, cached, single}
+use Rattle.plist_binread.specs.Packed.{is_marked, unmarked, cached, single}
 use Rattle.plist_binread.specs.Unfolding.{Entry, unfolding_of}
-use Rattle.plist_binread.proofs.Known.{as_many, entry_of, entry_there, held_scalar, place_is}
+use Rattle.plist_binread.proofs.Known.{Entered, as_many, entry_of, entry_there, held_place, held_scalar, lent_as, place_is}
 use Rattle.plist_binread.proofs.KnownTurns.{Turned, child_is}
 use Rattle.plist_binread.proofs.Steps.{pays_scalar}
 
@@ -42,6 +41,12 @@ known_recalled (Some bytes) bounds tags contents fs n number told depth o k h fr
     number (entry_of bytes bounds number) depth o h
     (entry_there bytes bounds tags contents fs k number h) (sym (o.marks number h) ∙ free) told
     (ap single (held_scalar bytes bounds tags contents fs k number h some) ∙ is)
+
+-- wherever it is referred to from
+pub from_any : (known : Option (List ℕ)) (P : List ℕ → ℕ → Type 0) (at : ℕ)
+    → IfSome known (λ bytes. (at : ℕ) → P bytes at) → IfSome known (λ bytes. P bytes at)
+from_any None P at h = tt
+from_any (Some bytes) P at h = h at
 
 -- the object of a number is what is lent at its place
 abbrev pub LentAt : (bytes : List ℕ) (bounds : Bounds) (number : ℕ) → PlainEvent → Lent → Type 0
@@ -69,6 +74,22 @@ known_lent (Some bytes) bounds tags contents fs number place seen told lent k h 
           (← place_is bytes bounds tags contents fs k number place h is, cut.1) (means cut.0 room),
     )
 
+-- the same of what is decoded
+pub known_decoded : (known : Option (List ℕ)) (bounds : Bounds) (tags contents : List ℕ)
+    (fs : List Frame) (number place : ℕ) (told : PlainEvent) (lent : Lent)
+    → IfSome known (λ bytes. IsKnown bytes bounds tags contents fs) → number < length tags
+    → (unmarked (get_or tags number 0) ≡ 0) × (place ≡ get_or contents number 0)
+    → IfSome known (λ bytes. bounds.trailer ≤ length bytes
+    → IsDecodedAs (object_in bounds.reference_width (drop place (take bounds.trailer bytes)))
+    told lent)
+    → IfSome known (λ bytes. LentAt bytes bounds number told lent)
+known_decoded None bounds tags contents fs number place told lent k h is decoded = tt
+known_decoded (Some bytes) bounds tags contents fs number place told lent k h is decoded = (
+  entry_there bytes bounds tags contents fs k number h,
+  lent_as _ told lent
+      (rw (place_is bytes bounds tags contents fs k number place h is) at (decoded k.within)),
+)
+
 -- what holds of it holds then
 pub known_gains : (known : Option (List ℕ)) (bounds : Bounds) (tags contents : List ℕ)
     (fs : List Frame) (number : ℕ) (told : PlainEvent) (lent : Lent)
@@ -90,113 +111,39 @@ known_small (Some bytes) bounds number told lent X there kept = kept _ there.1
 
 -- ---- a child that is entered
 
-pub known_goes : (known : Option (List ℕ)) (bounds : Bounds) (tags contents new : List ℕ)
-    (fs after : List Frame) (n place index number : ℕ) (told : PlainEvent) → n ≡ length fs
+pub known_goes : (known now : Option (List ℕ)) (bounds : Bounds) (tags contents new : List ℕ)
+    (fs after : List Frame) (n place index number : ℕ) (answer : Result (Unit {0}) Error)
+    (told : PlainEvent) → now ≡ known → n ≡ length fs
     → IfSome known (λ bytes. IsKnown bytes bounds tags contents fs)
-    → IfSome known (λ bytes. bounds.trailer ≤ length bytes
-    → ReadsChild (object_in bounds.reference_width (drop place (take bounds.trailer bytes)))
-    index (Ok number))
-    → IfSome known (λ bytes. is_small_event told ≡ true → 0 < unmarked (get_or new number 0))
-    → IfSome known (λ bytes. EnteredTold bytes bounds tags n fs number told after)
-    → IfSome known (λ bytes. EntersChild (entries_of bytes bounds)
-    (object_in bounds.reference_width (drop place (take bounds.trailer bytes))) index
-    (length tags) fs told new after)
-known_goes None bounds tags contents new fs after n place index number told depth k reads kept
-    pays = tt
-known_goes (Some bytes) bounds tags contents new fs after n place index number told depth k reads
-    kept pays = (number, reads k.within, kept, rw depth at pays)
+    → AsksAt (Ok number) known bounds place index
+    → IfSome now (λ bytes. IsKeptTold (Some number) (Some answer) told new)
+    → IfSome now (λ bytes. Entered bytes bounds tags n fs place number answer told after)
+    → IfSome known (λ bytes. EntersChild (entries_of bytes bounds) (object_at bounds place bytes)
+    place index (length tags) fs answer told new after)
+known_goes None now bounds tags contents new fs after n place index number answer told same depth k
+    reads kept pays = tt
+known_goes (Some bytes) now bounds tags contents new fs after n place index number answer told same
+    depth k reads kept pays =
+    (number, reads k.within, rw same at kept, rw depth at (rw same at pays))
 
-pub known_child_told : (known : Option (List ℕ)) (bounds : Bounds) (tags contents new : List ℕ)
-    (fs gs after : List Frame) (object index : ℕ) (told : PlainEvent) → object < length tags
-    → unmarked (get_or tags object 0) ≡ 0
+pub known_child_goes : (known : Option (List ℕ)) (bounds : Bounds) (tags contents new : List ℕ)
+    (fs gs after : List Frame) (object index : ℕ) (answer : Result (Unit {0}) Error)
+    (told : PlainEvent) → object < length tags → unmarked (get_or tags object 0) ≡ 0
     → IfSome known (λ bytes. Turned bytes bounds tags contents fs (Child object index) gs)
     → IfSome known (λ bytes. EntersChild (entries_of bytes bounds)
-    (object_in bounds.reference_width
-    (drop (get_or contents object 0) (take bounds.trailer bytes))) index (length tags) gs told
-    new after)
-    → IfSome known (λ bytes. PaysTold (owed_by (entries_of bytes bounds) fs) told
-    (owed_by (entries_of bytes bounds) after))
-known_child_told None bounds tags contents new fs gs after object index told h none turned enters =
-    tt
-known_child_told (Some bytes) bounds tags contents new fs gs after object index told h none turned
-    enters =
-    let is : enters.0 ≡ get_or (children_at (slice_get (entries_of bytes bounds) object)) index 0 =
-    child_is bytes bounds tags contents fs gs object index h none turned (Ok enters.0)
-    (λ _. enters.1) in
-    rw (turned.0.0, as_many bytes bounds tags contents gs turned.1, ← is)
-    (enters.3 (place_at (slice_get (entries_of bytes bounds) object)))
-
-pub known_child_cached : (known : Option (List ℕ)) (bounds : Bounds) (tags contents new : List ℕ)
-    (fs gs after : List Frame) (object index : ℕ) (told : PlainEvent) → object < length tags
-    → unmarked (get_or tags object 0) ≡ 0
-    → IfSome known (λ bytes. Turned bytes bounds tags contents fs (Child object index) gs)
-    → IfSome known (λ bytes. EntersChild (entries_of bytes bounds)
-    (object_in bounds.reference_width
-    (drop (get_or contents object 0) (take bounds.trailer bytes))) index (length tags) gs told
-    new after)
-    → IfSome known (λ bytes. IsKeptTold (next_number (entries_of bytes bounds) fs)
-    (Some (Ok (tt {0}))) told new)
-known_child_cached None bounds tags contents new fs gs after object index told h none turned
+    (object_at bounds (get_or contents object 0) bytes) (get_or contents object 0) index
+    (length tags) gs answer told new after)
+    → IfSome known (λ bytes. PaysAnswer (owed_by (entries_of bytes bounds) fs) answer told
+    (owed_by (entries_of bytes bounds) after)
+    × IsKeptTold (next_number (entries_of bytes bounds) fs) (Some answer) told new)
+known_child_goes None bounds tags contents new fs gs after object index answer told h none turned
     enters = tt
-known_child_cached (Some bytes) bounds tags contents new fs gs after object index told h none turned
-    enters =
+known_child_goes (Some bytes) bounds tags contents new fs gs after object index answer told h none
+    turned enters =
     let is : enters.0 ≡ get_or (children_at (slice_get (entries_of bytes bounds) object)) index 0 =
     child_is bytes bounds tags contents fs gs object index h none turned (Ok enters.0)
     (λ _. enters.1) in
-    rw (turned.0.3, ← is) enters.2
-
--- ---- what a slow step gave
-
-pub told_pays : (known : Option (List ℕ)) (before after : List ℕ → List Item)
-    (answer : Result Event Error) (item : Option (Result (Unit {0}) Error)) (told : PlainEvent)
-    → IsToldAs answer item told → IfSome known (λ bytes. Pays (before bytes) answer (after bytes))
-    → IfSome known (λ bytes. PaysNextTold (before bytes) item told (after bytes))
-told_pays None before after answer item told is pays = tt
-told_pays (Some bytes) before after (Ok event) item told is pays = rw (is.0, is.1) pays
-told_pays (Some bytes) before after (Err e) item told is pays = rw is pays
-
-pub told_kept : (known : Option (List ℕ)) (number : List ℕ → Option ℕ) (tags : List ℕ)
-    (answer : Result Event Error) (item : Option (Result (Unit {0}) Error)) (told : PlainEvent)
-    → IsToldAs answer item told → IfSome known (λ bytes. IsKept (number bytes) (Some answer) tags)
-    → IfSome known (λ bytes. IsKeptTold (number bytes) item told tags)
-told_kept None number tags answer item told is kept = tt
-told_kept (Some bytes) number tags (Ok event) item told is kept =
-    rw is.0 (by_number (number bytes) kept)
-  where
-    by_number : (n : Option ℕ) → IsKept n (Some (Ok event)) tags
-        → IsKeptTold {A = Unit {0}} n (Some (Ok (tt {0}))) told tags
-    by_number None h = tt
-    by_number (Some n) h = rw is.1 h
-told_kept (Some bytes) number tags (Err e) item told is kept = rw is (by_number (number bytes))
-  where
-    by_number : (n : Option ℕ) → IsKeptTold {A = Unit {0}} n (Some (Err e)) told tags
-    by_number None = tt
-    by_number (Some n) = tt
-
-pub told_falls : (answer : Result Event Error) (item : Option (Result (Unit {0}) Error))
-    (told : PlainEvent) (X Y : Type 0) → IsToldAs answer item told → X → OnOk answer Y
-    → IfSome item (λ a. X × OnOk a Y)
-told_falls (Ok event) item told X Y is x y = rw is.0 (x, y)
-told_falls (Err e) item told X Y is x y = rw is (x, tt)
-
-pub told_within : (answer : Result Event Error) (item : Option (Result (Unit {0}) Error))
-    (told : PlainEvent) (a b : ℕ) → IsToldAs answer item told → ErrWithin a b answer
-    → ItemWithin a b item
-told_within (Ok event) item told a b is h = rw is.0 tt
-told_within (Err e) item told a b is h = rw is h
-
-pub told_counts : (answer : Result Event Error) (item : Option (Result (Unit {0}) Error))
-    (told : PlainEvent) (a b : ℕ) → IsToldAs answer item told → AnswersIo answer a b
-    → ItemCountsIo item a b
-told_counts (Ok event) item told a b is h = rw is.0 h
-told_counts (Err e) item told a b is h = rw is h
-
-pub known_fault_kept : (known : Option (List ℕ)) (number : List ℕ → Option ℕ) (tags : List ℕ)
-    (e : Error) (told : PlainEvent)
-    → IfSome known (λ bytes. IsKeptTold {A = Unit {0}} (number bytes) (Some (Err e)) told tags)
-known_fault_kept None number tags e told = tt
-known_fault_kept (Some bytes) number tags e told = by_number (number bytes)
-  where
-    by_number : (n : Option ℕ) → IsKeptTold {A = Unit {0}} n (Some (Err e)) told tags
-    by_number None = tt
-    by_number (Some n) = tt
+    let place = held_place bytes bounds tags contents gs turned.1 object h none in (
+      rw (turned.0.0, as_many bytes bounds tags contents gs turned.1, ← place, ← is) enters.3,
+      rw (turned.0.3, ← is) enters.2,
+    )

@@ -1,27 +1,26 @@
 -- What is known of the file's bytes, and how it changes.
-use Rattle.std.proofs.Common.{◌≡◌, ℕ, ◌-◌, ◌<◌, ◌≤◌, inl, inr, Bool, true, false, nat_eq, List, [], ◌∷◌, ◌++◌, length, take, drop, get_or, slice_set, Option, None, Some, Result, Ok, Err, IfSome, refl, ap, sym, ◌∙◌, arith}
+use Rattle.std.proofs.Common.{◌≡◌, ℕ, ◌-◌, ◌<◌, ◌≤◌, inl, inr, Bool, true, false, nat_eq, List, [], ◌∷◌, ◌++◌, length, take, drop, get_or, slice_set, Option, None, Some, Result, Err, IfSome, refl, ap, sym, ◌∙◌, arith}
 use Rattle.std.specs.Prelude.{⊤}
 use Rattle.std.specs.List.{slice_get}
 use Rattle.std.proofs.lemmas.Bool.Decides.{eqb_tells, nat_tests}
 use Rattle.std.proofs.lemmas.List.{get_or-set_same, get_or-set_other}
 use Rattle.plist_base.specs.declared.error.Error.{Error}
-use Rattle.plist_base.specs.declared.event.Event.{Event}
 use Rattle.plist_base.specs.Faults.{Fault, FaultKind, OutOfMemory, ObjectReferenceTooLarge, RecursiveObject, MatchFault, kind_of, error_kind_of, fault_of, fault_at, fault_nowhere}
-use Rattle.plist_base.specs.Events.{PlainEvent, Single, Item, event_of}
+use Rattle.plist_base.specs.Events.{PlainEvent, Single, Item}
 use Rattle.plist_base.specs.Trees.{Scalar}
 use Rattle.plist_base.proofs.Refusals.{MatchFault-at, MatchFault-weaker}
 use Rattle.plist_binread.specs.declared.frames.Frame.{Frame}
 use Rattle.plist_binread.specs.declared.lent.Lent.{Lent}
 use Rattle.plist_binread.specs.declared.lent.Lent.TheVariants.{Nothing, TooLarge, Null, Fill, Unknown, OutOfRange, NoDate, Scalar as ScalarLent, Collection}
-use Rattle.plist_binread.specs.Lent.{IsLentAs}
+use Rattle.plist_binread.specs.Lent.{IsLentAs, PaysAnswer}
 use Rattle.plist_binread.specs.Stepping.{WantsRoom}
 use Rattle.plist_binread.specs.declared.table.Bounds.{Bounds}
 use Rattle.plist_binread.specs.Object.{Object, object_in}
 use Rattle.plist_binread.specs.Packed.{is_marked, unmarked, scalar_of, cached, single, IsTextOrData, MayWantMemory, Retagged, Remarked}
 use Rattle.plist_binread.specs.Unfolding.{Entry, unfolding_of, until_fault}
-use Rattle.plist_binread.specs.Debt.{place_at, scalar_at, path_of, IsOpen, HoldsPlaceOr, IsHeld, IsKnown, places_of, entries_of, owed_by, Explains, Pays}
+use Rattle.plist_binread.specs.Debt.{place_at, scalar_at, path_of, IsOpen, HoldsPlaceOr, IsHeld, IsKnown, places_of, entries_of, owed_by, Explains}
 use Rattle.plist_binread.specs.Decoding.{IsCollection, IsDecodedAs, IsRefusedAs, scalar_in}
-use Rattle.plist_binread.proofs.Steps.{slice_get-within, slice_get-beyond, length-table_of, collection_count, items_beyond, items_open, pays_scalar, pays_refused, refused_cached, refused_memory}
+use Rattle.plist_binread.proofs.Steps.{slice_get-within, slice_get-beyond, length-table_of, collection_count, items_beyond, items_open, pays_refused, refused_cached, refused_memory}
 
 not_zero : (t : ℕ) → 0 < t → nat_eq t 0 ≡ false
 not_zero t h = grind (arith, nat_tests)
@@ -217,27 +216,11 @@ second None P Q h = tt
 second (Some bytes) P Q h = h.1
 
 -- what is owed where an object is to be entered
-abbrev pub Entered : (bytes : List ℕ) (bounds : Bounds) (tags : List ℕ) (n : ℕ) (fs : List Frame)
-    (at number : ℕ) → Result Event Error → (after : List Frame) → Type 0
-Entered bytes bounds tags n fs at number answer after =
-    Pays (unfolding_of (entries_of bytes bounds) (length tags - n) (path_of fs) at number
-    ++ owed_by (entries_of bytes bounds) fs) answer (owed_by (entries_of bytes bounds) after)
-
-pub known_scalar : (known : Option (List ℕ)) (bounds : Bounds) (tags contents : List ℕ)
-    (fs : List Frame) (n at number : ℕ) (event : Event) → n ≡ length fs → IsOpen tags fs
-    → IfSome known (λ bytes. IsKnown bytes bounds tags contents fs) → number < length tags
-    → is_marked (get_or tags number 0) ≡ false
-    → (0 < unmarked (get_or tags number 0))
-    × (single (cached (get_or tags number 0) (get_or contents number 0))
-    ≡ Some (event_of event))
-    → IfSome known (λ bytes. Entered bytes bounds tags n fs at number (Ok event) fs)
-known_scalar None bounds tags contents fs n at number event depth o k h free is = tt
-known_scalar (Some bytes) bounds tags contents fs n at number event depth o k h free is =
-    pays_scalar (entries_of bytes bounds) tags (as_many bytes bounds tags contents fs k) n fs at
-    number (entry_of bytes bounds number) depth o h
-    (entry_there bytes bounds tags contents fs k number h) (sym (o.marks number h) ∙ free)
-    (event_of event)
-    (ap single (held_scalar bytes bounds tags contents fs k number h is.0) ∙ is.1)
+abbrev pub Entered : {A : Type 0} → (bytes : List ℕ) (bounds : Bounds) (tags : List ℕ) (n : ℕ)
+    (fs : List Frame) (at number : ℕ) → Result A Error → PlainEvent → (after : List Frame) → Type 0
+Entered bytes bounds tags n fs at number answer told after =
+    PaysAnswer (unfolding_of (entries_of bytes bounds) (length tags - n) (path_of fs) at number
+    ++ owed_by (entries_of bytes bounds) fs) answer told (owed_by (entries_of bytes bounds) after)
 
 -- the place of an object that isn't cached
 pub place_is : (bytes : List ℕ) (bounds : Bounds) (tags contents : List ℕ) (fs : List Frame)
@@ -249,62 +232,21 @@ place_is bytes bounds tags contents fs k number place h is =
     ∙ ap place_at (entry_there bytes bounds tags contents fs k number h)
 
 pub known_refused : (known : Option (List ℕ)) (bounds : Bounds) (tags contents : List ℕ)
-    (fs after : List Frame) (n at number place : ℕ) (e : Error) → n ≡ length fs → IsOpen tags fs
+    (fs : List Frame) (n at number place : ℕ) (e : Error) → n ≡ length fs → IsOpen tags fs
     → IfSome known (λ bytes. IsKnown bytes bounds tags contents fs) → number < length tags
     → is_marked (get_or tags number 0) ≡ false
     → (unmarked (get_or tags number 0) ≡ 0) × (place ≡ get_or contents number 0)
     → IfSome known (λ bytes. bounds.trailer ≤ length bytes
     → IsRefusedAs (object_in bounds.reference_width (drop place (take bounds.trailer bytes)))
     place e)
-    → IfSome known (λ bytes. Entered bytes bounds tags n fs at number (Err e) after)
-known_refused None bounds tags contents fs after n at number place e depth o k h free is refused =
-    tt
-known_refused (Some bytes) bounds tags contents fs after n at number place e depth o k h free is
-    refused =
+    → IfSome known (λ bytes. Explains (until_fault (unfolding_of (entries_of bytes bounds)
+    (length tags - n) (path_of fs) at number ++ owed_by (entries_of bytes bounds) fs)) e)
+known_refused None bounds tags contents fs n at number place e depth o k h free is refused = tt
+known_refused (Some bytes) bounds tags contents fs n at number place e depth o k h free is refused =
     pays_refused (entries_of bytes bounds) tags (as_many bytes bounds tags contents fs k) n fs at
     number (entry_of bytes bounds number) depth o h
     (entry_there bytes bounds tags contents fs k number h) (sym (o.marks number h) ∙ free) e
     (rw (place_is bytes bounds tags contents fs k number place h is) at (refused k.within))
-
-module _ (known : Option (List ℕ)) (bounds : Bounds) (tags contents new others : List ℕ)
-    (fs after : List Frame) (n at number place : ℕ) (told : PlainEvent) (lent : Lent)
-    (answer : Result Event Error)
-    (k : IfSome known (λ bytes. IsKnown bytes bounds tags contents fs)) (h : number < length tags)
-    (is : (unmarked (get_or tags number 0) ≡ 0) × (place ≡ get_or contents number 0))
-    (decoded : IfSome known (λ bytes. bounds.trailer ≤ length bytes
-    → IsDecodedAs (object_in bounds.reference_width (drop place (take bounds.trailer bytes)))
-    told lent))
-    (pays : (bytes : List ℕ) (bounds : Bounds) (entry : Entry) (at : ℕ)
-    → IsKnown bytes bounds tags contents fs
-    → slice_get (entries_of bytes bounds) number ≡ Some entry → IsDecodedAs entry.object told lent
-    → Entered bytes bounds tags n fs at number answer after
-    × IsKnown bytes bounds new others after) where
-  pub known_entered : IfSome known (λ bytes. Entered bytes bounds tags n fs at number answer after
-      × IsKnown bytes bounds new others after)
-  known_entered = go known k decoded
-    where
-      go : (known : Option (List ℕ)) → IfSome known (λ bytes. IsKnown bytes bounds tags contents fs)
-          → IfSome known (λ bytes. bounds.trailer ≤ length bytes
-          → IsDecodedAs (object_in bounds.reference_width (drop place (take bounds.trailer bytes)))
-          told lent)
-          → IfSome known (λ bytes. Entered bytes bounds tags n fs at number answer after
-          × IsKnown bytes bounds new others after)
-      go None k decoded = tt
-      go (Some bytes) k decoded =
-          pays bytes bounds (entry_of bytes bounds number) at k
-          (entry_there bytes bounds tags contents fs k number h)
-          (rw (place_is bytes bounds tags contents fs k number place h is) at (decoded k.within))
-
-pub known_kept_by : (known : Option (List ℕ)) (bounds : Bounds) (tags contents : List ℕ)
-    (fs : List Frame) (place : ℕ) (told : PlainEvent) (lent : Lent) (X : Type 0)
-    → IfSome known (λ bytes. IsKnown bytes bounds tags contents fs)
-    → IfSome known (λ bytes. bounds.trailer ≤ length bytes
-    → IsDecodedAs (object_in bounds.reference_width (drop place (take bounds.trailer bytes)))
-    told lent)
-    → ((object : Object) → IsDecodedAs object told lent → X) → IfSome known (λ bytes. X)
-known_kept_by None bounds tags contents fs place told lent X k decoded kept = tt
-known_kept_by (Some bytes) bounds tags contents fs place told lent X k decoded kept =
-    kept _ (decoded k.within)
 
 -- what is decoded is lent
 pub lent_as : (object : Object) (told : PlainEvent) (lent : Lent) → IsDecodedAs object told lent

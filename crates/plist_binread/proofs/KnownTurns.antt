@@ -2,7 +2,6 @@
 use Rattle.std.proofs.Common.{◌≡◌, ℕ, ◌<◌, ◌≤◌, List, [], ◌∷◌, length, take, drop, get_or, Option, None, Some, Result, Ok, Err, IfSome, MatchResult, ap, ◌∙◌}
 use Rattle.std.specs.List.{slice_get}
 use Rattle.plist_base.specs.declared.error.Error.{Error}
-use Rattle.plist_base.specs.declared.event.Event.{Event}
 use Rattle.plist_base.specs.Faults.{IsIo, kind_of, error_kind_of}
 use Rattle.plist_base.specs.Events.{EndCollection}
 use Rattle.plist_base.proofs.Refusals.{MatchFault-weaker}
@@ -13,9 +12,9 @@ use Rattle.plist_binread.specs.declared.table.Bounds.{Bounds}
 use Rattle.plist_binread.specs.Object.{object_in}
 use Rattle.plist_binread.specs.Packed.{unmarked}
 use Rattle.plist_binread.specs.Unfolding.{until_fault}
-use Rattle.plist_binread.specs.Debt.{next_number, place_at, children_at, IsKnown, entries_of, owed_by, Explains, Pays}
-use Rattle.plist_binread.specs.Turning.{IsKept, ReadsChild, Turns}
-use Rattle.plist_binread.proofs.Known.{Entered, as_many, entry_of, entry_there, held_place, second}
+use Rattle.plist_binread.specs.Debt.{place_at, children_at, IsKnown, entries_of, owed_by, Explains}
+use Rattle.plist_binread.specs.Turning.{ReadsChild, Turns}
+use Rattle.plist_binread.proofs.Known.{entry_of, entry_there, held_place, second}
 
 -- ---- one turn of the walk
 
@@ -76,46 +75,6 @@ child_is bytes bounds tags contents fs gs object index h none turned answer read
     ≡ (entry_of bytes bounds object).place = held_place bytes bounds tags contents gs k object h
     none ∙ ap place_at there in
     rw there ((rw place at (reads k.within)) (rw there at turned.0.1))
-
--- what is owed goes on with what the child owes
-pub known_child_entered : (known now : Option (List ℕ)) (bounds : Bounds) (tags contents : List ℕ)
-    (fs gs after : List Frame) (n object index number : ℕ) (answer : Result Event Error)
-    → now ≡ known → n ≡ length gs → object < length tags → unmarked (get_or tags object 0) ≡ 0
-    → IfSome known (λ bytes. Turned bytes bounds tags contents fs (Child object index) gs)
-    → IfSome known (λ bytes. bounds.trailer ≤ length bytes
-    → ReadsChild (object_in bounds.reference_width
-    (drop (get_or contents object 0) (take bounds.trailer bytes))) index (Ok number))
-    → IfSome now (λ bytes. Entered bytes bounds tags n gs (get_or contents object 0) number answer
-    after)
-    → IfSome known (λ bytes. Pays (owed_by (entries_of bytes bounds) fs) answer
-    (owed_by (entries_of bytes bounds) after))
-known_child_entered None now bounds tags contents fs gs after n object index number answer same
-    depth h none turned reads entered = tt
-known_child_entered (Some bytes) now bounds tags contents fs gs after n object index number answer
-    same depth h none turned reads entered =
-    let is : number ≡ get_or (children_at (slice_get (entries_of bytes bounds) object)) index 0 =
-    child_is bytes bounds tags contents fs gs object index h none turned (Ok number) reads in
-    let place = held_place bytes bounds tags contents gs turned.1 object h none in
-    let entered' = rw same at entered in
-    rw (turned.0.0, as_many bytes bounds tags contents gs turned.1, ← depth, ← place, ← is) entered'
-
-pub known_child_kept : (known now : Option (List ℕ)) (bounds : Bounds) (tags contents new : List ℕ)
-    (fs gs : List Frame) (object index number : ℕ) (item : Option (Result Event Error))
-    → now ≡ known → object < length tags → unmarked (get_or tags object 0) ≡ 0
-    → IfSome known (λ bytes. Turned bytes bounds tags contents fs (Child object index) gs)
-    → IfSome known (λ bytes. bounds.trailer ≤ length bytes
-    → ReadsChild (object_in bounds.reference_width
-    (drop (get_or contents object 0) (take bounds.trailer bytes))) index (Ok number))
-    → IfSome now (λ bytes. IsKept (Some number) item new)
-    → IfSome known (λ bytes. IsKept (next_number (entries_of bytes bounds) fs) item new)
-known_child_kept None now bounds tags contents new fs gs object index number item same h none turned
-    reads kept = tt
-known_child_kept (Some bytes) now bounds tags contents new fs gs object index number item same h
-    none turned reads kept =
-    let is : number ≡ get_or (children_at (slice_get (entries_of bytes bounds) object)) index 0 =
-    child_is bytes bounds tags contents fs gs object index h none turned (Ok number) reads in
-    let kept' = rw same at kept in
-    rw (turned.0.3, ← is) kept'
 
 -- a read of the reference failed
 pub known_child_failed : (known : Option (List ℕ)) (bounds : Bounds) (tags contents : List ℕ)

@@ -1,9 +1,8 @@
 -- One call of a reader.
-use Rattle.std.proofs.Common.{◌≡◌, ℕ, ◌≤◌, arith, List, length, reverse, true, false, Option, None, Some, Result, Ok, Err, IfSome, MatchOption, refl, ap, sym, Bool}
+use Rattle.std.proofs.Common.{◌≡◌, ℕ, ◌≤◌, arith, List, length, reverse, true, false, Option, None, Some, Result, Err, IfSome, MatchOption, refl, ap, sym}
 use Rattle.std.proofs.lemmas.List.{length-reverse}
 use Rattle.plist_base.specs.declared.error.Error.{Error}
-use Rattle.plist_base.specs.declared.event.Event.{Event}
-use Rattle.plist_base.specs.Events.{PlainEvent, Item, event_of}
+use Rattle.plist_base.specs.Events.{PlainEvent}
 use Rattle.plist_binread.specs.declared.frames.Frame.{Frame}
 use Rattle.plist_binread.specs.Unfolding.{until_fault}
 use Rattle.plist_binread.specs.declared.reader.State.{State}
@@ -12,9 +11,10 @@ use Rattle.plist_binread.specs.declared.table.Bounds.{Bounds}
 use Rattle.plist_binread.specs.Container.{head_of}
 use Rattle.plist_binread.specs.BinaryReader.{GivesItem, AreWithin}
 use Rattle.plist_binread.specs.Telling.{TellsItem}
-use Rattle.plist_binread.specs.Debt.{IsOpen, IsKnown, AreBoundsOf, places_of, still_owed, owed_by, entries_of, PaysNext}
-use Rattle.plist_binread.specs.Turning.{IsKept, IsKeptTold, is_fresh, is_walking, ends_next}
-use Rattle.plist_binread.proofs.Begun.{Begins}
+use Rattle.plist_binread.specs.Debt.{IsOpen, IsKnown, AreBoundsOf, places_of, still_owed, owed_by, entries_of}
+use Rattle.plist_binread.specs.Lent.{PaysNextTold}
+use Rattle.plist_binread.specs.Turning.{IsKeptTold, is_fresh, is_walking, ends_next}
+use Rattle.plist_binread.specs.Beginning.{RefusesFirst}
 use Rattle.plist_binread.proofs.Opened.{IsOpen-length}
 
 -- no more collections are open than there are objects
@@ -63,35 +63,37 @@ nothing_ended None bounds fs = tt
 nothing_ended (Some bytes) bounds fs = (refl, refl)
 
 pub first_fault : (known : Option (List ℕ)) (bounds after_bounds : Bounds) (fs gs : List Frame)
-    (after : List ℕ → List Item) (e : Error)
-    → IfSome known (λ bytes. Begins bytes (Err e) (after bytes))
+    (e : Error) → IfSome known (λ bytes. RefusesFirst bytes e)
     → IfSome known (λ bytes. GivesItem (is_fresh Fresh) (still_owed bytes Fresh bounds fs)
     (Some (Err e)) (still_owed bytes Ended after_bounds gs))
-first_fault None bounds after_bounds fs gs after e begins = tt
-first_fault (Some bytes) bounds after_bounds fs gs after e begins = (refl, begins)
+first_fault None bounds after_bounds fs gs e refused = tt
+first_fault (Some bytes) bounds after_bounds fs gs e refused = (refl, refused)
 
-module _ (known : Option (List ℕ)) (bounds : Bounds) (fs gs : List Frame) where
+module _ (known : Option (List ℕ)) (bounds : Bounds) (fs gs : List Frame) (told : PlainEvent) where
   -- what a step of the walk pays
-  abbrev pub StepPays : Option (Result Event Error) → Type 0
+  abbrev pub StepPays : Option (Result (Unit {0}) Error) → Type 0
   StepPays item =
-      IfSome known (λ bytes. PaysNext (owed_by (entries_of bytes bounds) (reverse fs)) item
+      IfSome known (λ bytes. PaysNextTold (owed_by (entries_of bytes bounds) (reverse fs)) item told
       (owed_by (entries_of bytes bounds) (reverse gs)))
 
-  -- what the reader gives then, in this state
-  abbrev pub StepGives : Option (Result Event Error) → State → Type 0
-  StepGives item state =
-      IfSome known (λ bytes. GivesItem (is_fresh Walking) (still_owed bytes Walking bounds fs) item
-      (still_owed bytes state bounds gs))
+  -- what the reader tells then, in this state
+  abbrev pub StepTells : Option (Result (Unit {0}) Error) → State → Type 0
+  StepTells item state =
+      IfSome known (λ bytes. TellsItem (is_fresh Walking) (still_owed bytes Walking bounds fs) item
+      told (still_owed bytes state bounds gs))
 
-pub step_fault : (known : Option (List ℕ)) (bounds : Bounds) (fs gs : List Frame) (e : Error)
-    → StepPays known bounds fs gs (Some (Err e)) → StepGives known bounds fs gs (Some (Err e)) Ended
-step_fault None bounds fs gs e pays = tt
-step_fault (Some bytes) bounds fs gs e pays = (refl, pays)
+pub step_fault : (known : Option (List ℕ)) (bounds : Bounds) (fs gs : List Frame)
+    (told : PlainEvent) (e : Error) → StepPays known bounds fs gs told (Some (Err e))
+    → StepTells known bounds fs gs told (Some (Err e)) Ended
+step_fault None bounds fs gs told e pays = tt
+step_fault (Some bytes) bounds fs gs told e pays = (refl, pays)
 
 pub step_nothing : (known : Option (List ℕ)) (bounds : Bounds) (fs gs : List Frame)
-    → StepPays known bounds fs gs None → StepGives known bounds fs gs None Ended
-step_nothing None bounds fs gs pays = tt
-step_nothing (Some bytes) bounds fs gs pays = let nothing = pays in (ap until_fault nothing.0, refl)
+    (told : PlainEvent) → StepPays known bounds fs gs told None
+    → StepTells known bounds fs gs told None Ended
+step_nothing None bounds fs gs told pays = tt
+step_nothing (Some bytes) bounds fs gs told pays =
+    let nothing = pays in (ap until_fault nothing.0, refl)
 
 -- no end comes first, or after the last item
 pub closes-fresh : (state : State) (fs : List Frame) → state ≡ Fresh → ends_next state fs ≡ true → ⊥
@@ -105,26 +107,7 @@ closes-ended state fs is e =
 pub walking-ended : (state : State) → state ≡ Ended → is_walking state ≡ true → ⊥
 walking-ended state is e = let no : is_walking state ≡ false = ap is_walking is in absurd (cc)
 
--- ---- an item that is told
-
-pub told_event : (known : Option (List ℕ)) (new : Bool) (before after : List ℕ → List Item)
-    (event : Event) (told : PlainEvent) → told ≡ event_of event
-    → IfSome known (λ bytes. GivesItem new (before bytes) (Some (Ok event)) (after bytes))
-    → IfSome known (λ bytes. TellsItem new (before bytes) (Some (Ok (tt {0}))) told (after bytes))
-told_event None new before after event told is gives = tt
-told_event (Some bytes) new before after event told is gives = rw is gives
-
-pub kept_told : (known : Option (List ℕ)) (number : List ℕ → Option ℕ) (tags : List ℕ)
-    (event : Event) (told : PlainEvent) → told ≡ event_of event
-    → IfSome known (λ bytes. IsKept (number bytes) (Some (Ok event)) tags)
-    → IfSome known (λ bytes. IsKeptTold (number bytes) (Some (Ok (tt {0}))) told tags)
-kept_told None number tags event told is kept = tt
-kept_told (Some bytes) number tags event told is kept = by_number (number bytes) kept
-  where
-    by_number : (n : Option ℕ) → IsKept n (Some (Ok event)) tags
-        → IsKeptTold n (Some (Ok (tt {0}))) told tags
-    by_number None h = tt
-    by_number (Some n) h = rw is h
+-- ---- what is cached then
 
 pub kept_fault : (known : Option (List ℕ)) (number : List ℕ → Option ℕ) (tags : List ℕ) (e : Error)
     (told : PlainEvent) → IfSome known

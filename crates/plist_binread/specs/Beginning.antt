@@ -1,15 +1,15 @@
 -- What the first step of a reader makes of known bytes.
 use Rattle.std.specs.Prelude.{◌≡◌, ℕ, ◌≤◌, List, [], ◌∷◌, length, Option, Some, Result, Ok, Err, IfSome, MatchResult}
 use Rattle.plist_base.specs.declared.error.Error.{Error}
-use Rattle.plist_base.specs.declared.event.Event.{Event}
-use Rattle.plist_base.specs.Events.{event_of}
 use Rattle.plist_base.specs.Faults.{MatchFault, kind_of, error_kind_of, fault_of}
 use Rattle.plist_binread.specs.Container.{head_of}
 use Rattle.plist_binread.specs.Debt.{IsOwed, places_of}
-use Rattle.plist_binread.specs.Turning.{IsKept, root_with}
+use Rattle.plist_binread.specs.Told.{event_in}
+use Rattle.plist_binread.specs.Turning.{IsKeptTold, root_with}
 use Rattle.plist_binread.specs.Unfolding.{until_fault, items_of_file}
 use Rattle.plist_binread.specs.Walking.{IsWalkOf, objects_of, owed_in}
 use Rattle.plist_binread.specs.declared.table.Bounds.{Bounds}
+use Rattle.plist_binread.specs.declared.told.Last.{Last}
 use Rattle.plist_binread.specs.declared.walk.Walk.{Walk}
 
 -- the walk has no more objects than the file
@@ -21,13 +21,17 @@ abbrev pub IsKnownWalk : (known : Option (List ℕ)) → Bounds → Walk → Typ
 IsKnownWalk known bounds walk = IfSome known (λ bytes. IsWalkOf bytes bounds walk)
 
 -- the root is cached if it is small
-abbrev pub KeepsRoot : Result Event Error → Walk → List ℕ → Type 0
-KeepsRoot answer walk bytes = IsKept (root_with (head_of bytes)) (Some answer) walk.tags.items
+abbrev pub KeepsRoot : {A : Type 0} → Result A Error → Last → Walk → List ℕ → Type 0
+KeepsRoot answer last walk bytes =
+    IsKeptTold (root_with (head_of bytes)) (Some answer) (event_in last) walk.tags.items
 
--- this is the first of the file's items, and the walk owes the others
-abbrev pub GivesFirst : Result Event Error → Bounds → Walk → List ℕ → Type 0
-GivesFirst answer bounds walk bytes = MatchResult answer
-    (λ event. items_of_file bytes ≡ Ok (event_of event) ∷ until_fault (owed_in bytes bounds walk))
-    (λ e. MatchFault (kind_of (error_kind_of e))
-    (IsOwed (items_of_file bytes)) (IsOwed (items_of_file bytes))
-    (items_of_file bytes ≡ Err (fault_of e) ∷ []))
+-- the file's first item is refused
+abbrev pub RefusesFirst : List ℕ → Error → Type 0
+RefusesFirst bytes e = MatchFault (kind_of (error_kind_of e)) (IsOwed (items_of_file bytes))
+    (IsOwed (items_of_file bytes)) (items_of_file bytes ≡ Err (fault_of e) ∷ [])
+
+-- it is told, and the walk owes the others
+abbrev pub GivesFirst : {A : Type 0} → Result A Error → Bounds → Last → Walk → List ℕ → Type 0
+GivesFirst answer bounds last walk bytes = MatchResult answer
+    (λ _. items_of_file bytes ≡ Ok (event_in last) ∷ until_fault (owed_in bytes bounds walk))
+    (RefusesFirst bytes)

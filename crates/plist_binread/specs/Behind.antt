@@ -1,14 +1,14 @@
 -- Words for what a call makes of known bytes: those of the whole source, those that reach the
 -- trailer, and those of one object.
-use Rattle.std.specs.Prelude.{◌≡◌, ℕ, ◌+◌, ◌*◌, ◌<◌, ◌≤◌, List, ◌++◌, length, take, drop, Option, Some, None, Result, Ok, IfSome, MatchResult, ⊤}
+use Rattle.std.specs.Prelude.{◌≡◌, ℕ, ◌+◌, ◌*◌, ◌<◌, ◌≤◌, List, [], ◌++◌, length, take, drop, Option, Some, None, Result, Ok, Err, IfSome, MatchResult, ⊤}
 use Rattle.plist_base.specs.declared.error.Error.{Error}
 use Rattle.plist_base.specs.Faults.{Fault, IsFromOutside, MatchFault, ObjectOffsetTooLarge, kind_of, error_kind_of, fault_of}
 use Rattle.plist_base.specs.declared.real.RealBits.TheVariants.{Four, Eight}
 use Rattle.plist_base.specs.Trees.{Data, Real, Uid}
 use Rattle.plist_binread.specs.Container.{number_at, number_of, numbers_of}
-use Rattle.plist_binread.specs.Decoding.{Decodes, GrowsAt, IsRefusedAs}
+use Rattle.plist_binread.specs.Decoding.{children_in, Decodes, GrowsAt, IsRefusedAs}
 use Rattle.plist_binread.specs.Lent.{IsAsked, IsSlots}
-use Rattle.plist_binread.specs.Object.{Array, Faulty, Object, Scalar, dictionary, layout_of, length_in, meaning_counted, object_behind, object_in}
+use Rattle.plist_binread.specs.Object.{Faulty, Object, Scalar, layout_of, length_in, meaning_counted, object_behind, object_in}
 use Rattle.plist_binread.specs.Turning.{ReadsChild}
 use Rattle.plist_binread.specs.declared.child.Asked.{Asked}
 use Rattle.std.specs.declared.alloc.Global.{Global}
@@ -61,20 +61,13 @@ data_in content = Scalar (Data content)
 
 -- ---- an object whose marker was read
 
--- what its bytes mean, where it is an array, a dictionary, or any object
-abbrev pub array_of : (marker : ℕ) → Bounds → (place : ℕ) → List ℕ → Object
-array_of marker bounds place bytes = meaning_counted bounds.reference_width
-    (λ _ content. Array (numbers_of bounds.reference_width content))
-    (length_in marker (bytes_behind bytes bounds.trailer place))
-
-abbrev pub pairs_of : (marker : ℕ) → Bounds → (place : ℕ) → List ℕ → Object
-pairs_of marker bounds place bytes = meaning_counted (2 * bounds.reference_width)
-    (λ count content. dictionary count (numbers_of bounds.reference_width content))
-    (length_in marker (bytes_behind bytes bounds.trailer place))
+-- what the bytes behind its marker mean
+abbrev pub object_with : (width marker : ℕ) → List ℕ → Object
+object_with width marker rest = object_behind marker (layout_of width marker) rest
 
 abbrev pub object_of : (marker : ℕ) → Bounds → (place : ℕ) → List ℕ → Object
-object_of marker bounds place bytes = object_behind marker
-    (layout_of bounds.reference_width marker) (bytes_behind bytes bounds.trailer place)
+object_of marker bounds place bytes =
+    object_with bounds.reference_width marker (bytes_behind bytes bounds.trailer place)
 
 -- the object at a place
 abbrev pub object_at : Bounds → (place : ℕ) → List ℕ → Object
@@ -90,31 +83,47 @@ DecodesAt answer known bounds place object = IfSome known (λ bytes.
     bounds.trailer ≤ length bytes → Decodes (object bounds place bytes) place answer)
 
 -- a child's number is read, where the object has so many
-abbrev pub AsksAt : Result ℕ Error → (known : Option (List ℕ)) → Bounds → (place index : ℕ)
-    → (Bounds → ℕ → List ℕ → Object) → Type 0
-AsksAt answer known bounds place index object = IfSome known (λ bytes.
-    bounds.trailer ≤ length bytes → ReadsChild (object bounds place bytes) index answer)
+abbrev pub AsksAt : Result ℕ Error → (known : Option (List ℕ)) → Bounds → (place index : ℕ) → Type 0
+AsksAt answer known bounds place index = IfSome known (λ bytes.
+    bounds.trailer ≤ length bytes → ReadsChild (object_at bounds place bytes) index answer)
 
 -- the references of a collection's children stand where it was asked
 abbrev pub IsAskedOf : (known : Option (List ℕ)) → Bounds → Asked → Type 0
 IsAskedOf known bounds asked =
     IfSome known (λ bytes. bounds.trailer ≤ length bytes → IsAsked bytes bounds asked)
 
+-- the same of the object at a place that is read, or no child of it can be
+abbrev pub FindsSlots : Result Asked Error → (known : Option (List ℕ)) → Bounds → (place : ℕ)
+    → Type 0
+FindsSlots answer known bounds place = MatchResult answer (IsAskedOf known bounds)
+    (λ error. (index : ℕ) → AsksAt (Err error) known bounds place index)
+
 -- the same whatever lies behind the bytes that were seen
 abbrev pub IsAskedBehind : (width : ℕ) → (seen : List ℕ) → Asked → Type 0
 IsAskedBehind width seen asked =
     (more : List ℕ) → IsSlots width (seen ++ more) asked.start asked.pairs
+
+-- an object with this marker and length is a collection of so many pairs, or none since it is an
+-- array, and the references of its children stand behind the length
+abbrev pub HasPairs : (marker count pairs : ℕ) → Type 0
+HasPairs marker count pairs = (width start : ℕ) (object rest : List ℕ) → 0 < width
+    → start ≤ length object → object_in width object ≡ object_with width marker rest
+    → length_in marker rest ≡ Some (count, drop start object) → IsSlots width object start pairs
+
+-- no object with this marker has children
+abbrev pub HasNoChildren : (marker : ℕ) → Type 0
+HasNoChildren marker =
+    (width : ℕ) (rest : List ℕ) → children_in (object_with width marker rest) ≡ []
 
 -- the bytes from a place on, up to the trailer, begin with these
 abbrev pub BeginsWith : (known : Option (List ℕ)) → Bounds → (place : ℕ) → List ℕ → Type 0
 BeginsWith known bounds place lent = IfSome known (λ bytes. bounds.trailer ≤ length bytes
     → (more : List ℕ) × (drop place (take bounds.trailer bytes) ≡ lent ++ more))
 
--- the same of a number that is found at hand
+-- a child's number is found at hand
 abbrev pub FindsAt : Option ℕ → (known : Option (List ℕ)) → Bounds → (place index : ℕ) → Type 0
-FindsAt found known bounds place index = IfSome found (λ number. IfSome known (λ bytes.
-    bounds.trailer ≤ length bytes
-    → ReadsChild (object_at bounds place bytes) index (Ok number)))
+FindsAt found known bounds place index =
+    IfSome found (λ number. AsksAt (Ok number) known bounds place index)
 
 -- bytes that end here lie before the trailer, or this is the fault of their object
 abbrev pub EndsBefore : (trailer place end : ℕ) → Result (Unit {0}) Error → Type 0

@@ -2,9 +2,8 @@
 use Rattle.std.specs.Prelude.{◌≡◌, ℕ, zero, suc, ◌+◌, ◌-◌, ◌*◌, ◌^◌, ◌<◌, ◌≤◌, Bool, true, List, [], ◌∷◌, ◌++◌, length, take, drop, reverse, nat_eq, nat_lt, cond, get_or, Result, Ok, Err, Option, None, Some, MatchBool, MatchResult, MatchOption, ⊤}
 use Rattle.std.specs.List.{list_any, flat_map, IsDistinct, AllByRecursion, slice_get}
 use Rattle.plist_base.specs.declared.error.Error.{Error}
-use Rattle.plist_base.specs.declared.event.Event.{Event}
 use Rattle.plist_base.specs.Faults.{Fault, FaultKind, InvalidUtf8String, InvalidUtf16String, LimitReached, MatchFault, kind_of, error_kind_of, fault_of}
-use Rattle.plist_base.specs.Events.{StartArray, StartDictionary, EndCollection, Single, Item, event_of}
+use Rattle.plist_base.specs.Events.{StartArray, StartDictionary, EndCollection, Single, Item}
 use Rattle.plist_base.specs.Trees as trees
 use Rattle.plist_base.specs.Trees.{Data, String}
 use Rattle.plist_binread.specs.declared.frames.Frame.{Frame}
@@ -147,17 +146,6 @@ abbrev pub Explains : List Item → Error → Type 0
 Explains before error =
     MatchFault (kind_of (error_kind_of error)) (IsOwed before) (WantsMemory before)
     (before ≡ Err (fault_of error) ∷ [])
-
--- what is owed begins with this item, and goes on with what is owed afterwards
-abbrev pub Pays : List Item → Result Event Error → List Item → Type 0
-Pays before answer after =
-    MatchResult answer (λ event. until_fault before ≡ Ok (event_of event) ∷ until_fault after)
-    (λ error. Explains (until_fault before) error)
-
--- the same, or nothing where nothing is owed
-abbrev pub PaysNext : List Item → Option (Result Event Error) → List Item → Type 0
-PaysNext before item after =
-    MatchOption item ((before ≡ []) × (after ≡ [])) (λ answer. Pays before answer after)
 
 -- ---- the falling number
 

@@ -1,9 +1,8 @@
 -- What lies in bytes that are lent, and where the references of a collection stand.
-use Rattle.std.specs.Prelude.{◌≡◌, ℕ, ◌+◌, ◌-◌, ◌*◌, ◌/◌, ◌%◌, ◌<◌, ◌≤◌, true, List, [], ◌∷◌, ◌++◌, Option, Some, Result, Ok, Err, MatchOption, MatchResult, length, take, drop, get_or, cond, nat_eq}
+use Rattle.std.specs.Prelude.{◌≡◌, ℕ, ◌+◌, ◌-◌, ◌*◌, ◌/◌, ◌%◌, ◌<◌, ◌≤◌, List, [], ◌∷◌, ◌++◌, Option, Some, Result, Ok, MatchOption, MatchResult, length, take, drop, get_or, cond, nat_eq}
 use Rattle.plist_base.specs.declared.error.Error.{Error}
 use Rattle.plist_base.specs.Faults.{ObjectOffsetTooLarge, NullObjectUnimplemented, FillObjectUnimplemented, UnknownObjectType, IntegerOutOfRange, OverflowOrNanDate}
-use Rattle.plist_base.specs.Events.{PlainEvent, EndCollection, Item, event_of}
-use Rattle.plist_base.specs.declared.event.Event.{Event}
+use Rattle.plist_base.specs.Events.{PlainEvent, EndCollection, Item}
 use Rattle.plist_binread.specs.declared.child.Asked.{Asked}
 use Rattle.plist_binread.specs.declared.lent.Lent.{Lent}
 use Rattle.plist_binread.specs.declared.lent.Lent.TheVariants as lent
@@ -14,7 +13,7 @@ use Rattle.plist_binread.specs.Turning.{IsKeptTold, ReadsChild}
 use Rattle.plist_binread.specs.Decoding.{IsCollection, single_in, children_in}
 use Rattle.plist_binread.specs.declared.frames.Frame.{Frame}
 use Rattle.plist_binread.specs.Object.{Object, Faulty, object_in}
-use Rattle.plist_binread.specs.Packed.{is_small_event, unmarked}
+use Rattle.plist_binread.specs.Packed.{is_small_event}
 use Rattle.plist_binread.specs.Unfolding.{Entry, unfolding_of, until_fault}
 
 -- what was lent is this object: the scalar that is told, a collection whose start is told, or a
@@ -49,6 +48,10 @@ abbrev pub slot_of : (pairs index : ℕ) → ℕ
 slot_of pairs index =
     cond (nat_eq pairs 0) index (cond (nat_eq (index % 2) 0) (index / 2) (pairs + index / 2))
 
+-- where the reference of a child of the collection stands that was asked last
+abbrev pub place_of : Asked → (index width : ℕ) → ℕ
+place_of asked index width = asked.place + (asked.start + slot_of asked.pairs index * width)
+
 -- the references of the children of the object at the front of these bytes stand from `start` on
 abbrev pub IsSlots : (width : ℕ) (object : List ℕ) (start pairs : ℕ) → Type 0
 IsSlots width object start pairs =
@@ -67,23 +70,28 @@ IsAsked bytes bounds asked =
 abbrev pub PaysTold : List Item → (told : PlainEvent) → List Item → Type 0
 PaysTold before told after = until_fault before ≡ Ok told ∷ until_fault after
 
--- the same of an item that is told, or nothing where nothing is owed
+-- the same of an answer that is told, or an error that comes where something is owed
+abbrev pub PaysAnswer : {A : Type 0} → List Item → Result A Error → (told : PlainEvent) → List Item
+    → Type 0
+PaysAnswer before answer told after = MatchResult answer (λ _. PaysTold before told after)
+    (λ error. Explains (until_fault before) error)
+
+-- and of an item, or nothing where nothing is owed
 abbrev pub PaysNextTold : {A : Type 0} → List Item → Option (Result A Error) → (told : PlainEvent)
     → List Item → Type 0
 PaysNextTold before item told after =
-    MatchOption item ((before ≡ []) × (after ≡ []))
-    (λ answer. MatchResult answer (λ _. PaysTold before told after)
-    (λ error. Explains (until_fault before) error))
+    MatchOption item ((before ≡ []) × (after ≡ [])) (λ answer. PaysAnswer before answer told after)
 
--- the child of this index has been entered, and its first item told: what was owed with it goes on
--- with what is owed now, and it is cached if it is small
-abbrev pub EntersChild : List Entry → Object → (index count : ℕ) → (old : List Frame)
-    → (told : PlainEvent) → (tags : List ℕ) → (new : List Frame) → Type 0
-EntersChild table object index count old told tags new =
+-- the child of this index has been entered, from the collection at this place: what was owed with
+-- it begins with what is told and goes on with what is owed now, and it is cached if it is small
+abbrev pub EntersChild : {A : Type 0} → List Entry → Object → (at index count : ℕ)
+    → (old : List Frame) → Result A Error → (told : PlainEvent) → (tags : List ℕ)
+    → (new : List Frame) → Type 0
+EntersChild table object at index count old answer told tags new =
     (number : ℕ) × ReadsChild object index (Ok number)
-    × (is_small_event told ≡ true → 0 < unmarked (get_or tags number 0))
-    × ((at : ℕ) → PaysTold (unfolding_of table (count - length old) (path_of old) at number
-    ++ owed_by table old) told (owed_by table new))
+    × IsKeptTold (Some number) (Some answer) told tags
+    × PaysAnswer (unfolding_of table (count - length old) (path_of old) at number
+    ++ owed_by table old) answer told (owed_by table new)
 
 -- the object of this number is cached if the event that is told is small
 abbrev pub IsKeptNear : Option ℕ → (told : PlainEvent) → (tags : List ℕ) → Type 0
@@ -93,10 +101,3 @@ IsKeptNear number told tags = IsKeptTold {A = Unit {0}} number (Some (Ok (tt {0}
 abbrev pub IsToldEnd : {A : Type 0} → Option (Result A Error) → (told : PlainEvent) → Type 0
 IsToldEnd item told =
     MatchOption item ⊥ (λ answer. MatchResult answer (λ _. told ≡ EndCollection) (λ error. ⊥))
-
--- what a slow step gave is told
-abbrev pub IsToldAs : Result Event Error → Option (Result (Unit {0}) Error) → (told : PlainEvent)
-    → Type 0
-IsToldAs answer item told =
-    MatchResult answer (λ event. (item ≡ Some (Ok (tt {0}))) × (told ≡ event_of event))
-    (λ error. item ≡ Some (Err error))

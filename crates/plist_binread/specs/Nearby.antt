@@ -10,7 +10,7 @@ use Rattle.plist_binread.specs.Decoding.{DecodesTold, single_in}
 use Rattle.plist_binread.specs.Behind.{object_at}
 use Rattle.plist_binread.specs.declared.table.Bounds.{Bounds}
 use Rattle.plist_binread.specs.Lent.{IsLentAs, small_lent}
-use Rattle.plist_binread.specs.Object.{Array, Object, dictionary, layout_of, length_in, meaning_counted, meaning_of_front, object_behind, text_of_units}
+use Rattle.plist_binread.specs.Object.{Array, Object, dictionary, length_in, meaning_counted, meaning_of_front, text_of_units}
 use Rattle.plist_binread.specs.Packed.{content_bytes, is_small_event, scalar_of, single}
 use Rattle.plist_binread.specs.Told.{event_in}
 use Rattle.plist_binread.specs.declared.lent.Lent.{Lent}
@@ -85,9 +85,6 @@ RefusesCounted marker size room rest lent =
     (meaning : ℕ → List ℕ → Object) (told : PlainEvent) (more : List ℕ)
     → length (rest ++ more) ≡ room
     → IsLentAs (meaning_counted size meaning (length_in marker (rest ++ more))) told lent
-
-abbrev pub object_with : (width marker : ℕ) → List ℕ → Object
-object_with width marker rest = object_behind marker (layout_of width marker) rest
 
 -- nothing is lent only of bytes that don't reach the trailer, and are less than sixteen
 abbrev pub IsFar : (room : ℕ) (rest : List ℕ) → Lent → Type 0

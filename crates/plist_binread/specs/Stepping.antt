@@ -1,18 +1,16 @@
 -- Words for what a step of the walk does to the walk, to what is told, and to what is owed.
-use Rattle.std.specs.Prelude.{◌≡◌, ℕ, ◌-◌, ◌<◌, Bool, true, List, ◌++◌, length, get_or, Option, Some, Result, IfSome, OnOk, ⊤}
+use Rattle.std.specs.Prelude.{◌≡◌, ℕ, ◌-◌, ◌<◌, Bool, true, List, ◌++◌, length, get_or, Option, Some, Result, Ok, IfSome, OnOk, ⊤}
 use Rattle.std.specs.List.{slice_get}
 use Rattle.plist_base.specs.declared.error.Error.{Error}
-use Rattle.plist_base.specs.declared.event.Event.{Event}
 use Rattle.plist_base.specs.Events.{PlainEvent, EndCollection}
 use Rattle.plist_binread.specs.Behind.{object_at}
-use Rattle.plist_binread.specs.Debt.{Explains, IsKnown, IsOpen, Pays, entries_of, next_number, owed_by, path_of, weight}
-use Rattle.plist_binread.specs.Lent.{EntersChild, IsKeptNear, IsLentAs, PaysNextTold, PaysTold}
+use Rattle.plist_binread.specs.Debt.{Explains, IsKnown, IsOpen, entries_of, next_number, owed_by, path_of, weight}
+use Rattle.plist_binread.specs.Lent.{EntersChild, IsKeptNear, IsLentAs, PaysAnswer, PaysNextTold, PaysTold}
 use Rattle.plist_binread.specs.Packed.{is_small_event, unmarked}
 use Rattle.plist_binread.specs.Told.{event_in}
-use Rattle.plist_binread.specs.Turning.{CanGiveBack, IsFound, IsKept, IsKeptTold, Lightens, Turns, closes}
+use Rattle.plist_binread.specs.Turning.{CanGiveBack, IsFound, IsKeptTold, Lightens, Turns, closes}
 use Rattle.plist_binread.specs.Unfolding.{Entry, unfolding_of, until_fault}
 use Rattle.plist_binread.specs.Walking.{IsWalkOf, objects_of, open_in, owed_entering, owed_in, weight_entering, weight_in}
-use Rattle.plist_binread.specs.declared.enter.Found.{Found}
 use Rattle.plist_binread.specs.declared.frames.Frame.{Frame}
 use Rattle.plist_binread.specs.declared.lent.Lent.{Lent}
 use Rattle.plist_binread.specs.declared.lent.Lent.TheVariants as lent
@@ -32,7 +30,8 @@ abbrev pub IsLighter : (old new : Walk) → Type 0
 IsLighter old new = weight (objects_of old) (open_in new) < weight_in old
 
 -- an item came of a walk that owed some, and less is left to do
-abbrev pub LightensNext : {A : Type 0} → (old : Walk) → Option (Result A Error) → (new : Walk) → Type 0
+abbrev pub LightensNext : {A : Type 0} → (old : Walk) → Option (Result A Error) → (new : Walk)
+    → Type 0
 LightensNext old item new =
     IfSome item (λ answer. (0 < weight_in old) × OnOk answer (IsLighter old new))
 
@@ -61,9 +60,9 @@ GivesBack old turn new =
 
 -- ---- what is looked up
 
-abbrev pub IsFoundAt : (number : ℕ) (tags contents : List ℕ) → Found → Type 0
-IsFoundAt number tags contents found =
-    IsFound (get_or tags number 0) (get_or contents number 0) found
+abbrev pub IsFoundAt : (number : ℕ) (tags contents : List ℕ) → Last → Option ℕ → Type 0
+IsFoundAt number tags contents last found =
+    IsFound (get_or tags number 0) (get_or contents number 0) (event_in last) found
 
 -- no object of this number can be entered
 abbrev pub ExplainsEntering : (tags contents : List ℕ) (at number : ℕ) → Error → Type 0
@@ -97,15 +96,17 @@ WantsRoom lent = ⊤
 -- ---- over known bytes
 
 -- an object that was entered is cached if it is small
-abbrev pub KeepsEntered : (known : Option (List ℕ)) → (number : ℕ) → Result Event Error → Walk → Type 0
-KeepsEntered known number answer walk =
-    IfSome known (λ _. IsKept (Some number) (Some answer) walk.tags.items)
+abbrev pub KeepsEntered : {A : Type 0} → (known : Option (List ℕ)) → (number : ℕ) → Result A Error
+    → Last → Walk → Type 0
+KeepsEntered known number answer last walk =
+    IfSome known (λ _. IsKeptTold (Some number) (Some answer) (event_in last) walk.tags.items)
 
 -- its first item is paid, referred to from `at`
-abbrev pub PaysEntered : (known : Option (List ℕ)) → Bounds → (old : Walk) → (at number : ℕ)
-    → Result Event Error → (new : Walk) → Type 0
-PaysEntered known bounds old at number answer new = IfSome known (λ bytes.
-    Pays (owed_entering bytes bounds old at number) answer (owed_in bytes bounds new))
+abbrev pub PaysEntered : {A S : Type 0} → (S → Option (List ℕ)) → S → Bounds → (old : Walk)
+    → (at number : ℕ) → Result A Error → Last → (new : Walk) → Type 0
+PaysEntered known source bounds old at number answer last new = IfSome (known source) (λ bytes.
+    PaysAnswer (owed_entering bytes bounds old at number) answer (event_in last)
+    (owed_in bytes bounds new))
 
 -- what the next item tells is the first that is owed, and cached if it is small
 abbrev pub PaysItem : {A : Type 0} → (known : Option (List ℕ)) → Bounds → (old : Walk)
@@ -121,7 +122,8 @@ KeepsItem known bounds old item last new = IfSome known (λ bytes.
 
 -- ---- the same where all was at hand, and nothing where it wasn't
 
-abbrev pub KeepsNear : (known : Option (List ℕ)) → (number : ℕ) → (done : Bool) → Last → Walk → Type 0
+abbrev pub KeepsNear : (known : Option (List ℕ)) → (number : ℕ) → (done : Bool) → Last → Walk
+    → Type 0
 KeepsNear known number done last walk = done ≡ true → IfSome known (λ _.
     is_small_event (event_in last) ≡ true → 0 < unmarked (get_or walk.tags.items number 0))
 
@@ -136,8 +138,8 @@ abbrev pub Goes : {S : Type 0} → (S → Option (List ℕ)) → S → Bounds �
     → (done : Bool) → Last → (new : Walk) → Type 0
 Goes known source bounds at index old done last new =
     done ≡ true → IfSome (known source) (λ bytes.
-    EntersChild (entries_of bytes bounds) (object_at bounds at bytes) index (objects_of old)
-    (open_in old) (event_in last) new.tags.items (open_in new))
+    EntersChild {A = Unit {0}} (entries_of bytes bounds) (object_at bounds at bytes) at index
+    (objects_of old) (open_in old) (Ok (tt {0})) (event_in last) new.tags.items (open_in new))
 
 abbrev pub PaysNext : (known : Option (List ℕ)) → Bounds → (old : Walk) → (done : Bool) → Last
     → (new : Walk) → Type 0

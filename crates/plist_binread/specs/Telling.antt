@@ -110,7 +110,8 @@ TellsIf known failed counts count old done new =
     done ≡ true → TellsOne known failed counts count old new
 
 -- all that is said of what is to come stays as it was
-pub record Stays {R C : Type 0} {g : Ghosts R} {h : CounterGhosts C} (old new : BinaryReader R C g h)
+pub record Stays {R C : Type 0} {g : Ghosts R} {h : CounterGhosts C}
+    (old new : BinaryReader R C g h)
     : Type 0 where
   pub source : new.source ≡ old.source
   pub state : new.state ≡ old.state

@@ -9,8 +9,6 @@ use Rattle.plist_binread.specs.declared.frames.Frame.{Frame}
 use Rattle.plist_binread.specs.declared.walk.Turn.{Turn}
 use Rattle.plist_binread.specs.declared.walk.Turn.TheVariants as turn
 use Rattle.plist_binread.specs.declared.table.Bounds.{Bounds}
-use Rattle.plist_binread.specs.declared.enter.Found.{Found}
-use Rattle.plist_binread.specs.declared.enter.Found.TheVariants as found
 use Rattle.plist_binread.specs.Container.{Head, head_of}
 use Rattle.plist_binread.specs.Packed.{is_small_event, unmarked, cached, single}
 use Rattle.plist_binread.specs.declared.reader.State.{State}
@@ -75,11 +73,12 @@ ends_next Ended frames = false
 
 -- ---- what is looked up and read
 
--- what was found by a tag and a content: a scalar, or the place of an object that isn't cached
-abbrev pub IsFound : (tag content : ℕ) → Found → Type 0
-IsFound tag content (found.Scalar event) =
-    (0 < unmarked tag) × (single (cached tag content) ≡ Some (event_of event))
-IsFound tag content (found.Place place) = (unmarked tag ≡ 0) × (place ≡ content)
+-- what was found by a tag and a content: the place of an object that isn't cached, or none, and
+-- then a scalar is told
+abbrev pub IsFound : (tag content : ℕ) (told : PlainEvent) → Option ℕ → Type 0
+IsFound tag content told found = MatchOption found
+    ((0 < unmarked tag) × (single (cached tag content) ≡ Some told))
+    (λ place. (unmarked tag ≡ 0) × (place ≡ content))
 
 -- a child's number, where the object has so many
 abbrev pub ReadsChild : Object → (index : ℕ) → Result ℕ Error → Type 0

@@ -4,7 +4,7 @@ ghost use Rattle.std.specs.Prelude.{◌≡◌, ◌<◌, true, false, IfSome};
 ghost use Rattle.plist_base.specs.Events.{EndCollection};
 ghost use Rattle.plist_base.specs.Sources.{ItemCountsIo};
 ghost use Rattle.plist_binread.specs.Turning.{closes};
-ghost use Rattle.plist_binread.specs.Lent.{IsToldAs, IsToldEnd};
+ghost use Rattle.plist_binread.specs.Lent.{IsToldEnd};
 ghost use Rattle.plist_binread.specs.Told.{event_in};
 ghost use Rattle.plist_binread.specs.Walking.{IsWalkOf, cached_in, objects_of, open_in};
 ghost use Rattle.plist_binread.specs.Failures.{ItemWithin};
@@ -18,21 +18,8 @@ use crate::near::go_near;
 use crate::table::Bounds;
 use crate::told::{Last, Told};
 use crate::walk::{Turn, Walk};
-use plist_base::{Error, Event, OwnedEvent, Source};
+use plist_base::{Error, Event, Source};
 use std::alloc::Global;
-
-// Tells what a slow step gave.
-fn tell(answer: Result<OwnedEvent, Error>, last: &mut Last) -> Option<Result<(), Error>>
-    ensures { IsToldAs answer.entry result (event_in last.new) }
-{
-    match answer {
-        Ok(event) => {
-            last.hold(event);
-            Some(Ok(()))
-        }
-        Err(error) => Some(Err(error)),
-    }
-}
 
 /// Tells the next item of what the open collections owe, where all that it needs is at hand and
 /// right. It answers no, and nothing has changed, where it isn't.
@@ -112,10 +99,7 @@ pub fn advance<S: Source, C: DecodeCounter>(
                 return Some(Ok(()));
             }
             match read_child(source, bounds, at, index) {
-                Ok(number) => tell(
-                    enter(alloc, source, counter, bounds, walk, at, number),
-                    last,
-                ),
+                Ok(number) => Some(enter(alloc, source, counter, bounds, walk, last, at, number)),
                 Err(error) => Some(Err(error)),
             }
         }

@@ -11,8 +11,9 @@ ghost use Rattle.plist_binread.specs.Beginning.{GivesFirst, IsBounded, IsKnownWa
 use crate::counter::DecodeCounter;
 use crate::enter::enter;
 use crate::table::{Bounds, Table};
+use crate::told::Last;
 use crate::walk::Walk;
-use plist_base::{Error, OwnedEvent, Source};
+use plist_base::{Error, Source};
 use std::alloc::Global;
 
 // As many tags as there are objects, none of which is cached or open.
@@ -24,21 +25,22 @@ fn no_tags(alloc: Global, count: usize) -> Result<Vec<u8>, Error>
     Ok(tags)
 }
 
-/// The first item of all.
+/// Tells the first item of all.
 pub fn begin<S: Source, C: DecodeCounter>(
     alloc: Global,
     source: &mut S,
     counter: &mut C,
     bounds: &mut Bounds,
     walk: &mut Walk,
-) -> Result<OwnedEvent, Error>
+    last: &mut Last,
+) -> Result<(), Error>
     requires empty { IsEmpty walk.old }
     requires counted { C.counts → C.count counter.old ≡ cached_in walk.old }
     ensures counted { C.counts → C.count counter.new ≡ cached_in walk.new }
     ensures bounded { IfSome (S.known source.old) (IsBounded walk.new) }
     ensures known { OnOk result (IsKnownWalk (S.known source.old) bounds.new walk.new) }
-    ensures kept { IfSome (S.known source.old) (KeepsRoot result walk.new) }
-    ensures pays { IfSome (S.known source.old) (GivesFirst result bounds.new walk.new) }
+    ensures kept { IfSome (S.known source.old) (KeepsRoot result last.new walk.new) }
+    ensures pays { IfSome (S.known source.old) (GivesFirst result bounds.new last.new walk.new) }
     ensures falls { OnOk result (weight_in walk.new < steps (objects_of walk.new)) }
     ensures fault { ErrWithin 0 (2 ^ 64) result }
     ensures unchanged { S.known source.new ≡ S.known source.old }
@@ -58,5 +60,5 @@ pub fn begin<S: Source, C: DecodeCounter>(
     };
     walk.tags = none;
     walk.contents = places;
-    enter(alloc, source, counter, bounds, walk, trailer, root)
+    enter(alloc, source, counter, bounds, walk, last, trailer, root)
 }

@@ -1,105 +1,16 @@
 //! The reference of one child, read from the bytes of its collection.
 
-ghost use Rattle.std.specs.Prelude.{◌≡◌, ◌-◌, ◌*◌, ◌<◌, ◌≤◌, length, IfSome};
+ghost use Rattle.std.specs.Prelude.{◌≡◌, ◌-◌, ◌^◌, ◌<◌, ◌≤◌, length, IfNone, IfOk, IfSome};
 ghost use Rattle.plist_base.specs.Sources.{AnswersIo};
-ghost use Rattle.plist_binread.specs.Lent.{slot_of};
+ghost use Rattle.plist_binread.specs.Lent.{place_of, slot_of};
 ghost use Rattle.plist_binread.specs.Failures.{ErrWithin};
-ghost use Rattle.plist_binread.specs.Behind.{AsksAt, FindsAt, BeginsWith, IsAskedOf, IsAskedBehind, array_of, pairs_of, object_of, object_at};
+ghost use Rattle.plist_binread.specs.Behind.{AsksAt, BeginsWith, FindsAt, FindsSlots, HasNoChildren, HasPairs, IsAskedBehind, IsAskedOf};
 
-use crate::extent::find_content;
+use crate::extent::read_length;
 use crate::lent::lent_length;
 use crate::numbers::{number_at_hand, read_number};
 use crate::table::Bounds;
 use plist_base::{Error, ErrorKind, Source};
-
-// The reference of an item of an array.
-fn read_item<S: Source>(
-    source: &mut S,
-    bounds: &Bounds,
-    place: u64,
-    marker: u8,
-    index: u64,
-) -> Result<u64, Error>
-    requires place { place < bounds.now.trailer }
-    ensures child { AsksAt result (S.known source.old) bounds.now place index (array_of marker) }
-    ensures fault { ErrWithin place bounds.now.trailer result }
-    ensures unchanged { S.known source.new ≡ S.known source.old }
-    ensures failures { AnswersIo result (S.failures source.old) (S.failures source.new) }
-{
-    let width = bounds.reference_width;
-    let content = find_content(source, bounds.trailer, place, marker, width as u64)?;
-    if index >= content.count {
-        return Err(ErrorKind::ObjectOffsetTooLarge.with_byte_offset(place));
-    }
-    read_number(source, content.start + index * width as u64, width)
-}
-
-// The reference of a key or a value of a dictionary.
-fn read_key_or_value<S: Source>(
-    source: &mut S,
-    bounds: &Bounds,
-    place: u64,
-    marker: u8,
-    index: u64,
-) -> Result<u64, Error>
-    requires place { place < bounds.now.trailer }
-    ensures child { AsksAt result (S.known source.old) bounds.now place index (pairs_of marker) }
-    ensures fault { ErrWithin place bounds.now.trailer result }
-    ensures unchanged { S.known source.new ≡ S.known source.old }
-    ensures failures { AnswersIo result (S.failures source.old) (S.failures source.new) }
-{
-    let width = bounds.reference_width;
-    let content = find_content(source, bounds.trailer, place, marker, 2 * width as u64)?;
-    let pair = index / 2;
-    if pair >= content.count {
-        return Err(ErrorKind::ObjectOffsetTooLarge.with_byte_offset(place));
-    }
-    if index % 2 == 0 {
-        return read_number(source, content.start + pair * width as u64, width);
-    }
-    let value = content.count + pair;
-    read_number(source, content.start + value * width as u64, width)
-}
-
-// The reference of a child of the collection at a place, whose marker is this.
-fn read_child_marked<S: Source>(
-    source: &mut S,
-    bounds: &Bounds,
-    place: u64,
-    marker: u8,
-    index: u64,
-) -> Result<u64, Error>
-    requires place { place < bounds.now.trailer }
-    ensures child { AsksAt result (S.known source.old) bounds.now place index (object_of marker) }
-    ensures fault { ErrWithin place bounds.now.trailer result }
-    ensures unchanged { S.known source.new ≡ S.known source.old }
-    ensures failures { AnswersIo result (S.failures source.old) (S.failures source.new) }
-{
-    match marker {
-        0xa0..=0xaf => read_item(source, bounds, place, marker, index),
-        0xd0..=0xdf => read_key_or_value(source, bounds, place, marker, index),
-        _ => Err(ErrorKind::ObjectOffsetTooLarge.with_byte_offset(place)),
-    }
-}
-
-/// Reads the reference of a child of the collection at a place.
-pub fn read_child<S: Source>(
-    source: &mut S,
-    bounds: &Bounds,
-    place: u64,
-    index: u64,
-) -> Result<u64, Error>
-    ensures child { AsksAt result (S.known source.old) bounds.now place index object_at }
-    ensures fault { ErrWithin place bounds.now.trailer result }
-    ensures unchanged { S.known source.new ≡ S.known source.old }
-    ensures failures { AnswersIo result (S.failures source.old) (S.failures source.new) }
-{
-    if place >= bounds.trailer {
-        return Err(ErrorKind::ObjectOffsetTooLarge.with_byte_offset(place));
-    }
-    let marker = read_number(source, place, 1)? as u8;
-    read_child_marked(source, bounds, place, marker, index)
-}
 
 /// Where the references of the collection stand that was asked last.
 #[derive(Clone, Copy)]
@@ -127,6 +38,19 @@ impl Asked {
     }
 }
 
+// How many pairs a collection of this marker and length has: none if it is an array.
+#[inline(always)]
+fn pairs_in(marker: u8, count: u64) -> Option<u64>
+    ensures slots { IfSome result (HasPairs marker count) }
+    ensures none { IfNone result (HasNoChildren marker) }
+{
+    match marker {
+        0xa0..=0xaf => Some(0),
+        0xd0..=0xdf => Some(count),
+        _ => None,
+    }
+}
+
 // Finds the references of the collection at the front of lent bytes.
 fn ask(seen: &[u8], width: usize, place: u64) -> Option<Asked>
     requires { 0 < width }
@@ -135,25 +59,42 @@ fn ask(seen: &[u8], width: usize, place: u64) -> Option<Asked>
 {
     let (marker, rest) = seen.split_first()?;
     let (count, behind) = lent_length(*marker, rest)?;
+    let pairs = pairs_in(*marker, count)?;
     let start = (seen.len() - behind.len()) as u64;
-    match *marker {
-        0xa0..=0xaf => Some(Asked {
+    Some(Asked {
+        place,
+        start,
+        pairs,
+    })
+}
+
+// Finds those of the collection at a place by reads.
+fn read_asked<S: Source>(source: &mut S, bounds: &Bounds, place: u64) -> Result<Asked, Error>
+    ensures place { IfOk result (λ asked. asked.place ≡ place) }
+    ensures slots { FindsSlots result (S.known source.old) bounds.now place }
+    ensures fault { ErrWithin place bounds.now.trailer result }
+    ensures unchanged { S.known source.new ≡ S.known source.old }
+    ensures failures { AnswersIo result (S.failures source.old) (S.failures source.new) }
+{
+    if place >= bounds.trailer {
+        return Err(ErrorKind::ObjectOffsetTooLarge.with_byte_offset(place));
+    }
+    let marker = read_number(source, place, 1)? as u8;
+    let content = read_length(source, bounds.trailer, place, marker)?;
+    match pairs_in(marker, content.count) {
+        Some(pairs) => Ok(Asked {
             place,
-            start,
-            pairs: 0,
+            start: content.start - place,
+            pairs,
         }),
-        0xd0..=0xdf => Some(Asked {
-            place,
-            start,
-            pairs: count,
-        }),
-        _ => None,
+        None => Err(ErrorKind::ObjectOffsetTooLarge.with_byte_offset(place)),
     }
 }
 
 // The number of a child's reference among those of its collection.
 fn slot_of(pairs: u64, index: u64) -> Option<u64>
-    ensures { IfSome result (λ slot. slot ≡ slot_of pairs index) }
+    ensures value { IfSome result (λ slot. slot ≡ slot_of pairs index) }
+    ensures far { IfNone result (2 ^ 64 ≤ slot_of pairs index) }
 {
     if pairs == 0 {
         Some(index)
@@ -161,6 +102,39 @@ fn slot_of(pairs: u64, index: u64) -> Option<u64>
         Some(index / 2)
     } else {
         pairs.checked_add(index / 2)
+    }
+}
+
+// Where the reference of a child stands.
+#[inline(always)]
+fn place_of(asked: &Asked, index: u64, width: usize) -> Option<u64>
+    requires { 0 < width }
+    ensures value { IfSome result (λ place. place ≡ place_of asked.now index width) }
+    ensures far { IfNone result (2 ^ 64 ≤ place_of asked.now index width) }
+{
+    let behind = slot_of(asked.pairs, index)?.checked_mul(width as u64)?;
+    asked.place.checked_add(asked.start.checked_add(behind)?)
+}
+
+/// Reads the number of a child of the collection at a place.
+pub fn read_child<S: Source>(
+    source: &mut S,
+    bounds: &Bounds,
+    place: u64,
+    index: u64,
+) -> Result<u64, Error>
+    ensures child { AsksAt result (S.known source.old) bounds.now place index }
+    ensures fault { ErrWithin place bounds.now.trailer result }
+    ensures unchanged { S.known source.new ≡ S.known source.old }
+    ensures failures { AnswersIo result (S.failures source.old) (S.failures source.new) }
+{
+    let asked = read_asked(source, bounds, place)?;
+    let width = bounds.reference_width;
+    match place_of(&asked, index, width) {
+        Some(at) if at < bounds.trailer && width as u64 <= bounds.trailer - at => {
+            read_number(source, at, width)
+        }
+        _ => Err(ErrorKind::ObjectOffsetTooLarge.with_byte_offset(place)),
     }
 }
 
@@ -184,8 +158,7 @@ fn near_number<S: Source>(source: &S, bounds: &Bounds, asked: &Asked, index: u64
     ensures child { FindsAt result (S.known source.now) bounds.now asked.now.place index }
 {
     let width = bounds.reference_width;
-    let behind = slot_of(asked.pairs, index)?.checked_mul(width as u64)?;
-    let place = asked.place.checked_add(asked.start.checked_add(behind)?)?;
+    let place = place_of(asked, index, width)?;
     let number = number_at_hand(source, place, width)?;
     Some(number)
 }

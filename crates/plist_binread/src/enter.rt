@@ -14,30 +14,22 @@ use crate::object::decode;
 use crate::table::Bounds;
 use crate::told::Last;
 use crate::walk::Walk;
-use plist_base::{Error, ErrorKind, OwnedEvent, Source};
+use plist_base::{Error, ErrorKind, Source};
 use std::alloc::Global;
 
-/// What is held of an object.
-#[derive(Drop)]
-pub enum Found {
-    /// All of a small scalar.
-    Scalar(OwnedEvent),
-    /// The place of an object that isn't cached.
-    Place(u64),
-}
-
-// What is held of an object that is about to be entered, referred to from `at`.
+// The place of an object that is about to be entered, referred to from `at`. There is none where it
+// is cached: then it is told.
 fn look_up(
-    alloc: Global,
     tags: &[u8],
     contents: &[u64],
+    last: &mut Last,
     at: u64,
     number: u64,
-) -> Result<Found, Error>
+) -> Result<Option<u64>, Error>
     requires { length contents.now ≡ length tags.now }
     ensures below { IfOk result (λ _. number < length tags.now) }
     ensures new { IfOk result (λ _. is_marked (get_or tags.now number 0) ≡ false) }
-    ensures found { IfOk result (IsFoundAt number tags.now contents.now) }
+    ensures found { IfOk result (IsFoundAt number tags.now contents.now last.new) }
     ensures kinds { IfErr result (λ error. MatchFault (kind_of (error_kind_of error)) ⊥ ⊤ ⊤) }
     ensures refused { IfErr result (ExplainsEntering tags.now contents.now at number) }
     ensures fault { ErrWithin 0 0 result }
@@ -51,50 +43,51 @@ fn look_up(
         return Err(ErrorKind::RecursiveObject.with_byte_offset(content));
     }
     if tag == 0 {
-        return Ok(Found::Place(content));
+        return Ok(Some(content));
     }
-    let mut last = Last::new(alloc);
     if last.recall(tag, content) {
-        return Ok(Found::Scalar(last.take(alloc)));
+        return Ok(None);
     }
     Err(ErrorKind::OutOfMemory.without_position())
 }
 
-/// The first item of an object, referred to from `at`. A collection is then open.
+/// Tells the first item of an object, referred to from `at`. A collection is then open.
 pub fn enter<S: Source, C: DecodeCounter>(
     alloc: Global,
     source: &mut S,
     counter: &mut C,
     bounds: &Bounds,
     walk: &mut Walk,
+    last: &mut Last,
     at: u64,
     number: u64,
-) -> Result<OwnedEvent, Error>
+) -> Result<(), Error>
     requires known { IfSome (S.known source.old) (λ bytes. IsWalkOf bytes bounds.now walk.old) }
     requires counted { C.counts → C.count counter.old ≡ cached_in walk.old }
     ensures size { objects_of walk.new ≡ objects_of walk.old }
     ensures known { IfSome (S.known source.old) (λ bytes. IsWalkOf bytes bounds.now walk.new) }
     ensures counted { C.counts → C.count counter.new ≡ cached_in walk.new }
-    ensures kept { KeepsEntered (S.known source.old) number result walk.new }
-    ensures pays { PaysEntered (S.known source.old) bounds.now walk.old at number result walk.new }
+    ensures kept { KeepsEntered (S.known source.old) number result last.new walk.new }
+    ensures pays { PaysEntered S.known source.old bounds.now walk.old at number result last.new
+        walk.new }
     ensures falls { OnOk result (IsLighterEntered walk.old walk.new) }
     ensures fault { ErrWithin 0 bounds.now.trailer result }
     ensures unchanged { S.known source.new ≡ S.known source.old }
     ensures failures { AnswersIo result (S.failures source.old) (S.failures source.new) }
 {
-    match look_up(
-        alloc,
+    let found = look_up(
         walk.tags.as_slice(),
         walk.contents.as_slice(),
+        last,
         at,
         number,
-    )? {
-        Found::Scalar(event) => Ok(event),
-        Found::Place(place) => {
-            let mut last = Last::new(alloc);
-            let lent = decode(alloc, source, counter, bounds, place, &mut last)?;
-            if open_lent(walk, number, lent, &last) {
-                return Ok(last.take(alloc));
+    )?;
+    match found {
+        None => Ok(()),
+        Some(place) => {
+            let lent = decode(alloc, source, counter, bounds, place, last)?;
+            if open_lent(walk, number, lent, last) {
+                return Ok(());
             }
             Err(ErrorKind::OutOfMemory.without_position())
         }

@@ -65,8 +65,8 @@ fn widen(narrow: Narrow) -> Frame
     }
 }
 
-/// A stack of collections. From the first one on whose numbers need more than four bytes all of them
-/// have eight; below it all have four.
+/// A stack of collections. From the first one on whose numbers need more than four bytes all of
+/// them have eight; below it all have four.
 #[derive(Drop)]
 pub struct Stack {
     narrow: Vec<Narrow>,

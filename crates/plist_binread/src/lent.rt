@@ -8,8 +8,8 @@ ghost use Rattle.plist_binread.specs.Container.{numbers_of};
 ghost use Rattle.plist_binread.specs.Lent.{small_lent};
 ghost use Rattle.plist_binread.specs.Object.{Scalar, Array, date, text, wide_text, unsigned_integer, signed_integer, wide_integer, object_in};
 ghost use Rattle.plist_binread.specs.Told.{event_in};
-ghost use Rattle.plist_binread.specs.Nearby.{CountsLent, IsContent, IsCount, IsCounted, IsFar, IsFarOrLarge, IsFarOrText, IsLength, IsLengthCut, IsNumber, RefusesCounted, cut_at, LendsCounted, LendsFront, LendsWhole, LiesBehind, array_with, object_with, pairs_with};
-ghost use Rattle.plist_binread.specs.Behind.{data_in, short_real, long_real, uid_in};
+ghost use Rattle.plist_binread.specs.Nearby.{CountsLent, IsContent, IsCount, IsCounted, IsFar, IsFarOrLarge, IsFarOrText, IsLength, IsLengthCut, IsNumber, RefusesCounted, cut_at, LendsCounted, LendsFront, LendsWhole, LiesBehind, array_with, pairs_with};
+ghost use Rattle.plist_binread.specs.Behind.{data_in, short_real, long_real, uid_in, object_with};
 
 use crate::counter::DecodeCounter;
 use crate::extent::number_width;

@@ -1,19 +1,18 @@
 //! One object, read from its bytes.
 
-ghost use Rattle.std.specs.Prelude.{ℕ, ◌≡◌, ◌<◌, ◌≤◌};
+ghost use Rattle.std.specs.Prelude.{ℕ, ◌≡◌, ◌<◌};
 ghost use Rattle.plist_base.specs.Faults.{fault_of};
 ghost use Rattle.plist_base.specs.Sources.{AnswersIo, CountsIo};
-ghost use Rattle.plist_binread.specs.Decoding.{IsLarge, IsUnknownAt};
+ghost use Rattle.plist_binread.specs.Decoding.{IsUnknownAt};
 ghost use Rattle.plist_binread.specs.Failures.{ErrWithin, FailsWithin};
-ghost use Rattle.plist_binread.specs.Behind.{DecodesAt, object_of};
 ghost use Rattle.plist_binread.specs.Nearby.{CountsFound, TellsObject};
 
 use crate::counter::DecodeCounter;
 use crate::lent::{Lent, decode_lent};
 use crate::table::Bounds;
-use crate::text::{read_data, read_text, read_wide_text};
+use crate::text::read_large;
 use crate::told::Last;
-use plist_base::{Error, ErrorKind, OwnedEvent, Source, read_exact_at};
+use plist_base::{Error, ErrorKind, Source, read_exact_at};
 use std::alloc::Global;
 
 // The fault of the object at a place whose marker no object has.
@@ -24,30 +23,6 @@ fn unknown(marker: u64, place: u64) -> Error
 {
     let marker = u8::try_from(marker).unwrap_or(u8::MAX);
     ErrorKind::UnknownObjectType(marker).with_byte_offset(place)
-}
-
-// Reads the text or data at a place, whose marker is this, and which isn't small.
-fn read_large<S: Source>(
-    alloc: Global,
-    source: &mut S,
-    bounds: &Bounds,
-    place: u64,
-    marker: u8,
-) -> Result<OwnedEvent, Error>
-    requires place { place < bounds.now.trailer }
-    requires marker { (64 ≤ marker) × (marker ≤ 111) }
-    ensures decoded { DecodesAt result (S.known source.old) bounds.now place (object_of marker) }
-    ensures large { IsLarge result }
-    ensures fault { ErrWithin place bounds.now.trailer result }
-    ensures unchanged { S.known source.new ≡ S.known source.old }
-    ensures failures { AnswersIo result (S.failures source.old) (S.failures source.new) }
-{
-    let trailer = bounds.trailer;
-    match marker {
-        0x40..=0x4f => read_data(alloc, source, trailer, place, marker),
-        0x50..=0x5f => read_text(alloc, source, trailer, place, marker),
-        _ => read_wide_text(alloc, source, trailer, place, marker),
-    }
 }
 
 // As many bytes of an object as are read of it at once: a marker, a length of nine bytes, and the

@@ -1,9 +1,9 @@
 -- Each way through a call of a writer.
-use Rattle.std.proofs.Common.{◌≡◌, inl, ℕ, Bool, true, false, List, [], ◌∷◌, ◌++◌, Option, Ok, Err, MatchBool, refl, sym, ap, ◌∙◌, subst, map}
+use Rattle.std.proofs.Common.{◌≡◌, inl, ℕ, Bool, true, false, List, [], ◌∷◌, ◌++◌, Option, Ok, Err, MatchBool, refl, ap, ◌∙◌, map}
 use Rattle.std.specs.declared.io.traits.Write.{Ghosts}
 use Rattle.plist_base.specs.Bracketing.{unhinted, AreAlike, CanContinue}
 use Rattle.plist_base.specs.Events.{PlainEvent}
-use Rattle.plist_base.specs.Faults.{FaultKind, Fault, Io, OutOfMemory, PlistTooLarge, WriterFailed, fault_nowhere}
+use Rattle.plist_base.specs.Faults.{FaultKind, Fault, Io, OutOfMemory, PlistTooLarge}
 use Rattle.plist_base.specs.Trees.{Tree}
 use Rattle.plist_base.specs.Writing.{Answer, MatchKind}
 use Rattle.plist_base.proofs.Grammar.{alike_last}
@@ -15,12 +15,8 @@ use Rattle.plist_binwrite.specs.FileWriter.{Takes, TakesEvent, held_by, failed_o
 use Rattle.plist_binwrite.proofs.Sends.{sends_alike}
 
 still : (b : Bool) (x y : Type 0) → b ≡ false → y → MatchBool b x y
-still true x y e h = absurd (cc)
+still true x y e h = cc
 still false x y e h = h
-
-down : (b : Bool) (x y : Type 0) → b ≡ true → x → MatchBool b x y
-down true x y e h = h
-down false x y e h = absurd (cc)
 
 -- the events held with one more are those handed in, but for a length
 last_alike : (held events : List PlainEvent) (event : PlainEvent)
@@ -45,16 +41,11 @@ module _ {W : Type 0} (IsFile : Tree → List ℕ → Type 0) (size : Tree → �
     abbrev DoesEvent : Answer → Type 0
     DoesEvent answer = TakesEvent IsFile size contents before event answer after
 
-    pub takes_failed : failed_of before ≡ true → after ≡ before
-        → Does (Err (fault_nowhere WriterFailed))
-    takes_failed h same = down (failed_of before) _ _ h (refl, same)
-
     pub takes_refused : (fault : Fault) → failed_of before ≡ false
         → (CanContinue (held_by before) event → ⊥) → fault ≡ refusal_of (held_by before) event
         → after ≡ before → Does (Err fault)
     takes_refused fault h none is same =
-        still (failed_of before) _ _ h (subst (λ f. DoesEvent (Err f)) (sym is)
-        (refl, (none, refl, same)))
+        still (failed_of before) _ _ h (rw is (refl, (none, refl, same)))
 
     pub takes_unsent : (events : List PlainEvent) (fault : Fault) → failed_of before ≡ false
         → CanContinue (held_by before) event → events ≡ held_by before ++ unhinted event ∷ []
@@ -73,7 +64,8 @@ module _ {W : Type 0} (IsFile : Tree → List ℕ → Type 0) (size : Tree → �
     pub takes_whole : (events : List PlainEvent) → failed_of before ≡ false
         → CanContinue (held_by before) event → events ≡ held_by before ++ unhinted event ∷ []
         → failed_of after ≡ false → held_by after ≡ []
-        → Sends IsFile size contents events (Ok tt) (inner_of before) (inner_of after) → Does (Ok tt)
+        → Sends IsFile size contents events (Ok tt) (inner_of before) (inner_of after)
+        → Does (Ok tt)
     takes_whole events h can are up none sends =
         let s = sends_alike IsFile size contents events (held_by before ++ event ∷ []) (Ok tt)
         (inner_of before) (inner_of after) (last_alike (held_by before) events event are) sends in

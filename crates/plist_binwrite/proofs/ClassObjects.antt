@@ -1,6 +1,6 @@
 -- A plan by classes is a numbering: each number has one object.
 use Rattle.std.proofs.Common.{◌≡◌, ◌⊎◌, inl, inr, ℕ, ◌+◌, ◌<◌, ◌≤◌, false, List, ◌∷◌, length, get_or, refl, ap, sym, ◌∙◌, subst, arith}
-use Rattle.std.proofs.lemmas.Bool.Decides.{leb_tells}
+use Rattle.std.proofs.lemmas.Bool.{cases_lt}
 use Rattle.plist_base.specs.Events.{PlainEvent}
 use Rattle.plist_base.specs.Faults.{ObjectOffsetTooLarge}
 use Rattle.plist_base.specs.Trees as trees
@@ -13,9 +13,9 @@ use Rattle.plist_binwrite.specs.Numberings.{refs, pairs, obj_of, IsNumbering}
 use Rattle.plist_binwrite.specs.inner.PlansBy.{IsPlan}
 use Rattle.plist_binwrite.specs.Standing.{size, Sits, SitsItems, SitsPairs}
 use Rattle.plist_binwrite.proofs.Sitting.{sits_items, sits_pairs, sits_item, sits_next, sits_key, sits_value, sits_next_pair}
-use Rattle.plist_binwrite.proofs.Skipping.{begins, sits_within, size_positive}
+use Rattle.plist_binwrite.proofs.Skipping.{begins, sits_in}
 
-the_scalar : (x y : Scalar) → obj.Scalar x ≡ obj.Scalar y → x ≡ y
+pub the_scalar : (x y : Scalar) → obj.Scalar x ≡ obj.Scalar y → x ≡ y
 the_scalar x y p = cc
 
 pub the_text : (k l : List ℕ) → trees.String k ≡ trees.String l → k ≡ l
@@ -36,22 +36,13 @@ module _ (es : List PlainEvent) (class : ℕ → ℕ) (c : AreClasses es class) 
     pub sound : (t u : Tree) (p q : ℕ) → Sits es t p → Sits es u q → class p ≡ class q → t ≡ u
     sound (Leaf x) (Leaf y) p q s r e =
         ap Leaf (the_scalar x y (c.object (Leaf x) (Leaf y) p q s r e))
-    sound (Leaf x) (Array us) p q s r e = let k = c.object (Leaf x) (Array us) p q s r e in cc
-    sound (Leaf x) (Dictionary ns) p q s r e =
-        let k = c.object (Leaf x) (Dictionary ns) p q s r e in cc
-    sound (Array ts) (Leaf y) p q s r e = let k = c.object (Array ts) (Leaf y) p q s r e in cc
     sound (Array ts) (Array us) p q s r e =
         ap Array (sound_items ts us (p + 1) (q + 1) (sits_items s) (sits_items r)
         (the_items _ _ (c.object (Array ts) (Array us) p q s r e)))
-    sound (Array ts) (Dictionary ns) p q s r e =
-        let k = c.object (Array ts) (Dictionary ns) p q s r e in cc
-    sound (Dictionary ms) (Leaf y) p q s r e =
-        let k = c.object (Dictionary ms) (Leaf y) p q s r e in cc
-    sound (Dictionary ms) (Array us) p q s r e =
-        let k = c.object (Dictionary ms) (Array us) p q s r e in cc
     sound (Dictionary ms) (Dictionary ns) p q s r e =
         ap Dictionary (sound_pairs ms ns (p + 1) (q + 1) (sits_pairs s) (sits_pairs r)
         (the_pairs _ _ (c.object (Dictionary ms) (Dictionary ns) p q s r e)))
+    sound t u p q s r e = let k = c.object t u p q s r e in cc
 
     sound_items : (ts us : Trees) (p q : ℕ) → SitsItems es ts p → SitsItems es us q
         → refs class ts p ≡ refs class us q → ts ≡ us
@@ -59,8 +50,7 @@ module _ (es : List PlainEvent) (class : ℕ → ℕ) (c : AreClasses es class) 
     sound_items NoTrees (TreeAnd u us) p q s r e = cc
     sound_items (TreeAnd t ts) NoTrees p q s r e = cc
     sound_items (TreeAnd t ts) (TreeAnd u us) p q s r e =
-        let k = cons_is (class p) (class q) (refs class ts (p + size t))
-        (refs class us (q + size u)) e in
+        let k = cons_is _ _ _ _ e in
         let first = sound t u p q (sits_item s) (sits_item r) k.0 in
         let more = sound_items ts us (p + size t) (q + size u) (sits_next s) (sits_next r) k.1 in
         λ i. TreeAnd (first i) (more i)
@@ -71,8 +61,7 @@ module _ (es : List PlainEvent) (class : ℕ → ℕ) (c : AreClasses es class) 
     sound_pairs NoMembers (MemberAnd l u ns) p q s r e = cc
     sound_pairs (MemberAnd k t ms) NoMembers p q s r e = cc
     sound_pairs (MemberAnd k t ms) (MemberAnd l u ns) p q s r e =
-        let h = cons_is (class p, class (p + 1)) (class q, class (q + 1))
-        (pairs class ms (p + 1 + size t)) (pairs class ns (q + 1 + size u)) e in
+        let h = cons_is _ _ _ _ e in
         let key = the_text k l (the_scalar _ _
         (c.object (Leaf (trees.String k)) (Leaf (trees.String l)) p q
         (sits_key s) (sits_key r) (ap (λ d. d.0) h.0))) in
@@ -100,8 +89,7 @@ module _ (es : List PlainEvent) (class : ℕ → ℕ) (c : AreClasses es class) 
           → refs class ts p ≡ refs class ts q → refs num ts p ≡ refs num ts q
       num_items NoTrees p q s r e = refl
       num_items (TreeAnd t ts) p q s r e =
-          let h = cons_is (class p) (class q) (refs class ts (p + size t))
-          (refs class ts (q + size t)) e in
+          let h = cons_is _ _ _ _ e in
           let a = same t t p q (sits_item s) (sits_item r) h.0 in
           let b = num_items ts (p + size t) (q + size t) (sits_next s) (sits_next r) h.1 in
           λ i. a i ∷ b i
@@ -110,9 +98,7 @@ module _ (es : List PlainEvent) (class : ℕ → ℕ) (c : AreClasses es class) 
           → pairs class ms p ≡ pairs class ms q → pairs num ms p ≡ pairs num ms q
       num_pairs NoMembers p q s r e = refl
       num_pairs (MemberAnd k t ms) p q s r e =
-          let h = cons_is (class p, class (p + 1)) (class q, class (q + 1))
-          (pairs class ms (p + 1 + size t)) (pairs class ms (q + 1 + size t)) e in
-          let key = Leaf (trees.String k) in
+          let h = cons_is _ _ _ _ e in
           let a = same (Leaf (trees.String k)) (Leaf (trees.String k)) p q (sits_key s) (sits_key r)
           (ap (λ d. d.0) h.0) in
           let b = same t t (p + 1) (q + 1) (sits_value s) (sits_value r) (ap (λ d. d.1) h.0) in
@@ -139,12 +125,12 @@ module _ (es : List PlainEvent) (class : ℕ → ℕ) (numbers firsts : List ℕ
     (plan : IsPlan es class numbers firsts)
     (all : AllNumbered es numbers (length firsts)) where
   pub number_below : (t : Tree) (p : ℕ) → Sits es t p → num_of numbers p < length firsts
-  number_below t p s = all p (omega (arith, sits_within s, size_positive t)) (begins t p s)
+  number_below t p s = all p (sits_in s) (begins t p s)
 
   first_class : (t : Tree) (p : ℕ) → Sits es t p
       → class (get_or firsts (num_of numbers p) 0) ≡ class p
   first_class t p s =
-      plan.same p (omega (arith, sits_within s, size_positive t)) (number_below t p s)
+      plan.same p (sits_in s) (number_below t p s)
 
   -- places of one number have one class, and places of one class one number
   pub number_apart : (t u : Tree) (p q : ℕ) → Sits es t p → Sits es u q
@@ -164,46 +150,38 @@ module _ (es : List PlainEvent) (class : ℕ → ℕ) (numbers firsts : List ℕ
     tree_of : (k : ℕ) → k < length firsts → (u : Tree) × Sits es u (get_or firsts k 0)
     tree_of k h = let n = plan.known k h in found (get_or firsts k 0) n.0 n.2
 
-    cut : (k : ℕ) → (k < length firsts) ⊎ (length firsts ≤ k)
-    cut k = elim (leb_tells (length firsts) k) [ inl h ↦ inr h.1 | inr h ↦ inl h.1 ]
+    -- the object of a number, and its rank
+    made_of : (k : ℕ) → (k < length firsts) ⊎ (length firsts ≤ k) → Object × ℕ
+    made_of k (inl h) =
+        let u = (tree_of k h).0 in (obj_of (num_of numbers) u (get_or firsts k 0), size u)
+    made_of k (inr h) = (obj.Faulty ObjectOffsetTooLarge, 0)
 
-    object_of : (k : ℕ) → (k < length firsts) ⊎ (length firsts ≤ k) → Object
-    object_of k (inl h) = obj_of (num_of numbers) (tree_of k h).0 (get_or firsts k 0)
-    object_of k (inr h) = obj.Faulty ObjectOffsetTooLarge
-
-    rank_of : (k : ℕ) → (k < length firsts) ⊎ (length firsts ≤ k) → ℕ
-    rank_of k (inl h) = size (tree_of k h).0
-    rank_of k (inr h) = 0
+    made_is : (t : Tree) (p : ℕ) → Sits es t p
+        → (d : (num_of numbers p < length firsts) ⊎ (length firsts ≤ num_of numbers p))
+        → made_of (num_of numbers p) d ≡ (obj_of (num_of numbers) t p, size t)
+    unfolding made_of
+    made_is t p s (inl h) =
+        let f = tree_of (num_of numbers p) h in
+        let e = first_class t p s in
+        λ i. (
+          one_object es class c (num_of numbers) number_same f.0 t _ p f.1 s e i,
+          size (sound es class c f.0 t _ p f.1 s e i),
+        )
+    made_is t p s (inr h) = absurd (omega (arith, number_below t p s))
 
     object_is : (t : Tree) (p : ℕ) → Sits es t p
-        → (d : (num_of numbers p < length firsts) ⊎ (length firsts ≤ num_of numbers p))
-        → object_of (num_of numbers p) d ≡ obj_of (num_of numbers) t p
-    unfolding object_of
-    object_is t p s (inl h) =
-        let f = tree_of (num_of numbers p) h in
-        one_object es class c (num_of numbers) number_same f.0 t
-        (get_or firsts (num_of numbers p) 0) p f.1 s
-        (first_class t p s)
-    object_is t p s (inr h) = absurd (omega (arith, number_below t p s))
-
-    rank_is : (t : Tree) (p : ℕ) → Sits es t p
-        → (d : (num_of numbers p < length firsts) ⊎ (length firsts ≤ num_of numbers p))
-        → rank_of (num_of numbers p) d ≡ size t
-    unfolding rank_of
-    rank_is t p s (inl h) =
-        let f = tree_of (num_of numbers p) h in
-        ap size (sound es class c f.0 t (get_or firsts (num_of numbers p) 0) p f.1 s
-        (first_class t p s))
-    rank_is t p s (inr h) = absurd (omega (arith, number_below t p s))
+        → (made_of (num_of numbers p) (cases_lt (num_of numbers p) (length firsts))).0
+        ≡ obj_of (num_of numbers) t p
+    object_is t p s = ap (λ m. m.0) (made_is t p s (cases_lt _ _))
 
     pub numbered : Numbered es numbers (length firsts)
     numbered = record {
-      rank = λ k. rank_of k (cut k);
-      objects = λ k. object_of k (cut k);
-      describes = λ t p s. object_is t p s (cut (num_of numbers p));
+      rank = λ k. (made_of k (cases_lt k (length firsts))).1;
+      objects = λ k. (made_of k (cases_lt k (length firsts))).0;
+      describes = object_is;
       numbering = record {
         below = number_below;
-        ranked = λ t p s. rank_is t p s (cut (num_of numbers p));
-        holds = λ t p s. object_is t p s (cut (num_of numbers p));
+        ranked = λ t p s. ap (λ m. m.1) (made_is t p s (cases_lt _ _));
+        holds = object_is;
       };
     }

@@ -1,23 +1,17 @@
 -- One more event gets its class.
-use Rattle.std.proofs.Common.{◌≡◌, ◌≢◌, inl, inr, ℕ, ◌+◌, ◌<◌, ◌≤◌, true, false, List, length, get_or, set, Some, ap, sym, ◌∙◌, subst, arith}
+use Rattle.std.proofs.Common.{◌≡◌, ◌≢◌, ℕ, ◌+◌, ◌<◌, ◌≤◌, true, false, List, length, set, Some, ap, sym, ◌∙◌, arith}
 use Rattle.std.specs.Prelude.{slice_get}
-use Rattle.std.proofs.lemmas.Bool.Decides.{eqb_tells}
-use Rattle.std.proofs.lemmas.List.{get_or-set_same, get_or-set_other}
 use Rattle.plist_base.specs.Events.{Single, PlainEvent}
 use Rattle.plist_binwrite.specs.Held.{event_at, num_of}
 use Rattle.plist_binwrite.specs.inner.Scalars.{HaveClasses, is_leaf}
+use Rattle.plist_binwrite.proofs.Changes.{at_set}
 use Rattle.plist_binwrite.proofs.Owners.{not_leaf}
 
 module _ (es : List PlainEvent) (cs : List ℕ) (scalars : List PlainEvent) (top place v : ℕ)
     (lt : place < length cs) (have : HaveClasses es (num_of cs) scalars top place) where
   at_write : (q : ℕ) → (P : ℕ → Type 0) → (q ≡ place → P v) → (q ≢ place → P (num_of cs q))
       → P (num_of (set cs place v) q)
-  at_write q P same other =
-      elim (eqb_tells q place) [
-        | inl e ↦ subst P (sym (ap (λ k. get_or (set cs place v) k 0) e.1
-            ∙ get_or-set_same cs place v 0 lt)) (same e.1)
-        | inr d ↦ subst P (sym (get_or-set_other cs place q v 0 d.1)) (other d.1)
-      ]
+  at_write q P same other = at_set cs place v 0 q P lt same other
 
   -- a scalar
   pub scalar_class : is_leaf (event_at es place) ≡ true

@@ -29,6 +29,15 @@ long_entries (k ∷ kinds) [] same = absurd (omega (arith, same))
 long_entries (k ∷ kinds) (n ∷ numbers) same =
     ap suc (long_entries kinds numbers (omega (arith, same)))
 
+-- a place among the entries is one of both lists
+pub within_lists : (kinds : List Kind) (numbers : List ℕ) (es : List Entry)
+    → length kinds ≡ length numbers → entries_of kinds numbers ≡ es → (p : ℕ) → p < length es
+    → (p < length kinds) × (p < length numbers)
+within_lists kinds numbers es same is p lt =
+    let long = long_entries kinds numbers same in
+    let told = ap length is in
+    (omega (arith, long, told), omega (arith, long, told))
+
 pub entries_at : (kinds : List Kind) (numbers : List ℕ) (p : ℕ) → length kinds ≡ length numbers
     → entry_at (entries_of kinds numbers) p
     ≡ entry_of (get_or kinds p kind.End) (get_or numbers p 0)
@@ -120,10 +129,7 @@ module _ (kinds : List Kind) (numbers : List ℕ) (es : List Entry)
       → room ≡ kinds → more ≡ room ++ k ∷ [] → all ≡ numbers ++ n ∷ [] → k ≡ kind_in e
       → n ≡ number_in e → entries_of more all ≡ es ++ e ∷ []
   pushed_entries room more all e k n reserved one other kind_is number_is =
-      ap (λ l. entries_of l all) (one ∙ ap (λ l. l ++ k ∷ []) reserved
-      ∙ ap (λ x. kinds ++ x ∷ []) kind_is)
-      ∙ ap (entries_of (kinds ++ kind_in e ∷ [])) (other ∙ ap (λ x. numbers ++ x ∷ []) number_is)
-      ∙ entries_more kinds numbers e same ∙ ap (λ l. l ++ e ∷ []) is
+      rw (one, reserved, other, kind_is, number_is, entries_more kinds numbers e same, is) refl
 
   pub popped_entries : (rest : List Kind) (left : List ℕ) (count : ℕ) → count ≡ length kinds
       → rest ≡ take (count - 1) kinds → left ≡ take (length numbers - 1) numbers
@@ -131,15 +137,11 @@ module _ (kinds : List Kind) (numbers : List ℕ) (es : List Entry)
   popped_entries rest left count counted p q =
       let fewer : count - 1 ≡ length es - 1 = omega (arith, counted, long) in
       let as_many : length numbers - 1 ≡ length es - 1 = omega (arith, same, long) in
-      ap (λ l. entries_of l left) (p ∙ ap (λ m. take m kinds) fewer)
-      ∙ ap (entries_of (take (length es - 1) kinds)) (q ∙ ap (λ m. take m numbers) as_many)
-      ∙ entries_first (length es - 1) kinds numbers ∙ ap (take (length es - 1)) is
+      rw (p, q, fewer, as_many, entries_first (length es - 1) kinds numbers, is) refl
 
 -- an entry in the place of one
 pub replaced_entries : (kinds : List Kind) (numbers all : List ℕ) (es : List Entry) (p : ℕ)
     (e : Entry) (k : Kind) (n : ℕ) → entries_of kinds numbers ≡ es → all ≡ set numbers p n
     → k ≡ kind_in e → n ≡ number_in e → entries_of (set kinds p k) all ≡ set es p e
 replaced_entries kinds numbers all es p e k n is other kind_is number_is =
-    ap (λ x. entries_of (set kinds p x) all) kind_is
-    ∙ ap (entries_of (set kinds p (kind_in e))) (other ∙ ap (set numbers p) number_is)
-    ∙ entries_set kinds numbers p e ∙ ap (λ l. set l p e) is
+    rw (other, kind_is, number_is, entries_set kinds numbers p e, is) refl

@@ -1,39 +1,22 @@
 -- The numbers of classes.
-use Rattle.std.proofs.Common.{◌≡◌, ◌≢◌, ◌⊎◌, inl, inr, ℕ, ◌+◌, ◌-◌, ◌^◌, ◌<◌, ◌≤◌, List, [], ◌∷◌, ◌++◌, length, get_or, set, ap, sym, ◌∙◌, subst, arith, length-append}
-use Rattle.std.proofs.lemmas.Bool.Decides.{eqb_tells, leb_tells}
-use Rattle.std.proofs.lemmas.List.{get_or-set_same, get_or-set_other, length-set}
+use Rattle.std.proofs.Common.{◌≡◌, ◌≢◌, ◌⊎◌, inl, inr, ℕ, ◌+◌, ◌-◌, ◌^◌, ◌<◌, ◌≤◌, List, [], ◌∷◌, ◌++◌, length, get_or, set, ap, sym, ◌∙◌, arith, length-append}
+use Rattle.std.proofs.lemmas.List.{get_or-set_same, length-set}
 use Rattle.std.proofs.Math.Seq.{get_or-append_seam}
 use Rattle.std.proofs.Math.ListN.{get_or-append}
-use Rattle.plist_binwrite.specs.Held.{AllBelow, num_of}
+use Rattle.plist_binwrite.specs.Held.{num_of}
 use Rattle.plist_binwrite.specs.inner.PlansBy.{HaveIds}
+use Rattle.plist_binwrite.proofs.Changes.{at_set, at_more}
 
 module _ (cs ids fs : List ℕ) (have : HaveIds cs ids fs) (p : ℕ) (lt : p < length cs) where
-  class : ℕ
-  class = num_of cs p
-
   module _ (small : length fs + 1 < 2 ^ 64) (un : length fs ≤ get_or ids (num_of cs p) 0) where
     at_write : (q : ℕ) → (P : ℕ → Type 0) → (q ≡ num_of cs p → P (length fs))
         → (q ≢ num_of cs p → P (get_or ids q 0))
         → P (get_or (set ids (num_of cs p) (length fs)) q 0)
     at_write q P same other =
-        elim (eqb_tells q (num_of cs p)) [
-          | inl e ↦ subst P (sym (ap (λ k. get_or (set ids (num_of cs p) (length fs)) k 0) e.1
-              ∙ get_or-set_same ids (num_of cs p) (length fs) 0 (have.below p lt))) (same e.1)
-          | inr d ↦ subst P (sym (get_or-set_other ids (num_of cs p) q (length fs) 0 d.1))
-              (other d.1)
-        ]
+        at_set ids (num_of cs p) (length fs) 0 q P (have.below p lt) same other
 
     len : length (fs ++ p ∷ []) ≡ length fs + 1
     len = length-append fs (p ∷ [])
-
-    at_first : (k : ℕ) (P : ℕ → Type 0) → k < length (fs ++ p ∷ []) → (k ≡ length fs → P p)
-        → (k < length fs → P (get_or fs k 0)) → P (get_or (fs ++ p ∷ []) k 0)
-    at_first k P h last other =
-        elim (leb_tells (length fs) k) [
-          | inl e ↦ let s : k ≡ length fs = omega (arith, e.1, len) in subst P
-              (sym (ap (λ i. get_or (fs ++ p ∷ []) i 0) s ∙ get_or-append_seam fs p [] 0)) (last s)
-          | inr d ↦ subst P (sym (get_or-append fs (p ∷ []) 0 k d.1)) (other d.1)
-        ]
 
     long : length (set ids (num_of cs p) (length fs)) ≡ length ids
     long = length-set ids (num_of cs p) (length fs)
@@ -44,7 +27,7 @@ module _ (cs ids fs : List ℕ) (have : HaveIds cs ids fs) (p : ℕ) (lt : p < l
 
     pub ids_new : HaveIds cs (set ids (num_of cs p) (length fs)) (fs ++ p ∷ [])
     ids_new = record {
-      below = subst (λ n. AllBelow n cs) (sym long) have.below;
+      below = rw long have.below;
       sound =
           λ c l. at_write c (λ v. v < length (fs ++ p ∷ [])
           → num_of cs (get_or (fs ++ p ∷ []) v 0) ≡ c)
@@ -53,7 +36,8 @@ module _ (cs ids fs : List ℕ) (have : HaveIds cs ids fs) (p : ℕ) (lt : p < l
           (get_or-append fs (p ∷ []) 0 (get_or ids c 0) w)
           ∙ have.sound c (omega (arith, l, long)) w);
       complete =
-          λ k l. at_first k (λ q. get_or (set ids (num_of cs p) (length fs)) (num_of cs q) 0 ≡ k) l
+          λ k l. at_more fs p 0 k
+          (λ q. get_or (set ids (num_of cs p) (length fs)) (num_of cs q) 0 ≡ k) l
           (λ e. get_or-set_same ids (num_of cs p) (length fs) 0 (have.below p lt) ∙ sym e)
           (λ h. at_write (num_of cs (get_or fs k 0)) (λ v. v ≡ k)
           (λ e. let s : get_or ids (num_of cs p) 0 ≡ k = ap (λ q. get_or ids q 0) (sym e)

@@ -1,6 +1,6 @@
 -- The classes met are the numbers of a plan: as many, and of as many bytes.
-use Rattle.std.proofs.Common.{◌≡◌, ℕ, ◌+◌, ◌<◌, true, false, eqb, List, [], length, get_or, map, ap, sym, ◌∙◌, subst, arith, append-nil}
-use Rattle.std.specs.List.{AllByRecursion, IsDistinct, list_any, range_with_len}
+use Rattle.std.proofs.Common.{◌≡◌, ℕ, ◌+◌, ◌<◌, true, false, eqb, List, length, get_or, map, ap, sym, ◌∙◌, subst, arith}
+use Rattle.std.specs.List.{AllByRecursion, IsDistinct, list_any}
 use Rattle.std.specs.Set.{is_member, unique_keys}
 use Rattle.std.proofs.lemmas.Bool.Decides.{eqb_tells}
 use Rattle.std.proofs.lemmas.List.{length-map}
@@ -18,10 +18,11 @@ use Rattle.plist_binwrite.specs.Standing.{size, Sits, SitsItems, SitsPairs}
 use Rattle.plist_binwrite.specs.Written.{bodies}
 use Rattle.plist_binwrite.proofs.ClassObjects.{number_below, number_apart, number_same}
 use Rattle.plist_binwrite.proofs.Inside.{inside, one_tree}
-use Rattle.plist_binwrite.proofs.Sitting.{sits_items, sits_pairs, sits_item, sits_next, sits_key, sits_value, sits_next_pair}
+use Rattle.plist_binwrite.proofs.SameScalars.{tells_both}
+use Rattle.plist_binwrite.proofs.Sitting.{sits_whole, sits_items, sits_pairs, sits_item, sits_next, sits_key, sits_value, sits_next_pair}
 use Rattle.plist_binwrite.proofs.Sized.{form_size, total_bodies}
-use Rattle.plist_binwrite.proofs.Totals.{same_total, unique_member, unique_distinct, range_member, member_range, range_distinct, both_ways, total-map, total_equal, total_one, total_range}
-use Rattle.plist_binwrite.proofs.Uniques.{all_both, all_left, all_right, all_from, all_unique, members_self, member_has, eqb_both, unique_seen}
+use Rattle.plist_binwrite.proofs.Totals.{total_below, count_below, total_all, unique_member, unique_distinct, total-map, total_equal, total_one}
+use Rattle.plist_binwrite.proofs.Uniques.{all_both, all_left, all_right, all_from, all_unique, members_self, member_has, unique_seen}
 
 -- ---- what is met stands among the events
 
@@ -64,40 +65,25 @@ module _ (es : List PlainEvent) where
         → AllByRecursion Q (item_places ts q)
     items_down NoTrees q s a = tt
     items_down (TreeAnd t ts) q s a = (
-      (t, sits_item s, all_left (λ one. R one.0) (met t q) (met_in_items ts (q + size t)) a),
-      items_down ts (q + size t) (sits_next s)
-          (all_right (λ one. R one.0) (met t q) (met_in_items ts (q + size t)) a),
+      (t, sits_item s, all_left _ (met t q) _ a),
+      items_down ts (q + size t) (sits_next s) (all_right _ (met t q) _ a),
     )
 
-    keys_down : (ms : Members) (q : ℕ) → SitsPairs es ms q → Along (met_in_pairs ms q)
-        → AllByRecursion Q (key_places ms q)
-    keys_down NoMembers q s a = tt
-    keys_down (MemberAnd k t ms) q s a = (
-      (Leaf (trees.String k), sits_key s, (a.0, tt)),
-      keys_down ms (q + 1 + size t) (sits_next_pair s)
-          (all_right (λ one. R one.0) (met t (q + 1)) (met_in_pairs ms (q + 1 + size t)) a.1),
-    )
-
-    values_down : (ms : Members) (q : ℕ) → SitsPairs es ms q → Along (met_in_pairs ms q)
-        → AllByRecursion Q (value_places ms q)
-    values_down NoMembers q s a = tt
-    values_down (MemberAnd k t ms) q s a = (
-      (
-        t,
-        sits_value s,
-        all_left (λ one. R one.0) (met t (q + 1))
-            (met_in_pairs ms (q + 1 + size t)) a.1,
-      ),
-      values_down ms (q + 1 + size t) (sits_next_pair s)
-          (all_right (λ one. R one.0) (met t (q + 1)) (met_in_pairs ms (q + 1 + size t)) a.1),
-    )
+    pairs_down : (ms : Members) (q : ℕ) → SitsPairs es ms q → Along (met_in_pairs ms q)
+        → AllByRecursion Q (key_places ms q) × AllByRecursion Q (value_places ms q)
+    pairs_down NoMembers q s a = (tt, tt)
+    pairs_down (MemberAnd k t ms) q s a =
+        let more = pairs_down ms (q + 1 + size t) (sits_next_pair s)
+        (all_right _ (met t (q + 1)) _ a.1) in (
+          ((Leaf (trees.String k), sits_key s, (a.0, tt)), more.0),
+          ((t, sits_value s, all_left _ (met t (q + 1)) _ a.1), more.1),
+        )
 
     down_in : (u : Tree) (r : ℕ) → Sits es u r → Along (met u r)
         → AllByRecursion Q (keys_in u r) × AllByRecursion Q (values_in u r)
     down_in (Leaf x) r s a = (tt, tt)
     down_in (Array ts) r s a = (tt, items_down ts (r + 1) (sits_items s) a.1)
-    down_in (Dictionary ms) r s a =
-        (keys_down ms (r + 1) (sits_pairs s) a.1, values_down ms (r + 1) (sits_pairs s) a.1)
+    down_in (Dictionary ms) r s a = pairs_down ms (r + 1) (sits_pairs s) a.1
 
     down : (u : Tree) (r : ℕ) → Sits es u r → Q r
         → AllByRecursion Q (keys_in u r) × AllByRecursion Q (values_in u r)
@@ -112,7 +98,7 @@ module _ (es : List PlainEvent) where
         → is_stop (event_at es p) ≡ false → R p
     met_all whole e a p lt b =
         let len : length es ≡ size whole = ap length e in
-        let s : Sits es whole 0 = record { rest = []; is = e ∙ sym (append-nil (shape whole)) } in
+        let s : Sits es whole 0 = sits_whole e in
         let f = inside es Q down whole 0 s (whole, s, a) p (omega arith)
         (omega (arith, len, lt)) b in
         root_of f.0.0 p f.0.2
@@ -122,50 +108,37 @@ module _ (es : List PlainEvent) where
 module _ (es : List PlainEvent) (class : ℕ → ℕ) (numbers firsts : List ℕ)
     (plan : IsPlan es class numbers firsts)
     (all : AllNumbered es numbers (length firsts)) (whole : Tree) (e : es ≡ shape whole) where
-  number : ℕ × Tree → ℕ
+  stand : AllByRecursion (Stands es) (met whole 0)
+  stand = met_stand es whole 0 (sits_whole e)
+
+  abbrev number : ℕ × Tree → ℕ
   number one = num_of numbers one.0
 
-  sits_whole : Sits es whole 0
-  sits_whole = record { rest = []; is = e ∙ sym (append-nil (shape whole)) }
-
-  stand : AllByRecursion (Stands es) (met whole 0)
-  stand = met_stand es whole 0 sits_whole
-
   abbrev given : List ℕ
-  given = map (λ (one : ℕ × Tree). num_of numbers one.0) (met whole 0)
+  given = map number (met whole 0)
 
   -- they are those below the count
-  number_members : (q : ℕ) → is_member eqb (unique_keys eqb given) q
-      ≡ is_member eqb (range_with_len 0 (length firsts)) q
-  number_members q =
-      both_ways (is_member eqb (unique_keys eqb given) q)
-      (is_member eqb (range_with_len 0 (length firsts)) q)
-      (λ h. member_range 0 (length firsts) q (omega arith)
-      (let lt = member_has (λ (one : ℕ × Tree). num_of numbers one.0) (λ k. k < length firsts)
+  total_numbers : (w : ℕ → ℕ) → total w (unique_keys eqb given) ≡ total_below w (length firsts)
+  total_numbers w =
+      total_all w (length firsts) (unique_keys eqb given) (unique_distinct eqb eqb_tells given)
+      (λ q h. member_has number (λ k. k < length firsts)
       (met whole 0) q
-      (all_from (λ (one : ℕ × Tree). num_of numbers one.0 < length firsts) (Stands es)
+      (all_from (λ one. number one < length firsts) (Stands es)
       (λ one s. number_below es class numbers firsts plan all one.1 one.0 s) (met whole 0) stand)
-      (sym (unique_member eqb eqb_tells given q) ∙ h) in omega (arith, lt)))
-      (λ h. let lt = (range_member 0 (length firsts) q h).1 in
-      let f = plan.known q (omega (arith, lt)) in
+      (sym (unique_member eqb eqb_tells given q) ∙ h))
+      (λ q h. let f = plan.known q h in
       let m = met_all es (λ p. is_member eqb given (num_of numbers p) ≡ true) whole e
-      (members_self (λ (one : ℕ × Tree). num_of numbers one.0) (met whole 0))
+      (members_self number (met whole 0))
       (get_or firsts q 0) f.0 f.2 in
       unique_member eqb eqb_tells given q ∙ ap (λ k. is_member eqb given k) (sym f.1) ∙ m)
 
-  total_numbers : (w : ℕ → ℕ) → total w (unique_keys eqb given)
-      ≡ total w (range_with_len 0 (length firsts))
-  total_numbers w =
-      same_total eqb eqb_tells w (unique_keys eqb given) (range_with_len 0 (length firsts))
-      (unique_distinct eqb eqb_tells given)
-      (range_distinct 0 (length firsts)) number_members
-
   -- and one for each class met
-  kept_numbers : map (λ (one : ℕ × Tree). num_of numbers one.0) (kept class whole)
+  kept_numbers : map number (kept class whole)
       ≡ unique_keys eqb given
   kept_numbers =
-      unique_seen (same_class class) eqb (λ (one : ℕ × Tree). num_of numbers one.0) (Stands es)
-      (λ a b s r. eqb_both (class a.0) (class b.0) (num_of numbers a.0) (num_of numbers b.0)
+      unique_seen (same_class class) eqb number (Stands es)
+      (λ a b s r. tells_both eqb eqb (class a.0) (class b.0) (number a) (number b)
+      (eqb_tells _ _) (eqb_tells _ _)
       (number_same es class numbers firsts plan all a.1 b.1 a.0 b.0 s r)
       (number_apart es class numbers firsts plan all a.1 b.1 a.0 b.0 s r))
       (met whole 0) stand
@@ -173,10 +146,10 @@ module _ (es : List PlainEvent) (class : ℕ → ℕ) (numbers firsts : List ℕ
   -- as many objects as classes
   pub planned_count : length firsts ≡ count_by class whole
   planned_count =
-      sym (total_range 0 (length firsts)) ∙ sym (total_numbers (λ x. 1))
+      sym (count_below (length firsts)) ∙ sym (total_numbers (λ x. 1))
       ∙ total_one (unique_keys eqb given)
       ∙ ap length (sym kept_numbers) ∙ length-map (kept class whole)
-      (λ (one : ℕ × Tree). num_of numbers one.0)
+      number
 
   -- and their bytes
   pub planned_size : (w : ℕ) (objects : ℕ → Object) → Describes es numbers objects
@@ -188,11 +161,11 @@ module _ (es : List PlainEvent) (class : ℕ → ℕ) (numbers firsts : List ℕ
       total_bodies w objects order (length firsts) distinct below full
       ∙ sym (total_numbers (λ k. length (form w (objects k))))
       ∙ ap (total (λ k. length (form w (objects k)))) (sym kept_numbers)
-      ∙ total-map (λ (one : ℕ × Tree). num_of numbers one.0) (λ k. length (form w (objects k)))
+      ∙ total-map number (λ k. length (form w (objects k)))
       (kept class whole)
-      ∙ total_equal (λ (one : ℕ × Tree). length (form w (objects (num_of numbers one.0))))
+      ∙ total_equal (λ one. length (form w (objects (number one))))
       (λ one. object_size w one.1) (kept class whole)
-      (all_from (λ (one : ℕ × Tree). length (form w (objects (num_of numbers one.0)))
+      (all_from (λ one. length (form w (objects (number one)))
       ≡ object_size w one.1) (Stands es)
       (λ one s. ap (λ o. length (form w o)) (describes one.1 one.0 s)
       ∙ form_size w (num_of numbers) one.1 one.0)

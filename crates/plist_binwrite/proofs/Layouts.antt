@@ -1,7 +1,10 @@
 -- Objects that lie back to back are found at their places.
-use Rattle.std.proofs.Common.{◌≡◌, ◌≢◌, ◌⊎◌, inl, inr, ℕ, ◌+◌, ◌<◌, ◌≤◌, Bool, true, false, ◌||◌, eqb, List, [], ◌∷◌, ◌++◌, length, get_or, set, refl, ap, sym, ◌∙◌, arith, append_assoc, length-append}
-use Rattle.std.specs.List.{list_any, IsDistinct, AllByRecursion}
-use Rattle.std.proofs.lemmas.Bool.{eq-eqb}
+use Rattle.std.proofs.Common.{◌≡◌, ◌≢◌, ◌⊎◌, inl, inr, ℕ, ◌+◌, ◌<◌, ◌≤◌, true, false, ◌||◌, eqb, List, [], ◌∷◌, ◌++◌, length, get_or, set, refl, ap, sym, ◌∙◌, arith, append_assoc, length-append}
+use Rattle.std.specs.List.{list_any, IsDistinct}
+use Rattle.std.proofs.lemmas.Bool.{eqb-true, eqb-false, or_cases, or_parts, false_from_ne_true, true_from_ne_false}
+use Rattle.std.proofs.lemmas.Cmp.{nat_eq_equiv}
+use Rattle.std.proofs.lemmas.List.Recursion.{or_push}
+use Rattle.std.proofs.lemmas.Map.Keys.{IsDistinct-push}
 use Rattle.std.proofs.lemmas.Bool.Decides.{eqb_tells}
 use Rattle.std.proofs.lemmas.List.{get_or-set_same, get_or-set_other, length-set}
 use Rattle.plist_binread.specs.Container.{magic}
@@ -32,7 +35,7 @@ pub record There (w : ℕ) (objects : ℕ → Object) (file places more : List �
 module _ (w : ℕ) (objects : ℕ → Object) where
   found : (places order : List ℕ) (at k : ℕ) → Laid w objects places order at → list_any
       (eqb k) order ≡ true → Found w objects places order at k
-  found places [] at k l any = absurd (cc)
+  found places [] at k l any = cc
   found places (j ∷ order) at k l any =
       elim (eqb_tells k j) [
         | inl e ↦ rw e.1
@@ -105,7 +108,7 @@ module _ (w : ℕ) (objects : ℕ → Object) where
       (get_or-set_same places k v 0 h ∙ omega (arith, e), good, tt)
   laid_snoc places (j ∷ order) at k v h new good e l =
       elim (eqb_tells k j) [
-        | inl same ↦ absurd (not_both (eqb k j) (list_any (eqb k) order) same.0 new)
+        | inl same ↦ cc ((or_parts (eqb k j) (list_any (eqb k) order) new).0)
         | inr d ↦ (
           get_or-set_other places k j v 0 (λ x. d.1 (sym x)) ∙ l.0,
           l.1,
@@ -114,99 +117,38 @@ module _ (w : ℕ) (objects : ℕ → Object) where
               (omega (arith, e, length-append (form w (objects j)) (bodies w objects order))) l.2,
         )
       ]
-    where
-      not_both : (a b : Bool) → a ≡ true → a || b ≡ false → ⊥
-      not_both true b p q = cc
-      not_both false b p q = cc
 
-pub any_snoc : (p : ℕ → Bool) (xs : List ℕ) (y : ℕ)
-    → list_any p (xs ++ y ∷ []) ≡ list_any p xs || p y
-any_snoc p [] y = or_nothing (p y)
-  where
-    or_nothing : (b : Bool) → b || false ≡ b
-    or_nothing true = refl
-    or_nothing false = refl
-any_snoc p (x ∷ xs) y = ap (λ b. p x || b) (any_snoc p xs y) ∙ or_assoc (p x) (list_any p xs) (p y)
-  where
-    or_assoc : (a b c : Bool) → a || (b || c) ≡ (a || b) || c
-    or_assoc true b c = refl
-    or_assoc false b c = refl
-
-all_snoc : (P : ℕ → Type 0) (xs : List ℕ) (y : ℕ) → AllByRecursion P xs → P y
-    → AllByRecursion P (xs ++ y ∷ [])
-all_snoc P [] y a h = (h, tt)
-all_snoc P (x ∷ xs) y a h = (a.0, all_snoc P xs y a.1 h)
-
-eqb_sym : (a b : ℕ) → eqb a b ≡ false → eqb b a ≡ false
-eqb_sym a b h =
-    elim (eqb_tells b a) [ inl e ↦ absurd (bad (eqb a b) (eq-eqb a b (sym e.1)) h) | inr d ↦ d.0 ]
-  where
-    bad : (x : Bool) → x ≡ true → x ≡ false → ⊥
-    bad x p q = cc
-
-distinct_snoc : (xs : List ℕ) (y : ℕ) → IsDistinct eqb xs → list_any (eqb y) xs ≡ false
-    → IsDistinct eqb (xs ++ y ∷ [])
-unfolding IsDistinct
-distinct_snoc [] y d h = (tt, tt)
-distinct_snoc (x ∷ xs) y d h =
-    let k = or_false (eqb y x) (list_any (eqb y) xs) h in
-    (all_snoc (λ z. eqb x z ≡ false) xs y d.0 (eqb_sym y x k.0), distinct_snoc xs y d.1 k.1)
-  where
-    or_false : (a b : Bool) → a || b ≡ false → (a ≡ false) × (b ≡ false)
-    or_false true b h = absurd (cc)
-    or_false false b h = (refl, h)
+-- any of the numbers, or the one behind them
+any_snoc : (q : ℕ) (xs : List ℕ) (y : ℕ)
+    → list_any (eqb q) (xs ++ y ∷ []) ≡ list_any (eqb q) xs || eqb q y
+any_snoc q xs y = or_push (list_any (eqb q)) (eqb q) refl (λ x l. refl) xs y
 
 pub order_none : (count : ℕ) (marks : List ℕ) → length marks ≡ count
     → ((k : ℕ) → get_or marks k 0 ≡ 0) → IsOrder count [] marks
 unfolding IsDistinct
-order_none count marks long zeros =
-    record {
-      long = long;
-      distinct = tt;
-      below = λ k any. absurd (cc);
-      marked = λ k any. absurd
-          (cc);
-      others = λ k any. zeros k;
-    }
+order_none count marks long zeros = record {
+  long = long;
+  distinct = tt;
+  below = λ k any. cc;
+  marked = λ k any. cc;
+  others = λ k any. zeros k;
+}
 
 -- one more object
 module _ (count : ℕ) (order marks : List ℕ) (k : ℕ) (o : IsOrder count order marks) (h : k < count)
     (z : get_or marks k 0 ≡ 0) where
-  unmarked : (b : Bool) → list_any (eqb k) order ≡ b → b ≡ false
-  unmarked true e = absurd (o.marked k e z)
-  unmarked false e = refl
-
   new : list_any (eqb k) order ≡ false
-  new = unmarked (list_any (eqb k) order) refl
+  new = false_from_ne_true _ (λ e. o.marked k e z)
 
   here : get_or (set marks k 1) k 0 ≡ 1
   here = get_or-set_same marks k 1 0 (omega (arith, o.long))
 
-  split : (q : ℕ) → list_any (eqb q) order || eqb q k ≡ true
-      → (q ≡ k) ⊎ (list_any (eqb q) order ≡ true)
-  split q any =
-      elim (eqb_tells q k) [
-        | inl s ↦ inl s.1
-        | inr d ↦ inr
-            (drop_or (list_any (eqb q) order) (eqb q k) d.0 any)
-      ]
-    where
-      drop_or : (a b : Bool) → b ≡ false → a || b ≡ true → a ≡ true
-      drop_or true b x y = refl
-      drop_or false b x y = absurd (cc)
-
-  neither : (q : ℕ) → list_any (eqb q) order || eqb q k ≡ false
-      → (list_any (eqb q) order ≡ false) × (q ≡ k → ⊥)
-  neither q any =
-      let p = or_false (list_any (eqb q) order)
-      (eqb q k) any in (p.0, λ s. bad (eqb q k) (eq-eqb q k s) p.1)
-    where
-      or_false : (a b : Bool) → a || b ≡ false → (a ≡ false) × (b ≡ false)
-      or_false true b h = absurd (cc)
-      or_false false b h = (refl, h)
-
-      bad : (x : Bool) → x ≡ true → x ≡ false → ⊥
-      bad x p q = cc
+  split : (q : ℕ) → list_any (eqb q) (order ++ k ∷ []) ≡ true
+      → (list_any (eqb q) order ≡ true) ⊎ (q ≡ k)
+  split q any = elim (or_cases _ _ (sym (any_snoc q order k) ∙ any)) [
+    | inl t ↦ inl t
+    | inr s ↦ inr (eqb-true q k s)
+  ]
 
   pub keeps_more : KeepsMarks marks (set marks k 1)
   keeps_more q n = elim (eqb_tells q k) [
@@ -226,24 +168,18 @@ module _ (count : ℕ) (order marks : List ℕ) (k : ℕ) (o : IsOrder count ord
   pub order_more : IsOrder count (order ++ k ∷ []) (set marks k 1)
   order_more = record {
     long = length-set marks k 1 ∙ o.long;
-    distinct = distinct_snoc order k o.distinct new;
-    below =
-        λ q any. elim (split q (sym (any_snoc (eqb q) order k)
-        ∙ any)) [ inl s ↦ omega (arith, s, h) | inr t ↦ o.below q t ];
-    marked = λ q any. elim (split q (sym (any_snoc (eqb q) order k) ∙ any)) [
-      | inl s ↦ λ zero. marked_more (ap (λ j. get_or (set marks k 1) j 0) (sym s) ∙ zero)
-      | inr t ↦ keeps_more q (o.marked q t)
+    distinct = IsDistinct-push nat_eq_equiv order k o.distinct new;
+    below = λ q any. elim (split q any) [ inl t ↦ o.below q t | inr s ↦ omega (arith, s, h) ];
+    marked = λ q any. elim (split q any) [
+      | inl t ↦ keeps_more q (o.marked q t)
+      | inr s ↦ λ zero. marked_more (ap (λ j. get_or (set marks k 1) j 0) (sym s) ∙ zero)
     ];
-    others =
-        λ q any. let n = neither q (sym (any_snoc (eqb q) order k)
-        ∙ any) in get_or-set_other marks k q 1 0 n.1 ∙ o.others q n.0;
+    others = λ q any.
+        let n = or_parts _ _ (sym (any_snoc q order k) ∙ any) in
+        get_or-set_other marks k q 1 0 (eqb-false q k n.1) ∙ o.others q n.0;
   }
 
 -- what is marked is in the order
 pub in_order : (count : ℕ) (order marks : List ℕ) (k : ℕ) → IsOrder count order marks
     → get_or marks k 0 ≢ 0 → list_any (eqb k) order ≡ true
-in_order count order marks k o n = by (list_any (eqb k) order) refl
-  where
-    by : (b : Bool) → list_any (eqb k) order ≡ b → b ≡ true
-    by true e = refl
-    by false e = absurd (n (o.others k e))
+in_order count order marks k o n = true_from_ne_false _ (λ e. n (o.others k e))

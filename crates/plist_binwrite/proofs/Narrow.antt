@@ -11,7 +11,8 @@ marks_wide (suc count) = ap (λ xs. (2 ^ 64 - 1) ∷ xs) (marks_wide count)
 
 -- one of four bytes is set among them all
 pub set_narrow : (narrow wide : List ℕ) (i stored : ℕ) → i < length narrow
-    → map wide_of (set narrow i stored) ++ wide ≡ set (map wide_of narrow ++ wide) i (wide_of stored)
+    → map wide_of (set narrow i stored) ++ wide
+    ≡ set (map wide_of narrow ++ wide) i (wide_of stored)
 set_narrow narrow wide i stored within =
     ap (λ xs. xs ++ wide) (map-set wide_of narrow i stored)
     ∙ sym (set-append_left (map wide_of narrow) wide i (wide_of stored)

@@ -1,20 +1,15 @@
 -- Walks along the children of a collection that give each of them a number.
-use Rattle.std.proofs.Common.{◌≡◌, ◌⊎◌, ℕ, ◌+◌, ◌≤◌, Bool, true, false, List, [], ◌∷◌, ◌++◌, length, refl, ap, sym, ◌∙◌, subst, append_assoc, append-nil}
+use Rattle.std.proofs.Common.{◌≡◌, ◌⊎◌, ℕ, ◌+◌, ◌≤◌, Bool, true, false, List, [], ◌∷◌, ◌++◌, length, ap, sym, ◌∙◌, subst, append_assoc, append-nil}
 use Rattle.std.specs.List.{AllByRecursion}
 use Rattle.plist_base.specs.Events.{PlainEvent}
-use Rattle.plist_base.specs.Trees.{Tree, Leaf, Array, Dictionary, Trees, Members}
-use Rattle.plist_binwrite.specs.Standing.{size, Sits, SitsItems, SitsPairs}
-use Rattle.plist_binwrite.specs.Held.{is_stop, event_at, kind_of, item_places, half_places, keys_in, values_in}
+use Rattle.plist_base.specs.Trees.{Tree, Leaf, Array, Dictionary, Members}
+use Rattle.plist_binwrite.specs.Standing.{size, Sits, SitsPairs}
+use Rattle.plist_binwrite.specs.Held.{is_stop, event_at, kind_of, half_places, keys_in, values_in}
 use Rattle.plist_binwrite.specs.declared.kinds.Kind.TheVariants as kind
 use Rattle.plist_binwrite.proofs.Passing.{half_at, half_none, half_some}
-use Rattle.plist_binwrite.proofs.PlannedBy.{all_weaker}
 use Rattle.plist_binwrite.proofs.Sitting.{sits_pairs}
 use Rattle.plist_binwrite.proofs.Skipping.{begins, starts_array, pairs_on, pairs_off, Places, places_next, places_stop}
-
-all_snoc : (P : ℕ → Type 0) (ps : List ℕ) (p : ℕ) → AllByRecursion P ps → P p
-    → AllByRecursion P (ps ++ p ∷ [])
-all_snoc P [] p a h = (h, tt)
-all_snoc P (q ∷ ps) p a h = (a.0, all_snoc P ps p a.1 h)
+use Rattle.plist_binwrite.proofs.Uniques.{all_both, all_from}
 
 -- the walk stands at q; the places behind it are among all, and this holds of them
 pub record Items (es : List PlainEvent) (P : ℕ → Type 0) (q : ℕ) (all : List ℕ) : Type 0 where
@@ -22,20 +17,12 @@ pub record Items (es : List PlainEvent) (P : ℕ → Type 0) (q : ℕ) (all : Li
   pub hold : AllByRecursion P done
   pub places : Places es q done all
 
-pub items_begin : {es : List PlainEvent} (P : ℕ → Type 0) (ts : Trees) (q : ℕ)
-    → SitsItems es ts q → Items es P q (item_places ts q)
-items_begin P ts q s = record {
-  done = [];
-  hold = tt;
-  places = record { left = ts; sits = s; are = refl };
-}
-
 pub items_next : {es : List PlainEvent} (P R : ℕ → Type 0) {q next : ℕ} {all : List ℕ}
     → Items es P q all → ((p : ℕ) → P p → R p) → is_stop (event_at es q) ≡ false → R q
     → ((t : Tree) → Sits es t q → next ≡ q + size t) → Items es R next all
 items_next P R {q} i weaker nostop here skip = record {
   done = i.done ++ q ∷ [];
-  hold = all_snoc R i.done q (all_weaker P R weaker i.done i.hold) here;
+  hold = all_both R i.done (q ∷ []) (all_from R P weaker i.done i.hold) (here, tt);
   places = places_next i.places nostop skip;
 }
 
@@ -52,20 +39,16 @@ module _ (b : Bool) where
     pub sits : SitsPairs es left q
     pub are : done ++ half_places b left q ≡ all
 
-  pub half_begin : {es : List PlainEvent} (P : ℕ → Type 0) (ms : Members) (q : ℕ)
-      → SitsPairs es ms q → Half es P q (half_places b ms q)
-  half_begin P ms q s = record { done = []; hold = tt; left = ms; sits = s; are = refl }
-
   pub half_next : {es : List PlainEvent} (P R : ℕ → Type 0) {q next : ℕ} {all : List ℕ}
       → Half es P q all → ((p : ℕ) → P p → R p) → is_stop (event_at es q) ≡ false
       → (is_stop (event_at es (half_at b q)) ≡ false → R (half_at b q))
       → ((t : Tree) → Sits es t (q + 1) → next ≡ q + 1 + size t) → Half es R next all
   half_next {es} P R {q} {next} {all} i weaker nostop here skip =
       let f = pairs_on i.left i.sits nostop in
-      subst (λ k. Half es R k all) (sym (skip f.tree f.value)) (record {
+      rw (skip f.tree f.value) (record {
         done = i.done ++ half_at b q ∷ [];
-        hold = all_snoc R i.done (half_at b q) (all_weaker P R weaker i.done i.hold)
-            (here (stands b nostop (begins f.tree (q + 1) f.value)));
+        hold = all_both R i.done (half_at b q ∷ []) (all_from R P weaker i.done i.hold)
+            (here (stands b nostop (begins f.tree (q + 1) f.value)), tt);
         left = f.rest;
         sits = f.sits;
         are = append_assoc i.done (half_at b q ∷ []) (half_places b f.rest (q + 1 + size f.tree))
@@ -93,12 +76,8 @@ pub dictionary_whole : {es : List PlainEvent} (P R : ℕ → Type 0) (q : ℕ)
     → (t : Tree) → Sits es t q
     → AllByRecursion R (keys_in t q) × AllByRecursion R (values_in t q)
 dictionary_whole P R q is weaker keys values (Leaf x) s = (tt, tt)
-dictionary_whole P R q is weaker keys values (Array ts) s =
-    differ (sym (ap kind_of (starts_array s)) ∙ is)
-  where
-    differ : {A : Type 0} → kind.Array ≡ kind.Dictionary → A
-    differ e = cc
+dictionary_whole P R q is weaker keys values (Array ts) s = cc (ap kind_of (starts_array s))
 dictionary_whole P R q is weaker keys values (Dictionary ms) s = (
-  all_weaker P R weaker (half_places false ms (q + 1)) (keys ms (sits_pairs s)),
+  all_from R P weaker (half_places false ms (q + 1)) (keys ms (sits_pairs s)),
   values ms (sits_pairs s),
 )

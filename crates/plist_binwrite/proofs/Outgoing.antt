@@ -23,7 +23,8 @@ puts_none {a} {held} =
 
 -- bytes, and then more
 pub puts_then : {a b c : Option (List ℕ)} {held h k xs ys : List ℕ} {answer : Answer}
-    → PutsBytes a held xs (Ok tt) b h → PutsBytes b h ys answer c k → PutsBytes a held (xs ++ ys) answer c k
+    → PutsBytes a held xs (Ok tt) b h → PutsBytes b h ys answer c k
+    → PutsBytes a held (xs ++ ys) answer c k
 puts_then {a} {b} {c} {held} {h} {k} {xs} {ys} {answer} p q = go answer q.follow
   where
     go : (answer : Answer) → Follow b h ys answer c k → PutsBytes a held (xs ++ ys) answer c k
@@ -58,60 +59,40 @@ pub puts_as : {a b : Option (List ℕ)} {held k xs ys : List ℕ} {answer : Answ
     → PutsBytes a held xs answer b k → PutsBytes a held ys answer b k
 puts_as {a} {b} {held} {k} {xs} {ys} {answer} e p = subst (λ l. PutsBytes a held l answer b k) e p
 
--- what waited goes out
-puts_drain : (a : Option (List ℕ)) (held : List ℕ) (b : Option (List ℕ)) → Appends a b held
-    → PutsBytes a held [] (Ok tt) b []
-puts_drain a held b h =
-    record {
-      follow = λ first done out. record {
-        sent = out.sent ++ held;
-        went = Appends-trans first
-            a b out.sent held out.went h;
-        is = append-nil done ∙ out.is
-            ∙ sym (append-nil (out.sent ++ held));
-      };
-    }
-
-puts_broken : (a : Option (List ℕ)) (held bytes : List ℕ) (fault : Fault) (b : Option (List ℕ))
-    (h : List ℕ) → fault ≡ fault_nowhere Io → AppendsFront a b held
-    → PutsBytes a held bytes (Err fault) b h
-puts_broken a held bytes fault b h io f = record {
-  follow = (
-    io,
-    λ first done out. front_more first b done bytes (
-      out.sent ++ f.0,
-      f.1,
-      Appends-trans first a b out.sent f.0 out.went f.2,
-      out.is ∙ ap (λ l. out.sent ++ l) f.3 ∙ sym (append_assoc out.sent f.0 f.1),
-    ),
-  );
+-- what waited goes out, and then bytes do
+puts_out : (a b : Option (List ℕ)) (held xs : List ℕ) → Appends a b (held ++ xs)
+    → PutsBytes a held xs (Ok tt) b []
+puts_out a b held xs h = record {
+  follow = λ first done out. record {
+    sent = out.sent ++ (held ++ xs);
+    went = Appends-trans first a b out.sent (held ++ xs) out.went h;
+    is = ap (λ l. l ++ xs) out.is ∙ append_assoc out.sent held xs
+        ∙ sym (append-nil (out.sent ++ (held ++ xs)));
+  };
 }
 
--- nothing waits, and bytes go out
-puts_sent : (a b : Option (List ℕ)) (xs : List ℕ) → Appends a b xs → PutsBytes a [] xs (Ok tt) b []
-puts_sent a b xs h =
-    record {
-      follow = λ first done out. record {
-        sent = out.sent ++ xs;
-        went = Appends-trans first a
-            b out.sent xs out.went h;
-        is = ap (λ l. l ++ xs) (out.is ∙ append-nil out.sent)
-            ∙ sym (append-nil (out.sent ++ xs));
-      };
-    }
+-- a beginning of what waited goes out
+pub out_front : (first a b : Option (List ℕ)) (held done : List ℕ) → AppendsFront a b held
+    → IsOut first a held done → AppendsFront first b done
+out_front first a b held done f out = (
+  out.sent ++ f.0,
+  f.1,
+  Appends-trans first a b out.sent f.0 out.went f.2,
+  out.is ∙ ap (λ l. out.sent ++ l) f.3 ∙ sym (append_assoc out.sent f.0 f.1),
+)
 
-puts_unsent : (a b : Option (List ℕ)) (xs : List ℕ) (fault : Fault) → fault ≡ fault_nowhere Io
-    → AppendsFront a b xs → PutsBytes a [] xs (Err fault) b []
-puts_unsent a b xs fault io f = record {
+-- or of it and the bytes
+puts_broken : (a b : Option (List ℕ)) (held xs h : List ℕ) (fault : Fault)
+    → fault ≡ fault_nowhere Io → AppendsFront a b (held ++ xs)
+    → PutsBytes a held xs (Err fault) b h
+puts_broken a b held xs h fault io f = record {
   follow = (
     io,
-    λ first done out. (
-      out.sent ++ f.0,
-      f.1,
-      Appends-trans first a b out.sent f.0 out.went f.2,
-      ap (λ l. l ++ xs) (out.is ∙ append-nil out.sent) ∙ ap (λ l. out.sent ++ l) f.3
-          ∙ sym (append_assoc out.sent f.0 f.1),
-    ),
+    λ first done out. out_front first a b (held ++ xs) (done ++ xs) f (record {
+      sent = out.sent;
+      went = out.went;
+      is = ap (λ l. l ++ xs) out.is ∙ append_assoc out.sent held xs;
+    }),
   );
 }
 
@@ -120,20 +101,24 @@ puts_unsent a b xs fault io f = record {
 pub put_all : (a b c : Option (List ℕ)) (held now bytes k : List ℕ) → now ≡ held → k ≡ []
     → Appends a b now → Appends b c bytes → PutsBytes a held bytes (Ok tt) c k
 put_all a b c held now bytes k e n p q =
-    subst (λ l. PutsBytes a held bytes (Ok tt) c l) (sym n)
-    (puts_then (puts_drain a held b (subst (Appends a b) e p)) (puts_sent b c bytes q))
+    rw n (puts_out a c held bytes (Appends-trans a b c held bytes (subst (Appends a b) e p) q))
 
 pub put_half : (a b c : Option (List ℕ)) (held now bytes k : List ℕ) (fault : Fault) → now ≡ held
     → k ≡ [] → Appends a b now → fault ≡ fault_nowhere Io → AppendsFront b c bytes
     → PutsBytes a held bytes (Err fault) c k
 put_half a b c held now bytes k fault e n p io q =
-    subst (λ l. PutsBytes a held bytes (Err fault) c l) (sym n)
-    (puts_then (puts_drain a held b (subst (Appends a b) e p)) (puts_unsent b c bytes fault io q))
+    puts_broken a c held bytes k fault io (
+      held ++ q.0,
+      q.1,
+      Appends-trans a b c held q.0 (subst (Appends a b) e p) q.2,
+      ap (λ l. held ++ l) q.3 ∙ sym (append_assoc held q.0 q.1),
+    )
 
 pub put_stuck : (a b : Option (List ℕ)) (held now bytes k : List ℕ) (fault : Fault) → now ≡ held
     → fault ≡ fault_nowhere Io → AppendsFront a b now → PutsBytes a held bytes (Err fault) b k
 put_stuck a b held now bytes k fault e io f =
-    puts_broken a held bytes fault b k io (subst (AppendsFront a b) e f)
+    puts_broken a b held bytes k fault io
+    (front_more a b held bytes (subst (AppendsFront a b) e f))
 
 -- ---- bytes of each of some numbers
 
@@ -156,24 +141,14 @@ last_part xs i h k = let e : i ≡ length xs = omega arith in ap (λ n. take n x
 
 -- ---- the end
 
-pub out_front : (first a b : Option (List ℕ)) (held done : List ℕ) → AppendsFront a b held
-    → IsOut first a held done → AppendsFront first b done
-out_front first a b held done f out = (
-  out.sent ++ f.0,
-  f.1,
-  Appends-trans first a b out.sent f.0 out.went f.2,
-  out.is
-      ∙ ap (λ l. out.sent ++ l) f.3 ∙ sym (append_assoc out.sent f.0 f.1),
-)
-
 -- an empty room, and then the bytes
 is_out : (a : Option (List ℕ)) → IsOut a a [] []
 is_out a = record { sent = []; went = Appends-nil a; is = refl }
 
 pub from_empty : {a b : Option (List ℕ)} {held bytes k : List ℕ} → held ≡ []
     → PutsBytes a held bytes (Ok tt) b k → IsOut a b k bytes
-from_empty {a} e p = p.follow a [] (subst (λ l. IsOut a a l []) (sym e) (is_out a))
+from_empty {a} e p = p.follow a [] (rw e (is_out a))
 
 pub from_empty_front : {a b : Option (List ℕ)} {held bytes k : List ℕ} {fault : Fault} → held ≡ []
     → PutsBytes a held bytes (Err fault) b k → AppendsFront a b bytes
-from_empty_front {a} e p = p.follow.1 a [] (subst (λ l. IsOut a a l []) (sym e) (is_out a))
+from_empty_front {a} e p = p.follow.1 a [] (rw e (is_out a))

@@ -1,9 +1,11 @@
 -- The plain writer's classes: one for each collection, and one for each different scalar.
-use Rattle.std.proofs.Common.{◌≡◌, inl, inr, ℕ, ◌+◌, ◌<◌, Bool, true, false, cond, ◌||◌, eqb, List, [], ◌∷◌, ◌++◌, map, refl, ap, sym, ◌∙◌, subst, arith, append-nil}
+use Rattle.std.proofs.Common.{◌≡◌, inl, inr, ℕ, ◌+◌, ◌<◌, Bool, true, false, cond, ◌||◌, eqb, List, [], ◌∷◌, ◌++◌, map, refl, ap, sym, ◌∙◌, arith, append-nil}
 use Rattle.std.specs.List.{AllByRecursion, IsDistinct}
 use Rattle.std.specs.Set.{is_member, unique_keys}
+use Rattle.std.proofs.lemmas.Bool.{ne_eqb}
 use Rattle.std.proofs.lemmas.Bool.Decides.{eqb_tells}
-use Rattle.std.proofs.lemmas.List.{map-append}
+use Rattle.std.proofs.lemmas.Grind.{flat_map-append}
+use Rattle.std.proofs.lemmas.List.{map-append, map-id}
 use Rattle.plist_base.specs.Bracketing.{shape}
 use Rattle.plist_base.specs.Events.{PlainEvent}
 use Rattle.plist_base.specs.Trees.{Scalar, Tree, Leaf, Array, Dictionary, Trees, NoTrees, TreeAnd, Members, NoMembers, MemberAnd}
@@ -16,9 +18,11 @@ use Rattle.plist_binwrite.specs.Standing.{size, Sits}
 use Rattle.plist_binwrite.specs.Walks.{collections}
 use Rattle.plist_binwrite.specs.Written.{reference_width}
 use Rattle.plist_binwrite.proofs.Kept.{Stands, met_stand}
+use Rattle.plist_binwrite.proofs.SameScalars.{owner_eq}
+use Rattle.plist_binwrite.proofs.Sitting.{sits_whole}
 use Rattle.plist_binwrite.proofs.Totals.{total_one}
 use Rattle.plist_binwrite.proofs.Uniques.{unique_seen}
-use Rattle.plist_binwrite.proofs.OwnedApart.{One, Rising, class_owner, classes_tell, collected, collected_at, collected_at-append, collected_is, own_tree, owned_eq, spread, texts, texts_are}
+use Rattle.plist_binwrite.proofs.OwnedApart.{One, Rising, class_owner, classes_tell, collected, collected_at, collected_is, own_tree, owned_eq, place_of, spread, texts, texts_are}
 
 -- ---- the weights of one of each kind
 
@@ -31,41 +35,34 @@ module _ (weight : Tree → ℕ) where
       → total weigh (cond b xs ((p, Leaf x) ∷ xs))
       ≡ n + total (λ y. weight (Leaf y)) (cond c ys (x ∷ ys))
   weigh_cond true true xs ys p x n e h = h
-  weigh_cond true false xs ys p x n e h = absurd (cc)
-  weigh_cond false true xs ys p x n e h = absurd (cc)
+  weigh_cond true false xs ys p x n e h = cc
+  weigh_cond false true xs ys p x n e h = cc
   weigh_cond false false xs ys p x n e h = omega (arith, h)
 
   weigh_false : (b : Bool) (xs : List One) (one : One) → b ≡ false
       → total weigh (cond b xs (one ∷ xs)) ≡ weigh one + total weigh xs
-  weigh_false true xs one e = absurd (cc)
+  weigh_false true xs one e = cc
   weigh_false false xs one e = refl
 
   text_member : (ones : List One) (p : ℕ) (x : Scalar)
       → is_member owned_eq ones (p, Leaf x) ≡ is_member scalar_eq (texts ones) x
   text_member [] p x = refl
   text_member ((q, Leaf y) ∷ ones) p x = ap (λ b. scalar_eq x y || b) (text_member ones p x)
-  text_member ((q, Array ts) ∷ ones) p x = text_member ones p x
-  text_member ((q, Dictionary ms) ∷ ones) p x = text_member ones p x
+  text_member ((q, t) ∷ ones) p x = text_member ones p x
 
   apart_eq : (p q : ℕ) → p < q → eqb p q ≡ false
-  apart_eq p q h = elim (eqb_tells p q) [ inl e ↦ absurd (omega (arith, e.1, h)) | inr d ↦ d.0 ]
+  apart_eq p q h = ne_eqb p q (λ e. omega (arith, e, h))
 
-  no_array : (ones : List One) (p : ℕ) (us : Trees) → AllByRecursion (λ later. p < later.0) ones
-      → is_member owned_eq ones (p, Array us) ≡ false
-  no_array [] p us a = refl
-  no_array ((q, Leaf y) ∷ ones) p us a = no_array ones p us a.1
-  no_array ((q, Array ts) ∷ ones) p us a = λ i. apart_eq p q a.0 i || no_array ones p us a.1 i
-  no_array ((q, Dictionary ms) ∷ ones) p us a = λ i. apart_eq p q a.0 i || no_array ones p us a.1 i
-
-  no_dictionary : (ones : List One) (p : ℕ) (us : Members)
-      → AllByRecursion (λ later. p < later.0) ones
-      → is_member owned_eq ones (p, Dictionary us) ≡ false
-  no_dictionary [] p us a = refl
-  no_dictionary ((q, Leaf y) ∷ ones) p us a = no_dictionary ones p us a.1
-  no_dictionary ((q, Array ts) ∷ ones) p us a =
-      λ i. apart_eq p q a.0 i || no_dictionary ones p us a.1 i
-  no_dictionary ((q, Dictionary ms) ∷ ones) p us a =
-      λ i. apart_eq p q a.0 i || no_dictionary ones p us a.1 i
+  -- a collection isn't met again
+  no_other : (ones : List One) (p : ℕ) (t : Tree) → own_tree t p ≡ alone p
+      → AllByRecursion (λ later. p < later.0) ones → is_member owned_eq ones (p, t) ≡ false
+  no_other [] p t e a = refl
+  no_other ((q, u) ∷ ones) p t e a =
+      λ i. (ap (λ o. owner_eq o (own_tree u q)) e ∙ by u) i || no_other ones p t e a.1 i
+    where
+      by : (u : Tree) → owner_eq (alone p) (own_tree u q) ≡ false
+      by (Leaf y) = refl
+      by u = apart_eq p q a.0
 
   owned_total : (ones : List One) → Rising ones
       → total weigh (unique_keys owned_eq ones)
@@ -76,30 +73,20 @@ module _ (weight : Tree → ℕ) where
       weigh_cond (is_member owned_eq ones (p, Leaf x)) (is_member scalar_eq (texts ones) x)
       (unique_keys owned_eq ones) (unique_keys scalar_eq (texts ones)) p x
       (total weight (collected ones)) (text_member ones p x) (owned_total ones r.1)
-  owned_total ((p, Array ts) ∷ ones) r =
-      weigh_false (is_member owned_eq ones (p, Array ts)) (unique_keys owned_eq ones) (p, Array ts)
-      (no_array ones p ts r.0) ∙ omega (arith, owned_total ones r.1)
-  owned_total ((p, Dictionary ms) ∷ ones) r =
-      weigh_false (is_member owned_eq ones (p, Dictionary ms)) (unique_keys owned_eq ones)
-      (p, Dictionary ms) (no_dictionary ones p ms r.0) ∙ omega (arith, owned_total ones r.1)
+  owned_total ((p, t) ∷ ones) r =
+      weigh_false (is_member owned_eq ones (p, t)) (unique_keys owned_eq ones) (p, t)
+      (no_other ones p t refl r.0) ∙ omega (arith, owned_total ones r.1)
 
 -- ---- counts and sizes
 
-map-same : {A : Type 0} (xs : List A) → map (λ x. x) xs ≡ xs
-map-same [] = refl
-map-same (x ∷ xs) = ap (λ l. x ∷ l) (map-same xs)
-
 module _ (class : ℕ → ℕ) (count : ℕ) (tree : Tree) (o : AreOwners (shape tree) class count) where
-  sits_whole : Sits (shape tree) tree 0
-  sits_whole = record { rest = []; is = sym (append-nil (shape tree)) }
-
   kept_is : kept class tree ≡ unique_keys owned_eq (met tree 0)
   kept_is =
-      sym (map-same (kept class tree))
+      sym (map-id (kept class tree))
       ∙ unique_seen (same_class class) owned_eq (λ one. one) (Stands (shape tree))
       (classes_tell (shape tree) class count o) (met tree 0)
-      (met_stand (shape tree) tree 0 sits_whole)
-      ∙ ap (unique_keys owned_eq) (map-same (met tree 0))
+      (met_stand (shape tree) tree 0 (sits_whole refl))
+      ∙ ap (unique_keys owned_eq) (map-id (met tree 0))
 
   kept_total : (weight : Tree → ℕ) → total (λ (one : One). weight one.1) (kept class tree)
       ≡ total weight (collections_in tree) + total (λ y. weight (Leaf y))
@@ -144,7 +131,7 @@ mutual
   trace_items_is num (TreeAnd t ts) p =
       (λ i. trace_is num t p i ++ trace_items_is num ts (p + size t) i)
       ∙ sym (map-append num (collected_at (met t p)) (collected_at (met_in_items ts (p + size t))))
-      ∙ ap (map num) (sym (collected_at-append (met t p) (met_in_items ts (p + size t))))
+      ∙ ap (map num) (sym (flat_map-append place_of (met t p) (met_in_items ts (p + size t))))
 
   trace_pairs_is : (num : ℕ → ℕ) (ms : Members) (p : ℕ)
       → trace_pairs num collections ms p ≡ map num (collected_at (met_in_pairs ms p))
@@ -153,7 +140,8 @@ mutual
       (λ i. trace_is num t (p + 1) i ++ trace_pairs_is num ms (p + 1 + size t) i)
       ∙ sym (map-append num (collected_at (met t (p + 1)))
       (collected_at (met_in_pairs ms (p + 1 + size t))))
-      ∙ ap (map num) (sym (collected_at-append (met t (p + 1)) (met_in_pairs ms (p + 1 + size t))))
+      ∙ ap (map num) (sym (flat_map-append place_of (met t (p + 1))
+      (met_in_pairs ms (p + 1 + size t))))
 
 module _ (es : List PlainEvent) (class num : ℕ → ℕ) (count : ℕ) (o : AreOwners es class count)
     (num_apart : (t u : Tree) (p q : ℕ) → Sits es t p → Sits es u q → num p ≡ num q
@@ -177,22 +165,18 @@ module _ (es : List PlainEvent) (class num : ℕ → ℕ) (count : ℕ) (o : Are
       → AllByRecursion (λ y. eqb (num a.0) y ≡ false) (map num (collected_at ones))
   all_apart a s i [] r h = tt
   all_apart a s i ((q, Leaf y) ∷ ones) r h = all_apart a s i ones r.1 h.1
-  all_apart a s i ((q, Array ts) ∷ ones) r h =
-      (alone_apart a (q, Array ts) s r.0 i refl h.0, all_apart a s i ones r.1 h.1)
-  all_apart a s i ((q, Dictionary ms) ∷ ones) r h =
-      (alone_apart a (q, Dictionary ms) s r.0 i refl h.0, all_apart a s i ones r.1 h.1)
+  all_apart a s i ((q, t) ∷ ones) r h =
+      (alone_apart a (q, t) s r.0 i refl h.0, all_apart a s i ones r.1 h.1)
 
   distinct_at : (ones : List One) → AllByRecursion (Stands es) ones → Rising ones
       → IsDistinct eqb (map num (collected_at ones))
   unfolding IsDistinct
   distinct_at [] s r = tt
   distinct_at ((p, Leaf x) ∷ ones) s r = distinct_at ones s.1 r.1
-  distinct_at ((p, Array ts) ∷ ones) s r =
-      (all_apart (p, Array ts) s.0 refl ones s.1 r.0, distinct_at ones s.1 r.1)
-  distinct_at ((p, Dictionary ms) ∷ ones) s r =
-      (all_apart (p, Dictionary ms) s.0 refl ones s.1 r.0, distinct_at ones s.1 r.1)
+  distinct_at ((p, t) ∷ ones) s r =
+      (all_apart (p, t) s.0 refl ones s.1 r.0, distinct_at ones s.1 r.1)
 
   pub entered_once : (tree : Tree) → Sits es tree 0 → IsDistinct eqb (trace num collections tree 0)
   entered_once tree s =
-      subst (λ l. IsDistinct eqb l) (sym (trace_is num tree 0))
+      rw (trace_is num tree 0)
       (distinct_at (met tree 0) (met_stand es tree 0 s) (spread tree 0).rising)

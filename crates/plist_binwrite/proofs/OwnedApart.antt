@@ -1,9 +1,10 @@
 -- The owner of a tree, and what is met, apart by kind and at places that rise.
-use Rattle.std.proofs.Common.{◌≡◌, inl, inr, ℕ, ◌+◌, ◌<◌, ◌≤◌, Bool, true, false, eqb, None, List, [], ◌∷◌, ◌++◌, length, refl, ap, sym, ◌∙◌, subst, arith, length-append}
-use Rattle.std.specs.List.{AllByRecursion}
+use Rattle.std.proofs.Common.{◌≡◌, ℕ, ◌+◌, ◌<◌, ◌≤◌, Bool, eqb, List, [], ◌∷◌, ◌++◌, length, refl, ap, sym, ◌∙◌, subst, arith, length-append}
+use Rattle.std.specs.List.{flat_map, AllByRecursion}
+use Rattle.std.proofs.lemmas.Grind.{flat_map-append}
 use Rattle.std.proofs.lemmas.Bool.Decides.{eqb_tells}
 use Rattle.plist_base.specs.Bracketing.{shape, shape_of_items, shape_of_pairs}
-use Rattle.plist_base.specs.Events.{PlainEvent, StartArray, StartDictionary, EndCollection, Single}
+use Rattle.plist_base.specs.Events.{PlainEvent, EndCollection}
 use Rattle.plist_base.specs.Trees as trees
 use Rattle.plist_base.specs.Trees.{Scalar, Tree, Leaf, Array, Dictionary, Trees, NoTrees, TreeAnd, Members, NoMembers, MemberAnd}
 use Rattle.plist_binread.specs.Object as obj
@@ -14,11 +15,10 @@ use Rattle.plist_binwrite.specs.Held.{plain_events, num_of, AllBelow}
 use Rattle.plist_binwrite.specs.Numberings.{obj_of}
 use Rattle.plist_binwrite.specs.inner.Scalars.{Owner, shared, alone, own, owner, AreOwners}
 use Rattle.plist_binwrite.specs.Standing.{size, Sits}
-use Rattle.plist_binwrite.proofs.SameScalars.{owner_eq, owners_tell}
+use Rattle.plist_binwrite.proofs.SameScalars.{owner_eq, owners_tell, tells_both}
 use Rattle.plist_binwrite.proofs.Inside.{one_tree}
 use Rattle.plist_binwrite.proofs.Kept.{Stands}
-use Rattle.plist_binwrite.proofs.Skipping.{first_event, sits_within, size_positive}
-use Rattle.plist_binwrite.proofs.Totals.{both_ways}
+use Rattle.plist_binwrite.proofs.Skipping.{stands_single, starts_array, starts_dictionary, sits_in}
 use Rattle.plist_binwrite.proofs.Uniques.{all_both, all_from}
 
 -- ---- the owner of a tree
@@ -29,13 +29,9 @@ own_tree (Array ts) p = alone p
 own_tree (Dictionary ms) p = alone p
 
 pub owner_is : {es : List PlainEvent} (t : Tree) (p : ℕ) → Sits es t p → owner es p ≡ own_tree t p
-owner_is {es} (Leaf x) p s = ap (λ e. own e p) (first_event es p (Single x) s.rest s.is)
-owner_is {es} (Array ts) p s =
-    ap (λ e. own e p) (first_event es p (StartArray None)
-    ((shape_of_items ts ++ EndCollection ∷ []) ++ s.rest) s.is)
-owner_is {es} (Dictionary ms) p s =
-    ap (λ e. own e p) (first_event es p (StartDictionary None)
-    ((shape_of_pairs ms ++ EndCollection ∷ []) ++ s.rest) s.is)
+owner_is (Leaf x) p s = ap (λ e. own e p) (stands_single s)
+owner_is (Array ts) p s = ap (λ e. own e p) (starts_array s)
+owner_is (Dictionary ms) p s = ap (λ e. own e p) (starts_dictionary s)
 
 -- trees of one owner have one object
 module _ (es : List PlainEvent) (num : ℕ → ℕ) where
@@ -47,32 +43,20 @@ module _ (es : List PlainEvent) (num : ℕ → ℕ) where
   same_owner : (u v : Tree) (p q : ℕ) → own_tree v q ≡ own_tree u p → Sits es u p → Sits es v q
       → obj_of num v q ≡ obj_of num u p
   same_owner (Leaf x) (Leaf y) p q e s r = let k : y ≡ x = cc in ap (λ v. obj.Scalar v) k
-  same_owner (Leaf x) (Array vs) p q e s r = absurd (cc)
-  same_owner (Leaf x) (Dictionary vs) p q e s r = absurd (cc)
-  same_owner (Array us) (Leaf y) p q e s r = absurd (cc)
-  same_owner (Array us) (Array vs) p q e s r = let k : q
-      ≡ p = cc in here (Array us) (Array vs) p q k s r
-  same_owner (Array us) (Dictionary vs) p q e s r = let k : q
-      ≡ p = cc in here (Array us) (Dictionary vs) p q k s r
-  same_owner (Dictionary us) (Leaf y) p q e s r = absurd (cc)
-  same_owner (Dictionary us) (Array vs) p q e s r = let k : q
-      ≡ p = cc in here (Dictionary us) (Array vs) p q k s r
-  same_owner (Dictionary us) (Dictionary vs) p q e s r = let k : q
-      ≡ p = cc in here (Dictionary us) (Dictionary vs) p q k s r
+  same_owner (Leaf x) v p q e s r = cc
+  same_owner u (Leaf y) p q e s r = cc
+  same_owner u v p q e s r = let k : q ≡ p = cc in here u v p q k s r
 
 module _ (es : List PlainEvent) (class : ℕ → ℕ) (count : ℕ) (o : AreOwners es class count) where
-  within : (t : Tree) (p : ℕ) → Sits es t p → p < length es
-  within t p s = omega (arith, sits_within s, size_positive t)
-
   pub class_owner : (t u : Tree) (p q : ℕ) → Sits es t p → Sits es u q → class p ≡ class q
       → own_tree t p ≡ own_tree u q
   class_owner t u p q s r e =
-      sym (owner_is t p s) ∙ o.sound p q (within t p s) (within u q r) e ∙ owner_is u q r
+      sym (owner_is t p s) ∙ o.sound p q (sits_in s) (sits_in r) e ∙ owner_is u q r
 
-  owner_class : (t u : Tree) (p q : ℕ) → Sits es t p → Sits es u q → own_tree t p ≡ own_tree u q
+  pub owner_class : (t u : Tree) (p q : ℕ) → Sits es t p → Sits es u q → own_tree t p ≡ own_tree u q
       → class p ≡ class q
   owner_class t u p q s r e =
-      o.complete p q (within t p s) (within u q r) (owner_is t p s ∙ e ∙ sym (owner_is u q r))
+      o.complete p q (sits_in s) (sits_in r) (owner_is t p s ∙ e ∙ sym (owner_is u q r))
 
   pub owners_classes : AreClasses es class
   owners_classes =
@@ -85,31 +69,14 @@ module _ (es : List PlainEvent) (class : ℕ → ℕ) (count : ℕ) (o : AreOwne
   pub classes_tell : (a b : ℕ × Tree) → Stands es a → Stands es b
       → same_class class a b ≡ owner_eq (own_tree a.1 a.0) (own_tree b.1 b.0)
   classes_tell a b s r =
-      both_ways (same_class class a b) (owner_eq (own_tree a.1 a.0) (own_tree b.1 b.0))
-      (λ h. elim (eqb_tells (class a.0) (class b.0)) [
-        | inl e ↦ elim (owners_tell (own_tree a.1 a.0)
-            (own_tree b.1 b.0)) [
-              | inl t ↦ t.0
-              | inr f ↦ absurd
-                  (f.1 (class_owner a.1 b.1 a.0 b.0 s r e.1))
-            ]
-        | inr d ↦ not_both (eqb (class a.0) (class b.0)) h d.0
-      ])
-      (λ h. elim (owners_tell (own_tree a.1 a.0) (own_tree b.1 b.0)) [
-        | inl t ↦ elim (eqb_tells (class a.0) (class b.0)) [
-          | inl e ↦ e.0
-          | inr d ↦ absurd
-              (d.1 (owner_class a.1 b.1 a.0 b.0 s r t.1))
-        ]
-        | inr f ↦ not_both (owner_eq (own_tree a.1 a.0) (own_tree b.1 b.0)) h f.0
-      ])
-    where
-      not_both : {A : Type 0} (b : Bool) → b ≡ true → b ≡ false → A
-      not_both b p q = cc
+      tells_both eqb owner_eq (class a.0) (class b.0) (own_tree a.1 a.0) (own_tree b.1 b.0)
+      (eqb_tells _ _) (owners_tell _ _) (class_owner a.1 b.1 a.0 b.0 s r)
+      (owner_class a.1 b.1 a.0 b.0 s r)
 
 -- their classes are below the count
 pub owners_below : (events : Held) (classes : List ℕ) (count : ℕ)
-    → length classes ≡ length (plain_events events) → AreOwners (plain_events events) (num_of classes) count
+    → length classes ≡ length (plain_events events)
+    → AreOwners (plain_events events) (num_of classes) count
     → AllBelow count classes
 owners_below events classes count long o i h = o.below i (omega (arith, long, h))
 
@@ -121,41 +88,29 @@ One = ℕ × Tree
 abbrev pub owned_eq : One → One → Bool
 owned_eq a b = owner_eq (own_tree a.1 a.0) (own_tree b.1 b.0)
 
+abbrev collection_of : One → List Tree
+collection_of (p, Leaf x) = []
+collection_of (p, Array ts) = Array ts ∷ []
+collection_of (p, Dictionary ms) = Dictionary ms ∷ []
+
+abbrev pub place_of : One → List ℕ
+place_of (p, Leaf x) = []
+place_of (p, Array ts) = p ∷ []
+place_of (p, Dictionary ms) = p ∷ []
+
+abbrev text_of : One → List Scalar
+text_of (p, Leaf x) = x ∷ []
+text_of (p, Array ts) = []
+text_of (p, Dictionary ms) = []
+
 abbrev pub collected : List One → List Tree
-collected [] = []
-collected ((p, Leaf x) ∷ ones) = collected ones
-collected ((p, Array ts) ∷ ones) = Array ts ∷ collected ones
-collected ((p, Dictionary ms) ∷ ones) = Dictionary ms ∷ collected ones
+collected ones = flat_map collection_of ones
 
 abbrev pub collected_at : List One → List ℕ
-collected_at [] = []
-collected_at ((p, Leaf x) ∷ ones) = collected_at ones
-collected_at ((p, Array ts) ∷ ones) = p ∷ collected_at ones
-collected_at ((p, Dictionary ms) ∷ ones) = p ∷ collected_at ones
+collected_at ones = flat_map place_of ones
 
 abbrev pub texts : List One → List Scalar
-texts [] = []
-texts ((p, Leaf x) ∷ ones) = x ∷ texts ones
-texts ((p, Array ts) ∷ ones) = texts ones
-texts ((p, Dictionary ms) ∷ ones) = texts ones
-
-collected-append : (a b : List One) → collected (a ++ b) ≡ collected a ++ collected b
-collected-append [] b = refl
-collected-append ((p, Leaf x) ∷ a) b = collected-append a b
-collected-append ((p, Array ts) ∷ a) b = ap (λ l. Array ts ∷ l) (collected-append a b)
-collected-append ((p, Dictionary ms) ∷ a) b = ap (λ l. Dictionary ms ∷ l) (collected-append a b)
-
-pub collected_at-append : (a b : List One) → collected_at (a ++ b) ≡ collected_at a ++ collected_at b
-collected_at-append [] b = refl
-collected_at-append ((p, Leaf x) ∷ a) b = collected_at-append a b
-collected_at-append ((p, Array ts) ∷ a) b = ap (λ l. p ∷ l) (collected_at-append a b)
-collected_at-append ((p, Dictionary ms) ∷ a) b = ap (λ l. p ∷ l) (collected_at-append a b)
-
-texts-append : (a b : List One) → texts (a ++ b) ≡ texts a ++ texts b
-texts-append [] b = refl
-texts-append ((p, Leaf x) ∷ a) b = ap (λ l. x ∷ l) (texts-append a b)
-texts-append ((p, Array ts) ∷ a) b = texts-append a b
-texts-append ((p, Dictionary ms) ∷ a) b = texts-append a b
+texts ones = flat_map text_of ones
 
 mutual
   pub collected_is : (t : Tree) (p : ℕ) → collected (met t p) ≡ collections_in t
@@ -166,13 +121,13 @@ mutual
   collected_items : (ts : Trees) (p : ℕ) → collected (met_in_items ts p) ≡ collections_in_items ts
   collected_items NoTrees p = refl
   collected_items (TreeAnd t ts) p =
-      collected-append (met t p) (met_in_items ts (p + size t))
+      flat_map-append collection_of (met t p) (met_in_items ts (p + size t))
       ∙ (λ i. collected_is t p i ++ collected_items ts (p + size t) i)
 
   collected_pairs : (ms : Members) (p : ℕ) → collected (met_in_pairs ms p) ≡ collections_in_pairs ms
   collected_pairs NoMembers p = refl
   collected_pairs (MemberAnd k t ms) p =
-      collected-append (met t (p + 1)) (met_in_pairs ms (p + 1 + size t))
+      flat_map-append collection_of (met t (p + 1)) (met_in_pairs ms (p + 1 + size t))
       ∙ (λ i. collected_is t (p + 1) i ++ collected_pairs ms (p + 1 + size t) i)
 
 mutual
@@ -184,13 +139,14 @@ mutual
   texts_of_items : (ts : Trees) (p : ℕ) → texts (met_in_items ts p) ≡ scalars_in_items ts
   texts_of_items NoTrees p = refl
   texts_of_items (TreeAnd t ts) p =
-      texts-append (met t p) (met_in_items ts (p + size t))
+      flat_map-append text_of (met t p) (met_in_items ts (p + size t))
       ∙ (λ i. texts_are t p i ++ texts_of_items ts (p + size t) i)
 
   texts_of_pairs : (ms : Members) (p : ℕ) → texts (met_in_pairs ms p) ≡ scalars_in_pairs ms
   texts_of_pairs NoMembers p = refl
   texts_of_pairs (MemberAnd k t ms) p =
-      ap (λ l. trees.String k ∷ l) (texts-append (met t (p + 1)) (met_in_pairs ms (p + 1 + size t))
+      ap (λ l. trees.String k ∷ l) (flat_map-append text_of (met t (p + 1))
+      (met_in_pairs ms (p + 1 + size t))
       ∙ (λ i. texts_are t (p + 1) i ++ texts_of_pairs ms (p + 1 + size t) i))
 
 -- ---- places rise

@@ -1,32 +1,23 @@
 -- Classes of events.
-use Rattle.std.proofs.Common.{◌≡◌, ◌⊎◌, inl, inr, ℕ, zero, suc, ◌<◌, ◌≤◌, true, false, List, [], ◌∷◌, length, Some, refl, ap, sym, ◌∙◌, arith}
+use Rattle.std.proofs.Common.{◌≡◌, ◌⊎◌, inl, inr, ℕ, ◌<◌, ◌≤◌, true, false, List, length, Some, refl, ap, sym, ◌∙◌, arith}
 use Rattle.std.specs.Prelude.{slice_get}
-use Rattle.plist_base.specs.Events.{Single, PlainEvent, StartArray, StartDictionary, EndCollection}
+use Rattle.std.proofs.lemmas.Option.{slice_get_within}
+use Rattle.plist_base.specs.Events.{Single, PlainEvent}
 use Rattle.plist_base.specs.Trees.{Scalar}
 use Rattle.plist_binwrite.specs.Held.{event_at}
 use Rattle.plist_binwrite.specs.inner.Scalars.{owner, own, shared, alone, AreApart, HaveClasses, AreOwners, is_leaf}
-
-pub get_below : {K : Type 0} (keys : List K) (i : ℕ) (k : K) → slice_get keys i ≡ Some k
-    → i < length keys
-get_below [] i k h = cc
-get_below (x ∷ xs) zero k h = omega arith
-get_below (x ∷ xs) (suc i) k h = let b = get_below xs i k h in omega (arith, b)
 
 scalar_one : (x y : Scalar) → Single x ≡ Single y → x ≡ y
 scalar_one x y h = cc
 
 -- an event is a scalar or not
 leaf_or : (e : PlainEvent) → ((x : Scalar) × (e ≡ Single x)) ⊎ (is_leaf e ≡ false)
-leaf_or (StartArray hint) = inr refl
-leaf_or (StartDictionary hint) = inr refl
-leaf_or EndCollection = inr refl
 leaf_or (Single x) = inl (x, refl)
+leaf_or e = inr refl
 
 own_alone : (e : PlainEvent) (p : ℕ) → is_leaf e ≡ false → own e p ≡ alone p
-own_alone (StartArray hint) p h = refl
-own_alone (StartDictionary hint) p h = refl
-own_alone EndCollection p h = refl
 own_alone (Single x) p h = cc
+own_alone e p h = refl
 
 pub not_leaf : (e : PlainEvent) (x : Scalar) → is_leaf e ≡ false → e ≡ Single x → ⊥
 not_leaf e x h k = let n : is_leaf e ≡ true = ap is_leaf k in cc
@@ -38,7 +29,7 @@ module _ (es : List PlainEvent) (class : ℕ → ℕ) (keys : List PlainEvent) (
   scalar_below : (p : ℕ) → p < length es → (x : Scalar) → event_at es p ≡ Single x
       → class p < length keys
   scalar_below p l x e =
-      get_below keys (class p) (Single x) (have.scalars p (omega (arith, l, full)) x e)
+      slice_get_within keys (class p) (Single x) (have.scalars p (omega (arith, l, full)) x e)
 
   pub owners : AreOwners es class top
   owners = record {

@@ -1,19 +1,19 @@
 -- Steps of a layout.
-use Rattle.std.proofs.Common.{◌≡◌, ℕ, suc, ◌+◌, ◌^◌, ◌<◌, ◌≤◌, false, List, [], ◌∷◌, length, map, refl, ap, sym, ◌∙◌, arith, append-nil}
+use Rattle.std.proofs.Common.{◌≡◌, ℕ, ◌+◌, ◌^◌, ◌<◌, ◌≤◌, false, List, [], ◌∷◌, length, map, refl, ap, arith}
 use Rattle.std.specs.List.{AllByRecursion}
-use Rattle.plist_base.specs.Events.{PlainEvent, Single, StartArray, StartDictionary, EndCollection}
+use Rattle.plist_base.specs.Events.{PlainEvent, Single}
 use Rattle.plist_base.specs.Trees as trees
-use Rattle.plist_binwrite.specs.declared.kinds.Kind.{Kind}
 use Rattle.plist_binwrite.specs.declared.kinds.Kind.TheVariants as kind
-use Rattle.plist_base.specs.Trees.{Scalar, Tree, Leaf, Array, Dictionary, Trees, NoTrees, TreeAnd, Members, NoMembers, MemberAnd}
-use Rattle.plist_base.specs.Bracketing.{unhinted, shape}
+use Rattle.plist_base.specs.Trees.{number_of_trees, number_of_members, Scalar, Tree, Leaf, Array, Dictionary, Trees, NoTrees, TreeAnd, Members, NoMembers, MemberAnd}
+use Rattle.plist_base.specs.Bracketing.{unhinted}
 use Rattle.plist_binwrite.specs.Standing.{size, Sits, SitsItems, SitsPairs}
 use Rattle.plist_binwrite.specs.Numberings.{refs, pairs, obj_of}
 use Rattle.plist_binwrite.specs.Forms.{keys_of, values_of, IsWritable, AllFit}
 use Rattle.plist_binwrite.specs.Held.{is_stop, kind_of, event_at, item_places, key_places, value_places, keys_in, values_in, num_of, AllNumbered, IsBracketed}
-use Rattle.plist_binwrite.proofs.Sitting.{sits_items, sits_pairs, sits_item, sits_next, sits_key, sits_value, sits_next_pair}
-use Rattle.plist_binwrite.proofs.Skipping.{stands_single, begins, sits_within, size_positive}
+use Rattle.plist_binwrite.proofs.Sitting.{sits_whole, sits_items, sits_pairs, sits_item, sits_next, sits_key, sits_value, sits_next_pair}
+use Rattle.plist_binwrite.proofs.Skipping.{stands_single, starts_array, starts_dictionary, begins, sits_in}
 use Rattle.plist_binwrite.proofs.Inside.{inside}
+use Rattle.plist_binwrite.proofs.Unfold.{length-refs, length-pairs}
 
 -- ---- references fit
 
@@ -21,39 +21,43 @@ module _ (es : List PlainEvent) (numbers : List ℕ) (count w : ℕ)
     (all : AllNumbered es numbers count) (wide : count ≤ 256 ^ w) where
   number_fits : (t : Tree) (p : ℕ) → Sits es t p → num_of numbers p < 256 ^ w
   number_fits t p s =
-      omega (arith, wide, all p (omega (arith, sits_within s, size_positive t)) (begins t p s))
+      omega (arith, wide, all p (sits_in s) (begins t p s))
 
   refs_fit : (ts : Trees) (q : ℕ) → SitsItems es ts q → AllFit w (refs (num_of numbers) ts q)
   refs_fit NoTrees q s = tt
   refs_fit (TreeAnd t ts) q s =
       (number_fits t q (sits_item s), refs_fit ts (q + size t) (sits_next s))
 
-  keys_fit : (ms : Members) (q : ℕ) → SitsPairs es ms q
+  pairs_fit : (ms : Members) (q : ℕ) → SitsPairs es ms q
       → AllFit w (keys_of (pairs (num_of numbers) ms q))
-  keys_fit NoMembers q s = tt
-  keys_fit (MemberAnd k t ms) q s = (
-    number_fits (Leaf (trees.String k)) q (sits_key s),
-    keys_fit ms (q + 1 + size t)
-        (sits_next_pair s),
-  )
-
-  values_fit : (ms : Members) (q : ℕ) → SitsPairs es ms q
-      → AllFit w (values_of (pairs (num_of numbers) ms q))
-  values_fit NoMembers q s = tt
-  values_fit (MemberAnd k t ms) q s =
-      (number_fits t (q + 1) (sits_value s), values_fit ms (q + 1 + size t) (sits_next_pair s))
+      × AllFit w (values_of (pairs (num_of numbers) ms q))
+  pairs_fit NoMembers q s = (tt, tt)
+  pairs_fit (MemberAnd k t ms) q s =
+      let more = pairs_fit ms (q + 1 + size t) (sits_next_pair s) in (
+        (number_fits (Leaf (trees.String k)) q (sits_key s), more.0),
+        (number_fits t (q + 1) (sits_value s), more.1),
+      )
 
 -- ---- forms by places
 
-pub no_kind : (v a b : Kind) → v ≡ a → v ≡ b → (a ≡ b → ⊥) → ⊥
-no_kind v a b p q h = h (sym p ∙ q)
+module _ {es : List PlainEvent} (P : Tree → Type 0) where
+  pub of_array : (t : Tree) (p : ℕ) → Sits es t p → kind_of (event_at es p) ≡ kind.Array
+      → ((ts : Trees) → SitsItems es ts (p + 1) → P (Array ts)) → P t
+  of_array (Leaf x) p s k h = cc (ap kind_of (stands_single s))
+  of_array (Array ts) p s k h = h ts (sits_items s)
+  of_array (Dictionary ms) p s k h = cc (ap kind_of (starts_dictionary s))
+
+  pub of_dictionary : (t : Tree) (p : ℕ) → Sits es t p
+      → kind_of (event_at es p) ≡ kind.Dictionary
+      → ((ms : Members) → SitsPairs es ms (p + 1) → P (Dictionary ms)) → P t
+  of_dictionary (Leaf x) p s k h = cc (ap kind_of (stands_single s))
+  of_dictionary (Array ts) p s k h = cc (ap kind_of (starts_array s))
+  of_dictionary (Dictionary ms) p s k h = h ms (sits_pairs s)
 
 -- a scalar has no length
 pub scalar_is : (e : PlainEvent) (x : Scalar) → unhinted e ≡ Single x → e ≡ Single x
-scalar_is (StartArray n) x h = absurd (cc)
-scalar_is (StartDictionary n) x h = absurd (cc)
-scalar_is EndCollection x h = absurd (cc)
 scalar_is (Single y) x h = h
+scalar_is e x h = cc
 
 module _ (num : ℕ → ℕ) where
   pub refs_are : (ts : Trees) (q : ℕ) → refs num ts q ≡ map num (item_places ts q)
@@ -68,13 +72,13 @@ module _ (num : ℕ → ℕ) where
   values_are NoMembers q = refl
   values_are (MemberAnd k t ms) q = ap (λ l. num (q + 1) ∷ l) (values_are ms (q + 1 + size t))
 
-  length-refs : (ts : Trees) (q : ℕ) → length (refs num ts q) ≡ length (item_places ts q)
-  length-refs NoTrees q = refl
-  length-refs (TreeAnd t ts) q = ap suc (length-refs ts (q + size t))
+pub item_count : (ts : Trees) (q : ℕ) → length (item_places ts q) ≡ number_of_trees ts
+item_count NoTrees q = refl
+item_count (TreeAnd t ts) q = omega (arith, item_count ts (q + size t))
 
-  length-pairs : (ms : Members) (q : ℕ) → length (pairs num ms q) ≡ length (value_places ms q)
-  length-pairs NoMembers q = refl
-  length-pairs (MemberAnd k t ms) q = ap suc (length-pairs ms (q + 1 + size t))
+pub pair_count : (ms : Members) (q : ℕ) → length (value_places ms q) ≡ number_of_members ms
+pair_count NoMembers q = refl
+pair_count (MemberAnd k t ms) q = omega (arith, pair_count ms (q + 1 + size t))
 
 -- a collection whose children are numbered can be written
 pub collection_fits : (es : List PlainEvent) (numbers : List ℕ) (count w : ℕ)
@@ -84,20 +88,14 @@ pub collection_fits : (es : List PlainEvent) (numbers : List ℕ) (count w : ℕ
 collection_fits es numbers count w all wide (Leaf x) p s k few =
     absurd (k (ap kind_of (stands_single s)))
 collection_fits es numbers count w all wide (Array ts) p s k few = (
-  omega (arith, length-refs (num_of numbers) ts (p + 1)),
-  refs_fit es numbers count w all wide ts
-      (p + 1) (sits_items s),
+  omega (arith, few, length-refs (num_of numbers) ts (p + 1), item_count ts (p + 1)),
+  refs_fit es numbers count w all wide ts (p + 1) (sits_items s),
 )
-collection_fits es numbers count w all wide (Dictionary ms) p s k few = (
-  omega (
-    arith,
-    length-pairs (num_of numbers) ms
-        (p + 1),
-  ),
-  keys_fit es numbers count w all wide ms (p + 1)
-      (sits_pairs s),
-  values_fit es numbers count w all wide ms (p + 1) (sits_pairs s),
-)
+collection_fits es numbers count w all wide (Dictionary ms) p s k few =
+    let fit = pairs_fit es numbers count w all wide ms (p + 1) (sits_pairs s) in
+    let small : length (pairs (num_of numbers) ms (p + 1)) < 2 ^ 64
+    = omega (arith, few, length-pairs (num_of numbers) ms (p + 1), pair_count ms (p + 1)) in
+    (small, fit.0, fit.1)
 
 -- ---- one step
 
@@ -107,8 +105,7 @@ pub sits_at : (es : List PlainEvent) → IsBracketed es → (p : ℕ) → p < le
 sits_at es (t, e) p lt b =
     let len : length es ≡ size t = ap length e in
     (inside es (λ q. Unit {0}) (λ u r s q. (all_units (keys_in u r), all_units (values_in u r))) t 0
-    (record { rest = []; is = e ∙ sym (append-nil (shape t)) }) tt p (omega arith)
-    (omega arith) b).1
+    (sits_whole e) tt p (omega arith) (omega arith) b).1
   where
     all_units : (ps : List ℕ) → AllByRecursion (λ q. Unit {0}) ps
     all_units [] = tt

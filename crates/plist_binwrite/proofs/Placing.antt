@@ -1,14 +1,17 @@
 -- Places given to objects in order, and the sizes of objects.
-use Rattle.std.proofs.Common.{◌≡◌, inl, inr, ℕ, zero, suc, ◌+◌, ◌*◌, ◌^◌, ◌<◌, Bool, true, false, ◌||◌, eqb, List, [], ◌∷◌, ◌++◌, length, get_or, set, take, Option, Some, None, IfSome, refl, ap, sym, ◌∙◌, subst, arith, length-append, append-nil}
-use Rattle.std.specs.List.{list_any, IsDistinct, AllByRecursion}
-use Rattle.std.proofs.lemmas.Bool.Decides.{eqb_tells}
+use Rattle.std.proofs.Common.{◌≡◌, ℕ, ◌+◌, ◌*◌, ◌^◌, ◌<◌, true, false, eqb, List, [], ◌∷◌, ◌++◌, length, get_or, set, take, Option, Some, None, IfSome, refl, ap, sym, ◌∙◌, subst, arith, length-append, append-nil}
+use Rattle.std.specs.List.{list_any, IsDistinct}
+use Rattle.std.proofs.lemmas.Bool.{eq-eqb, ne_eqb, eqb-false}
 use Rattle.std.proofs.lemmas.Grind.{flat_map-append}
-use Rattle.std.proofs.lemmas.List.{take_more}
-use Rattle.plist_base.specs.Trees.{number_of_trees, number_of_members, Tree, Leaf, Array, Dictionary, Trees, NoTrees, TreeAnd, Members, NoMembers, MemberAnd}
+use Rattle.std.proofs.lemmas.List.{take_more, get_or-take, length-take}
+use Rattle.std.proofs.lemmas.List.Folds.{list_any_at}
+use Rattle.std.proofs.lemmas.List.Recursion.{or_from_places}
+use Rattle.std.proofs.lemmas.Map.Keys.{apart_from_distinct}
+use Rattle.plist_base.specs.Trees.{number_of_trees, Tree, Leaf, Array, Dictionary, Trees}
 use Rattle.plist_binread.specs.Object.{Object}
 use Rattle.plist_binwrite.specs.declared.kinds.Kind.TheVariants as kind
 use Rattle.plist_binwrite.specs.Forms.{form, length_form, IsWritable}
-use Rattle.plist_binwrite.specs.Held.{kind_of, event_at, item_places, value_places, values_in, num_of, IsBracketed, Describes}
+use Rattle.plist_binwrite.specs.Held.{kind_of, event_at, values_in, num_of, IsBracketed, Describes}
 use Rattle.plist_binwrite.specs.inner.PlansBy.{IsPlan}
 use Rattle.plist_base.specs.Events.{PlainEvent}
 use Rattle.plist_binwrite.specs.Standing.{size, Sits, SitsItems}
@@ -17,20 +20,12 @@ use Rattle.plist_binwrite.specs.Sizes.{TellsSize, object_size}
 use Rattle.plist_binwrite.specs.Written.{bodies, Laid}
 use Rattle.plist_binwrite.proofs.SizePasses.{twice}
 use Rattle.plist_binwrite.proofs.Layouts.{laid_snoc}
-use Rattle.plist_binwrite.proofs.Placed.{no_kind, sits_at}
+use Rattle.plist_binwrite.proofs.Placed.{item_count, pair_count, of_array, sits_at}
 use Rattle.plist_binwrite.proofs.Sitting.{sits_items, sits_pairs}
 use Rattle.plist_binwrite.proofs.Sized.{form_size}
-use Rattle.plist_binwrite.proofs.Skipping.{stands_single, starts_dictionary, as_items, pairs_as_items}
+use Rattle.plist_binwrite.proofs.Skipping.{as_items, pairs_as_items}
 
 -- ---- the objects of collections
-
-item_count : (ts : Trees) (q : ℕ) → length (item_places ts q) ≡ number_of_trees ts
-item_count NoTrees q = refl
-item_count (TreeAnd t ts) q = let r = item_count ts (q + size t) in omega (arith, r)
-
-pair_count : (ms : Members) (q : ℕ) → length (value_places ms q) ≡ number_of_members ms
-pair_count NoMembers q = refl
-pair_count (MemberAnd k t ms) q = let r = pair_count ms (q + 1 + size t) in omega (arith, r)
 
 -- a collection has fewer than 2^64 values
 pub few_values : {es : List PlainEvent} (t : Tree) (p count : ℕ) → Sits es t p → count < 2 ^ 64
@@ -53,58 +48,23 @@ pub array_told : {es : List PlainEvent} (told : Option ℕ) (w count : ℕ) (t :
     → Sits es t p → kind_of (event_at es p) ≡ kind.Array
     → ((ts : Trees) → SitsItems es ts (p + 1) → count ≡ number_of_trees ts)
     → TellsSize told (length (length_form 0xa count) + count * w) → TellsSize told (object_size w t)
-array_told {es} told w count (Leaf x) p s k h told_is =
-    absurd (no_kind (kind_of (event_at es p)) kind.Array kind.Scalar k
-    (ap kind_of (stands_single s)) (λ e. cc))
-array_told {es} told w count (Array ts) p s k h told_is =
-    let n = h ts (sits_items s) in subst (λ v. TellsSize told v)
-    (λ i. length (length_form 0xa (n i)) + n i * w) told_is
-array_told {es} told w count (Dictionary ms) p s k h told_is =
-    absurd (no_kind (kind_of (event_at es p)) kind.Array kind.Dictionary k
-    (ap kind_of (starts_dictionary s)) (λ e. cc))
+array_told told w count t p s k h told_is =
+    of_array (λ u. TellsSize told (object_size w u)) t p s k (λ ts r.
+    subst (λ v. TellsSize told v) (λ i. length (length_form 0xa (h ts r i)) + h ts r i * w) told_is)
 
 -- ---- a place of an order
 
 pub any_at : (xs : List ℕ) (i : ℕ) → i < length xs → list_any (eqb (get_or xs i 0)) xs ≡ true
-any_at [] i h = absurd (omega arith)
-any_at (x ∷ xs) zero h =
-    elim (eqb_tells x x) [
-      | inl e ↦ ap (λ b. b || list_any (eqb x) xs) e.0
-      | inr d ↦ absurd
-          (d.1 refl)
-    ]
-any_at (x ∷ xs) (suc i) h =
-    or_later (eqb (get_or xs i 0) x) (list_any (eqb (get_or xs i 0)) xs) (any_at xs i (omega arith))
-  where
-    or_later : (a b : Bool) → b ≡ true → a || b ≡ true
-    or_later true b e = refl
-    or_later false b e = e
-
-all_get : (P : ℕ → Type 0) (xs : List ℕ) (i : ℕ) → AllByRecursion P xs → i < length xs
-    → P (get_or xs i 0)
-all_get P [] i a h = absurd (omega arith)
-all_get P (x ∷ xs) zero a h = a.0
-all_get P (x ∷ xs) (suc i) a h = all_get P xs i a.1 (omega arith)
+any_at xs i h = list_any_at (eqb (get_or xs i 0)) xs i 0 h (eq-eqb _ _ refl)
 
 pub not_before : (xs : List ℕ) (i : ℕ) → IsDistinct eqb xs → i < length xs
     → list_any (eqb (get_or xs i 0)) (take i xs) ≡ false
-unfolding IsDistinct
-not_before [] i d h = absurd (omega arith)
-not_before (x ∷ xs) zero d h = refl
-not_before (x ∷ xs) (suc i) d h =
-    elim (eqb_tells (get_or xs i 0) x) [
-      | inl e ↦ absurd (differ (eqb x (get_or xs i 0))
-          (all_get (λ y. eqb x y ≡ false) xs i d.0 (omega arith))
-          (same x (get_or xs i 0) (sym e.1)))
-      | inr n ↦ ap (λ b. b || list_any (eqb (get_or xs i 0)) (take i xs)) n.0
-          ∙ not_before xs i d.1 (omega arith)
-    ]
-  where
-    differ : (b : Bool) → b ≡ false → b ≡ true → ⊥
-    differ b p q = cc
-
-    same : (a b : ℕ) → a ≡ b → eqb a b ≡ true
-    same a b e = elim (eqb_tells a b) [ inl s ↦ s.0 | inr n ↦ absurd (n.1 e) ]
+not_before xs i d h =
+    or_from_places (list_any (eqb (get_or xs i 0))) (eqb (get_or xs i 0)) refl (λ x l. refl)
+    (take i xs) 0 (λ k lt.
+    let before : k < i = omega (arith, lt, length-take i xs) in
+    ne_eqb _ _ (λ e. eqb-false _ _ (apart_from_distinct eqb xs k i 0 d before h)
+    (sym (get_or-take i xs k 0 before) ∙ sym e)))
 
 -- ---- one more place
 
@@ -136,8 +96,7 @@ module _ (w : ℕ) (objects : ℕ → Object) (order places : List ℕ) (i : ℕ
       → Laid w objects places (take i order) 8
       → Laid w objects (set places (get_or order i 0) v) (take (i + 1) order) 8
   laid_next v distinct below good is laid =
-      subst (λ l. Laid w objects (set places (get_or order i 0) v) l 8) (sym more)
-      (laid_snoc w objects places (take i order) 8 (get_or order i 0) v below
+      rw more (laid_snoc w objects places (take i order) 8 (get_or order i 0) v below
       (not_before order i distinct lt) good is laid)
 
 -- what is told of the place so far
@@ -195,8 +154,7 @@ sized es class numbers firsts objects w k first told e h whole plan describes si
     let d = described es class numbers firsts objects k first e h whole plan describes in (
       subst (TellsSize told) (sym (ap (λ v. length (form w v)) d.2
           ∙ form_size w (num_of numbers) d.0 first)) (size d.0 d.1),
-      subst (IsWritable w) (sym d.2)
-          (good d.0 d.1),
+      subst (IsWritable w) (sym d.2) (good d.0 d.1),
     )
 
 pub if_some_all : (o : Option ℕ) (P Q : (ℕ → Object) → Type 0)

@@ -1,6 +1,5 @@
 -- A file by the plain writer's classes is the tree's file.
-use Rattle.std.proofs.Common.{◌≡◌, ℕ, ◌^◌, ◌<◌, nat_eq, List, [], Option, Err, refl, sym, ◌∙◌, subst, append-nil}
-use Rattle.std.specs.List.{IsDistinct}
+use Rattle.std.proofs.Common.{◌≡◌, ℕ, ◌^◌, ◌<◌, List, Option, Err, refl, ◌∙◌, subst}
 use Rattle.plist_binwrite.specs.declared.held.Held.{Held}
 use Rattle.plist_base.specs.Bracketing.{bracketing, shape}
 use Rattle.plist_base.specs.Faults.{Fault, OutOfMemory, fault_nowhere}
@@ -15,6 +14,7 @@ use Rattle.plist_binwrite.specs.Sizes.{file_size}
 use Rattle.plist_binwrite.proofs.Least.{least}
 use Rattle.plist_binwrite.proofs.Owned.{owned_count, owned_size, entered_once}
 use Rattle.plist_binwrite.proofs.Sends.{sends_as}
+use Rattle.plist_binwrite.proofs.Sitting.{sits_whole}
 use Rattle.plist_binwrite.proofs.Unhinted.{plain_shape}
 
 owned_file : (class : ℕ → ℕ) (count : ℕ) (tree : Tree) (file : List ℕ)
@@ -24,9 +24,9 @@ owned_file class count tree file o f = record {
   once = record {
     events = bracketing tree;
     faultless = f.written.items;
-    distinct = subst (λ l. IsDistinct nat_eq l) (sym f.numbered.entered)
+    distinct = rw f.numbered.entered
         (entered_once (shape tree) class f.numbered.numbers count o f.numbered.apart tree
-        (record { rest = []; is = sym (append-nil (shape tree)) }));
+        (sits_whole refl));
   };
   count = λ head is. f.count head is ∙ owned_count class count tree o;
   least = least tree;
@@ -52,4 +52,4 @@ pub sends_nothing : {W : Type 0} (contents : W
     → fault ≡ fault_nowhere OutOfMemory → new ≡ old
     → Sends contents (plain_events events) (Err fault) old new
 sends_nothing contents events fault old new is same =
-    subst (λ f. Sends contents (plain_events events) (Err f) old new) (sym is) (refl, same)
+    rw is (refl, same)

@@ -24,7 +24,8 @@ use Rattle.plist_base.specs.Trees.{Tree}
 use Rattle.plist_binwrite.specs.inner.Planning.{IsPlanned, GoesBy, count_of, numbers_of, firsts_of}
 use Rattle.plist_binwrite.specs.SendingAs.{IsFileOfEvents}
 use Rattle.plist_binwrite.specs.Written.{Laid, reference_width, bodies, ending}
-use Rattle.plist_binwrite.proofs.Finished.{finish, some_objects, count_told, table_told}
+use Rattle.plist_binwrite.proofs.Finished.{finished, laid_length, some_objects}
+use Rattle.plist_binwrite.proofs.Kept.{planned_count}
 use Rattle.plist_binwrite.proofs.Unhinted.{plain_shape}
 use Rattle.plist_binwrite.proofs.Placing.{any_at}
 use Rattle.plist_binwrite.proofs.Sends.{sends_io}
@@ -38,12 +39,26 @@ module _ (es : List PlainEvent) (plan : Plan) (order marks : List ℕ) (told : O
   pub ready_order : AllBelow (count_of plan) order
   ready_order i h = o.below (get_or order i 0) (any_at order i h)
 
+  -- where the offset table lies
+  table_told : (class : ℕ → ℕ) → GoesBy es class plan → (t : Tree) → es ≡ shape t
+      → TellsSize told (8 + objects_by class (reference_width (count_by class t)) t)
+  table_told class goes t e =
+      let of = some_objects es plan p in
+      subst (TellsSize told) (ap (λ v. length (laid_out v of.0 order)) (wide ∙ ap reference_width n)
+      ∙ laid_length es t class (numbers_of plan) (firsts_of plan) order of.0 e goes p.all of.1
+      o.distinct o.below all) (size of.0 of.1)
+
+  -- how many objects there are
+  count_told : (class : ℕ → ℕ) → GoesBy es class plan → (t : Tree) → es ≡ shape t
+      → count ≡ count_by class t
+  count_told class goes t e =
+      n ∙ planned_count es class (numbers_of plan) (firsts_of plan) goes p.all t e
+
   -- where the file doesn't fit, by any classes
   pub oversized : IfSome told (λ table. ExceedsWith table count) → (class : ℕ → ℕ)
       → GoesBy es class plan → IsOversized class es
   oversized exceeds class goes t e =
-      far told exceeds (table_told es t class plan order marks told width count e goes p o all wide n
-      size)
+      far told exceeds (table_told class goes t e)
     where
       objects : ℕ
       objects = objects_by class (reference_width (count_by class t)) t
@@ -52,8 +67,7 @@ module _ (es : List PlainEvent) (plan : Plan) (order marks : List ℕ) (told : O
           → TellsSize told (8 + objects) → 2 ^ 64 ≤ size_by class t
       far None exceeds large = omega (arith, large)
       far (Some table) exceeds is =
-          subst (λ k. 2 ^ 64 ≤ size_with k objects) (count_told es t class plan count e goes p n)
-          (exceeds objects is)
+          subst (λ k. 2 ^ 64 ≤ size_with k objects) (count_told class goes t e) (exceeds objects is)
 
   module _ (places : List ℕ) (table : ℕ) (at : told ≡ Some table) (fits : FitsWith table count)
       (long : length places ≡ count_of plan)
@@ -71,16 +85,16 @@ module _ (es : List PlainEvent) (plan : Plan) (order marks : List ℕ) (told : O
     all_fit : (class : ℕ → ℕ) → GoesBy es class plan → Fits class es
     all_fit class goes t e =
         let objects = objects_by class (reference_width (count_by class t)) t in
-        subst (λ k. size_with k objects < 2 ^ 64) (count_told es t class plan count e goes p n)
-        (fits objects (subst (λ k. TellsSize k (8 + objects)) at
-        (table_told es t class plan order marks told width count e goes p o all wide n size)))
+        subst (λ k. size_with k objects < 2 ^ 64) (count_told class goes t e)
+        (fits objects (subst (λ k. TellsSize k (8 + objects)) at (table_told class goes t e)))
 
     pub ready_file : (objects : ℕ → Object) → Describes es (numbers_of plan) objects
         → (class : ℕ → ℕ) → GoesBy es class plan → (t : Tree) → es ≡ shape t
-        → IsFileBy class t (closed (laid_out (reference_width (length places)) objects order) places)
+        → IsFileBy class t
+        (closed (laid_out (reference_width (length places)) objects order) places)
     ready_file objects d class goes t e =
-        finish es t class p.class (numbers_of plan)
-        (firsts_of plan) order places objects e goes p.numbered p.classes p.all p.root d o.distinct
+        finished es t e class p.class (numbers_of plan)
+        (firsts_of plan) order places objects goes p.numbered p.classes p.all p.root d o.distinct
         o.below all
         (subst (λ w. Laid w objects places order 8) widths
         (subst (λ k. IfSome k (λ _. (objects : ℕ → Object) → Describes es (numbers_of plan) objects
@@ -119,9 +133,7 @@ sends_end contents es ready old middle new waiting (Err error) sent front failed
 pub with_objects : (es : List PlainEvent) (ready : Ready) (P : Type 0) → IsReady es ready
     → ((objects : ℕ → Object) → Describes es (numbers_in ready) objects → P) → P
 with_objects es ready P r h =
-    let o = some_objects es r.planned.class (numbers_in ready)
-    (firsts_of ready.plan) r.planned.whole r.planned.classes r.planned.numbered r.planned.all in h
-    o.0 o.1
+    let o = some_objects es ready.plan r.planned in h o.0 o.1
 
 -- ---- what goes out
 
@@ -132,9 +144,7 @@ module _ {W : Type 0} (contents : W → Option (List ℕ)) (events : Held) (clas
   r = b.all
 
   objects : (of : ℕ → Object) × Describes (plain_events events) (numbers_in ready) of
-  objects =
-      some_objects (plain_events events) r.planned.class (numbers_in ready)
-      (firsts_of ready.plan) r.planned.whole r.planned.classes r.planned.numbered r.planned.all
+  objects = some_objects (plain_events events) ready.plan r.planned
 
   is_file : IsFileOfEvents (IsFileBy class) (size_by class) (plain_events events)
       (file_of ready objects.0)

@@ -18,6 +18,7 @@ use Rattle.plist_binread.specs.Object.{Object, Scalar, Array, Dictionary, Faulty
 use Rattle.plist_binread.proofs.Markers.{layout-data, layout-text, layout-wide_text, layout-array, layout-dictionary}
 use Rattle.plist_binwrite.specs.Forms.{big_endian, length_form, units_of, is_ascii_text, text_form, data_form, boolean_form, date_form, real_form, scalar_form, form, keys_of, values_of, IsDateBytes, IsReal, IsText, IsWritableScalar, AllFit, IsWritable}
 use Rattle.plist_binwrite.proofs.Texts.{few_units}
+use Rattle.plist_binwrite.proofs.Uniques.{all_both}
 use Rattle.plist_binwrite.proofs.ReadingNumbers.{counted, front, integer_read, length-table, numbers_back, uid_read}
 
 -- ---- texts
@@ -32,15 +33,11 @@ unit_bounds c s =
       ]
     ]
 
-fit_append : (w : ℕ) (xs ys : List ℕ) → AllFit w xs → AllFit w ys → AllFit w (xs ++ ys)
-fit_append w [] ys a b = b
-fit_append w (x ∷ xs) ys a b = (a.0, fit_append w xs ys a.1 b)
-
 units_fit : (cs : List ℕ) → scalars cs ≡ true → AllFit 2 (flat_map encode_utf16 cs)
 units_fit [] s = tt
 units_fit (c ∷ cs) s =
-    let k = and_parts (scalar c) (scalars cs) s in fit_append 2 (encode_utf16 c)
-    (flat_map encode_utf16 cs) (unit_bounds c k.0) (units_fit cs k.1)
+    let k = and_parts (scalar c) (scalars cs) s in
+    all_both _ (encode_utf16 c) (flat_map encode_utf16 cs) (unit_bounds c k.0) (units_fit cs k.1)
 
 few_units_in : (cs : List ℕ) → length (flat_map encode_utf16 cs) ≤ length (encode_utf8_all cs)
 few_units_in [] = omega arith
@@ -205,7 +202,7 @@ zip_is : (ps : List (ℕ × ℕ)) → zip (keys_of ps) (values_of ps) ≡ ps
 zip_is [] = refl
 zip_is (p ∷ ps) = ap (λ l. p ∷ l) (zip_is ps)
 
-dictionary_is : (ps : List (ℕ × ℕ)) → dictionary (length ps) (keys_of ps ++ values_of ps)
+pub dictionary_is : (ps : List (ℕ × ℕ)) → dictionary (length ps) (keys_of ps ++ values_of ps)
     ≡ Dictionary ps
 dictionary_is ps =
     let n = length-keys_of ps in
@@ -241,6 +238,6 @@ form_read w positive (Dictionary ps) rest is =
     (λ m a b. layout-dictionary w m a b) is.0
     (length-table w (keys_of ps ++ values_of ps) ∙ ap (λ n. n * w) many ∙ twice)
     ∙ ap (dictionary (length ps)) (numbers_back w (keys_of ps ++ values_of ps) positive
-    (fit_append w (keys_of ps) (values_of ps) is.1 is.2))
+    (all_both _ (keys_of ps) (values_of ps) is.1 is.2))
     ∙ dictionary_is ps
 form_read w positive (Faulty kind) rest is = absurd is

@@ -12,7 +12,7 @@ use Rattle.plist_binread.specs.Container.{number_of, number_at, numbers_of}
 use Rattle.plist_binread.specs.Object.{Object, Scalar, Counted, layout_of, length_in, length_that_follows, meaning_of_front, meaning_counted, object_behind, object_in, signed, unsigned_integer, signed_integer, wide_integer, integer_in_range}
 use Rattle.plist_binwrite.specs.Forms.{big_endian, doublings, natural_form, integer_form, uid_form, length_form, IsInteger, AllFit}
 use Rattle.plist_binwrite.proofs.Pushed.{length_short, length_long}
-use Rattle.plist_binwrite.proofs.Widths.{IsWidth, one, two, four, eight, cases_width, length-big_endian, number_back}
+use Rattle.plist_binwrite.proofs.Widths.{at_width, length-big_endian, number_back}
 
 -- ---- fixed sizes
 
@@ -41,19 +41,12 @@ natural_read : (width n : ℕ) (rest : List ℕ) → n < 2 ^ 63
     → object_in width (natural_form n ++ rest) ≡ Scalar (trees.Integer (pos n))
 unfolding object_in
 natural_read width n rest h =
-    let c = cases_width n in
-    ap (λ w. object_in width ((0x10 + doublings w) ∷ big_endian w n ++ rest)) c.1
-    ∙ by c.2 (c.3 (omega arith))
-  where
-    by : {w : ℕ} → IsWidth w → n < 256 ^ w → object_in width
-        ((0x10 + doublings w) ∷ big_endian w n ++ rest) ≡ Scalar (trees.Integer (pos n))
-    by one small = number_front 1 n rest small
-    by two small = number_front 2 n rest small
-    by four small = number_front 4 n rest small
-    by eight small =
-        front 8 signed_integer (big_endian 8 n) rest (length-big_endian 8 n)
-        ∙ ap (λ k. Scalar (trees.Integer (signed 64 k))) (number_back 8 n small)
-        ∙ ap (λ z. Scalar (trees.Integer z)) (signed_low n h)
+    at_width n (λ w. object_in width ((0x10 + doublings w) ∷ big_endian w n ++ rest)
+    ≡ Scalar (trees.Integer (pos n)))
+    (number_front 1 n rest) (number_front 2 n rest) (number_front 4 n rest)
+    (front 8 signed_integer (big_endian 8 n) rest (length-big_endian 8 n)
+    ∙ ap (λ k. Scalar (trees.Integer (signed 64 k))) (number_back 8 n (omega (arith, h)))
+    ∙ ap (λ z. Scalar (trees.Integer z)) (signed_low n h))
 
 signed_negative : (m : ℕ) → m < 2 ^ 63 → signed 64 (2 ^ 64 - suc m) ≡ negsuc m
 signed_negative m h = rw (le-ltb (2 ^ 64 - suc m) (2 ^ 63) (omega arith)) (omega (arith, ints))
@@ -88,8 +81,9 @@ pub uid_read : (width n : ℕ) (rest : List ℕ) → n < 2 ^ 64
     → object_in width (uid_form n ++ rest) ≡ Scalar (trees.Uid n)
 unfolding object_in
 uid_read width n rest h =
-    let c = cases_width n in
-    ap (λ w. object_in width ((0x7f + w) ∷ big_endian w n ++ rest)) c.1 ∙ by c.2 (c.3 h)
+    at_width n (λ w. object_in width ((0x7f + w) ∷ big_endian w n ++ rest)
+    ≡ Scalar (trees.Uid n))
+    (uid_front 1) (uid_front 2) (uid_front 4) (uid_front 8 (omega (arith, h)))
   where
     uid_front : (w : ℕ) → n < 256 ^ w → meaning_of_front w
         (λ content. Scalar (trees.Uid (number_of content))) (big_endian w n ++ rest)
@@ -98,22 +92,15 @@ uid_read width n rest h =
         front w (λ content. Scalar (trees.Uid (number_of content))) (big_endian w n) rest
         (length-big_endian w n) ∙ ap (λ k. Scalar (trees.Uid k)) (number_back w n small)
 
-    by : {w : ℕ} → IsWidth w → n < 256 ^ w → object_in width ((0x7f + w) ∷ big_endian w n ++ rest)
-        ≡ Scalar (trees.Uid n)
-    by one small = uid_front 1 small
-    by two small = uid_front 2 small
-    by four small = uid_front 4 small
-    by eight small = uid_front 8 small
-
 -- ---- lengths
 
 -- a length that follows is read
 follows : (n : ℕ) (rest : List ℕ) → n < 2 ^ 64
     → length_that_follows (natural_form n ++ rest) ≡ Some (n, rest)
 follows n rest h =
-    let c = cases_width n in
-    ap (λ w. length_that_follows ((0x10 + doublings w) ∷ big_endian w n ++ rest)) c.1
-    ∙ by c.2 (c.3 h)
+    at_width n (λ w. length_that_follows ((0x10 + doublings w) ∷ big_endian w n ++ rest)
+    ≡ Some (n, rest))
+    (taken 1) (taken 2) (taken 4) (taken 8 (omega (arith, h)))
   where
     taken : (w : ℕ) → n < 256 ^ w → cond {A = Option (ℕ × List ℕ)}
         (nat_le w (length (big_endian w n ++ rest)))
@@ -135,13 +122,6 @@ follows n rest h =
               (big_endian w n) rest i,
         ))
         ∙ ap (λ k. Some (k, rest)) (number_back w n small))
-
-    by : {w : ℕ} → IsWidth w → n < 256 ^ w → length_that_follows
-        ((0x10 + doublings w) ∷ big_endian w n ++ rest) ≡ Some (n, rest)
-    by one small = taken 1 small
-    by two small = taken 2 small
-    by four small = taken 4 small
-    by eight small = taken 8 small
 
 -- an object of so many elements
 pub counted : (width high count size : ℕ) (meaning : ℕ → List ℕ → Object) (content rest : List ℕ)
@@ -206,13 +186,10 @@ number_there w (x ∷ xs) (suc k) fit h =
     number_there w xs k fit.1 (omega arith)
     ∙ ap (λ l. number_of (take w (drop (k * w) l)))
     (sym (drop-append_seam (big_endian w x) (flat_map (big_endian w) xs)))
-    ∙ ap (λ l. number_of (take w l)) (drop-drop-sum (length (big_endian w x)) (k * w)
+    ∙ ap (λ l. number_of (take w l)) (drop-drop (k * w) (length (big_endian w x))
     (big_endian w x ++ flat_map (big_endian w) xs))
     ∙ ap (λ n. number_of (take w (drop n (big_endian w x ++ flat_map (big_endian w) xs))))
     (sym more)
-  where
-    drop-drop-sum : (a b : ℕ) (l : List ℕ) → drop b (drop a l) ≡ drop (a + b) l
-    drop-drop-sum a b l = drop-drop b a l
 
 pub numbers_back : (w : ℕ) (xs : List ℕ) → 0 < w → AllFit w xs
     → numbers_of w (flat_map (big_endian w) xs) ≡ xs

@@ -1,5 +1,5 @@
 -- What sending a file does.
-use Rattle.std.proofs.Common.{◌≡◌, inl, inr, ℕ, ◌^◌, ◌≤◌, List, Option, Ok, Err, sym, ◌∙◌, subst, refl}
+use Rattle.std.proofs.Common.{◌≡◌, inl, inr, ℕ, ◌^◌, ◌≤◌, List, Option, Ok, Err, ◌∙◌, subst, refl}
 use Rattle.plist_binwrite.specs.declared.held.Held.{Held}
 use Rattle.plist_base.specs.Bracketing.{bracketing, AreAlike, AreWhole, AreComplete}
 use Rattle.plist_base.specs.Events.{PlainEvent}
@@ -28,8 +28,7 @@ module _ (IsFile : Tree → List ℕ → Type 0) (size : Tree → ℕ) where
         → IsFileOfEvents IsFile size events file → AppendsFront (contents old) (contents new) file
         → Sends IsFile size contents events (Err fault) old new
     sends_io events fault old new file is of front =
-        subst (λ f. Sends IsFile size contents events (Err f) old new) (sym is)
-        (refl, (file, of, front))
+        rw is (refl, (file, of, front))
 
     -- the same of events that are alike
     fails_alike : (kind : FaultKind) (xs ys : List PlainEvent) (old new : W) → AreAlike xs ys
@@ -78,10 +77,9 @@ module _ {W : Type 0} (contents : W → Option (List ℕ)) (class : ℕ → ℕ)
       → AreWhole (plain_events events) → new ≡ old
       → SendsBy class contents (plain_events events) (Err fault) old new
   sends_unplanned events fault old new (inl is) whole same =
-      subst (λ f. SendsBy class contents (plain_events events) (Err f) old new) (sym is)
-      (refl, same)
+      rw is (refl, same)
   sends_unplanned events fault old new (inr large) whole same =
-      subst (λ f. SendsBy class contents (plain_events events) (Err f) old new) (sym large.0) (
+      rw large.0 (
         refl,
         (
           (

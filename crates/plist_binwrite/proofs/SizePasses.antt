@@ -1,17 +1,16 @@
 -- The sizes that a pass over the events tells.
-use Rattle.std.proofs.Common.{◌≡◌, ◌⊎◌, inl, inr, ℕ, ◌+◌, ◌*◌, ◌/◌, ◌^◌, ◌<◌, ◌≤◌, false, true, List, length, flat_map, Option, None, Some, SomeIff, refl, ap, sym, ◌∙◌, subst, arith, length-append}
+use Rattle.std.proofs.Common.{◌≡◌, ◌⊎◌, inl, inr, ℕ, ◌+◌, ◌*◌, ◌/◌, ◌^◌, ◌<◌, ◌≤◌, false, true, List, length, flat_map, Option, None, Some, SomeIff, refl, ap, ◌∙◌, subst, arith, length-append}
 use Rattle.std.proofs.lemmas.Bool.{cases_lt}
-use Rattle.plist_base.specs.Trees.{number_of_trees, number_of_members, Tree, Leaf, Array, Dictionary, Trees, Members, NoMembers, MemberAnd}
+use Rattle.plist_base.specs.Trees.{number_of_trees, number_of_members, Tree, Trees, Members, NoMembers, MemberAnd}
 use Rattle.plist_binwrite.specs.declared.kinds.Kind.TheVariants as kind
 use Rattle.plist_base.specs.Events.{PlainEvent}
 use Rattle.plist_binwrite.specs.Standing.{size, Sits, SitsItems}
 use Rattle.plist_binwrite.specs.Forms.{big_endian, length_form, units_of, is_ascii_text, text_form}
 use Rattle.plist_binwrite.specs.Sizes.{TellsSize, object_size}
 use Rattle.plist_binwrite.specs.Held.{is_stop, kind_of, event_at}
-use Rattle.plist_binwrite.proofs.Sitting.{sits_pairs}
-use Rattle.plist_binwrite.proofs.Placed.{no_kind}
+use Rattle.plist_binwrite.proofs.Placed.{of_dictionary}
 use Rattle.plist_binwrite.proofs.ReadingNumbers.{length-table}
-use Rattle.plist_binwrite.proofs.Skipping.{stands_single, starts_array, as_items, pairs_as_items, items_on, items_off}
+use Rattle.plist_binwrite.proofs.Skipping.{as_items, pairs_as_items, items_on, items_off}
 
 pub told_if : (told : Option ℕ) (size : ℕ) → SomeIff told (size < 2 ^ 64) size → TellsSize told size
 told_if None size h = elim (cases_lt size (2 ^ 64)) [ inl l ↦ absurd (h l) | inr l ↦ l ]
@@ -49,7 +48,7 @@ pub counts_next : {es : List PlainEvent} {q count all next : ℕ} → Counts es 
     → Counts es next (count + 1) all
 counts_next {es} {q} {count} {all} {next} l h skip =
     let f = items_on l.left l.sits h in
-    subst (λ k. Counts es k (count + 1) all) (sym (skip f.tree f.here)) (record {
+    rw (skip f.tree f.here) (record {
       left = f.rest;
       sits = f.sits;
       are = omega (arith, l.are, ap number_of_trees f.is);
@@ -67,17 +66,11 @@ pub dictionary_told : {es : List PlainEvent} (told : Option ℕ) (w count : ℕ)
     → ((ts : Trees) → SitsItems es ts (p + 1) → count ≡ number_of_trees ts)
     → TellsSize told (length (length_form 0xd (count / 2)) + count * w)
     → TellsSize told (object_size w t)
-dictionary_told {es} told w count (Leaf x) p s k h told_is =
-    absurd (no_kind (kind_of (event_at es p)) kind.Dictionary kind.Scalar k
-    (ap kind_of (stands_single s)) (λ e. cc))
-dictionary_told {es} told w count (Array ts) p s k h told_is =
-    absurd (no_kind (kind_of (event_at es p)) kind.Dictionary kind.Array k
-    (ap kind_of (starts_array s)) (λ e. cc))
-dictionary_told {es} told w count (Dictionary ms) p s k h told_is =
-    let n : count ≡ 2 * number_of_members ms = h (as_items ms) (pairs_as_items (sits_pairs s))
-    ∙ twice ms in
+dictionary_told told w count t p s k h told_is =
+    of_dictionary (λ u. TellsSize told (object_size w u)) t p s k (λ ms r.
+    let n : count ≡ 2 * number_of_members ms = h (as_items ms) (pairs_as_items r) ∙ twice ms in
     let half : count / 2 ≡ number_of_members ms = omega (arith, n) in
     let two : 2 * number_of_members ms * w ≡ number_of_members ms * w + number_of_members ms * w =
     grind arith in
     subst (λ v. TellsSize told v) (λ i. length (length_form 0xd (half i)) + (ap (λ k. k * w) n
-    ∙ two) i) told_is
+    ∙ two) i) told_is)

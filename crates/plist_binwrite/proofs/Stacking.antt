@@ -3,7 +3,7 @@ use Rattle.std.proofs.Common.{◌≡◌, ℕ, suc, ◌<◌, Bool, true, false, �
 use Rattle.std.proofs.lemmas.Bool.{and_parts, ne_eqb}
 use Rattle.std.proofs.lemmas.List.{length-map, length-reverse}
 use Rattle.plist_base.specs.Events.{PlainEvent, StartArray, StartDictionary, EndCollection, Single}
-use Rattle.plist_base.specs.inner.Wants.{Want, OneValue, Items, Pairs, Change, Refused, Gone, Kept, Pushed, Became, change_of, changed, step, wanted_after}
+use Rattle.plist_base.specs.inner.Wants.{Want, OneValue, Items, Pairs, Change, Refused, Gone, Became, change_of, changed, step, wanted_after}
 use Rattle.plist_base.proofs.Grammar.{steps_snoc}
 use Rattle.plist_binwrite.specs.declared.wants.Want as code_want
 use Rattle.plist_binwrite.specs.declared.wants.Change as code_change
@@ -12,14 +12,9 @@ use Rattle.plist_binwrite.specs.inner.Stacks.{is_nothing, want_seen, change_seen
 
 want_same : (a b : Want) → want_eq a b ≡ true → a ≡ b
 want_same OneValue OneValue h = refl
-want_same OneValue Items h = absurd (cc)
-want_same OneValue Pairs h = absurd (cc)
-want_same Items OneValue h = absurd (cc)
 want_same Items Items h = refl
-want_same Items Pairs h = absurd (cc)
-want_same Pairs OneValue h = absurd (cc)
-want_same Pairs Items h = absurd (cc)
 want_same Pairs Pairs h = refl
+want_same a b h = cc
 
 want_self : (a : Want) → want_eq a a ≡ true
 want_self OneValue = refl
@@ -28,8 +23,8 @@ want_self Pairs = refl
 
 stack_same : (xs ys : List Want) → stack_eq xs ys ≡ true → xs ≡ ys
 stack_same [] [] h = refl
-stack_same [] (b ∷ ys) h = absurd (cc)
-stack_same (a ∷ xs) [] h = absurd (cc)
+stack_same [] (b ∷ ys) h = cc
+stack_same (a ∷ xs) [] h = cc
 stack_same (a ∷ xs) (b ∷ ys) h =
     let k = and_parts (want_eq a b) (stack_eq xs ys) h in
     λ i. want_same a b k.0 i ∷ stack_same xs ys k.1 i
@@ -39,7 +34,7 @@ stack_self [] = refl
 stack_self (a ∷ xs) = ap (λ b. b && stack_eq xs xs) (want_self a) ∙ stack_self xs
 
 pub stack_is : (o : Option (List Want)) (s : List Want) → is_stack o s ≡ true → o ≡ Some s
-stack_is None s h = absurd (cc)
+stack_is None s h = cc
 stack_is (Some t) s h = ap Some (stack_same t s h)
 
 pub is_stack_of : (o : Option (List Want)) (s : List Want) → o ≡ Some s → is_stack o s ≡ true
@@ -62,10 +57,7 @@ put_root e new =
 put_top : (c : Change) (top : Want) (rest new : List Want) → (c ≡ Refused → ⊥)
     → Puts (top ∷ rest) c new → changed c top rest ≡ Some new
 put_top Refused top rest new n p = absurd (n refl)
-put_top Gone top rest new n p = ap Some (sym p)
-put_top Kept top rest new n p = ap Some (sym p)
-put_top (Pushed w) top rest new n p = ap Some (sym p)
-put_top (Became w) top rest new n p = ap Some (sym p)
+put_top c top rest new n p = ap Some (sym p)
 
 step_taken : (s new : List Want) (e : PlainEvent) → (change_on_top s e ≡ Refused → ⊥)
     → Puts s (change_on_top s e) new → step (with_root s) e ≡ Some new
@@ -94,10 +86,7 @@ wanted_taken held s new e c w is n p =
 changed_some : (c : Change) (top : Want) (rest : List Want) → (c ≡ Refused → ⊥)
     → changed c top rest ≡ None → ⊥
 changed_some Refused top rest n h = n refl
-changed_some Gone top rest n h = cc
-changed_some Kept top rest n h = cc
-changed_some (Pushed w) top rest n h = cc
-changed_some (Became w) top rest n h = cc
+changed_some c top rest n h = cc
 
 step_some : (s : List Want) (e : PlainEvent) → (change_on_top s e ≡ Refused → ⊥)
     → step (with_root s) e ≡ None → ⊥
@@ -115,10 +104,7 @@ not_refused held s e c w is n none =
 
 pub seen_refused : (c : code_change.Change) → change_seen c ≡ Refused → c ≡ change.Refused
 seen_refused change.Refused h = refl
-seen_refused change.Gone h = absurd (cc)
-seen_refused change.Kept h = absurd (cc)
-seen_refused (change.Pushed w) h = absurd (cc)
-seen_refused (change.Became w) h = absurd (cc)
+seen_refused c h = cc
 
 root_or_top : (s : List Want) → 0 < length s → s ≡ with_root s
 root_or_top [] h = absurd (omega arith)

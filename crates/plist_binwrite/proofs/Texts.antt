@@ -34,7 +34,8 @@ count_step text rest c utf8 parts =
 
 -- the bytes of a surrogate pair
 pub pair_units : (c : ℕ) → 0x1_0000 ≤ c
-    → big_endian 2 (0xd800 + (c - 0x1_0000) / 0x400) ++ big_endian 2 (0xdc00 + (c - 0x1_0000) % 0x400)
+    → big_endian 2 (0xd800 + (c - 0x1_0000) / 0x400)
+    ++ big_endian 2 (0xdc00 + (c - 0x1_0000) % 0x400)
     ≡ char_units c
 pair_units c high =
     rw (le-ltb c 0x1_0000 high)

@@ -1,116 +1,79 @@
 -- Totals over keys that stand once.
-use Rattle.std.proofs.Common.{◌≡◌, ◌⊎◌, inl, inr, ℕ, zero, suc, ◌+◌, ◌<◌, ◌≤◌, Bool, true, false, cond, ◌||◌, eqb, List, [], ◌∷◌, length, map, refl, ap, sym, ◌∙◌, subst, arith}
-use Rattle.std.specs.List.{AllByRecursion, IsDistinct, range_with_len}
+use Rattle.std.proofs.Common.{◌≡◌, ◌⊎◌, inl, inr, ℕ, zero, suc, ◌+◌, ◌<◌, Bool, true, false, not, cond, ◌||◌, ◌&&◌, eqb, List, [], ◌∷◌, length, map, refl, ap, sym, ◌∙◌, subst, arith}
+use Rattle.std.specs.List.{AllByRecursion, IsDistinct, filter}
 use Rattle.std.specs.Set.{is_member, unique_keys}
+use Rattle.std.proofs.lemmas.Bool.{or_parts, or_left, and_parts, and_from, eq-eqb, ne_eqb, eqb-true, eqb-false, not-true, not_from_false}
+use Rattle.std.proofs.lemmas.Cmp.{nat_eq_equiv}
+use Rattle.std.proofs.lemmas.List.Elements.{All-filter, All-from_recursion, recursion_from_All}
+use Rattle.std.proofs.lemmas.Map.Made.{is_member-filter}
 use Rattle.std.proofs.lemmas.Bool.Decides.{eqb_tells}
 use Rattle.plist_binwrite.specs.Sizes.{total}
 
-module _ {K : Type 0} (eq : K → K → Bool) (tells : (a b : K)
-    → ((eq a b ≡ true) × (a ≡ b)) ⊎ ((eq a b ≡ false) × (a ≡ b → ⊥))) (w : K → ℕ) where
-  not_both : {A : Type 0} (b : Bool) → b ≡ true → b ≡ false → A
-  not_both b p q = cc
+-- the weights of the numbers below a count
+abbrev pub total_below : (ℕ → ℕ) → ℕ → ℕ
+total_below w zero = 0
+total_below w (suc n) = w n + total_below w n
 
-  abbrev pub without : K → List K → List K
-  without x [] = []
-  without x (y ∷ ys) = cond (eq x y) ys (y ∷ without x ys)
+pub count_below : (n : ℕ) → total_below (λ x. 1) n ≡ n
+count_below zero = refl
+count_below (suc n) = omega (arith, count_below n)
 
-  -- taking out a member
-  total_without : (x : K) (ys : List K) → is_member eq ys x ≡ true
-      → total w ys ≡ w x + total w (without x ys)
-  total_without x [] h = absurd (cc)
-  total_without x (y ∷ ys) h =
-      elim (tells x y) [
-        | inl t ↦ ap (λ k. w k + total w ys) (sym t.1)
-            ∙ ap (λ b. w x + total w (cond b ys (y ∷ without x ys))) (sym t.0)
-        | inr f ↦ let r = total_without x ys (sym (ap (λ b. b || is_member eq ys x) f.0) ∙ h) in
-            let e : w y + total w ys ≡ w x + (w y + total w (without x ys)) = omega (arith, r) in
-            e ∙ ap (λ b. w x + total w (cond b ys (y ∷ without x ys))) (sym f.0)
+-- the numbers of a list without this one
+abbrev others : ℕ → List ℕ → List ℕ
+others x ys = filter (λ y. not (eqb x y)) ys
+
+none_out : (x : ℕ) (ys : List ℕ) → AllByRecursion (λ y. eqb x y ≡ false) ys → others x ys ≡ ys
+none_out x [] a = refl
+none_out x (y ∷ ys) a = rw a.0 (ap (λ l. y ∷ l) (none_out x ys a.1))
+
+distinct_out : (x : ℕ) (ys : List ℕ) → IsDistinct eqb ys → IsDistinct eqb (others x ys)
+unfolding IsDistinct
+distinct_out x [] d = tt
+distinct_out x (y ∷ ys) d =
+    elim (eqb x y) as (λ b. IsDistinct eqb (cond (not b) (y ∷ others x ys) (others x ys))) [
+      | true ↦ distinct_out x ys d.1
+      | false ↦ (
+        recursion_from_All _ (others x ys) (All-filter (λ z. not (eqb x z))
+            (λ z. eqb y z ≡ false) ys (All-from_recursion (λ z. eqb y z ≡ false) ys d.0)),
+        distinct_out x ys d.1,
+      )
+    ]
+
+module _ (w : ℕ → ℕ) where
+  one_out : (x : ℕ) (ys : List ℕ) → IsDistinct eqb ys → is_member eqb ys x ≡ true
+      → total w ys ≡ w x + total w (others x ys)
+  unfolding IsDistinct
+  one_out x [] d h = cc
+  one_out x (y ∷ ys) d h =
+      elim (eqb_tells x y) [
+        | inl t ↦
+            let all = subst (λ k. AllByRecursion (λ z. eqb k z ≡ false) ys) (sym t.1) d.0 in
+            rw t.0 (ap (λ k. w k + total w ys) (sym t.1)
+            ∙ ap (λ l. w x + total w l) (sym (none_out x ys all)))
+        | inr f ↦
+            let more = one_out x ys d.1 (sym (ap (λ b. b || is_member eqb ys x) f.0) ∙ h) in
+            rw f.0 (omega (arith, more))
       ]
 
-  other_member : (x q : K) (ys : List K) → (q ≡ x → ⊥)
-      → is_member eq (without x ys) q ≡ is_member eq ys q
-  other_member x q [] n = refl
-  other_member x q (y ∷ ys) n =
-      elim (tells x y) [
-        | inl t ↦ ap (λ b. is_member eq (cond b ys (y ∷ without x ys)) q) t.0
-            ∙ ap (λ b. b || is_member eq ys q) (sym (no_eq t.1))
-        | inr f ↦ ap (λ b. is_member eq (cond b ys (y ∷ without x ys)) q) f.0
-            ∙ ap (λ b. eq q y || b) (other_member x q ys n)
-      ]
+  -- numbers that stand once, and are all those below a count, weigh what these do
+  pub total_all : (n : ℕ) (xs : List ℕ) → IsDistinct eqb xs
+      → ((q : ℕ) → is_member eqb xs q ≡ true → q < n)
+      → ((q : ℕ) → q < n → is_member eqb xs q ≡ true) → total w xs ≡ total_below w n
+  total_all zero [] d low all = refl
+  total_all zero (x ∷ xs) d low all =
+      absurd (omega (arith, low x (or_left _ _ (eq-eqb x x refl))))
+  total_all (suc n) xs d low all =
+      one_out n xs d (all n (omega arith))
+      ∙ ap (λ k. w n + k) (total_all n (others n xs) (distinct_out n xs d)
+      (λ q h. let p : (is_member eqb xs q ≡ true) × (not (eqb n q) ≡ true)
+      = and_parts _ _ (sym (left q) ∙ h) in
+      omega (arith, low q p.0, eqb-false n q (not-true _ p.1)))
+      (λ q h. left q ∙ and_from _ _ (all q (omega (arith, h)))
+      (not_from_false _ (ne_eqb n q (λ e. omega (arith, e, h))))))
     where
-      no_eq : x ≡ y → eq q y ≡ false
-      no_eq e = elim (tells q y) [ inl t ↦ absurd (n (t.1 ∙ sym e)) | inr f ↦ f.0 ]
-
-  all_without : (P : K → Type 0) (x : K) (ys : List K) → AllByRecursion P ys
-      → AllByRecursion P (without x ys)
-  all_without P x [] a = tt
-  all_without P x (y ∷ ys) a =
-      elim (eq x y) as (λ b. AllByRecursion P (cond b ys (y ∷ without x ys))) [
-        | true ↦ a.1
-        | false ↦
-            (a.0, all_without P x ys a.1)
-      ]
-
-  distinct_without : (x : K) (ys : List K) → IsDistinct eq ys → IsDistinct eq (without x ys)
-  unfolding IsDistinct
-  distinct_without x [] d = tt
-  distinct_without x (y ∷ ys) d =
-      elim (eq x y) as (λ b. IsDistinct eq (cond b ys (y ∷ without x ys))) [
-        | true ↦ d.1
-        | false ↦
-            (all_without (λ z. eq y z ≡ false) x ys d.0, distinct_without x ys d.1)
-      ]
-
-  none : (x : K) (ys : List K) → AllByRecursion (λ z. eq x z ≡ false) ys → is_member eq ys x ≡ false
-  none x [] a = refl
-  none x (y ∷ ys) a = ap (λ b. b || is_member eq ys x) a.0 ∙ none x ys a.1
-
-  -- what is taken out of a list without repeats isn't in it any more
-  gone : (x : K) (ys : List K) → IsDistinct eq ys → is_member eq (without x ys) x ≡ false
-  unfolding IsDistinct
-  gone x [] d = refl
-  gone x (y ∷ ys) d =
-      elim (tells x y) [
-        | inl t ↦ ap (λ b. is_member eq (cond b ys (y ∷ without x ys)) x) t.0
-            ∙ none x ys (subst (λ k. AllByRecursion (λ z. eq k z ≡ false) ys) (sym t.1) d.0)
-        | inr f ↦ ap (λ b. is_member eq (cond b ys (y ∷ without x ys)) x) f.0
-            ∙ ap (λ b. b || is_member eq (without x ys) x) f.0 ∙ gone x ys d.1
-      ]
-
-  none_total : (ys : List K) → ((q : K) → is_member eq ys q ≡ false) → total w ys ≡ 0
-  none_total [] h = refl
-  none_total (y ∷ ys) h =
-      elim (tells y y) [
-        | inl t ↦ not_both (is_member eq (y ∷ ys) y)
-            (ap (λ b. b || is_member eq ys y) t.0) (h y)
-        | inr f ↦ absurd (f.1 refl)
-      ]
-
-  pub same_total : (xs ys : List K) → IsDistinct eq xs → IsDistinct eq ys
-      → ((q : K) → is_member eq xs q ≡ is_member eq ys q) → total w xs ≡ total w ys
-  unfolding IsDistinct
-  same_total [] ys d e h = sym (none_total ys (λ q. sym (h q)))
-  same_total (x ∷ xs) ys d e h =
-      let mem : is_member eq ys x ≡ true = sym (h x) ∙ self in
-      let rest = same_total xs (without x ys) d.1 (distinct_without x ys e) (λ q. at q) in
-      omega (arith, rest, total_without x ys mem)
-    where
-      self : is_member eq (x ∷ xs) x ≡ true
-      self =
-          elim (tells x x) [
-            | inl t ↦ ap (λ b. b || is_member eq xs x) t.0
-            | inr f ↦ absurd
-                (f.1 refl)
-          ]
-
-      at : (q : K) → is_member eq xs q ≡ is_member eq (without x ys) q
-      at q =
-          elim (tells q x) [
-            | inl t ↦ subst (λ k. is_member eq xs k ≡ is_member eq (without x ys) k) (sym t.1)
-                (none x xs d.0 ∙ sym (gone x ys e))
-            | inr f ↦ ap (λ b. b || is_member eq xs q) (sym f.0) ∙ h q
-                ∙ sym (other_member x q ys f.1)
-          ]
+      left : (q : ℕ) → is_member eqb (others n xs) q ≡ (is_member eqb xs q && not (eqb n q))
+      left q = is_member-filter nat_eq_equiv (λ y. not (eqb n y)) q
+          (λ x e. ap (λ k. not (eqb n k)) (eqb-true q x e)) xs
 
 -- each key once
 module _ {K : Type 0} (eq : K → K → Bool) (tells : (a b : K)
@@ -131,15 +94,11 @@ module _ {K : Type 0} (eq : K → K → Bool) (tells : (a b : K)
   unique_member [] q = refl
   unique_member (x ∷ xs) q = member_one xs x q (is_member eq xs x) refl (unique_member xs q)
 
-  or_false : (a b : Bool) → a || b ≡ false → (a ≡ false) × (b ≡ false)
-  or_false true b h = absurd (cc)
-  or_false false b h = (refl, h)
-
   all_apart : (x : K) (ys : List K) → is_member eq ys x ≡ false
       → AllByRecursion (λ y. eq x y ≡ false) ys
   all_apart x [] h = tt
   all_apart x (y ∷ ys) h =
-      let k = or_false (eq x y) (is_member eq ys x) h in (k.0, all_apart x ys k.1)
+      let k = or_parts _ _ h in (k.0, all_apart x ys k.1)
 
   distinct_one : (xs : List K) (x : K) (b : Bool) → is_member eq xs x ≡ b
       → IsDistinct eq (unique_keys eq xs) → IsDistinct eq
@@ -152,45 +111,6 @@ module _ {K : Type 0} (eq : K → K → Bool) (tells : (a b : K)
   unfolding IsDistinct
   unique_distinct [] = tt
   unique_distinct (x ∷ xs) = distinct_one xs x (is_member eq xs x) refl (unique_distinct xs)
-
--- the numbers below a count
-pub range_member : (a n q : ℕ) → is_member eqb (range_with_len a n) q ≡ true → (a ≤ q) × (q < a + n)
-range_member a zero q h = absurd (cc)
-range_member a (suc n) q h =
-    elim (eqb_tells q a) [
-      | inl e ↦ (omega (arith, e.1), omega (arith, e.1))
-      | inr d ↦ let k = range_member (a + 1) n q
-          (sym (ap (λ b. b || is_member eqb (range_with_len (a + 1) n) q) d.0)
-          ∙ h) in (omega (arith, k.0), omega (arith, k.1))
-    ]
-
-pub member_range : (a n q : ℕ) → a ≤ q → q < a + n → is_member eqb (range_with_len a n) q ≡ true
-member_range a zero q l h = absurd (omega arith)
-member_range a (suc n) q l h =
-    elim (eqb_tells q a) [
-      | inl e ↦ ap (λ b. b || is_member eqb (range_with_len (a + 1) n) q) e.0
-      | inr d ↦ ap (λ b. b || is_member eqb (range_with_len (a + 1) n) q) d.0
-          ∙ member_range (a + 1) n q (omega (arith, d.1)) (omega arith)
-    ]
-
-pub range_distinct : (a n : ℕ) → IsDistinct eqb (range_with_len a n)
-unfolding IsDistinct
-range_distinct a zero = tt
-range_distinct a (suc n) = (later a (a + 1) n (omega arith), range_distinct (a + 1) n)
-  where
-    later : (a b n : ℕ) → a < b → AllByRecursion (λ y. eqb a y ≡ false) (range_with_len b n)
-    later a b zero h = tt
-    later a b (suc n) h = (
-      elim (eqb_tells a b) [ inl e ↦ absurd (omega (arith, e.1)) | inr d ↦ d.0 ],
-      later a
-          (b + 1) n (omega arith),
-    )
-
-pub both_ways : (a b : Bool) → (a ≡ true → b ≡ true) → (b ≡ true → a ≡ true) → a ≡ b
-both_ways true true h k = refl
-both_ways true false h k = sym (h refl)
-both_ways false true h k = k refl
-both_ways false false h k = refl
 
 -- ---- lists that weigh the same
 
@@ -207,7 +127,3 @@ total_equal v w (x ∷ xs) a = λ i. a.0 i + total_equal v w xs a.1 i
 pub total_one : {A : Type 0} (xs : List A) → total (λ x. 1) xs ≡ length xs
 total_one [] = refl
 total_one (x ∷ xs) = omega (arith, total_one xs)
-
-pub total_range : (a n : ℕ) → total (λ x. 1) (range_with_len a n) ≡ n
-total_range a zero = refl
-total_range a (suc n) = omega (arith, total_range (a + 1) n)

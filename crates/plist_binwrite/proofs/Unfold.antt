@@ -16,18 +16,17 @@ use Rattle.plist_binread.specs.Unfolding.{until_fault}
 use Rattle.plist_binwrite.specs.Standing.{size, Sits, SitsItems, SitsPairs}
 use Rattle.plist_binwrite.specs.Walks.{Shown, all_items, of_obj, walk}
 use Rattle.plist_binwrite.specs.Numberings.{refs, pairs, obj_of, trace, trace_items, trace_pairs, IsNumbering}
+use Rattle.plist_binwrite.proofs.Uniques.{all_from}
 use Rattle.plist_binwrite.proofs.Sitting.{sits_items, sits_pairs, sits_item, sits_next, sits_key, sits_value, sits_next_pair}
 
 pub length-refs : (num : ℕ → ℕ) (ts : Trees) (q : ℕ) → length (refs num ts q) ≡ number_of_trees ts
 length-refs num NoTrees q = refl
-length-refs num (TreeAnd t ts) q = let e : suc (length (refs num ts (q + size t)))
-    ≡ 1 + number_of_trees ts = omega (arith, length-refs num ts (q + size t)) in e
+length-refs num (TreeAnd t ts) q = omega (arith, length-refs num ts (q + size t))
 
 pub length-pairs : (num : ℕ → ℕ) (ms : Members) (q : ℕ)
     → length (pairs num ms q) ≡ number_of_members ms
 length-pairs num NoMembers q = refl
-length-pairs num (MemberAnd k t ms) q = let e : suc (length (pairs num ms (q + 1 + size t)))
-    ≡ 1 + number_of_members ms = omega (arith, length-pairs num ms (q + 1 + size t)) in e
+length-pairs num (MemberAnd k t ms) q = omega (arith, length-pairs num ms (q + 1 + size t))
 
 module _ {A : Type 0} (s : Shown A) (count : ℕ) (place : ℕ → ℕ) (object : ℕ → Object) where
   walk_step : (room : ℕ) (path : List ℕ) (at i : ℕ) → i < count → list_any (eqb i) path ≡ false
@@ -53,8 +52,8 @@ Above rank m path = AllByRecursion (λ x. m < rank x) path
 
 above_less : (rank : ℕ → ℕ) (m n : ℕ) (path : List ℕ) → m ≤ n → Above rank n path
     → Above rank m path
-above_less rank m n [] h a = tt
-above_less rank m n (x ∷ path) h a = (omega (arith, a.0), above_less rank m n path h a.1)
+above_less rank m n path h =
+    all_from (λ x. m < rank x) (λ x. n < rank x) (λ x lt. omega (arith, lt)) path
 
 -- so an object of a tree of m events isn't on it
 not_on_path : (rank : ℕ → ℕ) (m i : ℕ) (path : List ℕ) → rank i ≡ m → Above rank m path
@@ -68,18 +67,20 @@ not_on_path rank m i (x ∷ path) e a =
 
 module _ {A : Type 0} (s : Shown A) (es : List PlainEvent) (num rank : ℕ → ℕ) (count : ℕ) (place : ℕ
     → ℕ) (object : ℕ → Object) (n : IsNumbering es num rank count object) where
+  -- what is shown of an object inside those of the path
+  abbrev from : (path : List ℕ) (at i : ℕ) → List A
+  from path at i = walk s count place object (count - length path) path at i
+
   entered : (t : Tree) (p : ℕ) (path : List ℕ) (at : ℕ) → Sits es t p → IsPath count path
       → Above rank (size t) path →
-      walk s count place object (count - length path) path at (num p)
+      from path at (num p)
       ≡ of_obj s (obj_of num t p) (num p) (place (num p))
-      (λ c. walk s count place object (count - length (num p ∷ path)) (num p ∷ path)
-      (place (num p)) c)
+      (from (num p ∷ path) (place (num p)))
   entered t p path at sits o a =
       walk_entered s count place object path at (num p) o (n.below t p sits)
       (not_on_path rank (size t) (num p) path (n.ranked t p sits) a)
       ∙ ap (λ ob. of_obj s ob (num p) (place (num p))
-      (λ c. walk s count place object (count - length (num p ∷ path)) (num p ∷ path)
-      (place (num p)) c)) (n.holds t p sits)
+      (from (num p ∷ path) (place (num p)))) (n.holds t p sits)
 
   path_in : (t : Tree) (p : ℕ) (path : List ℕ) → Sits es t p → IsPath count path
       → Above rank (size t) path → IsPath count (num p ∷ path)
@@ -94,14 +95,14 @@ module _ {A : Type 0} (s : Shown A) (es : List PlainEvent) (num rank : ℕ → �
 
   mutual
     pub unfolds : (t : Tree) (p : ℕ) (path : List ℕ) (at : ℕ) → Sits es t p → IsPath count path
-        → Above rank (size t) path → walk s count place object (count - length path) path at (num p)
+        → Above rank (size t) path → from path at (num p)
         ≡ trace num s t p
     unfolds (Leaf x) p path at sits o a = entered (Leaf x) p path at sits o a
     unfolds (Array ts) p path at sits o a =
         entered (Array ts) p path at sits o a
         ∙ ap (λ n. s.begin_array (num p) n ++ (flat_map
-        (λ c. walk s count place object (count - length (num p ∷ path)) (num p ∷ path)
-        (place (num p)) c) (refs num ts (p + 1)) ++ s.close)) (length-refs num ts (p + 1))
+        (from (num p ∷ path) (place (num p))) (refs num ts (p + 1)) ++ s.close))
+        (length-refs num ts (p + 1))
         ∙ ap (λ l. s.begin_array (num p) (number_of_trees ts) ++ (l ++ s.close))
         (unfolds_items ts (p + 1) (num p ∷ path) (place (num p)) (sits_items sits)
         (path_in (Array ts) p path sits o a)
@@ -110,8 +111,7 @@ module _ {A : Type 0} (s : Shown A) (es : List PlainEvent) (num rank : ℕ → �
     unfolds (Dictionary ms) p path at sits o a =
         entered (Dictionary ms) p path at sits o a
         ∙ ap (λ n. s.begin_dictionary (num p) n ++ (flat_map
-        (λ c. walk s count place object (count - length (num p ∷ path)) (num p ∷ path)
-        (place (num p)) c) (children_of (pairs num ms (p + 1))) ++ s.close))
+        (from (num p ∷ path) (place (num p))) (children_of (pairs num ms (p + 1))) ++ s.close))
         (length-pairs num ms (p + 1))
         ∙ ap (λ l. s.begin_dictionary (num p) (number_of_members ms) ++ (l ++ s.close))
         (unfolds_pairs ms (p + 1) (num p ∷ path) (place (num p)) (sits_pairs sits)
@@ -121,7 +121,7 @@ module _ {A : Type 0} (s : Shown A) (es : List PlainEvent) (num rank : ℕ → �
 
     pub unfolds_items : (ts : Trees) (q : ℕ) (path : List ℕ) (at : ℕ) → SitsItems es ts q
         → IsPath count path → Above rank (length (shape_of_items ts)) path
-        → flat_map (λ c. walk s count place object (count - length path) path at c) (refs num ts q)
+        → flat_map (from path at) (refs num ts q)
         ≡ trace_items num s ts q
     unfolds_items NoTrees q path at sits o a = refl
     unfolds_items (TreeAnd t ts) q path at sits o a =
@@ -129,31 +129,26 @@ module _ {A : Type 0} (s : Shown A) (es : List PlainEvent) (num rank : ℕ → �
         ≡ length (shape t) + length (shape_of_items ts) = length-append (shape t)
         (shape_of_items ts) in
         let first = unfolds t q path at (sits_item sits) o
-        (above_less rank (size t) (length (shape t ++ shape_of_items ts)) path (omega arith) a) in
+        (above_less rank (size t) _ path (omega arith) a) in
         let next = unfolds_items ts (q + size t) path at (sits_next sits) o
-        (above_less rank (length (shape_of_items ts)) (length (shape t ++ shape_of_items ts)) path
-        (omega arith) a) in
+        (above_less rank (length (shape_of_items ts)) _ path (omega arith) a) in
         λ i. first i ++ next i
 
     pub unfolds_pairs : (ms : Members) (q : ℕ) (path : List ℕ) (at : ℕ) → SitsPairs es ms q
         → IsPath count path → Above rank (length (shape_of_pairs ms)) path
-        → flat_map (λ c. walk s count place object (count - length path) path at c)
+        → flat_map (from path at)
         (children_of (pairs num ms q)) ≡ trace_pairs num s ms q
     unfolds_pairs NoMembers q path at sits o a = refl
     unfolds_pairs (MemberAnd k t ms) q path at sits o a =
         let len : length (shape t ++ shape_of_pairs ms)
         ≡ length (shape t) + length (shape_of_pairs ms) = length-append (shape t)
         (shape_of_pairs ms) in
-        let all : ℕ = length (Single (trees.String k) ∷ (shape t ++ shape_of_pairs ms)) in
         let key = entered (Leaf (trees.String k)) q path at (sits_key sits) o
-        (above_less rank 1 (length (Single (trees.String k) ∷ (shape t ++ shape_of_pairs ms))) path
-        (omega arith) a) in
+        (above_less rank 1 _ path (omega arith) a) in
         let first = unfolds t (q + 1) path at (sits_value sits) o
-        (above_less rank (size t) (length (Single
-        (trees.String k) ∷ (shape t ++ shape_of_pairs ms))) path (omega arith) a) in
+        (above_less rank (size t) _ path (omega arith) a) in
         let next = unfolds_pairs ms (q + 1 + size t) path at (sits_next_pair sits) o
-        (above_less rank (length (shape_of_pairs ms))
-        (length (Single (trees.String k) ∷ (shape t ++ shape_of_pairs ms))) path (omega arith) a) in
+        (above_less rank (length (shape_of_pairs ms)) _ path (omega arith) a) in
         λ i. key i ++ (first i ++ next i)
 
 -- the items of a tree are its events

@@ -1,26 +1,20 @@
 -- Held events are those of a tree without their lengths.
 use Rattle.std.proofs.Common.{◌≡◌, List, [], ◌∷◌, map, get_or, refl, sym, ap, ◌∙◌}
 use Rattle.plist_base.specs.Bracketing.{bracketing, shape, unhinted, AreAlike, AreWhole}
-use Rattle.plist_base.specs.Events.{PlainEvent, StartArray, StartDictionary, EndCollection, Single}
+use Rattle.plist_base.specs.Events.{PlainEvent, EndCollection}
 use Rattle.plist_base.specs.Trees.{Tree}
-use Rattle.plist_base.proofs.Stacks.{shape-is}
+use Rattle.plist_base.proofs.Stacks.{shape-is, unhinted-twice}
 use Rattle.plist_binwrite.specs.declared.entries.Entry.{Entry}
 use Rattle.plist_binwrite.specs.declared.entries.Entry.TheVariants as entry
 use Rattle.plist_binwrite.specs.declared.held.Held.{Held}
 use Rattle.plist_binwrite.specs.Held.{plain_events, scalars_of, IsBracketed}
 use Rattle.plist_binwrite.specs.inner.Entries.{shown, all_shown}
 
-pub unhinted_twice : (e : PlainEvent) → unhinted (unhinted e) ≡ unhinted e
-unhinted_twice (StartArray hint) = refl
-unhinted_twice (StartDictionary hint) = refl
-unhinted_twice EndCollection = refl
-unhinted_twice (Single x) = refl
-
 shown_twice : (scalars : List PlainEvent) (e : Entry)
     → unhinted (shown scalars e) ≡ shown scalars e
 shown_twice scalars (entry.Array behind) = refl
 shown_twice scalars (entry.Dictionary behind) = refl
-shown_twice scalars (entry.Scalar place) = unhinted_twice (get_or scalars place EndCollection)
+shown_twice scalars (entry.Scalar place) = unhinted-twice (get_or scalars place EndCollection)
 shown_twice scalars entry.End = refl
 
 all_twice : (scalars : List PlainEvent) (es : List Entry)

@@ -1,10 +1,11 @@
 -- Lists of which one of each kind is kept, seen through a function; and facts that hold all along a
 -- list.
-use Rattle.std.proofs.Common.{◌≡◌, inl, inr, ℕ, Bool, true, false, cond, ◌||◌, eqb, List, [], ◌∷◌, ◌++◌, map, refl, ap, sym, ◌∙◌, subst}
-use Rattle.std.specs.List.{AllByRecursion}
+use Rattle.std.proofs.Common.{◌≡◌, inl, inr, ℕ, ◌<◌, ◌≤◌, Bool, true, false, cond, ◌||◌, eqb, List, [], ◌∷◌, ◌++◌, length, map, refl, ap, sym, ◌∙◌, subst}
+use Rattle.std.specs.List.{list_any, AllByRecursion, IsDistinct}
 use Rattle.std.specs.Set.{is_member, unique_keys}
 use Rattle.std.proofs.lemmas.Bool.Decides.{eqb_tells}
 use Rattle.std.proofs.lemmas.Bool.{or_right}
+use Rattle.std.proofs.lemmas.Map.Steps.{length-le_from_distinct_below}
 
 -- ---- along a list
 
@@ -27,6 +28,11 @@ module _ {A : Type 0} (P : A → Type 0) where
   all_from R h [] a = tt
   all_from R h (x ∷ xs) a = (h x a.0, all_from R h xs a.1)
 
+  pub all_map : {B : Type 0} (f : B → A) (xs : List B) → AllByRecursion (λ b. P (f b)) xs
+      → AllByRecursion P (map f xs)
+  all_map f [] a = tt
+  all_map f (x ∷ xs) a = (a.0, all_map f xs a.1)
+
   all_kept : (b : Bool) (x : A) (xs : List A) → P x → AllByRecursion P xs
       → AllByRecursion P (cond b xs (x ∷ xs))
   all_kept true x xs p a = a
@@ -40,6 +46,22 @@ module _ {A : Type 0} (P : A → Type 0) where
       all_kept (is_member eq xs x) x (unique_keys eq xs) a.0 (all_unique eq xs a.1)
 
 -- ---- numbers in a list
+
+-- what holds of each number of a list holds of one that is in it
+pub any_has : (P : ℕ → Type 0) (xs : List ℕ) (q : ℕ) → AllByRecursion P xs
+    → list_any (eqb q) xs ≡ true → P q
+any_has P [] q a h = cc
+any_has P (x ∷ xs) q a h =
+    elim (eqb_tells q x) [
+      | inl e ↦ subst P (sym e.1) a.0
+      | inr d ↦ any_has P xs q a.1 (sym (ap (λ b. b || list_any (eqb q) xs) d.0) ∙ h)
+    ]
+
+-- there are no more different numbers below a count than it says
+pub few_below : (count : ℕ) (xs : List ℕ) → AllByRecursion (λ x. x < count) xs → IsDistinct eqb xs
+    → length xs ≤ count
+few_below count xs a d =
+    length-le_from_distinct_below xs count d (λ q. any_has (λ x. x < count) xs q a)
 
 module _ {A : Type 0} (f : A → ℕ) where
   self_later : (n : ℕ) (ns : List ℕ) (xs : List A)
@@ -61,22 +83,9 @@ module _ {A : Type 0} (f : A → ℕ) where
     self_later (f x) (map f xs) xs (members_self xs),
   )
 
-  -- and what holds of them all holds of one that is in it
   pub member_has : (P : ℕ → Type 0) (xs : List A) (q : ℕ) → AllByRecursion (λ a. P (f a)) xs
       → is_member eqb (map f xs) q ≡ true → P q
-  member_has P [] q a h = absurd (cc)
-  member_has P (x ∷ xs) q a h =
-      elim (eqb_tells q (f x)) [
-        | inl e ↦ subst P (sym e.1) a.0
-        | inr d ↦ member_has P xs q a.1 (sym (ap (λ b. b || is_member eqb (map f xs) q) d.0) ∙ h)
-      ]
-
-pub eqb_both : (a b c d : ℕ) → (a ≡ b → c ≡ d) → (c ≡ d → a ≡ b) → eqb a b ≡ eqb c d
-eqb_both a b c d h k =
-    elim (eqb_tells a b) [
-      | inl e ↦ elim (eqb_tells c d) [ inl f ↦ e.0 ∙ sym f.0 | inr f ↦ absurd (f.1 (h e.1)) ]
-      | inr e ↦ elim (eqb_tells c d) [ inl f ↦ absurd (e.1 (k f.1)) | inr f ↦ e.0 ∙ sym f.0 ]
-    ]
+  member_has P xs q a h = any_has P (map f xs) q (all_map P f xs a) h
 
 -- ---- one of each kind
 
@@ -90,8 +99,8 @@ module _ {A B : Type 0} (eqa : A → A → Bool) (eqb : B → B → Bool) (f : A
   seen_cond : (b c : Bool) (us : List A) (x : A) (vs : List B) → b ≡ c → map f us ≡ vs
       → map f (cond b us (x ∷ us)) ≡ cond c vs (f x ∷ vs)
   seen_cond true true us x vs e h = h
-  seen_cond true false us x vs e h = absurd (cc)
-  seen_cond false true us x vs e h = absurd (cc)
+  seen_cond true false us x vs e h = cc
+  seen_cond false true us x vs e h = cc
   seen_cond false false us x vs e h = ap (λ l. f x ∷ l) h
 
   -- where two tests agree, they keep the same

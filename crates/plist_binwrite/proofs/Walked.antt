@@ -1,7 +1,9 @@
 -- The unfolding of a table of objects, and its visits, are one walk.
-use Rattle.std.proofs.Common.{◌≡◌, inl, inr, ℕ, zero, suc, ◌<◌, ◌≤◌, Bool, true, false, cond, nat_eq, List, [], ◌∷◌, ◌++◌, length, drop, get_or, None, Some, Ok, Err, refl, ap, ◌∙◌, arith, append-nil}
+use Rattle.std.proofs.Common.{◌≡◌, inl, inr, ℕ, zero, suc, ◌<◌, ◌≤◌, Bool, true, false, cond, nat_eq, List, [], ◌∷◌, ◌++◌, length, drop, get_or, None, Some, Ok, Err, refl, ap, ◌∙◌, append-nil}
 use Rattle.std.specs.List.{list_any, flat_map, slice_get}
+use Rattle.std.specs.Prelude.{option_map}
 use Rattle.std.proofs.lemmas.Bool.{lt-ltb, le-ltb, cases_lt}
+use Rattle.std.proofs.lemmas.Option.{slice_get-map, slice_get-get_or, slice_get_past}
 use Rattle.plist_base.specs.Faults.{fault_at, RecursiveObject}
 use Rattle.plist_base.specs.Events as events
 use Rattle.plist_base.specs.Events.{Item}
@@ -38,15 +40,13 @@ module _ (before : List ℕ) (w : ℕ) where
 
   found_inside : (places : List ℕ) (i : ℕ) → i < length places
       → slice_get (table_of before w places) i ≡ Some (entry_at (get_or places i 0))
-  found_inside [] i h = absurd (omega arith)
-  found_inside (p ∷ ps) zero h = refl
-  found_inside (p ∷ ps) (suc i) h = found_inside ps i (omega arith)
+  found_inside places i h =
+      slice_get-map entry_at places i ∙ ap (option_map entry_at) (slice_get-get_or places i 0 h)
 
   found_outside : (places : List ℕ) (i : ℕ) → length places ≤ i
       → slice_get (table_of before w places) i ≡ None
-  found_outside [] i h = refl
-  found_outside (p ∷ ps) zero h = absurd (omega arith)
-  found_outside (p ∷ ps) (suc i) h = found_outside ps i (omega arith)
+  found_outside places i h =
+      slice_get-map entry_at places i ∙ ap (option_map entry_at) (slice_get_past places i h)
 
   module _ (places : List ℕ) where
     abbrev pub place_in : ℕ → ℕ
@@ -54,11 +54,6 @@ module _ (before : List ℕ) (w : ℕ) where
 
     abbrev pub object_of : ℕ → Object
     object_of i = object_in w (drop (get_or places i 0) before)
-
-    at_last : (b : Bool) (at place : ℕ) → cond b (Err (fault_at RecursiveObject place) ∷ []) []
-        ≡ items_found (Some (entry_at place)) b at (λ entry. [])
-    at_last true at place = refl
-    at_last false at place = refl
 
     at_one : (b : Bool) (at place : ℕ) (xs : List Item) (f : Entry → List Item)
         → xs ≡ f (entry_at place) → cond b (Err (fault_at RecursiveObject place) ∷ []) xs
@@ -73,7 +68,7 @@ module _ (before : List ℕ) (w : ℕ) where
     walk_items zero path at i =
         elim (cases_lt i (length places)) [
           | inl h ↦ rw (lt-ltb i (length places) h, found_inside places i h)
-              (at_last (list_any (nat_eq i) path) at (get_or places i 0))
+              (at_one (list_any (nat_eq i) path) at (get_or places i 0) [] (λ entry. []) refl)
           | inr h ↦ rw (le-ltb i (length places) h, found_outside places i h) refl
         ]
     walk_items (suc room) path at i =

@@ -1,7 +1,8 @@
 -- A laid out table with its trailer is a file of the tree.
-use Rattle.std.proofs.Common.{◌≡◌, ◌≢◌, ℕ, suc, ◌+◌, ◌-◌, ◌*◌, ◌^◌, ◌<◌, ◌≤◌, Bool, true, false, eqb, nat_eq, List, [], ◌∷◌, ◌++◌, length, take, drop, get_or, map, Ok, refl, ap, sym, ◌∙◌, arith, append_assoc, append-nil, length-append}
+use Rattle.std.proofs.Common.{◌≡◌, ◌≢◌, ℕ, ◌+◌, ◌-◌, ◌*◌, ◌^◌, ◌<◌, ◌≤◌, true, eqb, nat_eq, List, [], ◌∷◌, ◌++◌, length, take, drop, get_or, map, Ok, refl, ap, sym, ◌∙◌, arith, append_assoc, length-append}
 use Rattle.std.specs.List.{list_any, starts_with}
-use Rattle.std.proofs.lemmas.Bool.{le-ltb}
+use Rattle.std.proofs.lemmas.List.Elements.{All-from_get_or, recursion_from_All}
+use Rattle.std.proofs.lemmas.Bool.{le-ltb, true_from_ne_false}
 use Rattle.std.proofs.Math.Seq.{take-append_seam, drop-append_seam}
 use Rattle.plist_base.specs.Bracketing.{bracketing, shape}
 use Rattle.plist_binread.specs.Container.{number_of, numbers_of, magic, trailer_in, is_width, Head, head_with, head_of}
@@ -9,7 +10,6 @@ use Rattle.plist_binread.specs.Object.{Object, object_in}
 use Rattle.plist_binread.specs.Unfolding.{until_fault, items_with, items_of_file}
 use Rattle.plist_binread.specs.Visits.{visits_with, visits}
 use Rattle.plist_base.specs.Trees.{Tree}
-use Rattle.plist_binwrite.specs.Standing.{Sits}
 use Rattle.plist_binwrite.specs.Forms.{big_endian, least_width, form, table_form, trailer_form, AllFit}
 use Rattle.plist_binwrite.specs.Counts.{HasObjects}
 use Rattle.plist_binwrite.specs.Written.{reference_width, offset_width, bodies, ending, IsWrittenAs}
@@ -20,29 +20,19 @@ use Rattle.plist_binwrite.proofs.Layouts.{length-magic, found_place, object_ther
 use Rattle.plist_binwrite.proofs.Reading.{form_read}
 use Rattle.plist_binwrite.proofs.ReadingNumbers.{numbers_back, length-table}
 use Rattle.plist_base.proofs.Paths.{path_none}
+use Rattle.plist_binwrite.proofs.Sitting.{sits_whole}
 use Rattle.plist_binwrite.proofs.Unfold.{unfolds, trace_is, no_fault}
 use Rattle.plist_binwrite.proofs.Walked.{place_in, object_of, walk_items, walk_visits}
-use Rattle.plist_binwrite.proofs.Widths.{IsWidth, one, two, four, eight, cases_width, number_back, width_holds}
+use Rattle.plist_binwrite.proofs.Widths.{at_width, number_back, width_holds}
 
 -- ---- the head
 
 width_is : (n : ℕ) → is_width (least_width n) ≡ true
-width_is n = let c = cases_width n in ap is_width c.1 ∙ by c.2
-  where
-    by : {w : ℕ} → IsWidth w → is_width w ≡ true
-    by one = refl
-    by two = refl
-    by four = refl
-    by eight = refl
+width_is n = at_width n (λ w. is_width w ≡ true) (λ a. refl) (λ a. refl) (λ a. refl) refl
 
 pub width_positive : (n : ℕ) → 0 < least_width n
-width_positive n = let c = cases_width n in let p = by c.2 in omega (arith, c.1)
-  where
-    by : {w : ℕ} → IsWidth w → 0 < w
-    by one = omega arith
-    by two = omega arith
-    by four = omega arith
-    by eight = omega arith
+width_positive n =
+    at_width n (λ w. 0 < w) (λ a. omega arith) (λ a. omega arith) (λ a. omega arith) (omega arith)
 
 trailer_back : (ow rf count at : ℕ) → count < 2 ^ 64 → at < 2 ^ 64
     → trailer_in (trailer_form ow rf count at)
@@ -82,21 +72,24 @@ head_whole bytes e h = let big : 8 ≤ length bytes = omega arith in rw (
 ) refl
 
 module _ (file places : List ℕ) where
+  abbrev wide : ℕ
+  wide = offset_width (length file)
+
   abbrev table : List ℕ
-  table = table_form (offset_width (length file)) places
+  table = table_form wide places
 
   abbrev trailer : List ℕ
   trailer =
-      trailer_form (offset_width (length file)) (reference_width (length places)) (length places)
+      trailer_form wide (reference_width (length places)) (length places)
       (length file)
 
   -- where the trailer begins
   abbrev pub last : ℕ
-  last = length file + length places * offset_width (length file)
+  last = length file + length places * wide
 
   length_front : length (file ++ table) ≡ last
   length_front =
-      omega (arith, length-append file table, length-table (offset_width (length file)) places)
+      omega (arith, length-append file table, length-table wide places)
 
   regroup : closed file places ≡ (file ++ table) ++ trailer
   regroup = sym (append_assoc file table trailer)
@@ -120,16 +113,16 @@ module _ (file places : List ℕ) where
       ap (λ n. drop n (closed file places)) (sym length_front)
       ∙ ap (drop (length (file ++ table))) regroup ∙ drop-append_seam (file ++ table) trailer
 
-  table_is : take (length places * offset_width (length file))
+  table_is : take (length places * wide)
       (drop (length file) (closed file places)) ≡ table
   table_is =
-      ap (take (length places * offset_width (length file)))
+      ap (take (length places * wide))
       (drop-append_seam file (table ++ trailer))
-      ∙ ap (λ n. take n (table ++ trailer)) (sym (length-table (offset_width (length file)) places))
+      ∙ ap (λ n. take n (table ++ trailer)) (sym (length-table wide places))
       ∙ take-append_seam table trailer
 
   pub head_is : (body : List ℕ) → file ≡ magic ++ body → length places < 2 ^ 64
-      → length file < 2 ^ 64 → AllFit (offset_width (length file)) places
+      → length file < 2 ^ 64 → AllFit wide places
       → head_of (closed file places)
       ≡ Ok (record {
         trailer = last;
@@ -141,33 +134,23 @@ module _ (file places : List ℕ) where
   head_is body is few short fit =
       let starts : starts_with nat_eq (closed file places) magic
       ≡ true = ap (λ f. starts_with nat_eq (f ++ (table ++ trailer)) magic) is in
-      let back : numbers_of (offset_width (length file))
-      (take (length places * offset_width (length file)) (drop (length file) (closed file places)))
+      let back : numbers_of wide
+      (take (length places * wide) (drop (length file) (closed file places)))
       ≡ places
-      = ap (numbers_of (offset_width (length file))) table_is
-      ∙ numbers_back (offset_width (length file)) places (width_positive (length file)) fit in
+      = ap (numbers_of wide) table_is
+      ∙ numbers_back wide places (width_positive (length file)) fit in
       head_whole (closed file places) starts (omega (arith, length_closed))
       ∙ (λ i. head_with (closed file places) (last_is i)
       (trailer_in (drop (last_is i) (closed file places))))
       ∙ ap (λ r. head_with (closed file places) last (trailer_in r)) trailer_is
       ∙ ap (head_with (closed file places) last)
-      (trailer_back (offset_width (length file)) (reference_width (length places)) (length places)
+      (trailer_back wide (reference_width (length places)) (length places)
       (length file) few short)
-      ∙ head_with_is (closed file places) places last (offset_width (length file))
+      ∙ head_with_is (closed file places) places last wide
       (reference_width (length places)) (length places) (length file) (width_is (length file))
       (width_is (length places - 1)) (omega arith) back
 
 -- ---- what the file's own table holds
-
-is_written : (w : ℕ) (objects : ℕ → Object) (file places : List ℕ)
-    (l : IsLaid w objects file places) (k : ℕ) → get_or places k 0 ≢ 0 → (b : Bool)
-    → list_any (eqb k) l.order ≡ b → b ≡ true
-is_written w objects file places l k z true e = refl
-is_written w objects file places l k z false e = absurd (z (l.unset k e))
-
-all_fit : (w : ℕ) (xs : List ℕ) → ((k : ℕ) → k < length xs → get_or xs k 0 < 256 ^ w) → AllFit w xs
-all_fit w [] h = tt
-all_fit w (x ∷ xs) h = (h 0 (omega arith), all_fit w xs (λ k lt. h (suc k) (omega arith)))
 
 module _ (t : Tree) (num rank : ℕ → ℕ) (objects : ℕ
     → Object) (file places : List ℕ) (l : IsLaid
@@ -182,7 +165,7 @@ module _ (t : Tree) (num rank : ℕ → ℕ) (objects : ℕ
   before = take (last file places) (closed file places)
 
   pub there : (k : ℕ) → k < length places → list_any (eqb k) l.order ≡ true
-  there k h = is_written w objects file places l k (all k h) (list_any (eqb k) l.order) refl
+  there k h = true_from_ne_false _ (λ e. all k h (l.unset k e))
 
   object_read : (k : ℕ) → k < length places → object_of before w places k ≡ objects k
   object_read k h =
@@ -202,20 +185,16 @@ module _ (t : Tree) (num rank : ℕ → ℕ) (objects : ℕ
 
   fit : AllFit (offset_width (length file)) places
   fit =
-      all_fit (offset_width (length file)) places
-      (λ k h. omega (
+      let Fits : ℕ → Type 0 = λ n. n < 256 ^ offset_width (length file) in
+      recursion_from_All Fits places (All-from_get_or Fits places 0 (λ k h. omega (
         arith,
         found_place w objects file places k l (there k h),
-        width_holds
-            (length file) short,
-      ))
+        width_holds (length file) short,
+      )))
 
   head_found : head_of (closed file places) ≡ Ok
       (record { trailer = last file places; reference_width = w; root = 0; places = places })
   head_found = head_is file places _ l.is few short fit
-
-  sits_whole : Sits (shape t) t 0
-  sits_whole = record { rest = []; is = sym (append-nil (shape t)) }
 
   walked : {A : Type 0} (s : Shown A) → walk s (length places) (place_in before w places)
       (object_of before w places) (length places) [] (last file places) 0 ≡ trace num s t 0
@@ -225,7 +204,7 @@ module _ (t : Tree) (num rank : ℕ → ℕ) (objects : ℕ
       ∙ ap (λ r. walk s (length places) (place_in before w places) (object_of before w places) r []
       (last file places) (num 0)) (omega arith)
       ∙ unfolds s (shape t) num rank (length places) (place_in before w places)
-      (object_of before w places) numbered t 0 [] (last file places) sits_whole
+      (object_of before w places) numbered t 0 [] (last file places) (sits_whole refl)
       (path_none (length places)) tt
 
   pub items_are : items_of_file (closed file places) ≡ map Ok (bracketing t)

@@ -1,5 +1,5 @@
 -- Big-endian numbers, and the least width of a number.
-use Rattle.std.proofs.Common.{◌≡◌, inl, inr, ℕ, zero, suc, ◌+◌, ◌-◌, ◌*◌, ◌/◌, ◌%◌, ◌^◌, ◌<◌, ◌≤◌, List, length, drop, take, refl, ap, ◌∙◌, arith}
+use Rattle.std.proofs.Common.{◌≡◌, inl, inr, ℕ, zero, suc, ◌+◌, ◌-◌, ◌*◌, ◌/◌, ◌%◌, ◌^◌, ◌<◌, ◌≤◌, List, length, drop, take, refl, ap, sym, ◌∙◌, subst, arith}
 use Rattle.std.specs.Int.{byte_at}
 use Rattle.std.specs.Int.Digits.{number_from_digits_after}
 use Rattle.std.proofs.Math.Nat.{pow-succ'}
@@ -31,28 +31,23 @@ width_8 n l =
 
 pub ruleset widths = (width_1, width_2, width_4, width_8)
 
--- a width of 1, 2, 4 or 8
-pub data IsWidth : ℕ → Type 0 where
-  one : IsWidth 1
-  two : IsWidth 2
-  four : IsWidth 4
-  eight : IsWidth 8
-
-pub cases_width : (n : ℕ) → (w : ℕ) × (least_width n ≡ w) × IsWidth w × (n < 2 ^ 64 → n < 256 ^ w)
-cases_width n =
+-- what holds of 1, 2, 4 and 8, each where it is wide enough, holds of the least width
+pub at_width : (n : ℕ) (P : ℕ → Type 0) → (n < 256 ^ 1 → P 1) → (n < 256 ^ 2 → P 2)
+    → (n < 256 ^ 4 → P 4) → P 8 → P (least_width n)
+at_width n P one two four eight =
     elim (cases_lt n 256) [
-      | inl a ↦ (1, width_1 n a, one, λ h. omega arith)
+      | inl a ↦ subst P (sym (width_1 n a)) (one (omega (arith, a)))
       | inr a ↦ elim (cases_lt n 65536) [
-        | inl b ↦ (2, width_2 n a b, two, λ h. omega arith)
+        | inl b ↦ subst P (sym (width_2 n a b)) (two (omega (arith, b)))
         | inr b ↦ elim (cases_lt n 4294967296) [
-          | inl d ↦ (4, width_4 n b d, four, λ h. omega arith)
-          | inr d ↦ (8, width_8 n d, eight, λ h. omega arith)
+          | inl d ↦ subst P (sym (width_4 n b d)) (four (omega (arith, d)))
+          | inr d ↦ subst P (sym (width_8 n d)) eight
         ]
       ]
     ]
 
 pub width_holds : (n : ℕ) → n < 2 ^ 64 → n < 256 ^ least_width n
-width_holds n h = let c = cases_width n in rw c.1 (c.3 h)
+width_holds n h = at_width n (λ w. n < 256 ^ w) (λ a. a) (λ a. a) (λ a. a) (omega (arith, h))
 
 -- ---- big-endian numbers
 

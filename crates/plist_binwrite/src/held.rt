@@ -40,6 +40,14 @@ impl<'e> Held<'e> {
         }
     }
 
+    /// Makes room for so many more different scalars, where there is memory for that. It is a hint:
+    /// more can come, or fewer.
+    pub fn expect_scalars(&mut self, count: usize)
+        ensures events { plain_events self.new ≡ plain_events self.old }
+    {
+        let _ = self.scalars.reserve(count);
+    }
+
     /// How many events there are.
     pub fn len(&self) -> usize
         ensures { result ≡ length (plain_events self.now) }

@@ -1,6 +1,6 @@
 //! The order of a file's objects.
 
-ghost use Rattle.std.specs.Prelude.{◌≡◌, ◌<◌, length, IfOk, OnOk};
+ghost use Rattle.std.specs.Prelude.{◌<◌, length, IfOk, OnOk};
 ghost use Rattle.plist_base.specs.Outcomes.{OnlyMemory};
 ghost use Rattle.plist_binwrite.specs.Held.{plain_events};
 ghost use Rattle.plist_binwrite.specs.inner.Laying.{IsOrder, KeepsMarks, HasAll};

@@ -3,7 +3,7 @@
 ghost use Rattle.std.specs.Prelude.{◌≡◌, ◌<◌, length, IfOk, OnOk};
 ghost use Rattle.plist_base.specs.Outcomes.{OnlyMemory};
 ghost use Rattle.plist_binwrite.specs.Held.{plain_events, AllBelow};
-ghost use Rattle.plist_binwrite.specs.inner.Numbering.{BeginsAt, HasAllClasses, HaveIdsOf, IsNumberingOf, IsPlanOf, KeepsNumbers, NumbersChildren, NumbersHalf, NumbersItem, NumbersItems, NumbersRoot, NumbersTree};
+ghost use Rattle.plist_binwrite.specs.inner.Numbering.{BeginsAt, GoesSoFar, HaveIdsOf, IsNumberingOf, IsPlanOf, KeepsNumbers, NumbersChildren, NumbersHalf, NumbersItem, NumbersItems, NumbersRoot, NumbersTree};
 
 use crate::held::Held;
 use crate::kinds::{Kind, half_of};
@@ -28,9 +28,7 @@ struct Numbered {
 
 // Numbers the object of the event here, unless it has a number.
 fn number_one(given: &Classed<'_>, found: &mut Numbered, place: usize) -> Result<(), AllocError>
-    requires plan { IsPlanOf given.now found.old }
-    requires ids { HaveIdsOf given.now found.old }
-    requires long { HasAllClasses given.now }
+    requires so_far { GoesSoFar given.now found.old }
     ensures plan { OnOk result (IsPlanOf given.now found.new) }
     ensures ids { OnOk result (HaveIdsOf given.now found.new) }
     ensures keeps { OnOk result (KeepsNumbers found.old found.new) }
@@ -58,11 +56,8 @@ fn number_one(given: &Classed<'_>, found: &mut Numbered, place: usize) -> Result
 
 // Numbers the items of an array from here on.
 fn number_items(given: &Classed<'_>, found: &mut Numbered, from: usize) -> Result<(), AllocError>
-    requires plan { IsPlanOf given.now found.old }
-    requires ids { HaveIdsOf given.now found.old }
-    requires long { HasAllClasses given.now }
-    ensures plan { OnOk result (IsPlanOf given.now found.new) }
-    ensures ids { OnOk result (HaveIdsOf given.now found.new) }
+    requires so_far { GoesSoFar given.now found.old }
+    ensures so_far { OnOk result (GoesSoFar given.now found.new) }
     ensures keeps { OnOk result (KeepsNumbers found.old found.new) }
     ensures numbered { OnOk result (NumbersItems given.now from found.new) }
 {
@@ -81,11 +76,8 @@ fn number_halves(
     from: usize,
     values: bool,
 ) -> Result<(), AllocError>
-    requires plan { IsPlanOf given.now found.old }
-    requires ids { HaveIdsOf given.now found.old }
-    requires long { HasAllClasses given.now }
-    ensures plan { OnOk result (IsPlanOf given.now found.new) }
-    ensures ids { OnOk result (HaveIdsOf given.now found.new) }
+    requires so_far { GoesSoFar given.now found.old }
+    ensures so_far { OnOk result (GoesSoFar given.now found.new) }
     ensures keeps { OnOk result (KeepsNumbers found.old found.new) }
     ensures numbered { OnOk result (NumbersHalf given.now values from found.new) }
 {
@@ -104,12 +96,9 @@ fn number_children(
     found: &mut Numbered,
     place: usize,
 ) -> Result<(), AllocError>
-    requires plan { IsPlanOf given.now found.old }
-    requires ids { HaveIdsOf given.now found.old }
-    requires long { HasAllClasses given.now }
+    requires so_far { GoesSoFar given.now found.old }
     requires place { place < length (plain_events given.now.events.now) }
-    ensures plan { OnOk result (IsPlanOf given.now found.new) }
-    ensures ids { OnOk result (HaveIdsOf given.now found.new) }
+    ensures so_far { OnOk result (GoesSoFar given.now found.new) }
     ensures keeps { OnOk result (KeepsNumbers found.old found.new) }
     ensures numbered { OnOk result (NumbersChildren given.now place found.new) }
 {

@@ -1,12 +1,11 @@
 //! Puts the objects of a planned file.
 
-ghost use Rattle.std.specs.Prelude.{◌≡◌, ◌<◌, ◌≤◌, length};
+ghost use Rattle.std.specs.Prelude.{◌<◌, length};
 ghost use Rattle.plist_binwrite.specs.Held.{AllBelow};
-ghost use Rattle.plist_binwrite.specs.inner.Planning.{IsPlanned, count_of, events_in};
+ghost use Rattle.plist_binwrite.specs.inner.Planning.{CanPut, count_of, events_in};
 ghost use Rattle.plist_binwrite.specs.inner.Putting.{PutsArray, PutsDictionary, PutsHalf, PutsItems, PutsObject, PutsOrder};
 
 use crate::forms::{put_length, put_number, put_scalar};
-use crate::held::Held;
 use crate::kinds::{Kind, half_of};
 use crate::numbers::Numbers;
 use crate::plan::Planned;
@@ -21,8 +20,7 @@ fn put_items<W: Write>(
     file: &Planned<'_>,
     from: usize,
 ) -> Result<(), Error>
-    requires planned { IsPlanned (events_in file.now) file.now.plan.now }
-    requires width { file.now.width ≤ 8 }
+    requires file { CanPut file.now }
     ensures { PutsItems W.contents out.old room.old file.now from result out.new room.new }
 {
     let mut place = from;
@@ -45,8 +43,7 @@ fn put_halves<W: Write>(
     from: usize,
     values: bool,
 ) -> Result<(), Error>
-    requires planned { IsPlanned (events_in file.now) file.now.plan.now }
-    requires width { file.now.width ≤ 8 }
+    requires file { CanPut file.now }
     ensures { PutsHalf W.contents out.old room.old file.now values from result out.new room.new }
 {
     let mut key = from;
@@ -71,9 +68,8 @@ fn put_array<W: Write>(
     file: &Planned<'_>,
     place: usize,
 ) -> Result<(), Error>
-    requires planned { IsPlanned (events_in file.now) file.now.plan.now }
+    requires file { CanPut file.now }
     requires place { place < length (events_in file.now) }
-    requires width { file.now.width ≤ 8 }
     ensures { PutsArray W.contents out.old room.old file.now place result out.new room.new }
 {
     let count = count_items(file.events, place + 1) as u64;
@@ -89,9 +85,8 @@ fn put_dictionary<W: Write>(
     file: &Planned<'_>,
     place: usize,
 ) -> Result<(), Error>
-    requires planned { IsPlanned (events_in file.now) file.now.plan.now }
+    requires file { CanPut file.now }
     requires place { place < length (events_in file.now) }
-    requires width { file.now.width ≤ 8 }
     ensures { PutsDictionary W.contents out.old room.old file.now place result out.new room.new }
 {
     let count = count_items(file.events, place + 1) as u64;
@@ -112,9 +107,8 @@ fn put_object<W: Write>(
     file: &Planned<'_>,
     place: usize,
 ) -> Result<(), Error>
-    requires planned { IsPlanned (events_in file.now) file.now.plan.now }
+    requires file { CanPut file.now }
     requires place { place < length (events_in file.now) }
-    requires width { file.now.width ≤ 8 }
     ensures { PutsObject W.contents out.old room.old file.now place result out.new room.new }
 {
     match file.events.kind_at(place) {
@@ -134,8 +128,7 @@ pub fn put_objects<W: Write>(
     file: &Planned<'_>,
     order: &Numbers,
 ) -> Result<(), Error>
-    requires planned { IsPlanned (events_in file.now) file.now.plan.now }
-    requires width { file.now.width ≤ 8 }
+    requires file { CanPut file.now }
     requires order { AllBelow (count_of file.now.plan.now) order.now }
     ensures { PutsOrder W.contents out.old room.old file.now order.now result out.new room.new }
 {

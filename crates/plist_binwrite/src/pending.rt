@@ -40,6 +40,15 @@ impl Pending {
         }
     }
 
+    /// Makes room for so many more different scalars, where there is memory for that. It is a hint:
+    /// more can come, or fewer.
+    pub fn expect_scalars(&mut self, count: usize)
+        ensures events { events_held self.new ≡ events_held self.old }
+        ensures whole { is_whole self.new ≡ is_whole self.old }
+    {
+        self.held.expect_scalars(count);
+    }
+
     // The fault of an event that can't follow those held.
     fn fault_of_event(&self, event: &Event<'_>) -> Error
         ensures { fault_of result ≡ refusal_of (events_held self.now) (event_of event.now) }

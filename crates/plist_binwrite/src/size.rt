@@ -9,7 +9,7 @@ ghost use Rattle.plist_binwrite.specs.inner.Planning.{IsPlanned, count_of, event
 ghost use Rattle.plist_binwrite.specs.Sizes.{TellsSize, size_with};
 ghost use Rattle.plist_binwrite.specs.inner.Sizing.{AreLaid, CountsItems, ExceedsWith, FitsWith, IsWritableAt, TellsEnd, TellsSizeAt};
 
-use crate::forms::{offset_width, reference_width};
+use crate::forms::offset_width;
 use crate::held::Held;
 use crate::kinds::Kind;
 use crate::lengths::{add, length_of_collection, length_of_scalar};

@@ -1,5 +1,5 @@
 -- Lines of base64: one behind the other, and read back.
-use Rattle.std.proofs.Common.{◌≡◌, ℕ, zero, suc, ◌+◌, ◌-◌, ◌*◌, ◌/◌, ◌%◌, ◌<◌, ◌≤◌, Bool, true, false, ◌↔◌, not, cond, List, [], ◌∷◌, ◌++◌, length, map, min, take, drop, replicate, slice_index, Some, refl, sym, ap, ◌∙◌, append_assoc, arith}
+use Rattle.std.proofs.Common.{◌≡◌, ℕ, zero, suc, ◌+◌, ◌-◌, ◌*◌, ◌%◌, ◌<◌, ◌≤◌, Bool, true, ◌↔◌, not, cond, List, [], ◌∷◌, ◌++◌, length, map, min, take, drop, replicate, slice_index, Some, refl, sym, ap, ◌∙◌, append_assoc, rules, arith}
 use Rattle.std.proofs.lemmas.List.{append-nil, length-take-le, length-drop, take_all, take_min}
 use Rattle.std.proofs.lemmas.List.Elements.{filter-append}
 use Rattle.std.proofs.lemmas.List.Folds.{concat-append}
@@ -14,9 +14,9 @@ use Rattle.base64.specs.declared.decode.DecodeError.{DecodeError}
 use Rattle.base64.specs.declared.decode.DecodeAllocError.{DecodeAllocError}
 use Rattle.base64.specs.declared.decode.DecodeAllocError.TheVariants as decoding
 use Rattle.std.specs.Result.{result_ok}
-use Rattle.std.specs.Prelude.{Result, Ok, Err}
+use Rattle.std.specs.Prelude.{Result, Ok}
 use Rattle.std.proofs.lemmas.Bool.{and_parts}
-use Rattle.base64.specs.Rfc4648.{encode_symbols, padding_len}
+use Rattle.base64.specs.Rfc4648.{encode_symbols}
 use Rattle.base64.proofs.EngineFacts.{decode_of-encode_of, decode_of_iff, encode_of-append, encode_of-nil}
 use Rattle.base64.proofs.Streams.{decoded_of-ok}
 use Rattle.plist_data.specs.DataText.{bytes_of_line, first_lines, line_count, data_text, without_white, data_of_text, IsNoData, refusal_of}
@@ -30,14 +30,8 @@ is_dark byte = not (is_ascii_whitespace byte)
 abbrev pub IsDark : List ℕ → Type 0
 IsDark text = without_white text ≡ text
 
-dark-nil : IsDark []
-dark-nil = refl
-
-dark-cons : (byte : ℕ) (text : List ℕ) → is_dark byte ≡ true → IsDark text → IsDark (byte ∷ text)
-dark-cons byte text first rest = rw (first, rest) refl
-
 dark-append : (a b : List ℕ) → IsDark a → IsDark b → IsDark (a ++ b)
-dark-append a b first rest = filter-append is_dark a b ∙ rw (first, rest) refl
+dark-append a b first rest = filter-append _ a b ∙ rw (first, rest) refl
 
 dark_at : (symbols : List ℕ) (i : ℕ) → list_all is_dark symbols ≡ true
     → is_dark (slice_index symbols i) ≡ true
@@ -51,26 +45,18 @@ symbol_is_dark i = dark_at standard.encode_table i refl
 dark-symbols : (bytes : List ℕ) → IsDark (encode_symbols standard.encode_table bytes)
 unfolding encode_symbols
 dark-symbols [] = refl
-dark-symbols (a ∷ []) =
-    dark-cons _ _ (symbol_is_dark (a / 4)) (dark-cons _ _ (symbol_is_dark (a % 4 * 16)) dark-nil)
-dark-symbols (a ∷ b ∷ []) =
-    dark-cons _ _ (symbol_is_dark (a / 4))
-    (dark-cons _ _ (symbol_is_dark (a % 4 * 16 + b / 16))
-    (dark-cons _ _ (symbol_is_dark (b % 16 * 4)) dark-nil))
-dark-symbols (a ∷ b ∷ c ∷ rest) =
-    dark-cons _ _ (symbol_is_dark (a / 4))
-    (dark-cons _ _ (symbol_is_dark (a % 4 * 16 + b / 16))
-    (dark-cons _ _ (symbol_is_dark (b % 16 * 4 + c / 64))
-    (dark-cons _ _ (symbol_is_dark (c % 64)) (dark-symbols rest))))
+dark-symbols (a ∷ []) = simp symbol_is_dark
+dark-symbols (a ∷ b ∷ []) = simp symbol_is_dark
+dark-symbols (a ∷ b ∷ c ∷ rest) = simp (symbol_is_dark, dark-symbols rest)
 
 dark-padding : (n : ℕ) → IsDark (replicate n 61)
 dark-padding zero = refl
-dark-padding (suc n) = dark-cons 61 (replicate n 61) refl (dark-padding n)
+dark-padding (suc n) = rw (dark-padding n) refl
 
 dark-base64 : (bytes : List ℕ) → IsDark (encode_of standard bytes)
 dark-base64 bytes =
-    dark-append (encode_symbols standard.encode_table bytes) _ (dark-symbols bytes)
-    (dark-padding (padding_len (length bytes)))
+    dark-append (encode_symbols _ _) _ (dark-symbols _)
+    (dark-padding _)
 
 -- ---- the lines
 
@@ -93,10 +79,10 @@ concat-more : (bytes : List ℕ) (n count : ℕ) → n ≡ count + 1
 concat-more bytes n count is =
     let line = encode_of standard (bytes_of_line bytes count) in
     ap (λ k. concat (first_lines k bytes)) is
-    ∙ ap concat (map-range_with_len_more (λ k. encode_of standard (bytes_of_line bytes k)) 0 count
+    ∙ ap concat (map-range_with_len_more (λ k. encode_of standard _) 0 _
     count (omega arith))
-    ∙ concat-append (first_lines count bytes) (line ∷ [])
-    ∙ ap (λ t. concat (first_lines count bytes) ++ t) (append-nil line)
+    ∙ concat-append (first_lines _ _) (line ∷ [])
+    ∙ ap (λ t. concat (first_lines count bytes) ++ t) (append-nil _)
 
 concat-lines : (bytes : List ℕ) (count : ℕ) → count * 51 < length bytes + 51
     → concat (first_lines count bytes) ≡ encode_of standard (take (count * 51) bytes)
@@ -108,7 +94,7 @@ concat-lines bytes (suc count) fits =
     in
     let whole : length front % 3 ≡ 0 = omega (arith, fills) in
     let split : take (suc count * 51) bytes ≡ front ++ line = ap (λ n. take n bytes) (omega arith)
-    ∙ take-add (count * 51) 51 bytes in
+    ∙ take-add (count * 51) 51 _ in
     concat-more bytes (suc count) count (omega arith)
     ∙ ap (λ t. t ++ encode_of standard line) (concat-lines bytes count (omega (arith, fits)))
     ∙ sym (encode_of-append standard front line whole)
@@ -130,7 +116,7 @@ pub line-slice : (bytes : List ℕ) (start end : ℕ) → end ≡ min (length by
 line-slice bytes start end is fits =
     let short : end - start ≡ min 51 (length (drop start bytes)) = omega
     (arith, is, fits, length-drop start bytes) in
-    ap (λ n. take n (drop start bytes)) short ∙ take_min 51 (drop start bytes)
+    ap (λ n. take n (drop start bytes)) short ∙ take_min 51 _
 
 -- the first line
 pub lines-first : (bytes : List ℕ) (line : ℕ) → line ≡ 0
@@ -153,11 +139,11 @@ pub written-reads : (bytes : List ℕ) → IsBytes bytes → data_of_text (data_
 unfolding data_of_text data_text
 written-reads bytes are_bytes =
     let count = line_count bytes in
-    let whole_lines = div_ceil_times (length bytes) 51 (omega arith) in
-    let all : take (count * 51) bytes ≡ bytes = take_all (count * 51) bytes whole_lines.0 in
+    let whole_lines = div_ceil_times (length _) 51 (omega arith) in
+    let all : take (count * 51) bytes ≡ bytes = take_all (count * 51) _ whole_lines.0 in
     let text : without_white (join_with_byte 10 (first_lines count bytes))
-    ≡ encode_of standard bytes = dark-lines bytes (range_with_len 0 count)
-    ∙ concat-lines bytes count whole_lines.1 ∙ ap (encode_of standard) all in
+    ≡ encode_of standard bytes = dark-lines bytes (range_with_len 0 _)
+    ∙ concat-lines _ count whole_lines.1 ∙ ap (encode_of standard) all in
     rw text (decoded_of-ok standard (encode_of standard bytes) bytes
     (decode_of-encode_of standard bytes refl are_bytes))
 
@@ -165,33 +151,25 @@ written-reads bytes are_bytes =
 
 result_ok-some : (r : Result (List ℕ) DecodeError) (bytes : List ℕ) → result_ok r ≡ Some bytes
     → r ≡ Ok bytes
-result_ok-some (Ok x) bytes is = cc is
-result_ok-some (Err e) bytes is = cc is
-
-bytes-tail : (x : ℕ) (xs : List ℕ) → IsBytes (x ∷ xs) → IsBytes xs
-bytes-tail x xs are i = are (suc i)
-
-bytes-cons : (x : ℕ) (xs : List ℕ) → x < 256 → IsBytes xs → IsBytes (x ∷ xs)
-bytes-cons x xs first rest zero = first
-bytes-cons x xs first rest (suc i) = rest i
+result_ok-some r bytes is = search rules
 
 bytes-kept : (keep : Bool) (x : ℕ) (xs : List ℕ) → x < 256 → IsBytes xs
     → IsBytes (cond keep (x ∷ xs) xs)
-bytes-kept true x xs first rest = bytes-cons x xs first rest
-bytes-kept false x xs first rest = rest
+bytes-kept keep x xs first rest = search rules
 
 bytes-dark : (text : List ℕ) → IsBytes text → IsBytes (without_white text)
 bytes-dark [] are = are
 bytes-dark (x ∷ text) are =
-    bytes-kept (is_dark x) x (without_white text) (are 0) (bytes-dark text (bytes-tail x text are))
+    bytes-kept (is_dark x) x (without_white text) (are 0)
+    (bytes-dark text (λ i. are (suc i)))
 
 pub spelled : (text bytes : List ℕ) → IsBytes text → IsBytes bytes
     → (data_of_text text ≡ Some bytes) ↔ (without_white text ≡ encode_of standard bytes)
 unfolding data_of_text decoded_of
 spelled text bytes are_bytes bytes_are =
-    let both = decode_of_iff standard (without_white text) bytes (refl, refl)
+    let both = decode_of_iff standard _ _ (refl, refl)
     (bytes-dark text are_bytes) bytes_are in (
-      λ is. both.0 (result_ok-some (decode_of standard (without_white text)) bytes is),
+      λ is. both.0 (result_ok-some _ _ is),
       λ is. ap
           result_ok (both.1 is),
     )
@@ -201,7 +179,7 @@ pub data-decoded : (text dark bytes : List ℕ) → dark ≡ without_white text
     → decode_of standard dark ≡ Ok bytes → data_of_text text ≡ Some bytes
 unfolding data_of_text
 data-decoded text dark bytes is decoded =
-    decoded_of-ok standard (without_white text) bytes (rw is at decoded)
+    decoded_of-ok _ _ _ (rw is at decoded)
 
 -- all lines are the text
 pub text-of-lines : (bytes : List ℕ) (count : ℕ) (text : List ℕ)

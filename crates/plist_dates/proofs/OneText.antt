@@ -1,31 +1,25 @@
 -- A second of the years 0 to 9999 has one text.
-use Rattle.std.proofs.Common.{◌≡◌, ℕ, zero, suc, ◌+◌, ◌-◌, ◌*◌, ◌/◌, ◌%◌, ◌<◌, Bool, true, false, cond, ◌&&◌, eqb, List, [], ◌∷◌, ◌++◌, length, ℤ, pos, ◌+ℤ◌, ◌-ℤ◌, ◌*ℤ◌, Option, None, Some, slice_index, refl, sym, ap, subst, ◌∙◌, arith}
-use Rattle.std.proofs.lemmas.Bool.{eqb-true, and_parts}
+use Rattle.std.proofs.Common.{◌≡◌, ℕ, zero, suc, ◌+◌, ◌*◌, ◌/◌, ◌%◌, ◌<◌, Bool, true, cond, List, [], ◌∷◌, length, ℤ, pos, ◌+ℤ◌, ◌-ℤ◌, ◌*ℤ◌, Option, None, Some, slice_index, refl, sym, ap, ◌∙◌, rules, arith}
+use Rattle.std.proofs.lemmas.Option.{cond_some}
 use Rattle.std.proofs.lemmas.Bool.Decides.{nat_tests}
-use Rattle.std.specs.Char.{is_ascii_digit}
-use Rattle.std.specs.Int.{IsInRange, is_in_range}
-use Rattle.std.specs.Prelude.{nat_lt, ◌==◌, ◌||◌}
+use Rattle.std.specs.Int.{IsInRange}
 use Rattle.jiff_core.specs.Calendar.{days_from_civil, days_in_month}
 use Rattle.jiff_core.specs.Date.{epoch_day}
 use Rattle.jiff_core.specs.declared.civil.date.Date.{Date}
 use Rattle.jiff_core.proofs.DateLemmas.{epoch_day_injective}
 use Rattle.jiff_core.proofs.SignedLemmas.{signed_arith}
-use Rattle.plist_dates.specs.DateText.{day_in, day_number, four_at, has_marks, moment, of_both, of_three, offset, second_of_day, time_in, two_at, two_digits, unix_second_of_text, zone_in, HasFourDigitYear, IsTextOfSecond}
+use Rattle.plist_dates.specs.DateText.{day_number, has_marks, moment, of_both, of_three, second_of_day, two_at, two_digits, unix_second_of_text, zone_in, HasFourDigitYear, IsTextOfSecond}
 use Rattle.plist_dates.proofs.Years.{second_in_years}
-use Rattle.plist_dates.proofs.Printing.{two_text}
+use Rattle.plist_dates.proofs.Printing.{two_text, text_from}
 
 -- ---- what an answer was made of
 
 abbrev IsSome : {A : Type 0} → Option A → A → Type 0
 IsSome {A} option value = ◌≡◌ {A = Option A} option (Some value)
 
-some_same : {A : Type 0} (x y : A) → IsSome (Some x) y → x ≡ y
-some_same x y is = cc
-
 by_test : {A : Type 0} (b : Bool) (option : Option A) (value : A)
     → IsSome (cond b option None) value → (b ≡ true) × IsSome option value
-by_test true option value is = (refl, is)
-by_test false option value is = absurd (cc)
+by_test b option value is = search rules
 
 record Both {A : Type 0} (a b : Option ℕ) (make : ℕ → ℕ → Option A) (value : A) : Type 0 where
   x : ℕ
@@ -36,9 +30,7 @@ record Both {A : Type 0} (a b : Option ℕ) (make : ℕ → ℕ → Option A) (v
 
 both : {A : Type 0} (a b : Option ℕ) (make : ℕ → ℕ → Option A) (value : A)
     → IsSome (of_both a b make) value → Both a b make value
-both (Some a) (Some b) make value is = record { x = a; y = b; is_x = refl; is_y = refl; made = is }
-both None b make value is = absurd (cc)
-both (Some a) None make value is = absurd (cc)
+both a b make value is = search rules
 
 record Three {A : Type 0} (a b c : Option ℕ) (make : ℕ → ℕ → ℕ → Option A) (value : A) : Type 0
   where
@@ -48,8 +40,7 @@ record Three {A : Type 0} (a b c : Option ℕ) (make : ℕ → ℕ → ℕ → O
 
 three : {A : Type 0} (a b c : Option ℕ) (make : ℕ → ℕ → ℕ → Option A) (value : A)
     → IsSome (of_three a b c make) value → Three a b c make value
-three (Some a) b c make value is = record { x = a; is_x = refl; rest = both b c (make a) value is }
-three None b c make value is = absurd (cc)
+three a b c make value is = search rules
 
 record Moment (day : Option ℤ) (time : Option ℕ) (zone : Option ℤ) (second : ℤ) : Type 0 where
   d : ℤ
@@ -62,24 +53,9 @@ record Moment (day : Option ℤ) (time : Option ℕ) (zone : Option ℤ) (second
 
 moment_made : (day : Option ℤ) (time : Option ℕ) (zone : Option ℤ) (second : ℤ)
     → IsSome (moment day time zone) second → Moment day time zone second
-moment_made (Some d) (Some t) (Some z) second is =
-    record {
-      d = d;
-      t = t;
-      z = z;
-      is_d = refl;
-      is_t = refl;
-      is_z = refl;
-      is = some_same _ second is;
-    }
-moment_made None time offset second is = absurd (cc)
-moment_made (Some d) None offset second is = absurd (cc)
-moment_made (Some d) (Some t) None second is = absurd (cc)
+moment_made day time zone second is = search rules
 
 -- ---- the digits
-
-digit_is : (code : ℕ) → is_ascii_digit code ≡ true → IsInRange 48 57 code
-digit_is code is = grind (arith, nat_tests, is)
 
 -- both digits of a number
 record Digits (tens ones n : ℕ) : Type 0 where
@@ -89,58 +65,44 @@ record Digits (tens ones n : ℕ) : Type 0 where
 
 digits : (tens ones n : ℕ) → IsSome (two_digits tens ones) n → Digits tens ones n
 unfolding two_digits
-digits tens ones n is =
-    let test = by_test _ _ n is in
-    let both_are = and_parts (is_ascii_digit tens) (is_ascii_digit ones) test.0 in
-    let t = digit_is tens both_are.0 in
-    let o = digit_is ones both_are.1 in
-    let value : (tens - 48) * 10 + (ones - 48) ≡ n = some_same _ n test.1 in
-    let th = t.0 in let tl = t.1 in let oh = o.0 in let ol = o.1 in
-    record { small = omega arith; high = omega arith; low = omega arith }
+digits tens ones n is = record {
+  small = grind (arith, nat_tests, is);
+  high = grind (arith, nat_tests, is);
+  low = grind (arith, nat_tests, is);
+}
 
 -- ---- the numbers
 
-in_range : (low high n : ℕ) → is_in_range low high n ≡ true → IsInRange low high n
-in_range low high n is = grind (arith, nat_tests, is)
-
 -- a day of the calendar
-record Day (year month day : ℕ) (number : ℤ) : Type 0 where
+record Day (year month day : ℕ) : Type 0 where
   in_year : IsInRange 1 12 month
   in_month : IsInRange 1 (days_in_month (pos year) month) day
-  is : days_from_civil (pos year) month day ≡ number
 
 day_made : (year month day : ℕ) (number : ℤ) → IsSome (day_number year month day) number
-    → Day year month day number
+    → Day year month day × (days_from_civil (pos year) month day ≡ number)
 unfolding day_number
-day_made year month day number is =
-    let test = by_test _ _ number is in
-    let both_are = and_parts (is_in_range 1 12 month) _ test.0 in
-    record {
-      in_year = in_range 1 12 _ both_are.0;
-      in_month = in_range 1
-          _ _ both_are.1;
-      is = some_same _ number test.1;
-    }
+day_made year month day number is = (
+  record { in_year = grind (arith, nat_tests, is); in_month = grind (arith, nat_tests, is) },
+  (cond_some _ _ number is).1,
+)
 
 -- a second of a day
-record Time (hour minute second time : ℕ) : Type 0 where
+record Time (hour minute second : ℕ) : Type 0 where
   hours : hour < 24
   minutes : minute < 60
   seconds : second < 60
-  is : hour * 3600 + minute * 60 + second ≡ time
 
 time_made : (hour minute second time : ℕ) → IsSome (second_of_day hour minute second) time
-    → Time hour minute second time
+    → Time hour minute second × (hour * 3600 + minute * 60 + second ≡ time)
 unfolding second_of_day
-time_made hour minute second time is =
-    let test = by_test _ _ time is in
-    let all : (nat_lt hour 24 && nat_lt minute 60 && nat_lt second 60) ≡ true = test.0 in
-    record {
-      hours = grind (arith, nat_tests, all);
-      minutes = grind (arith, nat_tests, all);
-      seconds = grind (arith, nat_tests, all);
-      is = some_same _ time test.1;
-    }
+time_made hour minute second time is = (
+  record {
+    hours = grind (arith, nat_tests, is);
+    minutes = grind (arith, nat_tests, is);
+    seconds = grind (arith, nat_tests, is);
+  },
+  (cond_some _ _ time is).1,
+)
 
 -- ---- the elements of a text
 
@@ -152,16 +114,15 @@ front_behind : (count from x : ℕ) (text : List ℕ)
     → front count (suc from) (x ∷ text) ≡ front count from text
 front_behind zero from x text = refl
 front_behind (suc count) from x text =
-    ap (λ rest. slice_index text from ∷ rest) (front_behind count (suc from) x text)
+    ap (λ rest. slice_index text from ∷ rest) (front_behind count (suc _) x text)
 
 -- a text is its elements
 elements : (count : ℕ) (text : List ℕ) → length text ≡ count → text ≡ front count 0 text
 elements zero [] is = refl
-elements zero (x ∷ text) is = absurd (omega (arith, is))
-elements (suc count) [] is = absurd (omega (arith, is))
 elements (suc count) (x ∷ text) is =
     ap (λ rest. x ∷ rest) (elements count text (omega (arith, is))
-    ∙ sym (front_behind count 0 x text))
+    ∙ sym (front_behind _ 0 x _))
+elements count text is = absurd (omega (arith, is))
 
 -- where the marks stand
 record Marks (text : List ℕ) : Type 0 where
@@ -171,43 +132,19 @@ record Marks (text : List ℕ) : Type 0 where
   minute : slice_index text 16 ≡ 58
 
 marks : (text : List ℕ) → has_marks text ≡ true → Marks text
-marks text is = record {
-  year = grind (arith, nat_tests, is);
-  month = grind (arith, nat_tests, is);
-  hour = grind (arith, nat_tests, is);
-  minute = grind (arith, nat_tests, is);
-}
+marks text is = search rules
 
 -- with `Z` in its place, it ends there, in UTC
 zone_made : (text : List ℕ) (zone : ℤ) → slice_index text 19 ≡ 90 → IsSome (zone_in text) zone
     → (length text ≡ 20) × (zone ≡ pos 0)
-zone_made text zone letter is = by_length _ refl
-  where
-    no_sign : (sign hours minutes : ℕ) → sign ≡ 90 → IsSome (offset sign hours minutes) zone → ⊥
-    no_sign sign hours minutes z some =
-        let made : IsSome (cond (nat_lt hours 24 && nat_lt minutes 60) None None) zone = rw z at
-        some in
-        let never = (by_test _ None zone made).1 in cc
-
-    by_length : (b : Bool) → eqb (length text) 20 ≡ b → (length text ≡ 20) × (zone ≡ pos 0)
-    by_length true all =
-        let inner : IsSome (cond ((slice_index text 19 == 90) || (slice_index text 19 == 122))
-        (Some (pos 0)) None) zone = rw all at is in
-        (eqb-true (length text) 20 all, sym (some_same (pos 0) zone (by_test _ _ zone inner).1))
-    by_length false not_all =
-        let longer : IsSome (cond ((length text == 25) && (slice_index text 22 == 58))
-        (of_both (two_at text 20) (two_at text 23) (offset (slice_index text 19))) None) zone =
-        rw not_all at is in
-        let parts = both (two_at text 20) (two_at text 23) (offset (slice_index text 19)) zone
-        (by_test _ _ zone longer).1 in
-        absurd (no_sign _ parts.x _ letter parts.made)
+zone_made text zone letter is = search rules
 
 -- ---- one text
 
 abbrev text_of : (century year month day hour minute second : ℕ) → List ℕ
 text_of century year month day hour minute second =
-    two_text century ++ (two_text year ++ 45 ∷ (two_text month ++ 45 ∷ (two_text day
-    ++ 84 ∷ (two_text hour ++ 58 ∷ (two_text minute ++ 58 ∷ (two_text second ++ 90 ∷ []))))))
+    text_from (two_text century) (two_text year) (two_text month) (two_text day) (two_text hour)
+    (two_text minute) (two_text second)
 
 -- the numbers of the text of a second
 record Numbers (second : ℤ) (text : List ℕ) : Type 0 where
@@ -221,21 +158,15 @@ record Numbers (second : ℤ) (text : List ℕ) : Type 0 where
   century_small : century < 100
   year_small : year < 100
   date : Day (century * 100 + year) month day
-      (days_from_civil (pos (century * 100 + year)) month day)
-  time : Time hour minute seconds (hour * 3600 + minute * 60 + seconds)
+  time : Time hour minute seconds
   is : (days_from_civil (pos (century * 100 + year)) month day *ℤ pos 86400 +ℤ pos
       (hour * 3600 + minute * 60 + seconds)) ≡ second
   text_is : text ≡ text_of century year month day hour minute seconds
 
-less_none : (d z : ℤ) (t : ℕ) (s : ℤ) → z ≡ pos 0 → ((d *ℤ pos 86400 +ℤ pos t) -ℤ z) ≡ s
-    → (d *ℤ pos 86400 +ℤ pos t) ≡ s
-less_none d z t s none is = omega (arith, signed_arith, none, is)
-
 numbers : (second : ℤ) (text : List ℕ) → IsTextOfSecond second text → Numbers second text
 unfolding unix_second_of_text
 numbers second text is =
-    let test = by_test _ (moment (day_in text) (time_in text) (zone_in text)) second
-    is.spells in
+    let test = by_test _ _ second is.spells in
     let m = marks text test.0 in
     let parts = moment_made _ _ _ _ test.1 in
     let z = zone_made _ _ is.utc parts.is_z in
@@ -243,8 +174,10 @@ numbers second text is =
     let y = both (two_at text 0) (two_at text 2) (λ high low. Some (high * 100 + low)) d.x d.is_x in
     let t = three _ _ _ _ _
     parts.is_t in
-    let year_is : y.x * 100 + y.y ≡ d.x = some_same _ d.x y.made in
-    let date = day_made _ _ _ _ d.rest.made in
+    let year_is : y.x * 100 + y.y ≡ d.x = cc in
+    let made : IsSome (day_number (y.x * 100 + y.y) d.rest.x d.rest.y) parts.d = rw year_is
+    d.rest.made in
+    let date = day_made _ _ _ _ made in
     let time = time_made _ _ _ _ t.rest.made in
     let c0 = digits _ _ _ y.is_x in
     let c1 = digits _ _ _ y.is_y in
@@ -253,8 +186,6 @@ numbers second text is =
     let c4 = digits _ _ _ t.is_x in
     let c5 = digits _ _ _ t.rest.is_x in
     let c6 = digits _ _ _ t.rest.is_y in
-    let number : days_from_civil (pos (y.x * 100 + y.y)) d.rest.x d.rest.y
-    ≡ parts.d = ap (λ n. days_from_civil (pos n) d.rest.x d.rest.y) year_is ∙ date.is in
     let written : front 20 0 text ≡ text_of y.x y.y d.rest.x d.rest.y t.x t.rest.x t.rest.y =
     λ k.
     c0.high k ∷ c0.low k ∷ c1.high k ∷ c1.low k ∷ m.year k ∷ c2.high k ∷ c2.low k ∷ m.month k
@@ -271,22 +202,9 @@ numbers second text is =
       seconds = t.rest.y;
       century_small = c0.small;
       year_small = c1.small;
-      date = record {
-        in_year = date.in_year;
-        in_month = subst
-            (λ n. IsInRange 1 (days_in_month (pos n) d.rest.x) d.rest.y) (sym year_is)
-            date.in_month;
-        is = refl;
-      };
-      time = record {
-        hours = time.hours;
-        minutes = time.minutes;
-        seconds = time.seconds;
-        is = refl;
-      };
-      is = ap (λ n. n *ℤ pos 86400 +ℤ pos (t.x * 3600 + t.rest.x * 60 + t.rest.y)) number
-          ∙ ap (λ n. parts.d *ℤ pos 86400 +ℤ pos n) time.is
-          ∙ less_none parts.d parts.z parts.t second z.1 parts.is;
+      date = date.0;
+      time = time.0;
+      is = omega (arith, signed_arith, date.1, time.1, z.1, parts.is);
       text_is = elements 20 _ z.0 ∙ written;
     }
 

@@ -1,18 +1,16 @@
 -- What is printed of a moment is read as its second.
-use Rattle.std.proofs.Common.{◌≡◌, ℕ, ◌+◌, ◌*◌, ◌/◌, ◌%◌, ◌<◌, ◌≤◌, Bool, true, false, cond, List, [], ◌∷◌, ◌++◌, ℤ, pos, ◌+ℤ◌, ◌-ℤ◌, ◌*ℤ◌, negsuc, None, Some, inl, inr, slice_index, refl, sym, ap, subst, ◌∙◌, arith}
+use Rattle.std.proofs.Common.{◌≡◌, ℕ, ◌+◌, ◌*◌, ◌/◌, ◌%◌, ◌<◌, ◌≤◌, true, false, List, [], ◌∷◌, ◌++◌, ℤ, pos, ◌+ℤ◌, ◌-ℤ◌, ◌*ℤ◌, Some, inl, inr, slice_index, refl, sym, ap, subst, ◌∙◌, arith}
 use Rattle.std.proofs.DigitsParse.{digits_onto_last, digits_onto_step, digits_onto-nil}
 use Rattle.std.proofs.lemmas.Bool.{cases_lt}
-use Rattle.std.proofs.lemmas.Int.{ints}
 use Rattle.std.proofs.lemmas.Fmt.{decimal_digit}
 use Rattle.std.specs.Fmt.{decimal, digit_glyph, padded_integral, char_count}
 use Rattle.std.specs.Int.{IsInRange}
-use Rattle.std.specs.Prelude.{unsigned_abs, ◌≤ℤ◌}
 use Rattle.jiff_core.specs.Calendar.{days_from_civil, days_in_month}
 use Rattle.jiff_core.specs.Date.{epoch_day}
 use Rattle.jiff_core.specs.declared.civil.date.Date.{Date}
 use Rattle.jiff_core.proofs.CalendarLemmas.{days_in_month_bounds}
 use Rattle.jiff_core.proofs.SignedLemmas.{signed_arith}
-use Rattle.plist_dates.specs.DateText.{day_in, day_number, has_marks, moment, second_of_day, time_in, two_digits, unix_second_of_text, zone_in, IsTextOfSecond}
+use Rattle.plist_dates.specs.DateText.{day_in, day_number, has_marks, second_of_day, time_in, two_digits, unix_second_of_text, zone_in, IsTextOfSecond}
 use Rattle.plist_dates.specs.Moments.{moment_text, two_places}
 
 -- ---- two digits
@@ -27,7 +25,7 @@ decimal_two : (n : ℕ) → 10 ≤ n → n < 100 → decimal n ≡ two_text n
 decimal_two n large small =
     let same : n / 10 % 10 ≡ n / 10 = omega arith in
     sym (digits_onto-nil 10 false n) ∙ digits_onto_step 10 false n [] 64 (omega arith) (omega arith)
-    ∙ digits_onto_last 10 false (n / 10) (digit_glyph false (n % 10) ∷ []) 63 (omega arith)
+    ∙ digits_onto_last 10 false (n / 10) (digit_glyph false _ ∷ []) 63 (omega arith)
     (omega arith)
     ∙ ap (λ d. digit_glyph false d ∷ digit_glyph false (n % 10) ∷ []) same
     ∙ (λ k. glyph (n / 10) (omega arith) k ∷ glyph (n % 10) (omega arith) k ∷ [])
@@ -61,7 +59,7 @@ time_is hour minute second h m s = grind (arith, h, m, s)
 
 -- ---- the text
 
-abbrev text_from : (century year month day hour minute second : List ℕ) → List ℕ
+abbrev pub text_from : (century year month day hour minute second : List ℕ) → List ℕ
 text_from century year month day hour minute second =
     century ++ (year ++ 45 ∷ (month ++ 45
     ∷ (day ++ 84 ∷ (hour ++ 58 ∷ (minute ++ 58 ∷ (second ++ 90 ∷ []))))))
@@ -76,19 +74,16 @@ reads : (century year month day hour minute second : ℕ) (n : ℤ) (s : ℕ) �
 unfolding unix_second_of_text
 reads century year month day hour minute second n s c y m d h i k is_day is_time =
     rw (
-      digits_back century c,
-      digits_back year y,
-      digits_back month m,
-      digits_back day d,
-      digits_back hour h,
-      digits_back minute i,
-      digits_back second k,
+      digits_back _ c,
+      digits_back _ y,
+      digits_back _ m,
+      digits_back _ d,
+      digits_back _ h,
+      digits_back _ i,
+      digits_back _ k,
       is_day,
       is_time,
     ) refl
-
-less_none : (z : ℤ) → (z -ℤ pos 0) ≡ z
-less_none z = omega (arith, signed_arith)
 
 -- the text of a second of a day spells it
 pub printed : (date : Date) (year second : ℕ) → pos year ≡ date.year → year < 10000 → second < 86400
@@ -138,7 +133,7 @@ printed date year second is small in_day =
     in
     record {
       spells = ap unix_second_of_text shown ∙ read
-          ∙ ap Some (less_none (epoch_day date *ℤ pos 86400 +ℤ pos second));
+          ∙ ap Some (omega (arith, signed_arith));
       letter = ap (λ t. slice_index t 10) shown;
       utc = ap (λ t. slice_index t 19) shown;
     }
@@ -148,12 +143,4 @@ pub spelled : (text : List ℕ) (day zone : ℤ) (time : ℕ) → has_marks text
     → day_in text ≡ Some day → time_in text ≡ Some time → zone_in text ≡ Some zone
     → unix_second_of_text text ≡ Some ((day *ℤ pos 86400 +ℤ pos time) -ℤ zone)
 unfolding unix_second_of_text
-spelled text day zone time marks is_day is_time is_zone =
-    ap (λ (has : Bool). cond has (moment (day_in text) (time_in text) (zone_in text)) None) marks
-    ∙ ap (λ d. moment d (time_in text) (zone_in text)) is_day
-    ∙ ap (λ t. moment (Some day) t (zone_in text)) is_time
-    ∙ ap (moment (Some day) (Some time)) is_zone
-
-pub abs_pos : (z : ℤ) → pos 0 ≤ℤ z → pos (unsigned_abs z) ≡ z
-abs_pos (pos n) h = refl
-abs_pos (negsuc n) h = absurd (omega (arith, ints, h))
+spelled text day zone time marks is_day is_time is_zone = rw (marks, is_day, is_time, is_zone) refl

@@ -11,10 +11,9 @@ use Rattle.plist_base.specs.Events.{PlainEvent, Item, StartArray, StartDictionar
 use Rattle.plist_base.specs.Trees as trees
 use Rattle.plist_base.specs.Trees.{Scalar, Tree, Leaf, Array, Dictionary, Trees, NoTrees, TreeAnd, Members, NoMembers, MemberAnd, number_of_trees, number_of_members}
 use Rattle.plist_base.specs.Bracketing.{bracketing, bracketing_of_items, bracketing_of_pairs, unhinted, AreAlike}
-use Rattle.plist_base.proofs.Grammar.{alike_with}
+use Rattle.plist_base.proofs.Grammar.{alike_behind, alike_with}
 use Rattle.plist_keyed.specs.Archives.{ArchiveFault, UidOutOfRange, RecursiveUid, and_then, replaced, replaced_items, replaced_pairs, number_of_uid, tree_found, resolved}
 use Rattle.plist_keyed.specs.inner.Walks.{Step, told, items_of, steps_of_event, steps_of, steps_found, steps_at}
-use Rattle.plist.specs.inner.Carried.{alike-behind}
 
 pub items_of-append : (a b : List Step) → items_of (a ++ b) ≡ items_of a ++ items_of b
 items_of-append [] b = refl
@@ -61,8 +60,8 @@ module _ {W : Type 0} (events : W → List PlainEvent) where
       rest,
       make t w,
       rw (is t w, append_assoc front (bracketing t ++ es) rest, append_assoc (bracketing t) es rest)
-          (alike-behind front (bracketing t ++ (es ++ rest)) (bracketing t ++ events w)
-          (alike-behind (bracketing t) (es ++ rest) (events w) alike)),
+          (alike_behind front (bracketing t ++ (es ++ rest)) (bracketing t ++ events w)
+          (alike_behind (bracketing t) (es ++ rest) (events w) alike)),
     ),
   )
   tree-and front make none nothing is (Err f) b xs ys (es, more, p, (rest, t, alike)) q = (
@@ -73,7 +72,7 @@ module _ {W : Type 0} (events : W → List PlainEvent) where
       rest,
       make t none,
       rw (is t none, nothing, append-nil (bracketing t), append_assoc front es rest)
-          (alike-behind front (es ++ rest) (bracketing t) alike),
+          (alike_behind front (es ++ rest) (bracketing t) alike),
     ),
   )
 

@@ -2,7 +2,7 @@
 use Rattle.std.proofs.Common.{◌≡◌, ℕ, List, [], length, map, Option, Some, None, Ok, Err, sym, ◌∙◌, subst}
 use Rattle.std.specs.Prelude.{slice_get, option_map}
 use Rattle.std.proofs.lemmas.List.{length-map}
-use Rattle.std.proofs.lemmas.Option.{slice_get-map}
+use Rattle.std.proofs.lemmas.Option.{slice_get-map, same_Some}
 use Rattle.plist_base.specs.Faults.{Fault}
 use Rattle.plist_base.specs.Trees.{Tree}
 use Rattle.plist_base.specs.Bracketing.{bracketing}
@@ -30,10 +30,7 @@ gives-at objects uid =
 of_value : (found : Option Value) (t : Tree) → ((v : Value) → last_wins (tree_of v) ≡ tree_of v)
     → option_map tree_of found ≡ Some t → last_wins t ≡ t
 of_value None t itself p = cc
-of_value (Some v) t itself p = subst (λ u. last_wins u ≡ u) (same (tree_of v) t p) (itself v)
-  where
-    same : (a b : Tree) → Some a ≡ Some b → a ≡ b
-    same a b q = cc
+of_value (Some v) t itself p = subst (λ u. last_wins u ≡ u) (same_Some (tree_of v) t p) (itself v)
 
 -- a tree
 pub tree-read : (objects slice : List Value) (uid : ℕ) (tree : Tree) → slice ≡ objects

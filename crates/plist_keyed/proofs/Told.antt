@@ -1,5 +1,5 @@
 -- What the items of a walk that were read to a value say of the tree.
-use Rattle.std.proofs.Common.{◌≡◌, ℕ, List, [], ◌∷◌, ◌++◌, map, Option, Some, None, Result, Ok, Err, inl, inr, refl, sym, ap, ◌∙◌, append_assoc, subst}
+use Rattle.std.proofs.Common.{◌≡◌, ℕ, List, [], ◌∷◌, ◌++◌, map, Option, Result, Ok, Err, inl, inr, refl, sym, ap, ◌∙◌, append_assoc, subst}
 use Rattle.std.specs.Prelude.{◌⊎◌, ⊤}
 use Rattle.plist_base.specs.Events.{PlainEvent, Item}
 use Rattle.plist_base.specs.Faults as faults
@@ -8,16 +8,15 @@ use Rattle.plist_base.specs.Trees.{Tree}
 use Rattle.plist_base.specs.Bracketing.{bracketing, unhinted, AreAlike, CanContinue}
 use Rattle.plist.specs.Building.{Unfinished, NotBegun, IsNested, events_so_far, refusal_of}
 use Rattle.plist.specs.Collecting.{IsRefusal}
-use Rattle.plist.specs.inner.Following.{refused-ends}
+use Rattle.plist.specs.inner.Following.{continues-accepted}
 use Rattle.plist.specs.Inputs.{Decides, IsReadFrom, StopsAt}
 use Rattle.plist.specs.LastWins.{last_wins}
-use Rattle.plist.specs.inner.OneTree.{one_tree}
+use Rattle.plist_base.proofs.OneTree.{one_tree}
 use Rattle.plist_keyed.specs.Archives.{ArchiveFault, UidOutOfRange, RecursiveUid}
 use Rattle.plist_keyed.specs.Errors.{MatchError, IsFaultOf, error_by, error_told}
 use Rattle.plist_keyed.specs.inner.Walks.{told}
 use Rattle.plist_base.proofs.Grammar.{alike_with}
 use Rattle.plist_keyed.proofs.Expanding.{Begins, Gives}
-use Rattle.plist.proofs.Inputs.{some-kind}
 
 head_is : (e f : PlainEvent) (es fs : List Item) → Ok e ∷ es ≡ Ok f ∷ fs → (e ≡ f) × (es ≡ fs)
 head_is e f es fs p = (cc, cc)
@@ -66,12 +65,8 @@ stands (x ∷ es) (y ∷ events) f more next p =
 accepted : (held : Unfinished) (x : PlainEvent) (fault : Fault) → IsNested held
     → CanContinue (events_so_far held) x → IsRefusal (refusal_of held x) fault
     → fault ≡ fault_nowhere OutOfMemory
-accepted held x fault ok can r = by (refusal_of held x) refl r
-  where
-    by : (o : Option FaultKind) → refusal_of held x ≡ o → IsRefusal o fault
-        → fault ≡ fault_nowhere OutOfMemory
-    by None q h = h
-    by (Some kind) q h = absurd (refused-ends held x ok (λ n. some-kind kind (sym q ∙ n)) can)
+accepted held x fault ok can r =
+    subst (λ o. IsRefusal o fault) (continues-accepted held x ok can) r
 
 -- an event before the fault can come next
 can-come : (held : Unfinished) (es events : List PlainEvent) (x : PlainEvent)

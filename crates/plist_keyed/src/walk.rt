@@ -187,8 +187,8 @@ impl<'a> Iterator for Walk<'a> {
 /// # Errors
 ///
 /// The first fault of the walk, depth first: `ObjectReferenceTooLarge` for a Uid that names no
-/// object, and `RecursiveObject` for one on its own path, each with the Uid's number in the place of
-/// an offset; and `OutOfMemory`.
+/// object, and `RecursiveObject` for one on its own path, each with the Uid's number in the place
+/// of an offset; and `OutOfMemory`.
 pub(crate) fn value_at(alloc: Global, objects: &[Value], uid: Uid) -> Result<Value, Error>
     ensures read { IsReadFrom (items_at objects.now uid) (built_tree result) }
     ensures itself { OnOk result ((value : Value) → last_wins (tree_of value) ≡ tree_of value) }

@@ -1,8 +1,8 @@
 -- The first bytes of a source.
-use Rattle.std.proofs.Common.{◌≡◌, ◌≢◌, inl, inr, ℕ, ◌+◌, ◌-◌, ◌^◌, ◌<◌, ◌≤◌, Bool, true, false, cond, ◌==◌, nat_eq, List, [], ◌∷◌, length, take, get_or, Option, None, Some, IfSome, IsTrue, ◌↔◌, refl, ap, sym, ◌∙◌, arith}
+use Rattle.std.proofs.Common.{◌≡◌, inl, inr, ℕ, ◌+◌, ◌-◌, ◌^◌, ◌<◌, ◌≤◌, Bool, true, false, cond, ◌==◌, nat_eq, List, [], ◌∷◌, length, take, get_or, Option, None, Some, IfSome, IsTrue, ◌↔◌, refl, ap, sym, ◌∙◌, arith}
+use Rattle.std.specs.Bool.{then_some}
 use Rattle.std.specs.List.{starts_with, slice_get}
-use Rattle.std.proofs.lemmas.Bool.{cases_lt, eq-eqb, and_right}
-use Rattle.std.proofs.lemmas.Bool.Decides.{eqb_tells}
+use Rattle.std.proofs.lemmas.Bool.{cases_lt, and_right}
 use Rattle.std.proofs.lemmas.List.{length-take, get_or-take, get_or_past}
 use Rattle.std.proofs.lemmas.List.Sums.{prefix_len-drop_all, prefix_len-drop_no, prefix_len-drop_yes}
 use Rattle.std.proofs.lemmas.Option.{slice_get_within, slice_get-get_or, get_or_from_slice_get}
@@ -44,7 +44,7 @@ short-front None kind is n needle e f t h = tt
 short-front (Some bytes) kind is n needle e f t h =
     elim (cases_lt (length bytes) n) [
       | inl l ↦ sym (short-starts bytes needle (omega (arith, e)))
-      | inr l ↦ never_true is f (t.1 (io-is kind (h (omega arith))))
+      | inr l ↦ never_true is f (t.1 (io-is _ (h (omega arith))))
     ]
 
 module _ (m : ℕ) (bytes : List ℕ) where
@@ -54,9 +54,9 @@ module _ (m : ℕ) (bytes : List ℕ) where
   pub inside : (place b : ℕ) → place < m → slice_get bytes place ≡ Some b → (place < length cut)
       × (get_or cut place 0 ≡ b)
   inside place b h e =
-      let l : place < length bytes = slice_get_within bytes place b e in (
+      let l : place < length bytes = slice_get_within _ _ b e in (
         omega (arith, length-take {A = ℕ}, l),
-        get_or-take m bytes place 0 h
+        get_or-take m _ _ 0 h
             ∙ get_or_from_slice_get bytes place b 0 e,
       )
 
@@ -64,7 +64,7 @@ module _ (m : ℕ) (bytes : List ℕ) where
   pub white-on : (place b : ℕ) → place < m → slice_get bytes place ≡ Some b → is_white b ≡ true
       → past_white place cut ≡ past_white (place + 1) cut
   white-on place b h e w =
-      let i = inside place b h e in
+      let i = inside _ b h e in
       let p = prefix_len-drop_yes is_white cut place 0 i.0 (ap is_white i.1 ∙ w) in
       omega (arith, p)
 
@@ -72,7 +72,7 @@ module _ (m : ℕ) (bytes : List ℕ) where
   pub xml-here : (place b : ℕ) → place < m → slice_get bytes place ≡ Some b → is_white b ≡ false
       → xml_place place cut ≡ cond (b == 60) (Some place) None
   xml-here place b h e w =
-      let i = inside place b h e in
+      let i = inside _ b h e in
       let p : past_white place cut ≡ place = let z = prefix_len-drop_no is_white cut place 0 i.0
       (ap is_white i.1 ∙ w) in omega (arith, z) in
       ap (λ q. cond (get_or cut q 0 == 60) (Some q) None) p
@@ -84,22 +84,22 @@ module _ (m : ℕ) (bytes : List ℕ) where
       let p : past_white place cut ≡ place = let z = prefix_len-drop_all is_white cut place h in
       omega (arith, z) in
       ap (λ q. cond (get_or cut q 0 == 60) (Some q) None) p
-      ∙ ap (λ c. cond (c == 60) (Some place) None) (get_or_past cut place 0 h)
+      ∙ ap (λ c. cond (c == 60) (Some place) None) (get_or_past _ _ 0 h)
 
   pub none_left : (place : ℕ) → None ≡ slice_get bytes place → length bytes ≤ place
   none_left place e =
       elim (cases_lt place (length bytes)) [
         | inl l ↦ let no : None ≡ Some (get_or bytes place 0) → length bytes ≤ place =
-            λ p. cc in no (e ∙ slice_get-get_or bytes place 0 l)
+            λ p. cc in no (e ∙ slice_get-get_or _ _ 0 l)
         | inr l ↦ l
       ]
 
   pub xml-none : (place : ℕ) → None ≡ slice_get bytes place → xml_place place cut ≡ None
   xml-none place e =
-      let l = none_left place e in xml-past place (omega (arith, length-take {A = ℕ}, l))
+      let l = none_left _ e in xml-past _ (omega (arith, length-take {A = ℕ}, l))
 
   pub xml-end : (place : ℕ) → m ≤ place → xml_place place cut ≡ None
-  xml-end place h = xml-past place (omega (arith, length-take {A = ℕ}))
+  xml-end place h = xml-past _ (omega (arith, length-take {A = ℕ}))
 
 -- ---- the same, where the bytes may not be known
 
@@ -110,35 +110,27 @@ pub known-on : (k now : Option (List ℕ)) (place b : ℕ) → now ≡ k → pla
 known-on None now place b same h e w f i = tt
 known-on (Some bytes) now place b same h e w f i =
     let at : Some b ≡ slice_get bytes place = rw same at e in i
-    ∙ white-on (2 ^ 64 - 1) bytes place b h (sym at) w
+    ∙ white-on _ _ _ b h (sym at) w
 
 -- what stands at the place found, by where the search began
 moved : (start place : ℕ) (bytes : List ℕ) → past_white start bytes ≡ past_white place bytes
     → xml_place start bytes ≡ xml_place place bytes
 moved start place bytes e = ap (λ q. cond (get_or bytes q 0 == 60) (Some q) None) e
 
-is_other : (b : ℕ) → b ≢ 60 → (b == 60) ≡ false
-is_other b is = elim (eqb_tells b 60) [ inl t ↦ absurd (is t.1) | inr f ↦ f.0 ]
+then_some-cond : (test : Bool) (place : ℕ) → then_some test place ≡ cond test (Some place) None
+then_some-cond true place = refl
+then_some-cond false place = refl
 
-pub known-is : (k now : Option (List ℕ)) (start place b : ℕ) → now ≡ k → place < 2 ^ 64 - 1
-    → IfSome now (λ bytes. Some b ≡ slice_get bytes place) → is_white b ≡ false → b ≡ 60
+-- at a byte that is no white space the place is found, where the byte is `<`
+pub known-here : (k now : Option (List ℕ)) (start place b : ℕ) (found : Option ℕ) → now ≡ k
+    → place < 2 ^ 64 - 1 → IfSome now (λ bytes. Some b ≡ slice_get bytes place)
+    → is_white b ≡ false → found ≡ then_some (b == 60) place
     → IfSome k (λ bytes. past_white start (front bytes) ≡ past_white place (front bytes))
-    → IfSome k (λ bytes. Some place ≡ xml_place start (front bytes))
-known-is None now start place b same h e w is i = tt
-known-is (Some bytes) now start place b same h e w is i =
+    → IfSome k (λ bytes. found ≡ xml_place start (front bytes))
+known-here None now start place b found same h e w is i = tt
+known-here (Some bytes) now start place b found same h e w is i =
     let at : Some b ≡ slice_get bytes place = rw same at e in
-    sym (moved start place (front bytes) i ∙ xml-here (2 ^ 64 - 1) bytes place b h (sym at) w
-    ∙ ap (λ c. cond c (Some place) None) (eq-eqb b 60 is))
-
-pub known-other : (k now : Option (List ℕ)) (start place b : ℕ) → now ≡ k → place < 2 ^ 64 - 1
-    → IfSome now (λ bytes. Some b ≡ slice_get bytes place) → is_white b ≡ false → b ≢ 60
-    → IfSome k (λ bytes. past_white start (front bytes) ≡ past_white place (front bytes))
-    → IfSome k (λ bytes. None ≡ xml_place start (front bytes))
-known-other None now start place b same h e w is i = tt
-known-other (Some bytes) now start place b same h e w is i =
-    let at : Some b ≡ slice_get bytes place = rw same at e in
-    sym (moved start place (front bytes) i ∙ xml-here (2 ^ 64 - 1) bytes place b h (sym at) w
-    ∙ ap (λ c. cond c (Some place) None) (is_other b is))
+    is ∙ then_some-cond _ _ ∙ sym (moved _ _ _ i ∙ xml-here _ _ _ b h (sym at) w)
 
 pub known-none : (k now : Option (List ℕ)) (start place : ℕ) → now ≡ k
     → IfSome now (λ bytes. None ≡ slice_get bytes place)
@@ -147,14 +139,14 @@ pub known-none : (k now : Option (List ℕ)) (start place : ℕ) → now ≡ k
 known-none None now start place same e i = tt
 known-none (Some bytes) now start place same e i =
     let at : None ≡ slice_get bytes place = rw same at e in sym
-    (moved start place (front bytes) i ∙ xml-none (2 ^ 64 - 1) bytes place at)
+    (moved _ _ _ i ∙ xml-none (2 ^ 64 - 1) bytes place at)
 
 pub known-end : (k : Option (List ℕ)) (start place : ℕ) → 2 ^ 64 - 1 ≤ place
     → IfSome k (λ bytes. past_white start (front bytes) ≡ past_white place (front bytes))
     → IfSome k (λ bytes. None ≡ xml_place start (front bytes))
 known-end None start place e i = tt
 known-end (Some bytes) start place e i =
-    sym (moved start place (front bytes) i ∙ xml-end (2 ^ 64 - 1) bytes place e)
+    sym (moved _ _ _ i ∙ xml-end _ _ _ e)
 
 -- ---- the format
 

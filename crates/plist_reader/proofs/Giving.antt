@@ -9,7 +9,7 @@ use Rattle.plist_base.specs.declared.source.Source.{Ghosts}
 use Rattle.plist_reader.specs.declared.bytes.SourceBytes.{SourceBytes}
 use Rattle.plist_base.specs.Events.{Item}
 use Rattle.std.specs.Prelude.{⊤}
-use Rattle.plist_base.specs.Faults.{FaultKind, Io, OutOfMemory, MatchFault, kind_of, error_kind_of, fault_of, offset_of}
+use Rattle.plist_base.specs.Faults.{FaultKind, Io, OutOfMemory, MatchFault, kind_of, error_kind_of, fault_of}
 use Rattle.plist_base.specs.Sequential.{from_place}
 use Rattle.plist_reader.specs.Streams.{bytes_left, source_of, place_of, held}
 use Rattle.plist_base.specs.Sources.{ItemCountsIo, IsPlaceWithin}
@@ -53,7 +53,7 @@ wants-owed (x ∷ xs) h = one-owed x xs
 either-owed : (new : Bool) (before : List Item) → MatchBool new (IsOwed before) (WantsMemory before)
     → IsOwed before
 either-owed true before h = h
-either-owed false before h = wants-owed before h
+either-owed false before h = wants-owed _ h
 
 text-owed : (before : List Item) → BeginsWithText before → IsOwed before
 text-owed [] h = absurd h
@@ -90,7 +90,7 @@ binary-goes : (k l : Option (List ℕ)) (f g : List ℕ → List Item) (new : Bo
     → GoesOn (option_map f k) item (option_map g l)
 binary-goes None l f g new item e h = tt
 binary-goes (Some bytes) l f g new item e h =
-    (g bytes, ap (option_map g) e, binary-item new (f bytes) (g bytes) item h)
+    (g _, ap (option_map g) e, binary-item _ _ _ _ h)
 
 pub ascii-goes : (stops : ℕ → Bool) (k l : Option (List ℕ)) (p q : ℕ) (item : Given)
     → ((bytes : List ℕ) → k ≡ Some bytes → (rest : List ℕ) × (l ≡ Some rest)
@@ -99,18 +99,18 @@ pub ascii-goes : (stops : ℕ → Bool) (k l : Option (List ℕ)) (p q : ℕ) (i
     (option_map (λ bytes. items_of_ascii stops bytes q) l)
 ascii-goes stops None l p q item h = tt
 ascii-goes stops (Some bytes) l p q item h =
-    let r = h bytes refl in (
-      items_of_ascii stops r.0 q,
+    let r = h _ refl in (
+      items_of_ascii _ r.0 q,
       ap
-          (option_map (λ b. items_of_ascii stops b q)) r.1,
-      ascii-item stops bytes r.0 p q item r.2,
+          (option_map (λ b. items_of_ascii _ b q)) r.1,
+      ascii-item _ _ r.0 p q _ r.2,
     )
 
 over-ends : (E : Type 0) (item : Given) → MatchOption item E (λ answer. OnErr answer E)
     → EndsAfter item E
 over-ends E None h = h
 over-ends E (Some (Ok event)) h = tt
-over-ends E (Some (Err error)) h = MatchFault-all (kind_of (error_kind_of error)) h h tt
+over-ends E (Some (Err error)) h = MatchFault-all _ h h tt
 
 same-count : (a b : ℕ) → Some b ≡ Some a → b ≡ a
 same-count a b e = cc
@@ -121,7 +121,7 @@ binary-placed : (limited : Bool) (item : Given) → ItemGivenWithin 0 (2 ^ 64) l
 binary-placed limited None h = tt
 binary-placed limited (Some (Ok event)) h = tt
 binary-placed limited (Some (Err error)) h =
-    placed (kind_of (error_kind_of error)) (offset_of error) h.placed
+    placed _ _ h.placed
   where
     placed : (kind : FaultKind) (offset : Option ℕ)
         → MatchGiven kind (IsPlaceWithin 0 (2 ^ 64) offset) (offset ≡ None) (HasPlace offset)
@@ -233,11 +233,11 @@ module _ {R : Type 0} {g : Ghosts R} (known : R → Option (List ℕ)) (failed :
       → binary.Gives known failed counts count old item new
       → StateGives known failed (state.Unread source) item (state.Binary new)
   begun-binary source inner old new item at e f is fresh h =
-      chosen-gives source (state.Binary old) (state.Binary new) item
-      (same-items (known source) (known (binary.source_of old)) (λ bytes. binary.to_come bytes old)
-      (ap known at ∙ e) (binary-items (known source) (known inner) old e is fresh))
+      chosen-gives _ (state.Binary _) _ _
+      (same-items _ _ (λ bytes. binary.to_come bytes old)
+      (ap known at ∙ e) (binary-items _ _ old e is fresh))
       (subst (λ n. ItemCountsIo item n (failed (binary.source_of new))) (ap failed at ∙ f)
-      h.failures) (binary-gives old new item h)
+      h.failures) (binary-gives _ _ _ h)
 
   pub begun-ascii : (source inner : R) (sequence : SourceBytes R)
       (old new : AsciiReader (SourceBytes R)) (item : Given) → source_of sequence ≡ inner
@@ -249,7 +249,7 @@ module _ {R : Type 0} {g : Ghosts R} (known : R → Option (List ℕ)) (failed :
       → ascii.Gives (bytes_left known) (λ s. Some (failed (source_of s))) old item new
       → StateGives {R = R} {g = g} known failed (state.Unread source) item (state.Ascii new)
   begun-ascii source inner sequence old new item from e f inside at none is bytes place dialect h =
-      chosen-gives source (state.Ascii old) (state.Ascii new) item
+      chosen-gives source (state.Ascii old) (state.Ascii _) item
       (ap (λ d. option_map (λ b. items_of_ascii (ends_bare d) b (ascii.place_of old))
       (ascii.bytes_left (bytes_left known) old)) dialect
       ∙ (λ i. option_map (λ b. items_of_ascii lax b (place i)) (bytes i))
@@ -259,8 +259,8 @@ module _ {R : Type 0} {g : Ghosts R} (known : R → Option (List ℕ)) (failed :
       ∙ ap (λ w. option_map (λ b. items_of_ascii lax b 0)
       (option_map front (option_map (λ bytes. w ++ from_place 0 bytes)
       (known (source_of sequence))))) none
-      ∙ ascii-items (known source) (known (source_of sequence)) (ap known from ∙ e) is)
+      ∙ ascii-items _ (known (source_of sequence)) (ap known from ∙ e) is)
       (subst (λ n. ItemCountsIo item n (failed (source_of (ascii.inner_of new))))
       (ap (λ s. failed (source_of s)) inside ∙ ap failed from ∙ f)
       (let g : StateGives known failed (state.Ascii old) item (state.Ascii new) = ascii-gives
-      old new item h in g.failures)) (ascii-gives old new item h)
+      _ new item h in g.failures)) (ascii-gives old _ item h)

@@ -16,8 +16,8 @@ same_front p n xs h =
     let all : p + (2 ^ 64 - 1 - p) ≡ 2 ^ 64 - 1 = omega arith in
     let fits : n ≤ 2 ^ 64 - 1 - p = omega arith in
     let cut : from_place p xs ≡ take (2 ^ 64 - 1 - p) (drop p xs) = ap (λ k. drop p (take k xs))
-    (sym all) ∙ drop-take p (2 ^ 64 - 1 - p) xs in
-    sym (ap (take n) cut ∙ take-take n (2 ^ 64 - 1 - p) (drop p xs) fits)
+    (sym all) ∙ drop-take p _ xs in
+    sym (ap (take n) cut ∙ take-take n (2 ^ 64 - 1 - p) _ fits)
 
 -- the first n bytes that a read gave, and what lies behind them
 read_front : (p n count : ℕ) (xs part : List ℕ) → n ≤ count → p + n ≤ 2 ^ 64 - 1
@@ -25,14 +25,14 @@ read_front : (p n count : ℕ) (xs part : List ℕ) → n ≤ count → p + n �
     → take n part ++ from_place (p + n) xs ≡ from_place p xs
 read_front p n count xs part l room e =
     let front : take n part ≡ take n (from_place p xs) =
-    sym (take-take n count part l) ∙ ap (take n) e ∙ take-take n count (drop p xs) l
+    sym (take-take n _ _ l) ∙ ap (take n) e ∙ take-take n _ _ l
     ∙ same_front p n xs room in
     ap (λ z. z ++ from_place (p + n) xs) front
-    ∙ ap (λ z. take n (from_place p xs) ++ z) (sym (drop-drop n p (take (2 ^ 64 - 1) xs)))
-    ∙ take-append-drop n (from_place p xs)
+    ∙ ap (λ z. take n (from_place p xs) ++ z) (sym (drop-drop n p _))
+    ∙ take-append-drop n _
 
 pub nothing_held : (from end : ℕ) (window : List ℕ) → end ≤ from → drop from (take end window) ≡ []
-nothing_held from end window h = drop_all from (take end window) (rw length-take (omega arith))
+nothing_held from end window h = drop_all from (take _ _) (rw length-take (omega arith))
 
 -- after a read the same is to come
 pub read_on : (k now : Option (List ℕ)) (p n count from end : ℕ) (window part : List ℕ) → now ≡ k
@@ -40,9 +40,9 @@ pub read_on : (k now : Option (List ℕ)) (p n count from end : ℕ) (window par
     → option_map (λ bytes. take n part ++ from_place (p + n) bytes) now
     ≡ option_map (λ bytes. drop from (take end window) ++ from_place p bytes) k
 read_on None now p n count from end window part e none l room g =
-    ap (option_map (λ bytes. take n part ++ from_place (p + n) bytes)) e
+    ap (option_map (λ bytes. take n _ ++ from_place (p + n) bytes)) e
 read_on (Some xs) now p n count from end window part e none l room g =
-    rw e (ap Some (read_front p n count xs part l room g.0
+    rw e (ap Some (read_front p n _ xs _ l room g.0
     ∙ ap (λ z. z ++ from_place p xs) (sym (nothing_held from end window none))))
 
 -- and where it gave nothing, nothing is
@@ -52,7 +52,7 @@ pub read_none : (k now : Option (List ℕ)) (p n count : ℕ) (part : List ℕ) 
     → IsAtEnd (option_map (λ bytes. take n part ++ from_place (p + n) bytes) now)
 read_none None now p n count part e none room z within g = rw e tt
 read_none (Some xs) now p n count part e none room z within g =
-    let zero : n ≡ 0 = sym (length-take-le n part within) ∙ ap length z in
+    let zero : n ≡ 0 = sym (length-take-le n _ within) ∙ ap length z in
     rw e (ap (λ f. f ++ from_place (p + n) xs) z ∙ ended (g.1 (none zero)))
   where
     ended : (length part ≡ 0) ⊎ (length xs ≤ p) → from_place (p + n) xs ≡ []
@@ -71,10 +71,10 @@ full_none (Some xs) p hand h e = ap (λ z. z ++ from_place p xs) e ∙ nothing_p
 pub first_held : (from end : ℕ) (window : List ℕ) → from < end → end ≤ length window
     → drop from (take end window) ≡ get_or window from 0 ∷ drop (from + 1) (take end window)
 first_held from end window l within =
-    let len : length (take end window) ≡ end = length-take-le end window within in
+    let len : length (take end window) ≡ end = length-take-le _ _ within in
     let next : from + 1 ≡ suc from = omega arith in
-    rw next (drop-cons (take end window) from 0 (omega (arith, len))
-    ∙ ap (λ b. b ∷ drop (suc from) (take end window)) (get_or-take end window from 0 l))
+    rw next (drop-cons (take _ _) from 0 (omega (arith, len))
+    ∙ ap (λ b. b ∷ drop (suc from) (take end window)) (get_or-take _ _ _ 0 l))
 
 pub some_held : (from end : ℕ) (window : List ℕ) → from < end → end ≤ length window
     → drop from (take end window) ≡ [] → ⊥
@@ -94,6 +94,6 @@ pub several_there : (k : Option (List ℕ)) (p from n : ℕ) (all : List ℕ)
 several_there None p from n all = tt
 several_there (Some xs) p from n all =
     ap (λ z. z ++ from_place p xs)
-    (sym (take-append-drop n (drop from all))
-    ∙ ap (λ z. take n (drop from all) ++ z) (drop-drop n from all))
-    ∙ append_assoc (take n (drop from all)) (drop (from + n) all) (from_place p xs)
+    (sym (take-append-drop n _)
+    ∙ ap (λ z. take n (drop from all) ++ z) (drop-drop n _ _))
+    ∙ append_assoc (take n _) (drop (from + n) all) (from_place p xs)

@@ -6,8 +6,7 @@ ghost use Rattle.plist_base.specs.Faults.{IsIo, Io, fault_at, kind_of, error_kin
 ghost use Rattle.plist_base.specs.Outcomes.{OnlyFault, DecodesBy};
 ghost use Rattle.plist_base.specs.Sources.{AnswersIo};
 ghost use Rattle.plist_binread.specs.Failures.{HasPlace};
-ghost use Rattle.plist_binread.specs.Container.{magic};
-ghost use Rattle.plist_reader.specs.Formats.{is_white, mark, mark_length, front, xml_place, format_of};
+ghost use Rattle.plist_reader.specs.Formats.{is_white, mark_length, front, xml_place, format_of};
 
 use crate::bytes::read_byte;
 use plist_base::{Error, ErrorKind, Source, read_exact_at};
@@ -28,37 +27,17 @@ pub enum Format {
     Ascii,
 }
 
-// Do the bytes begin with the magic?
-fn has_magic<S: Source>(source: &mut S) -> Result<bool, Error>
-    ensures value { DecodesBy result (S.known source.old) (λ b. starts_with nat_eq b magic) }
+// Do the bytes begin with these?
+fn begins_with<S: Source, const N: usize>(source: &mut S, front: &[u8; N]) -> Result<bool, Error>
+    ensures value { DecodesBy result (S.known source.old) (λ b. starts_with nat_eq b front.now) }
     ensures refused { IfErr result (λ error. IsIo (kind_of (error_kind_of error))) }
     ensures offset { IfErr result (λ error. HasPlace (offset_of error)) }
     ensures unchanged { S.known source.new ≡ S.known source.old }
     ensures failures { AnswersIo result (S.failures source.old) (S.failures source.new) }
 {
-    let mut found = [0; 8];
+    let mut found = [0; N];
     match read_exact_at(source, 0, &mut found) {
-        Ok(()) => Ok(MAGIC.as_slice() == found.as_slice()),
-        Err(error) => {
-            if error.is_io() {
-                return Err(error);
-            }
-            Ok(false)
-        }
-    }
-}
-
-// Do the bytes begin with the mark of the byte order?
-fn has_mark<S: Source>(source: &mut S) -> Result<bool, Error>
-    ensures value { DecodesBy result (S.known source.old) (λ b. starts_with nat_eq b mark) }
-    ensures refused { IfErr result (λ error. IsIo (kind_of (error_kind_of error))) }
-    ensures offset { IfErr result (λ error. HasPlace (offset_of error)) }
-    ensures unchanged { S.known source.new ≡ S.known source.old }
-    ensures failures { AnswersIo result (S.failures source.old) (S.failures source.new) }
-{
-    let mut found = [0; 3];
-    match read_exact_at(source, 0, &mut found) {
-        Ok(()) => Ok(MARK.as_slice() == found.as_slice()),
+        Ok(()) => Ok(front.as_slice() == found.as_slice()),
         Err(error) => {
             if error.is_io() {
                 return Err(error);
@@ -76,7 +55,7 @@ fn mark_length<S: Source>(source: &mut S) -> Result<u64, Error>
     ensures unchanged { S.known source.new ≡ S.known source.old }
     ensures failures { AnswersIo result (S.failures source.old) (S.failures source.new) }
 {
-    match has_mark(source) {
+    match begins_with(source, MARK) {
         Ok(true) => Ok(3),
         Ok(false) => Ok(0),
         Err(error) => Err(error),
@@ -116,7 +95,7 @@ fn xml_place<S: Source>(source: &mut S, start: u64) -> Result<Option<u64>, Error
         match byte_at(source, place) {
             Ok(Some(byte)) => {
                 if !is_white(byte) {
-                    return Ok(if byte == b'<' { Some(place) } else { None });
+                    return Ok((byte == b'<').then_some(place));
                 }
                 place += 1;
             }
@@ -138,7 +117,7 @@ pub fn format_of<S: Source>(source: &mut S) -> Result<Format, Error>
     ensures unchanged { S.known source.new ≡ S.known source.old }
     ensures failures { AnswersIo result (S.failures source.old) (S.failures source.new) }
 {
-    match has_magic(source) {
+    match begins_with(source, MAGIC) {
         Ok(true) => return Ok(Format::Binary),
         Ok(false) => {}
         Err(error) => return Err(error),

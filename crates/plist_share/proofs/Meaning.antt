@@ -1,17 +1,16 @@
 -- The one tree that a number stands for in a table of objects.
-use Rattle.std.proofs.Common.{◌≡◌, ℕ, ◌<◌, List, [], ◌∷◌, ◌++◌, length, Some, refl, sym, ap, ◌∙◌, subst}
+use Rattle.std.proofs.Common.{◌≡◌, ℕ, ◌<◌, List, [], ◌∷◌, length, Some, refl, sym, ap, ◌∙◌, subst}
 use Rattle.std.specs.Prelude.{slice_get, ⊤}
 use Rattle.std.specs.List.{AllByRecursion}
-use Rattle.std.proofs.lemmas.Option.{slice_get_within}
+use Rattle.std.proofs.lemmas.Option.{slice_get_within, same_Some}
 use Rattle.plist_base.specs.Trees as trees
 use Rattle.plist_base.specs.Trees.{Tree, Leaf, Array, Dictionary, Trees, NoTrees, TreeAnd, Members, NoMembers, MemberAnd}
 use Rattle.plist_binread.specs.Object as obj
 use Rattle.plist_binread.specs.Object.{Object}
 use Rattle.plist_binread.specs.Unfolding.{Entry}
+use Rattle.plist_binwrite.proofs.ClassObjects.{the_scalar, the_text, the_items, the_pairs}
+use Rattle.plist_binwrite.proofs.Uniques.{all_both}
 use Rattle.plist_share.specs.Distinct.{subtrees, subtrees_of_items, subtrees_of_pairs}
-
-pub some_is : {A : Type 0} (a b : A) → Some a ≡ Some b → a ≡ b
-some_is a b p = cc
 
 module _ (table : List Entry) where
   -- the number's object
@@ -43,20 +42,8 @@ module _ (table : List Entry) where
 
   pub one_object : {i : ℕ} {a b : Object} → Stands i a → Stands i b → a ≡ b
   one_object s t =
-      sym s.is ∙ ap (λ (e : Entry). e.object) (some_is s.entry t.entry (sym s.found ∙ t.found))
+      sym s.is ∙ ap (λ (e : Entry). e.object) (same_Some s.entry t.entry (sym s.found ∙ t.found))
       ∙ t.is
-
-  the_scalar : (x y : trees.Scalar) → obj.Scalar x ≡ obj.Scalar y → x ≡ y
-  the_scalar x y p = cc
-
-  the_items : (a b : List ℕ) → obj.Array a ≡ obj.Array b → b ≡ a
-  the_items a b p = cc
-
-  the_pairs : (a b : List (ℕ × ℕ)) → obj.Dictionary a ≡ obj.Dictionary b → b ≡ a
-  the_pairs a b p = cc
-
-  the_text : (k l : List ℕ) → trees.String k ≡ trees.String l → k ≡ l
-  the_text k l p = cc
 
   mutual
     -- no number stands for two trees
@@ -67,13 +54,13 @@ module _ (table : List Entry) where
     one_tree (Array ts) (Leaf y) i m n = let p = one_object m.1 n in cc
     one_tree (Array ts) (Array us) i m n =
         ap Array (one_items ts us m.0 m.2
-        (subst (MeansItems us) (the_items _ _ (one_object m.1 n.1)) n.2))
+        (subst (MeansItems us) (the_items _ _ (one_object n.1 m.1)) n.2))
     one_tree (Array ts) (Dictionary ns) i m n = let p = one_object m.1 n.1 in cc
     one_tree (Dictionary ms) (Leaf y) i m n = let p = one_object m.1 n in cc
     one_tree (Dictionary ms) (Array us) i m n = let p = one_object m.1 n.1 in cc
     one_tree (Dictionary ms) (Dictionary ns) i m n =
         ap Dictionary (one_pairs ms ns m.0 m.2
-        (subst (MeansPairs ns) (the_pairs _ _ (one_object m.1 n.1)) n.2))
+        (subst (MeansPairs ns) (the_pairs _ _ (one_object n.1 m.1)) n.2))
 
     one_items : (ts us : Trees) (refs : List ℕ) → MeansItems ts refs → MeansItems us refs → ts ≡ us
     one_items NoTrees NoTrees refs m n = refl
@@ -114,11 +101,6 @@ module _ (table : List Entry) where
   numbered : (t : Tree) (i : ℕ) → Means t i → Numbered t
   numbered t i m = record { number = i; means = m; below = means_below t i m }
 
-  all-append : {A : Type 0} (P : A → Type 0) (xs ys : List A) → AllByRecursion P xs
-      → AllByRecursion P ys → AllByRecursion P (xs ++ ys)
-  all-append P [] ys a b = b
-  all-append P (x ∷ xs) ys a b = (a.0, all-append P xs ys a.1 b)
-
   mutual
     -- each subtree has one
     pub all_numbered : (t : Tree) (i : ℕ) → Means t i → AllByRecursion Numbered (subtrees t)
@@ -131,7 +113,7 @@ module _ (table : List Entry) where
     items_numbered NoTrees refs m = tt
     items_numbered (TreeAnd t ts) [] m = absurd m
     items_numbered (TreeAnd t ts) (c ∷ cs) m =
-        all-append Numbered (subtrees t) (subtrees_of_items ts) (all_numbered t c m.0)
+        all_both Numbered (subtrees t) (subtrees_of_items ts) (all_numbered t c m.0)
         (items_numbered ts cs m.1)
 
     pairs_numbered : (ms : Members) (pairs : List (ℕ × ℕ)) → MeansPairs ms pairs
@@ -140,6 +122,6 @@ module _ (table : List Entry) where
     pairs_numbered (MemberAnd k t ms) [] m = absurd m
     pairs_numbered (MemberAnd k t ms) (p ∷ ps) m = (
       numbered (Leaf (trees.String k)) p.0 m.0,
-      all-append Numbered (subtrees t)
+      all_both Numbered (subtrees t)
           (subtrees_of_pairs ms) (all_numbered t p.1 m.1) (pairs_numbered ms ps m.2),
     )

@@ -36,155 +36,109 @@ not_fault (Leaf x) zs f xs p = cc
 not_fault (Array ts) zs f xs p = cc
 not_fault (Dictionary ms) zs f xs p = cc
 
-module _ (table : List Entry) (child : ℕ → List Item) where
-  -- where a child's items begin as a tree's events do, it stands for the tree, and the rest follows
-  abbrev pub Parses : Type 0
-  Parses = (c : ℕ) (t : Tree) (es : List PlainEvent) (xs : List Item)
-      → child c ++ xs ≡ map Ok (bracketing t ++ es) → Means table t c × (xs ≡ map Ok es)
+module _ (table : List Entry) where
+  -- where these items begin as a tree's events do, the number stands for the tree, and the rest
+  -- follows; and they don't begin with an end
+  abbrev pub IsTree : ℕ → List Item → Type 0
+  IsTree i items = ((t : Tree) (es : List PlainEvent) (xs : List Item)
+      → items ++ xs ≡ map Ok (bracketing t ++ es) → Means table t i × (xs ≡ map Ok es))
+      × ((xs ys : List Item) → items ++ xs ≡ Ok EndCollection ∷ ys → ⊥)
 
-  -- no child's items begin with an end
-  abbrev pub NeverEnds : Type 0
-  NeverEnds = (c : ℕ) (xs ys : List Item) → child c ++ xs ≡ Ok EndCollection ∷ ys → ⊥
+module _ (table : List Entry) (child : ℕ → List Item)
+    (good : (c : ℕ) → IsTree table c (child c)) where
+  items_parse : (refs : List ℕ) (ts : Trees) (es : List PlainEvent) (xs : List Item)
+      → flat_map child refs ++ Ok EndCollection ∷ xs
+      ≡ map Ok (bracketing_of_items ts ++ EndCollection ∷ es) → MeansItems table ts refs
+      × (xs ≡ map Ok es)
+  items_parse [] NoTrees es xs p = (tt, tail_is _ _ xs (map Ok es) p)
+  items_parse [] (TreeAnd t ts) es xs p =
+      absurd (not_end t (bracketing_of_items ts ++ EndCollection ∷ es) xs
+      (p ∙ ap (map Ok) (append_assoc (bracketing t) (bracketing_of_items ts)
+      (EndCollection ∷ es))))
+  items_parse (c ∷ cs) NoTrees es xs p =
+      absurd ((good c).1 _ (map Ok es)
+      (sym (append_assoc (child c) (flat_map child cs) (Ok EndCollection ∷ xs)) ∙ p))
+  items_parse (c ∷ cs) (TreeAnd t ts) es xs p =
+      let first = (good c).0 t (bracketing_of_items ts ++ EndCollection ∷ es) _
+      (sym (append_assoc (child c) (flat_map child cs) (Ok EndCollection ∷ xs)) ∙ p
+      ∙ ap (map Ok) (append_assoc (bracketing t) (bracketing_of_items ts)
+      (EndCollection ∷ es))) in
+      let more = items_parse cs ts es xs first.1 in
+      ((first.0, more.0), more.1)
 
-  module _ (parses : Parses) (never : NeverEnds) where
-    items_parse : (refs : List ℕ) (ts : Trees) (es : List PlainEvent) (xs : List Item)
-        → flat_map child refs ++ Ok EndCollection ∷ xs
-        ≡ map Ok (bracketing_of_items ts ++ EndCollection ∷ es) → MeansItems table ts refs
-        × (xs ≡ map Ok es)
-    items_parse [] NoTrees es xs p = (tt, tail_is _ _ xs (map Ok es) p)
-    items_parse [] (TreeAnd t ts) es xs p =
-        absurd (not_end t (bracketing_of_items ts ++ EndCollection ∷ es) xs
-        (p ∙ ap (map Ok) (append_assoc (bracketing t) (bracketing_of_items ts)
-        (EndCollection ∷ es))))
-    items_parse (c ∷ cs) NoTrees es xs p =
-        absurd (never c (flat_map child cs ++ Ok EndCollection ∷ xs) (map Ok es)
-        (sym (append_assoc (child c) (flat_map child cs) (Ok EndCollection ∷ xs)) ∙ p))
-    items_parse (c ∷ cs) (TreeAnd t ts) es xs p =
-        let first = parses c t (bracketing_of_items ts ++ EndCollection ∷ es)
-        (flat_map child cs ++ Ok EndCollection ∷ xs)
-        (sym (append_assoc (child c) (flat_map child cs) (Ok EndCollection ∷ xs)) ∙ p
-        ∙ ap (map Ok) (append_assoc (bracketing t) (bracketing_of_items ts)
-        (EndCollection ∷ es))) in
-        let more = items_parse cs ts es xs first.1 in
-        ((first.0, more.0), more.1)
+  pairs_parse : (pairs : List (ℕ × ℕ)) (ms : Members) (es : List PlainEvent) (xs : List Item)
+      → flat_map child (children_of pairs) ++ Ok EndCollection ∷ xs
+      ≡ map Ok (bracketing_of_pairs ms ++ EndCollection ∷ es) → MeansPairs table ms pairs
+      × (xs ≡ map Ok es)
+  pairs_parse [] NoMembers es xs p = (tt, tail_is _ _ xs (map Ok es) p)
+  pairs_parse [] (MemberAnd k t ms) es xs p = cc
+  pairs_parse (q ∷ qs) NoMembers es xs p =
+      absurd ((good q.0).1 _ (map Ok es) (sym (append_assoc (child q.0)
+      (child q.1 ++ flat_map child (children_of qs)) (Ok EndCollection ∷ xs)) ∙ p))
+  pairs_parse (q ∷ qs) (MemberAnd k t ms) es xs p =
+      let key = (good q.0).0 (Leaf (trees.String k))
+      ((bracketing t ++ bracketing_of_pairs ms) ++ EndCollection ∷ es) _
+      (sym (append_assoc (child q.0) (child q.1 ++ flat_map child (children_of qs))
+      (Ok EndCollection ∷ xs)) ∙ p) in
+      let first = (good q.1).0 t (bracketing_of_pairs ms ++ EndCollection ∷ es) _
+      (sym (append_assoc (child q.1) (flat_map child (children_of qs))
+      (Ok EndCollection ∷ xs)) ∙ key.1
+      ∙ ap (map Ok) (append_assoc (bracketing t) (bracketing_of_pairs ms)
+      (EndCollection ∷ es))) in
+      let more = pairs_parse qs ms es xs first.1 in
+      ((key.0, first.0, more.0), more.1)
 
-    pairs_parse : (pairs : List (ℕ × ℕ)) (ms : Members) (es : List PlainEvent) (xs : List Item)
-        → flat_map child (children_of pairs) ++ Ok EndCollection ∷ xs
-        ≡ map Ok (bracketing_of_pairs ms ++ EndCollection ∷ es) → MeansPairs table ms pairs
-        × (xs ≡ map Ok es)
-    pairs_parse [] NoMembers es xs p = (tt, tail_is _ _ xs (map Ok es) p)
-    pairs_parse [] (MemberAnd k t ms) es xs p = cc
-    pairs_parse (q ∷ qs) NoMembers es xs p =
-        absurd (never q.0 ((child q.1 ++ flat_map child (children_of qs)) ++ Ok EndCollection ∷ xs)
-        (map Ok es) (sym (append_assoc (child q.0) (child q.1 ++ flat_map child (children_of qs))
-        (Ok EndCollection ∷ xs)) ∙ p))
-    pairs_parse (q ∷ qs) (MemberAnd k t ms) es xs p =
-        let rest = flat_map child (children_of qs) ++ Ok EndCollection ∷ xs in
-        let key = parses q.0 (Leaf (trees.String k))
-        ((bracketing t ++ bracketing_of_pairs ms) ++ EndCollection ∷ es)
-        ((child q.1 ++ flat_map child (children_of qs)) ++ Ok EndCollection ∷ xs)
-        (sym (append_assoc (child q.0) (child q.1 ++ flat_map child (children_of qs))
-        (Ok EndCollection ∷ xs)) ∙ p) in
-        let first = parses q.1 t (bracketing_of_pairs ms ++ EndCollection ∷ es) rest
-        (sym (append_assoc (child q.1) (flat_map child (children_of qs))
-        (Ok EndCollection ∷ xs)) ∙ key.1
-        ∙ ap (map Ok) (append_assoc (bracketing t) (bracketing_of_pairs ms)
-        (EndCollection ∷ es))) in
-        let more = pairs_parse qs ms es xs first.1 in
-        ((key.0, first.0, more.0), more.1)
+  closed : (xs : List Item) (ys : List PlainEvent) (zs : List Item) (es : List PlainEvent)
+      → (xs ++ Ok EndCollection ∷ []) ++ zs ≡ map Ok ((ys ++ EndCollection ∷ []) ++ es)
+      → xs ++ Ok EndCollection ∷ zs ≡ map Ok (ys ++ EndCollection ∷ es)
+  closed xs ys zs es p =
+      sym (append_assoc xs (Ok EndCollection ∷ []) zs) ∙ p
+      ∙ ap (map Ok) (append_assoc ys (EndCollection ∷ []) es)
 
-    closed : (xs : List Item) (ys : List PlainEvent) (zs : List Item) (es : List PlainEvent)
-        → (xs ++ Ok EndCollection ∷ []) ++ zs ≡ map Ok ((ys ++ EndCollection ∷ []) ++ es)
-        → xs ++ Ok EndCollection ∷ zs ≡ map Ok (ys ++ EndCollection ∷ es)
-    closed xs ys zs es p =
-        sym (append_assoc xs (Ok EndCollection ∷ []) zs) ∙ p
-        ∙ ap (map Ok) (append_assoc ys (EndCollection ∷ []) es)
+  -- an object by its children
+  object_parses : (i place : ℕ) (o : Object) → Stands table i o
+      → (t : Tree) (es : List PlainEvent) (xs : List Item)
+      → items_of place o child ++ xs ≡ map Ok (bracketing t ++ es) → Means table t i
+      × (xs ≡ map Ok es)
+  object_parses i place (obj.Scalar y) is (Leaf x) es xs p = (
+    record {
+      entry = is.entry;
+      found = is.found;
+      is = is.is ∙ ap obj.Scalar (head_scalar y x xs (map Ok es) p);
+    },
+    tail_is _ _ xs (map Ok es) p,
+  )
+  object_parses i place (obj.Array refs) is (Array ts) es xs p =
+      let inner = items_parse refs ts es xs
+      (closed (flat_map child refs) (bracketing_of_items ts) xs es (tail_is _ _ _ _ p)) in
+      ((refs, is, inner.0), inner.1)
+  object_parses i place (obj.Dictionary pairs) is (Dictionary ms) es xs p =
+      let inner = pairs_parse pairs ms es xs
+      (closed (flat_map child (children_of pairs)) (bracketing_of_pairs ms) xs es
+      (tail_is _ _ _ _ p)) in
+      ((pairs, is, inner.0), inner.1)
+  object_parses i place (obj.Faulty kind) is t es xs p = absurd (not_fault t es _ xs p)
+  object_parses i place o is t es xs p = cc
 
-    -- an object by its children
-    object_parses : (i place : ℕ) (o : Object) → Stands table i o
-        → (t : Tree) (es : List PlainEvent) (xs : List Item)
-        → items_of place o child ++ xs ≡ map Ok (bracketing t ++ es) → Means table t i
-        × (xs ≡ map Ok es)
-    object_parses i place (obj.Scalar y) is (Leaf x) es xs p = (
-      record {
-        entry = is.entry;
-        found = is.found;
-        is = is.is
-            ∙ ap obj.Scalar (head_scalar y x xs (map Ok es) p);
-      },
-      tail_is _ _ xs (map Ok es) p,
-    )
-    object_parses i place (obj.Scalar y) is (Array ts) es xs p = cc
-    object_parses i place (obj.Scalar y) is (Dictionary ms) es xs p = cc
-    object_parses i place (obj.Array refs) is (Leaf x) es xs p = cc
-    object_parses i place (obj.Array refs) is (Array ts) es xs p =
-        let inner = items_parse refs ts es xs
-        (closed (flat_map child refs) (bracketing_of_items ts) xs es (tail_is _ _ _ _ p)) in
-        ((refs, is, inner.0), inner.1)
-    object_parses i place (obj.Array refs) is (Dictionary ms) es xs p = cc
-    object_parses i place (obj.Dictionary pairs) is (Leaf x) es xs p = cc
-    object_parses i place (obj.Dictionary pairs) is (Array ts) es xs p = cc
-    object_parses i place (obj.Dictionary pairs) is (Dictionary ms) es xs p =
-        let inner = pairs_parse pairs ms es xs
-        (closed (flat_map child (children_of pairs)) (bracketing_of_pairs ms) xs es
-        (tail_is _ _ _ _ p)) in
-        ((pairs, is, inner.0), inner.1)
-    object_parses i place (obj.Faulty kind) is t es xs p = absurd (not_fault t es _ xs p)
-
-    -- it begins with no end
-    object_begins : (place : ℕ) (o : Object) → (xs ys : List Item)
-        → items_of place o child ++ xs ≡ Ok EndCollection ∷ ys → ⊥
-    object_begins place (obj.Scalar y) xs ys p = cc
-    object_begins place (obj.Array refs) xs ys p = cc
-    object_begins place (obj.Dictionary pairs) xs ys p = cc
-    object_begins place (obj.Faulty kind) xs ys p = cc
+  -- it begins with no end
+  object_begins : (place : ℕ) (o : Object) → (xs ys : List Item)
+      → items_of place o child ++ xs ≡ Ok EndCollection ∷ ys → ⊥
+  object_begins place (obj.Scalar y) xs ys p = cc
+  object_begins place (obj.Array refs) xs ys p = cc
+  object_begins place (obj.Dictionary pairs) xs ys p = cc
+  object_begins place (obj.Faulty kind) xs ys p = cc
 
 module _ (table : List Entry) where
   -- what a reference finds
-  abbrev Good : (ℕ → List Item) → Type 0
-  Good child = Parses table child × NeverEnds table child
-
-  found_parses : (i at : ℕ) (found : Option Entry) (is_open : Bool) (child : Entry → ℕ → List Item)
+  found_parses : (i at : ℕ) (found : Option Entry) (is_open : Bool) (items : Entry → List Item)
       → slice_get table i ≡ found → ((entry : Entry) → slice_get table i ≡ Some entry
-      → is_open ≡ false → Good (child entry))
-      → (t : Tree) (es : List PlainEvent) (xs : List Item)
-      → items_found found is_open at (λ entry. items_of entry.place entry.object (child entry))
-      ++ xs ≡ map Ok (bracketing t ++ es) → Means table t i × (xs ≡ map Ok es)
-  found_parses i at None o child f good t es xs p = absurd (not_fault t es _ xs p)
-  found_parses i at (Some entry) true child f good t es xs p = absurd (not_fault t es _ xs p)
-  found_parses i at (Some entry) false child f good t es xs p =
-      let g = good entry f refl in
-      object_parses table (child entry) g.0 g.1 i entry.place entry.object
-      (record { entry = entry; found = f; is = refl }) t es xs p
-
-  found_begins : (i at : ℕ) (found : Option Entry) (is_open : Bool) (child : Entry → ℕ → List Item)
-      → slice_get table i ≡ found → ((entry : Entry) → slice_get table i ≡ Some entry
-      → is_open ≡ false → Good (child entry))
-      → (xs ys : List Item) → items_found found is_open at
-      (λ entry. items_of entry.place entry.object (child entry)) ++ xs ≡ Ok EndCollection ∷ ys
-      → ⊥
-  found_begins i at None o child f good xs ys p = cc
-  found_begins i at (Some entry) true child f good xs ys p = cc
-  found_begins i at (Some entry) false child f good xs ys p =
-      let g = good entry f refl in object_begins table (child entry) g.0 g.1 entry.place
-      entry.object xs ys p
-
-  shut_parses : (i at : ℕ) (found : Option Entry) (is_open : Bool) → slice_get table i ≡ found
-      → ((entry : Entry) → slice_get table i ≡ Some entry → is_open ≡ false → ⊥)
-      → (t : Tree) (es : List PlainEvent) (xs : List Item)
-      → items_found found is_open at (λ entry. []) ++ xs ≡ map Ok (bracketing t ++ es)
-      → Means table t i × (xs ≡ map Ok es)
-  shut_parses i at None o f shut t es xs p = absurd (not_fault t es _ xs p)
-  shut_parses i at (Some entry) true f shut t es xs p = absurd (not_fault t es _ xs p)
-  shut_parses i at (Some entry) false f shut t es xs p = absurd (shut entry f refl)
-
-  shut_begins : (i at : ℕ) (found : Option Entry) (is_open : Bool) → slice_get table i ≡ found
-      → ((entry : Entry) → slice_get table i ≡ Some entry → is_open ≡ false → ⊥)
-      → (xs ys : List Item) → items_found found is_open at (λ entry. []) ++ xs ≡ Ok EndCollection
-      ∷ ys → ⊥
-  shut_begins i at None o f shut xs ys p = cc
-  shut_begins i at (Some entry) true f shut xs ys p = cc
-  shut_begins i at (Some entry) false f shut xs ys p = shut entry f refl
+      → is_open ≡ false → IsTree table i (items entry))
+      → IsTree table i (items_found found is_open at items)
+  found_parses i at None o items f good =
+      ((λ t es xs p. absurd (not_fault t es _ xs p)), λ xs ys p. cc)
+  found_parses i at (Some entry) true items f good =
+      ((λ t es xs p. absurd (not_fault t es _ xs p)), λ xs ys p. cc)
+  found_parses i at (Some entry) false items f good = good entry f refl
 
   -- where each object is open, none is found that isn't
   all_open : (path : List ℕ) (i : ℕ) (entry : Entry) → IsPath (length table) path
@@ -197,22 +151,18 @@ module _ (table : List Entry) where
 
   -- where an object's items are a tree's events, its number stands for the tree
   pub unfolding_parses : (room : ℕ) (path : List ℕ) (at : ℕ) → IsPath (length table) path
-      → room + length path ≡ length table → Good (λ c. unfolding_of table room path at c)
+      → room + length path ≡ length table
+      → (c : ℕ) → IsTree table c (unfolding_of table room path at c)
   unfolding unfolding_of
-  unfolding_parses zero path at o full = (
-    (λ c t es xs p. shut_parses c at (slice_get table c) (list_any (nat_eq c) path) refl
-        (λ entry f new. all_open path c entry o (omega arith) f new) t es xs p),
-    (λ c xs ys p. shut_begins c at (slice_get table c) (list_any (nat_eq c) path) refl
-        (λ entry f new. all_open path c entry o (omega arith) f new) xs ys p),
-  )
-  unfolding_parses (suc room) path at o full =
-      let inside =
-      λ (c : ℕ) (entry : Entry) (f : slice_get table c ≡ Some entry) (new : list_any (nat_eq c) path ≡ false).
-      unfolding_parses room (c ∷ path) entry.place
+  unfolding_parses zero path at o full c =
+      found_parses c at (slice_get table c) (list_any (nat_eq c) path) (λ entry. []) refl
+      (λ entry f new. absurd (all_open path c entry o (omega arith) f new))
+  unfolding_parses (suc room) path at o full c =
+      found_parses c at (slice_get table c) (list_any (nat_eq c) path) _ refl (λ entry f new.
+      let child = λ (k : ℕ). unfolding_of table room (c ∷ path) entry.place k in
+      let good = unfolding_parses room (c ∷ path) entry.place
       (path_push c o (slice_get_within table c entry f) new) (omega arith) in (
-        (λ c t es xs p. found_parses c at (slice_get table c) (list_any (nat_eq c) path)
-            (λ entry k. unfolding_of table room (c ∷ path) entry.place k) refl (inside c) t es xs
-            p),
-        (λ c xs ys p. found_begins c at (slice_get table c) (list_any (nat_eq c) path)
-            (λ entry k. unfolding_of table room (c ∷ path) entry.place k) refl (inside c) xs ys p),
-      )
+        object_parses table child good c entry.place entry.object
+            (record { entry = entry; found = f; is = refl }),
+        object_begins table child good entry.place entry.object,
+      ))

@@ -1,7 +1,6 @@
 -- Sending a file by classes of trees sends the shared file.
-use Rattle.std.proofs.Common.{◌≡◌, ℕ, List, [], Option, Err, append-nil, refl, sym, ◌∙◌, subst}
-use Rattle.plist_base.specs.Bracketing.{AreAlike, bracketing, shape}
-use Rattle.plist_base.specs.Events.{PlainEvent}
+use Rattle.std.proofs.Common.{◌≡◌, ℕ, List, Option, Err, refl, sym, subst}
+use Rattle.plist_base.specs.Bracketing.{AreAlike, bracketing}
 use Rattle.plist_base.specs.Faults.{Fault, OutOfMemory, fault_nowhere}
 use Rattle.plist_base.specs.Trees.{Tree}
 use Rattle.plist_base.specs.Writing.{Answer}
@@ -10,6 +9,7 @@ use Rattle.plist_binwrite.specs.declared.held.Held.{Held}
 use Rattle.plist_binwrite.specs.Held.{plain_events}
 use Rattle.plist_binwrite.specs.Standing.{Sits}
 use Rattle.plist_binwrite.proofs.Sends.{sends_as}
+use Rattle.plist_binwrite.proofs.Sitting.{sits_whole}
 use Rattle.plist_binwrite.proofs.Unhinted.{plain_shape}
 use Rattle.plist_share.specs.inner.Keys.{TellTrees}
 use Rattle.plist_share.specs.SharedFiles.{IsSharedFileOf}
@@ -17,13 +17,10 @@ use Rattle.plist_share.specs.SharedSizes.{shared_file_size}
 use Rattle.plist_share.specs.Sharing.{Sends}
 use Rattle.plist_share.proofs.Shares.{shared_file, size_is}
 
-sits_whole : (es : List PlainEvent) (t : Tree) → es ≡ shape t → Sits es t 0
-sits_whole es t e = record { rest = []; is = e ∙ sym (append-nil (shape t)) }
-
 module _ {W : Type 0} (contents : W → Option (List ℕ)) (events : Held) (class : ℕ → ℕ)
     (told : TellTrees (plain_events events) class) where
   sits : (t : Tree) → AreAlike (plain_events events) (bracketing t) → Sits (plain_events events) t 0
-  sits t alike = sits_whole (plain_events events) t (plain_shape events t alike)
+  sits t alike = sits_whole (plain_shape events t alike)
 
   pub sends_shared : (answer : Answer) (old new : W)
       → SendsBy class contents (plain_events events) answer old new

@@ -15,8 +15,8 @@ use Rattle.plist_share.specs.Distinct.{tree_eq, subtrees, subtrees_of_items, sub
 use Rattle.plist_share.specs.inner.Keys.{TellTrees}
 use Rattle.plist_share.specs.SharedFiles.{IsSharedFileOf}
 use Rattle.plist_share.specs.SharedSizes.{shared_objects_size, shared_file_size}
-use Rattle.plist_share.proofs.Least.{tree_same, least}
-use Rattle.plist_share.proofs.Telling.{tree_other}
+use Rattle.plist_share.proofs.Least.{least}
+use Rattle.plist_share.proofs.Telling.{tree_same, tree_other}
 
 abbrev tree_met : ℕ × Tree → Tree
 tree_met a = a.1

@@ -1,61 +1,57 @@
 -- The test of trees tells.
-use Rattle.std.proofs.Common.{◌≡◌, ◌⊎◌, inl, inr, Bool, true, false, ◌&&◌, refl, ap, subst}
+use Rattle.std.proofs.Common.{◌≡◌, inl, inr, Bool, true, false, ◌&&◌, refl, ap, ◌∙◌}
+use Rattle.std.proofs.lemmas.Bool.{and_left}
 use Rattle.std.specs.Str.{bytes_eq}
-use Rattle.std.proofs.lemmas.Bool.{cases_Bool, both_ways as never_both}
-use Rattle.std.proofs.lemmas.Slice.Eq.{bytes_eq-Decides}
 use Rattle.plist_base.specs.Trees.{Tree, Leaf, Array, Dictionary, Trees, NoTrees, TreeAnd, Members, NoMembers, MemberAnd}
 use Rattle.plist_binwrite.specs.Counts.{scalar_eq}
-use Rattle.plist_binwrite.proofs.SameScalars.{scalars_tell}
+use Rattle.plist_binwrite.proofs.SameScalars.{Tells, bytes_tell, scalars_tell, tells_made}
 use Rattle.plist_share.specs.Distinct.{tree_eq, trees_eq, members_eq}
-use Rattle.plist_share.proofs.Least.{tree_same}
-use Rattle.plist_share.proofs.Alike.{parts}
 
-from_true : {A : Type 0} (eq : A → A → Bool) (a b : A) → ((eq a b ≡ true) × (a ≡ b))
-    ⊎ ((eq a b ≡ false) × (a ≡ b → ⊥)) → eq a b ≡ true → a ≡ b
-from_true eq a b t h = elim t [ inl y ↦ y.1 | inr n ↦ absurd (never_both (eq a b) n.0 h) ]
+-- what two tests tell of two parts, both tell of what is made of the parts
+tells_both : {A B C : Type 0} (one : A → A → Bool) (other : B → B → Bool) (test : C → C → Bool)
+    (make : A → B → C) (a x : A) (b y : B)
+    → test (make a b) (make x y) ≡ (one a x && other b y)
+    → (make a b ≡ make x y → (a ≡ x) × (b ≡ y)) → Tells one a x → Tells other b y
+    → Tells test (make a b) (make x y)
+tells_both one other test make a x b y is back (inl p) (inl q) =
+    inl (is ∙ (λ i. p.0 i && q.0 i), λ i. make (p.1 i) (q.1 i))
+tells_both one other test make a x b y is back (inl p) (inr q) =
+    inr (is ∙ (λ i. p.0 i && q.0 i), λ e. q.1 (back e).1)
+tells_both one other test make a x b y is back (inr p) told =
+    inr (is ∙ and_left _ _ p.0, λ e. p.1 (back e).0)
+
+abbrev rest_eq : Tree × Members → Tree × Members → Bool
+rest_eq p q = tree_eq p.0 q.0 && members_eq p.1 q.1
 
 mutual
-  tree_true : (t u : Tree) → tree_eq t u ≡ true → t ≡ u
-  tree_true (Leaf x) (Leaf y) h = ap Leaf (from_true scalar_eq x y (scalars_tell x y) h)
-  tree_true (Leaf x) (Array us) h = cc
-  tree_true (Leaf x) (Dictionary ns) h = cc
-  tree_true (Array ts) (Leaf y) h = cc
-  tree_true (Array ts) (Array us) h = ap Array (trees_true ts us h)
-  tree_true (Array ts) (Dictionary ns) h = cc
-  tree_true (Dictionary ms) (Leaf y) h = cc
-  tree_true (Dictionary ms) (Array us) h = cc
-  tree_true (Dictionary ms) (Dictionary ns) h = ap Dictionary (members_true ms ns h)
+  pub tree_tells : (t u : Tree) → Tells tree_eq t u
+  tree_tells (Leaf x) (Leaf y) =
+      tells_made scalar_eq tree_eq Leaf x y refl (λ e. cc) (scalars_tell x y)
+  tree_tells (Array ts) (Array us) =
+      tells_made trees_eq tree_eq Array ts us refl (λ e. cc) (trees_tell ts us)
+  tree_tells (Dictionary ms) (Dictionary ns) =
+      tells_made members_eq tree_eq Dictionary ms ns refl (λ e. cc) (members_tell ms ns)
+  tree_tells t u = inr (refl, λ e. cc)
 
-  trees_true : (ts us : Trees) → trees_eq ts us ≡ true → ts ≡ us
-  trees_true NoTrees NoTrees h = refl
-  trees_true NoTrees (TreeAnd u us) h = cc
-  trees_true (TreeAnd t ts) NoTrees h = cc
-  trees_true (TreeAnd t ts) (TreeAnd u us) h =
-      let p = parts (tree_eq t u) (trees_eq ts us) h in
-      let a = tree_true t u p.0 in
-      let b = trees_true ts us p.1 in
-      λ i. TreeAnd (a i) (b i)
+  trees_tell : (ts us : Trees) → Tells trees_eq ts us
+  trees_tell NoTrees NoTrees = inl (refl, refl)
+  trees_tell (TreeAnd t ts) (TreeAnd u us) =
+      tells_both tree_eq trees_eq trees_eq TreeAnd t u ts us refl (λ e. (cc, cc))
+      (tree_tells t u) (trees_tell ts us)
+  trees_tell ts us = inr (refl, λ e. cc)
 
-  members_true : (ms ns : Members) → members_eq ms ns ≡ true → ms ≡ ns
-  members_true NoMembers NoMembers h = refl
-  members_true NoMembers (MemberAnd l u ns) h = cc
-  members_true (MemberAnd k t ms) NoMembers h = cc
-  members_true (MemberAnd k t ms) (MemberAnd l u ns) h =
-      let p = parts (bytes_eq k l) (tree_eq t u && members_eq ms ns) h in
-      let q = parts (tree_eq t u) (members_eq ms ns) p.1 in
-      let a = (bytes_eq-Decides k l).0 p.0 in
-      let b = tree_true t u q.0 in
-      let c = members_true ms ns q.1 in
-      λ i. MemberAnd (a i) (b i) (c i)
+  members_tell : (ms ns : Members) → Tells members_eq ms ns
+  members_tell NoMembers NoMembers = inl (refl, refl)
+  members_tell (MemberAnd k t ms) (MemberAnd l u ns) =
+      tells_both bytes_eq rest_eq members_eq (λ k p. MemberAnd k p.0 p.1) k l (t, ms) (u, ns) refl
+      (λ e. let a : t ≡ u = cc in let b : ms ≡ ns = cc in (cc, λ i. (a i, b i)))
+      (bytes_tell k l)
+      (tells_both tree_eq members_eq rest_eq (λ a b. (a, b)) t u ms ns refl
+      (λ e. (ap (λ p. p.0) e, ap (λ p. p.1) e)) (tree_tells t u) (members_tell ms ns))
+  members_tell ms ns = inr (refl, λ e. cc)
 
-pub tree_tells : (t u : Tree) → ((tree_eq t u ≡ true) × (t ≡ u))
-    ⊎ ((tree_eq t u ≡ false) × (t ≡ u → ⊥))
-tree_tells t u =
-    elim (cases_Bool (tree_eq t u)) [
-      | inl y ↦ inl (y, tree_true t u y)
-      | inr n ↦ inr
-          (n, λ e. never_both (tree_eq t u) n (subst (λ w. tree_eq t w ≡ true) e (tree_same t)))
-    ]
+pub tree_same : (t : Tree) → tree_eq t t ≡ true
+tree_same t = elim (tree_tells t t) [ inl y ↦ y.0 | inr n ↦ absurd (n.1 refl) ]
 
 pub tree_other : (t u : Tree) → (t ≡ u → ⊥) → tree_eq t u ≡ false
 tree_other t u h = elim (tree_tells t u) [ inl y ↦ absurd (h y.1) | inr n ↦ n.0 ]

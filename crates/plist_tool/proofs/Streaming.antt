@@ -3,35 +3,38 @@ use Rattle.std.proofs.Common.{◌≡◌, ◌↔◌, Bool, true, false, List, [],
 use Rattle.std.specs.Prelude.{ℕ}
 use Rattle.std.specs.Option.{option_map}
 use Rattle.plist_base.specs.declared.error.Error.{Error}
+use Rattle.plist_base.specs.declared.source.Source.{Ghosts}
 use Rattle.plist_base.specs.Bracketing.{bracketing, unhinted, AreAlike, AreWhole, CanContinue}
 use Rattle.plist_base.specs.Events.{PlainEvent, Item}
-use Rattle.plist_base.specs.Faults.{Fault, FaultKind, MatchFault, fault_of, kind_of, error_kind_of}
+use Rattle.plist_base.specs.Faults.{Fault, MatchFault, fault_of, kind_of, error_kind_of}
 use Rattle.plist_base.specs.Trees.{Tree, Leaf, Array, Dictionary}
 use Rattle.plist_base.proofs.Grammar.{alike_last, alike_with, complete_of_whole, continue_alike, whole_alike}
 use Rattle.plist_base.proofs.Refusals.{MatchFault-weaker}
 use Rattle.plist_base.specs.Writing.{Answer}
-use Rattle.plist_binread.specs.Telling.{TellsItem}
+use Rattle.plist_binread.specs.BinaryReader.{is_new, source_of, to_come}
+use Rattle.plist_binread.specs.Telling.{TellsItem, event_told}
 use Rattle.plist_binread.specs.Unfolding.{items_of_file}
+use Rattle.plist_binread.specs.declared.counter.DecodeCounter.{Ghosts as CounterGhosts}
+use Rattle.plist_binread.specs.declared.reader.BinaryReader.{BinaryReader}
 use Rattle.plist_binwrite.specs.Keys.{HasKeysOnce}
 use Rattle.plist_binwrite.specs.declared.pending.Pending.{Pending}
-use Rattle.plist_binwrite.specs.Pendings.{IsRefused, TellsWhole, events_held}
+use Rattle.plist_binwrite.specs.Pendings.{Accepts, CanTake, TellsWhole, events_held, is_whole}
 use Rattle.plist_binwrite.specs.Sending.{Sends}
 use Rattle.plist_reader.specs.declared.format.Format.{Format}
 use Rattle.plist_reader.specs.declared.format.Format.TheVariants as format
 use Rattle.plist_reader.specs.Formats.{format_of}
 use Rattle.plist_reader.specs.Reader.{items_by, items_of_input}
-use Rattle.plist.specs.Building.{Unfinished, NotBegun, IsNested, events_so_far, last_wins_so_far, refusal_of}
+use Rattle.plist.specs.Building.{Unfinished, NotBegun, IsNested, events_so_far, last_wins_so_far}
 use Rattle.plist.specs.Inputs.{AreOf, IsReadFrom, Answers}
 use Rattle.plist.specs.LastWins.{last_wins}
-use Rattle.plist.specs.inner.OneTree.{one_tree}
+use Rattle.plist_base.proofs.OneTree.{one_tree}
 use Rattle.plist.specs.inner.Carried.{carried-taken, carried-nested, carried-events}
-use Rattle.plist.specs.inner.Following.{refused-ends}
+use Rattle.plist.specs.inner.Following.{continues-accepted}
 use Rattle.plist.specs.inner.Steps.{and_pair}
-use Rattle.plist.proofs.Collected.{alike-more}
 use Rattle.plist.proofs.Gathered.{sends_tree}
 use Rattle.plist.proofs.Inputs.{all-events, event-more, no-events, reads-refused}
 use Rattle.plist.proofs.KeysOnce.{keys-once, last-wins-nothing}
-use Rattle.plist_tool.specs.Converting.{HoldsTree, AreNoTree, IsDirect, IsNoBinaryTree, SendsRead, items_of}
+use Rattle.plist_tool.specs.Converting.{HoldsTree, AreNoTree, IsDirect, IsNoBinaryTree, IsNoNext, SendsRead, items_left, items_of}
 
 -- of the items these events were taken, which are alike to those held, and these items are to come
 abbrev TookOf : (all coming : List Item) → (held : List PlainEvent) → Type 0
@@ -51,13 +54,25 @@ TellsOn fresh before item told after =
     IfSome before (λ all. (left : List Item) × (after ≡ Some left)
     × TellsItem fresh all item told left)
 
-pub tells_on : {A : Type 0} (k l : Option (List ℕ)) (before after : List ℕ → List Item)
+tells_then : {A : Type 0} (k l : Option (List ℕ)) (before after : List ℕ → List Item)
     (fresh : Bool) (item : Option (Result A Error)) (told : PlainEvent) → l ≡ k
     → IfSome k (λ bytes. TellsItem fresh (before bytes) item told (after bytes))
     → TellsOn fresh (option_map before k) item told (option_map after l)
-tells_on None l before after fresh item told e h = tt
-tells_on (Some bytes) l before after fresh item told e h =
+tells_then None l before after fresh item told e h = tt
+tells_then (Some bytes) l before after fresh item told e h =
     (after bytes, ap (option_map after) e, h)
+
+-- a call of a reader
+pub tells_on : {S C : Type 0} {g : Ghosts S} {h : CounterGhosts C} (known : S → Option (List ℕ))
+    (before after : BinaryReader S C g h) (item : Option (Result (Unit {0}) Error))
+    → known (source_of after) ≡ known (source_of before)
+    → IfSome (known (source_of before)) (λ bytes. TellsItem (is_new before) (to_come bytes before)
+    item (event_told after) (to_come bytes after))
+    → TellsOn (is_new before) (items_left known before) item (event_told after)
+    (items_left known after)
+tells_on known before after item =
+    tells_then (known (source_of before)) (known (source_of after)) (λ bytes. to_come bytes before)
+    (λ bytes. to_come bytes after) (is_new before) item (event_told after)
 
 -- ---- whether the events held are a tree's
 
@@ -82,30 +97,20 @@ tells_next b held new e is t =
 
 -- ---- one more event
 
-not_none : (k : FaultKind) → Some k ≡ None → ⊥
-not_none k p = cc
-
-accepted : (u : Unfinished) (e : PlainEvent) → IsNested u → CanContinue (events_so_far u) e
-    → refusal_of u e ≡ None
-accepted u e ok c = by (refusal_of u e) refl
-  where
-    by : (o : Option FaultKind) → refusal_of u e ≡ o → refusal_of u e ≡ None
-    by None q = q
-    by (Some kind) q = absurd (refused-ends u e ok (λ r. not_none kind (sym q ∙ r)) c)
-
 took_event : (all before after : List Item) (e : PlainEvent) (held new : List PlainEvent)
     → before ≡ Ok e ∷ after → TookOf all before held → CanContinue held e
     → new ≡ held ++ unhinted e ∷ [] → TookOf all after new
 took_event all before after e held new b (events, u, is, ok, alike, like) can grown =
-    let r = accepted u e ok ((continue_alike held (events_so_far u) (sym like ∙ sym alike) e).0 can)
-    in
+    let r = continues-accepted u e ok
+    ((continue_alike held (events_so_far u) (sym like ∙ sym alike) e).0 can) in
     let w = carried-taken and_pair u e r in (
       events ++ e ∷ [],
       w.0,
       is ∙ ap (λ l. map Ok events ++ l) b ∙ event-more events e after,
       carried-nested and_pair u e w.0 ok w.1,
-      carried-events u e w.0 ok w.1 ∙ alike-more (events_so_far u) events e alike,
-      alike-more events held e like ∙ sym (alike_last held e) ∙ ap (map unhinted) (sym grown),
+      carried-events u e w.0 ok w.1 ∙ alike_with (events_so_far u) events (e ∷ []) alike,
+      alike_with events held (e ∷ []) like ∙ sym (alike_last held e)
+          ∙ ap (map unhinted) (sym grown),
     )
 
 pub taken_none : (items coming : Option (List Item)) (held : List PlainEvent) → coming ≡ items
@@ -145,7 +150,7 @@ module _ {A : Type 0} (items o n : Option (List Item)) (fresh : Bool) (answer : 
   stops all before fault (events, u, is, ok, alike, like) b =
       reads-refused (Some all) (Some before) (Some []) (Some (Err fault)) (Err fault)
       (record { unfinished = last_wins_so_far u; failed = false }) fault refl
-      (before, refl, (events, u, is, ok, alike, refl)) ([], refl, b) refl
+      (before, refl, (events, is, (u, ok, alike, refl))) ([], refl, b) refl
 
   pub taken_fault : (error : Error) → HasTaken items o held → TellsOn fresh o (Some answer) told n
       → answer ≡ Err error → Answers items (Err (fault_of error))
@@ -244,12 +249,20 @@ none_of (Ok found) items known e h = λ none. no_binary_tree known (subst AreNoT
 none_of (Err error) items known e h = tt
 
 -- an event that was refused can't come next
-pub refused_there : (U : Type 0) (refusal : Option Error) (error : Error) (held : List PlainEvent)
-    (e told : PlainEvent) → IfSome refusal (λ x. IsRefused held e (fault_of x) × U)
-    → refusal ≡ Some error → e ≡ told → CanContinue held told → ⊥
-refused_there U refusal error held e told h is same =
-    subst (λ v. CanContinue held v → ⊥) same
-    (subst (λ o. IfSome o (λ x. IsRefused held e (fault_of x) × U)) is h).0.0
+pub refused_there : (refusal : Option Error) (error : Error) (pending : Pending) (told : PlainEvent)
+    → IsNoNext pending told refusal → refusal ≡ Some error → CanTake pending told → ⊥
+refused_there refusal error pending told h is =
+    subst (λ o. IfSome o (λ _. CanTake pending told → ⊥)) is h
+
+-- what was accepted behind the same events, as it is told
+pub accepted_as : (answer : Result (Option Error) Error) (a b after : Pending) (e told : PlainEvent)
+    → IfOk answer (Accepts a e after) → e ≡ told → events_held a ≡ events_held b
+    → IfOk answer (Accepts b told after)
+accepted_as answer a b after e told h is same =
+    subst (λ held. IfOk answer (λ refusal. refusal ≡ None → CanContinue held told
+    × ((events_held after ≡ held ++ unhinted told ∷ [])
+    × TellsWhole (is_whole after) (held ++ told ∷ [])))) same
+    (subst (λ v. IfOk answer (Accepts a v after)) is h)
 
 -- what was found is held
 pub held_there : (found : Option Pending) (pending : Pending) (items : Option (List Item))

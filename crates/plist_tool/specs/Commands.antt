@@ -1,5 +1,6 @@
 -- What the words after the program's name ask for, and how the program ends.
-use Rattle.std.specs.Prelude.{◌≡◌, ℕ, Bool, List, [], ◌∷◌, Option, Result, Ok, Err, MatchResult, codes}
+use Rattle.std.specs.Prelude.{◌≡◌, ◌≢◌, ℕ, Bool, List, [], ◌∷◌, Option, Result, Ok, Err, MatchResult, String, codes, map, string_bytes}
+use Rattle.std.specs.declared.alloc.Global.{Global}
 use Rattle.plist_base.specs.declared.error.Error.{Error}
 use Rattle.plist_base.specs.Faults.{fault_of}
 use Rattle.plist_tool.specs.Failures.{Outcome, OfPlist, outcome_of}
@@ -7,6 +8,7 @@ use Rattle.plist_tool.specs.declared.failure.Failure.{Failure}
 use Rattle.plist_tool.specs.Messages.{Said, Fault}
 use Rattle.plist_tool.specs.declared.commands.Command.{Command}
 use Rattle.plist_tool.specs.declared.commands.Command.TheVariants as command
+use Rattle.plist_tool.specs.declared.commands.Streams.{Streams}
 
 -- what the program can be asked to do
 pub data Asked : Type 0 where
@@ -37,6 +39,18 @@ abbrev pub EndsWith : {E : Type 0} → (tells : E → Said → Bool → E → Ty
 EndsWith tells (Ok done) status old new = (status ≡ 0) × (new ≡ old)
 EndsWith tells (Err complaint) status old new =
     (status ≡ 1) × ((told : Bool) × tells old (Fault complaint) told new)
+
+-- Unless the status is that of wrong words, the words ask for a command that may have answered so,
+-- an output that tells its bytes then holds these, and the program ends as it does behind that
+-- answer.
+abbrev pub EndsBy : {O E : Type 0}
+    → (answers : Asked → Option (List ℕ) → Outcome → Option (List ℕ) → Type 0)
+    → (contents : O → Option (List ℕ)) → (tells : E → Said → Bool → E → Type 0)
+    → (words : List (String Global)) → (old new : Streams O E) → (status : ℕ) → Type 0
+EndsBy answers contents tells words old new status =
+    status ≢ 2 → (asked : Asked) × (answer : Outcome) × (map string_bytes words ≡ words_for asked)
+    × answers asked (contents old.out) answer (contents new.out)
+    × EndsWith tells answer status old.err new.err
 
 -- the exit code is the status, or 1 where there was none
 abbrev pub IsStatusOf : Result ℕ Error → (code : ℕ) → Type 0

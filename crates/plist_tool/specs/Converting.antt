@@ -12,7 +12,7 @@ use Rattle.plist_binread.specs.BinaryReader.{source_of, to_come}
 use Rattle.plist_binread.specs.declared.counter.DecodeCounter.{Ghosts as CounterGhosts}
 use Rattle.plist_binread.specs.declared.reader.BinaryReader.{BinaryReader}
 use Rattle.plist_binwrite.specs.declared.pending.Pending.{Pending}
-use Rattle.plist_binwrite.specs.Pendings.{events_held}
+use Rattle.plist_binwrite.specs.Pendings.{CanTake, events_held}
 use Rattle.plist_reader.specs.declared.format.Format.TheVariants.{Binary}
 use Rattle.plist_reader.specs.Formats.{format_of}
 use Rattle.plist_reader.specs.Reader.{items_of_input}
@@ -82,6 +82,10 @@ FindsTree items answer =
 -- the only refusal is what a value of the items is refused for
 abbrev pub IsRefusedFor : {A : Type 0} → (items : Option (List Item)) → Result A Error → Type 0
 IsRefusedFor items answer = IfErr answer (λ error. Answers items (Err (fault_of error)))
+
+-- an event that is refused can't follow those held
+abbrev pub IsNoNext : Pending → PlainEvent → Option Error → Type 0
+IsNoNext pending event refusal = IfSome refusal (λ _. CanTake pending event → ⊥)
 
 -- the items are no tree's
 abbrev pub AreNoTree : (items : Option (List Item)) → Type 0

@@ -1,9 +1,9 @@
 //! What the words after the program's name ask for, and how it is done.
 
-ghost use Rattle.std.specs.Prelude.{◌≡◌, ◌≢◌, ℕ, ◌↔◌, List, Option, Bool, map, string_bytes, IfSome, IsNone};
+ghost use Rattle.std.specs.Prelude.{◌≡◌, ℕ, ◌↔◌, List, Option, Bool, map, string_bytes, IfSome, IsNone};
 ghost use Rattle.plist_tool.specs.Failures.{Outcome};
 ghost use Rattle.plist_tool.specs.Messages.{Usage};
-ghost use Rattle.plist_tool.specs.Commands.{Asked, asked_of, words_for, IsWrong, EndsWith, Performs};
+ghost use Rattle.plist_tool.specs.Commands.{Asked, asked_of, words_for, IsWrong, EndsBy, Performs};
 
 use crate::convert::convert_file;
 use crate::failure::Failure;
@@ -95,6 +95,15 @@ fn print_file<R: Files, O: Write>(
     }
 }
 
+/// Where a run's lines and its messages go.
+#[derive(Drop)]
+pub struct Streams<O: Write, E: Messages> {
+    /// Takes the lines.
+    pub out: O,
+    /// Takes what is said beside them.
+    pub err: E,
+}
+
 /// Does what the words after the program's name ask for, and answers the status: 0 where it is
 /// done, 1 after a fault, which is then told on `err`, and 2 for wrong words, for which `err` gets
 /// the usage.
@@ -104,25 +113,21 @@ pub fn run_words<R: Commands, O: Write, E: Messages>(
     rt: &R,
     alloc: Global,
     words: &[String],
-    out: &mut O,
-    err: &mut E,
+    to: &mut Streams<O, E>,
 ) -> u8
     ensures wrong { (result ≡ 2) ↔ IsWrong (map string_bytes words.now) }
-    ensures silent { result ≡ 2 → out.new ≡ out.old }
-    ensures usage { result ≡ 2 → (told : Bool) × E.tells err.old Usage told err.new }
-    ensures ends { result ≢ 2 → (asked : Asked) × (answer : Outcome)
-        × (map string_bytes words.now ≡ words_for asked)
-        × R.answers rt.now asked (O.contents out.old) answer (O.contents out.new)
-        × EndsWith E.tells answer result err.old err.new }
+    ensures silent { result ≡ 2 → to.new.out ≡ to.old.out }
+    ensures usage { result ≡ 2 → (told : Bool) × E.tells to.old.err Usage told to.new.err }
+    ensures ends { EndsBy (R.answers rt.now) O.contents E.tells words.now to.old to.new result }
 {
     let Some(command) = command_of(words) else {
-        let _ = err.tell(Message::Usage);
+        let _ = to.err.tell(Message::Usage);
         return 2;
     };
-    match rt.perform(alloc, command, out) {
+    match rt.perform(alloc, command, &mut to.out) {
         Ok(()) => 0,
         Err(failure) => {
-            let _ = err.tell(Message::Fault(&failure));
+            let _ = to.err.tell(Message::Fault(&failure));
             1
         }
     }
@@ -131,7 +136,7 @@ pub fn run_words<R: Commands, O: Write, E: Messages>(
 #[cfg(test)]
 mod tests {
     use super::*;
-    use crate::saved::{RECURSIVE, put, temporary, words_of};
+    use crate::saved::{RECURSIVE, in_memory, put, temporary, words_of};
     use crate::trickle::Trickle;
     use std::test::Fail;
 
@@ -151,12 +156,11 @@ mod tests {
             "keyed one two three",
         ] {
             let words = words_of(rt.alloc(), line)?;
-            let mut out = Vec::new(rt.alloc());
-            let mut err = Vec::new(rt.alloc());
-            let status = run_words(&rt, rt.alloc(), words.as_slice(), &mut out, &mut err);
+            let mut streams = in_memory(rt.alloc());
+            let status = run_words(&rt, rt.alloc(), words.as_slice(), &mut streams);
             assert_eq!(rt; status, 2, "at {line}");
-            assert!(rt; out.is_empty(), "at {line}");
-            assert_eq!(rt; err.as_slice(), USAGE.as_bytes(), "at {line}");
+            assert!(rt; streams.out.is_empty(), "at {line}");
+            assert_eq!(rt; streams.err.as_slice(), USAGE.as_bytes(), "at {line}");
         }
         Ok(())
     }
@@ -164,12 +168,11 @@ mod tests {
     #[test]
     fn a_missing_file(rt: HostRuntime) -> Result<(), Fail> {
         let words = words_of(rt.alloc(), "print no_such_folder/no_such_file.plist")?;
-        let mut out = Vec::new(rt.alloc());
-        let mut err = Vec::new(rt.alloc());
-        let status = run_words(&rt, rt.alloc(), words.as_slice(), &mut out, &mut err);
+        let mut streams = in_memory(rt.alloc());
+        let status = run_words(&rt, rt.alloc(), words.as_slice(), &mut streams);
         assert_eq!(rt; status, 1);
-        assert!(rt; out.is_empty());
-        assert_eq!(rt; err.as_slice(), b"Error: Io\n".as_slice());
+        assert!(rt; streams.out.is_empty());
+        assert_eq!(rt; streams.err.as_slice(), b"Error: Io\n".as_slice());
         Ok(())
     }
 
@@ -177,11 +180,13 @@ mod tests {
     fn a_failing_standard_error_changes_no_status(rt: HostRuntime) -> Result<(), Fail> {
         for (line, expected) in [("show one", 2), ("print no_such_folder/no_such_file", 1)] {
             let words = words_of(rt.alloc(), line)?;
-            let mut out = Vec::new(rt.alloc());
-            let mut err = Trickle::new(rt.alloc(), 4);
-            let status = run_words(&rt, rt.alloc(), words.as_slice(), &mut out, &mut err);
+            let mut streams = Streams {
+                out: Vec::new(rt.alloc()),
+                err: Trickle::new(rt.alloc(), 4),
+            };
+            let status = run_words(&rt, rt.alloc(), words.as_slice(), &mut streams);
             assert_eq!(rt; status, expected, "at {line}");
-            assert_eq!(rt; err.taken.len(), 4, "at {line}");
+            assert_eq!(rt; streams.err.taken.len(), 4, "at {line}");
         }
         Ok(())
     }
@@ -197,13 +202,12 @@ mod tests {
     #[test]
     fn a_fault_after_its_lines(rt: HostRuntime) -> Result<(), Fail> {
         let words = print_of(&rt, "plist_tool_recursive.plist", RECURSIVE)?;
-        let mut out = Vec::new(rt.alloc());
-        let mut err = Vec::new(rt.alloc());
-        let status = run_words(&rt, rt.alloc(), words.as_slice(), &mut out, &mut err);
+        let mut streams = in_memory(rt.alloc());
+        let status = run_words(&rt, rt.alloc(), words.as_slice(), &mut streams);
         assert_eq!(rt; status, 1);
-        assert_eq!(rt; out.as_slice(), b"StartArray 1\n".as_slice());
+        assert_eq!(rt; streams.out.as_slice(), b"StartArray 1\n".as_slice());
         assert_eq!(rt;
-            err.as_slice(),
+            streams.err.as_slice(),
             b"Error: RecursiveObject (offset 8)\n".as_slice()
         );
         Ok(())
@@ -212,12 +216,14 @@ mod tests {
     #[test]
     fn a_failing_output(rt: HostRuntime) -> Result<(), Fail> {
         let words = print_of(&rt, "plist_tool_failing_output.plist", RECURSIVE)?;
-        let mut out = Trickle::new(rt.alloc(), 5);
-        let mut err = Vec::new(rt.alloc());
-        let status = run_words(&rt, rt.alloc(), words.as_slice(), &mut out, &mut err);
+        let mut streams = Streams {
+            out: Trickle::new(rt.alloc(), 5),
+            err: Vec::new(rt.alloc()),
+        };
+        let status = run_words(&rt, rt.alloc(), words.as_slice(), &mut streams);
         assert_eq!(rt; status, 1);
-        assert_eq!(rt; out.taken.as_slice(), b"Start".as_slice());
-        assert_eq!(rt; err.as_slice(), b"Error: Io\n".as_slice());
+        assert_eq!(rt; streams.out.taken.as_slice(), b"Start".as_slice());
+        assert_eq!(rt; streams.err.as_slice(), b"Error: Io\n".as_slice());
         Ok(())
     }
 }

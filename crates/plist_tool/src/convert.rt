@@ -1,8 +1,11 @@
 //! Writes a property list as a binary one.
 
-ghost use Rattle.std.specs.Prelude.{◌≡◌, None};
+ghost use Rattle.std.specs.Prelude.{◌≡◌, false, IfErr, IfOk, None};
+ghost use Rattle.plist_base.specs.Outcomes.{OnlyMemory};
 ghost use Rattle.plist_binread.specs.BinaryReader.{source_of};
-ghost use Rattle.plist_tool.specs.Converting.{AreNoTree, FindsTree, IfOkIs, IsNoBinaryTree, IsRefusedFor, IsStoppedFor, LeavesToValue, SendsAll, items_left, items_of};
+ghost use Rattle.plist_binread.specs.Telling.{event_told};
+ghost use Rattle.plist_binwrite.specs.Pendings.{Accepts, CanTake, events_held, is_whole};
+ghost use Rattle.plist_tool.specs.Converting.{AreNoTree, FindsTree, IfOkIs, IsNoBinaryTree, IsNoNext, IsRefusedFor, IsStoppedFor, LeavesToValue, SendsAll, items_left, items_of};
 ghost use Rattle.plist_tool.specs.Printing.{CountsReadsOf, LeavesSource};
 ghost use Rattle.plist_tool.specs.declared.convert.Streamed.TheVariants.{NeedsValue, Sent};
 
@@ -27,6 +30,33 @@ pub enum Streamed {
     NeedsValue,
 }
 
+// Before the first event, makes room for as many different scalars as the file has objects: tables
+// that grow as they fill would cost a fifth of the time of a large file.
+fn make_room<S: Source>(reader: &BinaryReader<S>, pending: &mut Pending)
+    ensures events { events_held pending.new ≡ events_held pending.old }
+    ensures whole { is_whole pending.new ≡ is_whole pending.old }
+{
+    if pending.events().len() == 0 {
+        pending.expect_scalars(reader.object_count());
+    }
+}
+
+// Holds the event to which a reader went last, or tells why it can't come here.
+fn hold_event<S: Source>(
+    alloc: Global,
+    reader: &BinaryReader<S>,
+    pending: &mut Pending,
+) -> Result<Option<Error>, Error>
+    requires still { is_whole pending.old ≡ false }
+    ensures refused { IfOk result (IsNoNext pending.old (event_told reader.now)) }
+    ensures taken { IfOk result (Accepts pending.old (event_told reader.now) pending.new) }
+    ensures accepted { IfErr result (λ _. CanTake pending.old (event_told reader.now)) }
+    ensures memory { OnlyMemory result }
+{
+    make_room(reader, pending);
+    pending.offer(alloc, reader.event())
+}
+
 // Holds the events that a reader has still to give, where they are those of a tree.
 fn hold_events<S: Source>(
     alloc: Global,
@@ -47,7 +77,7 @@ fn hold_events<S: Source>(
         if pending.is_whole() {
             return Ok(None);
         }
-        match pending.offer(alloc, reader.event()) {
+        match hold_event(alloc, reader, &mut pending) {
             Ok(None) => {}
             Ok(Some(_)) => return Ok(None),
             Err(error) => return Err(error),
@@ -136,7 +166,9 @@ pub fn convert_file<R: Files>(rt: &R, alloc: Global, from: &str, to: &str) -> Re
 mod tests {
     use super::*;
     use crate::commands::run_words;
-    use crate::saved::{RECURSIVE, assert_holds, assert_missing, put, remove, temporary, words_of};
+    use crate::saved::{
+        RECURSIVE, assert_holds, assert_missing, in_memory, put, remove, temporary, words_of,
+    };
     use crate::trickle::{Trickle, Unreadable};
     use std::env::Env;
     use std::process::Abort;
@@ -158,12 +190,11 @@ mod tests {
         let mut words = words_of(rt.alloc(), "convert")?;
         words.push(temporary(rt, from)?)?;
         words.push(temporary(rt, to)?)?;
-        let mut out = Vec::new(rt.alloc());
-        let mut err = Vec::new(rt.alloc());
-        let status = run_words(rt, rt.alloc(), words.as_slice(), &mut out, &mut err);
-        assert_eq!(rt; err.as_slice(), said, "at {from}");
+        let mut streams = in_memory(rt.alloc());
+        let status = run_words(rt, rt.alloc(), words.as_slice(), &mut streams);
+        assert_eq!(rt; streams.err.as_slice(), said, "at {from}");
         assert_eq!(rt; status, u8::from(!said.is_empty()), "at {from}");
-        assert!(rt; out.is_empty(), "at {from}");
+        assert!(rt; streams.out.is_empty(), "at {from}");
         Ok(())
     }
 

@@ -52,7 +52,7 @@ pub fn keyed_file<R: Files, O: Write>(
 mod tests {
     use super::*;
     use crate::commands::run_words;
-    use crate::saved::{put, temporary, words_of};
+    use crate::saved::{in_memory, put, temporary, words_of};
     use std::env::Env;
     use std::process::Abort;
     use std::test::Fail;
@@ -83,11 +83,10 @@ mod tests {
         let mut words = words_of(rt.alloc(), "keyed")?;
         words.push(temporary(rt, name)?)?;
         words.push(String::from_str(rt.alloc(), key)?)?;
-        let mut out = Vec::new(rt.alloc());
-        let mut err = Vec::new(rt.alloc());
-        let status = run_words(rt, rt.alloc(), words.as_slice(), &mut out, &mut err);
-        assert_eq!(rt; err.as_slice(), said, "at {key} of {name}");
-        assert_eq!(rt; out.as_slice(), printed, "at {key} of {name}");
+        let mut streams = in_memory(rt.alloc());
+        let status = run_words(rt, rt.alloc(), words.as_slice(), &mut streams);
+        assert_eq!(rt; streams.err.as_slice(), said, "at {key} of {name}");
+        assert_eq!(rt; streams.out.as_slice(), printed, "at {key} of {name}");
         assert_eq!(rt; status, u8::from(!said.is_empty()), "at {key} of {name}");
         Ok(())
     }

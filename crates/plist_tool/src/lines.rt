@@ -57,7 +57,7 @@ fn push_byte(line: &mut Vec<u8>, byte: u8) -> Result<(), AllocError>
     line.extend_from_slice(&[b'\\', b'x', high, low])
 }
 
-// A text in runs of so many bytes, of which those without an escape go in one piece.
+// A text; one without an escape goes in one piece.
 fn push_text(line: &mut Vec<u8>, text: &[u8]) -> Result<(), AllocError>
     ensures { OnOk result (line.new.items ≡ line.old.items ++ text_of_bytes text.now) }
 {

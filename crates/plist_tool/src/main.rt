@@ -21,11 +21,12 @@ mod saved;
 mod trickle;
 mod values;
 
-use commands::run_words;
+use commands::{Streams, run_words};
 use failure::Failure;
 use messages::{Message, Messages};
 use plist_base::{Error, ErrorKind};
 use std::env::Env;
+use std::io::Write;
 use std::process::ExitCode;
 use std::rt::Files;
 use std::{env, io};
@@ -42,15 +43,16 @@ fn words_given<R: Env + AllocGlobal>(rt: &R) -> Result<Vec<String>, Error>
     }
 }
 
-// Runs the command of the words given, over standard output, to which a command sends its lines
-// many at a time.
-fn run<R: Files + Env + Print + AllocGlobal, E: Messages>(rt: &R, err: &mut E) -> Result<u8, Error>
+// Runs the command of the words given.
+fn run<R: Files + Env + AllocGlobal, O: Write, E: Messages>(
+    rt: &R,
+    to: &mut Streams<O, E>,
+) -> Result<u8, Error>
     ensures status { IfOk result (λ status. status ≤ 2) }
     ensures memory { OnlyMemory result }
 {
     let words = words_given(rt)?;
-    let mut out = io::writer(rt);
-    Ok(run_words(rt, rt.alloc(), words.as_slice(), &mut out, err))
+    Ok(run_words(rt, rt.alloc(), words.as_slice(), to))
 }
 
 // The exit code of a run: its status, or 1 where there was no memory to begin, which is then told.
@@ -67,8 +69,12 @@ fn exit_code<E: Messages>(answer: Result<u8, Error>, err: &mut E) -> ExitCode
     }
 }
 
+// Standard output, to which a command sends its lines many at a time, and standard error.
 fn main(rt: HostRuntime) -> ExitCode {
-    let mut err = rt.stderr();
-    let answer = run(&rt, &mut err);
-    exit_code(answer, &mut err)
+    let mut streams = Streams {
+        out: io::writer(&rt),
+        err: rt.stderr(),
+    };
+    let answer = run(&rt, &mut streams);
+    exit_code(answer, &mut streams.err)
 }

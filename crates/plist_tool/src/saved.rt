@@ -1,5 +1,6 @@
 //! Files and words for tests.
 
+use crate::commands::Streams;
 use std::alloc::{AllocError, Global};
 use std::env::Env;
 use std::process::Abort;
@@ -19,6 +20,14 @@ pub(crate) fn words_of(alloc: Global, line: &str) -> Result<Vec<String>, AllocEr
         words.push(String::from_str(alloc, word)?)?;
     }
     Ok(words)
+}
+
+/// Streams of which each holds what goes there.
+pub(crate) fn in_memory(alloc: Global) -> Streams<Vec<u8>, Vec<u8>> {
+    Streams {
+        out: Vec::new(alloc),
+        err: Vec::new(alloc),
+    }
 }
 
 /// A path in the folder for temporary files.

@@ -89,8 +89,9 @@ fn expect_calls(rt: &(impl Abort + AllocGlobal), places: &[u32], calls: u64) {
     assert_eq!(rt; source.into_inner().calls, calls, "{places:?}");
 }
 
-// Parts of a file in turn are read once each, two in one slot too. A third one of the slot takes the
-// place of the one that was filled first. What is wanted again then is read again, once, and kept.
+// Parts of a file in turn are read once each, two in one slot too. A third one of the slot takes
+// the place of the one that was filled first. What is wanted again then is read again, once, and
+// kept.
 #[test]
 fn keeps_its_windows(rt: HostRuntime) {
     expect_calls(&rt, &[0, 8_192, 5, 80_000, 8_200, 3, 80_005], 6);

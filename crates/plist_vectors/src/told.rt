@@ -48,7 +48,7 @@ fn told_words(rt: &(impl Abort + AllocGlobal), bytes: &[u8]) -> String {
 fn expect_told(rt: &(impl Abort + AllocGlobal), object: &str, table: u64, told: &str) {
     let body = must(rt, format!(in rt.alloc(); "a20101 {object} 080b"));
     let bytes = file(rt, body.as_str(), [1, 1], [2, 0, table]);
-    let expected = must(rt, format!(in rt.alloc(); " held:[2 {told} {told} end"));
+    let expected = must(rt, format!(in rt.alloc(); " array:2 {told} {told} end"));
     assert_eq!(rt;
         told_words(rt, bytes.as_slice()).as_str(),
         expected.as_str()

@@ -1,10 +1,9 @@
 -- The law of writers, at a builder.
-use Rattle.std.specs.Prelude.{◌≡◌, ◌++◌, ◌∷◌, [], true, false, Option, Some, None, Ok, Err}
+use Rattle.std.specs.Prelude.{◌≡◌, ◌++◌, ◌∷◌, [], true, false, Some, None, Ok, Err}
 use Rattle.std.proofs.Common.{inr}
 use Rattle.std.proofs.Common.{refl, sym, ◌∙◌, subst, true≢false}
-use Rattle.plist_base.specs.declared.error.EventKind.{EventKind}
-use Rattle.plist_base.specs.declared.error.EventKind.TheVariants as event_kind
-use Rattle.plist_base.specs.Events.{PlainEvent, StartArray, StartDictionary, EndCollection, Single, kind_of_event}
+use Rattle.std.proofs.lemmas.Option.{none-some, same_Some}
+use Rattle.plist_base.specs.Events.{PlainEvent, EndCollection, Single}
 use Rattle.plist_base.specs.Faults as faults
 use Rattle.plist_base.specs.Faults.{FaultKind, fault_nowhere, WriterFailed}
 use Rattle.plist_base.specs.Trees as trees
@@ -19,50 +18,27 @@ use Rattle.plist.specs.inner.Following.{refused-ends, taken-continues, accepted-
 abbrev IsOfPlace : FaultKind → Type 0
 IsOfPlace kind = MatchKind kind (Unit {0}) ⊥ ⊥
 
-some_kind : {A B : Type 0} (x : A) → None ≡ Some x → B
-some_kind x e = cc
-
 of_place : (kind other : FaultKind) → Some other ≡ Some kind → IsOfPlace other → IsOfPlace kind
-of_place kind other p x = subst IsOfPlace (same_kind other kind p) x
-  where
-    same_kind : (a b : FaultKind) → Some a ≡ Some b → a ≡ b
-    same_kind a b e = cc
+of_place kind other p x = subst IsOfPlace (same_Some other kind p) x
 
 value-place : (e : PlainEvent) (kind : FaultKind) → refusal_of_value e ≡ Some kind → IsOfPlace kind
-value-place (StartArray n) kind p = some_kind kind p
-value-place (StartDictionary n) kind p = some_kind kind p
-value-place EndCollection kind p = of_place kind _ p tt
-value-place (Single x) kind p = some_kind kind p
-
-no-key : (found : EventKind) (kind : FaultKind)
-    → Some (faults.UnexpectedEventType event_kind.DictionaryKeyOrEndCollection found) ≡ Some kind
-    → IsOfPlace kind
-no-key found kind p = of_place kind _ p tt
+value-place EndCollection kind p = of_place _ _ p tt
+value-place e kind p = absurd (none-some _ p)
 
 key-place : (e : PlainEvent) (kind : FaultKind) → refusal_of_key e ≡ Some kind → IsOfPlace kind
-key-place (StartArray n) kind p = no-key event_kind.StartArray kind p
-key-place (StartDictionary n) kind p = no-key event_kind.StartDictionary kind p
-key-place EndCollection kind p = some_kind kind p
-key-place (Single (trees.Boolean b)) kind p = no-key event_kind.Boolean kind p
-key-place (Single (trees.Data d)) kind p = no-key event_kind.Data kind p
-key-place (Single (trees.Date d)) kind p = no-key event_kind.Date kind p
-key-place (Single (trees.Integer z)) kind p = no-key event_kind.Integer kind p
-key-place (Single (trees.Real r)) kind p = no-key event_kind.Real kind p
-key-place (Single (trees.String s)) kind p = some_kind kind p
-key-place (Single (trees.Uid v)) kind p = no-key event_kind.Uid kind p
+key-place EndCollection kind p = absurd (none-some _ p)
+key-place (Single (trees.String s)) kind p = absurd (none-some _ p)
+key-place e kind p = of_place _ _ p tt
 
 -- what is refused is refused for its place
 pub refusal-place : (u : Unfinished) (e : PlainEvent) (kind : FaultKind)
     → refusal_of u e ≡ Some kind → IsOfPlace kind
-refusal-place NotBegun e kind p = value-place e kind p
-refusal-place (Within (InArray items) outer) e kind p = some_kind kind p
-refusal-place (Within (InDictionary pairs) outer) e kind p = key-place e kind p
-refusal-place (Within (AfterKey pairs key) outer) e kind p = value-place e kind p
+refusal-place NotBegun e kind p = value-place e _ p
+refusal-place (Within (InArray items) outer) e kind p = absurd (none-some _ p)
+refusal-place (Within (InDictionary pairs) outer) e kind p = key-place e _ p
+refusal-place (Within (AfterKey pairs key) outer) e kind p = value-place e _ p
 refusal-place (Complete tree) e kind p =
-    of_place kind (faults.ExpectedEndOfEventStream (kind_of_event e)) p tt
-
-not_none : {A : Type 0} (o : Option A) (x : A) → o ≡ Some x → o ≡ None → ⊥
-not_none o x p q = cc
+    of_place _ _ p tt
 
 -- what a refusal says of the event, and of what is held after it
 module _ (before after : Built) (event : PlainEvent) (unchanged : Type 0)
@@ -74,16 +50,16 @@ module _ (before after : Built) (event : PlainEvent) (unchanged : Type 0)
       → Refused
   in_place kind r s = (
     refused-ends before.unfinished event ok
-        (not_none (refusal_of before.unfinished event) kind r),
+        (λ n. none-some kind (sym n ∙ r)),
     s,
   )
 
   wanting : refusal_of before.unfinished event ≡ None → after.failed ≡ true
       → CanContinue (events_so_far before.unfinished) event × (after.failed ≡ true)
-  wanting r failed = (accepted-continues before.unfinished event ok r, failed)
+  wanting r failed = (accepted-continues _ _ ok r, failed)
 
   never : (kind : FaultKind) → refusal_of before.unfinished event ≡ Some kind → IsOfPlace kind
-  never kind r = refusal-place before.unfinished event kind r
+  never kind r = refusal-place _ _ _ r
 
   refusal_law : (kind : FaultKind) → IsRefused before event kind after unchanged
       → MatchKind kind Refused (CanContinue (events_so_far before.unfinished) event

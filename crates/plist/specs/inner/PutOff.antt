@@ -1,5 +1,5 @@
 -- Pairs of values whose comparison is put off.
-use Rattle.std.specs.Prelude.{◌≡◌, ◌≤◌, ℕ, ◌+◌, ◌-◌, Bool, true, false, ◌&&◌, Option, None, Some, List, [], ◌∷◌, ◌++◌, MatchOption}
+use Rattle.std.specs.Prelude.{◌≡◌, ◌≤◌, ℕ, ◌+◌, ◌-◌, Bool, true, false, ◌&&◌, Option, None, Some, List, [], ◌∷◌, ◌++◌, MatchOption, drop}
 use Rattle.std.specs.Map.{lookup, values_of}
 use Rattle.std.specs.Option.{option_eq}
 use Rattle.std.specs.Str.{bytes_eq}
@@ -71,6 +71,25 @@ abbrev pub ComparesPairs : (pairs others : List (List ℕ × Value)) → (before
 ComparesPairs pairs others before answer after =
     Compares (same_members (pair_trees pairs) (pair_trees others)) (weights (values_of pairs))
     before answer after
+
+-- the items from a place on, and what is put off, decide whether the arrays are equal
+abbrev pub ItemsLeft : (items others : List Value) → (start : Later) → (place : ℕ) → (now : Later)
+    → Type 0
+ItemsLeft items others start place now =
+    (same_items (item_trees (drop place items)) (item_trees (drop place others))
+    && are_same (waiting now)
+    ≡ same_items (item_trees items) (item_trees others) && are_same (waiting start))
+    × (to_compare (waiting now) + weights (drop place items)
+    ≤ to_compare (waiting start) + weights items)
+
+-- the pairs from a place on do, of dictionaries
+abbrev pub PairsLeft : (pairs others : List (List ℕ × Value)) → (start : Later) → (place : ℕ)
+    → (now : Later) → Type 0
+PairsLeft pairs others start place now =
+    (are_covered (drop place pairs) others && are_same (waiting now)
+    ≡ are_covered pairs others && are_same (waiting start))
+    × (to_compare (waiting now) + weights (values_of (drop place pairs))
+    ≤ to_compare (waiting start) + weights (values_of pairs))
 
 -- the pair that was put off last is taken, if one was
 abbrev pub TakesLast : (before : Later) → Option Pair → (after : Later) → Type 0

@@ -1,20 +1,16 @@
 -- That sameness is reflexive, symmetric and transitive, over all trees.
-use Rattle.std.proofs.Common.{◌≡◌, ℕ, Bool, true, false, not, ◌&&◌, ◌||◌, cond, Option, Some, None, is_some, List, [], ◌∷◌, refl, ap, sym, ◌↔◌}
+use Rattle.std.proofs.Common.{◌≡◌, ℕ, Bool, true, false, not, ◌||◌, cond, Option, Some, None, is_some, List, [], ◌∷◌, refl, ap, sym, ◌↔◌}
 use Rattle.std.specs.Str.{bytes_eq}
 use Rattle.std.specs.Cmp.{IsEquivalence, equiv, both_ways}
 use Rattle.std.proofs.lemmas.Slice.Eq.{bytes_eq-Decides}
 use Rattle.std.proofs.lemmas.Bool.Decides.{Decides-int_eq, Decides-eqb}
+use Rattle.std.proofs.lemmas.Option.{same_Some}
+use Rattle.std.proofs.lemmas.Bool.{and_parts, or_parts}
+use Rattle.std.specs.Cmp.Derive.{both_true}
 use Rattle.plist_base.specs.declared.real.RealBits.{RealBits}
 use Rattle.plist_base.specs.declared.real.RealBits.TheVariants.{Four, Eight}
 use Rattle.plist_base.specs.Trees.{Scalar, Boolean, Data, Date, Integer, Real, String, Uid, Tree, Leaf, Array, Dictionary, Trees, NoTrees, TreeAnd, Members, NoMembers, MemberAnd}
 use Rattle.plist.specs.Same.{AreSameAt, same_real, same_scalar, first_value, is_among, if_found, has_keys, same, same_items, is_covered}
-
-pub both : (a b : Bool) → a && b ≡ true → (a ≡ true) × (b ≡ true)
-both true b h = (refl, h)
-both false b h = absurd (cc)
-
-pub and_true : (a b : Bool) → a ≡ true → b ≡ true → a && b ≡ true
-and_true a b p q = rw (p, q) refl
 
 or_later : (a b : Bool) → a ≡ false → a || b ≡ true → b ≡ true
 or_later true b e h = absurd (cc)
@@ -26,10 +22,6 @@ or_second false b h = h
 
 or_none : (a b : Bool) → a ≡ false → b ≡ false → a || b ≡ false
 or_none a b p q = rw (p, q) refl
-
-neither : (a b : Bool) → a || b ≡ false → (a ≡ false) × (b ≡ false)
-neither true b h = absurd (cc)
-neither false b h = (refl, h)
 
 pub key_eq : (k l : List ℕ) → bytes_eq k l ≡ true → k ≡ l
 key_eq k l h = (bytes_eq-Decides k l).0 h
@@ -85,9 +77,6 @@ at_found : (o : Option Tree) (t : Tree) → AreSameAt (Some t) o → if_found o 
 at_found None t h = absurd h
 at_found (Some u) t h = h
 
-some_eq : (t u : Tree) → ◌≡◌ {A = Option Tree} (Some t) (Some u) → t ≡ u
-some_eq t u e = cc
-
 -- what is found in the first is found in the second
 covered_key : (b : Bool) (seen : List (List ℕ)) (l : List ℕ) (u : Tree) (ms ns : Members)
     (k : List ℕ) (t : Tree) → bytes_eq k l ≡ b
@@ -97,7 +86,7 @@ covered_key : (b : Bool) (seen : List (List ℕ)) (l : List ℕ) (u : Tree) (ms 
     → AreSameAt (Some t) (first_value k ns)) → AreSameAt (Some t) (first_value k ns)
 covered_key true seen l u ms ns k t is h fresh e later =
     let k_is : k ≡ l = key_eq k l is in
-    let t_is : u ≡ t = some_eq u t (rw is at e) in
+    let t_is : u ≡ t = same_Some u t (rw is at e) in
     let here = or_later (is_among l seen) (if_found (first_value l ns) (λ v. same u v))
     (rw k_is at fresh) h in
     rw (k_is, ← t_is) (found_at (first_value l ns) u here)
@@ -109,7 +98,7 @@ covered_at : (seen : List (List ℕ)) (ms ns : Members) (k : List ℕ) (t : Tree
     → AreSameAt (Some t) (first_value k ns)
 covered_at seen NoMembers ns k t h fresh e = absurd (cc)
 covered_at seen (MemberAnd l u ms) ns k t h fresh e =
-    let parts = both (is_among l seen || if_found (first_value l ns) (λ v. same u v))
+    let parts = and_parts (is_among l seen || if_found (first_value l ns) (λ v. same u v))
     (is_covered (l ∷ seen) ms ns) h in
     covered_key (bytes_eq k l) seen l u ms ns k t refl parts.0 fresh e
     (λ new rest. covered_at (l ∷ seen) ms ns k t parts.1 new rest)
@@ -126,7 +115,7 @@ keys_there : (ms ns : Members) (k : List ℕ) → has_keys ns ms ≡ true
     → is_some (first_value k ns) ≡ true → is_some (first_value k ms) ≡ true
 keys_there ms NoMembers k h e = absurd (cc)
 keys_there ms (MemberAnd l u ns) k h e =
-    let parts = both (is_some (first_value l ms)) (has_keys ns ms) h in
+    let parts = and_parts (is_some (first_value l ms)) (has_keys ns ms) h in
     key_there (bytes_eq k l) ms l u ns k refl parts.0 e (λ rest. keys_there ms ns k parts.1 rest)
 
 at_each : (a b : Option Tree) → ((t : Tree) → a ≡ Some t → AreSameAt (Some t) b)
@@ -139,7 +128,7 @@ at_each (Some t) b f g = f t refl
 pub dict_to : (ms ns : Members) → same (Dictionary ms) (Dictionary ns) ≡ true → (k : List ℕ)
     → AreSameAt (first_value k ms) (first_value k ns)
 dict_to ms ns h k =
-    let parts = both (is_covered [] ms ns) (has_keys ns ms) h in
+    let parts = and_parts (is_covered [] ms ns) (has_keys ns ms) h in
     at_each (first_value k ms) (first_value k ns) (λ t e. covered_at [] ms ns k t parts.0 refl e)
     (λ e. keys_there ms ns k parts.1 e)
 
@@ -157,11 +146,11 @@ covered_from : (seen : List (List ℕ)) (ms ns : Members)
     → AreSameAt (Some t) (first_value k ns)) → is_covered seen ms ns ≡ true
 covered_from seen NoMembers ns f = refl
 covered_from seen (MemberAnd l u ms) ns f =
-    and_true (is_among l seen || if_found (first_value l ns) (λ v. same u v))
-    (is_covered (l ∷ seen) ms ns)
+    both_true
     (covered_here (is_among l seen) seen l u ns refl (λ fresh. f l u fresh (rw (key_self l) refl)))
     (covered_from (l ∷ seen) ms ns
-    (λ k t fresh e. let n = neither (bytes_eq k l) (is_among k seen) fresh in f k t n.1 (rw n.0 e)))
+    (λ k t fresh e.
+    let n = or_parts (bytes_eq k l) (is_among k seen) fresh in f k t n.1 (rw n.0 e)))
 
 key_more : (b : Bool) (u : Tree) (o : Option Tree) → is_some o ≡ true
     → is_some (cond b (Some u) o) ≡ true
@@ -173,13 +162,13 @@ keys_from : (ms ns : Members)
     → has_keys ns ms ≡ true
 keys_from ms NoMembers f = refl
 keys_from ms (MemberAnd l u ns) f =
-    and_true (is_some (first_value l ms)) (has_keys ns ms) (f l (rw (key_self l) refl))
+    both_true (f l (rw (key_self l) refl))
     (keys_from ms ns (λ k e. f k (key_more (bytes_eq k l) u (first_value k ns) e)))
 
 at_some : (a b : Option Tree) (t : Tree) → AreSameAt a b → a ≡ Some t → AreSameAt (Some t) b
 at_some None b t h e = absurd (cc)
 at_some (Some u) None t h e = h
-at_some (Some u) (Some v) t h e = rw (← some_eq u t e) h
+at_some (Some u) (Some v) t h e = rw (← same_Some u t e) h
 
 at_is_some : (a b : Option Tree) → AreSameAt a b → is_some b ≡ true → is_some a ≡ true
 at_is_some None None h e = e
@@ -189,14 +178,14 @@ at_is_some (Some t) b h e = refl
 pub dict_from : (ms ns : Members) → ((k : List ℕ) → AreSameAt (first_value k ms) (first_value k ns))
     → same (Dictionary ms) (Dictionary ns) ≡ true
 dict_from ms ns f =
-    and_true (is_covered [] ms ns) (has_keys ns ms)
+    both_true
     (covered_from [] ms ns (λ k t fresh e. at_some (first_value k ms) (first_value k ns) t (f k) e))
     (keys_from ms ns (λ k e. at_is_some (first_value k ms) (first_value k ns) (f k) e))
 
 -- a first value found is one of the values
 found_go : (b : Bool) (l : List ℕ) (u : Tree) (o : Option Tree) (t : Tree) (P : Tree → Type 0)
     → cond b (Some u) o ≡ Some t → P u → (o ≡ Some t → P t) → P t
-found_go true l u o t P e here later = rw (← some_eq u t e) here
+found_go true l u o t P e here later = rw (← same_Some u t e) here
 found_go false l u o t P e here later = later e
 
 refl_at : (o : Option Tree) → ((t : Tree) → o ≡ Some t → same t t ≡ true) → AreSameAt o o
@@ -208,11 +197,11 @@ mutual
   refl_tree (Leaf x) = scalar_refl x
   refl_tree (Array ts) = refl_items ts
   refl_tree (Dictionary ms) =
-      dict_from ms ms (λ k. refl_at (first_value k ms) (λ t e. refl_found ms k t e))
+      dict_from ms ms (λ k. refl_at _ (λ t e. refl_found ms k t e))
 
   refl_items : (ts : Trees) → same_items ts ts ≡ true
   refl_items NoTrees = refl
-  refl_items (TreeAnd t ts) = and_true (same t t) (same_items ts ts) (refl_tree t) (refl_items ts)
+  refl_items (TreeAnd t ts) = both_true (refl_tree t) (refl_items ts)
 
   refl_found : (ms : Members) (k : List ℕ) (t : Tree) → first_value k ms ≡ Some t → same t t ≡ true
   refl_found NoMembers k t e = absurd (cc)
@@ -246,8 +235,8 @@ mutual
   sym_items NoTrees (TreeAnd u us) h = absurd (cc)
   sym_items (TreeAnd t ts) NoTrees h = absurd (cc)
   sym_items (TreeAnd t ts) (TreeAnd u us) h =
-      let p = both (same t u) (same_items ts us) h in
-      and_true (same u t) (same_items us ts) (sym_tree t u p.0) (sym_items ts us p.1)
+      let p = and_parts (same t u) (same_items ts us) h in
+      both_true (sym_tree t u p.0) (sym_items ts us p.1)
 
   sym_found : (ms : Members) (k : List ℕ) (t u : Tree) → first_value k ms ≡ Some t → same t u ≡ true
       → same u t ≡ true
@@ -281,9 +270,9 @@ mutual
   trans_items (TreeAnd t ts) NoTrees vs h g = absurd (cc)
   trans_items (TreeAnd t ts) (TreeAnd u us) NoTrees h g = absurd (cc)
   trans_items (TreeAnd t ts) (TreeAnd u us) (TreeAnd v vs) h g =
-      let p = both (same t u) (same_items ts us) h in
-      let q = both (same u v) (same_items us vs) g in
-      and_true (same t v) (same_items ts vs) (trans_tree t u v p.0 q.0)
+      let p = and_parts (same t u) (same_items ts us) h in
+      let q = and_parts (same u v) (same_items us vs) g in
+      both_true (trans_tree t u v p.0 q.0)
       (trans_items ts us vs p.1 q.1)
 
   trans_found : (ms : Members) (k : List ℕ) (t u v : Tree) → first_value k ms ≡ Some t

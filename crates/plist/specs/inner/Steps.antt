@@ -1,5 +1,5 @@
 -- How an event carries on what a builder holds, one collection at a time.
-use Rattle.std.specs.Prelude.{ℕ, List, [], ◌∷◌, ◌++◌, Option, Some, None, option_and_then}
+use Rattle.std.specs.Prelude.{ℕ, List, [], ◌∷◌, ◌++◌, Option, Some, None}
 use Rattle.plist_base.specs.Events.{PlainEvent, StartArray, StartDictionary, EndCollection, Single}
 use Rattle.plist_base.specs.Trees.{Tree, Leaf, Array, Dictionary, String, trees_of, members_of}
 use Rattle.plist.specs.LastWins.{Rows}
@@ -45,9 +45,3 @@ module _ (add : Rows → List ℕ → Tree → Rows) where
   carried_on (Within (InDictionary pairs) outer) event = in_dictionary pairs outer event
   carried_on (Within (AfterKey pairs key) outer) event = begun (AfterKey pairs key ∷ outer) event
   carried_on (Complete tree) event = None
-
-  -- what is held after these events, unless one can't come
-  abbrev pub carried_through : Unfinished → List PlainEvent → Option Unfinished
-  carried_through unfinished [] = Some unfinished
-  carried_through unfinished (event ∷ events) =
-      option_and_then (λ after. carried_through after events) (carried_on unfinished event)

@@ -16,10 +16,6 @@ abbrev pub IsNumberingOf : Held → (classes : List ℕ) → Numbering → Type 
 IsNumberingOf held classes numbering =
     IsPlan (plain_events held) (num_of classes) numbering.numbers numbering.firsts
 
--- each event has a class
-abbrev pub HasAllClasses : Classed → Type 0
-HasAllClasses given = length given.classes.now ≡ length (plain_events given.events.now)
-
 -- those given so far go by them
 abbrev pub IsPlanOf : Classed → Numbered → Type 0
 IsPlanOf given found =
@@ -27,6 +23,12 @@ IsPlanOf given found =
 
 abbrev pub HaveIdsOf : Classed → Numbered → Type 0
 HaveIdsOf given found = HaveIds given.classes.now found.ids found.firsts
+
+-- each event has a class, and the numbers given so far go by them
+pub record GoesSoFar (given : Classed) (found : Numbered) : Type 0 where
+  pub long : length given.classes.now ≡ length (plain_events given.events.now)
+  pub plan : IsPlanOf given found
+  pub ids : HaveIdsOf given found
 
 -- what was numbered stays so
 abbrev pub KeepsNumbers : (old new : Numbered) → Type 0

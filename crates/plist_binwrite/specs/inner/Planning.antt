@@ -1,5 +1,5 @@
 -- What is planned of the events of a tree.
-use Rattle.std.specs.Prelude.{◌≡◌, ℕ, List, length}
+use Rattle.std.specs.Prelude.{◌≡◌, ◌≤◌, ℕ, List, length}
 use Rattle.plist_binwrite.specs.declared.plan.Plan.{Plan}
 use Rattle.plist_binwrite.specs.declared.plan.Planned.{Planned}
 use Rattle.plist_base.specs.Events.{PlainEvent}
@@ -37,3 +37,8 @@ events_in file = plain_events file.events.now
 
 abbrev pub numbers_by : Planned → ℕ → ℕ
 numbers_by file = num_of (numbers_of file.plan.now)
+
+-- a file that can be put: its numbers are planned, and its references have a form
+pub record CanPut (file : Planned) : Type 0 where
+  pub planned : IsPlanned (events_in file) file.plan.now
+  pub width : file.width ≤ 8

@@ -71,7 +71,8 @@ AddsClasses old classes places new = new.items ≡ old.items ++ map (num_of clas
 -- the classes of the children of the collection that begins here
 abbrev pub AreClassesWithin : Held → (classes : List ℕ) → (place : ℕ) → Vec ℕ Global → Type 0
 AreClassesWithin held classes place found = (t : Tree) → Sits (plain_events held) t place
-    → found.items ≡ map (num_of classes) (keys_in t place) ++ map (num_of classes) (values_in t place)
+    → found.items ≡ map (num_of classes) (keys_in t place)
+    ++ map (num_of classes) (values_in t place)
 
 -- is it the start of a dictionary?
 abbrev pub is_dictionary : Kind → Bool
@@ -84,7 +85,8 @@ is_dictionary kind.End = false
 abbrev pub IsClassAt : Held → (classes : List ℕ) → (base : ℕ) → (seen : List Collection)
     → (place class : ℕ) → Type 0
 IsClassAt held classes base seen place class = (t : Tree) → Sits (plain_events held) t place
-    → IsIndexed (num_of classes) base (keys_seen seen) (is_dictionary (kind_of (held_at held place)))
+    → IsIndexed (num_of classes) base (keys_seen seen)
+    (is_dictionary (kind_of (held_at held place)))
     t place class
 
 -- from this place on each tree has its class, and before it the scalars have theirs

@@ -69,7 +69,7 @@ returns-clause-value g c =
 
 pub returns-clause-shown : goal.returns-clause-shown
 returns-clause-shown g c = λ coming shows.
-    let (events, held, is, ok, alike, last, fine) = c.loop-item.invariant.ran.holds in
+    let (events, is, fine, held) = c.loop-item.invariant.ran.holds in
     reads-whole _ _ _ _ (built_of c.loop-item.builder) c.finish.result
     (ap (option_map (item_by g.E.AnyEvent.plain)) c.in_default.is) fine
     (c.loop-item.invariant.reads coming shows) (shows _ _ _ c.next.ensures.steps)

@@ -1,12 +1,12 @@
 use Rattle.std.proofs.Common.{◌≡◌, ◌+◌, ℕ, suc, List, take, string_bytes, ap, ◌∙◌, arith}
 use Rattle.std.specs.Str.{bytes_eq}
-use Rattle.std.proofs.lemmas.List.{length-map}
+use Rattle.std.proofs.lemmas.List.{length-map, take_all}
 use Rattle.indexmap.specs.IndexMap.{insert_entry}
 use Rattle.plist_base.specs.Trees.{Tree}
 use Rattle.plist.specs.Views.{tree_of, tree_pairs}
 use Rattle.plist.proofs.TreeOf.{tree_pairs_insert}
 use Rattle.plist.proofs.SameTrees.{once-pairs}
-use Rattle.plist.proofs.Copies.{take-all, tree-at, next-last}
+use Rattle.plist.proofs.Copies.{tree-at, next-last}
 use Rattle.plist.proofs.copy.copy_pairs.Goals as goal
 
 pub loop-i-preserved : goal.loop-i-preserved
@@ -30,7 +30,7 @@ loop-i-preserved c =
 pub returns : goal.returns
 returns c =
     let ps = c.args.pairs.now in
-    c.loop-i.invariant ∙ take-all (tree_pairs ps) c.loop-i.i
+    c.loop-i.invariant ∙ take_all c.loop-i.i (tree_pairs ps)
     (omega (
       arith,
       c.loop-i-test.false,

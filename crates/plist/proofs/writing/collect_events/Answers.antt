@@ -9,7 +9,7 @@ use Rattle.plist.proofs.writing.collect_events.Goals as goal
 pub loop-item-init : goal.loop-item-init
 loop-item-init c =
     ap (λ l. l ++ map unhinted (remaining_events c.events-left.result)) c.new-held.ensures.events
-    ∙ ap (map unhinted) c.events-left.ensures.items
+    ∙ ap (map _) c.events-left.ensures.items
 
 pub loop-item-preserved : goal.loop-item-preserved
 loop-item-preserved c =

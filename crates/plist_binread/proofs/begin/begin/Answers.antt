@@ -1,8 +1,7 @@
-use Rattle.std.proofs.Common.{arith, ◌∙◌, sym, ap, refl, length, reverse}
+use Rattle.std.proofs.Common.{arith, ◌∙◌, sym, ap, refl, length}
 use Rattle.std.proofs.Math.ListN.{length-replicate}
 use Rattle.std.proofs.lemmas.Result.{err_from_is_err_and}
 use Rattle.plist_binread.specs.declared.table.Bounds.{Bounds}
-use Rattle.plist_binread.specs.Debt.{owed_by, entries_of}
 use Rattle.plist_binread.proofs.Opened.{IsOpen-none, cached_count-none, cached_count-empty}
 use Rattle.plist_binread.proofs.Begun.{known_unread, known_wanted, known_opens, known_begun}
 use Rattle.plist_binread.proofs.begin.begin.Goals as goal
@@ -11,16 +10,14 @@ pub returns-in_err-table-clause-pays : goal.returns-in_err-table-clause-pays
 returns-in_err-table-clause-pays g c =
     let p = err_from_is_err_and c.from_residual.result c.from_residual.ensures.1 in
     rw (p.1, p.2) (known_unread (g.S.Source.known c.args.source.now) c.in_err-table.field-0.0
-    (λ bytes. owed_by (entries_of bytes c.args.bounds.now)
-    (reverse c.args.walk.now.frames)) c.in_err-table.ensures.refused)
+    c.in_err-table.ensures.refused)
 
 pub returns-in_err-none-clause-pays : goal.returns-in_err-none-clause-pays
 returns-in_err-none-clause-pays g c =
     let p = err_from_is_err_and c.from_residual-in_err-none.result
     c.from_residual-in_err-none.ensures.1 in
     rw (p.1, p.2) (known_wanted (g.S.Source.known c.args.source.now) c.in_err-none.field-0.0
-    (λ bytes. owed_by (entries_of bytes c.args.bounds.now)
-    (reverse c.args.walk.now.frames)) c.in_err-none.ensures.memory)
+    c.in_err-none.ensures.memory)
 
 pub invariant_of-walk : goal.invariant_of-walk
 invariant_of-walk g c = record {
@@ -54,7 +51,7 @@ returns-clause-pays g c =
     } in
     known_begun (g.S.Source.known c.args.source.now) (g.S.Source.known c.read.new.source)
     c.in_ok-table.table bounds c.in_ok-none.none.items c.args.walk.now.frames
-    c.enter.new.walk.frames c.enter.result c.in_ok-table.ensures.unchanged
+    c.enter.new.walk.frames c.enter.result _ c.in_ok-table.ensures.unchanged
     c.requires.empty.1
     (ap length c.in_ok-none.ensures.tags ∙ length-replicate c.len.result 0 ∙ c.len.ensures
     ∙ c.in_ok-table.table.places.ok.0) refl refl c.in_ok-table.ensures.value

@@ -1,4 +1,4 @@
-use Rattle.plist_binread.proofs.Lending.{known_asks}
+use Rattle.plist_binread.proofs.Children.{known_asks}
 use Rattle.plist_binread.proofs.child.near_child.Goals as goal
 use Rattle.plist_binread.proofs.child.near_child.Goals.{then-asked-place+else-place-bounds+in_ok-asked, else-asked-place}
 

@@ -1,6 +1,6 @@
 use Rattle.std.proofs.Common.{◌++◌}
 use Rattle.plist_binread.specs.Object.{length_in}
-use Rattle.plist_binread.proofs.Lending.{array_lent}
+use Rattle.plist_binread.proofs.Children.{array_lent}
 use Rattle.plist_binread.proofs.lent.lent_array.Goals as goal
 
 pub returns-in-Ok-clause-lent : goal.returns-in-Ok-clause-lent

@@ -3,28 +3,28 @@ use Rattle.plist_binread.proofs.Markers.{layout-data, layout-text, layout-wide_t
 use Rattle.plist_binread.proofs.lent.lent_behind.Goals as goal
 
 pub returns-in-16-clause-lent : goal.returns-in-16-clause-lent
-returns-in-16-clause-lent c = λ more whole. rw c.in-16.is (c.lent_unsigned.ensures.lent more whole)
+returns-in-16-clause-lent c = rw c.in-16.is c.lent_unsigned.ensures.lent
 
 pub returns-in-17-clause-lent : goal.returns-in-17-clause-lent
-returns-in-17-clause-lent c = λ more whole. rw c.in-17.is (c.lent_unsigned-in-17.ensures.lent more whole)
+returns-in-17-clause-lent c = rw c.in-17.is c.lent_unsigned-in-17.ensures.lent
 
 pub returns-in-18-clause-lent : goal.returns-in-18-clause-lent
-returns-in-18-clause-lent c = λ more whole. rw c.in-18.is (c.lent_unsigned-in-18.ensures.lent more whole)
+returns-in-18-clause-lent c = rw c.in-18.is c.lent_unsigned-in-18.ensures.lent
 
 pub returns-in-19-clause-lent : goal.returns-in-19-clause-lent
-returns-in-19-clause-lent c = λ more whole. rw c.in-19.is (c.lent_signed.ensures.lent more whole)
+returns-in-19-clause-lent c = rw c.in-19.is c.lent_signed.ensures.lent
 
 pub returns-in-20-clause-lent : goal.returns-in-20-clause-lent
-returns-in-20-clause-lent c = λ more whole. rw c.in-20.is (c.lent_wide.ensures.lent more whole)
+returns-in-20-clause-lent c = rw c.in-20.is c.lent_wide.ensures.lent
 
 pub returns-in-34-clause-lent : goal.returns-in-34-clause-lent
-returns-in-34-clause-lent c = λ more whole. rw c.in-34.is (c.lent_short_real.ensures.lent more whole)
+returns-in-34-clause-lent c = rw c.in-34.is c.lent_short_real.ensures.lent
 
 pub returns-in-35-clause-lent : goal.returns-in-35-clause-lent
-returns-in-35-clause-lent c = λ more whole. rw c.in-35.is (c.lent_real.ensures.lent more whole)
+returns-in-35-clause-lent c = rw c.in-35.is c.lent_real.ensures.lent
 
 pub returns-in-51-clause-lent : goal.returns-in-51-clause-lent
-returns-in-51-clause-lent c = λ more whole. rw c.in-51.is (c.lent_date.ensures.lent more whole)
+returns-in-51-clause-lent c = rw c.in-51.is c.lent_date.ensures.lent
 
 pub returns-in-64-to-79-clause-lent : goal.returns-in-64-to-79-clause-lent
 returns-in-64-to-79-clause-lent c = λ more whole.

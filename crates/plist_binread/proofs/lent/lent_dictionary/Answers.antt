@@ -1,6 +1,6 @@
 use Rattle.std.proofs.Common.{◌++◌}
 use Rattle.plist_binread.specs.Object.{length_in}
-use Rattle.plist_binread.proofs.Lending.{dictionary_lent}
+use Rattle.plist_binread.proofs.Children.{dictionary_lent}
 use Rattle.plist_binread.proofs.lent.lent_dictionary.Goals as goal
 
 pub returns-in-Ok-clause-lent : goal.returns-in-Ok-clause-lent

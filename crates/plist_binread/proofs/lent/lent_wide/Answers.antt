@@ -15,7 +15,12 @@ returns-then-high-ne0-clause-lent c = λ more whole.
 pub returns-clause-lent : goal.returns-clause-lent
 returns-clause-lent c = λ more whole.
     let is : meaning_of_front 16 wide_integer (c.args.rest.now ++ more)
-    ≡ Scalar (Integer (pos c.number_from-low.result)) = wide_front c.args.rest.now more c.if-rest-lt16.false
-    ∙ rw (← c.number_from-high.ensures.value, ← c.number_from-low.ensures.value, c.if-high-ne0.false)
+    ≡ Scalar (Integer (pos c.number_from-low.result)) = wide_front c.args.rest.now more
+    c.if-rest-lt16.false
+    ∙ rw (
+      ← c.number_from-high.ensures.value,
+      ← c.number_from-low.ensures.value,
+      c.if-high-ne0.false,
+    )
     (wide_low c.number_from-low.result (omega arith)) in
     ap single_in is ∙ ap Some (sym c.tell.ensures)

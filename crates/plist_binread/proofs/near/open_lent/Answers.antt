@@ -1,61 +1,45 @@
-use Rattle.std.proofs.Common.{arith, sym, refl, ap, ◌∙◌, ◌+◌, ◌-◌, ℕ, cond, length, reverse, true}
+use Rattle.std.proofs.Common.{arith, sym, refl, ap, ◌∙◌, ◌+◌, ℕ, cond}
 use Rattle.std.proofs.lemmas.Bool.{false≢true}
 use Rattle.std.proofs.lemmas.List.{length-reverse}
-use Rattle.plist_binread.specs.Debt.{cached_count, entries_of, scalar_at}
-use Rattle.plist_binread.specs.Packed.{is_marked, unmarked, single}
+use Rattle.plist_binread.specs.Debt.{cached_count, scalar_at}
+use Rattle.plist_binread.specs.Packed.{unmarked, single}
 use Rattle.plist_binread.specs.Told.{event_in}
 use Rattle.plist_binread.proofs.Steps.{pays_scalar, pays_collection, collection_large, reverse-push, start_falls, steps_positive}
-use Rattle.plist_binread.proofs.Opened.{IsOpen-push, has_room, cached_count-keep, cached_count-mark}
+use Rattle.plist_binread.proofs.Opened.{IsOpen-push, not_open, has_room, cached_count-keep, cached_count-mark}
 use Rattle.plist_binread.proofs.Known.{as_many, known_kept, known_opened}
 use Rattle.plist_binread.proofs.near.open_lent.Goals as goal
 
 pub returns-in-Some-clause-counted : goal.returns-in-Some-clause-counted
 returns-in-Some-clause-counted c =
-    rw c.in-Scalar.is (cached_count-keep c.args.number c.in-Some.tag c.args.walk.now.tags.items
-    c.keep.new.tags.items c.requires.below (ap unmarked c.requires.new) c.in-Some.ensures.tag.0
-    c.keep.ensures.tags
+    rw c.in-Scalar.is (cached_count-keep _ c.in-Some.tag _ _ c.requires.below
+    (ap unmarked c.requires.new) c.in-Some.ensures.tag.0 c.keep.ensures.tags
     ∙ ap (λ b. cached_count c.args.walk.now.tags.items + cond {A = ℕ} b 1 0)
     (sym c.in-Some.ensures.small))
 
 pub returns-in-Some-clause-falls : goal.returns-in-Some-clause-falls
-returns-in-Some-clause-falls c =
-    λ _. omega (
-      arith,
-      steps_positive
-          (length c.args.walk.now.tags.items - length c.args.walk.now.frames),
-    )
+returns-in-Some-clause-falls c = λ _. omega (arith, steps_positive)
 
 pub returns-in-Some-clause-pays : goal.returns-in-Some-clause-pays
 returns-in-Some-clause-pays c = λ _ bytes bounds entry k is decoded.
     let scalar = rw c.in-Scalar.is at decoded in (
-      (λ at. pays_scalar (entries_of bytes bounds) c.args.walk.now.tags.items
-          (as_many bytes bounds _ _ _ k) _ _ at c.args.number entry
-          (sym (length-reverse c.args.walk.now.frames)) c.args.walk.now.path c.requires.below
-          is (sym (c.args.walk.now.path.marks c.args.number c.requires.below)
-          ∙ ap is_marked c.requires.new) (event_in c.args.last.now) scalar),
-      rw c.keep.ensures.contents (known_kept bytes bounds c.args.walk.now.tags.items
-          c.args.walk.now.contents.items _ k c.args.number c.in-Some.tag c.in-Some.content
-          c.keep.new.tags.items (event_in c.args.last.now) c.requires.below c.args.walk.now.same
-          c.in-Some.ensures.tag.0 c.keep.ensures.tags
-          c.in-Some.ensures.scalar
+      (λ at. pays_scalar _ _ (as_many bytes bounds _ _ _ k) _ _ at _ entry (sym (length-reverse _))
+          c.args.walk.now.path c.requires.below is
+          (not_open c.args.walk.now.path c.requires.below c.requires.new) _ scalar),
+      rw c.keep.ensures.contents (known_kept bytes bounds _ _ _ k _ c.in-Some.tag
+          c.in-Some.content _ (event_in c.args.last.now) c.requires.below c.args.walk.now.same
+          c.in-Some.ensures.tag.0 c.keep.ensures.tags c.in-Some.ensures.scalar
           (ap (λ found. single (scalar_at found)) is ∙ scalar)),
     )
 
 pub returns-in-None-clause-falls : goal.returns-in-None-clause-falls
-returns-in-None-clause-falls c =
-    λ _. omega (
-      arith,
-      steps_positive
-          (length c.args.walk.now.tags.items - length c.args.walk.now.frames),
-    )
+returns-in-None-clause-falls c = λ _. omega (arith, steps_positive)
 
 pub returns-in-None-clause-pays : goal.returns-in-None-clause-pays
 returns-in-None-clause-pays c = λ _ bytes bounds entry k is decoded. (
-  (λ at. pays_scalar (entries_of bytes bounds) c.args.walk.now.tags.items
-      (as_many bytes bounds _ _ _ k) _ _ at c.args.number entry
-      (sym (length-reverse c.args.walk.now.frames)) c.args.walk.now.path c.requires.below is
-      (sym (c.args.walk.now.path.marks c.args.number c.requires.below)
-      ∙ ap is_marked c.requires.new) (event_in c.args.last.now) (rw c.in-Scalar.is at decoded)),
+  (λ at. pays_scalar _ _ (as_many bytes bounds _ _ _ k) _ _ at _ entry (sym (length-reverse _))
+      c.args.walk.now.path c.requires.below is
+      (not_open c.args.walk.now.path c.requires.below c.requires.new) _
+      (rw c.in-Scalar.is at decoded)),
   k,
 )
 
@@ -64,14 +48,13 @@ invariant_of-walk-then-push_near c = record {
   same = c.args.walk.now.same ∙ sym c.mark.ensures.size;
   path = rw (reverse-push _ _ _ (c.push_near.ensures.pushed c.if-push_near.true))
       (IsOpen-push _ _ _ _ c.args.walk.now.path c.requires.below
-      (sym (c.args.walk.now.path.marks c.args.number c.requires.below)
-      ∙ ap is_marked c.requires.new) (ap unmarked c.requires.new) c.mark.ensures);
+      (not_open c.args.walk.now.path c.requires.below c.requires.new)
+      (ap unmarked c.requires.new) c.mark.ensures);
 }
 
 pub returns-then-push_near-clause-counted : goal.returns-then-push_near-clause-counted
 returns-then-push_near-clause-counted c =
-    let same = cached_count-mark c.args.number true c.args.walk.now.tags.items c.mark.new.tags.items
-    c.mark.ensures in
+    let same = cached_count-mark _ _ _ _ c.mark.ensures in
     rw c.in-Collection.is (omega (arith, same))
 
 pub returns-then-push_near-clause-kept : goal.returns-then-push_near-clause-kept
@@ -82,23 +65,18 @@ returns-then-push_near-clause-kept c = λ _ object lent small.
 pub returns-then-push_near-clause-falls : goal.returns-then-push_near-clause-falls
 returns-then-push_near-clause-falls c = λ _.
     rw (reverse-push _ _ _ (c.push_near.ensures.pushed c.if-push_near.true))
-    (start_falls (length c.args.walk.now.tags.items) _ (c.in-Collection.count - 0)
-    (reverse c.args.walk.now.frames) (sym (length-reverse c.args.walk.now.frames))
-    (has_room c.args.walk.now.tags.items c.args.number _ c.args.walk.now.path c.requires.below
-    (sym (c.args.walk.now.path.marks c.args.number c.requires.below)
-    ∙ ap is_marked c.requires.new)) (omega (arith, c.push_near.ensures.small)))
+    (start_falls _ _ _ _ (sym (length-reverse _)) (has_room _ _ _ c.args.walk.now.path
+    c.requires.below (not_open c.args.walk.now.path c.requires.below c.requires.new))
+    (omega (arith, c.push_near.ensures.small)))
 
 pub returns-then-push_near-clause-pays : goal.returns-then-push_near-clause-pays
 returns-then-push_near-clause-pays c = λ _ bytes bounds entry k is lent.
     let collection = rw c.in-Collection.is at lent in (
-      (λ at. pays_collection (entries_of bytes bounds) c.args.walk.now.tags.items
-          (as_many bytes bounds _ _ _ k) _ _ at c.args.number entry
-          (sym (length-reverse c.args.walk.now.frames)) c.args.walk.now.path c.requires.below
-          is (sym (c.args.walk.now.path.marks c.args.number c.requires.below)
-          ∙ ap is_marked c.requires.new) (event_in c.args.last.now) _ _
+      (λ at. pays_collection _ _ (as_many bytes bounds _ _ _ k) _ _ at _ entry
+          (sym (length-reverse _)) c.args.walk.now.path c.requires.below is
+          (not_open c.args.walk.now.path c.requires.below c.requires.new) _ _ _
           (reverse-push _ _ _ (c.push_near.ensures.pushed c.if-push_near.true)) refl refl
           collection),
       rw (reverse-push _ _ _ (c.push_near.ensures.pushed c.if-push_near.true))
-          (known_opened bytes bounds c.args.walk.now.tags.items c.args.walk.now.contents.items _ k
-          c.mark.new.tags.items _ (event_in c.args.last.now) entry c.mark.ensures is collection),
+          (known_opened bytes bounds _ _ _ k _ _ _ entry c.mark.ensures is collection),
     )

@@ -1,6 +1,6 @@
 use Rattle.std.proofs.Common.{arith}
 use Rattle.plist_binwrite.specs.Held.{plain_events, scalars_of, num_of}
-use Rattle.plist_binwrite.proofs.Holding.{long_shown}
+use Rattle.plist_binwrite.proofs.EntryLists.{long_shown}
 use Rattle.plist_binwrite.proofs.Owners.{owners}
 use Rattle.plist_binwrite.proofs.classes.classes_of.Goals as goal
 

@@ -1,8 +1,6 @@
-use Rattle.std.proofs.Common.{◌≡◌, sym, subst}
+use Rattle.std.proofs.Common.{◌≡◌}
 use Rattle.plist_base.specs.Faults.{Io, fault_of, fault_nowhere}
-use Rattle.plist_binwrite.specs.inner.Ending.{file_of}
 use Rattle.plist_binwrite.specs.Held.{plain_events}
-use Rattle.plist_binwrite.specs.Outlets.{IsOut}
 use Rattle.plist_binwrite.proofs.Outgoing.{from_empty, from_empty_front}
 use Rattle.plist_binwrite.proofs.Readied.{sends_end, with_objects}
 use Rattle.plist_binwrite.proofs.completion.send_file.Goals as goal
@@ -12,9 +10,8 @@ returns-in-Ok g c =
     sends_end g.W.Write.contents (plain_events c.args.events.now) c.args.ready.now c.args.out.now
     c.put_file.new.out c.finish.new.out c.as_slice.result.now c.finish.result
     c.finish.ensures.sent c.finish.ensures.front c.finish.ensures.fault
-    (λ objects d. subst (λ l. IsOut (g.W.Write.contents c.args.out.now)
-    (g.W.Write.contents c.put_file.new.out) l (file_of c.args.ready.now objects))
-    (sym c.as_slice.ensures.value) (from_empty c.requires.empty (c.in-Ok.ensures objects d)))
+    (λ objects d. rw c.as_slice.ensures.value
+    (from_empty c.requires.empty (c.in-Ok.ensures objects d)))
 
 pub returns-in-Err : goal.returns-in-Err
 returns-in-Err g c = (

@@ -1,10 +1,11 @@
 use Rattle.std.proofs.Common.{inl, inr, arith, refl, subst, true≢false}
+use Rattle.std.proofs.lemmas.Bool.{MatchBool-at_true, MatchBool-at_false}
 use Rattle.std.proofs.lemmas.Bool.Decides.{eqb_tells}
 use Rattle.plist_base.specs.Trees.{Dictionary}
 use Rattle.plist_binwrite.specs.Held.{plain_events}
 use Rattle.plist_binwrite.specs.Standing.{Sits}
-use Rattle.plist_binwrite.proofs.KeyStamps.{all_once, one_repeats, told_distinct, told_repeats}
-use Rattle.plist_binwrite.proofs.Skipping.{sits_within, size_positive}
+use Rattle.plist_binwrite.proofs.KeyStamps.{all_once, one_repeats}
+use Rattle.plist_binwrite.proofs.Skipping.{sits_in}
 use Rattle.plist_binwrite.proofs.Unhinted.{plain_shape}
 use Rattle.plist_binwrite.proofs.keys.repeats_key.Goals as goal
 
@@ -13,9 +14,8 @@ loop-place-preserved c = record {
   long = c.repeats_at.ensures.long;
   older = λ i h. omega (arith, c.repeats_at.ensures.newer i h);
   once = λ p ms lt s. elim (eqb_tells p c.loop-place.place) [
-    | inl e ↦ told_distinct c.repeats_at.result ms (c.repeats_at.ensures.repeats ms
+    | inl e ↦ MatchBool-at_false _ _ c.if-repeats_at.false (c.repeats_at.ensures.repeats ms
         (subst (λ k. Sits (plain_events c.args.events.now) (Dictionary ms) k) e.1 s))
-        c.if-repeats_at.false
     | inr d ↦ c.loop-place.invariant.once p ms (omega (arith, lt, d.1)) s
   ];
 }
@@ -27,20 +27,14 @@ returns-then-repeats_at-clause-once c = λ tree alike. (
       (plain_shape c.args.events.now tree alike)
       (omega (arith, c.loop-place-test.true, c.len-place-end.ensures))
       (c.repeats_at.ensures.begins c.if-repeats_at.true)
-      (λ ms s. told_repeats c.repeats_at.result ms (c.repeats_at.ensures.repeats ms s)
-      c.if-repeats_at.true) once)),
+      (λ ms s. MatchBool-at_true _ _ c.if-repeats_at.true (c.repeats_at.ensures.repeats ms s))
+      once)),
 )
 
 pub returns-clause-once : goal.returns-clause-once
 returns-clause-once c = λ tree alike. (
   (λ e. all_once (plain_events c.args.events.now) tree (plain_shape c.args.events.now tree alike)
       (λ p ms s. c.loop-place.invariant.once p ms
-      (omega (
-        arith,
-        sits_within s,
-        size_positive (Dictionary ms),
-        c.loop-place-test.false,
-        c.len-place-end.ensures,
-      )) s)),
+      (omega (arith, sits_in s, c.loop-place-test.false, c.len-place-end.ensures)) s)),
   (λ once. refl),
 )

@@ -1,25 +1,10 @@
-use Rattle.std.proofs.Common.{◌≡◌, ◌≢◌, inl, inr, ℕ, ◌+◌, ◌<◌, List, length, get_or, arith, sym, ap, ◌∙◌, subst, false}
-use Rattle.std.proofs.lemmas.Bool.Decides.{eqb_tells, leb_tells}
+use Rattle.std.proofs.Common.{◌≡◌, ◌≢◌, inl, inr, ℕ, ◌<◌, List, length, get_or, arith, below_more, ap, ◌∙◌, subst}
+use Rattle.std.proofs.lemmas.Bool.Decides.{leb_tells}
 use Rattle.std.proofs.lemmas.List.{length-replicate, get_or-replicate}
 use Rattle.std.proofs.Math.ListN.{get_or-eq_default}
-use Rattle.plist_binwrite.specs.Held.{plain_events, is_stop, event_at, num_of}
-use Rattle.plist_binwrite.specs.inner.Laying.{IsOrder, KeepsMarks}
-use Rattle.plist_base.specs.Events.{PlainEvent}
-use Rattle.plist_binwrite.specs.inner.Planning.{count_of, numbers_of}
+use Rattle.plist_binwrite.specs.inner.Planning.{count_of}
 use Rattle.plist_binwrite.proofs.Layouts.{order_none, in_order}
 use Rattle.plist_binwrite.proofs.layout.order_objects.Goals as goal
-
-marked_more : (es : List PlainEvent) (numbers old new : List ℕ) (place : ℕ) → KeepsMarks old new
-    → (is_stop (event_at es place) ≡ false → get_or new (num_of numbers place) 0 ≢ 0)
-    → ((p : ℕ) → p < place → is_stop (event_at es p) ≡ false → get_or old (num_of numbers p) 0 ≢ 0)
-    → (p : ℕ) → p < place + 1 → is_stop (event_at es p) ≡ false
-    → get_or new (num_of numbers p) 0 ≢ 0
-marked_more es numbers old new place keeps here before p h s =
-    elim (eqb_tells p place) [
-      | inl e ↦ subst (λ q. is_stop (event_at es q) ≡ false
-          → get_or new (num_of numbers q) 0 ≢ 0) (sym e.1) here s
-      | inr d ↦ keeps (num_of numbers p) (before p (omega (arith, d.1)) s)
-    ]
 
 all_zero : (xs : List ℕ) (n : ℕ) → length xs ≡ n → ((k : ℕ) → k < n → get_or xs k 0 ≡ 0) → (k : ℕ)
     → get_or xs k 0 ≡ 0
@@ -38,7 +23,7 @@ loop-place-init c =
     let n : c.len-count.result ≡ count_of c.args.plan.now = omega
     (arith, c.len-count.ensures) in
     let long : length places ≡ count = ap length zeros ∙ length-replicate count 0 in (
-      subst (λ l. IsOrder (count_of c.args.plan.now) l places) (sym c.new-order.ensures)
+      rw c.new-order.ensures
           (order_none (count_of c.args.plan.now) places (long ∙ n) (all_zero places count long
           (λ k h. ap (λ l. get_or l k 0) zeros ∙ get_or-replicate count k 0 0 h))),
       λ p h s. absurd (omega (arith, h)),
@@ -47,11 +32,8 @@ loop-place-init c =
 pub loop-place-preserved : goal.loop-place-preserved
 loop-place-preserved c = (
   c.in_ok-order_here.ensures.order,
-  marked_more (plain_events c.args.events.now)
-      (numbers_of c.args.plan.now) c.loop-place.layout.places c.order_here.new.layout.places
-      c.loop-place.place c.in_ok-order_here.ensures.keeps
-      (c.in_ok-order_here.ensures.marked (omega (arith, c.loop-place-test.true)))
-      c.loop-place.invariant.1,
+  below_more _ _ (λ p lt s. c.in_ok-order_here.ensures.keeps _ (c.loop-place.invariant.1 p lt s))
+      (c.in_ok-order_here.ensures.marked (omega (arith, c.loop-place-test.true))),
 )
 
 pub returns-clause-all : goal.returns-clause-all

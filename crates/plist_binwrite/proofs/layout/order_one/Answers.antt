@@ -1,5 +1,4 @@
-use Rattle.std.proofs.Common.{◌≡◌, ◌<◌, get_or, set, arith, sym, subst, refl}
-use Rattle.plist_binwrite.specs.inner.Laying.{IsOrder}
+use Rattle.std.proofs.Common.{◌≡◌, ◌<◌, get_or, arith, refl}
 use Rattle.plist_binwrite.specs.inner.Planning.{count_of}
 use Rattle.plist_binwrite.proofs.Layouts.{order_more}
 use Rattle.plist_binwrite.proofs.layout.order_one.Goals as goal
@@ -17,7 +16,5 @@ returns-clause-order c =
     ) in
     let zero : get_or c.args.layout.now.places c.number-number.result 0 ≡ 0 = omega
     (arith, c.get.ensures, c.if-get-ne0.false) in
-    subst (λ marks. IsOrder count c.push.new.self marks) (sym c.in_ok-set.ensures.set)
-    (subst (λ order. IsOrder count order (set c.args.layout.now.places k 1))
-    (sym c.in_ok-push.ensures.pushed)
+    rw c.in_ok-set.ensures.set (rw c.in_ok-push.ensures.pushed
     (order_more count c.args.layout.now.order c.args.layout.now.places k c.requires.order low zero))

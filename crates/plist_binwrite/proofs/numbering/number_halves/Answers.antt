@@ -10,11 +10,10 @@ walk-preserved c =
     let one = c.in_ok-number_one.ensures in
     let ns = c.number_one.new.found.numbers in
     let fs = c.number_one.new.found.firsts in (
-      one.ids,
-      one.plan,
-      keeps_then c.walk.invariant.2 one.keeps,
+      record { long = c.requires.so_far.long; plan = one.plan; ids = one.ids },
+      keeps_then c.walk.invariant.1 one.keeps,
       λ ms s. half_next c.args.values (IsNumbered c.walk.found.numbers c.walk.found.firsts)
-          (IsNumbered ns fs) (c.walk.invariant.3 ms s) one.keeps.numbered y.1
+          (IsNumbered ns fs) (c.walk.invariant.2 ms s) one.keeps.numbered y.1
           (subst (λ p. is_stop (event_at (plain_events c.args.given.now.events.now) p) ≡ false
           → IsNumbered ns fs p) c.half_of-place.ensures.half one.numbered)
           (λ t q. c.skip_pair-key.ensures.ends t q),
@@ -23,5 +22,5 @@ walk-preserved c =
 pub returns-clause-numbered : goal.returns-clause-numbered
 returns-clause-numbered c = λ ms s.
     half_stop c.args.values (IsNumbered c.walk.found.numbers c.walk.found.firsts)
-    (c.walk.invariant.3 ms s)
+    (c.walk.invariant.2 ms s)
     (elim (c.walk-test.ensures.no refl) [ inl h ↦ inl h | inr h ↦ inr (omega arith) ])

@@ -2,14 +2,13 @@ use Rattle.std.proofs.Common.{length, ◌-◌}
 use Rattle.plist_base.specs.Trees.{Trees}
 use Rattle.plist_binwrite.specs.Standing.{SitsItems}
 use Rattle.plist_binwrite.specs.Held.{plain_events, item_places, IsNumbered}
-use Rattle.plist_binwrite.specs.inner.Numbering.{HaveIdsOf, IsPlanOf, KeepsNumbers}
+use Rattle.plist_binwrite.specs.inner.Numbering.{GoesSoFar, KeepsNumbers}
 use Rattle.plist_binwrite.proofs.Numbered.{Items}
 use Rattle.plist_binwrite.proofs.numbering.number_items.Given as goal
 
 abbrev pub invariant-walk : goal.invariant-walk
 invariant-walk l =
-    HaveIdsOf l.given l.found
-    × IsPlanOf l.given l.found
+    GoesSoFar l.given l.found
     × KeepsNumbers l.initial.found l.found
     × ((ts : Trees) → SitsItems (plain_events l.given.events.now) ts l.from
     → Items (plain_events l.given.events.now) (IsNumbered l.found.numbers l.found.firsts) l.place

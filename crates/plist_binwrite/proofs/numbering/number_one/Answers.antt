@@ -1,12 +1,11 @@
-use Rattle.std.proofs.Common.{◌≡◌, ◌+◌, ◌<◌, ◌^◌, ◌∷◌, [], length, set, arith, get_or, ◌≤◌, refl, length-append, sym, ap, ◌∙◌, subst}
+use Rattle.std.proofs.Common.{◌≡◌, ◌+◌, ◌<◌, ◌^◌, ◌∷◌, [], length, set, arith, get_or, ◌≤◌, refl, length-append, ap, ◌∙◌}
 use Rattle.plist_binwrite.specs.Held.{plain_events, num_of}
-use Rattle.plist_binwrite.specs.inner.PlansBy.{IsPlan, HaveIds}
 use Rattle.plist_binwrite.proofs.PlannedBy.{plan_new}
 use Rattle.plist_binwrite.proofs.Ids.{ids_new, none_yet}
 use Rattle.plist_binwrite.proofs.numbering.number_one.Goals as goal
-use Rattle.plist_binwrite.proofs.numbering.number_one.Goals.{In_ok-set-3}
+use Rattle.plist_binwrite.proofs.numbering.number_one.Goals.{In_ok-set-3 as AllStored}
 
-small : (c : In_ok-set-3) → length c.args.found.now.firsts + 1 < 2 ^ 64
+small : (c : AllStored) → length c.args.found.now.firsts + 1 < 2 ^ 64
 small c =
     omega (
       arith,
@@ -15,17 +14,17 @@ small c =
       c.in_ok-push.ensures.small,
     )
 
-within : (c : In_ok-set-3) → c.args.place < length (plain_events c.args.given.now.events.now)
+within : (c : AllStored) → c.args.place < length (plain_events c.args.given.now.events.now)
 within c = (c.if-not-has_item.ensures.yes refl).0
 
-without : (c : In_ok-set-3)
+without : (c : AllStored)
     → length c.args.found.now.firsts
     ≤ get_or c.args.found.now.ids (num_of c.args.given.now.classes.now c.args.place) 0
 without c =
     let here = ap (λ k. get_or c.args.found.now.ids k 0) c.get-class.ensures in
     omega (arith, c.if-number-len.false, c.get-number.ensures, here, c.len-2.ensures)
 
-ids_are : (c : In_ok-set-3) → c.set-2.new.self
+ids_are : (c : AllStored) → c.set-2.new.self
     ≡ set c.args.found.now.ids (num_of c.args.given.now.classes.now c.args.place)
     (length c.args.found.now.firsts)
 ids_are c =
@@ -34,7 +33,7 @@ ids_are c =
     ∙ ap (set c.args.found.now.ids (num_of c.args.given.now.classes.now c.args.place))
     c.len-count.ensures
 
-numbers_are : (c : In_ok-set-3) → c.set-3.new.self
+numbers_are : (c : AllStored) → c.set-3.new.self
     ≡ set c.args.found.now.numbers c.args.place (length c.args.found.now.firsts)
 numbers_are c =
     c.in_ok-set-3.ensures.set ∙ ap (set c.args.found.now.numbers c.args.place) c.len-count.ensures
@@ -42,22 +41,19 @@ numbers_are c =
 pub returns-clause-ids : goal.returns-clause-ids
 returns-clause-ids c =
     let classes = c.args.given.now.classes.now in
-    subst (λ ids. HaveIds classes ids c.push.new.self) (sym (ids_are c))
-    (subst (λ firsts. HaveIds classes (set c.args.found.now.ids (num_of classes c.args.place)
-    (length c.args.found.now.firsts)) firsts) (sym c.in_ok-push.ensures.pushed)
-    (ids_new classes c.args.found.now.ids c.args.found.now.firsts c.requires.ids c.args.place
-    (omega (arith, within c, c.requires.long)) (small c) (without c)))
+    rw (ids_are c, c.in_ok-push.ensures.pushed) (ids_new classes c.args.found.now.ids
+    c.args.found.now.firsts c.requires.so_far.ids c.args.place
+    (omega (arith, within c, c.requires.so_far.long)) (small c) (without c))
 
 pub returns-clause-plan : goal.returns-clause-plan
 returns-clause-plan c =
     let es = plain_events c.args.given.now.events.now in
     let class = num_of c.args.given.now.classes.now in
-    subst (λ numbers. IsPlan es class numbers c.push.new.self) (sym (numbers_are c))
-    (subst (λ firsts. IsPlan es class (set c.args.found.now.numbers c.args.place
-    (length c.args.found.now.firsts)) firsts) (sym c.in_ok-push.ensures.pushed)
-    (plan_new es class c.args.found.now.numbers c.args.found.now.firsts c.args.place
-    c.requires.plan (within c) (omega (arith, c.if-get-len.false, c.get.ensures, c.len.ensures))
+    rw (numbers_are c, c.in_ok-push.ensures.pushed) (plan_new es class
+    c.args.found.now.numbers c.args.found.now.firsts c.args.place
+    c.requires.so_far.plan (within c)
+    (omega (arith, c.if-get-len.false, c.get.ensures, c.len.ensures))
     (small c) (c.if-not-has_item.ensures.yes refl).1
     (none_yet c.args.given.now.classes.now c.args.found.now.ids c.args.found.now.firsts
-    c.requires.ids c.args.place
-    (omega (arith, within c, c.requires.long)) (small c) (without c))))
+    c.requires.so_far.ids c.args.place
+    (omega (arith, within c, c.requires.so_far.long)) (small c) (without c)))

@@ -5,7 +5,8 @@ use Rattle.plist_binwrite.specs.Forms.{form, scalar_form}
 use Rattle.plist_binwrite.specs.Numberings.{obj_of}
 use Rattle.plist_binwrite.specs.Outlets.{PutsBytes}
 use Rattle.plist_binwrite.specs.inner.Putting.{numbers_by}
-use Rattle.plist_binwrite.proofs.Formed.{of_array, of_dictionary, of_nothing, of_scalar}
+use Rattle.plist_binwrite.proofs.Formed.{of_nothing, of_scalar}
+use Rattle.plist_binwrite.proofs.Placed.{of_array, of_dictionary}
 use Rattle.plist_binwrite.proofs.objects.put_object.Goals as goal
 
 pub returns-in-Array : goal.returns-in-Array

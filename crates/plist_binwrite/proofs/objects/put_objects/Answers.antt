@@ -1,9 +1,8 @@
-use Rattle.std.proofs.Common.{◌+◌, ◌<◌, length, get_or, drop, ap, sym, ◌∙◌, arith}
+use Rattle.std.proofs.Common.{◌<◌, length, ap, sym, ◌∙◌, arith}
 use Rattle.plist_binwrite.specs.Forms.{form}
 use Rattle.plist_binwrite.specs.Held.{num_of}
-use Rattle.plist_binwrite.specs.inner.Planning.{numbers_of, firsts_of}
+use Rattle.plist_binwrite.specs.inner.Planning.{firsts_of}
 use Rattle.plist_binwrite.specs.Written.{bodies}
-use Rattle.plist_binwrite.specs.inner.Putting.{events_in}
 use Rattle.plist_binwrite.proofs.Outgoing.{puts_none, puts_then, puts_front, puts_as, one_part, all_parts, last_part}
 use Rattle.plist_binwrite.proofs.Placing.{described}
 use Rattle.plist_binwrite.proofs.objects.put_objects.Goals as goal
@@ -21,12 +20,11 @@ pub loop-index-preserved : goal.loop-index-preserved
 loop-index-preserved g c = λ objects d.
     let order = c.args.order.now in
     let i = c.loop-index.index in
-    let within : i < length order = omega (arith, c.loop-index-test.true, c.len-index-end.ensures) in
-    let u = described (events_in c.args.file.now) c.requires.planned.class
-    (numbers_of c.args.file.now.plan.now) (firsts_of c.args.file.now.plan.now) objects
-    (get_or order i 0) c.first-first.result
+    let within : i < length order = omega (arith, c.loop-index-test.true, c.len-index-end.ensures)
+    in
+    let u = described _ _ _ _ objects _ _
     (c.first-first.ensures ∙ ap (num_of (firsts_of c.args.file.now.plan.now)) c.get.ensures)
-    (c.requires.order i within) c.requires.planned.whole c.requires.planned.numbered d in
+    (c.requires.order i within) c.requires.file.planned.whole c.requires.file.planned.numbered d in
     puts_as (one_part (λ k. form c.args.file.now.width (objects k)) order i within)
     (puts_then (c.loop-index.invariant objects d)
     (puts_as (ap (form c.args.file.now.width) (sym u.2)) (c.in-Ok.ensures u.0 u.1)))
@@ -35,15 +33,13 @@ pub returns-in-Err : goal.returns-in-Err
 returns-in-Err g c = λ objects d.
     let order = c.args.order.now in
     let i = c.loop-index.index in
-    let within : i < length order = omega (arith, c.loop-index-test.true, c.len-index-end.ensures) in
-    let u = described (events_in c.args.file.now) c.requires.planned.class
-    (numbers_of c.args.file.now.plan.now) (firsts_of c.args.file.now.plan.now) objects
-    (get_or order i 0) c.first-first.result
+    let within : i < length order = omega (arith, c.loop-index-test.true, c.len-index-end.ensures)
+    in
+    let u = described _ _ _ _ objects _ _
     (c.first-first.ensures ∙ ap (num_of (firsts_of c.args.file.now.plan.now)) c.get.ensures)
-    (c.requires.order i within) c.requires.planned.whole c.requires.planned.numbered d in
+    (c.requires.order i within) c.requires.file.planned.whole c.requires.file.planned.numbered d in
     puts_as (all_parts (λ k. form c.args.file.now.width (objects k)) order i within)
-    (puts_front (bodies c.args.file.now.width objects (drop (i + 1) order))
-    (puts_then (c.loop-index.invariant objects d)
+    (puts_front _ (puts_then (c.loop-index.invariant objects d)
     (puts_as (ap (form c.args.file.now.width) (sym u.2)) (c.in-Err.ensures u.0 u.1))))
 
 pub returns : goal.returns

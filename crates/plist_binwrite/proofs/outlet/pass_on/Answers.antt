@@ -16,5 +16,6 @@ returns-in-Ok-send g c =
 pub returns-in-Err-send : goal.returns-in-Err-send
 returns-in-Err-send g c =
     put_half _ _ _ c.args.room.now.items c.as_slice.result.now c.args.bytes.now
-    c.clear.new.self.items (fault_of c.in-Err-send.error) c.as_slice.ensures.value c.clear.ensures.items c.in-Ok.ensures.sent
+    c.clear.new.self.items (fault_of c.in-Err-send.error) c.as_slice.ensures.value
+    c.clear.ensures.items c.in-Ok.ensures.sent
     c.in-Err-send.ensures.fault c.in-Err-send.ensures.front

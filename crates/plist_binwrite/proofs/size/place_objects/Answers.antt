@@ -7,13 +7,13 @@ use Rattle.plist_binwrite.specs.Sizes.{TellsSize}
 use Rattle.plist_binwrite.specs.Written.{bodies, Laid}
 use Rattle.plist_binwrite.proofs.Layouts.{length-magic}
 use Rattle.plist_binwrite.proofs.Outgoing.{last_part}
-use Rattle.plist_binwrite.proofs.Placing.{Along, along_begin, along_next, any_at, sized, if_some_all}
+use Rattle.plist_binwrite.proofs.Placing.{along_begin, along_next, any_at, sized, if_some_all}
 use Rattle.plist_binwrite.proofs.size.place_objects.Goals as goal
 
 low : (count : ℕ) (order marks : List ℕ) (i k : ℕ) → IsOrder count order marks
     → k ≡ get_or order i 0 → i < length order → k < count
 low count order marks i k o is within =
-    subst (λ n. n < count) (sym is) (o.below _ (any_at order i within))
+    rw is (o.below _ (any_at order i within))
 
 pub loop-index-init : goal.loop-index-init
 loop-index-init c = (
@@ -45,22 +45,22 @@ loop-index-preserved c =
     let i = c.loop-index.index in
     let order = c.args.order.now in
     let k = get_or order i 0 in
-    let within : i < length order = omega (arith, c.loop-index-test.true, c.len-index-end.ensures) in
-    let below : k < count_of c.args.file.now.plan.now = c.requires.order.below _ (any_at order i within) in
+    let within : i < length order = omega (arith, c.loop-index-test.true, c.len-index-end.ensures)
+    in
+    let below : k < count_of c.args.file.now.plan.now = c.requires.order.below _
+    (any_at order i within) in
     let put : c.set.new.self ≡ set c.loop-index.places k c.place_or_none.result =
     c.in_ok-set.ensures.set
     ∙ ap (λ n. set c.loop-index.places n c.place_or_none.result) c.get-number.ensures in (
       ap length put ∙ length-set c.loop-index.places k c.place_or_none.result
           ∙ c.loop-index.invariant.0,
       λ objects d.
-          let z = sized (plain_events c.args.file.now.events.now) c.requires.planned.class
-          (numbers_of c.args.file.now.plan.now) (firsts_of c.args.file.now.plan.now) objects c.args.file.now.width k
-          c.first-first.result c.size_of_object-size.result
-          (c.first-first.ensures ∙ ap (num_of (firsts_of c.args.file.now.plan.now)) c.get-number.ensures) below
+          let z = sized _ _ _ _ objects _ k _ _
+          (c.first-first.ensures
+          ∙ ap (num_of (firsts_of c.args.file.now.plan.now)) c.get-number.ensures) below
           c.requires.planned.whole c.requires.planned.numbered d c.size_of_object-size.ensures.size
           c.size_of_object-size.ensures.writable in
-          subst (λ places. Along c.args.file.now.width objects order places (i + 1) c.add-at.result) (sym put)
-          (along_next c.args.file.now.width objects order c.loop-index.places i
+          rw put (along_next c.args.file.now.width objects order c.loop-index.places i
           c.place_or_none.result c.loop-index.at c.add-at.result within
           c.requires.order.distinct (omega (arith, below, c.loop-index.invariant.0)) z.1
           c.place_or_none.ensures (λ a told. c.add-at.ensures.sum a _ told z.0)
@@ -72,7 +72,8 @@ returns-clause-size c = λ objects d.
     let all = last_part c.args.order.now c.loop-index.index
     (omega (arith, c.loop-index-test.false, c.len-index-end.ensures))
     (omega (arith, c.loop-index.auto.index-end, c.len-index-end.ensures)) in
-    subst (TellsSize c.loop-index.at) (ap (λ l. 8 + length (bodies c.args.file.now.width objects l)) all
+    subst (TellsSize c.loop-index.at)
+    (ap (λ l. 8 + length (bodies c.args.file.now.width objects l)) all
     ∙ sym (length-magic (bodies c.args.file.now.width objects c.args.order.now)))
     (c.loop-index.invariant.1 objects d).told
 

@@ -7,5 +7,6 @@ use Rattle.plist_binwrite.proofs.size.place_objects.Given as goal
 
 abbrev pub invariant-loop-index : goal.invariant-loop-index
 invariant-loop-index l = (length l.places ≡ count_of l.file.plan.now)
-    × ((objects : ℕ → Object) → Describes (plain_events l.file.events.now) (numbers_of l.file.plan.now) objects
+    × ((objects : ℕ → Object)
+    → Describes (plain_events l.file.events.now) (numbers_of l.file.plan.now) objects
     → Along l.file.width objects l.order l.places l.index l.at)

@@ -1,32 +1,28 @@
-use Rattle.std.proofs.Common.{◌≡◌, refl, sym, ◌∙◌}
+use Rattle.std.proofs.Common.{refl, sym, ◌∙◌}
 use Rattle.plist_base.specs.Events.{event_of}
-use Rattle.plist_binwrite.specs.declared.kinds.Kind.TheVariants as kind
-use Rattle.plist_binwrite.specs.Held.{plain_events, kind_of, event_at, num_of}
+use Rattle.plist_binwrite.specs.Held.{num_of}
 use Rattle.plist_binwrite.specs.Forms.{IsWritable, IsWritableScalar}
 use Rattle.plist_binwrite.specs.Numberings.{obj_of}
 use Rattle.plist_binwrite.specs.Sizes.{TellsSize, scalar_size, object_size}
-use Rattle.plist_binwrite.specs.inner.Planning.{count_of, numbers_of}
+use Rattle.plist_binwrite.specs.inner.Planning.{numbers_of}
 use Rattle.plist_binwrite.proofs.SizePasses.{dictionary_told}
 use Rattle.plist_binwrite.proofs.Formed.{of_nothing, of_scalar}
-use Rattle.plist_binwrite.proofs.Placed.{collection_fits, no_kind}
+use Rattle.plist_binwrite.proofs.Placed.{collection_fits}
 use Rattle.plist_binwrite.proofs.Placing.{array_told, few_values}
 use Rattle.plist_binwrite.proofs.size.size_of_object.Goals as goal
 
 pub returns-in-Array-clause-size : goal.returns-in-Array-clause-size
 returns-in-Array-clause-size c = λ t s.
-    array_told c.length_of_collection.result c.args.file.now.width c.count_items-count.result t c.args.place
+    array_told c.length_of_collection.result c.args.file.now.width c.count_items-count.result t
+    c.args.place
     s (sym c.kind_at.ensures ∙ c.in-Array.is) c.count_items-count.ensures.value
     (c.length_of_collection.ensures.value 0xa)
 
 pub returns-in-Array-clause-writable : goal.returns-in-Array-clause-writable
 returns-in-Array-clause-writable c = λ t s.
-    let k : kind_of (event_at (plain_events c.args.file.now.events.now) c.args.place)
-    ≡ kind.Array = sym c.kind_at.ensures ∙ c.in-Array.is in
-    collection_fits (plain_events c.args.file.now.events.now) (numbers_of c.args.file.now.plan.now)
-    (count_of c.args.file.now.plan.now) c.args.file.now.width c.requires.planned.all c.requires.fits t c.args.place s
-    (λ e. no_kind _ kind.Array kind.Scalar k e (λ q. cc))
-    (few_values t c.args.place c.count_items-count.result s c.count_items-count.ensures.small
-    c.count_items-count.ensures.value)
+    collection_fits _ _ _ _ c.requires.planned.all c.requires.fits t _ s
+    (λ e. cc (c.kind_at.ensures, c.in-Array.is))
+    (few_values t _ _ s c.count_items-count.ensures.small c.count_items-count.ensures.value)
 
 pub returns-in-Dictionary-clause-size : goal.returns-in-Dictionary-clause-size
 returns-in-Dictionary-clause-size c = λ t s.
@@ -37,13 +33,10 @@ returns-in-Dictionary-clause-size c = λ t s.
 
 pub returns-in-Dictionary-clause-writable : goal.returns-in-Dictionary-clause-writable
 returns-in-Dictionary-clause-writable c = λ t s.
-    let k : kind_of (event_at (plain_events c.args.file.now.events.now) c.args.place)
-    ≡ kind.Dictionary = sym c.kind_at.ensures ∙ c.in-Dictionary.is in
-    collection_fits (plain_events c.args.file.now.events.now) (numbers_of c.args.file.now.plan.now)
-    (count_of c.args.file.now.plan.now) c.args.file.now.width c.requires.planned.all c.requires.fits t c.args.place s
-    (λ e. no_kind _ kind.Dictionary kind.Scalar k e (λ q. cc))
-    (few_values t c.args.place c.count_items-count-in-Dictionary.result s
-    c.count_items-count-in-Dictionary.ensures.small c.count_items-count-in-Dictionary.ensures.value)
+    collection_fits _ _ _ _ c.requires.planned.all c.requires.fits t _ s
+    (λ e. cc (c.kind_at.ensures, c.in-Dictionary.is))
+    (few_values t _ _ s c.count_items-count-in-Dictionary.ensures.small
+    c.count_items-count-in-Dictionary.ensures.value)
 
 pub returns-in-Some-clause-size : goal.returns-in-Some-clause-size
 returns-in-Some-clause-size c = λ t s.

@@ -9,11 +9,13 @@ loop-byte-init c = refl
 
 pub loop-byte-preserved : goal.loop-byte-preserved
 loop-byte-preserved c =
-    ap (λ so_far. so_far && nat_lt (get_or c.as_bytes-byte-items.result.now c.loop-byte.byte-index 0) 128)
+    ap (λ so_far. so_far && nat_lt
+    (get_or c.as_bytes-byte-items.result.now c.loop-byte.byte-index 0) 128)
     c.loop-byte.invariant
     ∙ sym (list_all_more (λ byte. nat_lt byte 128) _ c.loop-byte.byte-index 0 c.loop-byte-test.true)
 
 pub returns : goal.returns
 returns c = record {
-  value = c.loop-byte.invariant ∙ ap is_ascii_text (take_all c.loop-byte.byte-index _ c.loop-byte-test.false ∙ c.as_bytes-byte-items.ensures.value);
+  value = c.loop-byte.invariant ∙ ap is_ascii_text (take_all c.loop-byte.byte-index _
+      c.loop-byte-test.false ∙ c.as_bytes-byte-items.ensures.value);
 }

@@ -1,16 +1,13 @@
-use Rattle.std.proofs.Common.{subst, sym}
-use Rattle.plist_base.specs.DateTexts.{IsDateText}
 use Rattle.plist_data.proofs.callers.date_again.Goals as goal
 
 pub unreachable-requires : goal.unreachable-requires
 unreachable-requires c =
     c.in-Err-from_xml_format.ensures.printed c.args.date.now
-    (subst (λ t. IsDateText c.args.date.now t) (sym c.as_str.ensures.value) c.in-Ok.ensures.text)
+    (rw c.as_str.ensures.value c.in-Ok.ensures.text)
 
 pub returns-in-Ok-from_xml_format : goal.returns-in-Ok-from_xml_format
 returns-in-Ok-from_xml_format c =
     record {
       same = c.in-Ok-from_xml_format.ensures.printed c.args.date.now
-          (subst (λ t. IsDateText c.args.date.now t) (sym c.as_str.ensures.value)
-          c.in-Ok.ensures.text);
+          (rw c.as_str.ensures.value c.in-Ok.ensures.text);
     }

@@ -1,21 +1,13 @@
 use Rattle.std.proofs.Common.{sym, ◌∙◌}
 use Rattle.plist_reader.specs.Formats.{past_white, front}
-use Rattle.plist_reader.proofs.Fronts.{known-on, known-is, known-other, known-none, known-end}
+use Rattle.plist_reader.proofs.Fronts.{known-on, known-here, known-none, known-end}
 use Rattle.plist_reader.proofs.format.xml_place.Goals as goal
 
-pub returns-then-byte-eq60-clause-place : goal.returns-then-byte-eq60-clause-place
-returns-then-byte-eq60-clause-place g c =
-    known-is _ _ c.args.start c.white.place c.in-Ok-Some.byte c.white.invariant.same
+pub returns-then-not-is_white-clause-place : goal.returns-then-not-is_white-clause-place
+returns-then-not-is_white-clause-place g c =
+    known-here _ _ c.args.start c.white.place c.in-Ok-Some.byte _ c.white.invariant.same
     c.white-test.true (rw c.in-Ok-Some.field-0-is at c.in-Ok-Some.ensures.byte)
-    (sym c.is_white.ensures ∙ c.if-not-is_white.true) c.if-byte-eq60.true
-    c.white.invariant.passed
-
-pub returns-else-byte-eq60-clause-place : goal.returns-else-byte-eq60-clause-place
-returns-else-byte-eq60-clause-place g c =
-    known-other _ _ c.args.start c.white.place c.in-Ok-Some.byte c.white.invariant.same
-    c.white-test.true (rw c.in-Ok-Some.field-0-is at c.in-Ok-Some.ensures.byte)
-    (sym c.is_white.ensures ∙ c.if-not-is_white.true) c.if-byte-eq60.false
-    c.white.invariant.passed
+    (sym c.is_white.ensures ∙ c.if-not-is_white.true) c.then_some.ensures c.white.invariant.passed
 
 pub white-preserved : goal.white-preserved
 white-preserved g c = record {

@@ -1,29 +1,26 @@
 use Rattle.std.proofs.lemmas.Option.{slice_get_within}
 use Rattle.plist_binwrite.proofs.Keyed.{key_at, keys_kept, keys_apart, keys_grow}
-use Rattle.plist_share.specs.inner.Keys.{key_of, keys_seen}
+use Rattle.plist_share.specs.inner.Keys.{key_of}
 use Rattle.plist_share.proofs.Alike.{same, same_key, key_same}
 use Rattle.plist_share.proofs.classes.index_of.Goals as goal
 
 pub returns-in-Ok-clause-stored : goal.returns-in-Ok-clause-stored
 returns-in-Ok-clause-stored c =
-    let h = c.in-Ok.ensures.stored in key_at same key_of c.insert_full.new.self.keys c.in-Ok.index
-    c.args.collection h.0 (same_key c.args.collection h.0) h.1 h.2
+    let h = c.in-Ok.ensures.stored in
+    key_at same key_of c.insert_full.new.self.keys c.in-Ok.index c.args.collection h.0
+    (same_key c.args.collection h.0) h.1 h.2
 
 pub returns-in-Ok-clause-below : goal.returns-in-Ok-clause-below
 returns-in-Ok-clause-below c =
     let h = c.in-Ok.ensures.stored in
-    slice_get_within (keys_seen c.insert_full.new.self.keys) c.in-Ok.index
-    (key_of c.args.collection) (key_at same key_of c.insert_full.new.self.keys c.in-Ok.index
+    slice_get_within _ _ _ (key_at same key_of c.insert_full.new.self.keys c.in-Ok.index
     c.args.collection h.0 (same_key c.args.collection h.0) h.1 h.2)
 
 pub returns-in-Ok-clause-extends : goal.returns-in-Ok-clause-extends
 returns-in-Ok-clause-extends c = record {
-  keeps = keys_kept same key_of _ c.args.seen.now.keys c.insert_full.new.self.keys
-      c.args.collection c.in-Ok.ensures.keys;
-  grows = (keys_grow same key_of _ c.args.seen.now.keys c.insert_full.new.self.keys
-      c.args.collection c.in-Ok.ensures.keys).0;
+  keeps = keys_kept same key_of _ _ _ _ c.in-Ok.ensures.keys;
+  grows = (keys_grow same key_of _ _ _ _ c.in-Ok.ensures.keys).0;
 }
 
 pub returns-in-Ok-clause-apart : goal.returns-in-Ok-clause-apart
-returns-in-Ok-clause-apart c =
-    keys_apart same key_of key_same c.insert_full.new.self.keys c.in-Ok.ensures.unique
+returns-in-Ok-clause-apart c = keys_apart same key_of key_same _ c.in-Ok.ensures.unique

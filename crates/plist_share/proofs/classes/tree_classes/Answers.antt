@@ -1,8 +1,8 @@
 use Rattle.std.proofs.Common.{◌≡◌, length, arith, refl, sym, subst}
 use Rattle.plist_binwrite.specs.Held.{plain_events, num_of}
 use Rattle.plist_binwrite.specs.inner.Scalars.{AreApart}
-use Rattle.plist_binwrite.proofs.Skipping.{sits_within, size_positive}
-use Rattle.plist_share.specs.inner.Keys.{HaveFrom, keys_seen}
+use Rattle.plist_binwrite.proofs.Skipping.{sits_in}
+use Rattle.plist_share.specs.inner.Keys.{keys_seen}
 use Rattle.plist_share.proofs.Found.{found_classes, told_trees}
 use Rattle.plist_share.proofs.classes.tree_classes.Goals as goal
 
@@ -16,8 +16,7 @@ back-init c =
         num_of c.in_ok-scalars.scalars.of,
         owners,
         record {
-          behind = λ t p le s. absurd
-              (omega (arith, le, place, sits_within s, size_positive t));
+          behind = λ t p le s. absurd (omega (arith, le, place, sits_in s));
           before = λ p lt. refl;
           below = λ p lt. omega (arith, owners.below p lt);
         },
@@ -30,17 +29,10 @@ back-init c =
 
 pub returns-in-Some-clause-trees : goal.returns-in-Some-clause-trees
 returns-in-Some-clause-trees c =
-    let all : c.back.place ≡ 0 = omega (arith, c.back-test.false) in
-    let have = subst (HaveFrom c.args.events.now c.in_ok-scalars.scalars.count c.back.of
-    c.back.collections.keys) all c.back.invariant.have in
-    told_trees (plain_events c.args.events.now) have.0 (num_of c.back.of)
-    c.in_ok-scalars.scalars.count (keys_seen c.back.collections.keys) have.1 have.2
-    c.back.invariant.apart
+    let have = c.back.invariant.have in
+    told_trees have.1 have.2 (omega (arith, c.back-test.false)) c.back.invariant.apart
 
 pub returns-in-Some-clause-objects : goal.returns-in-Some-clause-objects
 returns-in-Some-clause-objects c =
-    let all : c.back.place ≡ 0 = omega (arith, c.back-test.false) in
-    let have = subst (HaveFrom c.args.events.now c.in_ok-scalars.scalars.count c.back.of
-    c.back.collections.keys) all c.back.invariant.have in
-    found_classes (plain_events c.args.events.now) have.0 (num_of c.back.of)
-    c.in_ok-scalars.scalars.count (keys_seen c.back.collections.keys) have.1 have.2
+    let have = c.back.invariant.have in
+    found_classes have.1 have.2 (omega (arith, c.back-test.false))

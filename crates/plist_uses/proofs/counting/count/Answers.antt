@@ -3,7 +3,7 @@ use Rattle.plist_uses.proofs.Counted.{begun, counted, all-counted}
 use Rattle.plist_uses.proofs.counting.count.Goals as goal
 
 pub loop-item-init : goal.loop-item-init
-loop-item-init g c = begun (to_come g.R.Source.known c.new-reader.result) c.none-counts.result c.none-counts.ensures
+loop-item-init g c = begun _ _ c.none-counts.ensures
 
 pub loop-item-preserved : goal.loop-item-preserved
 loop-item-preserved g c =

@@ -5,7 +5,7 @@ use Rattle.plist.proofs.dictionary.Pairs.retain.Goals.{then-keep, else-keep}
 use Rattle.plist.proofs.dictionary.Pairs.retain.Goals as goal
 
 pub loop-i-init : goal.loop-i-init
-loop-i-init g c = kept-none (Answers g.F.Fn c.args.keep) c.args.self.now
+loop-i-init g c = kept-none _ _
 
 pub loop-i-preserved : goal.loop-i-preserved
 loop-i-preserved g c =

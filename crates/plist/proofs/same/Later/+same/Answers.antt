@@ -1,17 +1,17 @@
-use Rattle.std.proofs.Common.{◌≡◌, ◌<◌, ◌≤◌, ◌+◌, ◌&&◌, suc, Some, false, length, drop, sym, subst, ap, ◌∙◌, arith}
+use Rattle.std.proofs.Common.{◌≡◌, ◌<◌, ◌≤◌, ◌&&◌, false, length, sym, ap, ◌∙◌, arith}
 use Rattle.std.specs.Str.{bytes_eq}
 use Rattle.std.specs.Map.{values_of}
-use Rattle.std.specs.Option.{option_eq}
 use Rattle.std.specs.Cmp.Lexicographic.{nat_list_eq_equiv}
+use Rattle.std.proofs.lemmas.List.{drop_all}
 use Rattle.std_collections.proofs.HashMapEq.{unequal_len}
 use Rattle.plist_base.specs.Trees.{Dictionary}
 use Rattle.plist.specs.declared.value.Value.{size-Value}
 use Rattle.plist.specs.inner.PairsSame.{as_map}
-use Rattle.plist.specs.inner.PutOff.{are_covered, are_same, same_values, to_compare, waiting}
+use Rattle.plist.specs.inner.PutOff.{are_covered, are_same, same_values, waiting}
 use Rattle.plist.specs.Same.{same, same_items}
 use Rattle.plist.specs.Views.{item_trees, pair_trees}
 use Rattle.plist.specs.inner.Weights.{weights}
-use Rattle.plist.proofs.Comparing.{at-once, covered-is-same, drop-all, goes-on, items-from, pairs-from, stops, values-from, weights-from}
+use Rattle.plist.proofs.Comparing.{at-once, covered-answers, covered-is-same, items-go, items-stop, pairs-go, pairs-lack, pairs-stop}
 use Rattle.plist.proofs.Depths.{no-deeper}
 use Rattle.plist.proofs.SameTrees.{same-dictionaries, unequal-lengths}
 use Rattle.plist.proofs.same.Later.+same.Goals as goal
@@ -27,14 +27,9 @@ compare_items-returns-then-len t c =
 
 pub compare_items-returns-then-not-compare : goal.compare_items-returns-then-not-compare
 compare_items-returns-then-not-compare t c =
-    let i = c.loop-i.i in
-    let vs = c.args.items.now.items in
-    let ws = c.args.others.now.items in
-    let v = c.index.result.now in
-    let w = c.index-in-loop-i.result.now in
-    let first : i < length vs = omega
+    let first : c.loop-i.i < length c.args.items.now.items = omega
     (arith, c.loop-i-test.true, c.len-i-end.ensures, c.args.items.now.ok.0) in
-    let second : i < length ws = omega (
+    let second : c.loop-i.i < length c.args.others.now.items = omega (
       arith,
       first,
       c.if-len.false,
@@ -43,32 +38,15 @@ compare_items-returns-then-not-compare t c =
       c.args.items.now.ok.0,
       c.args.others.now.ok.0,
     ) in
-    let before = are_same (waiting c.loop-i.self) in
-    let after = are_same (waiting c.compare.new.self) in
-    let more = weights-from vs i v first c.index.ensures in
-    let most = c.compare.ensures.1 in
-    let so = c.loop-i.invariant.1 in (
-      stops
-          (same_items (item_trees vs) (item_trees ws) && are_same (waiting c.args.self.now))
-          (same_values v w)
-          (same_items (item_trees (drop (suc i) vs)) (item_trees (drop (suc i) ws))) before after
-          (ap (λ s. s && before)
-          (sym (items-from vs ws i v w first second c.index.ensures c.index-in-loop-i.ensures))
-          ∙ c.loop-i.invariant.0)
-          (ap (λ b. b && after) (sym c.if-not-compare.true) ∙ c.compare.ensures.0),
-      omega (arith, more, most, so),
-    )
+    items-stop _ _ _ _ _ c.args.self.now c.loop-i.self _
+    c.compare.new.self first second c.index.ensures c.index-in-loop-i.ensures
+    c.loop-i.invariant c.compare.ensures c.if-not-compare.true
 
 pub compare_items-loop-i-preserved : goal.compare_items-loop-i-preserved
 compare_items-loop-i-preserved t c =
-    let i = c.loop-i.i in
-    let vs = c.args.items.now.items in
-    let ws = c.args.others.now.items in
-    let v = c.index.result.now in
-    let w = c.index-in-loop-i.result.now in
-    let first : i < length vs = omega
+    let first : c.loop-i.i < length c.args.items.now.items = omega
     (arith, c.loop-i-test.true, c.len-i-end.ensures, c.args.items.now.ok.0) in
-    let second : i < length ws = omega (
+    let second : c.loop-i.i < length c.args.others.now.items = omega (
       arith,
       first,
       c.if-len.false,
@@ -77,25 +55,9 @@ compare_items-loop-i-preserved t c =
       c.args.items.now.ok.0,
       c.args.others.now.ok.0,
     ) in
-    let one : suc i ≡ i + 1 = omega arith in
-    let before = are_same (waiting c.loop-i.self) in
-    let after = are_same (waiting c.compare.new.self) in
-    let all = same_items (item_trees vs) (item_trees ws) && are_same (waiting c.args.self.now) in
-    let more = weights-from vs i v first c.index.ensures in
-    let most = c.compare.ensures.1 in
-    let so = c.loop-i.invariant.1 in
-    subst (λ n.
-    (same_items (item_trees (drop n vs)) (item_trees (drop n ws)) && after ≡ all)
-    × (to_compare (waiting c.compare.new.self) + weights (drop n vs)
-    ≤ to_compare (waiting c.args.self.now) + weights vs)) one (
-      goes-on all (same_values v w)
-          (same_items (item_trees (drop (suc i) vs)) (item_trees (drop (suc i) ws))) before after
-          (ap (λ s. s && before)
-          (sym (items-from vs ws i v w first second c.index.ensures c.index-in-loop-i.ensures))
-          ∙ c.loop-i.invariant.0)
-          (ap (λ b. b && after) (sym c.if-not-compare.false) ∙ c.compare.ensures.0),
-      omega (arith, more, most, so),
-    )
+    items-go _ _ _ _ _ c.args.self.now c.loop-i.self _
+    c.compare.new.self first second c.index.ensures c.index-in-loop-i.ensures
+    c.loop-i.invariant c.compare.ensures c.if-not-compare.false
 
 pub compare_items-returns : goal.compare_items-returns
 compare_items-returns t c =
@@ -115,8 +77,8 @@ compare_items-returns t c =
     ) in
     let now = are_same (waiting c.loop-i.self) in
     let so = c.loop-i.invariant.1 in (
-      sym (λ j. same_items (item_trees (drop-all vs i past j))
-          (item_trees (drop-all ws i past-too j)) && now)
+      sym (λ j. same_items (item_trees (drop_all i vs past j))
+          (item_trees (drop_all i ws past-too j)) && now)
           ∙ c.loop-i.invariant.0,
       omega (arith, so),
     )
@@ -142,82 +104,30 @@ compare_pairs-compare-requires t c = (
 
 pub compare_pairs-returns-in-None : goal.compare_pairs-returns-in-None
 compare_pairs-returns-in-None t c =
-    let ps = c.args.pairs.now in
-    let qs = c.args.others.now in
-    let i = c.loop-i.i in
-    let k = c.pair_at.result.0.now in
-    let v = c.pair_at.result.1.now in
     let a = c.pair_count-count.ensures in
     let b = c.pair_count.ensures in
-    let count : length ps ≡ length qs = omega
-    (arith, c.if-count-pair_count.false, a.count, b.count) in
-    let start = are_same (waiting c.args.self.now) in
-    let now = are_same (waiting c.loop-i.self) in
-    let so = c.loop-i.invariant.1 in (
-      (λ j. (option_eq same_values (Some v) (c.in-None.ensures.value j)
-          && are_covered (drop (suc i) ps) qs) && now)
-          ∙ ap (λ s. s && now) (sym (pairs-from ps qs i k v c.pair_at.ensures))
-          ∙ c.loop-i.invariant.0
-          ∙ ap (λ s. s && start) (covered-is-same ps qs a.distinct b.distinct count),
-      omega (arith, so),
-    )
+    covered-answers _ _ a.distinct b.distinct
+    (omega (arith, c.if-count-pair_count.false, a.count, b.count)) c.args.self.now
+    false c.loop-i.self
+    (pairs-lack _ _ _ _ _ c.args.self.now c.loop-i.self c.pair_at.ensures
+    c.in-None.ensures.value c.loop-i.invariant)
 
 pub compare_pairs-returns-then-not-compare : goal.compare_pairs-returns-then-not-compare
 compare_pairs-returns-then-not-compare t c =
-    let ps = c.args.pairs.now in
-    let qs = c.args.others.now in
-    let i = c.loop-i.i in
-    let k = c.pair_at.result.0.now in
-    let v = c.pair_at.result.1.now in
-    let w = c.in-Some.other.now in
     let a = c.pair_count-count.ensures in
     let b = c.pair_count.ensures in
-    let count : length ps ≡ length qs = omega
-    (arith, c.if-count-pair_count.false, a.count, b.count) in
-    let start = are_same (waiting c.args.self.now) in
-    let before = are_same (waiting c.loop-i.self) in
-    let after = are_same (waiting c.compare.new.self) in
-    let more = values-from ps i k v c.pair_at.ensures in
-    let most = c.compare.ensures.1 in
-    let so = c.loop-i.invariant.1 in (
-      stops (are_covered ps qs && start) (same_values v w) (are_covered (drop (suc i) ps) qs) before
-          after
-          ((λ j. (option_eq same_values (Some v) (c.in-Some.ensures.value j)
-          && are_covered (drop (suc i) ps) qs) && before)
-          ∙ ap (λ s. s && before) (sym (pairs-from ps qs i k v c.pair_at.ensures))
-          ∙ c.loop-i.invariant.0)
-          (ap (λ b. b && after) (sym c.if-not-compare.true) ∙ c.compare.ensures.0)
-          ∙ ap (λ s. s && start) (covered-is-same ps qs a.distinct b.distinct count),
-      omega (arith, more, most, so),
-    )
+    covered-answers _ _ a.distinct b.distinct
+    (omega (arith, c.if-count-pair_count.false, a.count, b.count)) c.args.self.now
+    false c.compare.new.self
+    (pairs-stop _ _ _ _ _ _ c.args.self.now c.loop-i.self _ c.compare.new.self
+    c.pair_at.ensures c.in-Some.ensures.value c.loop-i.invariant
+    c.compare.ensures c.if-not-compare.true)
 
 pub compare_pairs-loop-i-preserved : goal.compare_pairs-loop-i-preserved
 compare_pairs-loop-i-preserved t c =
-    let ps = c.args.pairs.now in
-    let qs = c.args.others.now in
-    let i = c.loop-i.i in
-    let k = c.pair_at.result.0.now in
-    let v = c.pair_at.result.1.now in
-    let w = c.in-Some.other.now in
-    let one : suc i ≡ i + 1 = omega arith in
-    let before = are_same (waiting c.loop-i.self) in
-    let after = are_same (waiting c.compare.new.self) in
-    let all = are_covered ps qs && are_same (waiting c.args.self.now) in
-    let more = values-from ps i k v c.pair_at.ensures in
-    let most = c.compare.ensures.1 in
-    let so = c.loop-i.invariant.1 in
-    subst (λ n.
-    (are_covered (drop n ps) qs && after ≡ all)
-    × (to_compare (waiting c.compare.new.self) + weights (values_of (drop n ps))
-    ≤ to_compare (waiting c.args.self.now) + weights (values_of ps))) one (
-      goes-on all (same_values v w) (are_covered (drop (suc i) ps) qs) before after
-          ((λ j. (option_eq same_values (Some v) (c.in-Some.ensures.value j)
-          && are_covered (drop (suc i) ps) qs) && before)
-          ∙ ap (λ s. s && before) (sym (pairs-from ps qs i k v c.pair_at.ensures))
-          ∙ c.loop-i.invariant.0)
-          (ap (λ b. b && after) (sym c.if-not-compare.false) ∙ c.compare.ensures.0),
-      omega (arith, more, most, so),
-    )
+    pairs-go _ _ _ _ _ _ c.args.self.now c.loop-i.self _ c.compare.new.self
+    c.pair_at.ensures c.in-Some.ensures.value c.loop-i.invariant
+    c.compare.ensures c.if-not-compare.false
 
 pub compare_pairs-returns : goal.compare_pairs-returns
 compare_pairs-returns t c =
@@ -232,7 +142,7 @@ compare_pairs-returns t c =
     let start = are_same (waiting c.args.self.now) in
     let now = are_same (waiting c.loop-i.self) in
     let so = c.loop-i.invariant.1 in (
-      sym (λ j. are_covered (drop-all ps i past j) qs && now)
+      sym (λ j. are_covered (drop_all i ps past j) qs && now)
           ∙ c.loop-i.invariant.0
           ∙ ap (λ s. s && start) (covered-is-same ps qs a.distinct b.distinct count),
       omega (arith, so),

@@ -11,6 +11,7 @@ loop-value-smaller-in-None c =
 pub loop-value-smaller : goal.loop-value-smaller
 loop-value-smaller c =
     less-by-joining c.joined-left.result.items c.pop.new.self.items
-    c.in-Some-into_children.below.items c.loop-value.left.items c.in-Some-pop.value c.in-Some-into_children.ensures
+    c.in-Some-into_children.below.items c.loop-value.left.items c.in-Some-pop.value
+    c.in-Some-into_children.ensures
     (c.pop.ensures.items ∙ ap (λ o. c.pop.new.self.items ++ option_to_list o) c.in-Some-pop.is)
     c.joined-left.ensures

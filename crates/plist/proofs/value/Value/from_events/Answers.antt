@@ -1,4 +1,4 @@
-use Rattle.plist.specs.inner.OneTree.{one_tree}
+use Rattle.plist_base.proofs.OneTree.{one_tree}
 use Rattle.plist.proofs.Itself.{itself}
 use Rattle.plist.proofs.LastOnes.{are-last-values}
 use Rattle.plist.proofs.value.Value.from_events.Goals as goal

@@ -25,7 +25,7 @@ pub returns-clause-read : goal.returns-clause-read
 returns-clause-read g c = (
   c.new-2.result,
   c.new-2.ensures.items,
-  ap (to_come g.R.Source.known) c.new-2.ensures.inner
+  ap (to_come _) c.new-2.ensures.inner
       ∙ c.new.ensures.items,
   c.collect.ensures.value,
 )

@@ -7,7 +7,7 @@ use Rattle.plist.proofs.value.Value.to_writer_binary.Goals as goal
 
 pub complete-requires : goal.complete-requires
 complete-requires g c =
-    let tree = tree_of c.args.self.now in
+    let tree = tree_of _ in
     record {
       whole = whole_tree tree (plain_events c.in-Ok.events)
           (gathered_alike tree (plain_events c.in-Ok.events) c.in-Ok.ensures.events);
@@ -15,7 +15,7 @@ complete-requires g c =
 
 pub returns-in-Ok : goal.returns-in-Ok
 returns-in-Ok g c =
-    let tree = tree_of c.args.self.now in
+    let tree = tree_of _ in
     record {
       sent = sends_tree tree (plain_events c.in-Ok.events)
           (gathered_alike tree (plain_events c.in-Ok.events) c.in-Ok.ensures.events)

@@ -1,10 +1,10 @@
-use Rattle.std.proofs.Common.{◌+◌, arith, sym, ap, ◌∙◌, Some, Err}
+use Rattle.std.proofs.Common.{◌+◌, arith, sym, ap, ◌∙◌, Some}
 use Rattle.std.proofs.lemmas.Bool.{and_parts}
 use Rattle.plist_base.specs.Faults.{IncompleteComment}
-use Rattle.plist_ascii.specs.Taken.{taken}
 use Rattle.plist_ascii.specs.Comments.{block_comment}
-use Rattle.plist_ascii.proofs.Inside.{is_at_inside, kind_said}
-use Rattle.plist_ascii.proofs.Answering.{front_from}
+use Rattle.std.specs.Option.{option_map}
+use Rattle.plist_base.specs.Events.{event_of}
+use Rattle.plist_ascii.proofs.Answering.{answers_fault, front_from}
 use Rattle.plist_ascii.proofs.Comments.{closing_more, closing_closed, closing_open, Closing, rest_past, nothing_taken}
 use Rattle.plist_ascii.proofs.input.Input.block_comment.Goals as goal
 
@@ -18,8 +18,8 @@ returns-then-closes-clause-answers g c =
           let i = c.bytes.invariant.comment xs e in
           let t = some i.1 i.2 in
           front_from (block_comment xs) _ _ _ _ (i.0 + 1) xs
-          (closing_closed xs i.0 _ i.1 t.0 _ i.3 both.0 t.1 both.1)
-          (t.2 ∙ ap Some (rest_past xs i.0 _ i.1 t.0 _ i.3 t.1)) (omega (arith, place.0, i.4)),
+          (closing_closed i.3 t.1 both.0 both.1)
+          (t.2 ∙ ap Some (rest_past i.3 t.1)) (omega (arith, place.0, i.4)),
     )
 
 pub bytes-preserved : goal.bytes-preserved
@@ -35,7 +35,7 @@ bytes-preserved g c =
             i.0 + 1,
             t.0,
             t.2,
-            closing_more xs i.0 _ i.1 t.0 _ _ i.3 t.1
+            closing_more i.3 t.1
                 (sym c.closes.ensures ∙ c.if-closes.false) c.is_star-star.ensures,
             omega
                 (arith, place.0, i.4),
@@ -45,15 +45,12 @@ bytes-preserved g c =
 pub returns-in_default-clause-answers : goal.returns-in_default-clause-answers
 returns-in_default-clause-answers g c =
     let none = nothing_taken _ c.in_default.not-Some in
-    let place = rw none at c.in_ok-byte.ensures.place in (
-      is_at_inside _ IncompleteComment _ c.fault.ensures tt,
-      omega (arith, c.bytes.invariant.rises, place),
-      λ d xs e.
-          let i = c.bytes.invariant.comment xs e in
-          let t = c.in_ok-byte.ensures.none none i.1 i.2 in
-          front_from (block_comment xs) _ _ _ _ i.0 xs
-          (closing_open xs i.0 _ i.1 i.3 t.1
-          ∙ ap (λ k. taken i.0 (Err k)) (kind_said _ IncompleteComment _ c.fault.ensures))
-          (t.0 ∙ ap Some (let r : Closing xs i.0 c.bytes.star i.1 = i.3 in r.rest))
-          (omega (arith, place, i.4)),
-    )
+    let place = rw none at c.in_ok-byte.ensures.place in
+    answers_fault (option_map event_of) block_comment _ _ _ _ _ IncompleteComment c.fault.ensures tt
+    (omega (arith, c.bytes.invariant.rises, place))
+    (λ xs e.
+    let i = c.bytes.invariant.comment xs e in
+    let t = c.in_ok-byte.ensures.none none i.1 i.2 in
+    front_from (block_comment xs) _ _ _ _ i.0 xs (closing_open i.3 t.1)
+    (t.0 ∙ ap Some (let r : Closing xs i.0 c.bytes.star i.1 = i.3 in r.rest))
+    (omega (arith, place, i.4)))

@@ -8,5 +8,5 @@ returns-in-Ok-Some-clause-next g c =
 
 pub returns-in-Ok-None-clause-next : goal.returns-in-Ok-None-clause-next
 returns-in-Ok-None-clause-next g c =
-    λ xs e. end_looks _ _ _ _ _ xs c.requires.going c.requires.none
-    (rw c.in-Ok-None.field-0-is at c.in-Ok-None.ensures.byte) e
+    λ xs e. end_looks _ _ _ _ xs c.requires.going e _ c.requires.none
+    (rw c.in-Ok-None.field-0-is at c.in-Ok-None.ensures.byte)

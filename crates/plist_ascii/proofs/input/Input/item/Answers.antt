@@ -1,6 +1,4 @@
-use Rattle.std.proofs.Common.{◌≡◌, ◌+◌, suc, arith, [], sym, ◌∙◌, refl}
-use Rattle.plist_ascii.specs.Unread.{stops}
-use Rattle.plist_ascii.specs.Ascii.{token_by, lead_of}
+use Rattle.std.proofs.Common.{arith, [], sym, ◌∙◌, refl}
 use Rattle.plist_ascii.proofs.Unread.{ended_unread}
 use Rattle.plist_ascii.proofs.Items.{going_start, going_skip, going_event, going_fault, going_none, going_text}
 use Rattle.plist_base.specs.Faults.{kind_of, error_kind_of}
@@ -11,7 +9,7 @@ use Rattle.plist_ascii.proofs.input.Input.item.Goals.{then-is_from_outside, else
 pub returns-then-has_ended-clause-items : goal.returns-then-has_ended-clause-items
 returns-then-has_ended-clause-items g c = λ xs e.
     let none = ended_unread _ _ _ _ xs (sym c.has_ended.ensures ∙ c.if-has_ended.true) e in
-    (xs, e, (going_none _ xs _ xs _ (going_start _ xs _) none, none))
+    (xs, e, (going_none (going_start _ xs _) none, none))
 
 pub returns-in-Ok-Some-token_by-clause-items : goal.returns-in-Ok-Some-token_by-clause-items
 returns-in-Ok-Some-token_by-clause-items g c =
@@ -22,10 +20,7 @@ returns-in-Ok-Some-token_by-clause-items g c =
     let i = c.tokens.invariant.going xs e in
     let t = some i.0 i.1 in
     let k = a.1 t.0 t.2 in
-    let s : c.token_by.new.self.taken ≡ c.tokens.self.taken
-    + suc (token_by (stops c.args.stop) (lead_of c.in-Ok-Some.byte) c.in-Ok-Some.byte
-    t.0).bytes = omega (arith, k.2, place.0) in
-    (_, k.1, going_event _ xs _ i.0 _ _ t.0 i.2 t.1 _ s _ k.0)
+    (_, k.1, going_event i.2 t.1 place.0 k.2 k.0)
 
 pub tokens-preserved : goal.tokens-preserved
 tokens-preserved g c =
@@ -40,10 +35,7 @@ tokens-preserved g c =
           let i = c.tokens.invariant.going xs e in
           let t = some i.0 i.1 in
           let k = a.1 t.0 t.2 in
-          let s : c.token_by.new.self.taken ≡ c.tokens.self.taken
-          + suc (token_by (stops c.args.stop) (lead_of c.in-Ok-Some.byte) c.in-Ok-Some.byte
-          t.0).bytes = omega (arith, k.2, place.0) in
-          (_, k.1, going_skip _ xs _ i.0 _ _ t.0 i.2 t.1 _ s k.0);
+          (_, k.1, going_skip i.2 t.1 place.0 k.2 k.0);
     }
 
 pub returns-in-Ok-None-clause-items : goal.returns-in-Ok-None-clause-items
@@ -52,7 +44,7 @@ returns-in-Ok-None-clause-items g c =
     λ xs e.
     let i = c.tokens.invariant.going xs e in
     let t = none i.0 i.1 in
-    ([], c.end-in-Ok-None.ensures.unread, (going_none _ xs _ i.0 _ i.2 t.1, refl))
+    ([], c.end-in-Ok-None.ensures.unread, (going_none i.2 t.1, refl))
 
 pub returns-in-Err-token_by-clause-items : goal.returns-in-Err-token_by-clause-items
 returns-in-Err-token_by-clause-items g c =
@@ -71,20 +63,18 @@ returns-in-Err-token_by-clause-items g c =
             (sym c.is_from_outside.ensures ∙ w.if-is_from_outside.true) refl
             (λ m. (
               refl,
-              going_text _ xs _ i.0 _ _ t.0 i.2 t.1
+              going_text i.2 t.1
                   (c.in-Err-token_by.ensures.memory m t.0 t.2),
             )),
       )
       | else-is_from_outside w ↦ (
           let d = sym c.is_from_outside.ensures ∙ w.if-is_from_outside.false in
           let k = a.2 d t.0 t.2 in
-          let s : c.token_by.new.self.taken ≡ c.tokens.self.taken
-          + suc (token_by (stops c.args.stop) (lead_of c.in-Ok-Some.byte) c.in-Ok-Some.byte
-          t.0).bytes = omega (arith, k.2, place.0) in
           rw (w.self-is) (
             _,
             k.1,
             inside_gets (kind_of (error_kind_of error)) _ _ _ d
-                (going_fault _ xs _ i.0 _ _ t.0 i.2 t.1 _ s _ _ (inside_is error _ d a.0) k.0),
+                (going_fault i.2 t.1 place.0 k.2
+                (inside_is error _ d a.0) k.0),
           ))
     ]

@@ -1,9 +1,10 @@
-use Rattle.std.proofs.Common.{◌+◌, ◌++◌, [], arith, take, drop}
+use Rattle.std.proofs.lemmas.List.{drop-drop}
+use Rattle.std.proofs.Common.{ap, Some, ◌∙◌, ◌+◌, ◌++◌, [], arith, take, drop}
 use Rattle.std.proofs.lemmas.Result.{err_from_is_err_and}
 use Rattle.plist_ascii.specs.Taken.{run}
 use Rattle.plist_ascii.specs.Quoted.{ends_run}
 use Rattle.plist_ascii.specs.inner.Parts.{piece_bytes}
-use Rattle.plist_ascii.proofs.Quotes.{part_closes, part_goes_on, part_fails, drop_past_run, text_closes, text_goes_on}
+use Rattle.plist_ascii.proofs.Quotes.{part_ends, part_goes_on, text_closes, text_goes_on}
 use Rattle.plist_ascii.proofs.input.Input.part.Goals as goal
 
 pub returns-in-None-clause-value : goal.returns-in-None-clause-value
@@ -15,10 +16,9 @@ returns-in-None-clause-value g c = λ xs e.
     let t = ok (drop m xs) r.1 in (
       m + t.0,
       take m xs ++ [],
-      part_closes quote t.0 xs t.1,
+      part_ends quote t.0 xs _ t.1,
       text_closes _ _ _ r.0,
-      drop_past_run _
-          m t.0 xs t.2,
+      t.2 ∙ ap Some (drop-drop t.0 m xs),
       omega (arith, t.3, r.2),
     )
 
@@ -35,7 +35,7 @@ returns-in_ok-push_piece-in-Some-clause-value g c = λ xs e.
       take m xs ++ piece,
       part_goes_on quote t.0 xs piece t.1,
       text_goes_on _ _ _ _ _ r.0 c.in_ok-push_piece-in-Some.ensures.value,
-      drop_past_run _ m t.0 xs t.2,
+      t.2 ∙ ap Some (drop-drop t.0 m xs),
       omega (arith, t.3, r.2),
     )
 
@@ -53,8 +53,8 @@ returns-in_err-piece-clause-fault g c =
           let r = c.in_ok-take_run.ensures.value xs e in
           let t = b.2 d (drop m xs) r.1 in (
             m + t.0,
-            part_fails quote t.0 xs _ t.1,
-            drop_past_run _ m t.0 xs t.2,
+            part_ends quote t.0 xs _ t.1,
+            t.2 ∙ ap Some (drop-drop t.0 m xs),
             omega
                 (arith, t.3, r.2),
           ),

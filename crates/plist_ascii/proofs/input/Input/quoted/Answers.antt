@@ -1,8 +1,9 @@
-use Rattle.std.proofs.Common.{◌+◌, arith, ap, ◌∙◌, drop, Some}
+use Rattle.std.proofs.Common.{◌+◌, arith, ap, ◌∙◌, drop, sym, Some, Ok}
 use Rattle.std.proofs.lemmas.Result.{err_from_is_err_and}
+use Rattle.plist_ascii.specs.Taken.{taken}
 use Rattle.plist_ascii.specs.Quoted.{quoted}
 use Rattle.plist_ascii.proofs.Answering.{front_from}
-use Rattle.plist_ascii.proofs.Quotes.{quoting_more, quoting_closed, quoting_fails, quoting_rest}
+use Rattle.plist_ascii.proofs.Quotes.{quoting_more, quoting_ends, quoting_rest}
 use Rattle.plist_ascii.proofs.input.Input.quoted.Goals as goal
 
 pub returns-then-branch-clause-answers : goal.returns-then-branch-clause-answers
@@ -13,8 +14,8 @@ returns-then-branch-clause-answers g c =
           let i = c.parts.invariant.text xs e in
           let t = ok i.1 i.2 in
           front_from (quoted c.args.quote xs) _ _ _ _ (i.0 + t.0) xs
-          (quoting_closed _ xs _ i.0 t.0 i.1 t.1 _ i.3 t.2 t.3)
-          (t.4 ∙ ap Some (quoting_rest _ xs _ i.0 t.0 i.1 i.3)) (omega (arith, t.5, i.4)),
+          (quoting_ends i.3 t.0 _ t.2 ∙ ap (λ z. taken (i.0 + t.0) (Ok z)) (sym t.3))
+          (t.4 ∙ ap Some (quoting_rest i.3 t.0)) (omega (arith, t.5, i.4)),
     )
 
 pub parts-preserved : goal.parts-preserved
@@ -29,7 +30,7 @@ parts-preserved g c =
             i.0 + t.0,
             drop t.0 i.1,
             t.4,
-            quoting_more _ xs _ i.0 t.0 i.1 t.1 _ i.3 t.2 t.3,
+            quoting_more i.3 t.0 t.1 _ t.2 t.3,
             omega
                 (arith, t.5, i.4),
           );
@@ -46,6 +47,6 @@ returns-in_err-part-clause-answers g c =
           let i = c.parts.invariant.text xs e in
           let t = b.2 d i.1 i.2 in
           front_from (quoted c.args.quote xs) _ _ _ _ (i.0 + t.0) xs
-          (quoting_fails _ xs _ i.0 t.0 i.1 _ i.3 t.1)
-          (t.2 ∙ ap Some (quoting_rest _ xs _ i.0 t.0 i.1 i.3)) (omega (arith, t.3, i.4)),
+          (quoting_ends i.3 t.0 _ t.1)
+          (t.2 ∙ ap Some (quoting_rest i.3 t.0)) (omega (arith, t.3, i.4)),
     )

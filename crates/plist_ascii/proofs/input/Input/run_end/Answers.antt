@@ -2,7 +2,7 @@ use Rattle.std.proofs.Common.{suc, arith}
 use Rattle.std.proofs.lemmas.Result.{err_from_is_err_and}
 use Rattle.plist_ascii.specs.Escapes.{escape}
 use Rattle.plist_ascii.proofs.Quotes.{end_goes_on, end_fails, drop_past}
-use Rattle.plist_ascii.proofs.Escapes.{not_equal}
+use Rattle.std.proofs.lemmas.Bool.{ne_eqb}
 use Rattle.plist_ascii.proofs.input.Input.run_end.Goals as goal
 
 pub returns-clause-value : goal.returns-clause-value
@@ -11,7 +11,7 @@ returns-clause-value g c = λ xs e.
     let k = c.in_ok-piece.ensures.answers.1 t.0 t.2 in
     let p = c.in_ok-must_take.ensures.place in (
       suc (escape t.0).bytes,
-      end_goes_on _ _ xs t.0 _ t.1 (not_equal _ _ c.if-branch-quote.false)
+      end_goes_on _ _ xs t.0 _ t.1 (ne_eqb _ _ c.if-branch-quote.false)
           k.0,
       drop_past _ _ _ xs t.0 t.1 k.1,
       omega (arith, k.2, p.0),
@@ -38,7 +38,7 @@ returns-in_err-piece-clause-fault g c =
           let k = b.2 d t.0 t.2 in (
             suc (escape t.0).bytes,
             end_fails _ _ xs t.0 _ t.1
-                (not_equal _ _ c.if-branch-quote.false) k.0,
+                (ne_eqb _ _ c.if-branch-quote.false) k.0,
             drop_past _ _ _ xs t.0 t.1 k.1,
             omega
                 (arith, k.2, p.0),

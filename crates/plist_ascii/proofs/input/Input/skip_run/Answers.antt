@@ -19,7 +19,7 @@ loop-byte-preserved g c =
           let r = c.loop-byte.invariant.runs xs e in
           let t = some r.0 r.2 in
           let more = r.1 ++ c.in-Some._byte ∷ [] in
-          let on = runs_step _ xs _ _ r.0 t.0 r.1 more _ _ _ r.3 t.1 t.3 refl p.0 in
+          let on = runs_step r.3 {longer = more} t.1 t.3 refl p.0 in
           let k = (c.skip_at_hand.ensures.bytes t.0 t.2).1 in
-          (k.1, more ++ k.0, k.5, runs_part _ xs _ _ t.0 k.0 k.1 more _ _ _ on k.2 k.3 refl k.6);
+          (k.1, more ++ k.0, k.5, runs_part on k.0 k.1 k.2 k.3 refl k.6);
     }

@@ -1,91 +1,63 @@
-use Rattle.std.proofs.Common.{arith, ap, ◌∙◌, drop, Some, Ok, Err, refl}
+use Rattle.std.proofs.Common.{arith, ap, ◌∙◌, Some, Ok, Err, refl}
 use Rattle.std.specs.Option.{option_map}
 use Rattle.std.proofs.lemmas.Result.{err_from_is_err_and}
 use Rattle.plist_base.specs.Faults.{IncompleteComment}
 use Rattle.plist_base.specs.Events.{event_of}
-use Rattle.plist_ascii.specs.Taken.{taken}
 use Rattle.plist_ascii.specs.Texts.{bare}
 use Rattle.plist_ascii.specs.Comments.{slash, line_comment, block_comment}
 use Rattle.plist_ascii.specs.Unread.{stops}
-use Rattle.plist_ascii.proofs.Inside.{is_at_inside, kind_said}
-use Rattle.plist_ascii.proofs.Answering.{front_from, answers_past, answers_looked}
-use Rattle.plist_ascii.proofs.Escapes.{not_equal}
-use Rattle.plist_ascii.proofs.Slashes.{slash_bare, slash_open, slash_wants}
-use Rattle.plist_ascii.proofs.Unread.{first_splits, first_none}
+use Rattle.plist_ascii.proofs.Answering.{answers_fault, front_from, answers_past, answers_looked}
+use Rattle.plist_ascii.proofs.Slashes.{bare_looked, slash_wants}
+use Rattle.plist_ascii.proofs.Unread.{takes_looked, first_none}
 use Rattle.plist_ascii.proofs.input.Input.slash.Goals as goal
 
 pub returns-in-Some-eq47-clause-answers : goal.returns-in-Some-eq47-clause-answers
 returns-in-Some-eq47-clause-answers g c =
-    let next = c.in_ok-look.ensures.next in
     answers_past (option_map event_of) (slash (stops c.args.stop)) line_comment _ _ 47 _ _ _ _ _
-    (λ xs e. let h = next xs e in (
-      drop 1 xs,
-      first_splits _ 47 xs
-          (c.in-Some-eq47.is ∙ ap Some c.in-Some-eq47.field-0-test) h.1,
-      c.advance.ensures.next xs
-          h.0,
-    ))
+    (takes_looked _ _ _ _ _ (c.in-Some-eq47.is ∙ ap Some c.in-Some-eq47.field-0-test)
+    c.in_ok-look.ensures.next c.advance.ensures.next)
     (omega (arith, c.advance.ensures.place, c.look.ensures.place)) (λ ys. refl)
     c.line_comment.ensures.answers
 
 pub returns-in-Some-eq42-clause-answers : goal.returns-in-Some-eq42-clause-answers
 returns-in-Some-eq42-clause-answers g c =
-    let next = c.in_ok-look.ensures.next in
     answers_past (option_map event_of) (slash (stops c.args.stop)) block_comment _ _ 42 _ _ _ _ _
-    (λ xs e. let h = next xs e in (
-      drop 1 xs,
-      first_splits _ 42 xs
-          (c.in-Some-eq42.is ∙ ap Some c.in-Some-eq42.field-0-test) h.1,
-      c.advance-in-Some-eq42.ensures.next xs h.0,
-    ))
+    (takes_looked _ _ _ _ _ (c.in-Some-eq42.is ∙ ap Some c.in-Some-eq42.field-0-test)
+    c.in_ok-look.ensures.next c.advance-in-Some-eq42.ensures.next)
     (omega (arith, c.advance-in-Some-eq42.ensures.place, c.look.ensures.place)) (λ ys. refl)
     c.block_comment.ensures.answers
 
 pub returns-in_ok-event-in-Some-clause-answers : goal.returns-in_ok-event-in-Some-clause-answers
 returns-in_ok-event-in-Some-clause-answers g c =
-    let next = c.in_ok-look.ensures.next in
     answers_looked (λ e. Some (event_of e)) (slash (stops c.args.stop))
     (bare (stops c.args.stop) 47) _ _ _ _ _ _ (Ok c.in_ok-event-in-Some.event)
-    (λ xs e. let h = next xs e in (
-      h.0,
-      slash_bare _ _ xs _ (first_splits _ _ xs c.in-Some.is h.1)
-          (not_equal _ _ c.in-Some._byte-test.0.1) (not_equal _ _ c.in-Some._byte-test.1),
-    ))
+    (bare_looked _ _ _ _ _ c.in-Some.is c.in_ok-look.ensures.next c.in-Some._byte-test.0.1
+    c.in-Some._byte-test.1)
     c.look.ensures.place c.in_ok-event-in-Some.ensures.answers
 
 pub returns-in_err-event-in-Some-clause-answers : goal.returns-in_err-event-in-Some-clause-answers
 returns-in_err-event-in-Some-clause-answers g c =
-    let next = c.in_ok-look.ensures.next in
     let p = err_from_is_err_and c.from_residual-in_err-event-in-Some.result
     c.from_residual-in_err-event-in-Some.ensures.1 in
     rw (p.1, p.2) (answers_looked (λ e. Some (event_of e)) (slash (stops c.args.stop))
     (bare (stops c.args.stop) 47) _ _ _ _ _ _ (Err c.in_err-event-in-Some.field-0.0)
-    (λ xs e. let h = next xs e in (
-      h.0,
-      slash_bare _ _ xs _ (first_splits _ _ xs c.in-Some.is h.1)
-          (not_equal _ _ c.in-Some._byte-test.0.1) (not_equal _ _ c.in-Some._byte-test.1),
-    ))
+    (bare_looked _ _ _ _ _ c.in-Some.is c.in_ok-look.ensures.next c.in-Some._byte-test.0.1
+    c.in-Some._byte-test.1)
     c.look.ensures.place c.in_err-event-in-Some.ensures.answers)
 
 pub returns-in_err-event-in-Some-clause-memory : goal.returns-in_err-event-in-Some-clause-memory
 returns-in_err-event-in-Some-clause-memory g c =
-    let next = c.in_ok-look.ensures.next in
     let p = err_from_is_err_and c.from_residual-in_err-event-in-Some.result
     c.from_residual-in_err-event-in-Some.ensures.1 in
-    rw (p.1, p.2) (λ m xs e.
-    let h = next xs e in
-    slash_wants (stops c.args.stop) xs
-    (slash_bare (stops c.args.stop) _ xs _ (first_splits _ _ xs c.in-Some.is h.1)
-    (not_equal _ _ c.in-Some._byte-test.0.1) (not_equal _ _ c.in-Some._byte-test.1)))
+    rw (p.1, p.2) (λ m xs e. slash_wants (stops c.args.stop) xs
+    (bare_looked _ _ _ _ _ c.in-Some.is c.in_ok-look.ensures.next c.in-Some._byte-test.0.1
+    c.in-Some._byte-test.1 xs e).1)
 
 pub returns-in-None-clause-answers : goal.returns-in-None-clause-answers
 returns-in-None-clause-answers g c =
-    let next = rw c.in-None.is at c.in_ok-look.ensures.next in (
-      is_at_inside _ IncompleteComment _ c.fault.ensures tt,
-      omega (arith, c.look.ensures.place),
-      λ d xs e. let h = next xs e in
-          front_from (slash (stops c.args.stop) xs) _ _ _ _ 0 xs
-          (slash_open _ xs (first_none _ xs refl h.1)
-          ∙ ap (λ k. taken 0 (Err k)) (kind_said _ IncompleteComment _ c.fault.ensures)) h.0
-          (omega (arith, c.look.ensures.place)),
-    )
+    let next = rw c.in-None.is at c.in_ok-look.ensures.next in
+    answers_fault (option_map event_of) (slash (stops c.args.stop)) _ _ _ _ _ IncompleteComment
+    c.fault.ensures tt (omega (arith, c.look.ensures.place))
+    (λ xs e. let h = next xs e in
+    front_from (slash (stops c.args.stop) xs) _ _ _ _ 0 xs (rw (first_none _ xs refl h.1) refl)
+    h.0 (omega (arith, c.look.ensures.place)))

@@ -1,10 +1,9 @@
-use Rattle.plist_ascii.proofs.Unread.{first_splits, first_none}
+use Rattle.plist_ascii.proofs.Unread.{takes_looked, first_none}
 use Rattle.plist_ascii.proofs.input.Input.take.Goals as goal
 
 pub returns-in-Some-clause-some : goal.returns-in-Some-clause-some
 returns-in-Some-clause-some g c =
-    λ xs e. let h = c.in_ok-byte.ensures.next xs e in
-    (_, first_splits _ _ xs c.in-Some.is h.1, c.advance.ensures.next xs h.0)
+    takes_looked _ _ _ _ _ c.in-Some.is c.in_ok-byte.ensures.next c.advance.ensures.next
 
 pub returns-in-None-clause-none : goal.returns-in-None-clause-none
 returns-in-None-clause-none g c =

@@ -18,8 +18,7 @@ loop-byte-preserved g c =
       runs = λ xs e.
           let r = c.loop-byte.invariant.runs xs e in
           let t = some r.0 r.1 in
-          let on = runs_step _ xs _ _ r.0 t.0 _ _ _ _ _ r.2 t.1 t.3 c.in_ok-push_byte.ensures.value
-          p.0 in
+          let on = runs_step r.2 t.1 t.3 c.in_ok-push_byte.ensures.value p.0 in
           let k = c.in_ok-take_at_hand.ensures.value t.0 t.2 in
-          (k.1, k.5, runs_part _ xs _ _ t.0 k.0 k.1 _ _ _ _ on k.2 k.3 k.4 k.6);
+          (k.1, k.5, runs_part on k.0 k.1 k.2 k.3 k.4 k.6);
     }

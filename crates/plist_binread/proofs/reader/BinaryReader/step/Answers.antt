@@ -1,12 +1,10 @@
-use Rattle.std.proofs.Common.{arith, ◌^◌, length, reverse, refl, true, false, None}
+use Rattle.std.proofs.Common.{arith, ◌^◌, length, reverse, refl, false, None}
 use Rattle.plist_binread.specs.Told.{event_in}
-use Rattle.plist_binread.specs.Debt.{owed_by, entries_of}
 use Rattle.plist_binread.specs.Turning.{root_with}
 use Rattle.plist_binread.specs.Container.{head_of}
-use Rattle.plist_binread.specs.Unfolding.{items_of_file, until_fault}
 use Rattle.plist_binread.proofs.Steps.{fresh_falls}
-use Rattle.plist_binread.proofs.Taken.{closes-fresh, closes-ended, walking-ended, holds_head, holds_none, nested, lists, nothing_ended, first_fault, told_event, kept_told, kept_fault, kept_end, step_fault, step_nothing}
-use Rattle.plist_binread.proofs.Lending.{known_asks_nothing}
+use Rattle.plist_binread.proofs.Taken.{closes-fresh, closes-ended, walking-ended, holds_head, holds_none, nested, lists, nothing_ended, first_fault, kept_fault, kept_end, step_fault, step_nothing}
+use Rattle.plist_binread.proofs.Children.{known_asks_nothing}
 use Rattle.plist_binread.proofs.Failing.{from_within}
 use Rattle.plist_binread.proofs.Limiting.{given-within}
 use Rattle.plist_binread.proofs.reader.BinaryReader.step.Goals as goal
@@ -36,10 +34,7 @@ returns-in-Ended-clause-walks g c = record {
 pub returns-in-Ok-clause-walks : goal.returns-in-Ok-clause-walks
 returns-in-Ok-clause-walks g c = record {
   unchanged = c.begin.ensures.unchanged;
-  items = rw c.in-Fresh.is (told_event _ true items_of_file
-      (λ bytes. until_fault (owed_by (entries_of bytes c.begin.new.bounds)
-      (reverse c.begin.new.walk.frames))) c.in-Ok.event _ c.hold.ensures
-      c.in-Ok.ensures.pays);
+  items = rw c.in-Fresh.is c.in-Ok.ensures.pays;
   failures = c.in-Ok.ensures.failures;
   ended = λ e. (let f = c.in-Fresh.is in absurd (cc));
   ends = tt;
@@ -49,8 +44,7 @@ returns-in-Ok-clause-walks g c = record {
   head = holds_head _ c.begin.new.bounds c.begin.new.walk.tags.items c.begin.new.walk.contents.items
       (reverse c.begin.new.walk.frames) _ c.in-Ok.ensures.known;
   nested = nested _ _ _ c.begin.new.walk.path c.begin.ensures.bounded;
-  cached = rw c.in-Fresh.is (kept_told _ (λ bytes. root_with (head_of bytes))
-      c.begin.new.walk.tags.items c.in-Ok.event _ c.hold.ensures c.in-Ok.ensures.kept);
+  cached = rw c.in-Fresh.is c.in-Ok.ensures.kept;
   marked = c.begin.new.walk.path;
   counted = c.begin.ensures.counted;
   lists = lists _ _ _ _ c.begin.new.walk.path c.begin.new.walk.same c.begin.ensures.bounded;
@@ -64,9 +58,7 @@ pub returns-in-Err-clause-walks : goal.returns-in-Err-clause-walks
 returns-in-Err-clause-walks g c = record {
   unchanged = c.begin.ensures.unchanged;
   items = rw c.in-Fresh.is (first_fault _ c.args.self.now.bounds c.begin.new.bounds
-      c.args.self.now.walk.frames c.begin.new.walk.frames
-      (λ bytes. owed_by (entries_of bytes c.begin.new.bounds)
-      (reverse c.begin.new.walk.frames)) _ c.in-Err.ensures.pays);
+      c.args.self.now.walk.frames c.begin.new.walk.frames _ c.in-Err.ensures.pays);
   failures = c.in-Err.ensures.failures;
   ended = λ e. (let f = c.in-Fresh.is in absurd (cc));
   ends = refl;
@@ -111,7 +103,7 @@ pub returns-in-Some-Err-clause-walks : goal.returns-in-Some-Err-clause-walks
 returns-in-Some-Err-clause-walks g c = record {
   unchanged = c.advance.ensures.unchanged;
   items = rw c.in-Walking.is (step_fault _ c.args.self.now.bounds c.args.self.now.walk.frames
-      c.advance.new.walk.frames _
+      c.advance.new.walk.frames (event_in c.advance.new.last) _
       (rw c.in-Some-Err.field-0-is at c.in-Some-Err.ensures.pays));
   failures = rw c.in-Some-Err.field-0-is at c.in-Some-Err.ensures.failures;
   ended = λ e. (let f = c.in-Walking.is in absurd (cc));
@@ -136,7 +128,8 @@ pub returns-in-None-clause-walks : goal.returns-in-None-clause-walks
 returns-in-None-clause-walks g c = record {
   unchanged = c.advance.ensures.unchanged;
   items = rw c.in-Walking.is (step_nothing _ c.args.self.now.bounds
-      c.args.self.now.walk.frames c.advance.new.walk.frames c.in-None.ensures.pays);
+      c.args.self.now.walk.frames c.advance.new.walk.frames (event_in c.advance.new.last)
+      c.in-None.ensures.pays);
   failures = c.in-None.ensures.failures;
   ended = λ _. refl;
   ends = refl;

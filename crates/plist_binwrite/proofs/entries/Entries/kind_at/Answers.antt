@@ -1,29 +1,18 @@
-use Rattle.std.proofs.Common.{◌<◌, length, ap, ◌∙◌, arith}
+use Rattle.std.proofs.Common.{length, ap, ◌∙◌, arith}
 use Rattle.plist_binwrite.specs.inner.Columns.{kind_in}
 use Rattle.plist_binwrite.specs.inner.Entries.{entry_at}
-use Rattle.plist_binwrite.proofs.Columns.{long_entries, kind_read}
+use Rattle.plist_binwrite.proofs.Columns.{within_lists, kind_read}
 use Rattle.plist_binwrite.proofs.entries.Entries.kind_at.Goals as goal
 
 pub bounds-as_slice-place : goal.bounds-as_slice-place
 bounds-as_slice-place c =
-    let s = c.self.inside in
-    omega (
-      arith,
-      c.requires,
-      ap length c.as_slice.ensures.value,
-      long_entries s.kinds.items s.numbers c.self.invariant,
-      ap length c.self.view_is,
-    )
+    let within = within_lists _ _ _ c.self.invariant c.self.view_is _ c.requires in
+    omega (arith, ap length c.as_slice.ensures.value, within.0)
 
 pub returns : goal.returns
 returns c =
     let s = c.self.inside in
-    let within : c.args.place < length s.kinds.items = omega (
-      arith,
-      c.requires,
-      long_entries s.kinds.items s.numbers c.self.invariant,
-      ap length c.self.view_is,
-    ) in
     kind_read s.kinds.items s.numbers c.self.invariant c.as_slice.result.now
-    c.as_slice.ensures.value c.args.place _ within
+    c.as_slice.ensures.value c.args.place _
+    (within_lists _ _ _ c.self.invariant c.self.view_is _ c.requires).0
     ∙ ap (λ es. kind_in (entry_at es c.args.place)) c.self.view_is

@@ -1,18 +1,10 @@
-use Rattle.std.proofs.Common.{length, subst, ap, sym, arith}
+use Rattle.std.proofs.Common.{subst, sym}
 use Rattle.plist_binwrite.specs.inner.Columns.{entries_of, IsNumberAt}
-use Rattle.plist_binwrite.proofs.Columns.{long_entries, number_read}
+use Rattle.plist_binwrite.proofs.Columns.{within_lists, number_read}
 use Rattle.plist_binwrite.proofs.entries.Entries.number_at.Goals as goal
 
 pub get-requires : goal.get-requires
-get-requires c =
-    let s = c.self.inside in
-    omega (
-      arith,
-      c.requires,
-      long_entries s.kinds.items s.numbers c.self.invariant,
-      c.self.invariant,
-      ap length c.self.view_is,
-    )
+get-requires c = (within_lists _ _ _ c.self.invariant c.self.view_is _ c.requires).1
 
 pub returns : goal.returns
 returns c =

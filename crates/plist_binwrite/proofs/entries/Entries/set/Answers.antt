@@ -1,28 +1,14 @@
-use Rattle.std.proofs.Common.{length, ap, arith}
-use Rattle.plist_binwrite.proofs.Columns.{long_entries, replaced_entries}
+use Rattle.std.proofs.Common.{arith}
+use Rattle.plist_binwrite.proofs.Columns.{within_lists, replaced_entries}
 use Rattle.plist_binwrite.proofs.entries.Entries.set.Goals as goal
 
 pub set-requires : goal.set-requires
-set-requires c =
-    let s = c.self.inside in
-    omega (
-      arith,
-      c.requires,
-      long_entries s.kinds.items s.numbers c.self.invariant,
-      c.self.invariant,
-      ap length c.self.view_is,
-    )
+set-requires c = (within_lists _ _ _ c.self.invariant c.self.view_is _ c.requires).1
 
 pub index_mut-requires : goal.index_mut-requires
 index_mut-requires c =
-    let s = c.self.inside in
-    omega (
-      arith,
-      c.requires,
-      s.kinds.ok.0,
-      long_entries s.kinds.items s.numbers c.self.invariant,
-      ap length c.self.view_is,
-    )
+    let within = within_lists _ _ _ c.self.invariant c.self.view_is _ c.requires in
+    omega (arith, c.self.inside.kinds.ok.0, within.0)
 
 pub returns-clause-set : goal.returns-clause-set
 returns-clause-set c =

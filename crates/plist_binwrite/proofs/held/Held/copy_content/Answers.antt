@@ -1,7 +1,7 @@
 use Rattle.std.proofs.Common.{map, sym}
 use Rattle.plist_base.specs.Events.{EndCollection, event_of}
 use Rattle.plist_base.specs.inner.Hashing.{same, same_event}
-use Rattle.plist_binwrite.proofs.Holding.{found_kept, found_shown, either_few}
+use Rattle.plist_binwrite.proofs.HeldCalls.{found_kept, found_shown, either_few}
 use Rattle.plist_binwrite.proofs.Keyed.{key_found}
 use Rattle.plist_binwrite.proofs.held.Held.copy_content.Goals as goal
 

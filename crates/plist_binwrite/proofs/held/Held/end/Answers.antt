@@ -1,7 +1,7 @@
 use Rattle.std.proofs.Common.{map, arith}
 use Rattle.std.proofs.lemmas.List.{nil_from_length}
 use Rattle.plist_base.specs.Events.{event_of}
-use Rattle.plist_binwrite.proofs.Holding.{start_there, end_kept, end_shown, stray_kept, either_few}
+use Rattle.plist_binwrite.proofs.HeldCalls.{start_there, end_kept, end_shown, stray_kept, either_few}
 use Rattle.plist_binwrite.proofs.held.Held.end.Goals as goal
 
 pub close-requires : goal.close-requires

@@ -1,6 +1,6 @@
 use Rattle.std.proofs.Common.{length, map, ap, arith}
 use Rattle.plist_base.specs.Events.{event_of}
-use Rattle.plist_binwrite.proofs.Holding.{kept_nothing}
+use Rattle.plist_binwrite.proofs.KeptEntries.{kept_nothing}
 use Rattle.plist_binwrite.proofs.held.Held.new.Goals as goal
 
 pub invariant_of-result : goal.invariant_of-result

@@ -1,8 +1,8 @@
-use Rattle.std.proofs.Common.{◌≡◌, map, take, ap, ◌∙◌, arith, length}
+use Rattle.std.proofs.Common.{◌≡◌, take, ap, ◌∙◌, arith, length}
 use Rattle.plist_base.specs.Events.{event_of}
 use Rattle.plist_base.specs.inner.Hashing.{same, same_event}
 use Rattle.plist_binwrite.proofs.Equal.{event_same}
-use Rattle.plist_binwrite.proofs.Holding.{scalar_kept, scalar_shown}
+use Rattle.plist_binwrite.proofs.HeldCalls.{scalar_kept, scalar_shown}
 use Rattle.plist_binwrite.proofs.Keyed.{key_at, key_came, keys_apart, keys_back, keys_more}
 use Rattle.plist_binwrite.proofs.held.Held.scalar.Goals as goal
 
@@ -13,9 +13,9 @@ invariant_of-self c =
     let h = c.in-Ok.ensures.stored in
     let m = keys_more same event_of _ s.scalars.keys keys c.args.event c.in-Ok.ensures.keys in
     record {
-      kept = scalar_kept (map event_of s.scalars.keys) m.0 (map event_of keys) s.entries
-          s.begun.items s.kept m.1 (keys_apart same event_of event_same keys c.in-Ok.ensures.unique)
-          c.in-Ok.place (event_of c.args.event) c.push.new.self c.requires
+      kept = scalar_kept _ m.0 _ _ _ s.kept m.1
+          (keys_apart same event_of event_same keys c.in-Ok.ensures.unique) c.in-Ok.place
+          (event_of c.args.event) c.push.new.self c.requires
           (key_at same event_of keys c.in-Ok.place c.args.event h.0 (same_event c.args.event h.0)
           h.1 h.2)
           (key_came same event_of _ s.scalars.keys keys c.args.event c.in-Ok.ensures.keys)
@@ -41,8 +41,8 @@ returns-in-Ok-push-clause-events c =
     let keys = c.insert_full.new.self.keys in
     let h = c.in-Ok.ensures.stored in
     let m = keys_more same event_of _ s.scalars.keys keys c.args.event c.in-Ok.ensures.keys in
-    scalar_shown (map event_of s.scalars.keys) m.0 (map event_of keys) s.entries
-    s.begun.items s.kept m.1 (keys_apart same event_of event_same keys c.in-Ok.ensures.unique)
-    c.in-Ok.place (event_of c.args.event) c.push.new.self c.requires
+    scalar_shown _ m.0 _ _ _ s.kept m.1
+    (keys_apart same event_of event_same keys c.in-Ok.ensures.unique) c.in-Ok.place
+    (event_of c.args.event) c.push.new.self c.requires
     (key_at same event_of keys c.in-Ok.place c.args.event h.0 (same_event c.args.event h.0) h.1 h.2)
     c.in-Ok-push.ensures.pushed

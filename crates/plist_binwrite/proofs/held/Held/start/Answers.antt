@@ -1,6 +1,6 @@
 use Rattle.std.proofs.Common.{◌++◌, ◌∷◌, [], map, ap, ◌∙◌}
 use Rattle.plist_base.specs.Events.{event_of}
-use Rattle.plist_binwrite.proofs.Holding.{start_kept}
+use Rattle.plist_binwrite.proofs.HeldCalls.{start_kept}
 use Rattle.plist_binwrite.proofs.held.Held.start.Goals as goal
 
 pub invariant_of-self-2 : goal.invariant_of-self-2

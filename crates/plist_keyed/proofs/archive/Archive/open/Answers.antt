@@ -9,7 +9,8 @@ returns-in_default-array_at-clause-refused c = (
       (c.in_default-array_at.ensures.missing refl),
 )
 
-pub returns-in_default-dictionary_at-clause-refused : goal.returns-in_default-dictionary_at-clause-refused
+pub returns-in_default-dictionary_at-clause-refused
+    : goal.returns-in_default-dictionary_at-clause-refused
 returns-in_default-dictionary_at-clause-refused c = (
   refl,
   no_names c.args.root.now c.in-Dictionary.pairs c.in-Dictionary.is

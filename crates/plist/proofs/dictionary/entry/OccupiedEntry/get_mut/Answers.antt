@@ -26,7 +26,7 @@ same_entry o w p =
 
 pub returns : goal.returns
 returns g c = (
-  (refl, λ w. same_entry c.args.self.now w _),
+  (refl, λ w. same_entry _ w _),
   record
       { writes_back = tt; value = c.value_at.ensures.value },
 )

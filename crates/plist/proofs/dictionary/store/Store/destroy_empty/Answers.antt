@@ -4,6 +4,5 @@ use Rattle.plist.proofs.dictionary.store.Store.destroy_empty.Goals as goal
 
 pub destroy_empty-requires : goal.destroy_empty-requires
 destroy_empty-requires g c =
-    let k = c.self.inside in
-    k.items.ok.0 ∙ none-stored k.keys.keys k.items.items c.self.invariant.0 c.args.self
+    c.self.inside.items.ok.0 ∙ none-stored _ _ c.self.invariant.0 c.args.self
     c.self.view_is c.requires

@@ -7,10 +7,9 @@ use Rattle.plist.proofs.dictionary.store.Store.get.Goals as goal
 
 pub returns-in-None : goal.returns-in-None
 returns-in-None g c =
-    let k = c.self.inside in
     record {
-      value = sym (lost k.keys.keys k.items.items c.self.invariant.0
-          (bytes_eq c.args.key.now) c.in-None.ensures.index).value
+      value = sym
+          (lost _ _ c.self.invariant.0 (bytes_eq c.args.key.now) c.in-None.ensures.index).value
           ∙ ap (lookup (bytes_eq c.args.key.now)) c.self.view_is;
     }
 
@@ -18,7 +17,7 @@ pub returns-in-Some : goal.returns-in-Some
 returns-in-Some g c =
     let k = c.self.inside in
     let e = c.in-Some.ensures in
-    let f = found_value k.keys.keys k.items.items c.self.invariant.0 (bytes_eq c.args.key.now)
+    let f = found_value _ _ c.self.invariant.0 (bytes_eq c.args.key.now)
     c.in-Some.index e.index in
     record {
       value = sym (slice_get_read k.items.items (length k.items.items) c.in-Some.index

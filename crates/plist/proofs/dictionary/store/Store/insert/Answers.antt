@@ -10,10 +10,9 @@ use Rattle.plist.proofs.dictionary.store.Store.insert.Goals as goal
 
 pub invariant_of-self-in-Ok : goal.invariant_of-self-in-Ok
 invariant_of-self-in-Ok g c =
-    let k = c.self.inside in
     let e = c.in-Ok-default-true.ensures in (
-      new-lengths k.keys.keys k.items.items c.self.invariant.0 c.args.key c.args.self.now
-          c.self.view_is c.in-Ok-default-true.field-0-1 e.added c.in-Ok-default-true.field-0-1-test
+      new-lengths _ _ c.self.invariant.0 c.args.key _ c.self.view_is c.in-Ok-default-true.field-0-1
+          e.added c.in-Ok-default-true.field-0-1-test
           c.args.value c.insert_full.new.self.keys c.push.new.self.items e.keys
           c.in-Ok.ensures.items,
       distinct-bytes c.insert_full.new.self.keys e.unique,
@@ -28,24 +27,21 @@ returns-in-Err-clause-absent g c =
 
 pub returns-in-Ok-clause-old : goal.returns-in-Ok-clause-old
 returns-in-Ok-clause-old g c =
-    let k = c.self.inside in
-    new-none k.keys.keys k.items.items c.self.invariant.0 c.args.key c.args.self.now c.self.view_is
-    c.in-Ok-default-true.field-0-1 c.in-Ok-default-true.ensures.added
+    new-none _ _ c.self.invariant.0 c.args.key _ c.self.view_is c.in-Ok-default-true.field-0-1
+    c.in-Ok-default-true.ensures.added
     c.in-Ok-default-true.field-0-1-test
 
 pub returns-in-Ok-clause-pairs : goal.returns-in-Ok-clause-pairs
 returns-in-Ok-clause-pairs g c =
-    let k = c.self.inside in
-    new-rows k.keys.keys k.items.items c.self.invariant.0 c.args.key c.args.self.now c.self.view_is
-    c.in-Ok-default-true.field-0-1 c.in-Ok-default-true.ensures.added
+    new-rows _ _ c.self.invariant.0 c.args.key _ c.self.view_is c.in-Ok-default-true.field-0-1
+    c.in-Ok-default-true.ensures.added
     c.in-Ok-default-true.field-0-1-test c.args.value c.insert_full.new.self.keys
     c.push.new.self.items c.in-Ok-default-true.ensures.keys c.in-Ok.ensures.items
 
 pub returns-in-Err-push-clause-absent : goal.returns-in-Err-push-clause-absent
 returns-in-Err-push-clause-absent g c =
-    let k = c.self.inside in
-    new-absent k.keys.keys k.items.items c.self.invariant.0 c.args.key c.args.self.now
-    c.self.view_is c.in-Ok-default-true.field-0-1 c.in-Ok-default-true.ensures.added
+    new-absent _ _ c.self.invariant.0 c.args.key _ c.self.view_is c.in-Ok-default-true.field-0-1
+    c.in-Ok-default-true.ensures.added
     c.in-Ok-default-true.field-0-1-test
 
 pub returns-in-Ok-default-false-clause-old : goal.returns-in-Ok-default-false-clause-old
@@ -57,8 +53,7 @@ returns-in-Ok-default-false-clause-old g c =
     let place = old-place k.keys.keys c.args.key e.field-0-1 e.ensures.added e.field-0-1-test
     c.insert_full.new.self.keys e.ensures.keys e.index e.ensures.index e.ensures.within in
     let i = e.index in
-    let f = found_value k.keys.keys k.items.items c.self.invariant.0
-    (bytes_eq (string_bytes c.args.key)) i place in
+    let f = found_value _ _ c.self.invariant.0 (bytes_eq (string_bytes c.args.key)) i place in
     ap Some c.replace.ensures.value
     ∙ sym (slice_get_read k.items.items (length k.items.items) i c.index_mut.result.now refl
     (omega (arith, e.ensures.within, ap length same, c.self.invariant.0))
@@ -76,5 +71,5 @@ returns-in-Ok-default-false-clause-pairs g c =
     let i = e.index in
     ap (λ l. rows l (slice_set k.items.items i c.replace.new.dest)) same
     ∙ ap (λ w. rows k.keys.keys (slice_set k.items.items i w)) c.replace.ensures.after
-    ∙ rows-old k.keys.keys k.items.items c.self.invariant.0 c.args.key c.args.value i place
+    ∙ rows-old _ _ c.self.invariant.0 c.args.key c.args.value i place
     ∙ ap (λ l. insert_entry bytes_eq l (string_bytes c.args.key) c.args.value) c.self.view_is

@@ -3,5 +3,4 @@ use Rattle.plist.proofs.dictionary.store.Store.iter.Goals as goal
 
 pub returns-clause-distinct : goal.returns-clause-distinct
 returns-clause-distinct g c =
-    let k = c.self.inside in distinct-rows k.keys.keys k.items.items c.self.invariant.0
-    c.args.self.now c.self.view_is c.self.invariant.1
+    distinct-rows _ _ c.self.invariant.0 _ c.self.view_is c.self.invariant.1

@@ -6,32 +6,25 @@ use Rattle.plist.proofs.dictionary.store.Store.pair_at.Goals as goal
 
 pub bounds-as_slice-index : goal.bounds-as_slice-index
 bounds-as_slice-index g c =
-    let k = c.self.inside in
-    rw c.as_slice.ensures.keys (key-there k.keys.keys k.items.items c.self.invariant.0
-    c.args.self.now c.self.view_is c.args.index c.requires)
+    rw c.as_slice.ensures.keys
+    (key-there _ _ c.self.invariant.0 _ c.self.view_is c.args.index c.requires)
 
 pub index-requires : goal.index-requires
 index-requires g c =
-    let k = c.self.inside in
-    let there = item-there k.keys.keys k.items.items c.self.invariant.0 c.args.self.now
-    c.self.view_is c.args.index c.requires in
-    omega (arith, there, k.items.ok.0)
+    let there = item-there _ _ c.self.invariant.0 _ c.self.view_is c.args.index c.requires in
+    omega (arith, there, c.self.inside.items.ok.0)
 
 pub offset_bounds-as_slice-index : goal.offset_bounds-as_slice-index
 offset_bounds-as_slice-index g c =
-    let k = c.self.inside in
-    let there = key-there k.keys.keys k.items.items c.self.invariant.0 c.args.self.now
-    c.self.view_is c.args.index c.requires in
+    let there = key-there _ _ c.self.invariant.0 _ c.self.view_is c.args.index c.requires in
     omega (arith, c.as_slice.type_inv.1, ap length c.as_slice.ensures.keys, there)
 
 pub returns : goal.returns
 returns g c =
     let k = c.self.inside in
     let i = c.args.index in
-    let there = key-there k.keys.keys k.items.items c.self.invariant.0 c.args.self.now
-    c.self.view_is i c.requires in
-    let inside = item-there k.keys.keys k.items.items c.self.invariant.0 c.args.self.now
-    c.self.view_is i c.requires in
+    let there = key-there _ _ c.self.invariant.0 _ c.self.view_is i c.requires in
+    let inside = item-there _ _ c.self.invariant.0 _ c.self.view_is i c.requires in
     ap (λ l. slice_get l i) (sym c.self.view_is)
     ∙ pair-rows k.keys.keys k.items.items i c.index-as_slice-index.result c.index.result.now
     (key-read c.as_slice.result.now k.keys.keys c.as_slice.ensures.keys i there

@@ -2,8 +2,8 @@ use Rattle.std.proofs.Common.{◌≡◌, length, map, string_bytes, sym, ap, ◌
 use Rattle.std.specs.Str.{bytes_eq}
 use Rattle.std.specs.List.{zip}
 use Rattle.std.specs.Map.{lookup}
-use Rattle.std.proofs.lemmas.List.{length-map}
-use Rattle.plist.proofs.Columns.{rows, any-rows, map-snoc, zip-snoc, distinct-bytes}
+use Rattle.std.proofs.lemmas.List.{length-map, map_push}
+use Rattle.plist.proofs.Columns.{rows, any-rows, zip-snoc, distinct-bytes}
 use Rattle.plist.proofs.dictionary.store.Store.push.Goals as goal
 
 new-keys : (g : _) (c : goal.After-push_reserved g)
@@ -35,7 +35,7 @@ returns-in-Ok-insert-clause-pairs g c =
     let k = c.self.inside in
     (λ i. rows (new-keys g c i) (new-items g c i))
     ∙ ap (λ l. zip l (k.items.items ++ c.args.value ∷ []))
-    (map-snoc string_bytes k.keys.keys c.args.key)
+    (map_push string_bytes k.keys.keys c.args.key)
     ∙ zip-snoc (map string_bytes k.keys.keys) k.items.items (string_bytes c.args.key) c.args.value
     (c.self.invariant.0 ∙ sym (length-map k.keys.keys string_bytes))
     ∙ ap (λ l. l ++ (string_bytes c.args.key, c.args.value) ∷ []) c.self.view_is

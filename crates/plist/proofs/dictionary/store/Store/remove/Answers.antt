@@ -13,17 +13,15 @@ invariant_of-self g c = (
 
 pub returns-in_err-index-clause-value : goal.returns-in_err-index-clause-value
 returns-in_err-index-clause-value g c =
-    let k = c.self.inside in
     let t = bytes_eq c.args.key.now in
-    c.from_residual.ensures ∙ sym (lost k.keys.keys k.items.items c.self.invariant.0 t
+    c.from_residual.ensures ∙ sym (lost _ _ c.self.invariant.0 t
     c.in_err-index.ensures.index).value ∙ ap (lookup t) c.self.view_is
 
 pub returns-in_err-index-clause-pairs : goal.returns-in_err-index-clause-pairs
 returns-in_err-index-clause-pairs g c =
-    let k = c.self.inside in
     let t = bytes_eq c.args.key.now in
     let e = c.in_err-index.ensures in
-    rows-kept k.keys.keys k.items.items c.self.invariant.0 t c.swap_remove_full.new.self.keys
+    rows-kept _ _ c.self.invariant.0 t c.swap_remove_full.new.self.keys
     e.index e.unchanged ∙ ap (swap_remove_entry t) c.self.view_is
 
 pub invariant_of-self-2 : goal.invariant_of-self-2
@@ -41,18 +39,16 @@ invariant_of-self-2 g c = (
 
 pub returns-clause-value : goal.returns-clause-value
 returns-clause-value g c =
-    let k = c.self.inside in
     let t = bytes_eq c.args.key.now in
-    values_taken k.keys.keys k.items.items c.self.invariant.0 t c.in_ok-index.index
+    values_taken _ _ c.self.invariant.0 t c.in_ok-index.index
     c.in_ok-index.ensures.index c.swap_remove.result c.swap_remove.ensures.value
     ∙ ap (lookup t) c.self.view_is
 
 pub returns-clause-pairs : goal.returns-clause-pairs
 returns-clause-pairs g c =
-    let k = c.self.inside in
     let t = bytes_eq c.args.key.now in
     let e = c.in_ok-index.ensures in
-    rows-removed k.keys.keys k.items.items c.self.invariant.0 t c.in_ok-index.index e.index
+    rows-removed _ _ c.self.invariant.0 t c.in_ok-index.index e.index
     c.swap_remove_full.new.self.keys c.swap_remove.new.self.items c.in_ok-index._key
     c.swap_remove.result e.keys c.swap_remove.ensures.items
     ∙ ap (swap_remove_entry t) c.self.view_is

@@ -7,17 +7,14 @@ use Rattle.plist.proofs.dictionary.store.Store.swap_remove_at.Goals as goal
 
 pub swap_remove-requires : goal.swap_remove-requires
 swap_remove-requires g c =
-    let k = c.self.inside in
-    let within = item-there k.keys.keys k.items.items c.self.invariant.0 c.args.self.now
-    c.self.view_is c.args.place c.requires in
-    omega (arith, within, k.items.ok.0)
+    let within = item-there _ _ c.self.invariant.0 _ c.self.view_is c.args.place c.requires in
+    omega (arith, within, c.self.inside.items.ok.0)
 
 pub invariant_of-self : goal.invariant_of-self
 invariant_of-self g c =
     let k = c.self.inside in
     let e = c.swap_remove_index.ensures in
-    let within = item-there k.keys.keys k.items.items c.self.invariant.0 c.args.self.now
-    c.self.view_is c.args.place c.requires in
+    let within = item-there _ _ c.self.invariant.0 _ c.self.view_is c.args.place c.requires in
     let there = is_given k.keys.keys c.args.place c.swap_remove_index.result
     (omega (arith, within, c.self.invariant.0)) e.key in
     let len : length c.swap_remove_index.new.self.keys + 1
@@ -37,8 +34,7 @@ invariant_of-self g c =
 pub returns-clause-value : goal.returns-clause-value
 returns-clause-value g c =
     let k = c.self.inside in
-    let within = item-there k.keys.keys k.items.items c.self.invariant.0 c.args.self.now
-    c.self.view_is c.args.place c.requires in
+    let within = item-there _ _ c.self.invariant.0 _ c.self.view_is c.args.place c.requires in
     ap (λ l. slice_get l c.args.place)
     (sym (sym (values-rows k.keys.keys k.items.items c.self.invariant.0)
     ∙ ap values_of c.self.view_is))
@@ -50,11 +46,10 @@ returns-clause-pairs g c =
     let k = c.self.inside in
     let e = c.swap_remove_index.ensures in
     let i = c.args.place in
-    let within = item-there k.keys.keys k.items.items c.self.invariant.0 c.args.self.now
-    c.self.view_is i c.requires in
+    let within = item-there _ _ c.self.invariant.0 _ c.self.view_is i c.requires in
     let taken = item_given k.keys.keys i c.swap_remove_index.result
     (λ l. c.swap_remove_index.new.self.keys ≡ swap_remove k.keys.keys i l)
     (omega (arith, within, c.self.invariant.0)) e.key e.keys in
-    rows-taken k.keys.keys k.items.items c.self.invariant.0 i taken.0 c.swap_remove.result
+    rows-taken _ _ c.self.invariant.0 i taken.0 c.swap_remove.result
     c.swap_remove_index.new.self.keys c.swap_remove.new.self.items within taken.1
     c.swap_remove.ensures.items c.args.self.now c.self.view_is

@@ -1,4 +1,4 @@
-use Rattle.std.proofs.Common.{length, map, string_bytes, sym, ap, ◌∙◌, arith, refl}
+use Rattle.std.proofs.Common.{length, sym, ap, ◌∙◌, arith, refl}
 use Rattle.std.specs.Prelude.{slice_get}
 use Rattle.std.specs.Map.{values_of}
 use Rattle.std.proofs.lemmas.Option.{slice_get_read}
@@ -8,17 +8,15 @@ use Rattle.plist.proofs.dictionary.store.Store.value_at.Goals as goal
 
 pub index_mut-requires : goal.index_mut-requires
 index_mut-requires g c =
-    let k = c.self.inside in
-    let within = item-there k.keys.keys k.items.items c.self.invariant.0 c.args.self.now
-    c.self.view_is c.args.place c.requires in
-    omega (arith, within, k.items.ok.0)
+    let within = item-there _ _ c.self.invariant.0 _ c.self.view_is c.args.place c.requires in
+    omega (arith, within, c.self.inside.items.ok.0)
 
 pub returns : goal.returns
 returns g c =
     let k = c.self.inside in (
       (
         refl,
-        λ w. zip-set (map string_bytes k.keys.keys) k.items.items c.args.place w
+        λ w. zip-set _ _ _ w
             ∙ ap (λ l. set_value_at l c.args.place w) c.self.view_is,
       ),
       record {
@@ -27,7 +25,8 @@ returns g c =
             (sym (sym (values-rows k.keys.keys k.items.items c.self.invariant.0)
             ∙ ap values_of c.self.view_is))
             ∙ slice_get_read k.items.items (length k.items.items) c.args.place
-            c.index_mut.result.now refl (item-there k.keys.keys k.items.items c.self.invariant.0
-            c.args.self.now c.self.view_is c.args.place c.requires) c.index_mut.ensures.value;
+            c.index_mut.result.now refl
+            (item-there _ _ c.self.invariant.0 _ c.self.view_is c.args.place c.requires)
+            c.index_mut.ensures.value;
       },
     )
