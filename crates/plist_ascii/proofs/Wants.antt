@@ -73,6 +73,7 @@ simple_in : (o : Option ℕ) → InText (simple o).gives
 simple_in o = search rules
 
 octal_in : (digits : List ℕ) → InText (octal_text digits)
+unfolding octal_text
 octal_in digits = search rules
 
 by_in : (c : ℕ) (xs : List ℕ) → InText (escape_by c xs).gives

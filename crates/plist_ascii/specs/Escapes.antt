@@ -49,7 +49,7 @@ unfoldable pub octal_char : ℕ → ℕ
 octal_char n = cond (nat_le 128 n && nat_lt n 256) (slice_index nextstep (n - 128)) n
 
 -- three octal digits
-abbrev pub octal_text : List ℕ → Result (List ℕ) FaultKind
+unfoldable pub octal_text : List ℕ → Result (List ℕ) FaultKind
 octal_text digits =
     cond (list_all (λ c. is_digit c 8) digits)
     (Ok (encode_utf8 (octal_char (digits_value 8 digits)))) (Err InvalidOctalString)

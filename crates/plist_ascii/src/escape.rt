@@ -91,6 +91,7 @@ fn octal_char(number: u32) -> Option<char>
 }
 
 // The character of three octal digits.
+#[tactic(auto, unfolding(crate::specs::Escapes::octal_text))]
 fn octal_of(first: u8, second: u8, third: u8) -> Option<char>
     ensures { IsCharOr InvalidOctalString (octal_text (first ∷ second ∷ third ∷ [])) result }
 {

@@ -237,3 +237,29 @@ fn a_failed_read_takes_nothing(rt: HostRuntime) {
     assert_eq!(rt; device.calls, 3);
     assert_eq!(rt; device.place, 1);
 }
+
+// Four bytes of ten are read from place 2 on, one a call. A failure is that of its own place, with
+// the device's error, and isn't tried again.
+#[test]
+fn a_failed_read_has_its_place(rt: HostRuntime) {
+    for call in 0..4 {
+        let mut device = Device::new(sample(&rt, 10), call);
+        let answer = read_exact_at(&mut device, 2, &mut [0; 4]);
+        expect_io(&rt, answer, ErrorKind::Interrupted, Some(call + 2));
+        assert_eq!(rt; device.calls, call + 1);
+    }
+}
+
+// The bytes end where a read gives none.
+#[test]
+fn ends_where_no_byte_is(rt: HostRuntime) {
+    let mut device = Device::new(sample(&rt, 8), u64::MAX);
+    match read_exact_at(&mut device, 6, &mut [0; 4]) {
+        Ok(()) => panic!(rt; "two bytes are there"),
+        Err(error) => {
+            assert!(rt; error.is_eof());
+            assert_eq!(rt; error.offset(), Some(8));
+        }
+    }
+    assert_eq!(rt; device.calls, 3);
+}

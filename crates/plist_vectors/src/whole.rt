@@ -1,11 +1,11 @@
 //! The whole way: what is read of either format, the value of it, and the file of that.
 
 use crate::support::{
-    By, Device, Fault, bytes_of, expect_io, expect_on_devices, expect_value,
+    By, Device, Disk, Fault, bytes_of, expect_io, expect_on_devices, expect_value,
     expect_value_on_devices, file, must, words_of,
 };
 use plist::Value;
-use plist_base::{Error, OwnedEvent};
+use plist_base::{Error, OwnedEvent, Seeking};
 use plist_reader::Reader;
 use std::io::ErrorKind;
 use std::process::Abort;
@@ -26,6 +26,31 @@ fn ascii_is_chosen(rt: HostRuntime) {
     expect(&rt, b"bplist01", "'bplist01'");
     expect(&rt, b"\x0b<", "'\u{b}<'");
     expect(&rt, b" { a = (b, 5); }", "{ 'a' [ 'b' 5 end end");
+}
+
+// These bytes of a file are one text of so many letters, and few calls read them.
+fn expect_few_calls(rt: &(impl Abort + AllocGlobal), bytes: &[u8], length: usize) {
+    let bytes = must(rt, Vec::from_slice(rt.alloc(), bytes));
+    let mut disk = Disk::new(bytes, u64::MAX);
+    let found = words_of(rt, Reader::new(rt.alloc(), Seeking::new(&mut disk)));
+    assert_eq!(rt; found.len(), length + 2);
+    assert!(rt; found.trim_matches('\'').bytes().all(|byte| byte == b'a'));
+    assert!(rt; disk.calls <= 20, "{} calls", disk.calls);
+}
+
+#[test]
+fn ascii_is_read_by_windows(rt: HostRuntime) {
+    let mut bytes = [b'a'; 2000];
+    expect_few_calls(&rt, &bytes, 2000);
+    expect_few_calls(&rt, &bytes[..512], 512);
+    bytes[0] = b'"';
+    bytes[1999] = b'"';
+    expect_few_calls(&rt, &bytes, 1998);
+    bytes[0] = b'/';
+    bytes[1] = b'/';
+    bytes[1998] = b'\n';
+    bytes[1999] = b'a';
+    expect_few_calls(&rt, &bytes, 1);
 }
 
 #[test]
