@@ -101,10 +101,10 @@ abbrev pub KeepsEntered : {A : Type 0} → (known : Option (List ℕ)) → (numb
 KeepsEntered known number answer last walk =
     IfSome known (λ _. IsKeptTold (Some number) (Some answer) (event_in last) walk.tags.items)
 
--- its first item is paid, referred to from `at`
-abbrev pub PaysEntered : {A S : Type 0} → (S → Option (List ℕ)) → S → Bounds → (old : Walk)
+-- its first item is what the list owes, referred to from `at`
+abbrev pub Meets : {A S : Type 0} → (S → Option (List ℕ)) → S → Bounds → (old : Walk)
     → (at number : ℕ) → Result A Error → Last → (new : Walk) → Type 0
-PaysEntered known source bounds old at number answer last new = IfSome (known source) (λ bytes.
+Meets known source bounds old at number answer last new = IfSome (known source) (λ bytes.
     PaysAnswer (owed_entering bytes bounds old at number) answer (event_in last)
     (owed_in bytes bounds new))
 

@@ -6,7 +6,7 @@ ghost use Rattle.plist_base.specs.Sources.{AnswersIo};
 ghost use Rattle.plist_binread.specs.Packed.{is_marked};
 ghost use Rattle.plist_binread.specs.Walking.{IsWalkOf, cached_in, objects_of};
 ghost use Rattle.plist_binread.specs.Failures.{ErrWithin};
-ghost use Rattle.plist_binread.specs.Stepping.{ExplainsEntering, IsFoundAt, IsLighterEntered, KeepsEntered, PaysEntered};
+ghost use Rattle.plist_binread.specs.Stepping.{ExplainsEntering, IsFoundAt, IsLighterEntered, KeepsEntered, Meets};
 
 use crate::counter::DecodeCounter;
 use crate::near::open_lent;
@@ -68,8 +68,7 @@ pub fn enter<S: Source, C: DecodeCounter>(
     ensures known { IfSome (S.known source.old) (λ bytes. IsWalkOf bytes bounds.now walk.new) }
     ensures counted { C.counts → C.count counter.new ≡ cached_in walk.new }
     ensures kept { KeepsEntered (S.known source.old) number result last.new walk.new }
-    ensures pays { PaysEntered S.known source.old bounds.now walk.old at number result last.new
-        walk.new }
+    ensures pays { Meets S.known source.old bounds.now walk.old at number result last.new walk.new }
     ensures falls { OnOk result (IsLighterEntered walk.old walk.new) }
     ensures fault { ErrWithin 0 bounds.now.trailer result }
     ensures unchanged { S.known source.new ≡ S.known source.old }

@@ -9,12 +9,18 @@ use Rattle.base64.specs.GeneralPurpose.{encode_of, decode_of, decoded_of}
 use Rattle.base64.proofs.OnLiterals.{base64_on_literals}
 use Rattle.base64.specs.declared.decode.DecodeAllocError.{DecodeAllocError}
 use Rattle.base64.specs.declared.decode.DecodeAllocError.TheVariants as decoding
+use Rattle.std.specs.Borrow.{Array, Fml, Lends, MutBor, u8}
+use Rattle.plist_data.specs.contracts.data.Data.{the_row}
 use Rattle.plist_data.specs.declared.data.InvalidXmlData.{InvalidXmlData}
 use Rattle.plist_data.specs.declared.data.InvalidXmlData.TheVariants.{Decode, OutOfMemory}
 
 -- data once new bytes are written over its own: just these, since there are as many
 abbrev pub overwritten : (bytes new : List ℕ) → List ℕ
 overwritten bytes new = take (length bytes) (new ++ drop (length new) bytes)
+
+-- the data ends with the last bytes behind the reference in the place of its own
+abbrev pub LendsBytes : MutBor (List ℕ) → MutBor (List ℕ) → Fml
+LendsBytes bytes lent = Lends the_row (Array u8 0) bytes lent (overwritten bytes.now)
 
 -- nothing of the data is left
 abbrev pub IsAllNew : (bytes new : List ℕ) → Type 0

@@ -1,13 +1,12 @@
 //! Data, and its text.
 
 ghost use Rattle.std.specs.Prelude.{◌≡◌, List, ℕ, length, Some, Ok, IfOk, IfErr, OnOk, string_bytes};
-ghost use Rattle.std.specs.Borrow.{Array, Lends, sem, u8};
+ghost use Rattle.std.specs.Borrow.{sem};
 ghost use Rattle.base64.specs.Engines.{standard};
 ghost use Rattle.base64.specs.GeneralPurpose.{IsBytes, IsDecodeFailure, decode_of, encode_of};
 ghost use Rattle.plist_base.specs.Faults.{OutOfMemory};
 ghost use Rattle.plist_base.specs.Outcomes.{OnlyMemory};
-ghost use Rattle.plist_data.specs.DataText.{IsFaultOf, IsNoData, data_of_text, data_text, overwritten, without_white, IsReadWhereSpelled, IsAllNew, GrowsBy};
-ghost use Rattle.plist_data.specs.contracts.data.Data.{the_row};
+ghost use Rattle.plist_data.specs.DataText.{IsFaultOf, IsNoData, data_of_text, data_text, without_white, IsReadWhereSpelled, IsAllNew, GrowsBy, LendsBytes};
 
 use base64::engine::general_purpose::STANDARD;
 use base64::{DecodeAllocError, DecodeError};
@@ -94,7 +93,7 @@ impl Data {
 
     /// The bytes, to be changed.
     pub fn as_mut(&mut self) -> &mut [u8]
-        ensures* writes_back { sem 𝓛 (Lends the_row (Array u8 0) self.entry result (overwritten self.old)) }
+        ensures* writes_back { sem 𝓛 (LendsBytes self.entry result) }
         ensures value { result.now ≡ self.old }
         ensures new_bytes { (new : List ℕ) → length new ≡ length self.old → IsAllNew self.old new }
     {

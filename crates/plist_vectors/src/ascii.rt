@@ -70,7 +70,8 @@ fn quoted_texts(rt: HostRuntime) {
     let items = "{ '名前' [ 'Léa' 'François' 'Żaklina 王芳' 'aéb\nü💩' end end";
     expect(&rt, text, items);
     let text = "{ a = \"va\\\"lue\"; b = 'va\"lue'; c = \"va\\a\\b\\f\\n\\r\\t\\v\\\"\\nlue\"; \
-        d = \"a\\012b\"; e = \"\\\\UD83D\\\\UDCA9\"; f = \"\\U0080\"; g = \"it\\'s\"; h = 'it\\'s'; }";
+        d = \"a\\012b\"; e = \"\\\\UD83D\\\\UDCA9\"; \
+        f = \"\\U0080\"; g = \"it\\'s\"; h = 'it\\'s'; }";
     let items = "{ 'a' 'va\"lue' 'b' 'va\"lue' 'c' 'va\u{7}\u{8}\u{c}\n\r\t\u{b}\"\nlue' \
         'd' 'a\nb' 'e' '\\UD83D\\UDCA9' 'f' '\u{80}' 'g' 'it's' 'h' 'it's' end";
     expect(&rt, text, items);

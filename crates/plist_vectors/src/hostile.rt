@@ -65,22 +65,22 @@ fn expect_lines(rt: &(impl Abort + AllocGlobal), lines: &str) {
 
 const LENGTHS: &str = "\
 a length of 2^63 | 4f138000000000000000 08 | 1 1 1 0 18 | ObjectOffsetTooLarge (offset 8)
-references that fill 64 bits | af13ffffffffffffffff 08 | 1 8 1 0 18 | ObjectOffsetTooLarge (offset 8)
-pairs that overflow when they are doubled | df138000000000000000 08 | 1 1 1 0 18 | ObjectOffsetTooLarge (offset 8)
-units that overflow when they are doubled | 6f138000000000000000 08 | 1 1 1 0 18 | ObjectOffsetTooLarge (offset 8)
-references that overflow when they are widened | af132000000000000001 08 | 1 8 1 0 18 | ObjectOffsetTooLarge (offset 8)
-a count of gigabytes before any content | 4f127fffffff 08 | 1 1 1 0 14 | ObjectOffsetTooLarge (offset 8)
+references filling 64 bits | af13ffffffffffffffff 08 | 1 8 1 0 18 | ObjectOffsetTooLarge (offset 8)
+pairs that double past 2^64 | df138000000000000000 08 | 1 1 1 0 18 | ObjectOffsetTooLarge (offset 8)
+units that double past 2^64 | 6f138000000000000000 08 | 1 1 1 0 18 | ObjectOffsetTooLarge (offset 8)
+wide references past 2^64 | af132000000000000001 08 | 1 8 1 0 18 | ObjectOffsetTooLarge (offset 8)
+gigabytes before any content | 4f127fffffff 08 | 1 1 1 0 14 | ObjectOffsetTooLarge (offset 8)
 as many references | af127fffffff 08 | 1 4 1 0 14 | ObjectOffsetTooLarge (offset 8)
 a length that would lie in the trailer | 4f 08 | 1 1 1 0 9 | ObjectOffsetTooLarge (offset 8)";
 
 const CONTAINERS: &str = "\
-as many objects as 64 bits count | 09 08 | 1 1 18446744073709551615 0 9 | ObjectOffsetTooLarge (offset 10)
+objects that fill 64 bits | 09 08 | 1 1 18446744073709551615 0 9 | ObjectOffsetTooLarge (offset 10)
 a root that isn't there | 09 08 | 1 1 1 1 9 | ObjectReferenceTooLarge (offset 10)
 places of five bytes | 09 08 | 5 1 1 0 9 | InvalidTrailerObjectOffsetSize (offset 10)
 references of no byte | 09 08 | 1 0 1 0 9 | InvalidTrailerObjectReferenceSize (offset 10)
 an object at the trailer | 09 0a | 1 1 1 0 9 | ObjectOffsetTooLarge (offset 10)
 a table at the trailer | 09 08 | 1 1 1 0 10 | ObjectOffsetTooLarge (offset 10)
-a table at the end of 64 bits | 09 08 | 8 1 1 0 18446744073709551615 | ObjectOffsetTooLarge (offset 10)
+a table at 2^64 - 1 | 09 08 | 8 1 1 0 18446744073709551615 | ObjectOffsetTooLarge (offset 10)
 a table that overflows | 09 08 | 8 1 2305843009213693952 0 9 | ObjectOffsetTooLarge (offset 10)
 gigabytes of objects | 09 08 | 1 1 4294967296 0 9 | ObjectOffsetTooLarge (offset 10)";
 

@@ -20,8 +20,8 @@ unclosed = refl
 -- three digits are taken before they are judged
 short_octal : items_of_ascii lax (34 ∷ 92 ∷ 49 ∷ 50 ∷ 34 ∷ []) 0
     ≡ Err (fault_at InvalidOctalString 5) ∷ []
-unfolding items_in token bare_event integer_of_text quoted_in quoted_event escape octal_char octal_text
-    is_utf8 chars encode
+unfolding items_in token bare_event integer_of_text quoted_in quoted_event escape octal_char
+    octal_text is_utf8 chars encode
 short_octal = refl
 
 -- an escape of nothing
@@ -35,8 +35,8 @@ no_escape = refl
 octal_numbers : items_of_ascii lax
     (34 ∷ 92 ∷ 50 ∷ 48 ∷ 48 ∷ 92 ∷ 51 ∷ 55 ∷ 55 ∷ 92 ∷ 52 ∷ 48 ∷ 48 ∷ 34 ∷ []) 0
     ≡ Ok (Single (String (194 ∷ 160 ∷ 239 ∷ 191 ∷ 189 ∷ 196 ∷ 128 ∷ []))) ∷ []
-unfolding items_in token bare_event integer_of_text quoted_in quoted_event escape octal_char octal_text
-    is_utf8 chars encode
+unfolding items_in token bare_event integer_of_text quoted_in quoted_event escape octal_char
+    octal_text is_utf8 chars encode
 octal_numbers = refl
 
 -- a plus sign is no digit

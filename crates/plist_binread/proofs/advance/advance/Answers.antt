@@ -118,12 +118,13 @@ returns-in-Err-clause-kept g c =
 
 pub returns-in-Err-clause-falls : goal.returns-in-Err-clause-falls
 returns-in-Err-clause-falls g c =
-    let e = rw length-reverse at (c.in-Child.ensures.weight (length c.args.walk.now.tags.items)) in (
+    let n = length c.args.walk.now.tags.items in
+    let e = rw length-reverse at (c.in-Child.ensures.weight n) in (
       omega (
         arith,
         e,
         steps_positive
-            (length c.args.walk.now.tags.items - length c.turn.new.self.frames),
+            (n - length c.turn.new.self.frames),
       ),
       tt,
     )
@@ -138,12 +139,13 @@ returns-in-Err-clause-pays g c =
 pub returns-in-Ok-clause-falls : goal.returns-in-Ok-clause-falls
 returns-in-Ok-clause-falls g c =
     let same = c.go_near.ensures.unchanged c.if-go_near.false in
-    let e = rw length-reverse at (c.in-Child.ensures.weight (length c.args.walk.now.tags.items)) in (
+    let n = length c.args.walk.now.tags.items in
+    let e = rw length-reverse at (c.in-Child.ensures.weight n) in (
       omega (
         arith,
         e,
         steps_positive
-            (length c.args.walk.now.tags.items - length c.turn.new.self.frames),
+            (n - length c.turn.new.self.frames),
       ),
       on_ok_weaker c.enter.result (λ h. omega (arith, e, rw c.turn.ensures.size at h))
           (rw (same.0, same.2) at c.enter.ensures.falls),
