@@ -28,7 +28,7 @@ no_end (Dictionary ms) ls rs p = absurd (cc)
 
 -- lists that begin with one tree's events and another's: the trees are the same, and what is behind
 mutual
-  split : (t u : Tree) (ls rs : List PlainEvent) → shape t ++ ls ≡ shape u ++ rs
+  pub split : (t u : Tree) (ls rs : List PlainEvent) → shape t ++ ls ≡ shape u ++ rs
       → (t ≡ u) × (ls ≡ rs)
   split (Leaf x) (Leaf y) ls rs p = (ap Leaf (same_scalar x y ls rs p), same_tail _ _ ls rs p)
   split (Array ts) (Array us) ls rs p =

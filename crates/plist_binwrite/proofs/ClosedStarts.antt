@@ -10,9 +10,10 @@ use Rattle.plist_base.specs.Events.{PlainEvent, EndCollection, Single}
 use Rattle.plist_binwrite.specs.declared.entries.Entry.{Entry}
 use Rattle.plist_binwrite.specs.declared.entries.Entry.TheVariants as entry
 use Rattle.plist_binwrite.specs.inner.Entries.{is_leaf, entry_at, shown, all_shown, is_sound, behind_of, behind_at, closed_at, ended_at, names, IsKept}
+use Rattle.plist_binwrite.specs.Held.{event_at}
 use Rattle.plist_binwrite.specs.inner.Opening.{open_after, without_innermost}
 use Rattle.plist_binwrite.proofs.Opened as opened
-use Rattle.plist_binwrite.proofs.Opened.{open_more, innermost_within, innermost_starts, skips_end}
+use Rattle.plist_binwrite.proofs.Opened.{open_more, innermost_has, skips_end}
 use Rattle.plist_binwrite.proofs.EntryLists.{long_shown, shown_more, shown_at, entry_before, entry_last, each_more}
 use Rattle.plist_binwrite.proofs.KeptEntries.{still_used}
 
@@ -29,7 +30,13 @@ module _ (scalars : List PlainEvent) (es : List Entry) (begun : List ℕ)
   innermost = sym kept.starts ∙ ap reverse is ∙ reverse-append outer (start ∷ [])
 
   pub start_within : start < length es
-  start_within = omega (arith, innermost_within events start (reverse outer) innermost, long)
+  start_within =
+      omega (
+        arith,
+        long,
+        innermost_has (λ q. q < length events) events start (reverse outer) innermost
+            (λ q lt s. lt),
+      )
 
   abbrev ended : List Entry
   ended = es ++ entry.End ∷ []
@@ -122,7 +129,8 @@ module _ (scalars : List PlainEvent) (es : List Entry) (begun : List ℕ)
       was_start = ap opened.is_start
           (ap (shown scalars) (entry_before es entry.End start start_within)
           ∙ sym (shown_at scalars es start start_within))
-          ∙ innermost_starts events start (reverse outer) innermost
+          ∙ innermost_has (λ q. opened.is_start (event_at events q) ≡ true) events start (reverse outer)
+          innermost (λ q lt s. s)
 
       here : behind_at closed start ≡ length events + 1
       here = ap (behind_of start) closed_here

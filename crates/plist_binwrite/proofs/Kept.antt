@@ -9,12 +9,12 @@ use Rattle.plist_base.specs.Events.{PlainEvent}
 use Rattle.plist_base.specs.Trees as trees
 use Rattle.plist_base.specs.Trees.{Tree, Leaf, Array, Dictionary, Trees, NoTrees, TreeAnd, Members, NoMembers, MemberAnd}
 use Rattle.plist_binread.specs.Object.{Object}
-use Rattle.plist_binwrite.specs.Classes.{met, met_in_items, met_in_pairs, same_class, kept, count_by, objects_by}
+use Rattle.plist_binwrite.specs.Classes.{same_class, kept, count_by, objects_by}
 use Rattle.plist_binwrite.specs.Forms.{form}
 use Rattle.plist_binwrite.specs.Held.{is_stop, event_at, item_places, key_places, value_places, keys_in, values_in, num_of, AllNumbered, Describes}
 use Rattle.plist_binwrite.specs.inner.PlansBy.{IsPlan}
 use Rattle.plist_binwrite.specs.Sizes.{total, object_size}
-use Rattle.plist_binwrite.specs.Standing.{size, Sits, SitsItems, SitsPairs}
+use Rattle.plist_binwrite.specs.Standing.{size, Sits, SitsItems, SitsPairs, met, met_in_items, met_in_pairs}
 use Rattle.plist_binwrite.specs.Written.{bodies}
 use Rattle.plist_binwrite.proofs.ClassObjects.{number_below, number_apart, number_same}
 use Rattle.plist_binwrite.proofs.Inside.{inside, one_tree}

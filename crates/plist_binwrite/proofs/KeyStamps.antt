@@ -9,12 +9,11 @@ use Rattle.std.proofs.lemmas.Option.{slice_get_within}
 use Rattle.plist_base.specs.Bracketing.{shape}
 use Rattle.plist_base.specs.Events.{PlainEvent, EndCollection, Single}
 use Rattle.plist_base.specs.Trees.{String, Tree, Leaf, Array, Dictionary, Trees, NoTrees, TreeAnd, Members, NoMembers, MemberAnd}
-use Rattle.plist_binwrite.specs.Classes.{met, met_in_items, met_in_pairs}
 use Rattle.plist_binwrite.specs.declared.kinds.Kind.TheVariants as kind
 use Rattle.plist_binwrite.specs.Held.{AllBelow, event_at, is_stop, kind_of}
 use Rattle.plist_binwrite.specs.inner.Entries.{AreApart, is_leaf}
 use Rattle.plist_binwrite.specs.Keys.{Lacks, HasDistinctKeys, HasKeysOnce, ItemsHaveKeysOnce, ValuesHaveKeysOnce}
-use Rattle.plist_binwrite.specs.Standing.{size, Sits, SitsItems, SitsPairs}
+use Rattle.plist_binwrite.specs.Standing.{size, Sits, SitsItems, SitsPairs, met, met_in_items, met_in_pairs}
 use Rattle.plist_binwrite.proofs.Kept.{met_all}
 use Rattle.plist_binwrite.proofs.Sitting.{sits_whole, sits_items, sits_pairs, sits_item, sits_next, sits_key, sits_value, sits_next_pair}
 use Rattle.plist_binwrite.proofs.Skipping.{stands_single, starts_array, FirstPair, pairs_on, pairs_off, first_event}

@@ -1,87 +1,45 @@
--- The starts and the scalars among events, and those of a tree.
-use Rattle.std.proofs.Common.{◌≡◌, ℕ, ◌+◌, List, [], ◌∷◌, ◌++◌, length, refl, ap, ◌∙◌, arith, append-nil, length-append}
+-- What the events of a tree show, by what is met of it.
+use Rattle.std.proofs.Common.{◌≡◌, ℕ, ◌+◌, List, [], ◌∷◌, ◌++◌, Some, refl, ap, sym, ◌∙◌, append-nil}
 use Rattle.std.specs.List.{flat_map}
 use Rattle.std.proofs.lemmas.Grind.{flat_map-append}
-use Rattle.plist_base.specs.Bracketing.{shape, shape_of_items, shape_of_pairs}
+use Rattle.plist_base.specs.Bracketing.{bracketing, bracketing_of_items, bracketing_of_pairs}
 use Rattle.plist_base.specs.Events.{PlainEvent, StartArray, StartDictionary, EndCollection, Single}
-use Rattle.plist_base.specs.Trees as trees
-use Rattle.plist_base.specs.Trees.{Scalar, Tree, Leaf, Array, Dictionary, Trees, NoTrees, TreeAnd, Members, NoMembers, MemberAnd}
-use Rattle.plist_binwrite.specs.Sizes.{total}
-use Rattle.plist_binwrite.specs.Counts.{collections_in, collections_in_items, collections_in_pairs, scalars_in, scalars_in_items, scalars_in_pairs}
+use Rattle.plist_base.specs.Trees.{number_of_trees, number_of_members, Scalar, String, Tree, Leaf, Array, Dictionary, Trees, NoTrees, TreeAnd, Members, NoMembers, MemberAnd}
+use Rattle.plist_binwrite.specs.Standing.{size, met, met_in_items, met_in_pairs}
 
-abbrev start_of : PlainEvent → ℕ
-start_of (StartArray hint) = 1
-start_of (StartDictionary hint) = 1
-start_of e = 0
+module _ {A : Type 0} (f : PlainEvent → List A) (g : ℕ × Tree → List A)
+    (leaf : (x : Scalar) (p : ℕ) → f (Single x) ≡ g (p, Leaf x))
+    (array : (n : ℕ) (ts : Trees) (p : ℕ) → f (StartArray (Some n)) ≡ g (p, Array ts))
+    (dictionary : (n : ℕ) (ms : Members) (p : ℕ)
+    → f (StartDictionary (Some n)) ≡ g (p, Dictionary ms)) (close : f EndCollection ≡ []) where
+  within : (es : List PlainEvent) (a b c : List A) → a ≡ b → flat_map f es ≡ c
+      → a ++ flat_map f (es ++ EndCollection ∷ []) ≡ b ++ c
+  within es a b c e h =
+      λ i. e i ++ (flat_map-append f es (EndCollection ∷ [])
+      ∙ ap (λ l. flat_map f es ++ (l ++ [])) close ∙ append-nil (flat_map f es) ∙ h) i
 
-abbrev leaf_of : PlainEvent → List Scalar
-leaf_of (Single x) = x ∷ []
-leaf_of e = []
+  mutual
+    pub shown : (t : Tree) (p : ℕ) → flat_map f (bracketing t) ≡ flat_map g (met t p)
+    shown (Leaf x) p = ap (λ l. l ++ []) (leaf x p)
+    shown (Array ts) p =
+        within (bracketing_of_items ts) _ _ _ (array (number_of_trees ts) ts p)
+        (shown_items ts (p + 1))
+    shown (Dictionary ms) p =
+        within (bracketing_of_pairs ms) _ _ _ (dictionary (number_of_members ms) ms p)
+        (shown_pairs ms (p + 1))
 
--- how many events are starts
-abbrev pub starts : List PlainEvent → ℕ
-starts es = total start_of es
+    shown_items : (ts : Trees) (p : ℕ)
+        → flat_map f (bracketing_of_items ts) ≡ flat_map g (met_in_items ts p)
+    shown_items NoTrees p = refl
+    shown_items (TreeAnd t ts) p =
+        flat_map-append f (bracketing t) (bracketing_of_items ts)
+        ∙ (λ i. shown t p i ++ shown_items ts (p + size t) i)
+        ∙ sym (flat_map-append g (met t p) (met_in_items ts (p + size t)))
 
--- the scalars of the events
-abbrev pub leaves : List PlainEvent → List Scalar
-leaves es = flat_map leaf_of es
-
-pub starts-append : (a b : List PlainEvent) → starts (a ++ b) ≡ starts a + starts b
-starts-append [] b = omega arith
-starts-append (e ∷ a) b = omega (arith, starts-append a b)
-
-pub leaves-append : (a b : List PlainEvent) → leaves (a ++ b) ≡ leaves a ++ leaves b
-leaves-append = flat_map-append leaf_of
-
-ended : (es : List PlainEvent) → (starts (es ++ EndCollection ∷ []) ≡ starts es)
-ended es = omega (arith, starts-append)
-
-ended_leaves : (es : List PlainEvent) → leaves (es ++ EndCollection ∷ []) ≡ leaves es
-ended_leaves es = simp (leaves-append, append-nil)
-
--- a tree's starts are its collections
-mutual
-  pub starts_are : (t : Tree) → starts (shape t) ≡ length (collections_in t)
-  starts_are (Leaf x) = refl
-  starts_are (Array ts) = omega (arith, ended, starts_of_items ts)
-  starts_are (Dictionary ms) = omega (arith, ended, starts_of_pairs ms)
-
-  starts_of_items : (ts : Trees) → starts (shape_of_items ts) ≡ length (collections_in_items ts)
-  starts_of_items NoTrees = refl
-  starts_of_items (TreeAnd t ts) =
-      omega (
-        arith,
-        starts-append,
-        starts_are t,
-        starts_of_items ts,
-        length-append (collections_in t) (collections_in_items ts),
-      )
-
-  starts_of_pairs : (ms : Members) → starts (shape_of_pairs ms) ≡ length (collections_in_pairs ms)
-  starts_of_pairs NoMembers = refl
-  starts_of_pairs (MemberAnd k t ms) =
-      omega (
-        arith,
-        starts-append,
-        starts_are t,
-        starts_of_pairs ms,
-        length-append (collections_in t) (collections_in_pairs ms),
-      )
-
--- and its events' scalars are its own
-mutual
-  pub leaves_are : (t : Tree) → leaves (shape t) ≡ scalars_in t
-  leaves_are (Leaf x) = refl
-  leaves_are (Array ts) = ended_leaves (shape_of_items ts) ∙ leaves_of_items ts
-  leaves_are (Dictionary ms) = ended_leaves (shape_of_pairs ms) ∙ leaves_of_pairs ms
-
-  leaves_of_items : (ts : Trees) → leaves (shape_of_items ts) ≡ scalars_in_items ts
-  leaves_of_items NoTrees = refl
-  leaves_of_items (TreeAnd t ts) =
-      leaves-append (shape t) (shape_of_items ts) ∙ (λ i. leaves_are t i ++ leaves_of_items ts i)
-
-  leaves_of_pairs : (ms : Members) → leaves (shape_of_pairs ms) ≡ scalars_in_pairs ms
-  leaves_of_pairs NoMembers = refl
-  leaves_of_pairs (MemberAnd k t ms) =
-      ap (λ l. trees.String k ∷ l) (leaves-append (shape t) (shape_of_pairs ms)
-      ∙ (λ i. leaves_are t i ++ leaves_of_pairs ms i))
+    shown_pairs : (ms : Members) (p : ℕ)
+        → flat_map f (bracketing_of_pairs ms) ≡ flat_map g (met_in_pairs ms p)
+    shown_pairs NoMembers p = refl
+    shown_pairs (MemberAnd k t ms) p =
+        λ i. leaf (String k) p i ++ (flat_map-append f (bracketing t) (bracketing_of_pairs ms)
+        ∙ (λ j. shown t (p + 1) j ++ shown_pairs ms (p + 1 + size t) j)
+        ∙ sym (flat_map-append g (met t (p + 1)) (met_in_pairs ms (p + 1 + size t)))) i

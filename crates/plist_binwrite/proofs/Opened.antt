@@ -13,7 +13,6 @@ use Rattle.plist_binwrite.specs.Standing.{size, Sits, IsSkips}
 use Rattle.plist_binwrite.specs.inner.Opening.{without_innermost, open_behind, open_from, open_after}
 use Rattle.plist_binwrite.proofs.Sitting.{past, past_one}
 use Rattle.plist_binwrite.proofs.Skipping.{first_event, sits_in, sits_within, size_positive}
-use Rattle.plist_binwrite.proofs.Uniques.{all_from}
 
 -- ---- what is begun behind some events
 
@@ -88,24 +87,16 @@ module _ (P : ℕ → Type 0) where
       (behind_has e p begun (λ s. h p (omega arith) (omega arith)
       (ap is_start (first_event all p e es is) ∙ s)) a)
 
--- all places are below this one
-abbrev pub AreBelow : ℕ → List ℕ → Type 0
-AreBelow n places = AllByRecursion (λ place. place < n) places
+-- so of the starts that are begun at the end
+open_have : (P : ℕ → Type 0) (es : List PlainEvent)
+    → ((q : ℕ) → q < length es → is_start (event_at es q) ≡ true → P q)
+    → AllByRecursion P (open_after es)
+open_have P es h = begun_have P es es 0 [] refl (λ q le lt s. h q (omega (arith, lt)) s) tt
 
--- where these are the events from there on, the starts that are begun at their end are among them
-pub open_below : (all es : List PlainEvent) (p : ℕ) (begun : List ℕ) → drop p all ≡ es
-    → AreBelow p begun → AreBelow (p + length es) (open_from es p begun)
-open_below all es p begun is b =
-    begun_have (λ place. place < p + length es) all es p begun is (λ q le lt s. lt)
-    (all_from (λ place. place < p + length es) (λ place. place < p) (λ q lt. omega (arith, lt))
-    begun b)
-
--- the innermost begun start is one of the events
-pub innermost_within : (es : List PlainEvent) (q : ℕ) (outer : List ℕ)
-    → open_after es ≡ q ∷ outer → q < length es
-innermost_within es q outer h =
-    let b = (subst (AreBelow (0 + length es)) h (open_below es es 0 [] refl tt)).0 in
-    omega (arith, b)
+pub innermost_has : (P : ℕ → Type 0) (es : List PlainEvent) (q : ℕ) (outer : List ℕ)
+    → open_after es ≡ q ∷ outer
+    → ((q : ℕ) → q < length es → is_start (event_at es q) ≡ true → P q) → P q
+innermost_has P es q outer is h = (subst (AllByRecursion P) is (open_have P es h)).0
 
 -- this place isn't among them
 abbrev Lacks : ℕ → List ℕ → Type 0
@@ -120,13 +111,6 @@ open_parts es q le =
     ∙ open_append (take q es) (drop q es) 0 []
     ∙ ap (λ n. open_from (drop q es) n (open_from (take q es) 0 [])) z
 
-before_below : (es : List PlainEvent) (q : ℕ) → q ≤ length es
-    → AreBelow q (open_from (take q es) 0 [])
-before_below es q le =
-    let z : 0 + length (take q es) ≡ q = omega (arith, length-take-le q es le) in
-    subst (λ n. AreBelow n (open_from (take q es) 0 [])) z
-    (open_below (take q es) (take q es) 0 [] refl tt)
-
 -- a start whose end is there isn't begun
 pub closed_lacks : (es : List PlainEvent) (t : Tree) (q : ℕ) → Sits es t q
     → Lacks q (open_after es)
@@ -139,22 +123,13 @@ closed_lacks es t q s =
     ∙ ap (open_from s.rest (q + size t)) (open_tree t q before) in
     subst (Lacks q) (sym is) (begun_have (λ place. place ≢ q) es s.rest (q + size t) before
     (past (shape t) s.rest es q s.is) (λ k at lt start e. omega (arith, at, e, size_positive t))
-    (all_from (λ place. place ≢ q) (λ place. place < q) (λ k lt e. omega (arith, lt, e)) before
-    (before_below es q le)))
+    (open_have (λ place. place ≢ q) (take q es)
+    (λ k lt start e. omega (arith, lt, e, length-take-le q es le))))
 
 pub closed_not_innermost : (es : List PlainEvent) (t : Tree) (p q : ℕ) (outer : List ℕ)
     → Sits es t p
     → open_after es ≡ q ∷ outer → p ≢ q
 closed_not_innermost es t p q outer s h e = (subst (Lacks p) h (closed_lacks es t p s)).0 (sym e)
-
--- ---- the starts that are begun are starts
-
-pub innermost_starts : (es : List PlainEvent) (q : ℕ) (outer : List ℕ) → open_after es ≡ q ∷ outer
-    → is_start (event_at es q) ≡ true
-innermost_starts es q outer h =
-    (subst (AllByRecursion (λ place. is_start (event_at es place) ≡ true)) h
-    (begun_have (λ place. is_start (event_at es place) ≡ true) es es 0 [] refl
-    (λ k le lt start. start) tt)).0
 
 -- ---- trees before and after one more event
 

@@ -1,5 +1,5 @@
 -- Steps of sending through a room.
-use Rattle.std.proofs.Common.{◌≡◌, ◌+◌, ◌<◌, ◌≤◌, ℕ, List, [], ◌∷◌, ◌++◌, length, get_or, take, drop, arith, Option, Ok, Err, refl, sym, ap, ◌∙◌, subst, append_assoc, append-nil}
+use Rattle.std.proofs.Common.{◌≡◌, ◌+◌, ◌<◌, ◌≤◌, ℕ, List, [], ◌∷◌, ◌++◌, length, get_or, map, take, drop, arith, Option, Ok, Err, refl, sym, ap, ◌∙◌, subst, append_assoc, append-nil}
 use Rattle.std.specs.List.{flat_map}
 use Rattle.std.proofs.lemmas.Grind.{flat_map-append}
 use Rattle.std.proofs.lemmas.List.{take-append-drop, take_more}
@@ -9,6 +9,7 @@ use Rattle.std.proofs.KnownBytes.{Appends-trans, Appends-nil}
 use Rattle.plist_base.specs.Faults.{Fault, Io, fault_nowhere}
 use Rattle.plist_base.specs.Writing.{Answer}
 use Rattle.plist_base.specs.Fronts.{AppendsFront}
+use Rattle.plist_binwrite.specs.Forms.{table_form}
 use Rattle.plist_binwrite.specs.Outlets.{IsOut, Follow, PutsBytes}
 
 -- a beginning of some bytes is one of more
@@ -58,6 +59,12 @@ puts_front {a} {b} {held} {h} {xs} {fault} ys p =
 pub puts_as : {a b : Option (List ℕ)} {held k xs ys : List ℕ} {answer : Answer} → xs ≡ ys
     → PutsBytes a held xs answer b k → PutsBytes a held ys answer b k
 puts_as {a} {b} {held} {k} {xs} {ys} {answer} e p = subst (λ l. PutsBytes a held l answer b k) e p
+
+-- all goes out, where the numbers at these places do yet
+abbrev pub PutsRest : (num : ℕ → ℕ) (w : ℕ) (a : Option (List ℕ)) (held all : List ℕ)
+    (b : Option (List ℕ)) (h places : List ℕ) → Type 0
+PutsRest num w a held all b h places = (answer : Answer) (c : Option (List ℕ)) (k : List ℕ)
+    → PutsBytes b h (table_form w (map num places)) answer c k → PutsBytes a held all answer c k
 
 -- what waited goes out, and then bytes do
 puts_out : (a b : Option (List ℕ)) (held xs : List ℕ) → Appends a b (held ++ xs)

@@ -1,28 +1,25 @@
 -- The plain writer's classes: one for each collection, and one for each different scalar.
-use Rattle.std.proofs.Common.{◌≡◌, inl, inr, ℕ, ◌+◌, ◌<◌, Bool, true, false, cond, ◌||◌, eqb, List, [], ◌∷◌, ◌++◌, map, refl, ap, sym, ◌∙◌, arith, append-nil}
+use Rattle.std.proofs.Common.{◌≡◌, inl, inr, ℕ, ◌+◌, ◌<◌, Bool, true, false, cond, ◌||◌, eqb, List, [], ◌∷◌, map, refl, ap, sym, ◌∙◌, arith}
 use Rattle.std.specs.List.{AllByRecursion, IsDistinct}
 use Rattle.std.specs.Set.{is_member, unique_keys}
 use Rattle.std.proofs.lemmas.Bool.{ne_eqb}
 use Rattle.std.proofs.lemmas.Bool.Decides.{eqb_tells}
-use Rattle.std.proofs.lemmas.Grind.{flat_map-append}
-use Rattle.std.proofs.lemmas.List.{map-append, map-id}
+use Rattle.std.proofs.lemmas.List.{map-id}
 use Rattle.plist_base.specs.Bracketing.{shape}
 use Rattle.plist_base.specs.Events.{PlainEvent}
-use Rattle.plist_base.specs.Trees.{Scalar, Tree, Leaf, Array, Dictionary, Trees, NoTrees, TreeAnd, Members, NoMembers, MemberAnd}
-use Rattle.plist_binwrite.specs.Classes.{met, met_in_items, met_in_pairs, same_class, kept, count_by, objects_by, size_by}
-use Rattle.plist_binwrite.specs.Counts.{scalar_eq, collections_in, scalars_in, object_count}
-use Rattle.plist_binwrite.specs.Numberings.{trace, trace_items, trace_pairs}
+use Rattle.plist_base.specs.Trees.{Scalar, Tree, Leaf}
+use Rattle.plist_binwrite.specs.Classes.{same_class, kept, count_by, objects_by, size_by}
+use Rattle.plist_binwrite.specs.Counts.{scalar_eq, collected, texts, collections_in, scalars_in, object_count}
 use Rattle.plist_binwrite.specs.inner.Scalars.{alone, AreOwners}
 use Rattle.plist_binwrite.specs.Sizes.{total, object_size, collections_size, scalars_size, size_with, file_size}
-use Rattle.plist_binwrite.specs.Standing.{size, Sits}
-use Rattle.plist_binwrite.specs.Walks.{collections}
+use Rattle.plist_binwrite.specs.Standing.{Sits, met}
 use Rattle.plist_binwrite.specs.Written.{reference_width}
 use Rattle.plist_binwrite.proofs.Kept.{Stands, met_stand}
 use Rattle.plist_binwrite.proofs.SameScalars.{owner_eq}
 use Rattle.plist_binwrite.proofs.Sitting.{sits_whole}
 use Rattle.plist_binwrite.proofs.Totals.{total_one}
 use Rattle.plist_binwrite.proofs.Uniques.{unique_seen}
-use Rattle.plist_binwrite.proofs.OwnedApart.{One, Rising, class_owner, classes_tell, collected, collected_at, collected_is, own_tree, owned_eq, place_of, spread, texts, texts_are}
+use Rattle.plist_binwrite.proofs.OwnedApart.{One, Rising, class_owner, classes_tell, own_tree, owned_eq, spread}
 
 -- ---- the weights of one of each kind
 
@@ -66,13 +63,13 @@ module _ (weight : Tree → ℕ) where
 
   owned_total : (ones : List One) → Rising ones
       → total weigh (unique_keys owned_eq ones)
-      ≡ total weight (collected ones) + total (λ y. weight (Leaf y))
+      ≡ total weigh (collected ones) + total (λ y. weight (Leaf y))
       (unique_keys scalar_eq (texts ones))
   owned_total [] r = refl
   owned_total ((p, Leaf x) ∷ ones) r =
       weigh_cond (is_member owned_eq ones (p, Leaf x)) (is_member scalar_eq (texts ones) x)
       (unique_keys owned_eq ones) (unique_keys scalar_eq (texts ones)) p x
-      (total weight (collected ones)) (text_member ones p x) (owned_total ones r.1)
+      (total weigh (collected ones)) (text_member ones p x) (owned_total ones r.1)
   owned_total ((p, t) ∷ ones) r =
       weigh_false (is_member owned_eq ones (p, t)) (unique_keys owned_eq ones) (p, t)
       (no_other ones p t refl r.0) ∙ omega (arith, owned_total ones r.1)
@@ -89,13 +86,11 @@ module _ (class : ℕ → ℕ) (count : ℕ) (tree : Tree) (o : AreOwners (shape
       ∙ ap (unique_keys owned_eq) (map-id (met tree 0))
 
   kept_total : (weight : Tree → ℕ) → total (λ (one : One). weight one.1) (kept class tree)
-      ≡ total weight (collections_in tree) + total (λ y. weight (Leaf y))
+      ≡ total (λ (one : One). weight one.1) (collections_in tree) + total (λ y. weight (Leaf y))
       (unique_keys scalar_eq (scalars_in tree))
   kept_total weight =
       ap (total (λ (one : One). weight one.1)) kept_is
       ∙ owned_total weight (met tree 0) (spread tree 0).rising
-      ∙ (λ i. total weight (collected_is tree 0 i) + total (λ y. weight (Leaf y))
-      (unique_keys scalar_eq (texts_are tree 0 i)))
 
   pub owned_count : count_by class tree ≡ object_count tree
   owned_count =
@@ -113,35 +108,6 @@ module _ (class : ℕ → ℕ) (count : ℕ) (tree : Tree) (o : AreOwners (shape
       ∙ owned_objects (reference_width (object_count tree))) i)
 
 -- ---- no collection is entered twice
-
-mutual
-  trace_is : (num : ℕ → ℕ) (t : Tree) (p : ℕ)
-      → trace num collections t p ≡ map num (collected_at (met t p))
-  trace_is num (Leaf x) p = refl
-  trace_is num (Array ts) p =
-      ap (λ l. num p ∷ l) (append-nil (trace_items num collections ts (p + 1))
-      ∙ trace_items_is num ts (p + 1))
-  trace_is num (Dictionary ms) p =
-      ap (λ l. num p ∷ l) (append-nil (trace_pairs num collections ms (p + 1))
-      ∙ trace_pairs_is num ms (p + 1))
-
-  trace_items_is : (num : ℕ → ℕ) (ts : Trees) (p : ℕ)
-      → trace_items num collections ts p ≡ map num (collected_at (met_in_items ts p))
-  trace_items_is num NoTrees p = refl
-  trace_items_is num (TreeAnd t ts) p =
-      (λ i. trace_is num t p i ++ trace_items_is num ts (p + size t) i)
-      ∙ sym (map-append num (collected_at (met t p)) (collected_at (met_in_items ts (p + size t))))
-      ∙ ap (map num) (sym (flat_map-append place_of (met t p) (met_in_items ts (p + size t))))
-
-  trace_pairs_is : (num : ℕ → ℕ) (ms : Members) (p : ℕ)
-      → trace_pairs num collections ms p ≡ map num (collected_at (met_in_pairs ms p))
-  trace_pairs_is num NoMembers p = refl
-  trace_pairs_is num (MemberAnd k t ms) p =
-      (λ i. trace_is num t (p + 1) i ++ trace_pairs_is num ms (p + 1 + size t) i)
-      ∙ sym (map-append num (collected_at (met t (p + 1)))
-      (collected_at (met_in_pairs ms (p + 1 + size t))))
-      ∙ ap (map num) (sym (flat_map-append place_of (met t (p + 1))
-      (met_in_pairs ms (p + 1 + size t))))
 
 module _ (es : List PlainEvent) (class num : ℕ → ℕ) (count : ℕ) (o : AreOwners es class count)
     (num_apart : (t u : Tree) (p q : ℕ) → Sits es t p → Sits es u q → num p ≡ num q
@@ -162,21 +128,21 @@ module _ (es : List PlainEvent) (class num : ℕ → ℕ) (count : ℕ) (o : Are
 
   all_apart : (a : One) → Stands es a → IsAlone a → (ones : List One)
       → AllByRecursion (Stands es) ones → AllByRecursion (λ later. a.0 < later.0) ones
-      → AllByRecursion (λ y. eqb (num a.0) y ≡ false) (map num (collected_at ones))
+      → AllByRecursion (λ y. eqb (num a.0) y ≡ false) (map (λ one. num one.0) (collected ones))
   all_apart a s i [] r h = tt
   all_apart a s i ((q, Leaf y) ∷ ones) r h = all_apart a s i ones r.1 h.1
   all_apart a s i ((q, t) ∷ ones) r h =
       (alone_apart a (q, t) s r.0 i refl h.0, all_apart a s i ones r.1 h.1)
 
   distinct_at : (ones : List One) → AllByRecursion (Stands es) ones → Rising ones
-      → IsDistinct eqb (map num (collected_at ones))
+      → IsDistinct eqb (map (λ one. num one.0) (collected ones))
   unfolding IsDistinct
   distinct_at [] s r = tt
   distinct_at ((p, Leaf x) ∷ ones) s r = distinct_at ones s.1 r.1
   distinct_at ((p, t) ∷ ones) s r =
       (all_apart (p, t) s.0 refl ones s.1 r.0, distinct_at ones s.1 r.1)
 
-  pub entered_once : (tree : Tree) → Sits es tree 0 → IsDistinct eqb (trace num collections tree 0)
+  pub entered_once : (tree : Tree) → Sits es tree 0
+      → IsDistinct eqb (map (λ one. num one.0) (collections_in tree))
   entered_once tree s =
-      rw (trace_is num tree 0)
-      (distinct_at (met tree 0) (met_stand es tree 0 s) (spread tree 0).rising)
+      distinct_at (met tree 0) (met_stand es tree 0 s) (spread tree 0).rising

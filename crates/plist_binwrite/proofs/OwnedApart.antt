@@ -1,20 +1,18 @@
--- The owner of a tree, and what is met, apart by kind and at places that rise.
-use Rattle.std.proofs.Common.{◌≡◌, ℕ, ◌+◌, ◌<◌, ◌≤◌, Bool, eqb, List, [], ◌∷◌, ◌++◌, length, refl, ap, sym, ◌∙◌, subst, arith, length-append}
-use Rattle.std.specs.List.{flat_map, AllByRecursion}
-use Rattle.std.proofs.lemmas.Grind.{flat_map-append}
+-- The owner of a tree, and what is met, at places that rise.
+use Rattle.std.proofs.Common.{◌≡◌, ℕ, ◌+◌, ◌<◌, ◌≤◌, Bool, eqb, List, [], ◌∷◌, ◌++◌, length, ap, sym, ◌∙◌, subst, arith, length-append}
+use Rattle.std.specs.List.{AllByRecursion}
 use Rattle.std.proofs.lemmas.Bool.Decides.{eqb_tells}
 use Rattle.plist_base.specs.Bracketing.{shape, shape_of_items, shape_of_pairs}
 use Rattle.plist_base.specs.Events.{PlainEvent, EndCollection}
 use Rattle.plist_base.specs.Trees as trees
-use Rattle.plist_base.specs.Trees.{Scalar, Tree, Leaf, Array, Dictionary, Trees, NoTrees, TreeAnd, Members, NoMembers, MemberAnd}
+use Rattle.plist_base.specs.Trees.{Tree, Leaf, Array, Dictionary, Trees, NoTrees, TreeAnd, Members, NoMembers, MemberAnd}
 use Rattle.plist_binread.specs.Object as obj
-use Rattle.plist_binwrite.specs.Classes.{AreClasses, met, met_in_items, met_in_pairs, same_class}
-use Rattle.plist_binwrite.specs.Counts.{collections_in, collections_in_items, collections_in_pairs, scalars_in, scalars_in_items, scalars_in_pairs}
+use Rattle.plist_binwrite.specs.Classes.{AreClasses, same_class}
 use Rattle.plist_binwrite.specs.declared.held.Held.{Held}
 use Rattle.plist_binwrite.specs.Held.{plain_events, num_of, AllBelow}
 use Rattle.plist_binwrite.specs.Numberings.{obj_of}
 use Rattle.plist_binwrite.specs.inner.Scalars.{Owner, shared, alone, own, owner, AreOwners}
-use Rattle.plist_binwrite.specs.Standing.{size, Sits}
+use Rattle.plist_binwrite.specs.Standing.{size, Sits, met, met_in_items, met_in_pairs}
 use Rattle.plist_binwrite.proofs.SameScalars.{owner_eq, owners_tell, tells_both}
 use Rattle.plist_binwrite.proofs.Inside.{one_tree}
 use Rattle.plist_binwrite.proofs.Kept.{Stands}
@@ -80,74 +78,13 @@ pub owners_below : (events : Held) (classes : List ℕ) (count : ℕ)
     → AllBelow count classes
 owners_below events classes count long o i h = o.below i (omega (arith, long, h))
 
--- ---- what is met, apart by kind
+-- ---- what is met
 
 abbrev pub One : Type 0
 One = ℕ × Tree
 
 abbrev pub owned_eq : One → One → Bool
 owned_eq a b = owner_eq (own_tree a.1 a.0) (own_tree b.1 b.0)
-
-abbrev collection_of : One → List Tree
-collection_of (p, Leaf x) = []
-collection_of (p, Array ts) = Array ts ∷ []
-collection_of (p, Dictionary ms) = Dictionary ms ∷ []
-
-abbrev pub place_of : One → List ℕ
-place_of (p, Leaf x) = []
-place_of (p, Array ts) = p ∷ []
-place_of (p, Dictionary ms) = p ∷ []
-
-abbrev text_of : One → List Scalar
-text_of (p, Leaf x) = x ∷ []
-text_of (p, Array ts) = []
-text_of (p, Dictionary ms) = []
-
-abbrev pub collected : List One → List Tree
-collected ones = flat_map collection_of ones
-
-abbrev pub collected_at : List One → List ℕ
-collected_at ones = flat_map place_of ones
-
-abbrev pub texts : List One → List Scalar
-texts ones = flat_map text_of ones
-
-mutual
-  pub collected_is : (t : Tree) (p : ℕ) → collected (met t p) ≡ collections_in t
-  collected_is (Leaf x) p = refl
-  collected_is (Array ts) p = ap (λ l. Array ts ∷ l) (collected_items ts (p + 1))
-  collected_is (Dictionary ms) p = ap (λ l. Dictionary ms ∷ l) (collected_pairs ms (p + 1))
-
-  collected_items : (ts : Trees) (p : ℕ) → collected (met_in_items ts p) ≡ collections_in_items ts
-  collected_items NoTrees p = refl
-  collected_items (TreeAnd t ts) p =
-      flat_map-append collection_of (met t p) (met_in_items ts (p + size t))
-      ∙ (λ i. collected_is t p i ++ collected_items ts (p + size t) i)
-
-  collected_pairs : (ms : Members) (p : ℕ) → collected (met_in_pairs ms p) ≡ collections_in_pairs ms
-  collected_pairs NoMembers p = refl
-  collected_pairs (MemberAnd k t ms) p =
-      flat_map-append collection_of (met t (p + 1)) (met_in_pairs ms (p + 1 + size t))
-      ∙ (λ i. collected_is t (p + 1) i ++ collected_pairs ms (p + 1 + size t) i)
-
-mutual
-  pub texts_are : (t : Tree) (p : ℕ) → texts (met t p) ≡ scalars_in t
-  texts_are (Leaf x) p = refl
-  texts_are (Array ts) p = texts_of_items ts (p + 1)
-  texts_are (Dictionary ms) p = texts_of_pairs ms (p + 1)
-
-  texts_of_items : (ts : Trees) (p : ℕ) → texts (met_in_items ts p) ≡ scalars_in_items ts
-  texts_of_items NoTrees p = refl
-  texts_of_items (TreeAnd t ts) p =
-      flat_map-append text_of (met t p) (met_in_items ts (p + size t))
-      ∙ (λ i. texts_are t p i ++ texts_of_items ts (p + size t) i)
-
-  texts_of_pairs : (ms : Members) (p : ℕ) → texts (met_in_pairs ms p) ≡ scalars_in_pairs ms
-  texts_of_pairs NoMembers p = refl
-  texts_of_pairs (MemberAnd k t ms) p =
-      ap (λ l. trees.String k ∷ l) (flat_map-append text_of (met t (p + 1))
-      (met_in_pairs ms (p + 1 + size t))
-      ∙ (λ i. texts_are t (p + 1) i ++ texts_of_pairs ms (p + 1 + size t) i))
 
 -- ---- places rise
 

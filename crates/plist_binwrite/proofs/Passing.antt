@@ -1,130 +1,77 @@
--- References put one by one, along a walk of a collection's items.
-use Rattle.std.proofs.Common.{◌≡◌, ◌⊎◌, ℕ, ◌+◌, ◌≤◌, Bool, true, false, List, [], ◌∷◌, length, map, Option, Ok, Err, if◌then◌else◌, refl, ap, ◌∙◌, arith}
-use Rattle.plist_base.specs.Faults.{Fault}
-use Rattle.plist_base.specs.Writing.{Answer}
-use Rattle.plist_binwrite.specs.Forms.{big_endian, table_form}
-use Rattle.plist_binwrite.specs.Held.{is_stop, event_at, item_places, half_places}
+-- Walks along the children of a collection, with what holds of the places of those that are left.
+use Rattle.std.proofs.Common.{◌≡◌, ℕ, ◌+◌, ◌≤◌, Bool, true, false, List, [], ◌∷◌, length, subst, arith}
 use Rattle.plist_base.specs.Events.{PlainEvent}
-use Rattle.plist_base.specs.Trees.{Tree, Trees, Members, NoMembers, MemberAnd}
-use Rattle.plist_binwrite.specs.Standing.{size, Sits, SitsItems, SitsPairs}
-use Rattle.plist_binwrite.specs.Outlets.{PutsBytes}
-use Rattle.plist_binwrite.proofs.Outgoing.{puts_none, puts_then, puts_front, puts_as}
-use Rattle.plist_binwrite.proofs.Skipping.{FirstPair, items_on, items_off, pairs_on, pairs_off, sits_in}
+use Rattle.plist_base.specs.Trees.{Trees, Members}
+use Rattle.plist_binwrite.specs.Standing.{size, SitsItems, SitsPairs}
+use Rattle.plist_binwrite.specs.Held.{is_stop, event_at, item_places, half_at, half_places, EndsTree, LacksItem}
+use Rattle.plist_binwrite.proofs.Skipping.{First, FirstPair, begins, items_on, items_off, pairs_on, pairs_off, sits_in}
 
-module _ (es : List PlainEvent) (num : ℕ → ℕ) (w : ℕ) (a : Option (List ℕ))
-    (held all : List ℕ) where
-  -- what is put, and then the items from place q on, are all
-  pub record Items (b : Option (List ℕ)) (h : List ℕ) (q : ℕ) : Type 0 where
-    pub left : Trees
-    pub sits : SitsItems es left q
-    pub goes : (answer : Answer) (c : Option (List ℕ)) (k : List ℕ)
-        → PutsBytes b h (table_form w (map num (item_places left q))) answer c k
-        → PutsBytes a held all answer c k
+-- the items of an array from place q on
+pub record Items (es : List PlainEvent) (Goes : List ℕ → Type 0) (q : ℕ) : Type 0 where
+  pub left : Trees
+  pub sits : SitsItems es left q
+  pub goes : Goes (item_places left q)
 
-  pub items_next : {b c : Option (List ℕ)} {h k : List ℕ} {q next : ℕ} → Items b h q
-      → is_stop (event_at es q) ≡ false → ((t : Tree) → Sits es t q → next ≡ q + size t)
-      → PutsBytes b h (big_endian w (num q)) (Ok tt) c k → Items c k next
-  items_next {b} {c} {h} {k} {q} {next} l nostop skip p =
-      let f = items_on l.left l.sits nostop in
-      rw (skip f.tree f.here) (record {
-        left = f.rest;
-        sits = f.sits;
-        goes = λ answer d j r. l.goes answer d j
-            (puts_as (cc (f.is)) (puts_then p r));
+-- the values of a dictionary, or its keys
+pub record Halves (of_values : Bool) (es : List PlainEvent) (Goes : List ℕ → Type 0)
+    (q : ℕ) : Type 0 where
+  pub left : Members
+  pub sits : SitsPairs es left q
+  pub goes : Goes (half_places of_values left q)
+
+-- no end stands at a pair's key or value
+stands : {es : List PlainEvent} {q : ℕ} {ms : Members} (b : Bool) (f : FirstPair es ms q)
+    → is_stop (event_at es (half_at b q)) ≡ false
+stands {es} {q} true f = begins f.tree (q + 1) f.value
+stands {es} {q} false f = begins _ q f.here
+
+module _ {es : List PlainEvent} {Goes : List ℕ → Type 0} {q : ℕ} where
+  pub items_first : (i : Items es Goes q) → is_stop (event_at es q) ≡ false
+      → (f : First es i.left q) × Goes (q ∷ item_places f.rest (q + size f.tree))
+  items_first i nostop =
+      let f = items_on i.left i.sits nostop in
+      (f, subst (λ ts. Goes (item_places ts q)) f.is i.goes)
+
+  pub items_next : {More : List ℕ → Type 0} {next : ℕ} → Items es Goes q
+      → is_stop (event_at es q) ≡ false → EndsTree es q next
+      → ((places : List ℕ) → Goes (q ∷ places) → More places) → Items es More next
+  items_next i nostop skip to =
+      let f = items_first i nostop in
+      rw (skip f.0.tree f.0.here) (record {
+        left = f.0.rest;
+        sits = f.0.sits;
+        goes = to _ f.1;
       })
 
-  pub items_fail : {b c : Option (List ℕ)} {h k : List ℕ} {q : ℕ} {fault : Fault} → Items b h q
-      → is_stop (event_at es q) ≡ false → PutsBytes b h (big_endian w (num q)) (Err fault) c k
-      → PutsBytes a held all (Err fault) c k
-  items_fail {b} {c} {h} {k} {q} {fault} l nostop p =
-      let f = items_on l.left l.sits nostop in
-      l.goes (Err fault) c k
-      (puts_as (cc (f.is))
-      (puts_front (table_form w (map num (item_places f.rest (q + size f.tree)))) p))
+  pub items_stop : Items es Goes q → LacksItem es q → Goes []
+  items_stop i lacks =
+      subst (λ ts. Goes (item_places ts q)) (items_off i.left i.sits lacks) i.goes
 
-  pub items_stop : {b : Option (List ℕ)} {h : List ℕ} {q : ℕ} → Items b h q
-      → is_stop (event_at es q) ≡ true ⊎ (length es ≤ q) → PutsBytes a held all (Ok tt) b h
-  items_stop {b} {h} {q} l end =
-      l.goes (Ok tt) b h (puts_as (cc (items_off l.left l.sits end)) puts_none)
+  module _ {b : Bool} where
+    pub halves_first : (h : Halves b es Goes q) → is_stop (event_at es q) ≡ false
+        → (f : FirstPair es h.left q)
+        × Goes (half_at b q ∷ half_places b f.rest (q + 1 + size f.tree))
+    halves_first h nostop =
+        let f = pairs_on h.left h.sits nostop in
+        (f, subst (λ ms. Goes (half_places b ms q)) f.is h.goes)
 
-pub items_begin : (es : List PlainEvent) (num : ℕ
-    → ℕ) (w : ℕ) (a : Option (List ℕ)) (held : List ℕ) (ts : Trees) (q : ℕ) → SitsItems es ts q
-    → Items es num w a held (table_form w (map num (item_places ts q))) a held q
-items_begin es num w a held ts q s = record { left = ts; sits = s; goes = λ answer c k p. p }
+    -- a key has its value behind it
+    pub halves_within : {A : Type 0} → Halves b es Goes q → is_stop (event_at es q) ≡ false
+        → length es ≤ q + 1 → A
+    halves_within h nostop end = absurd (omega (arith, sits_in (halves_first h nostop).0.value, end))
 
--- of a pair at q, and of all pairs, what is put
-abbrev pub half_at : Bool → ℕ → ℕ
-half_at of_values q = if of_values then q + 1 else q
+    pub halves_next : {More : List ℕ → Type 0} {next : ℕ} → Halves b es Goes q
+        → is_stop (event_at es q) ≡ false → EndsTree es (q + 1) next
+        → ((places : List ℕ) → is_stop (event_at es (half_at b q)) ≡ false
+        → Goes (half_at b q ∷ places) → More places) → Halves b es More next
+    halves_next h nostop skip to =
+        let f = halves_first h nostop in
+        rw (skip f.0.tree f.0.value) (record {
+          left = f.0.rest;
+          sits = f.0.sits;
+          goes = to _ (stands b f.0) f.1;
+        })
 
-pub half_none : (of_values : Bool) (q : ℕ) → half_places of_values NoMembers q ≡ []
-half_none true q = refl
-half_none false q = refl
-
-pub half_some : (of_values : Bool) (k : List ℕ) (t : Tree) (ms : Members) (q : ℕ)
-    → half_places of_values (MemberAnd k t ms) q
-    ≡ half_at of_values q ∷ half_places of_values ms (q + 1 + size t)
-half_some true k t ms q = refl
-half_some false k t ms q = refl
-
--- the place of the first pair, and those of the others
-first_of : {es : List PlainEvent} {q : ℕ} {left : Members} (of_values : Bool)
-    (f : FirstPair es left q) → half_places of_values left q
-    ≡ half_at of_values q ∷ half_places of_values f.rest (q + 1 + size f.tree)
-first_of {es} {q} of_values f =
-    ap (λ ms. half_places of_values ms q) f.is ∙ half_some of_values f.key f.tree f.rest q
-
--- the same of the keys of a dictionary, or of its values: one of each pair
-module _ (es : List PlainEvent) (num : ℕ → ℕ) (w : ℕ) (of_values : Bool) where
-  abbrev pub put_of : Members → ℕ → List ℕ
-  put_of ms q = table_form w (map num (half_places of_values ms q))
-
-  module _ (a : Option (List ℕ)) (held all : List ℕ) where
-    pub record Each (b : Option (List ℕ)) (h : List ℕ) (q : ℕ) : Type 0 where
-      pub left : Members
-      pub sits : SitsPairs es left q
-      pub goes : (answer : Answer) (c : Option (List ℕ)) (k : List ℕ)
-          → PutsBytes b h (put_of left q) answer c k → PutsBytes a held all answer c k
-
-module _ {es : List PlainEvent} {num : ℕ → ℕ} {w : ℕ} {of_values : Bool} {a : Option (List ℕ)}
-    {held all : List ℕ} where
-  pub each_within : {b : Option (List ℕ)} {h : List ℕ} {q : ℕ}
-      → Each es num w of_values a held all b h q
-      → is_stop (event_at es q) ≡ false → q + 1 + 1 ≤ length es
-  each_within l nostop =
-      let f = pairs_on l.left l.sits nostop in omega (arith, sits_in f.value)
-
-  pub each_next : {b c : Option (List ℕ)} {h k : List ℕ} {q next : ℕ}
-      → Each es num w of_values a held all b h q → is_stop (event_at es q) ≡ false
-      → ((t : Tree) → Sits es t (q + 1) → next ≡ q + 1 + size t)
-      → PutsBytes b h (big_endian w (num (half_at of_values q))) (Ok tt) c k
-      → Each es num w of_values a held all c k next
-  each_next {b} {c} {h} {k} {q} {next} l nostop skip p =
-      let f = pairs_on l.left l.sits nostop in
-      rw (skip f.tree f.value) (record {
-        left = f.rest;
-        sits = f.sits;
-        goes = λ answer d j r.
-            l.goes answer d j (puts_as (cc (first_of of_values f)) (puts_then p r));
-      })
-
-  pub each_fail : {b c : Option (List ℕ)} {h k : List ℕ} {q : ℕ} {fault : Fault}
-      → Each es num w of_values a held all b h q → is_stop (event_at es q) ≡ false
-      → PutsBytes b h (big_endian w (num (half_at of_values q))) (Err fault) c k
-      → PutsBytes a held all (Err fault) c k
-  each_fail {b} {c} {h} {k} {q} {fault} l nostop p =
-      let f = pairs_on l.left l.sits nostop in
-      l.goes (Err fault) c k (puts_as (cc (first_of of_values f))
-      (puts_front (put_of es num w of_values f.rest (q + 1 + size f.tree)) p))
-
-  pub each_stop : {b : Option (List ℕ)} {h : List ℕ} {q : ℕ}
-      → Each es num w of_values a held all b h q
-      → is_stop (event_at es q) ≡ true ⊎ (length es ≤ q) → PutsBytes a held all (Ok tt) b h
-  each_stop {b} {h} {q} l end =
-      l.goes (Ok tt) b h
-      (puts_as (cc (pairs_off l.left l.sits end, half_none of_values q)) puts_none)
-
-pub each_begin : (es : List PlainEvent) (num : ℕ → ℕ) (w : ℕ) (of_values : Bool)
-    (a : Option (List ℕ)) (held : List ℕ) (ms : Members) (q : ℕ) → SitsPairs es ms q
-    → Each es num w of_values a held (put_of es num w of_values ms q) a held q
-each_begin es num w of_values a held ms q s =
-    record { left = ms; sits = s; goes = λ answer c k p. p }
+    pub halves_stop : Halves b es Goes q → LacksItem es q → Goes []
+    halves_stop h lacks =
+        subst (λ ms. Goes (half_places b ms q)) (pairs_off h.left h.sits lacks) h.goes

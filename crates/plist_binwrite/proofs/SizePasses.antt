@@ -1,5 +1,5 @@
 -- The sizes that a pass over the events tells.
-use Rattle.std.proofs.Common.{◌≡◌, ◌⊎◌, inl, inr, ℕ, ◌+◌, ◌*◌, ◌/◌, ◌^◌, ◌<◌, ◌≤◌, false, true, List, length, flat_map, Option, None, Some, SomeIff, refl, ap, ◌∙◌, subst, arith, length-append}
+use Rattle.std.proofs.Common.{◌≡◌, inl, inr, ℕ, ◌+◌, ◌*◌, ◌/◌, ◌^◌, ◌<◌, false, List, length, flat_map, Option, None, Some, SomeIff, refl, ap, ◌∙◌, subst, arith, length-append}
 use Rattle.std.proofs.lemmas.Bool.{cases_lt}
 use Rattle.plist_base.specs.Trees.{number_of_trees, number_of_members, Tree, Trees, Members, NoMembers, MemberAnd}
 use Rattle.plist_binwrite.specs.declared.kinds.Kind.TheVariants as kind
@@ -7,10 +7,10 @@ use Rattle.plist_base.specs.Events.{PlainEvent}
 use Rattle.plist_binwrite.specs.Standing.{size, Sits, SitsItems}
 use Rattle.plist_binwrite.specs.Forms.{big_endian, length_form, units_of, is_ascii_text, text_form}
 use Rattle.plist_binwrite.specs.Sizes.{TellsSize, object_size}
-use Rattle.plist_binwrite.specs.Held.{is_stop, kind_of, event_at}
+use Rattle.plist_binwrite.specs.Held.{kind_of, event_at}
 use Rattle.plist_binwrite.proofs.Placed.{of_dictionary}
 use Rattle.plist_binwrite.proofs.ReadingNumbers.{length-table}
-use Rattle.plist_binwrite.proofs.Skipping.{as_items, pairs_as_items, items_on, items_off}
+use Rattle.plist_binwrite.proofs.Skipping.{as_items, pairs_as_items}
 
 pub told_if : (told : Option ℕ) (size : ℕ) → SomeIff told (size < 2 ^ 64) size → TellsSize told size
 told_if None size h = elim (cases_lt size (2 ^ 64)) [ inl l ↦ absurd (h l) | inr l ↦ l ]
@@ -26,40 +26,12 @@ wide_length text wide =
     (flat_map (big_endian 2) (units_of text)) in
     rw (wide) (omega (arith, head, length-table 2 (units_of text)))
 
--- ---- items
-
--- what a count has still to come to
-pub record Counts (es : List PlainEvent) (q count all : ℕ) : Type 0 where
-  pub left : Trees
-  pub sits : SitsItems es left q
-  pub are : count + number_of_trees left ≡ all
-
-pub counts_begin : {es : List PlainEvent} (ts : Trees) (q : ℕ) → SitsItems es ts q
-    → Counts es q 0 (number_of_trees ts)
-counts_begin ts q s = record { left = ts; sits = s; are = omega arith }
-
-pub counts_stop : {es : List PlainEvent} {q count all : ℕ} → Counts es q count all
-    → is_stop (event_at es q) ≡ true ⊎ (length es ≤ q) → count ≡ all
-counts_stop {es} {q} {count} {all} l h =
-    omega (arith, l.are, ap number_of_trees (items_off l.left l.sits h))
-
-pub counts_next : {es : List PlainEvent} {q count all next : ℕ} → Counts es q count all
-    → is_stop (event_at es q) ≡ false → ((t : Tree) → Sits es t q → next ≡ q + size t)
-    → Counts es next (count + 1) all
-counts_next {es} {q} {count} {all} {next} l h skip =
-    let f = items_on l.left l.sits h in
-    rw (skip f.tree f.here) (record {
-      left = f.rest;
-      sits = f.sits;
-      are = omega (arith, l.are, ap number_of_trees f.is);
-    })
+-- ---- objects
 
 -- the keys and the values of a dictionary are twice its pairs
 pub twice : (ms : Members) → number_of_trees (as_items ms) ≡ 2 * number_of_members ms
 twice NoMembers = refl
 twice (MemberAnd k t ms) = omega (arith, twice ms)
-
--- ---- objects
 
 pub dictionary_told : {es : List PlainEvent} (told : Option ℕ) (w count : ℕ) (t : Tree) (p : ℕ)
     → Sits es t p → kind_of (event_at es p) ≡ kind.Dictionary

@@ -1,5 +1,5 @@
 -- Totals over keys that stand once.
-use Rattle.std.proofs.Common.{◌≡◌, ◌⊎◌, inl, inr, ℕ, zero, suc, ◌+◌, ◌<◌, Bool, true, false, not, cond, ◌||◌, ◌&&◌, eqb, List, [], ◌∷◌, length, map, refl, ap, sym, ◌∙◌, subst, arith}
+use Rattle.std.proofs.Common.{◌≡◌, ◌⊎◌, inl, inr, ℕ, zero, suc, ◌+◌, ◌<◌, ◌≤◌, Bool, true, false, not, cond, ◌||◌, ◌&&◌, eqb, List, [], ◌∷◌, length, map, refl, ap, sym, ◌∙◌, subst, arith}
 use Rattle.std.specs.List.{AllByRecursion, IsDistinct, filter}
 use Rattle.std.specs.Set.{is_member, unique_keys}
 use Rattle.std.proofs.lemmas.Bool.{or_parts, or_left, and_parts, and_from, eq-eqb, ne_eqb, eqb-true, eqb-false, not-true, not_from_false}
@@ -8,6 +8,7 @@ use Rattle.std.proofs.lemmas.List.Elements.{All-filter, All-from_recursion, recu
 use Rattle.std.proofs.lemmas.Map.Made.{is_member-filter}
 use Rattle.std.proofs.lemmas.Bool.Decides.{eqb_tells}
 use Rattle.plist_binwrite.specs.Sizes.{total}
+use Rattle.plist_binwrite.proofs.Uniques.{few_below}
 
 -- the weights of the numbers below a count
 abbrev pub total_below : (ℕ → ℕ) → ℕ → ℕ
@@ -111,6 +112,45 @@ module _ {K : Type 0} (eq : K → K → Bool) (tells : (a b : K)
   unfolding IsDistinct
   unique_distinct [] = tt
   unique_distinct (x ∷ xs) = distinct_one xs x (is_member eq xs x) refl (unique_distinct xs)
+
+  -- keys below a count, and no number stands for two
+  module _ (count : ℕ) (At : K → ℕ → Type 0)
+      (one : (a b : K) (n : ℕ) → At a n → At b n → a ≡ b) where
+    record Numbers (xs : List K) : Type 0 where
+      numbers : List ℕ
+      long : length numbers ≡ length xs
+      below : AllByRecursion (λ n. n < count) numbers
+      distinct : IsDistinct eqb numbers
+      apart : (y : K) (n : ℕ) → At y n → AllByRecursion (λ x. eq y x ≡ false) xs
+          → AllByRecursion (λ m. eqb n m ≡ false) numbers
+
+    numbered : (xs : List K) → AllByRecursion (λ x. (n : ℕ) × (n < count) × At x n) xs
+        → IsDistinct eq xs → Numbers xs
+    unfolding IsDistinct
+    numbered [] a d =
+        record { numbers = []; long = refl; below = tt; distinct = tt; apart = λ y n h e. tt }
+    numbered (x ∷ xs) (here, a) d =
+        let more = numbered xs a d.1 in
+        record {
+          numbers = here.0 ∷ more.numbers;
+          long = ap suc more.long;
+          below = (here.1, more.below);
+          distinct = (more.apart x here.0 here.2 d.0, more.distinct);
+          apart = λ y n h e. (
+            elim (tells y x) [
+              | inl t ↦ cc (t.0, e.0)
+              | inr f ↦ ne_eqb n here.0 (λ k. f.1 (one y x n h (subst (At x) (sym k) here.2)))
+            ],
+            more.apart y n h e.1,
+          );
+        }
+
+    -- as many as the count at most
+    pub pigeons : (xs : List K) → AllByRecursion (λ x. (n : ℕ) × (n < count) × At x n) xs
+        → IsDistinct eq xs → length xs ≤ count
+    pigeons xs a d =
+        let r = numbered xs a d in
+        omega (arith, r.long, few_below count r.numbers r.below r.distinct)
 
 -- ---- lists that weigh the same
 

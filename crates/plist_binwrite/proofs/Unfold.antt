@@ -1,21 +1,22 @@
 -- A numbered list of events is what its objects unfold to.
 use Rattle.std.proofs.Common.{◌≡◌, inl, inr, ℕ, suc, ◌+◌, ◌-◌, ◌<◌, ◌≤◌, false, ◌||◌, eqb, List, [], ◌∷◌, ◌++◌, length, map, Some, Ok, refl, ap, sym, ◌∙◌, arith, length-append}
-use Rattle.std.specs.List.{list_any, flat_map, AllByRecursion}
-use Rattle.std.proofs.lemmas.Bool.{lt-ltb}
+use Rattle.std.specs.List.{list_any, flat_map, slice_get, AllByRecursion}
 use Rattle.std.proofs.lemmas.Bool.Decides.{eqb_tells}
+use Rattle.std.proofs.lemmas.Grind.{flat_map-append}
 use Rattle.std.proofs.lemmas.List.{map-append}
+use Rattle.std.proofs.lemmas.Option.{slice_get_within}
 use Rattle.plist_base.specs.inner.Paths.{IsPath}
 use Rattle.plist_base.proofs.Paths.{path_push, path_room}
 use Rattle.plist_base.specs.Bracketing.{bracketing, bracketing_of_items, bracketing_of_pairs, shape, shape_of_items, shape_of_pairs}
-use Rattle.plist_base.specs.Events as events
-use Rattle.plist_base.specs.Events.{PlainEvent, EndCollection, Single}
+use Rattle.plist_base.specs.Events.{PlainEvent, Item, StartArray, StartDictionary, EndCollection}
 use Rattle.plist_base.specs.Trees as trees
 use Rattle.plist_base.specs.Trees.{number_of_trees, number_of_members, Tree, Leaf, Array, Dictionary, Trees, NoTrees, TreeAnd, Members, NoMembers, MemberAnd}
-use Rattle.plist_binread.specs.Object.{Object, children_of}
-use Rattle.plist_binread.specs.Unfolding.{until_fault}
-use Rattle.plist_binwrite.specs.Standing.{size, Sits, SitsItems, SitsPairs}
-use Rattle.plist_binwrite.specs.Walks.{Shown, all_items, of_obj, walk}
-use Rattle.plist_binwrite.specs.Numberings.{refs, pairs, obj_of, trace, trace_items, trace_pairs, IsNumbering}
+use Rattle.plist_binread.specs.Object.{children_of}
+use Rattle.plist_binread.specs.Unfolding.{Entry, items_of, until_fault, unfolding_of}
+use Rattle.plist_binread.specs.Visits.{visits_within, visits_of}
+use Rattle.plist_binwrite.specs.Counts.{collection_of, collected}
+use Rattle.plist_binwrite.specs.Standing.{size, Sits, SitsItems, SitsPairs, met, met_in_items, met_in_pairs}
+use Rattle.plist_binwrite.specs.Numberings.{refs, pairs, obj_of}
 use Rattle.plist_binwrite.proofs.Uniques.{all_from}
 use Rattle.plist_binwrite.proofs.Sitting.{sits_items, sits_pairs, sits_item, sits_next, sits_key, sits_value, sits_next_pair}
 
@@ -27,24 +28,6 @@ pub length-pairs : (num : ℕ → ℕ) (ms : Members) (q : ℕ)
     → length (pairs num ms q) ≡ number_of_members ms
 length-pairs num NoMembers q = refl
 length-pairs num (MemberAnd k t ms) q = omega (arith, length-pairs num ms (q + 1 + size t))
-
-module _ {A : Type 0} (s : Shown A) (count : ℕ) (place : ℕ → ℕ) (object : ℕ → Object) where
-  walk_step : (room : ℕ) (path : List ℕ) (at i : ℕ) → i < count → list_any (eqb i) path ≡ false
-      → walk s count place object (suc room) path at i
-      ≡ of_obj s (object i) i (place i) (λ c. walk s count place object room (i ∷ path) (place i) c)
-  unfolding walk
-  walk_step room path at i h any = rw (lt-ltb i count h, any) refl
-
-  -- an object that isn't open is entered
-  pub walk_entered : (path : List ℕ) (at i : ℕ) → IsPath count path → i < count
-      → list_any (eqb i) path ≡ false →
-      walk s count place object (count - length path) path at i
-      ≡ of_obj s (object i) i (place i) (λ c. walk s count place object (count - length (i ∷ path))
-      (i ∷ path) (place i) c)
-  walk_entered path at i o h any =
-      let room : length (i ∷ path) ≤ count = path_room (path_push i o h any) in
-      let e : count - length path ≡ suc (count - length (i ∷ path)) = omega arith in
-      rw e (walk_step (count - length (i ∷ path)) path at i h any)
 
 -- every object of the path is of a tree of more than m events
 abbrev pub Above : (ℕ → ℕ) → ℕ → List ℕ → Type 0
@@ -65,119 +48,138 @@ not_on_path rank m i (x ∷ path) e a =
       | inr d ↦ ap (λ b. b || list_any (eqb i) path) d.0 ∙ not_on_path rank m i path e a.1
     ]
 
-module _ {A : Type 0} (s : Shown A) (es : List PlainEvent) (num rank : ℕ → ℕ) (count : ℕ) (place : ℕ
-    → ℕ) (object : ℕ → Object) (n : IsNumbering es num rank count object) where
-  -- what is shown of an object inside those of the path
-  abbrev from : (path : List ℕ) (at i : ℕ) → List A
-  from path at i = walk s count place object (count - length path) path at i
+-- ---- what is shown of some trees: their events, and the numbers of their collections
 
-  entered : (t : Tree) (p : ℕ) (path : List ℕ) (at : ℕ) → Sits es t p → IsPath count path
-      → Above rank (size t) path →
-      from path at (num p)
-      ≡ of_obj s (obj_of num t p) (num p) (place (num p))
-      (from (num p ∷ path) (place (num p)))
-  entered t p path at sits o a =
-      walk_entered s count place object path at (num p) o (n.below t p sits)
-      (not_on_path rank (size t) (num p) path (n.ranked t p sits) a)
-      ∙ ap (λ ob. of_obj s ob (num p) (place (num p))
-      (from (num p ∷ path) (place (num p)))) (n.holds t p sits)
+module _ (num : ℕ → ℕ) where
+  abbrev numbers : List (ℕ × Tree) → List ℕ
+  numbers ones = map (λ one. num one.0) (collected ones)
 
-  path_in : (t : Tree) (p : ℕ) (path : List ℕ) → Sits es t p → IsPath count path
-      → Above rank (size t) path → IsPath count (num p ∷ path)
-  path_in t p path sits o a =
-      path_push (num p) o (n.below t p sits) (not_on_path rank (size t) (num p) path
-      (n.ranked t p sits) a)
+  pub record Shows (shown : List Item) (entered : List ℕ) (es : List PlainEvent)
+      (ones : List (ℕ × Tree)) : Type 0 where
+    pub items : shown ≡ map Ok es
+    pub visits : entered ≡ numbers ones
 
-  above_in : (t : Tree) (p m : ℕ) (path : List ℕ) → Sits es t p → m < size t
-      → Above rank (size t) path → Above rank m (num p ∷ path)
-  above_in t p m path sits h a =
-      (omega (arith, n.ranked t p sits), above_less rank m (size t) path (omega arith) a)
+  shows_both : {i j : List Item} {v w : List ℕ} {a b : List PlainEvent} {x y : List (ℕ × Tree)}
+      → Shows i v a x → Shows j w b y → Shows (i ++ j) (v ++ w) (a ++ b) (x ++ y)
+  shows_both {i} {j} {v} {w} {a} {b} {x} {y} s t = record {
+    items = (λ k. s.items k ++ t.items k) ∙ sym (map-append Ok a b);
+    visits =
+        (λ k. s.visits k ++ t.visits k)
+        ∙ sym (map-append (λ one. num one.0) (collected x) (collected y))
+        ∙ ap (map (λ one. num one.0)) (sym (flat_map-append collection_of x y));
+  }
+
+  -- a collection shows what is in it between its start and its end
+  shows_within : {i : List Item} {v : List ℕ} {es : List PlainEvent} {ones : List (ℕ × Tree)}
+      (start : PlainEvent) (one : ℕ × Tree) → collection_of one ≡ one ∷ [] → Shows i v es ones
+      → Shows (Ok start ∷ (i ++ Ok EndCollection ∷ [])) (num one.0 ∷ v)
+      (start ∷ (es ++ EndCollection ∷ [])) (one ∷ ones)
+  shows_within {es} {ones} start one is s = record {
+    items =
+        ap (λ l. Ok start ∷ (l ++ Ok EndCollection ∷ [])) s.items
+        ∙ ap (λ l. Ok start ∷ l) (sym (map-append Ok es (EndCollection ∷ [])));
+    visits =
+        ap (λ l. num one.0 ∷ l) s.visits
+        ∙ ap (λ l. map (λ o. num o.0) (l ++ collected ones)) (sym is);
+  }
+
+module _ (table : List Entry) (es : List PlainEvent) (num rank : ℕ → ℕ)
+    (ranked : (t : Tree) (p : ℕ) → Sits es t p → rank (num p) ≡ size t)
+    (holds : (t : Tree) (p : ℕ) → Sits es t p
+    → (place : ℕ) × (slice_get table (num p) ≡ Some (record {
+      place = place;
+      object = obj_of num t p;
+    }))) where
+  -- what an object unfolds to inside those of the path, and what is entered
+  abbrev items_in : List ℕ → ℕ → ℕ → List Item
+  items_in path at i = unfolding_of table (length table - length path) path at i
+
+  abbrev visits_in : List ℕ → ℕ → List ℕ
+  visits_in path i = visits_of table (length table - length path) path i
+
+  abbrev ShowsTree : List ℕ → ℕ → Tree → ℕ → Type 0
+  ShowsTree path at t p =
+      Shows num (items_in path at (num p)) (visits_in path (num p)) (bracketing t) (met t p)
+
+  abbrev ShowsAll : List ℕ → ℕ → List ℕ → List PlainEvent → List (ℕ × Tree) → Type 0
+  ShowsAll path at is events ones =
+      Shows num (flat_map (items_in path at) is) (flat_map (visits_in path) is) events ones
+
+  module _ (t : Tree) (p : ℕ) (path : List ℕ) (s : Sits es t p) (o : IsPath (length table) path)
+      (a : Above rank (size t) path) where
+    not_open : list_any (eqb (num p)) path ≡ false
+    not_open = not_on_path rank (size t) (num p) path (ranked t p s) a
+
+    abbrev place : ℕ
+    place = (holds t p s).0
+
+    path_in : IsPath (length table) (num p ∷ path)
+    path_in = path_push (num p) o (slice_get_within table (num p) _ (holds t p s).1) not_open
+
+    above_in : (m : ℕ) → m < size t → Above rank m (num p ∷ path)
+    above_in m h = (omega (arith, ranked t p s), above_less rank m (size t) path (omega arith) a)
+
+    -- it isn't open, so it is entered
+    entered : (at : ℕ) → Shows num
+        (items_of place (obj_of num t p) (items_in (num p ∷ path) place))
+        (visits_within (num p) (obj_of num t p) (visits_in (num p ∷ path)))
+        (bracketing t) (met t p) → ShowsTree path at t p
+    unfolding unfolding_of visits_of
+    entered at shows =
+        let room : length (num p ∷ path) ≤ length table = path_room path_in in
+        let e : length table - length path ≡ suc (length table - length (num p ∷ path)) = omega
+        arith in
+        rw (e, (holds t p s).1, not_open) shows
+
+  leaf : (x : trees.Scalar) (p : ℕ) (path : List ℕ) (at : ℕ) → Sits es (Leaf x) p
+      → IsPath (length table) path → Above rank 1 path → ShowsTree path at (Leaf x) p
+  leaf x p path at s o a = entered (Leaf x) p path s o a at (record { items = refl; visits = refl })
 
   mutual
-    pub unfolds : (t : Tree) (p : ℕ) (path : List ℕ) (at : ℕ) → Sits es t p → IsPath count path
-        → Above rank (size t) path → from path at (num p)
-        ≡ trace num s t p
-    unfolds (Leaf x) p path at sits o a = entered (Leaf x) p path at sits o a
-    unfolds (Array ts) p path at sits o a =
-        entered (Array ts) p path at sits o a
-        ∙ ap (λ n. s.begin_array (num p) n ++ (flat_map
-        (from (num p ∷ path) (place (num p))) (refs num ts (p + 1)) ++ s.close))
-        (length-refs num ts (p + 1))
-        ∙ ap (λ l. s.begin_array (num p) (number_of_trees ts) ++ (l ++ s.close))
-        (unfolds_items ts (p + 1) (num p ∷ path) (place (num p)) (sits_items sits)
-        (path_in (Array ts) p path sits o a)
-        (above_in (Array ts) p (length (shape_of_items ts)) path sits
-        (omega (arith, length-append (shape_of_items ts) (EndCollection ∷ []))) a))
-    unfolds (Dictionary ms) p path at sits o a =
-        entered (Dictionary ms) p path at sits o a
-        ∙ ap (λ n. s.begin_dictionary (num p) n ++ (flat_map
-        (from (num p ∷ path) (place (num p))) (children_of (pairs num ms (p + 1))) ++ s.close))
-        (length-pairs num ms (p + 1))
-        ∙ ap (λ l. s.begin_dictionary (num p) (number_of_members ms) ++ (l ++ s.close))
-        (unfolds_pairs ms (p + 1) (num p ∷ path) (place (num p)) (sits_pairs sits)
-        (path_in (Dictionary ms) p path sits o a)
-        (above_in (Dictionary ms) p (length (shape_of_pairs ms)) path sits
-        (omega (arith, length-append (shape_of_pairs ms) (EndCollection ∷ []))) a))
+    pub unfolds : (t : Tree) (p : ℕ) (path : List ℕ) (at : ℕ) → Sits es t p
+        → IsPath (length table) path → Above rank (size t) path → ShowsTree path at t p
+    unfolds (Leaf x) p path at s o a = leaf x p path at s o a
+    unfolds (Array ts) p path at s o a =
+        entered (Array ts) p path s o a at (rw (length-refs num ts (p + 1))
+        (shows_within num (StartArray (Some (number_of_trees ts))) (p, Array ts) refl
+        (unfolds_items ts (p + 1) (num p ∷ path) _ (sits_items s) (path_in (Array ts) p path s o a)
+        (above_in (Array ts) p path s o a (length (shape_of_items ts))
+        (omega (arith, length-append (shape_of_items ts) (EndCollection ∷ [])))))))
+    unfolds (Dictionary ms) p path at s o a =
+        entered (Dictionary ms) p path s o a at (rw (length-pairs num ms (p + 1))
+        (shows_within num (StartDictionary (Some (number_of_members ms))) (p, Dictionary ms) refl
+        (unfolds_pairs ms (p + 1) (num p ∷ path) _ (sits_pairs s)
+        (path_in (Dictionary ms) p path s o a)
+        (above_in (Dictionary ms) p path s o a (length (shape_of_pairs ms))
+        (omega (arith, length-append (shape_of_pairs ms) (EndCollection ∷ [])))))))
 
-    pub unfolds_items : (ts : Trees) (q : ℕ) (path : List ℕ) (at : ℕ) → SitsItems es ts q
-        → IsPath count path → Above rank (length (shape_of_items ts)) path
-        → flat_map (from path at) (refs num ts q)
-        ≡ trace_items num s ts q
-    unfolds_items NoTrees q path at sits o a = refl
-    unfolds_items (TreeAnd t ts) q path at sits o a =
-        let len : length (shape t ++ shape_of_items ts)
-        ≡ length (shape t) + length (shape_of_items ts) = length-append (shape t)
-        (shape_of_items ts) in
-        let first = unfolds t q path at (sits_item sits) o
-        (above_less rank (size t) _ path (omega arith) a) in
-        let next = unfolds_items ts (q + size t) path at (sits_next sits) o
-        (above_less rank (length (shape_of_items ts)) _ path (omega arith) a) in
-        λ i. first i ++ next i
+    unfolds_items : (ts : Trees) (q : ℕ) (path : List ℕ) (at : ℕ) → SitsItems es ts q
+        → IsPath (length table) path → Above rank (length (shape_of_items ts)) path
+        → ShowsAll path at (refs num ts q) (bracketing_of_items ts) (met_in_items ts q)
+    unfolds_items NoTrees q path at s o a = record { items = refl; visits = refl }
+    unfolds_items (TreeAnd t ts) q path at s o a =
+        let long = length-append (shape t) (shape_of_items ts) in
+        shows_both num
+        (unfolds t q path at (sits_item s) o
+        (above_less rank (size t) _ path (omega (arith, long)) a))
+        (unfolds_items ts (q + size t) path at (sits_next s) o
+        (above_less rank (length (shape_of_items ts)) _ path (omega (arith, long)) a))
 
-    pub unfolds_pairs : (ms : Members) (q : ℕ) (path : List ℕ) (at : ℕ) → SitsPairs es ms q
-        → IsPath count path → Above rank (length (shape_of_pairs ms)) path
-        → flat_map (from path at)
-        (children_of (pairs num ms q)) ≡ trace_pairs num s ms q
-    unfolds_pairs NoMembers q path at sits o a = refl
-    unfolds_pairs (MemberAnd k t ms) q path at sits o a =
-        let len : length (shape t ++ shape_of_pairs ms)
-        ≡ length (shape t) + length (shape_of_pairs ms) = length-append (shape t)
-        (shape_of_pairs ms) in
-        let key = entered (Leaf (trees.String k)) q path at (sits_key sits) o
-        (above_less rank 1 _ path (omega arith) a) in
-        let first = unfolds t (q + 1) path at (sits_value sits) o
-        (above_less rank (size t) _ path (omega arith) a) in
-        let next = unfolds_pairs ms (q + 1 + size t) path at (sits_next_pair sits) o
-        (above_less rank (length (shape_of_pairs ms)) _ path (omega arith) a) in
-        λ i. key i ++ (first i ++ next i)
-
--- the items of a tree are its events
-mutual
-  pub trace_is : (num : ℕ → ℕ) (t : Tree) (p : ℕ) → trace num all_items t p ≡ map Ok (bracketing t)
-  trace_is num (Leaf x) p = refl
-  trace_is num (Array ts) p =
-      ap (λ l. Ok (events.StartArray (Some (number_of_trees ts))) ∷ l)
-      (ap (λ l. l ++ Ok events.EndCollection ∷ []) (trace_items_is num ts (p + 1))
-      ∙ sym (map-append Ok (bracketing_of_items ts) (events.EndCollection ∷ [])))
-  trace_is num (Dictionary ms) p =
-      ap (λ l. Ok (events.StartDictionary (Some (number_of_members ms))) ∷ l)
-      (ap (λ l. l ++ Ok events.EndCollection ∷ []) (trace_pairs_is num ms (p + 1))
-      ∙ sym (map-append Ok (bracketing_of_pairs ms) (events.EndCollection ∷ [])))
-
-  trace_items_is : (num : ℕ → ℕ) (ts : Trees) (q : ℕ)
-      → trace_items num all_items ts q ≡ map Ok (bracketing_of_items ts)
-  trace_items_is num NoTrees q = refl
-  trace_items_is num (TreeAnd t ts) q =
-      (λ i. trace_is num t q i ++ trace_items_is num ts (q + size t) i)
-      ∙ sym (map-append Ok (bracketing t) (bracketing_of_items ts))
-
-  trace_pairs_is : (num : ℕ → ℕ) (ms : Members) (q : ℕ)
-      → trace_pairs num all_items ms q ≡ map Ok (bracketing_of_pairs ms)
-  trace_pairs_is num NoMembers q = refl
-  trace_pairs_is num (MemberAnd k t ms) q =
-      ap (λ l. Ok (Single (trees.String k)) ∷ l)
-      ((λ i. trace_is num t (q + 1) i ++ trace_pairs_is num ms (q + 1 + size t) i)
-      ∙ sym (map-append Ok (bracketing t) (bracketing_of_pairs ms)))
+    unfolds_pairs : (ms : Members) (q : ℕ) (path : List ℕ) (at : ℕ) → SitsPairs es ms q
+        → IsPath (length table) path → Above rank (length (shape_of_pairs ms)) path
+        → ShowsAll path at (children_of (pairs num ms q)) (bracketing_of_pairs ms)
+        (met_in_pairs ms q)
+    unfolds_pairs NoMembers q path at s o a = record { items = refl; visits = refl }
+    unfolds_pairs (MemberAnd k t ms) q path at s o a =
+        let long = length-append (shape t) (shape_of_pairs ms) in
+        shows_both num
+        (leaf (trees.String k) q path at (sits_key s) o
+        (above_less rank 1 _ path (omega (arith, long)) a))
+        (shows_both num
+        (unfolds t (q + 1) path at (sits_value s) o
+        (above_less rank (size t) _ path (omega (arith, long)) a))
+        (unfolds_pairs ms (q + 1 + size t) path at (sits_next_pair s) o
+        (above_less rank (length (shape_of_pairs ms)) _ path (omega (arith, long)) a)))
 
 pub no_fault : (es : List PlainEvent) → until_fault (map Ok es) ≡ map Ok es
 no_fault [] = refl

@@ -1,28 +1,30 @@
 -- A laid out table with its trailer is a file of the tree.
-use Rattle.std.proofs.Common.{◌≡◌, ◌≢◌, ℕ, ◌+◌, ◌-◌, ◌*◌, ◌^◌, ◌<◌, ◌≤◌, true, eqb, nat_eq, List, [], ◌∷◌, ◌++◌, length, take, drop, get_or, map, Ok, refl, ap, sym, ◌∙◌, arith, append_assoc, length-append}
-use Rattle.std.specs.List.{list_any, starts_with}
+use Rattle.std.proofs.Common.{◌≡◌, ◌≢◌, ℕ, ◌+◌, ◌-◌, ◌*◌, ◌^◌, ◌<◌, ◌≤◌, true, eqb, nat_eq, List, [], ◌∷◌, ◌++◌, length, take, drop, get_or, map, Some, Ok, refl, ap, sym, ◌∙◌, arith, append_assoc, length-append}
+use Rattle.std.specs.List.{list_any, starts_with, slice_get}
+use Rattle.std.specs.Prelude.{option_map}
+use Rattle.std.proofs.lemmas.Option.{slice_get-map, slice_get-get_or}
 use Rattle.std.proofs.lemmas.List.Elements.{All-from_get_or, recursion_from_All}
 use Rattle.std.proofs.lemmas.Bool.{le-ltb, true_from_ne_false}
 use Rattle.std.proofs.Math.Seq.{take-append_seam, drop-append_seam}
 use Rattle.plist_base.specs.Bracketing.{bracketing, shape}
 use Rattle.plist_binread.specs.Container.{number_of, numbers_of, magic, trailer_in, is_width, Head, head_with, head_of}
 use Rattle.plist_binread.specs.Object.{Object, object_in}
-use Rattle.plist_binread.specs.Unfolding.{until_fault, items_with, items_of_file}
-use Rattle.plist_binread.specs.Visits.{visits_with, visits}
+use Rattle.plist_binread.specs.Unfolding.{Entry, table_of, unfolding_of, until_fault, items_with, items_of_file}
+use Rattle.plist_binread.specs.Visits.{visits_of, visits_with, visits}
+use Rattle.plist_binread.proofs.Steps.{length-table_of}
 use Rattle.plist_base.specs.Trees.{Tree}
 use Rattle.plist_binwrite.specs.Forms.{big_endian, least_width, form, table_form, trailer_form, AllFit}
-use Rattle.plist_binwrite.specs.Counts.{HasObjects}
+use Rattle.plist_binwrite.specs.Counts.{HasObjects, collections_in}
 use Rattle.plist_binwrite.specs.Written.{reference_width, offset_width, bodies, ending, IsWrittenAs}
 use Rattle.plist_binwrite.specs.inner.Laying.{IsLaid, closed}
-use Rattle.plist_binwrite.specs.Numberings.{trace, IsNumbering}
-use Rattle.plist_binwrite.specs.Walks.{Shown, all_items, collections, walk}
+use Rattle.plist_binwrite.specs.Numberings.{IsNumbering}
+use Rattle.plist_binwrite.specs.Standing.{met}
 use Rattle.plist_binwrite.proofs.Layouts.{length-magic, found_place, object_there}
 use Rattle.plist_binwrite.proofs.Reading.{form_read}
 use Rattle.plist_binwrite.proofs.ReadingNumbers.{numbers_back, length-table}
 use Rattle.plist_base.proofs.Paths.{path_none}
 use Rattle.plist_binwrite.proofs.Sitting.{sits_whole}
-use Rattle.plist_binwrite.proofs.Unfold.{unfolds, trace_is, no_fault}
-use Rattle.plist_binwrite.proofs.Walked.{place_in, object_of, walk_items, walk_visits}
+use Rattle.plist_binwrite.proofs.Unfold.{Shows, unfolds, no_fault}
 use Rattle.plist_binwrite.proofs.Widths.{at_width, number_back, width_holds}
 
 -- ---- the head
@@ -167,21 +169,20 @@ module _ (t : Tree) (num rank : ℕ → ℕ) (objects : ℕ
   pub there : (k : ℕ) → k < length places → list_any (eqb k) l.order ≡ true
   there k h = true_from_ne_false _ (λ e. all k h (l.unset k e))
 
-  object_read : (k : ℕ) → k < length places → object_of before w places k ≡ objects k
-  object_read k h =
+  abbrev entries : List Entry
+  entries = table_of before w places
+
+  entry_read : (k : ℕ) → k < length places
+      → slice_get entries k ≡ Some (record { place = get_or places k 0; object = objects k })
+  entry_read k h =
       let o = object_there w objects file places
       (table_form (offset_width (length file)) places) k l (there k h) in
-      ap (λ bytes. object_in w (drop (get_or places k 0) bytes)) (front_is file places ∙ o.is)
+      slice_get-map _ places k ∙ ap (option_map _) (slice_get-get_or places k 0 h)
+      ∙ ap (λ object. Some (record { place = get_or places k 0; object = object }))
+      (ap (λ bytes. object_in w (drop (get_or places k 0) bytes)) (front_is file places ∙ o.is)
       ∙ ap (object_in w) (ap (λ at. drop at (o.before ++ (form w (objects k) ++ o.after)))
       (sym o.at_place) ∙ drop-append_seam o.before (form w (objects k) ++ o.after))
-      ∙ form_read w (width_positive (length places - 1)) (objects k) o.after o.good
-
-  numbered : IsNumbering (shape t) num rank (length places) (object_of before w places)
-  numbered = record {
-    below = n.below;
-    ranked = n.ranked;
-    holds = λ u p sits. object_read (num p) (n.below u p sits) ∙ n.holds u p sits;
-  }
+      ∙ form_read w (width_positive (length places - 1)) (objects k) o.after o.good)
 
   fit : AllFit (offset_width (length file)) places
   fit =
@@ -196,30 +197,28 @@ module _ (t : Tree) (num rank : ℕ → ℕ) (objects : ℕ
       (record { trailer = last file places; reference_width = w; root = 0; places = places })
   head_found = head_is file places _ l.is few short fit
 
-  walked : {A : Type 0} (s : Shown A) → walk s (length places) (place_in before w places)
-      (object_of before w places) (length places) [] (last file places) 0 ≡ trace num s t 0
-  walked s =
-      ap (λ i. walk s (length places) (place_in before w places) (object_of before w places)
-      (length places) [] (last file places) i) (sym root)
-      ∙ ap (λ r. walk s (length places) (place_in before w places) (object_of before w places) r []
-      (last file places) (num 0)) (omega arith)
-      ∙ unfolds s (shape t) num rank (length places) (place_in before w places)
-      (object_of before w places) numbered t 0 [] (last file places) (sits_whole refl)
-      (path_none (length places)) tt
+  shows : Shows num (unfolding_of entries (length places) [] (last file places) 0)
+      (visits_of entries (length places) [] 0) (bracketing t) (met t 0)
+  shows =
+      let long : length entries - 0 ≡ length places = omega (arith, length-table_of before places w) in
+      let all = unfolds entries (shape t) num rank n.ranked
+      (λ u p s. (
+        get_or places (num p) 0,
+        entry_read (num p) (n.below u p s)
+            ∙ ap (λ o. Some (record { place = get_or places (num p) 0; object = o })) (n.holds u p s),
+      ))
+      t 0 [] (last file places) (sits_whole refl) (path_none (length entries)) tt in
+      rw (long, root) at all
 
   pub items_are : items_of_file (closed file places) ≡ map Ok (bracketing t)
   unfolding items_of_file
   items_are =
-      ap (items_with (closed file places)) head_found
-      ∙ ap until_fault (sym (walk_items before w places (length places) [] (last file places) 0)
-      ∙ walked all_items ∙ trace_is num t 0) ∙ no_fault (bracketing t)
+      ap (items_with (closed file places)) head_found ∙ ap until_fault shows.items
+      ∙ no_fault (bracketing t)
 
-  pub visits_are : visits (closed file places) ≡ trace num collections t 0
+  pub visits_are : visits (closed file places) ≡ map (λ one. num one.0) (collections_in t)
   unfolding visits
-  visits_are =
-      ap (visits_with (closed file places)) head_found
-      ∙ sym (walk_visits before w places (length places) [] (last file places) 0)
-      ∙ walked collections
+  visits_are = ap (visits_with (closed file places)) head_found ∙ shows.visits
 
   pub written : IsWrittenAs t (closed file places)
   written = record {

@@ -1,42 +1,23 @@
 -- Classes of the places where trees begin, and a file that has one object for each class.
-use Rattle.std.specs.Prelude.{◌≡◌, ◌⊎◌, ℕ, ◌+◌, ◌^◌, ◌<◌, ◌≤◌, Bool, List, [], ◌∷◌, ◌++◌, length, nat_eq, Option}
+use Rattle.std.specs.Prelude.{◌≡◌, ◌⊎◌, ℕ, ◌^◌, ◌<◌, ◌≤◌, Bool, List, length, map, nat_eq, Option}
 use Rattle.std.specs.Set.{unique_keys}
 use Rattle.plist_base.specs.Bracketing.{shape}
 use Rattle.plist_base.specs.Events.{PlainEvent}
 use Rattle.plist_base.specs.Faults.{Fault, OutOfMemory, PlistTooLarge, fault_nowhere}
-use Rattle.plist_base.specs.Trees.{Tree, Leaf, Array, Dictionary, Trees, NoTrees, TreeAnd, Members, NoMembers, MemberAnd, String}
+use Rattle.plist_base.specs.Trees.{Tree}
 use Rattle.plist_base.specs.Writing.{Answer}
 use Rattle.plist_binread.specs.Visits.{visits}
-use Rattle.plist_binwrite.specs.Counts.{HasObjects}
-use Rattle.plist_binwrite.specs.Numberings.{obj_of, trace}
+use Rattle.plist_binwrite.specs.Counts.{HasObjects, collections_in}
+use Rattle.plist_binwrite.specs.Numberings.{obj_of}
 use Rattle.plist_binwrite.specs.SendingAs.{Sends}
 use Rattle.plist_binwrite.specs.Sizes.{total, object_size, size_with}
-use Rattle.plist_binwrite.specs.Standing.{size, Sits}
-use Rattle.plist_binwrite.specs.Walks.{collections}
+use Rattle.plist_binwrite.specs.Standing.{Sits, met}
 use Rattle.plist_binwrite.specs.Written.{IsWrittenAs, reference_width}
 
 -- places of one class have one object, whose references are the classes of its children
 pub record AreClasses (es : List PlainEvent) (class : ℕ → ℕ) : Type 0 where
   pub object : (t u : Tree) (p q : ℕ) → Sits es t p → Sits es u q → class p ≡ class q
       → obj_of class t p ≡ obj_of class u q
-
--- ---- what is met
-
--- a tree and all that is in it, each with the place of its first event; a key is a text
-abbrev mutual
-  pub met : Tree → ℕ → List (ℕ × Tree)
-  met (Leaf scalar) p = (p, Leaf scalar) ∷ []
-  met (Array items) p = (p, Array items) ∷ met_in_items items (p + 1)
-  met (Dictionary pairs) p = (p, Dictionary pairs) ∷ met_in_pairs pairs (p + 1)
-
-  pub met_in_items : Trees → ℕ → List (ℕ × Tree)
-  met_in_items NoTrees p = []
-  met_in_items (TreeAnd tree trees) p = met tree p ++ met_in_items trees (p + size tree)
-
-  pub met_in_pairs : Members → ℕ → List (ℕ × Tree)
-  met_in_pairs NoMembers p = []
-  met_in_pairs (MemberAnd key tree pairs) p =
-      (p, Leaf (String key)) ∷ (met tree (p + 1) ++ met_in_pairs pairs (p + 1 + size tree))
 
 module _ (class : ℕ → ℕ) where
   abbrev pub same_class : ℕ × Tree → ℕ × Tree → Bool
@@ -62,7 +43,7 @@ module _ (class : ℕ → ℕ) where
     pub numbers : ℕ → ℕ
     pub apart : (t u : Tree) (p q : ℕ) → Sits (shape tree) t p → Sits (shape tree) u q
         → numbers p ≡ numbers q → class p ≡ class q
-    pub entered : visits file ≡ trace numbers collections tree 0
+    pub entered : visits file ≡ map (λ one. numbers one.0) (collections_in tree)
 
   -- a file of the tree with one object for each class
   pub record IsFileBy (tree : Tree) (file : List ℕ) : Type 0 where

@@ -1,8 +1,8 @@
 -- Where trees stand among events.
-use Rattle.std.specs.Prelude.{◌≡◌, ℕ, ◌+◌, ◌<◌, ◌≤◌, List, ◌∷◌, ◌++◌, length, drop}
+use Rattle.std.specs.Prelude.{◌≡◌, ℕ, ◌+◌, ◌<◌, ◌≤◌, List, [], ◌∷◌, ◌++◌, length, drop}
 use Rattle.plist_base.specs.Bracketing.{shape, shape_of_items, shape_of_pairs}
 use Rattle.plist_base.specs.Events.{PlainEvent, EndCollection}
-use Rattle.plist_base.specs.Trees.{Tree, Trees, Members}
+use Rattle.plist_base.specs.Trees.{Tree, Leaf, Array, Dictionary, Trees, NoTrees, TreeAnd, Members, NoMembers, MemberAnd, String}
 
 -- the number of events
 abbrev pub size : Tree → ℕ
@@ -27,3 +27,19 @@ pub record SitsPairs (es : List PlainEvent) (ms : Members) (p : ℕ) : Type 0 wh
 pub record IsSkips (es : List PlainEvent) (skip : ℕ → ℕ) : Type 0 where
   pub forward : (q : ℕ) → q < length es → (q < skip q) × (skip q ≤ length es)
   pub ends : (t : Tree) (q : ℕ) → Sits es t q → skip q ≡ q + size t
+
+-- a tree and all that is in it, each with the place of its first event; a key is a text
+abbrev mutual
+  pub met : Tree → ℕ → List (ℕ × Tree)
+  met (Leaf scalar) p = (p, Leaf scalar) ∷ []
+  met (Array items) p = (p, Array items) ∷ met_in_items items (p + 1)
+  met (Dictionary pairs) p = (p, Dictionary pairs) ∷ met_in_pairs pairs (p + 1)
+
+  pub met_in_items : Trees → ℕ → List (ℕ × Tree)
+  met_in_items NoTrees p = []
+  met_in_items (TreeAnd tree trees) p = met tree p ++ met_in_items trees (p + size tree)
+
+  pub met_in_pairs : Members → ℕ → List (ℕ × Tree)
+  met_in_pairs NoMembers p = []
+  met_in_pairs (MemberAnd key tree pairs) p =
+      (p, Leaf (String key)) ∷ (met tree (p + 1) ++ met_in_pairs pairs (p + 1 + size tree))

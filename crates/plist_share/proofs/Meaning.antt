@@ -85,10 +85,8 @@ module _ (table : List Entry) where
         (one_tree t u p.1 m.1 n.1 i) (one_pairs ms ns ps m.2 n.2 i)
 
   -- a tree's number, below the number of objects
-  pub record Numbered (tree : Tree) : Type 0 where
-    pub number : ℕ
-    pub means : Means tree number
-    pub below : number < length table
+  abbrev pub Numbered : Tree → Type 0
+  Numbered tree = (number : ℕ) × (number < length table) × Means tree number
 
   stands_below : (i : ℕ) (o : Object) → Stands i o → i < length table
   stands_below i o s = slice_get_within table i s.entry s.found
@@ -99,7 +97,7 @@ module _ (table : List Entry) where
   means_below (Dictionary ms) i m = stands_below i _ m.1
 
   numbered : (t : Tree) (i : ℕ) → Means t i → Numbered t
-  numbered t i m = record { number = i; means = m; below = means_below t i m }
+  numbered t i m = (i, means_below t i m, m)
 
   mutual
     -- each subtree has one

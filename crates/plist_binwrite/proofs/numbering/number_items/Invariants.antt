@@ -1,9 +1,10 @@
 use Rattle.std.proofs.Common.{length, ◌-◌}
 use Rattle.plist_base.specs.Trees.{Trees}
 use Rattle.plist_binwrite.specs.Standing.{SitsItems}
-use Rattle.plist_binwrite.specs.Held.{plain_events, item_places, IsNumbered}
+use Rattle.plist_binwrite.specs.Held.{plain_events, item_places}
 use Rattle.plist_binwrite.specs.inner.Numbering.{GoesSoFar, KeepsNumbers}
-use Rattle.plist_binwrite.proofs.Numbered.{Items}
+use Rattle.plist_binwrite.proofs.Numbered.{NumbersRest}
+use Rattle.plist_binwrite.proofs.Passing.{Items}
 use Rattle.plist_binwrite.proofs.numbering.number_items.Given as goal
 
 abbrev pub invariant-walk : goal.invariant-walk
@@ -11,8 +12,7 @@ invariant-walk l =
     GoesSoFar l.given l.found
     × KeepsNumbers l.initial.found l.found
     × ((ts : Trees) → SitsItems (plain_events l.given.events.now) ts l.from
-    → Items (plain_events l.given.events.now) (IsNumbered l.found.numbers l.found.firsts) l.place
-    (item_places ts l.from))
+    → Items (plain_events l.given.events.now) (NumbersRest l.found (item_places ts l.from)) l.place)
 
 abbrev pub decreases-walk : goal.decreases-walk
 decreases-walk l = length (plain_events l.given.events.now) - l.place

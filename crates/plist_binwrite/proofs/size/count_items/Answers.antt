@@ -1,19 +1,20 @@
-use Rattle.std.proofs.Common.{inl, inr, arith, refl}
-use Rattle.plist_binwrite.proofs.SizePasses.{counts_begin, counts_next, counts_stop}
+use Rattle.std.proofs.Common.{arith, refl}
+use Rattle.plist_binwrite.proofs.Passing.{items_next, items_stop}
+use Rattle.plist_binwrite.proofs.Placed.{item_count}
 use Rattle.plist_binwrite.proofs.size.count_items.Goals as goal
 
 pub walk-init : goal.walk-init
-walk-init c = (omega arith, λ ts s. counts_begin ts c.args.from s)
+walk-init c =
+    (omega arith, λ ts s. record { left = ts; sits = s; goes = omega (arith, item_count ts c.args.from) })
 
 pub walk-preserved : goal.walk-preserved
 walk-preserved c =
     let y = c.walk-test.ensures.yes refl in (
       omega (arith, c.skip-place.ensures.forward.0, c.walk.invariant.0),
-      λ ts s. counts_next (c.walk.invariant.1 ts s) y.1
-          (λ t q. c.skip-place.ensures.ends t q),
+      λ ts s. items_next (c.walk.invariant.1 ts s) y.1 c.skip-place.ensures.ends
+          (λ places e. omega (arith, e)),
     )
 
 pub returns-clause-value : goal.returns-clause-value
 returns-clause-value c = λ ts s.
-    counts_stop (c.walk.invariant.1 ts s)
-    (elim (c.walk-test.ensures.no refl) [ inl h ↦ inl h | inr h ↦ inr (omega arith) ])
+    omega (arith, items_stop (c.walk.invariant.1 ts s) (c.walk-test.ensures.no refl))

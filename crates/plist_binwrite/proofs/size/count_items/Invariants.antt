@@ -1,13 +1,13 @@
-use Rattle.std.proofs.Common.{length, ◌-◌, ◌≤◌}
+use Rattle.std.proofs.Common.{◌≡◌, length, ◌+◌, ◌-◌, ◌≤◌}
 use Rattle.plist_base.specs.Trees.{number_of_trees, Trees}
 use Rattle.plist_binwrite.specs.Standing.{SitsItems}
 use Rattle.plist_binwrite.specs.Held.{plain_events}
-use Rattle.plist_binwrite.proofs.SizePasses.{Counts}
+use Rattle.plist_binwrite.proofs.Passing.{Items}
 use Rattle.plist_binwrite.proofs.size.count_items.Given as goal
 
 abbrev pub invariant-walk : goal.invariant-walk
 invariant-walk l = (l.count ≤ l.place) × ((ts : Trees) → SitsItems (plain_events l.events) ts l.from
-    → Counts (plain_events l.events) l.place l.count (number_of_trees ts))
+    → Items (plain_events l.events) (λ places. l.count + length places ≡ number_of_trees ts) l.place)
 
 abbrev pub decreases-walk : goal.decreases-walk
 decreases-walk l = length (plain_events l.events) - l.place
