@@ -1,5 +1,5 @@
 -- A plan by classes is a numbering: each number has one object.
-use Rattle.std.proofs.Common.{◌≡◌, ◌⊎◌, inl, inr, ℕ, ◌+◌, ◌<◌, ◌≤◌, false, List, ◌∷◌, length, get_or, refl, ap, sym, ◌∙◌, subst, arith}
+use Rattle.std.proofs.Common.{◌≡◌, ◌⊎◌, inl, inr, ℕ, ◌+◌, ◌<◌, ◌≤◌, List, ◌∷◌, get_or, refl, ap, sym, ◌∙◌, subst, arith}
 use Rattle.std.proofs.lemmas.Bool.{cases_lt}
 use Rattle.plist_base.specs.Events.{PlainEvent}
 use Rattle.plist_base.specs.Faults.{ObjectOffsetTooLarge}
@@ -8,9 +8,11 @@ use Rattle.plist_base.specs.Trees.{Scalar, Tree, Leaf, Array, Dictionary, Trees,
 use Rattle.plist_binread.specs.Object as obj
 use Rattle.plist_binread.specs.Object.{Object}
 use Rattle.plist_binwrite.specs.Classes.{AreClasses}
-use Rattle.plist_binwrite.specs.Held.{is_stop, event_at, num_of, AllNumbered, Describes}
+use Rattle.plist_binwrite.specs.Held.{num_of, Describes}
 use Rattle.plist_binwrite.specs.Numberings.{refs, pairs, obj_of, IsNumbering}
-use Rattle.plist_binwrite.specs.inner.PlansBy.{IsPlan}
+use Rattle.plist_binwrite.specs.declared.plan.Plan.{Plan}
+use Rattle.plist_binwrite.specs.inner.Planning.{IsPlanned, GoesBy, numbers_of, firsts_of, count_of}
+use Rattle.plist_binwrite.proofs.Placed.{sits_at}
 use Rattle.plist_binwrite.specs.Standing.{size, Sits, SitsItems, SitsPairs}
 use Rattle.plist_binwrite.proofs.Sitting.{sits_items, sits_pairs, sits_item, sits_next, sits_key, sits_value, sits_next_pair}
 use Rattle.plist_binwrite.proofs.Skipping.{begins, sits_in}
@@ -121,67 +123,66 @@ pub record Numbered (es : List PlainEvent) (numbers : List ℕ) (count : ℕ) : 
   pub describes : Describes es numbers objects
   pub numbering : IsNumbering es (num_of numbers) rank count objects
 
-module _ (es : List PlainEvent) (class : ℕ → ℕ) (numbers firsts : List ℕ)
-    (plan : IsPlan es class numbers firsts)
-    (all : AllNumbered es numbers (length firsts)) where
-  pub number_below : (t : Tree) (p : ℕ) → Sits es t p → num_of numbers p < length firsts
-  number_below t p s = all p (sits_in s) (begins t p s)
+module _ (es : List PlainEvent) (plan : Plan) (planned : IsPlanned es plan) where
+  abbrev num : ℕ → ℕ
+  num p = num_of (numbers_of plan) p
 
-  first_class : (t : Tree) (p : ℕ) → Sits es t p
-      → class (get_or firsts (num_of numbers p) 0) ≡ class p
-  first_class t p s =
-      plan.same p (sits_in s) (number_below t p s)
+  abbrev first : ℕ → ℕ
+  first k = get_or (firsts_of plan) k 0
 
-  -- places of one number have one class, and places of one class one number
-  pub number_apart : (t u : Tree) (p q : ℕ) → Sits es t p → Sits es u q
-      → num_of numbers p ≡ num_of numbers q → class p ≡ class q
-  number_apart t u p q s r e =
-      sym (first_class t p s) ∙ ap (λ k. class (get_or firsts k 0)) e ∙ first_class u q r
+  pub number_below : (t : Tree) (p : ℕ) → Sits es t p → num p < count_of plan
+  number_below t p s = planned.all p (sits_in s) (begins t p s)
 
-  pub number_same : (t u : Tree) (p q : ℕ) → Sits es t p → Sits es u q → class p ≡ class q
-      → num_of numbers p ≡ num_of numbers q
-  number_same t u p q s r e =
-      plan.apart (num_of numbers p) (num_of numbers q) (number_below t p s) (number_below u q r)
-      (first_class t p s ∙ e ∙ sym (first_class u q r))
+  module _ (class : ℕ → ℕ) (goes : GoesBy es class plan) where
+    first_class : (t : Tree) (p : ℕ) → Sits es t p → class (first (num p)) ≡ class p
+    first_class t p s = goes.same p (sits_in s) (number_below t p s)
 
-  module _ (c : AreClasses es class)
-      (found : (p : ℕ) → p < length es → is_stop (event_at es p) ≡ false
-      → (u : Tree) × Sits es u p) where
-    tree_of : (k : ℕ) → k < length firsts → (u : Tree) × Sits es u (get_or firsts k 0)
-    tree_of k h = let n = plan.known k h in found (get_or firsts k 0) n.0 n.2
+    -- places of one number have one class, and places of one class one number
+    pub number_apart : (t u : Tree) (p q : ℕ) → Sits es t p → Sits es u q → num p ≡ num q
+        → class p ≡ class q
+    number_apart t u p q s r e =
+        sym (first_class t p s) ∙ ap (λ k. class (first k)) e ∙ first_class u q r
 
-    -- the object of a number, and its rank
-    made_of : (k : ℕ) → (k < length firsts) ⊎ (length firsts ≤ k) → Object × ℕ
-    made_of k (inl h) =
-        let u = (tree_of k h).0 in (obj_of (num_of numbers) u (get_or firsts k 0), size u)
-    made_of k (inr h) = (obj.Faulty ObjectOffsetTooLarge, 0)
+    pub number_same : (t u : Tree) (p q : ℕ) → Sits es t p → Sits es u q → class p ≡ class q
+        → num p ≡ num q
+    number_same t u p q s r e =
+        goes.apart (num p) (num q) (number_below t p s) (number_below u q r)
+        (first_class t p s ∙ e ∙ sym (first_class u q r))
 
-    made_is : (t : Tree) (p : ℕ) → Sits es t p
-        → (d : (num_of numbers p < length firsts) ⊎ (length firsts ≤ num_of numbers p))
-        → made_of (num_of numbers p) d ≡ (obj_of (num_of numbers) t p, size t)
-    unfolding made_of
-    made_is t p s (inl h) =
-        let f = tree_of (num_of numbers p) h in
-        let e = first_class t p s in
-        λ i. (
-          one_object es class c (num_of numbers) number_same f.0 t _ p f.1 s e i,
-          size (sound es class c f.0 t _ p f.1 s e i),
-        )
-    made_is t p s (inr h) = absurd (omega (arith, number_below t p s))
+  tree_of : (k : ℕ) → k < count_of plan → (u : Tree) × Sits es u (first k)
+  tree_of k h = let n = planned.numbered.known k h in sits_at es planned.whole (first k) n.0 n.2
 
-    object_is : (t : Tree) (p : ℕ) → Sits es t p
-        → (made_of (num_of numbers p) (cases_lt (num_of numbers p) (length firsts))).0
-        ≡ obj_of (num_of numbers) t p
-    object_is t p s = ap (λ m. m.0) (made_is t p s (cases_lt _ _))
+  -- the object of a number, and its rank
+  made_of : (k : ℕ) → (k < count_of plan) ⊎ (count_of plan ≤ k) → Object × ℕ
+  made_of k (inl h) = let u = (tree_of k h).0 in (obj_of num u (first k), size u)
+  made_of k (inr h) = (obj.Faulty ObjectOffsetTooLarge, 0)
 
-    pub numbered : Numbered es numbers (length firsts)
-    numbered = record {
-      rank = λ k. (made_of k (cases_lt k (length firsts))).1;
-      objects = λ k. (made_of k (cases_lt k (length firsts))).0;
-      describes = object_is;
-      numbering = record {
-        below = number_below;
-        ranked = λ t p s. ap (λ m. m.1) (made_is t p s (cases_lt _ _));
-        holds = object_is;
-      };
-    }
+  made_is : (t : Tree) (p : ℕ) → Sits es t p
+      → (d : (num p < count_of plan) ⊎ (count_of plan ≤ num p))
+      → made_of (num p) d ≡ (obj_of num t p, size t)
+  unfolding made_of
+  made_is t p s (inl h) =
+      let f = tree_of (num p) h in
+      let e = first_class planned.class planned.numbered t p s in
+      λ i. (
+        one_object es planned.class planned.classes num
+            (number_same planned.class planned.numbered) f.0 t _ p f.1 s e i,
+        size (sound es planned.class planned.classes f.0 t _ p f.1 s e i),
+      )
+  made_is t p s (inr h) = absurd (omega (arith, number_below t p s))
+
+  object_is : (t : Tree) (p : ℕ) → Sits es t p
+      → (made_of (num p) (cases_lt (num p) (count_of plan))).0 ≡ obj_of num t p
+  object_is t p s = ap (λ m. m.0) (made_is t p s (cases_lt _ _))
+
+  pub numbered : Numbered es (numbers_of plan) (count_of plan)
+  numbered = record {
+    rank = λ k. (made_of k (cases_lt k (count_of plan))).1;
+    objects = λ k. (made_of k (cases_lt k (count_of plan))).0;
+    describes = object_is;
+    numbering = record {
+      below = number_below;
+      ranked = λ t p s. ap (λ m. m.1) (made_is t p s (cases_lt _ _));
+      holds = object_is;
+    };
+  }

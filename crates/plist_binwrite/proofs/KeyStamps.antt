@@ -1,5 +1,5 @@
 -- Stamps on the keys of a dictionary: where one that is met has the stamp, it stood there before.
-use Rattle.std.proofs.Common.{◌≡◌, ◌≢◌, ◌⊎◌, inl, inr, ℕ, ◌+◌, ◌<◌, ◌≤◌, true, false, Some, List, length, get_or, set, refl, ap, sym, ◌∙◌, subst, arith}
+use Rattle.std.proofs.Common.{◌≡◌, ◌≢◌, inl, inr, ℕ, ◌+◌, ◌<◌, false, Some, List, length, get_or, set, refl, ap, sym, ◌∙◌, subst, arith}
 use Rattle.std.specs.List.{AllByRecursion}
 use Rattle.std.specs.Prelude.{slice_get}
 use Rattle.std.proofs.lemmas.Bool.Decides.{eqb_tells}
@@ -10,11 +10,11 @@ use Rattle.plist_base.specs.Bracketing.{shape}
 use Rattle.plist_base.specs.Events.{PlainEvent, EndCollection, Single}
 use Rattle.plist_base.specs.Trees.{String, Tree, Leaf, Array, Dictionary, Trees, NoTrees, TreeAnd, Members, NoMembers, MemberAnd}
 use Rattle.plist_binwrite.specs.declared.kinds.Kind.TheVariants as kind
-use Rattle.plist_binwrite.specs.Held.{AllBelow, event_at, is_stop, kind_of}
+use Rattle.plist_binwrite.specs.Held.{AllBelow, EndsTree, LacksItem, event_at, is_stop, kind_of}
 use Rattle.plist_binwrite.specs.inner.Entries.{AreApart, is_leaf}
 use Rattle.plist_binwrite.specs.Keys.{Lacks, HasDistinctKeys, HasKeysOnce, ItemsHaveKeysOnce, ValuesHaveKeysOnce}
 use Rattle.plist_binwrite.specs.Standing.{size, Sits, SitsItems, SitsPairs, met, met_in_items, met_in_pairs}
-use Rattle.plist_binwrite.proofs.Kept.{met_all}
+use Rattle.plist_binwrite.proofs.Inside.{met_all}
 use Rattle.plist_binwrite.proofs.Sitting.{sits_whole, sits_items, sits_pairs, sits_item, sits_next, sits_key, sits_value, sits_next_pair}
 use Rattle.plist_binwrite.proofs.Skipping.{stands_single, starts_array, FirstPair, pairs_on, pairs_off, first_event}
 use Rattle.plist_binwrite.proofs.Uniques.{all_both}
@@ -72,7 +72,7 @@ module _ {scalars : List PlainEvent} {mark : ℕ} {es : List PlainEvent} {stamps
       }
 
   module _ {q : ℕ} {all : Members} (w : Walked scalars mark es stamps q all) where
-    pub walked_end : is_stop (event_at es q) ≡ true ⊎ (length es ≤ q) → HasDistinctKeys all
+    pub walked_end : LacksItem es q → HasDistinctKeys all
     walked_end h =
         w.up (rw (pairs_off w.left w.sits h) (tt, tt))
 
@@ -146,7 +146,7 @@ module _ {scalars : List PlainEvent} {mark : ℕ} {es : List PlainEvent} {stamps
         -- a key that hasn't gets it
         pub walked_next : (next : ℕ) → get_or stamps s 0 ≢ mark → s < length stamps
             → is_stop (event_at es q) ≡ false
-            → ((t : Tree) → Sits es t (q + 1) → next ≡ q + 1 + size t)
+            → EndsTree es (q + 1) next
             → Walked scalars mark es (set stamps s mark) next all
         walked_next next other within h skip =
             let f = pairs_on w.left w.sits h in

@@ -11,7 +11,7 @@ use Rattle.plist_binread.specs.Container.{magic}
 use Rattle.plist_binread.specs.Object.{Object}
 use Rattle.plist_binwrite.specs.Forms.{form, IsWritable}
 use Rattle.plist_binwrite.specs.Written.{bodies, Laid}
-use Rattle.plist_binwrite.specs.inner.Laying.{IsOrder, KeepsMarks, IsLaid}
+use Rattle.plist_binwrite.specs.inner.Laying.{IsOrder, KeepsMarks, laid_out}
 
 pub length-magic : (xs : List ℕ) → length (magic ++ xs) ≡ 8 + length xs
 length-magic xs = length-append magic xs
@@ -61,44 +61,34 @@ module _ (w : ℕ) (objects : ℕ → Object) where
             }
       ]
 
-  -- where something is appended, object k is still there
-  pub object_there : (file places more : List ℕ) (k : ℕ) (l : IsLaid w objects file places)
-      → list_any (eqb k) l.order ≡ true → There w objects file places more k
-  object_there file places more k l any =
-      let f = found places l.order 8 k l.laid any in
-      record {
-        before = magic ++ f.before;
-        after = f.after ++ more;
-        is =
-            ap (λ x. x ++ more) (l.is ∙ ap (λ x. magic ++ x) f.is)
-            ∙ append_assoc (magic ++ f.before) (form w (objects k) ++ f.after) more
-            ∙ ap (λ x. (magic ++ f.before) ++ x) (append_assoc (form w (objects k)) f.after more);
-        at_place = omega (arith, f.at_place, length-magic f.before);
-        good = f.good;
-      }
+  module _ (order places : List ℕ) (k : ℕ) (l : Laid w objects places order 8)
+      (any : list_any (eqb k) order ≡ true) where
+    -- where something is appended, object k is still there
+    pub object_there : (more : List ℕ) → There w objects (laid_out w objects order) places more k
+    object_there more =
+        let f = found places order 8 k l any in
+        record {
+          before = magic ++ f.before;
+          after = f.after ++ more;
+          is =
+              ap (λ x. (magic ++ x) ++ more) f.is
+              ∙ append_assoc (magic ++ f.before) (form w (objects k) ++ f.after) more
+              ∙ ap (λ x. (magic ++ f.before) ++ x) (append_assoc (form w (objects k)) f.after more);
+          at_place = omega (arith, f.at_place, length-magic f.before);
+          good = f.good;
+        }
 
-  -- its place lies in the file
-  pub found_place : (file places : List ℕ) (k : ℕ) (l : IsLaid w objects file places)
-      → list_any (eqb k) l.order ≡ true → get_or places k 0 ≤ length file
-  found_place file places k l any =
-      let f = found places l.order 8 k l.laid any in
-      omega (
-        arith,
-        f.at_place,
-        ap length l.is,
-        length-magic
-            (bodies w objects l.order),
-        ap length f.is,
-        length-append f.before
-            (form w (objects k) ++ f.after),
-      )
-
-  -- an object that is written has a place that isn't 0
-  pub written_place : (places order : List ℕ) (at k : ℕ)
-      → 0 < at → Laid w objects places order at → list_any (eqb k) order ≡ true
-      → 0 < get_or places k 0
-  written_place places order at k h l any =
-      let f = found places order at k l any in omega (arith, f.at_place)
+    -- its place lies in the file
+    pub found_place : get_or places k 0 ≤ length (laid_out w objects order)
+    found_place =
+        let f = found places order 8 k l any in
+        omega (
+          arith,
+          f.at_place,
+          length-magic (bodies w objects order),
+          ap length f.is,
+          length-append f.before (form w (objects k) ++ f.after),
+        )
 
   pub laid_snoc : (places order : List ℕ) (at k v : ℕ) → k < length places
       → list_any (eqb k) order ≡ false → IsWritable w (objects k)

@@ -14,7 +14,7 @@ use Rattle.plist_binwrite.specs.inner.Scalars.{alone, AreOwners}
 use Rattle.plist_binwrite.specs.Sizes.{total, object_size, collections_size, scalars_size, size_with, file_size}
 use Rattle.plist_binwrite.specs.Standing.{Sits, met}
 use Rattle.plist_binwrite.specs.Written.{reference_width}
-use Rattle.plist_binwrite.proofs.Kept.{Stands, met_stand}
+use Rattle.plist_binwrite.proofs.Inside.{Stands, met_stand}
 use Rattle.plist_binwrite.proofs.SameScalars.{owner_eq}
 use Rattle.plist_binwrite.proofs.Sitting.{sits_whole}
 use Rattle.plist_binwrite.proofs.Totals.{total_one}

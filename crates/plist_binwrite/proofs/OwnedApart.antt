@@ -14,8 +14,7 @@ use Rattle.plist_binwrite.specs.Numberings.{obj_of}
 use Rattle.plist_binwrite.specs.inner.Scalars.{Owner, shared, alone, own, owner, AreOwners}
 use Rattle.plist_binwrite.specs.Standing.{size, Sits, met, met_in_items, met_in_pairs}
 use Rattle.plist_binwrite.proofs.SameScalars.{owner_eq, owners_tell, tells_both}
-use Rattle.plist_binwrite.proofs.Inside.{one_tree}
-use Rattle.plist_binwrite.proofs.Kept.{Stands}
+use Rattle.plist_binwrite.proofs.Inside.{Stands, one_tree}
 use Rattle.plist_binwrite.proofs.Skipping.{stands_single, starts_array, starts_dictionary, sits_in}
 use Rattle.plist_binwrite.proofs.Uniques.{all_both, all_from}
 

@@ -1,18 +1,18 @@
 -- Steps of a layout.
-use Rattle.std.proofs.Common.{◌≡◌, ℕ, ◌+◌, ◌^◌, ◌<◌, ◌≤◌, false, List, [], ◌∷◌, length, map, refl, ap, arith}
-use Rattle.std.specs.List.{AllByRecursion}
+use Rattle.std.proofs.Common.{◌≡◌, ℕ, ◌+◌, ◌^◌, ◌<◌, ◌≤◌, false, List, ◌∷◌, length, map, refl, ap, arith}
 use Rattle.plist_base.specs.Events.{PlainEvent, Single}
 use Rattle.plist_base.specs.Trees as trees
 use Rattle.plist_binwrite.specs.declared.kinds.Kind.TheVariants as kind
 use Rattle.plist_base.specs.Trees.{number_of_trees, number_of_members, Scalar, Tree, Leaf, Array, Dictionary, Trees, NoTrees, TreeAnd, Members, NoMembers, MemberAnd}
 use Rattle.plist_base.specs.Bracketing.{unhinted}
-use Rattle.plist_binwrite.specs.Standing.{size, Sits, SitsItems, SitsPairs}
+use Rattle.plist_binwrite.specs.Standing.{size, Sits, SitsItems, SitsPairs, met}
 use Rattle.plist_binwrite.specs.Numberings.{refs, pairs, obj_of}
 use Rattle.plist_binwrite.specs.Forms.{keys_of, values_of, IsWritable, AllFit}
-use Rattle.plist_binwrite.specs.Held.{is_stop, kind_of, event_at, item_places, key_places, value_places, keys_in, values_in, num_of, AllNumbered, IsBracketed}
+use Rattle.plist_binwrite.specs.Held.{is_stop, kind_of, event_at, item_places, key_places, value_places, values_in, num_of, AllNumbered, IsBracketed}
 use Rattle.plist_binwrite.proofs.Sitting.{sits_whole, sits_items, sits_pairs, sits_item, sits_next, sits_key, sits_value, sits_next_pair}
 use Rattle.plist_binwrite.proofs.Skipping.{stands_single, starts_array, starts_dictionary, begins, sits_in}
-use Rattle.plist_binwrite.proofs.Inside.{inside}
+use Rattle.plist_binwrite.proofs.Inside.{Stands, met_stand, met_all}
+use Rattle.plist_binwrite.proofs.Uniques.{all_from}
 use Rattle.plist_binwrite.proofs.Unfold.{length-refs, length-pairs}
 
 -- ---- references fit
@@ -103,10 +103,6 @@ collection_fits es numbers count w all wide (Dictionary ms) p s k few =
 pub sits_at : (es : List PlainEvent) → IsBracketed es → (p : ℕ) → p < length es
     → is_stop (event_at es p) ≡ false → (u : Tree) × Sits es u p
 sits_at es (t, e) p lt b =
-    let len : length es ≡ size t = ap length e in
-    (inside es (λ q. Unit {0}) (λ u r s q. (all_units (keys_in u r), all_units (values_in u r))) t 0
-    (sits_whole e) tt p (omega arith) (omega arith) b).1
-  where
-    all_units : (ps : List ℕ) → AllByRecursion (λ q. Unit {0}) ps
-    all_units [] = tt
-    all_units (p ∷ ps) = (tt, all_units ps)
+    met_all es (λ q. (u : Tree) × Sits es u q) t e
+    (all_from (λ one. (u : Tree) × Sits es u one.0) (Stands es) (λ one s. (one.1, s)) (met t 0)
+    (met_stand es t 0 (sits_whole e))) p lt b

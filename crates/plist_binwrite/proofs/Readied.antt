@@ -16,15 +16,16 @@ use Rattle.plist_binwrite.specs.inner.Ending.{numbers_in, file_of, IsReady, IsRe
 use Rattle.plist_base.specs.Fronts.{AppendsFront}
 use Rattle.plist_binwrite.specs.Outlets.{IsOut}
 use Rattle.plist_binwrite.specs.Held.{plain_events, AllBelow, Describes}
-use Rattle.plist_binwrite.specs.inner.Laying.{IsOrder, HasAll, laid_out, closed}
+use Rattle.plist_binwrite.specs.inner.Laying.{IsOrder, HasAll, AllOnce, laid_out, closed}
 use Rattle.plist_binwrite.specs.inner.Sizing.{ExceedsWith, FitsWith}
 use Rattle.plist_binwrite.specs.Sizes.{TellsSize, size_with}
 use Rattle.plist_base.specs.Events.{PlainEvent}
 use Rattle.plist_base.specs.Trees.{Tree}
-use Rattle.plist_binwrite.specs.inner.Planning.{IsPlanned, GoesBy, count_of, numbers_of, firsts_of}
+use Rattle.plist_binwrite.specs.inner.Planning.{IsPlanned, GoesBy, count_of, numbers_of}
 use Rattle.plist_binwrite.specs.SendingAs.{IsFileOfEvents}
 use Rattle.plist_binwrite.specs.Written.{Laid, reference_width, bodies, ending}
-use Rattle.plist_binwrite.proofs.Finished.{finished, laid_length, some_objects}
+use Rattle.plist_binwrite.proofs.Finished.{finished, laid_length}
+use Rattle.plist_binwrite.proofs.ClassObjects.{Numbered, numbered}
 use Rattle.plist_binwrite.proofs.Kept.{planned_count}
 use Rattle.plist_binwrite.proofs.Unhinted.{plain_shape}
 use Rattle.plist_binwrite.proofs.Placing.{any_at}
@@ -39,20 +40,24 @@ module _ (es : List PlainEvent) (plan : Plan) (order marks : List ℕ) (told : O
   pub ready_order : AllBelow (count_of plan) order
   ready_order i h = o.below (get_or order i 0) (any_at order i h)
 
+  once : AllOnce (count_of plan) order
+  once = record { distinct = o.distinct; numbered = λ k. (o.below k, all k) }
+
   -- where the offset table lies
   table_told : (class : ℕ → ℕ) → GoesBy es class plan → (t : Tree) → es ≡ shape t
       → TellsSize told (8 + objects_by class (reference_width (count_by class t)) t)
   table_told class goes t e =
-      let of = some_objects es plan p in
-      subst (TellsSize told) (ap (λ v. length (laid_out v of.0 order)) (wide ∙ ap reference_width n)
-      ∙ laid_length es t class (numbers_of plan) (firsts_of plan) order of.0 e goes p.all of.1
-      o.distinct o.below all) (size of.0 of.1)
+      let of = numbered es plan p in
+      subst (TellsSize told)
+      (ap (λ v. length (laid_out v of.objects order)) (wide ∙ ap reference_width n)
+      ∙ laid_length es plan p class goes t e of.objects of.describes order once)
+      (size of.objects of.describes)
 
   -- how many objects there are
   count_told : (class : ℕ → ℕ) → GoesBy es class plan → (t : Tree) → es ≡ shape t
       → count ≡ count_by class t
   count_told class goes t e =
-      n ∙ planned_count es class (numbers_of plan) (firsts_of plan) goes p.all t e
+      n ∙ planned_count es plan p class goes t e
 
   -- where the file doesn't fit, by any classes
   pub oversized : IfSome told (λ table. ExceedsWith table count) → (class : ℕ → ℕ)
@@ -93,13 +98,11 @@ module _ (es : List PlainEvent) (plan : Plan) (order marks : List ℕ) (told : O
         → IsFileBy class t
         (closed (laid_out (reference_width (length places)) objects order) places)
     ready_file objects d class goes t e =
-        finished es t e class p.class (numbers_of plan)
-        (firsts_of plan) order places objects goes p.numbered p.classes p.all p.root d o.distinct
-        o.below all
+        finished es plan p class goes t e objects d order once places
         (subst (λ w. Laid w objects places order 8) widths
         (subst (λ k. IfSome k (λ _. (objects : ℕ → Object) → Describes es (numbers_of plan) objects
         → Laid width objects places order 8)) at laid objects d))
-        long (all_fit class goes t e) (omega (arith, long, p.numbered.small))
+        long (all_fit class goes t e)
 
 -- the parts that are put, one behind the other
 pub file_is : (objects : ℕ → Object) (order places : List ℕ) (table width : ℕ)
@@ -133,7 +136,7 @@ sends_end contents es ready old middle new waiting (Err error) sent front failed
 pub with_objects : (es : List PlainEvent) (ready : Ready) (P : Type 0) → IsReady es ready
     → ((objects : ℕ → Object) → Describes es (numbers_in ready) objects → P) → P
 with_objects es ready P r h =
-    let o = some_objects es ready.plan r.planned in h o.0 o.1
+    let o = numbered es ready.plan r.planned in h o.objects o.describes
 
 -- ---- what goes out
 
@@ -143,21 +146,21 @@ module _ {W : Type 0} (contents : W → Option (List ℕ)) (events : Held) (clas
   abbrev r : IsReady (plain_events events) ready
   r = b.all
 
-  objects : (of : ℕ → Object) × Describes (plain_events events) (numbers_in ready) of
-  objects = some_objects (plain_events events) ready.plan r.planned
+  of : Numbered (plain_events events) (numbers_in ready) (count_of ready.plan)
+  of = numbered (plain_events events) ready.plan r.planned
 
   is_file : IsFileOfEvents (IsFileBy class) (size_by class) (plain_events events)
-      (file_of ready objects.0)
+      (file_of ready of.objects)
   is_file = (
     complete_of_whole (plain_events events) whole,
-    λ t alike. r.file objects.0 objects.1 class
+    λ t alike. r.file of.objects of.describes class
         b.goes t (plain_shape events t alike),
   )
 
   pub ready_sends : (answer : Answer) → SendsReady contents
       (plain_events events) ready answer old new
       → SendsBy class contents (plain_events events) answer old new
-  ready_sends (Ok done) s = (file_of ready objects.0, is_file, s objects.0 objects.1)
+  ready_sends (Ok done) s = (file_of ready of.objects, is_file, s of.objects of.describes)
   ready_sends (Err fault) s =
       sends_io (IsFileBy class) (size_by class) contents (plain_events events) fault old new
-      (file_of ready objects.0) s.0 is_file (s.1 objects.0 objects.1)
+      (file_of ready of.objects) s.0 is_file (s.1 of.objects of.describes)

@@ -1,9 +1,9 @@
 -- The bytes of the objects, by number, and of one object's form.
-use Rattle.std.proofs.Common.{◌≡◌, ℕ, ◌+◌, ◌<◌, true, eqb, List, [], ◌∷◌, length, refl, ap, ◌∙◌, length-append}
-use Rattle.std.specs.List.{IsDistinct, list_any}
+use Rattle.std.proofs.Common.{◌≡◌, ℕ, ◌+◌, List, [], ◌∷◌, length, refl, ap, ◌∙◌, length-append}
 use Rattle.plist_base.specs.Trees.{Tree, Leaf, Array, Dictionary}
 use Rattle.plist_binread.specs.Object.{Object}
 use Rattle.plist_binwrite.specs.Forms.{form}
+use Rattle.plist_binwrite.specs.inner.Laying.{AllOnce}
 use Rattle.plist_binwrite.specs.Numberings.{obj_of}
 use Rattle.plist_binwrite.specs.Sizes.{total, object_size}
 use Rattle.plist_binwrite.specs.Written.{bodies}
@@ -22,13 +22,12 @@ length-bodies w objects (k ∷ order) =
 
 -- in whatever order they stand
 pub total_bodies : (w : ℕ) (objects : ℕ → Object) (order : List ℕ) (count : ℕ)
-    → IsDistinct eqb order
-    → ((k : ℕ) → list_any (eqb k) order ≡ true → k < count)
-    → ((k : ℕ) → k < count → list_any (eqb k) order ≡ true)
+    → AllOnce count order
     → length (bodies w objects order) ≡ total_below (λ k. length (form w (objects k))) count
-total_bodies w objects order count distinct below full =
+total_bodies w objects order count all =
     length-bodies w objects order
-    ∙ total_all (λ k. length (form w (objects k))) count order distinct below full
+    ∙ total_all (λ k. length (form w (objects k))) count order all.distinct
+    (λ k. (all.numbered k).0) (λ k. (all.numbered k).1)
 
 -- an object's form has its size
 pub form_size : (w : ℕ) (num : ℕ → ℕ) (t : Tree) (p : ℕ)

@@ -1,10 +1,10 @@
 -- A laid out table with its trailer is a file of the tree.
-use Rattle.std.proofs.Common.{◌≡◌, ◌≢◌, ℕ, ◌+◌, ◌-◌, ◌*◌, ◌^◌, ◌<◌, ◌≤◌, true, eqb, nat_eq, List, [], ◌∷◌, ◌++◌, length, take, drop, get_or, map, Some, Ok, refl, ap, sym, ◌∙◌, arith, append_assoc, length-append}
-use Rattle.std.specs.List.{list_any, starts_with, slice_get}
+use Rattle.std.proofs.Common.{◌≡◌, ℕ, ◌+◌, ◌-◌, ◌*◌, ◌^◌, ◌<◌, ◌≤◌, true, nat_eq, List, [], ◌∷◌, ◌++◌, length, take, drop, get_or, map, Some, Ok, refl, ap, sym, ◌∙◌, arith, append_assoc, length-append}
+use Rattle.std.specs.List.{starts_with, slice_get}
 use Rattle.std.specs.Prelude.{option_map}
 use Rattle.std.proofs.lemmas.Option.{slice_get-map, slice_get-get_or}
 use Rattle.std.proofs.lemmas.List.Elements.{All-from_get_or, recursion_from_All}
-use Rattle.std.proofs.lemmas.Bool.{le-ltb, true_from_ne_false}
+use Rattle.std.proofs.lemmas.Bool.{le-ltb}
 use Rattle.std.proofs.Math.Seq.{take-append_seam, drop-append_seam}
 use Rattle.plist_base.specs.Bracketing.{bracketing, shape}
 use Rattle.plist_binread.specs.Container.{number_of, numbers_of, magic, trailer_in, is_width, Head, head_with, head_of}
@@ -15,8 +15,8 @@ use Rattle.plist_binread.proofs.Steps.{length-table_of}
 use Rattle.plist_base.specs.Trees.{Tree}
 use Rattle.plist_binwrite.specs.Forms.{big_endian, least_width, form, table_form, trailer_form, AllFit}
 use Rattle.plist_binwrite.specs.Counts.{HasObjects, collections_in}
-use Rattle.plist_binwrite.specs.Written.{reference_width, offset_width, bodies, ending, IsWrittenAs}
-use Rattle.plist_binwrite.specs.inner.Laying.{IsLaid, closed}
+use Rattle.plist_binwrite.specs.Written.{reference_width, offset_width, bodies, ending, Laid, IsWrittenAs}
+use Rattle.plist_binwrite.specs.inner.Laying.{AllOnce, laid_out, closed}
 use Rattle.plist_binwrite.specs.Numberings.{IsNumbering}
 use Rattle.plist_binwrite.specs.Standing.{met}
 use Rattle.plist_binwrite.proofs.Layouts.{length-magic, found_place, object_there}
@@ -154,20 +154,19 @@ module _ (file places : List ℕ) where
 
 -- ---- what the file's own table holds
 
-module _ (t : Tree) (num rank : ℕ → ℕ) (objects : ℕ
-    → Object) (file places : List ℕ) (l : IsLaid
-    (reference_width (length places)) objects file places)
-    (all : (k : ℕ) → k < length places → get_or places k 0 ≢ 0) (root : num 0 ≡ 0)
+module _ (t : Tree) (num rank : ℕ → ℕ) (objects : ℕ → Object) (order places : List ℕ)
+    (all : AllOnce (length places) order)
+    (laid : Laid (reference_width (length places)) objects places order 8) (root : num 0 ≡ 0)
     (n : IsNumbering (shape t) num rank (length places) objects) (few : length places < 2 ^ 64)
-    (short : length file < 2 ^ 64) where
+    (short : length (laid_out (reference_width (length places)) objects order) < 2 ^ 64) where
   abbrev w : ℕ
   w = reference_width (length places)
 
+  abbrev file : List ℕ
+  file = laid_out w objects order
+
   abbrev before : List ℕ
   before = take (last file places) (closed file places)
-
-  pub there : (k : ℕ) → k < length places → list_any (eqb k) l.order ≡ true
-  there k h = true_from_ne_false _ (λ e. all k h (l.unset k e))
 
   abbrev entries : List Entry
   entries = table_of before w places
@@ -175,8 +174,8 @@ module _ (t : Tree) (num rank : ℕ → ℕ) (objects : ℕ
   entry_read : (k : ℕ) → k < length places
       → slice_get entries k ≡ Some (record { place = get_or places k 0; object = objects k })
   entry_read k h =
-      let o = object_there w objects file places
-      (table_form (offset_width (length file)) places) k l (there k h) in
+      let o = object_there w objects order places k laid ((all.numbered k).1 h)
+      (table_form (offset_width (length file)) places) in
       slice_get-map _ places k ∙ ap (option_map _) (slice_get-get_or places k 0 h)
       ∙ ap (λ object. Some (record { place = get_or places k 0; object = object }))
       (ap (λ bytes. object_in w (drop (get_or places k 0) bytes)) (front_is file places ∙ o.is)
@@ -189,26 +188,26 @@ module _ (t : Tree) (num rank : ℕ → ℕ) (objects : ℕ
       let Fits : ℕ → Type 0 = λ n. n < 256 ^ offset_width (length file) in
       recursion_from_All Fits places (All-from_get_or Fits places 0 (λ k h. omega (
         arith,
-        found_place w objects file places k l (there k h),
+        found_place w objects order places k laid ((all.numbered k).1 h),
         width_holds (length file) short,
       )))
 
   head_found : head_of (closed file places) ≡ Ok
       (record { trailer = last file places; reference_width = w; root = 0; places = places })
-  head_found = head_is file places _ l.is few short fit
+  head_found = head_is file places (bodies w objects order) refl few short fit
 
   shows : Shows num (unfolding_of entries (length places) [] (last file places) 0)
       (visits_of entries (length places) [] 0) (bracketing t) (met t 0)
   shows =
       let long : length entries - 0 ≡ length places = omega (arith, length-table_of before places w) in
-      let all = unfolds entries (shape t) num rank n.ranked
+      let whole = unfolds entries (shape t) num rank n.ranked
       (λ u p s. (
         get_or places (num p) 0,
         entry_read (num p) (n.below u p s)
             ∙ ap (λ o. Some (record { place = get_or places (num p) 0; object = o })) (n.holds u p s),
       ))
       t 0 [] (last file places) (sits_whole refl) (path_none (length entries)) tt in
-      rw (long, root) at all
+      rw (long, root) at whole
 
   pub items_are : items_of_file (closed file places) ≡ map Ok (bracketing t)
   unfolding items_of_file
@@ -222,17 +221,16 @@ module _ (t : Tree) (num rank : ℕ → ℕ) (objects : ℕ
 
   pub written : IsWrittenAs t (closed file places)
   written = record {
-    order = l.order;
+    order = order;
     objects = objects;
     places = places;
-    distinct = l.distinct;
-    numbered = λ k. (l.below k, there k);
-    laid = l.laid;
+    distinct = all.distinct;
+    numbered = all.numbered;
+    laid = laid;
     is =
-        ap (λ x. x ++ ending places (length file)) l.is
-        ∙ append_assoc magic (bodies w objects l.order) (ending places (length file))
-        ∙ ap (λ at. magic ++ (bodies w objects l.order ++ ending places at)) (ap length l.is
-        ∙ length-magic (bodies w objects l.order));
+        append_assoc magic (bodies w objects order) (ending places (length file))
+        ∙ ap (λ at. magic ++ (bodies w objects order ++ ending places at))
+        (length-magic (bodies w objects order));
     items = items_are;
   }
 

@@ -9,7 +9,7 @@ use Rattle.plist_binwrite.specs.Classes.{same_class, kept, count_by, objects_by,
 use Rattle.plist_binwrite.specs.Sizes.{total, object_size, size_with}
 use Rattle.plist_binwrite.specs.Standing.{size, Sits, met, met_in_items, met_in_pairs}
 use Rattle.plist_binwrite.specs.Written.{reference_width}
-use Rattle.plist_binwrite.proofs.Kept.{Stands, met_stand}
+use Rattle.plist_binwrite.proofs.Inside.{Stands, met_stand}
 use Rattle.plist_binwrite.proofs.Uniques.{unique_seen}
 use Rattle.plist_share.specs.Distinct.{tree_eq, subtrees, subtrees_of_items, subtrees_of_pairs, distinct_subtrees}
 use Rattle.plist_share.specs.inner.Keys.{TellTrees}

@@ -1,9 +1,9 @@
 -- The objects of a file in order, and a file as far as it is laid out.
-use Rattle.std.specs.Prelude.{◌≡◌, ◌≢◌, ℕ, ◌<◌, true, false, eqb, List, ◌++◌, length, get_or}
+use Rattle.std.specs.Prelude.{◌≡◌, ◌≢◌, ◌↔◌, ℕ, ◌<◌, true, false, eqb, List, ◌++◌, length, get_or}
 use Rattle.std.specs.List.{list_any, IsDistinct}
 use Rattle.plist_binread.specs.Container.{magic}
 use Rattle.plist_binread.specs.Object.{Object}
-use Rattle.plist_binwrite.specs.Written.{bodies, Laid, ending}
+use Rattle.plist_binwrite.specs.Written.{bodies, ending}
 
 -- some of the numbers below a count in order, none twice; each of them has a mark that isn't 0
 pub record IsOrder (count : ℕ) (order marks : List ℕ) : Type 0 where
@@ -25,14 +25,10 @@ KeepsMarks old new = (k : ℕ) → get_or old k 0 ≢ 0 → get_or new k 0 ≢ 0
 abbrev pub laid_out : (width : ℕ) (objects : ℕ → Object) (order : List ℕ) → List ℕ
 laid_out width objects order = magic ++ bodies width objects order
 
--- some objects lie back to back behind the magic; a place is 0 where its object isn't among them
-pub record IsLaid (width : ℕ) (objects : ℕ → Object) (file places : List ℕ) : Type 0 where
-  pub order : List ℕ
-  pub is : file ≡ magic ++ bodies width objects order
-  pub laid : Laid width objects places order 8
+-- each number below a count stands in the order once
+pub record AllOnce (count : ℕ) (order : List ℕ) : Type 0 where
   pub distinct : IsDistinct eqb order
-  pub below : (k : ℕ) → list_any (eqb k) order ≡ true → k < length places
-  pub unset : (k : ℕ) → list_any (eqb k) order ≡ false → get_or places k 0 ≡ 0
+  pub numbered : (k : ℕ) → (list_any (eqb k) order ≡ true) ↔ (k < count)
 
 -- the file with its table and trailer
 abbrev pub closed : (file places : List ℕ) → List ℕ
