@@ -1,5 +1,5 @@
 -- A plan by classes is a numbering: each number has one object.
-use Rattle.std.proofs.Common.{◌≡◌, ◌⊎◌, inl, inr, ℕ, ◌+◌, ◌<◌, ◌≤◌, List, ◌∷◌, get_or, refl, ap, sym, ◌∙◌, subst, arith}
+use Rattle.std.proofs.Common.{◌≡◌, ◌⊎◌, inl, inr, ℕ, ◌+◌, ◌<◌, ◌≤◌, List, ◌∷◌, get_or, refl, ap, sym, ◌∙◌, arith}
 use Rattle.std.proofs.lemmas.Bool.{cases_lt}
 use Rattle.plist_base.specs.Events.{PlainEvent}
 use Rattle.plist_base.specs.Faults.{ObjectOffsetTooLarge}
@@ -33,88 +33,58 @@ pub cons_is : {A : Type 0} (a b : A) (xs ys : List A) → a ∷ xs ≡ b ∷ ys 
 cons_is a b xs ys p = (cc, cc)
 
 module _ (es : List PlainEvent) (class : ℕ → ℕ) (c : AreClasses es class) where
-  mutual
-    -- places of one class have one tree
-    pub sound : (t u : Tree) (p q : ℕ) → Sits es t p → Sits es u q → class p ≡ class q → t ≡ u
-    sound (Leaf x) (Leaf y) p q s r e =
-        ap Leaf (the_scalar x y (c.object (Leaf x) (Leaf y) p q s r e))
-    sound (Array ts) (Array us) p q s r e =
-        ap Array (sound_items ts us (p + 1) (q + 1) (sits_items s) (sits_items r)
-        (the_items _ _ (c.object (Array ts) (Array us) p q s r e)))
-    sound (Dictionary ms) (Dictionary ns) p q s r e =
-        ap Dictionary (sound_pairs ms ns (p + 1) (q + 1) (sits_pairs s) (sits_pairs r)
-        (the_pairs _ _ (c.object (Dictionary ms) (Dictionary ns) p q s r e)))
-    sound t u p q s r e = let k = c.object t u p q s r e in cc
-
-    sound_items : (ts us : Trees) (p q : ℕ) → SitsItems es ts p → SitsItems es us q
-        → refs class ts p ≡ refs class us q → ts ≡ us
-    sound_items NoTrees NoTrees p q s r e = refl
-    sound_items NoTrees (TreeAnd u us) p q s r e = cc
-    sound_items (TreeAnd t ts) NoTrees p q s r e = cc
-    sound_items (TreeAnd t ts) (TreeAnd u us) p q s r e =
-        let k = cons_is _ _ _ _ e in
-        let first = sound t u p q (sits_item s) (sits_item r) k.0 in
-        let more = sound_items ts us (p + size t) (q + size u) (sits_next s) (sits_next r) k.1 in
-        λ i. TreeAnd (first i) (more i)
-
-    sound_pairs : (ms ns : Members) (p q : ℕ) → SitsPairs es ms p → SitsPairs es ns q
-        → pairs class ms p ≡ pairs class ns q → ms ≡ ns
-    sound_pairs NoMembers NoMembers p q s r e = refl
-    sound_pairs NoMembers (MemberAnd l u ns) p q s r e = cc
-    sound_pairs (MemberAnd k t ms) NoMembers p q s r e = cc
-    sound_pairs (MemberAnd k t ms) (MemberAnd l u ns) p q s r e =
-        let h = cons_is _ _ _ _ e in
-        let key = the_text k l (the_scalar _ _
-        (c.object (Leaf (trees.String k)) (Leaf (trees.String l)) p q
-        (sits_key s) (sits_key r) (ap (λ d. d.0) h.0))) in
-        let first = sound t u (p + 1) (q + 1) (sits_value s) (sits_value r) (ap (λ d. d.1) h.0) in
-        let more = sound_pairs ms ns (p + 1 + size t) (q + 1 + size u) (sits_next_pair s)
-        (sits_next_pair r) h.1 in
-        λ i. MemberAnd (key i) (first i) (more i)
-
   module _ (num : ℕ → ℕ)
       (same : (t u : Tree) (p q : ℕ) → Sits es t p → Sits es u q → class p ≡ class q
       → num p ≡ num q) where
     mutual
-      -- trees whose places have one class have one object by the numbers, too
-      num_obj : (t : Tree) (p q : ℕ) → Sits es t p → Sits es t q
-          → obj_of class t p ≡ obj_of class t q → obj_of num t p ≡ obj_of num t q
-      num_obj (Leaf x) p q s r e = refl
-      num_obj (Array ts) p q s r e =
-          ap obj.Array (num_items ts (p + 1) (q + 1) (sits_items s) (sits_items r)
-          (the_items _ _ e))
-      num_obj (Dictionary ms) p q s r e =
-          ap obj.Dictionary (num_pairs ms (p + 1) (q + 1) (sits_pairs s) (sits_pairs r)
-          (the_pairs _ _ e))
+      -- places of one class have one tree, and one object by the numbers, too
+      pub one_object : (t u : Tree) (p q : ℕ) → Sits es t p → Sits es u q → class p ≡ class q
+          → (t ≡ u) × (obj_of num t p ≡ obj_of num u q)
+      one_object (Leaf x) (Leaf y) p q s r e =
+          let k = c.object (Leaf x) (Leaf y) p q s r e in (ap Leaf (the_scalar x y k), k)
+      one_object (Array ts) (Array us) p q s r e =
+          let k = one_items ts us (p + 1) (q + 1) (sits_items s) (sits_items r)
+          (the_items _ _ (c.object (Array ts) (Array us) p q s r e)) in
+          (ap Array k.0, ap obj.Array k.1)
+      one_object (Dictionary ms) (Dictionary ns) p q s r e =
+          let k = one_pairs ms ns (p + 1) (q + 1) (sits_pairs s) (sits_pairs r)
+          (the_pairs _ _ (c.object (Dictionary ms) (Dictionary ns) p q s r e)) in
+          (ap Dictionary k.0, ap obj.Dictionary k.1)
+      one_object t u p q s r e = let k = c.object t u p q s r e in cc
 
-      num_items : (ts : Trees) (p q : ℕ) → SitsItems es ts p → SitsItems es ts q
-          → refs class ts p ≡ refs class ts q → refs num ts p ≡ refs num ts q
-      num_items NoTrees p q s r e = refl
-      num_items (TreeAnd t ts) p q s r e =
+      one_items : (ts us : Trees) (p q : ℕ) → SitsItems es ts p → SitsItems es us q
+          → refs class ts p ≡ refs class us q → (ts ≡ us) × (refs num ts p ≡ refs num us q)
+      one_items NoTrees NoTrees p q s r e = (refl, refl)
+      one_items NoTrees (TreeAnd u us) p q s r e = cc
+      one_items (TreeAnd t ts) NoTrees p q s r e = cc
+      one_items (TreeAnd t ts) (TreeAnd u us) p q s r e =
           let h = cons_is _ _ _ _ e in
-          let a = same t t p q (sits_item s) (sits_item r) h.0 in
-          let b = num_items ts (p + size t) (q + size t) (sits_next s) (sits_next r) h.1 in
-          λ i. a i ∷ b i
+          let k = one_object t u p q (sits_item s) (sits_item r) h.0 in
+          let n = same t u p q (sits_item s) (sits_item r) h.0 in
+          let more = one_items ts us (p + size t) (q + size u) (sits_next s) (sits_next r) h.1 in
+          ((λ i. TreeAnd (k.0 i) (more.0 i)), λ i. n i ∷ more.1 i)
 
-      num_pairs : (ms : Members) (p q : ℕ) → SitsPairs es ms p → SitsPairs es ms q
-          → pairs class ms p ≡ pairs class ms q → pairs num ms p ≡ pairs num ms q
-      num_pairs NoMembers p q s r e = refl
-      num_pairs (MemberAnd k t ms) p q s r e =
+      one_pairs : (ms ns : Members) (p q : ℕ) → SitsPairs es ms p → SitsPairs es ns q
+          → pairs class ms p ≡ pairs class ns q → (ms ≡ ns) × (pairs num ms p ≡ pairs num ns q)
+      one_pairs NoMembers NoMembers p q s r e = (refl, refl)
+      one_pairs NoMembers (MemberAnd l u ns) p q s r e = cc
+      one_pairs (MemberAnd k t ms) NoMembers p q s r e = cc
+      one_pairs (MemberAnd k t ms) (MemberAnd l u ns) p q s r e =
           let h = cons_is _ _ _ _ e in
-          let a = same (Leaf (trees.String k)) (Leaf (trees.String k)) p q (sits_key s) (sits_key r)
-          (ap (λ d. d.0) h.0) in
-          let b = same t t (p + 1) (q + 1) (sits_value s) (sits_value r) (ap (λ d. d.1) h.0) in
-          let more = num_pairs ms (p + 1 + size t) (q + 1 + size t) (sits_next_pair s)
+          let first = ap (λ d. d.0) h.0 in
+          let second = ap (λ d. d.1) h.0 in
+          let key = the_text k l (the_scalar _ _
+          (c.object (Leaf (trees.String k)) (Leaf (trees.String l)) p q
+          (sits_key s) (sits_key r) first)) in
+          let m = same _ _ p q (sits_key s) (sits_key r) first in
+          let j = one_object t u (p + 1) (q + 1) (sits_value s) (sits_value r) second in
+          let n = same t u (p + 1) (q + 1) (sits_value s) (sits_value r) second in
+          let more = one_pairs ms ns (p + 1 + size t) (q + 1 + size u) (sits_next_pair s)
           (sits_next_pair r) h.1 in
-          λ i. (a i, b i) ∷ more i
+          ((λ i. MemberAnd (key i) (j.0 i) (more.0 i)), λ i. (m i, n i) ∷ more.1 i)
 
-    pub one_object : (t u : Tree) (p q : ℕ) → Sits es t p → Sits es u q → class p ≡ class q
-        → obj_of num t p ≡ obj_of num u q
-    one_object t u p q s r e =
-        let k : t ≡ u = sound t u p q s r e in
-        subst (λ v. Sits es v q → obj_of class t p ≡ obj_of class v q
-        → obj_of num t p ≡ obj_of num v q)
-        k (λ r o. num_obj t p q s r o) r (c.object t u p q s r e)
+  pub sound : (t u : Tree) (p q : ℕ) → Sits es t p → Sits es u q → class p ≡ class q → t ≡ u
+  sound t u p q s r e = (one_object class (λ t u p q s r e. e) t u p q s r e).0
 
 -- What a plan says of the numbers: it is a numbering.
 pub record Numbered (es : List PlainEvent) (numbers : List ℕ) (count : ℕ) : Type 0 where
@@ -164,11 +134,9 @@ module _ (es : List PlainEvent) (plan : Plan) (planned : IsPlanned es plan) wher
   made_is t p s (inl h) =
       let f = tree_of (num p) h in
       let e = first_class planned.class planned.numbered t p s in
-      λ i. (
-        one_object es planned.class planned.classes num
-            (number_same planned.class planned.numbered) f.0 t _ p f.1 s e i,
-        size (sound es planned.class planned.classes f.0 t _ p f.1 s e i),
-      )
+      let k = one_object es planned.class planned.classes num
+      (number_same planned.class planned.numbered) f.0 t _ p f.1 s e in
+      λ i. (k.1 i, size (k.0 i))
   made_is t p s (inr h) = absurd (omega (arith, number_below t p s))
 
   object_is : (t : Tree) (p : ℕ) → Sits es t p

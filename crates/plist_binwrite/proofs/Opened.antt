@@ -192,33 +192,34 @@ last_of (Array ts) l e h =
 last_of (Dictionary ms) l e h =
     inl (same_from_push l (StartDictionary None ∷ shape_of_pairs ms) e EndCollection h).1
 
-opened_at : (es body : List PlainEvent) (e : PlainEvent) (q : ℕ) → q ≤ length es
-    → ((begun : List ℕ) → open_from (e ∷ body) q begun ≡ q ∷ begun) → drop q es ≡ e ∷ body
-    → (outer : List ℕ) × (open_after es ≡ q ∷ outer)
-opened_at es body e q le h d =
-    let before = open_from (take q es) 0 [] in
-    (before, open_parts es q le ∙ ap (λ l. open_from l q before) d ∙ h before)
-
 -- a tree whose end has come began at the innermost start without one
 pub ends_innermost : (es : List PlainEvent) (t : Tree) (q : ℕ) → Sits (es ++ EndCollection ∷ []) t q
     → q + size t ≡ length es + 1 → (outer : List ℕ) × (open_after es ≡ q ∷ outer)
 ends_innermost es t q s last =
     by t (all_there es EndCollection t q s last)
   where
+    opened : (start : PlainEvent) (body : List PlainEvent)
+        → ((begun : List ℕ) → open_from (start ∷ body) q begun ≡ q ∷ begun)
+        → drop q es ++ EndCollection ∷ [] ≡ (start ∷ body) ++ EndCollection ∷ []
+        → (outer : List ℕ) × (open_after es ≡ q ∷ outer)
+    opened start body h d =
+        let before = open_from (take q es) 0 [] in (
+          before,
+          open_parts es q (behind es EndCollection t q s)
+              ∙ ap (λ l. open_from l q before)
+              (same_from_push (drop q es) (start ∷ body) EndCollection EndCollection d).0
+              ∙ h before,
+        )
+
     by : (t : Tree) → drop q es ++ EndCollection ∷ [] ≡ shape t
         → (outer : List ℕ) × (open_after es ≡ q ∷ outer)
     by (Leaf x) h =
         cc ((one_leaf (drop q es) EndCollection x h).1)
     by (Array ts) h =
-        opened_at es (shape_of_items ts) (StartArray None) q (behind es EndCollection _ q s)
-        (λ begun. open_items ts (q + 1) (q ∷ begun))
-        (same_from_push (drop q es) (StartArray None ∷ shape_of_items ts) EndCollection
-        EndCollection h).0
+        opened (StartArray None) (shape_of_items ts) (λ begun. open_items ts (q + 1) (q ∷ begun)) h
     by (Dictionary ms) h =
-        opened_at es (shape_of_pairs ms) (StartDictionary None) q (behind es EndCollection _ q s)
-        (λ begun. open_pairs ms (q + 1) (q ∷ begun))
-        (same_from_push (drop q es) (StartDictionary None ∷ shape_of_pairs ms) EndCollection
-        EndCollection h).0
+        opened (StartDictionary None) (shape_of_pairs ms)
+        (λ begun. open_pairs ms (q + 1) (q ∷ begun)) h
 
 -- ---- the skips after one more event
 

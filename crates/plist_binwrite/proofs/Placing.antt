@@ -11,8 +11,9 @@ use Rattle.plist_base.specs.Trees.{number_of_trees, Tree, Leaf, Array, Dictionar
 use Rattle.plist_binread.specs.Object.{Object}
 use Rattle.plist_binwrite.specs.declared.kinds.Kind.TheVariants as kind
 use Rattle.plist_binwrite.specs.Forms.{form, length_form, IsWritable}
-use Rattle.plist_binwrite.specs.Held.{kind_of, event_at, values_in, num_of, IsBracketed, Describes}
-use Rattle.plist_binwrite.specs.inner.PlansBy.{IsPlan}
+use Rattle.plist_binwrite.specs.Held.{kind_of, event_at, values_in, num_of, Describes}
+use Rattle.plist_binwrite.specs.declared.plan.Plan.{Plan}
+use Rattle.plist_binwrite.specs.inner.Planning.{IsPlanned, numbers_of, firsts_of, count_of}
 use Rattle.plist_base.specs.Events.{PlainEvent}
 use Rattle.plist_binwrite.specs.Standing.{size, Sits, SitsItems}
 use Rattle.plist_binwrite.specs.Numberings.{obj_of}
@@ -134,28 +135,30 @@ along_next w objects order places i v at next lt distinct below good is sum none
         laid_next w objects order places i lt v distinct below good (is ∙ told) laid
 
 -- the object of a number is that of the tree which begins at its first event
-pub described : (es : List PlainEvent) (class : ℕ → ℕ) (numbers firsts : List ℕ) (objects : ℕ
-    → Object) (k first : ℕ) → first ≡ get_or firsts k 0 → k < length firsts → IsBracketed es
-    → IsPlan es class numbers firsts → Describes es numbers objects
-    → (u : Tree) × Sits es u first × (objects k ≡ obj_of (num_of numbers) u first)
-described es class numbers firsts objects k first e h whole plan describes =
-    let f = plan.known k h in
-    let u = sits_at es whole (get_or firsts k 0) f.0 f.2 in
-    let s : Sits es u.0 first = subst (Sits es u.0) (sym e) u.1 in
-    (u.0, s, ap objects (sym (ap (λ p. get_or numbers p 0) e ∙ f.1)) ∙ describes u.0 first s)
+module _ (es : List PlainEvent) (plan : Plan) (planned : IsPlanned es plan) (objects : ℕ → Object)
+    (k first : ℕ) (e : first ≡ get_or (firsts_of plan) k 0) (h : k < count_of plan)
+    (describes : Describes es (numbers_of plan) objects) where
+  pub described : (u : Tree) × Sits es u first
+      × (objects k ≡ obj_of (num_of (numbers_of plan)) u first)
+  described =
+      let f = planned.numbered.known k h in
+      let u = sits_at es planned.whole (get_or (firsts_of plan) k 0) f.0 f.2 in
+      let s : Sits es u.0 first = subst (Sits es u.0) (sym e) u.1 in (
+        u.0,
+        s,
+        ap objects (sym (ap (num_of (numbers_of plan)) e ∙ f.1)) ∙ describes u.0 first s,
+      )
 
-pub sized : (es : List PlainEvent) (class : ℕ → ℕ) (numbers firsts : List ℕ) (objects : ℕ
-    → Object) (w k first : ℕ) (told : Option ℕ) → first ≡ get_or firsts k 0 → k < length firsts
-    → IsBracketed es → IsPlan es class numbers firsts → Describes es numbers objects
-    → ((t : Tree) → Sits es t first → TellsSize told (object_size w t))
-    → ((t : Tree) → Sits es t first → IsWritable w (obj_of (num_of numbers) t first))
-    → TellsSize told (length (form w (objects k))) × IsWritable w (objects k)
-sized es class numbers firsts objects w k first told e h whole plan describes size good =
-    let d = described es class numbers firsts objects k first e h whole plan describes in (
-      subst (TellsSize told) (sym (ap (λ v. length (form w v)) d.2
-          ∙ form_size w (num_of numbers) d.0 first)) (size d.0 d.1),
-      subst (IsWritable w) (sym d.2) (good d.0 d.1),
-    )
+  pub sized : (w : ℕ) (told : Option ℕ)
+      → ((t : Tree) → Sits es t first → TellsSize told (object_size w t))
+      → ((t : Tree) → Sits es t first → IsWritable w (obj_of (num_of (numbers_of plan)) t first))
+      → TellsSize told (length (form w (objects k))) × IsWritable w (objects k)
+  sized w told size good =
+      let d = described in (
+        subst (TellsSize told) (sym (ap (λ v. length (form w v)) d.2
+            ∙ form_size w (num_of (numbers_of plan)) d.0 first)) (size d.0 d.1),
+        subst (IsWritable w) (sym d.2) (good d.0 d.1),
+      )
 
 pub if_some_all : (o : Option ℕ) (P Q : (ℕ → Object) → Type 0)
     → ((objects : ℕ → Object) → P objects → IfSome o (λ n. Q objects))

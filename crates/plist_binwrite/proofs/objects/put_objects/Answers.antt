@@ -22,9 +22,9 @@ loop-index-preserved g c = λ objects d.
     let i = c.loop-index.index in
     let within : i < length order = omega (arith, c.loop-index-test.true, c.len-index-end.ensures)
     in
-    let u = described _ _ _ _ objects _ _
+    let u = described _ _ c.requires.file.planned objects _ _
     (c.first-first.ensures ∙ ap (num_of (firsts_of c.args.file.now.plan.now)) c.get.ensures)
-    (c.requires.order i within) c.requires.file.planned.whole c.requires.file.planned.numbered d in
+    (c.requires.order i within) d in
     puts_as (one_part (λ k. form c.args.file.now.width (objects k)) order i within)
     (puts_then (c.loop-index.invariant objects d)
     (puts_as (ap (form c.args.file.now.width) (sym u.2)) (c.in-Ok.ensures u.0 u.1)))
@@ -35,9 +35,9 @@ returns-in-Err g c = λ objects d.
     let i = c.loop-index.index in
     let within : i < length order = omega (arith, c.loop-index-test.true, c.len-index-end.ensures)
     in
-    let u = described _ _ _ _ objects _ _
+    let u = described _ _ c.requires.file.planned objects _ _
     (c.first-first.ensures ∙ ap (num_of (firsts_of c.args.file.now.plan.now)) c.get.ensures)
-    (c.requires.order i within) c.requires.file.planned.whole c.requires.file.planned.numbered d in
+    (c.requires.order i within) d in
     puts_as (all_parts (λ k. form c.args.file.now.width (objects k)) order i within)
     (puts_front _ (puts_then (c.loop-index.invariant objects d)
     (puts_as (ap (form c.args.file.now.width) (sym u.2)) (c.in-Err.ensures u.0 u.1))))

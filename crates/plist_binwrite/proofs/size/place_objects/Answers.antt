@@ -55,11 +55,10 @@ loop-index-preserved c =
       ap length put ∙ length-set c.loop-index.places k c.place_or_none.result
           ∙ c.loop-index.invariant.0,
       λ objects d.
-          let z = sized _ _ _ _ objects _ k _ _
+          let z = sized _ _ c.requires.planned objects k _
           (c.first-first.ensures
-          ∙ ap (num_of (firsts_of c.args.file.now.plan.now)) c.get-number.ensures) below
-          c.requires.planned.whole c.requires.planned.numbered d c.size_of_object-size.ensures.size
-          c.size_of_object-size.ensures.writable in
+          ∙ ap (num_of (firsts_of c.args.file.now.plan.now)) c.get-number.ensures) below d _ _
+          c.size_of_object-size.ensures.size c.size_of_object-size.ensures.writable in
           rw put (along_next c.args.file.now.width objects order c.loop-index.places i
           c.place_or_none.result c.loop-index.at c.add-at.result within
           c.requires.order.distinct (omega (arith, below, c.loop-index.invariant.0)) z.1
