@@ -5,6 +5,7 @@
 #![tactic(auto)]
 
 mod bytes;
+pub mod callers;
 mod comment;
 mod dialect;
 mod escape;

@@ -5,6 +5,7 @@
 #![tactic(auto)]
 
 mod bytes;
+pub mod callers;
 mod format;
 mod reader;
 
