@@ -1,11 +1,13 @@
-//! Proved callers of a new writer: what is handed to it comes back, and it hasn't failed.
+//! Proved callers of a writer: a new one gives back what was handed to it and hasn't failed, and one
+//! that had no memory for an event has.
 
-ghost use Rattle.std.specs.Prelude.{◌≡◌, IfErr, ⊤};
-ghost use Rattle.plist_base.specs.Faults.{error_kind_of, kind_of};
-ghost use Rattle.plist_base.specs.Writing.{MatchKind};
+ghost use Rattle.std.specs.Prelude.{◌≡◌, Err, IfErr, IfSome, ⊤};
+ghost use Rattle.plist_base.specs.Faults.{WriterFailed, error_kind_of, fault_nowhere, kind_of};
+ghost use Rattle.plist_base.specs.Writing.{MatchKind, answer_of};
+ghost use Rattle.plist_binwrite.specs.FileWriter.{inner_of};
 
 use crate::BinaryWriter;
-use plist_base::{Error, Event, Writer};
+use plist_base::{Error, ErrorKind, Event, Writer};
 use std::alloc::Global;
 use std::io::Write;
 
@@ -26,4 +28,24 @@ pub fn begin_with<W: Write + Drop>(alloc: Global, inner: W, event: Event<'_>) ->
 {
     let mut writer = BinaryWriter::new(alloc, inner);
     writer.write(event)
+}
+
+/// What a writer answers behind an event that it had no memory for, and what takes the bytes then;
+/// none where there was memory. It has failed, and nothing went out.
+pub fn next_without_memory<W: Write + Drop>(
+    writer: BinaryWriter<W>,
+    event: Event<'_>,
+    next: Event<'_>,
+) -> Option<(Result<(), Error>, W)>
+    ensures failed { IfSome result (λ found. answer_of found.0 ≡ Err (fault_nowhere WriterFailed)) }
+    ensures inner { IfSome result (λ found. found.1 ≡ inner_of writer) }
+{
+    let mut writer = writer;
+    match writer.write(event) {
+        Err(error) if matches!(error.kind(), ErrorKind::OutOfMemory) => {
+            let answer = writer.write(next);
+            Some((answer, writer.into_inner()))
+        }
+        _ => None,
+    }
 }
