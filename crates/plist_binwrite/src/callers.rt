@@ -1,4 +1,4 @@
-//! Proved callers of a writer: a new one gives back what was handed to it and hasn't failed, and one
+//! Proved callers of a writer: a new one gives back what was handed to it and hasn't failed; one
 //! that had no memory for an event has.
 
 ghost use Rattle.std.specs.Prelude.{◌≡◌, Err, IfErr, IfSome, ⊤};
