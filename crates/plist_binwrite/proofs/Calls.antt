@@ -12,7 +12,7 @@ use Rattle.plist_binwrite.specs.Pendings.{refusal_of}
 use Rattle.plist_binwrite.specs.declared.shared.Sharing.{Ghosts as SharingGhosts}
 use Rattle.plist_binwrite.specs.declared.writer.FileWriter.{FileWriter}
 use Rattle.plist_binwrite.specs.FileWriter.{Takes, TakesEvent, held_by, failed_of, inner_of}
-use Rattle.plist_binwrite.proofs.Sends.{sends_alike}
+use Rattle.plist_binwrite.proofs.Sends.{sends_as}
 
 still : (b : Bool) (x y : Type 0) → b ≡ false → y → MatchBool b x y
 still true x y e h = cc
@@ -47,14 +47,24 @@ module _ {W : Type 0} (IsFile : Tree → List ℕ → Type 0) (size : Tree → �
     takes_refused fault h none is same =
         still (failed_of before) _ _ h (rw is (refl, (none, refl, same)))
 
+    -- so is what sending them does
+    sent : (events : List PlainEvent) (answer : Answer)
+        → events ≡ held_by before ++ unhinted event ∷ []
+        → Sends IsFile size contents events answer (inner_of before) (inner_of after)
+        → Sends IsFile size contents (held_by before ++ event ∷ []) answer (inner_of before)
+        (inner_of after)
+    sent events answer are =
+        sends_as IsFile IsFile size size events (held_by before ++ event ∷ [])
+        (last_alike (held_by before) events event are) (λ t alike file of. of) (λ t alike. refl)
+        contents answer (inner_of before) (inner_of after)
+
     pub takes_unsent : (events : List PlainEvent) (fault : Fault) → failed_of before ≡ false
         → CanContinue (held_by before) event → events ≡ held_by before ++ unhinted event ∷ []
         → failed_of after ≡ true
         → Sends IsFile size contents events (Err fault) (inner_of before) (inner_of after)
         → Does (Err fault)
     takes_unsent events fault h can are lost sends =
-        let s = sends_alike IsFile size contents events (held_by before ++ event ∷ []) (Err fault)
-        (inner_of before) (inner_of after) (last_alike (held_by before) events event are) sends in
+        let s = sent events (Err fault) are sends in
         still (failed_of before) _ _ h (
           s.0,
           failing fault.kind (held_by before ++ event ∷ [])
@@ -67,6 +77,4 @@ module _ {W : Type 0} (IsFile : Tree → List ℕ → Type 0) (size : Tree → �
         → Sends IsFile size contents events (Ok tt) (inner_of before) (inner_of after)
         → Does (Ok tt)
     takes_whole events h can are up none sends =
-        let s = sends_alike IsFile size contents events (held_by before ++ event ∷ []) (Ok tt)
-        (inner_of before) (inner_of after) (last_alike (held_by before) events event are) sends in
-        still (failed_of before) _ _ h (can, up, inl (s, none))
+        still (failed_of before) _ _ h (can, up, inl (sent events (Ok tt) are sends, none))

@@ -11,16 +11,12 @@ use Rattle.plist_base.specs.Events.{PlainEvent}
 
 -- an entry is that of its kind and its number
 pub same_entry : (e : Entry) → entry_of (kind_in e) (number_in e) ≡ e
-same_entry (entry.Array behind) = refl
-same_entry (entry.Dictionary behind) = refl
-same_entry (entry.Scalar place) = refl
 same_entry entry.End = refl
+same_entry e = refl
 
 pub same_kind : (k : Kind) (n : ℕ) → kind_in (entry_of k n) ≡ k
-same_kind kind.Array n = refl
-same_kind kind.Dictionary n = refl
-same_kind kind.Scalar n = refl
 same_kind kind.End n = refl
+same_kind k n = refl
 
 pub long_entries : (kinds : List Kind) (numbers : List ℕ) → length kinds ≡ length numbers
     → length (entries_of kinds numbers) ≡ length kinds
@@ -74,17 +70,13 @@ of_number e k n is told = ap (λ k. entry_of k n) is ∙ told
 
 -- the scalar that is named
 pub named : (e : Entry) (k : ℕ) → scalar_in e ≡ Some k → e ≡ entry.Scalar k
-named (entry.Array behind) k is = cc
-named (entry.Dictionary behind) k is = cc
-named (entry.Scalar place) k is = cc
 named entry.End k is = cc
+named e k is = cc
 
 pub unnamed : (scalars : List PlainEvent) (e : Entry) → scalar_in e ≡ None
     → is_leaf (shown scalars e) ≡ false
-unnamed scalars (entry.Array behind) is = refl
-unnamed scalars (entry.Dictionary behind) is = refl
 unnamed scalars (entry.Scalar place) is = cc
-unnamed scalars entry.End is = refl
+unnamed scalars e is = refl
 
 -- one more
 pub entries_more : (kinds : List Kind) (numbers : List ℕ) (e : Entry)

@@ -96,13 +96,11 @@ leaf_opens e p begun h = cc
 module _ (old more : List PlainEvent) where
   pub one_kept : (e : Entry) → is_sound old e ≡ true → (is_sound (old ++ more) e ≡ true)
       × (shown (old ++ more) e ≡ shown old e)
-  one_kept (entry.Array behind) h = (refl, refl)
-  one_kept (entry.Dictionary behind) h = (refl, refl)
   one_kept (entry.Scalar i) h =
       let same : get_or (old ++ more) i EndCollection ≡ get_or old i EndCollection
       = get_or-append old more EndCollection i (leaf_below old i h) in
       (ap is_leaf same ∙ h, ap unhinted same)
-  one_kept entry.End h = (refl, refl)
+  one_kept e h = (refl, refl)
 
   pub shown_kept : (es : List Entry)
       → ((p : ℕ) → p < length es → is_sound old (entry_at es p) ≡ true)

@@ -20,10 +20,8 @@ leaf_kind e h = cc
 
 kind_shown : (scalars : List PlainEvent) (e : Entry) → is_sound scalars e ≡ true
     → kind_of (shown scalars e) ≡ kind_in e
-kind_shown scalars (entry.Array behind) h = refl
-kind_shown scalars (entry.Dictionary behind) h = refl
 kind_shown scalars (entry.Scalar place) h = leaf_kind (get_or scalars place EndCollection) h
-kind_shown scalars entry.End h = refl
+kind_shown scalars e h = refl
 
 module _ (scalars : List PlainEvent) (es : List Entry) (begun : List ℕ)
     (kept : IsKept scalars es begun) (place : ℕ) (here : place < length (all_shown scalars es))

@@ -94,8 +94,7 @@ module _ (scalars : List PlainEvent) (es : List Entry) (begun : List ℕ)
       × (shown scalars e ≡ EndCollection → ⊥)
   start_parts (entry.Array behind) h = (refl, (λ p now. refl), λ q. cc)
   start_parts (entry.Dictionary behind) h = (refl, (λ p now. refl), λ q. cc)
-  start_parts (entry.Scalar place) h = cc
-  start_parts entry.End h = cc
+  start_parts e h = cc
 
   -- a start
   pub kept_start : (e : Entry) → is_start e ≡ true → behind_of (length es) e ≡ length es + 1

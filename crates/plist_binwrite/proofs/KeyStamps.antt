@@ -177,9 +177,8 @@ below_set n stamps s mark lt all i h =
 
 -- a dictionary's own keys are different
 abbrev IfDictionary : Tree → Type 0
-IfDictionary (Leaf x) = Unit {0}
-IfDictionary (Array ts) = Unit {0}
 IfDictionary (Dictionary ms) = HasDistinctKeys ms
+IfDictionary t = Unit {0}
 
 goes_on : (e : PlainEvent) → kind_of e ≡ kind.Dictionary → is_stop e ≡ false
 goes_on EndCollection k = cc

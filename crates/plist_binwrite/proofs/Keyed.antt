@@ -16,34 +16,55 @@ module _ {T P : Type 0} (same : T → T → Bool) (view : T → P) where
   key_at cs i x y same_key h s =
       slice_get-map view cs i ∙ ap (option_map view) h ∙ ap Some (sym (same_key s))
 
-  front : (xs ys : List T) (i : ℕ) → i < length (map view xs)
-      → slice_get (map view (xs ++ ys)) i ≡ slice_get (map view xs) i
-  front [] ys i h = absurd (omega (arith, h))
-  front (x ∷ xs) ys zero h = refl
-  front (x ∷ xs) ys (suc i) h = front xs ys i (omega (arith, h))
+  -- the keys once one has come: one more at most
+  grown : (b : Bool) (old new : List T) (x : T) → new ≡ (if b then old else old ++ x ∷ [])
+      → (map view new ≡ map view old) ⊎ (map view new ≡ map view old ++ view x ∷ [])
+  grown true old new x e = inl (ap (map view) e)
+  grown false old new x e = inr (ap (map view) e ∙ map-append view old (x ∷ []))
 
-  -- a key that comes changes none before it
-  pub keys_kept : (b : Bool) (old new : List T) (x : T) → new ≡ (if b then old else old ++ x ∷ [])
-      → (i : ℕ) → i < length (map view old) → slice_get (map view new) i
-      ≡ slice_get (map view old) i
-  keys_kept true old new x e i h = ap (λ l. slice_get (map view l) i) e
-  keys_kept false old new x e i h = ap (λ l. slice_get (map view l) i) e ∙ front old (x ∷ []) i h
+  module _ (b : Bool) (old new : List T) (x : T) (e : new ≡ (if b then old else old ++ x ∷ [])) where
+    pub keys_more : (more : List P) × (map view new ≡ map view old ++ more)
+    keys_more = elim (grown b old new x e) [
+      | inl s ↦ ([], s ∙ sym (append-nil (map view old)))
+      | inr g ↦ (view x ∷ [], g)
+    ]
 
-  -- and the keys grow by one at most
-  pub keys_grow : (b : Bool) (old new : List T) (x : T) → new ≡ (if b then old else old ++ x ∷ [])
-      → (length (map view old) ≤ length (map view new))
-      × (length (map view new) ≤ length (map view old) + 1)
-  keys_grow true old new x e = let n = ap (λ (l : List T). length (map view l)) e in (
-    omega
-        (arith, n),
-    omega (arith, n),
-  )
-  keys_grow false old new x e = let n = ap (λ (l : List T). length
-      (map view l)) e in let m = one old in (omega (arith, n, m), omega (arith, n, m))
-    where
-      one : (l : List T) → length (map view (l ++ x ∷ [])) ≡ length (map view l) + 1
-      one [] = refl
-      one (y ∷ l) = let r = one l in omega (arith, r)
+    -- it changes none before it
+    pub keys_kept : (i : ℕ) → i < length (map view old)
+        → slice_get (map view new) i ≡ slice_get (map view old) i
+    keys_kept i h =
+        let more = keys_more in ap (λ l. slice_get l i) more.1 ∙ front (map view old) more.0 i h
+      where
+        front : (xs ys : List P) (i : ℕ) → i < length xs → slice_get (xs ++ ys) i ≡ slice_get xs i
+        front [] ys i h = absurd (omega (arith, h))
+        front (y ∷ xs) ys zero h = refl
+        front (y ∷ xs) ys (suc i) h = front xs ys i (omega (arith, h))
+
+    pub keys_grow : (length (map view old) ≤ length (map view new))
+        × (length (map view new) ≤ length (map view old) + 1)
+    keys_grow =
+        let one = length-append (map view old) (view x ∷ []) in
+        elim (grown b old new x e) [
+          | inl s ↦ let n = ap length s in (omega (arith, n), omega (arith, n))
+          | inr g ↦ let n = ap length g in (omega (arith, n, one), omega (arith, n, one))
+        ]
+
+    -- a key is one of those before, or the one that came
+    pub key_came : (i : ℕ) → i < length (map view new)
+        → (i < length (map view old)) ⊎ (slice_get (map view new) i ≡ Some (view x))
+    key_came i h = elim (grown b old new x e) [
+      | inl s ↦ inl (subst (λ l. i < length l) s h)
+      | inr g ↦ elim (leb_tells (length (map view old)) i) [
+        | inl a ↦
+            let last : i ≡ length (map view old) =
+            omega (arith, a.1, h, ap length g, length-append (map view old) (view x ∷ [])) in
+            inr (slice_get-get_or (map view new) i (view x) h
+            ∙ ap Some (ap (λ l. get_or l i (view x)) g
+            ∙ ap (λ n. get_or (map view old ++ view x ∷ []) n (view x)) last
+            ∙ get_or-append_seam (map view old) (view x) [] (view x)))
+        | inr c ↦ inl c.1
+      ]
+    ]
 
   -- the key that a search finds
   pub key_found : (cs : List T) (i : ℕ) (x : T) (d : T) (e : P)
@@ -52,36 +73,6 @@ module _ {T P : Type 0} (same : T → T → Bool) (view : T → P) where
   key_found cs i x d e same_key h =
       let f = position-Some (same x) cs i d h in
       get_or-map view cs i d e f.0 ∙ sym (same_key (get_or cs i d) f.1)
-
-  -- the keys once one has come: one more at most
-  pub keys_more : (b : Bool) (old new : List T) (x : T) → new ≡ (if b then old else old ++ x ∷ [])
-      → (more : List P) × (map view new ≡ map view old ++ more)
-  keys_more true old new x e = ([], ap (map view) e ∙ sym (append-nil (map view old)))
-  keys_more false old new x e = (view x ∷ [], ap (map view) e ∙ map-append view old (x ∷ []))
-
-  -- a key is one of those before, or the one that came
-  pub key_came : (b : Bool) (old new : List T) (x : T) → new ≡ (if b then old else old ++ x ∷ [])
-      → (i : ℕ) → i < length (map view new)
-      → (i < length (map view old)) ⊎ (slice_get (map view new) i ≡ Some (view x))
-  key_came true old new x e i h = inl (subst (λ l. i < length (map view l)) e h)
-  key_came false old new x e i h =
-      elim (leb_tells (length (map view old)) i) [
-        | inl a ↦ inr (last (omega (arith, a.1, h, longer)))
-        | inr b ↦ inl b.1
-      ]
-    where
-      grown : map view new ≡ map view old ++ view x ∷ []
-      grown = ap (map view) e ∙ map-append view old (x ∷ [])
-
-      longer : length (map view new) ≡ length (map view old) + 1
-      longer = ap length grown ∙ length-append (map view old) (view x ∷ [])
-
-      last : i ≡ length (map view old) → slice_get (map view new) i ≡ Some (view x)
-      last is =
-          slice_get-get_or (map view new) i (view x) h
-          ∙ ap Some (ap (λ l. get_or l i (view x)) grown
-          ∙ ap (λ n. get_or (map view old ++ view x ∷ []) n (view x)) is
-          ∙ get_or-append_seam (map view old) (view x) [] (view x))
 
   -- the keys once the one that came is dropped
   pub keys_back : (b : Bool) (old new : List T) (x : T) → new ≡ (if b then old else old ++ x ∷ [])

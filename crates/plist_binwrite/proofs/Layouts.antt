@@ -16,25 +16,17 @@ use Rattle.plist_binwrite.specs.inner.Laying.{IsOrder, KeepsMarks, laid_out}
 pub length-magic : (xs : List ℕ) → length (magic ++ xs) ≡ 8 + length xs
 length-magic xs = length-append magic xs
 
--- object k among those that lie back to back
-record Found (w : ℕ) (objects : ℕ → Object) (places order : List ℕ) (at k : ℕ) : Type 0 where
-  before : List ℕ
-  after : List ℕ
-  is : bodies w objects order ≡ before ++ (form w (objects k) ++ after)
-  at_place : at + length before ≡ get_or places k 0
-  good : IsWritable w (objects k)
-
--- the same in the file, before something else
-pub record There (w : ℕ) (objects : ℕ → Object) (file places more : List ℕ) (k : ℕ) : Type 0 where
+-- object k among bytes that lie at a place
+pub record Lies (w : ℕ) (objects : ℕ → Object) (places bytes : List ℕ) (at k : ℕ) : Type 0 where
   pub before : List ℕ
   pub after : List ℕ
-  pub is : file ++ more ≡ before ++ (form w (objects k) ++ after)
-  pub at_place : length before ≡ get_or places k 0
+  pub is : bytes ≡ before ++ (form w (objects k) ++ after)
+  pub at_place : get_or places k 0 ≡ at + length before
   pub good : IsWritable w (objects k)
 
 module _ (w : ℕ) (objects : ℕ → Object) where
   found : (places order : List ℕ) (at k : ℕ) → Laid w objects places order at → list_any
-      (eqb k) order ≡ true → Found w objects places order at k
+      (eqb k) order ≡ true → Lies w objects places (bodies w objects order) at k
   found places [] at k l any = cc
   found places (j ∷ order) at k l any =
       elim (eqb_tells k j) [
@@ -64,7 +56,8 @@ module _ (w : ℕ) (objects : ℕ → Object) where
   module _ (order places : List ℕ) (k : ℕ) (l : Laid w objects places order 8)
       (any : list_any (eqb k) order ≡ true) where
     -- where something is appended, object k is still there
-    pub object_there : (more : List ℕ) → There w objects (laid_out w objects order) places more k
+    pub object_there : (more : List ℕ)
+        → Lies w objects places (laid_out w objects order ++ more) 0 k
     object_there more =
         let f = found places order 8 k l any in
         record {

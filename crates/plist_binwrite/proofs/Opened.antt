@@ -61,8 +61,7 @@ mutual
 abbrev pub is_start : PlainEvent → Bool
 is_start (StartArray hint) = true
 is_start (StartDictionary hint) = true
-is_start EndCollection = false
-is_start (Single x) = false
+is_start e = false
 
 -- what holds of the places that are begun, and of those of the starts that come, goes on holding
 module _ (P : ℕ → Type 0) where
@@ -72,10 +71,9 @@ module _ (P : ℕ → Type 0) where
 
   behind_has : (e : PlainEvent) (p : ℕ) (begun : List ℕ) → (is_start e ≡ true → P p)
       → AllByRecursion P begun → AllByRecursion P (open_behind e p begun)
-  behind_has (StartArray hint) p begun h a = (h refl, a)
-  behind_has (StartDictionary hint) p begun h a = (h refl, a)
   behind_has EndCollection p begun h a = outer_has begun a
   behind_has (Single x) p begun h a = a
+  behind_has e p begun h a = (h refl, a)
 
   begun_have : (all es : List PlainEvent) (p : ℕ) (begun : List ℕ) → drop p all ≡ es
       → ((q : ℕ) → p ≤ q → q < p + length es → is_start (event_at all q) ≡ true → P q)

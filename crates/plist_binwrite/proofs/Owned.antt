@@ -19,7 +19,7 @@ use Rattle.plist_binwrite.proofs.SameScalars.{owner_eq}
 use Rattle.plist_binwrite.proofs.Sitting.{sits_whole}
 use Rattle.plist_binwrite.proofs.Totals.{total_one}
 use Rattle.plist_binwrite.proofs.Uniques.{unique_seen}
-use Rattle.plist_binwrite.proofs.OwnedApart.{One, Rising, class_owner, classes_tell, own_tree, owned_eq, spread}
+use Rattle.plist_binwrite.proofs.OwnedApart.{One, Rising, class_owner, classes_tell, later, own_tree, owned_eq, rising}
 
 -- ---- the weights of one of each kind
 
@@ -32,9 +32,8 @@ module _ (weight : Tree → ℕ) where
       → total weigh (cond b xs ((p, Leaf x) ∷ xs))
       ≡ n + total (λ y. weight (Leaf y)) (cond c ys (x ∷ ys))
   weigh_cond true true xs ys p x n e h = h
-  weigh_cond true false xs ys p x n e h = cc
-  weigh_cond false true xs ys p x n e h = cc
   weigh_cond false false xs ys p x n e h = omega (arith, h)
+  weigh_cond b c xs ys p x n e h = cc
 
   weigh_false : (b : Bool) (xs : List One) (one : One) → b ≡ false
       → total weigh (cond b xs (one ∷ xs)) ≡ weigh one + total weigh xs
@@ -61,18 +60,20 @@ module _ (weight : Tree → ℕ) where
       by (Leaf y) = refl
       by u = apart_eq p q a.0
 
-  owned_total : (ones : List One) → Rising ones
+  owned_total : (low high : ℕ) (ones : List One) → Rising low high ones
       → total weigh (unique_keys owned_eq ones)
       ≡ total weigh (collected ones) + total (λ y. weight (Leaf y))
       (unique_keys scalar_eq (texts ones))
-  owned_total [] r = refl
-  owned_total ((p, Leaf x) ∷ ones) r =
+  owned_total low high [] r = refl
+  owned_total low high ((p, Leaf x) ∷ ones) r =
       weigh_cond (is_member owned_eq ones (p, Leaf x)) (is_member scalar_eq (texts ones) x)
       (unique_keys owned_eq ones) (unique_keys scalar_eq (texts ones)) p x
-      (total weigh (collected ones)) (text_member ones p x) (owned_total ones r.1)
-  owned_total ((p, t) ∷ ones) r =
+      (total weigh (collected ones)) (text_member ones p x)
+      (owned_total (p + 1) high ones r.1)
+  owned_total low high ((p, t) ∷ ones) r =
       weigh_false (is_member owned_eq ones (p, t)) (unique_keys owned_eq ones) (p, t)
-      (no_other ones p t refl r.0) ∙ omega (arith, owned_total ones r.1)
+      (no_other ones p t refl (later p high ones r.1))
+      ∙ omega (arith, owned_total (p + 1) high ones r.1)
 
 -- ---- counts and sizes
 
@@ -90,7 +91,7 @@ module _ (class : ℕ → ℕ) (count : ℕ) (tree : Tree) (o : AreOwners (shape
       (unique_keys scalar_eq (scalars_in tree))
   kept_total weight =
       ap (total (λ (one : One). weight one.1)) kept_is
-      ∙ owned_total weight (met tree 0) (spread tree 0).rising
+      ∙ owned_total weight _ _ (met tree 0) (rising tree 0)
 
   pub owned_count : count_by class tree ≡ object_count tree
   owned_count =
@@ -134,15 +135,18 @@ module _ (es : List PlainEvent) (class num : ℕ → ℕ) (count : ℕ) (o : Are
   all_apart a s i ((q, t) ∷ ones) r h =
       (alone_apart a (q, t) s r.0 i refl h.0, all_apart a s i ones r.1 h.1)
 
-  distinct_at : (ones : List One) → AllByRecursion (Stands es) ones → Rising ones
+  distinct_at : (low high : ℕ) (ones : List One) → AllByRecursion (Stands es) ones
+      → Rising low high ones
       → IsDistinct eqb (map (λ one. num one.0) (collected ones))
   unfolding IsDistinct
-  distinct_at [] s r = tt
-  distinct_at ((p, Leaf x) ∷ ones) s r = distinct_at ones s.1 r.1
-  distinct_at ((p, t) ∷ ones) s r =
-      (all_apart (p, t) s.0 refl ones s.1 r.0, distinct_at ones s.1 r.1)
+  distinct_at low high [] s r = tt
+  distinct_at low high ((p, Leaf x) ∷ ones) s r = distinct_at (p + 1) high ones s.1 r.1
+  distinct_at low high ((p, t) ∷ ones) s r = (
+    all_apart (p, t) s.0 refl ones s.1 (later p high ones r.1),
+    distinct_at (p + 1) high ones s.1 r.1,
+  )
 
   pub entered_once : (tree : Tree) → Sits es tree 0
       → IsDistinct eqb (map (λ one. num one.0) (collections_in tree))
   entered_once tree s =
-      distinct_at (met tree 0) (met_stand es tree 0 s) (spread tree 0).rising
+      distinct_at _ _ (met tree 0) (met_stand es tree 0 s) (rising tree 0)

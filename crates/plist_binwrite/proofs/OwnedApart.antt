@@ -4,7 +4,6 @@ use Rattle.std.specs.List.{AllByRecursion}
 use Rattle.std.proofs.lemmas.Bool.Decides.{eqb_tells}
 use Rattle.plist_base.specs.Bracketing.{shape, shape_of_items, shape_of_pairs}
 use Rattle.plist_base.specs.Events.{PlainEvent, EndCollection}
-use Rattle.plist_base.specs.Trees as trees
 use Rattle.plist_base.specs.Trees.{Tree, Leaf, Array, Dictionary, Trees, NoTrees, TreeAnd, Members, NoMembers, MemberAnd}
 use Rattle.plist_binread.specs.Object as obj
 use Rattle.plist_binwrite.specs.Classes.{AreClasses, same_class}
@@ -16,14 +15,13 @@ use Rattle.plist_binwrite.specs.Standing.{size, Sits, met, met_in_items, met_in_
 use Rattle.plist_binwrite.proofs.SameScalars.{owner_eq, owners_tell, tells_both}
 use Rattle.plist_binwrite.proofs.Inside.{Stands, one_tree}
 use Rattle.plist_binwrite.proofs.Skipping.{stands_single, starts_array, starts_dictionary, sits_in}
-use Rattle.plist_binwrite.proofs.Uniques.{all_both, all_from}
+use Rattle.plist_binwrite.proofs.Uniques.{all_from}
 
 -- ---- the owner of a tree
 
 abbrev pub own_tree : Tree → ℕ → Owner
 own_tree (Leaf x) p = shared x
-own_tree (Array ts) p = alone p
-own_tree (Dictionary ms) p = alone p
+own_tree t p = alone p
 
 pub owner_is : {es : List PlainEvent} (t : Tree) (p : ℕ) → Sits es t p → owner es p ≡ own_tree t p
 owner_is (Leaf x) p s = ap (λ e. own e p) (stands_single s)
@@ -87,92 +85,65 @@ owned_eq a b = owner_eq (own_tree a.1 a.0) (own_tree b.1 b.0)
 
 -- ---- places rise
 
-abbrev pub Rising : List One → Type 0
-Rising [] = Unit {0}
-Rising (one ∷ ones) = AllByRecursion (λ later. one.0 < later.0) ones × Rising ones
+-- they rise from one bound on, up to another
+abbrev pub Rising : (low high : ℕ) → List One → Type 0
+Rising low high [] = low ≤ high
+Rising low high (one ∷ ones) = (low ≤ one.0) × Rising (one.0 + 1) high ones
 
-abbrev pub Between : ℕ → ℕ → One → Type 0
-Between lo hi one = (lo ≤ one.0) × (one.0 < hi)
+-- bounds that are wider
+rising_in : (a b c d : ℕ) (ones : List One) → c ≤ a → b ≤ d → Rising a b ones → Rising c d ones
+rising_in a b c d [] h k r = omega (arith, r)
+rising_in a b c d (one ∷ ones) h k r =
+    (omega (arith, r.0), rising_in (one.0 + 1) b (one.0 + 1) d ones (omega arith) k r.1)
 
-rising_both : (m : ℕ) (a b : List One) → Rising a → Rising b → AllByRecursion (λ one. one.0 < m) a
-    → AllByRecursion (λ one. m ≤ one.0) b → Rising (a ++ b)
-rising_both m [] b ra rb low high = rb
-rising_both m (one ∷ a) b ra rb low high = (
-  all_both (λ later. one.0 < later.0) a b ra.0
-      (all_from (λ later. one.0 < later.0) (λ later. m ≤ later.0)
-      (λ later h. omega (arith, h, low.0)) b high),
-  rising_both m a b ra.1 rb low.1 high,
+rising_both : (a b c : ℕ) (xs ys : List One) → Rising a b xs → Rising b c ys
+    → Rising a c (xs ++ ys)
+rising_both a b c [] ys r s = rising_in b c a c ys r (omega arith) s
+rising_both a b c (x ∷ xs) ys r s = (r.0, rising_both (x.0 + 1) b c xs ys r.1 s)
+
+pub later : (p high : ℕ) (ones : List One) → Rising (p + 1) high ones
+    → AllByRecursion (λ one. p < one.0) ones
+later p high [] r = tt
+later p high (one ∷ ones) r = (
+  omega (arith, r.0),
+  all_from (λ o. p < o.0) (λ o. one.0 < o.0) (λ o h. omega (arith, h, r.0)) ones
+      (later one.0 high ones r.1),
 )
 
-wider : (a b c d : ℕ) → c ≤ a → b ≤ d → (ones : List One) → AllByRecursion (Between a b) ones
-    → AllByRecursion (Between c d) ones
-wider a b c d h k ones x =
-    all_from (Between c d) (Between a b) (λ one w.
-    (omega (arith, w.0, h), omega (arith, w.1, k))) ones x
-
--- what stands from one place to another, in order
-pub record Spread (lo hi : ℕ) (ones : List One) : Type 0 where
-  between : AllByRecursion (Between lo hi) ones
-  pub rising : Rising ones
-
-spread_both : (a b c : ℕ) (xs ys : List One) → a ≤ b → b ≤ c → Spread a b xs → Spread b c ys
-    → Spread a c (xs ++ ys)
-spread_both a b c xs ys h k p q = record {
-  between =
-      all_both (Between a c) xs ys (wider a b a c (omega arith) k xs p.between)
-      (wider b c a c h (omega arith) ys q.between);
-  rising =
-      rising_both b xs ys p.rising q.rising (all_from (λ one. one.0 < b) (Between a b)
-      (λ one w. w.1) xs p.between) (all_from (λ one. b ≤ one.0) (Between b c)
-      (λ one w. w.0) ys q.between);
-}
-
-spread_first : (p end hi : ℕ) (t : Tree) (ones : List One) → p + 1 ≤ end → end ≤ hi
-    → Spread (p + 1) end ones → Spread p hi ((p, t) ∷ ones)
-spread_first p end hi t ones a b s = record {
-  between =
-      ((omega arith, omega (arith, a, b)), wider (p + 1) end p hi (omega arith) b ones s.between);
-  rising = (
-    all_from (λ later. p < later.0) (Between (p + 1) end)
-        (λ later w. omega (arith, w.0)) ones s.between,
-    s.rising,
-  );
-}
-
 mutual
-  pub spread : (t : Tree) (p : ℕ) → Spread p (p + size t) (met t p)
-  spread (Leaf x) p = record { between = ((omega arith, omega arith), tt); rising = (tt, tt) }
-  spread (Array ts) p =
-      spread_first p (p + 1 + length (shape_of_items ts)) (p + size (Array ts)) (Array ts)
-      (met_in_items ts (p + 1)) (omega arith)
-      (omega (arith, length-append (shape_of_items ts) (EndCollection ∷ [])))
-      (spread_items ts (p + 1))
-  spread (Dictionary ms) p =
-      spread_first p (p + 1 + length (shape_of_pairs ms)) (p + size (Dictionary ms)) (Dictionary ms)
-      (met_in_pairs ms (p + 1)) (omega arith)
-      (omega (arith, length-append (shape_of_pairs ms) (EndCollection ∷ [])))
-      (spread_pairs ms (p + 1))
+  pub rising : (t : Tree) (p : ℕ) → Rising p (p + size t) (met t p)
+  rising (Leaf x) p = (omega arith, omega arith)
+  rising (Array ts) p = (
+    omega arith,
+    rising_in (p + 1) (p + 1 + length (shape_of_items ts)) (p + 1) _ (met_in_items ts (p + 1))
+        (omega arith) (omega (arith, length-append (shape_of_items ts) (EndCollection ∷ [])))
+        (rising_items ts (p + 1)),
+  )
+  rising (Dictionary ms) p = (
+    omega arith,
+    rising_in (p + 1) (p + 1 + length (shape_of_pairs ms)) (p + 1) _ (met_in_pairs ms (p + 1))
+        (omega arith) (omega (arith, length-append (shape_of_pairs ms) (EndCollection ∷ [])))
+        (rising_pairs ms (p + 1)),
+  )
 
-  spread_items : (ts : Trees) (p : ℕ) → Spread p (p + length (shape_of_items ts))
-      (met_in_items ts p)
-  spread_items NoTrees p = record { between = tt; rising = tt }
-  spread_items (TreeAnd t ts) p =
-      let e : p + size t + length (shape_of_items ts)
-      ≡ p + length (shape t ++ shape_of_items ts) = omega
-      (arith, length-append (shape t) (shape_of_items ts)) in
-      subst (λ k. Spread p k (met_in_items (TreeAnd t ts) p)) e
-      (spread_both p (p + size t) (p + size t + length (shape_of_items ts)) (met t p)
-      (met_in_items ts (p + size t)) (omega arith) (omega arith) (spread t p)
-      (spread_items ts (p + size t)))
+  rising_items : (ts : Trees) (p : ℕ)
+      → Rising p (p + length (shape_of_items ts)) (met_in_items ts p)
+  rising_items NoTrees p = omega arith
+  rising_items (TreeAnd t ts) p =
+      rising_in p (p + size t + length (shape_of_items ts)) p _
+      (met t p ++ met_in_items ts (p + size t)) (omega arith)
+      (omega (arith, length-append (shape t) (shape_of_items ts)))
+      (rising_both p (p + size t) _ (met t p) (met_in_items ts (p + size t)) (rising t p)
+      (rising_items ts (p + size t)))
 
-  spread_pairs : (ms : Members) (p : ℕ) → Spread p (p + length (shape_of_pairs ms))
-      (met_in_pairs ms p)
-  spread_pairs NoMembers p = record { between = tt; rising = tt }
-  spread_pairs (MemberAnd k t ms) p =
-      spread_first p (p + 1 + size t + length (shape_of_pairs ms))
-      (p + length (shape_of_pairs (MemberAnd k t ms))) (Leaf (trees.String k))
-      (met t (p + 1) ++ met_in_pairs ms (p + 1 + size t)) (omega arith)
-      (omega (arith, length-append (shape t) (shape_of_pairs ms)))
-      (spread_both (p + 1) (p + 1 + size t) (p + 1 + size t + length (shape_of_pairs ms))
-      (met t (p + 1)) (met_in_pairs ms (p + 1 + size t)) (omega arith) (omega arith)
-      (spread t (p + 1)) (spread_pairs ms (p + 1 + size t)))
+  rising_pairs : (ms : Members) (p : ℕ)
+      → Rising p (p + length (shape_of_pairs ms)) (met_in_pairs ms p)
+  rising_pairs NoMembers p = omega arith
+  rising_pairs (MemberAnd k t ms) p = (
+    omega arith,
+    rising_in (p + 1) (p + 1 + size t + length (shape_of_pairs ms)) (p + 1) _
+        (met t (p + 1) ++ met_in_pairs ms (p + 1 + size t)) (omega arith)
+        (omega (arith, length-append (shape t) (shape_of_pairs ms)))
+        (rising_both (p + 1) (p + 1 + size t) _ (met t (p + 1))
+        (met_in_pairs ms (p + 1 + size t)) (rising t (p + 1)) (rising_pairs ms (p + 1 + size t))),
+  )

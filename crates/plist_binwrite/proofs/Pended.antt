@@ -44,10 +44,9 @@ no_want w wants o p q = none_some (sym p ∙ q)
 pub tells_whole : (es : List PlainEvent) (s : List Want) (b : Bool) → wanted_after es ≡ Some s
     → b ≡ is_nothing s → TellsWhole b es
 tells_whole es [] true w n = complete_of_whole es (bracketed es w)
-tells_whole es [] false w n = cc
-tells_whole es (x ∷ s) true w n = cc
 tells_whole es (x ∷ s) false w n =
     λ whole. no_want x s (wanted_after es) (all_taken es whole.0 whole.1) w
+tells_whole es s b w n = cc
 
 -- ---- one more event
 

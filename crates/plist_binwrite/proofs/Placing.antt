@@ -128,11 +128,10 @@ along_next w objects order places i v at next lt distinct below good is sum none
         → TellsSize at (8 + length (bodies w objects (take i order)))
         → IfSome at (λ n. Laid w objects places (take i order) 8)
         → IfSome next (λ n. Laid w objects (set places (get_or order i 0) v) (take (i + 1) order) 8)
-    by None None is none told laid = tt
     by None (Some m) is none told laid = let e : Some m ≡ None = none refl in cc
-    by (Some n) None is none told laid = tt
     by (Some n) (Some m) is none told laid =
         laid_next w objects order places i lt v distinct below good (is ∙ told) laid
+    by at next is none told laid = tt
 
 -- the object of a number is that of the tree which begins at its first event
 module _ (es : List PlainEvent) (plan : Plan) (planned : IsPlanned es plan) (objects : ℕ → Object)

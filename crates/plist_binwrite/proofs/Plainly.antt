@@ -40,7 +40,7 @@ pub sends_plainly : {W : Type 0} (contents : W → Option (List ℕ)) (events : 
     → Sends contents (plain_events events) answer old new
 sends_plainly contents events class count answer old new o s =
     sends_as (IsFileBy class) IsFileOf (size_by class) file_size (plain_events events)
-    (λ tree alike file f. owned_file class count tree file
+    (plain_events events) refl (λ tree alike file f. owned_file class count tree file
     (subst (λ es. AreOwners es class count) (plain_shape events tree alike) o) f)
     (λ tree alike. owned_size class count tree
     (subst (λ es. AreOwners es class count) (plain_shape events tree alike) o))

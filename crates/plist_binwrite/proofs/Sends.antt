@@ -13,60 +13,43 @@ use Rattle.plist_binwrite.specs.Held.{plain_events}
 use Rattle.plist_binwrite.specs.SendingAs.{IsFileOfEvents, FailsWith, Sends}
 use Rattle.plist_binwrite.proofs.Unhinted.{plain_shape}
 
-complete_alike : (xs ys : List PlainEvent) → AreAlike xs ys → AreComplete xs → AreComplete ys
-complete_alike xs ys p c = complete_of_whole ys (whole_alike xs ys p c.0)
+-- a device failed, and a beginning went out
+pub sends_io : {W : Type 0} (IsFile : Tree → List ℕ → Type 0) (size : Tree → ℕ)
+    (contents : W → Option (List ℕ)) (events : List PlainEvent) (fault : Fault) (old new : W)
+    (file : List ℕ) → fault ≡ fault_nowhere Io → IsFileOfEvents IsFile size events file
+    → AppendsFront (contents old) (contents new) file
+    → Sends IsFile size contents events (Err fault) old new
+sends_io IsFile size contents events fault old new file is of front = rw is (refl, (file, of, front))
 
-module _ (IsFile : Tree → List ℕ → Type 0) (size : Tree → ℕ) where
-  file_alike : (xs ys : List PlainEvent) (file : List ℕ) → AreAlike xs ys
-      → IsFileOfEvents IsFile size xs file → IsFileOfEvents IsFile size ys file
-  file_alike xs ys file p of = (complete_alike xs ys p of.0, λ t alike. of.1 t (p ∙ alike))
-
-  module _ {W : Type 0} (contents : W → Option (List ℕ)) where
-    -- a device failed, and a beginning went out
-    pub sends_io : (events : List PlainEvent) (fault : Fault) (old new : W) (file : List ℕ)
-        → fault ≡ fault_nowhere Io
-        → IsFileOfEvents IsFile size events file → AppendsFront (contents old) (contents new) file
-        → Sends IsFile size contents events (Err fault) old new
-    sends_io events fault old new file is of front =
-        rw is (refl, (file, of, front))
-
-    -- the same of events that are alike
-    fails_alike : (kind : FaultKind) (xs ys : List PlainEvent) (old new : W) → AreAlike xs ys
-        → FailsWith IsFile size contents kind xs old new
-        → FailsWith IsFile size contents kind ys old new
-    fails_alike Io xs ys old new p (file, of, front) = (file, file_alike xs ys file p of, front)
-    fails_alike PlistTooLarge xs ys old new p (large, same) =
-        ((complete_alike xs ys p large.0, λ t alike. large.1 t (p ∙ alike)), same)
-    fails_alike OutOfMemory xs ys old new p same = same
-    fails_alike kind xs ys old new p h = absurd h
-
-    pub sends_alike : (xs ys : List PlainEvent) (answer : Answer) (old new : W) → AreAlike xs ys
-        → Sends IsFile size contents xs answer old new
-        → Sends IsFile size contents ys answer old new
-    sends_alike xs ys (Ok done) old new p (file, of, all) = (file, file_alike xs ys file p of, all)
-    sends_alike xs ys (Err fault) old new p (nowhere, fails) =
-        (nowhere, fails_alike fault.kind xs ys old new p fails)
-
--- a file of one kind is one of another, and has its size
-module _ (One Other : Tree → List ℕ → Type 0) (size other : Tree → ℕ) (events : List PlainEvent)
-    (to : (tree : Tree) → AreAlike events (bracketing tree) → (file : List ℕ) → One tree file
+-- a file of one kind is one of another, and has its size; and the events are alike
+module _ (One Other : Tree → List ℕ → Type 0) (size other : Tree → ℕ) (xs ys : List PlainEvent)
+    (p : AreAlike xs ys)
+    (to : (tree : Tree) → AreAlike ys (bracketing tree) → (file : List ℕ) → One tree file
     → Other tree file)
-    (same : (tree : Tree) → AreAlike events (bracketing tree) → size tree ≡ other tree) where
-  file_as : (file : List ℕ) → IsFileOfEvents One size events file
-      → IsFileOfEvents Other other events file
-  file_as file of = (of.0, λ t alike. to t alike file (of.1 t alike))
+    (same : (tree : Tree) → AreAlike ys (bracketing tree) → size tree ≡ other tree) where
+  complete_as : AreComplete xs → AreComplete ys
+  complete_as c = complete_of_whole ys (whole_alike xs ys p c.0)
+
+  file_as : (file : List ℕ) → IsFileOfEvents One size xs file
+      → IsFileOfEvents Other other ys file
+  file_as file of = (complete_as of.0, λ t alike. to t alike file (of.1 t (p ∙ alike)))
 
   module _ {W : Type 0} (contents : W → Option (List ℕ)) where
-    fails_as : (kind : FaultKind) (old new : W) → FailsWith One size contents kind events old new
-        → FailsWith Other other contents kind events old new
+    fails_as : (kind : FaultKind) (old new : W) → FailsWith One size contents kind xs old new
+        → FailsWith Other other contents kind ys old new
     fails_as Io old new (file, of, front) = (file, file_as file of, front)
-    fails_as PlistTooLarge old new (large, kept) =
-        ((large.0, λ t alike. subst (λ n. 2 ^ 64 ≤ n) (same t alike) (large.1 t alike)), kept)
+    fails_as PlistTooLarge old new (large, kept) = (
+      (
+        complete_as large.0,
+        λ t alike. subst (λ n. 2 ^ 64 ≤ n) (same t alike) (large.1 t (p ∙ alike)),
+      ),
+      kept,
+    )
     fails_as OutOfMemory old new kept = kept
     fails_as kind old new h = absurd h
 
-    pub sends_as : (answer : Answer) (old new : W) → Sends One size contents events answer old new
-        → Sends Other other contents events answer old new
+    pub sends_as : (answer : Answer) (old new : W) → Sends One size contents xs answer old new
+        → Sends Other other contents ys answer old new
     sends_as (Ok done) old new (file, of, all) = (file, file_as file of, all)
     sends_as (Err fault) old new (nowhere, fails) = (nowhere, fails_as fault.kind old new fails)
 

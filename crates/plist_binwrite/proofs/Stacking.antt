@@ -18,16 +18,14 @@ want_same a b h = cc
 
 want_self : (a : Want) → want_eq a a ≡ true
 want_self OneValue = refl
-want_self Items = refl
-want_self Pairs = refl
+want_self a = refl
 
 stack_same : (xs ys : List Want) → stack_eq xs ys ≡ true → xs ≡ ys
 stack_same [] [] h = refl
-stack_same [] (b ∷ ys) h = cc
-stack_same (a ∷ xs) [] h = cc
 stack_same (a ∷ xs) (b ∷ ys) h =
     let k = and_parts (want_eq a b) (stack_eq xs ys) h in
     λ i. want_same a b k.0 i ∷ stack_same xs ys k.1 i
+stack_same xs ys h = cc
 
 stack_self : (xs : List Want) → stack_eq xs xs ≡ true
 stack_self [] = refl

@@ -12,10 +12,8 @@ use Rattle.plist_binwrite.specs.inner.Entries.{shown, all_shown}
 
 shown_twice : (scalars : List PlainEvent) (e : Entry)
     → unhinted (shown scalars e) ≡ shown scalars e
-shown_twice scalars (entry.Array behind) = refl
-shown_twice scalars (entry.Dictionary behind) = refl
 shown_twice scalars (entry.Scalar place) = unhinted-twice (get_or scalars place EndCollection)
-shown_twice scalars entry.End = refl
+shown_twice scalars e = refl
 
 all_twice : (scalars : List PlainEvent) (es : List Entry)
     → map unhinted (all_shown scalars es) ≡ all_shown scalars es

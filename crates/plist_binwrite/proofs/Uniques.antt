@@ -99,9 +99,8 @@ module _ {A B : Type 0} (eqa : A → A → Bool) (eqb : B → B → Bool) (f : A
   seen_cond : (b c : Bool) (us : List A) (x : A) (vs : List B) → b ≡ c → map f us ≡ vs
       → map f (cond b us (x ∷ us)) ≡ cond c vs (f x ∷ vs)
   seen_cond true true us x vs e h = h
-  seen_cond true false us x vs e h = cc
-  seen_cond false true us x vs e h = cc
   seen_cond false false us x vs e h = ap (λ l. f x ∷ l) h
+  seen_cond b c us x vs e h = cc
 
   -- where two tests agree, they keep the same
   pub unique_seen : (xs : List A) → AllByRecursion P xs

@@ -180,7 +180,8 @@ module _ (t : Tree) (num rank : ℕ → ℕ) (objects : ℕ → Object) (order p
       ∙ ap (λ object. Some (record { place = get_or places k 0; object = object }))
       (ap (λ bytes. object_in w (drop (get_or places k 0) bytes)) (front_is file places ∙ o.is)
       ∙ ap (object_in w) (ap (λ at. drop at (o.before ++ (form w (objects k) ++ o.after)))
-      (sym o.at_place) ∙ drop-append_seam o.before (form w (objects k) ++ o.after))
+      (let e : get_or places k 0 ≡ length o.before = omega (arith, o.at_place) in e)
+      ∙ drop-append_seam o.before (form w (objects k) ++ o.after))
       ∙ form_read w (width_positive (length places - 1)) (objects k) o.after o.good)
 
   fit : AllFit (offset_width (length file)) places

@@ -27,7 +27,7 @@ module _ {W : Type 0} (contents : W → Option (List ℕ)) (events : Held) (clas
       → Sends contents (plain_events events) answer old new
   sends_shared answer old new s =
       sends_as (IsFileBy class) IsSharedFileOf (size_by class) shared_file_size
-      (plain_events events)
+      (plain_events events) (plain_events events) refl
       (λ t alike file f. shared_file (plain_events events) class told t (sits t alike) file f)
       (λ t alike. size_is (plain_events events) class told t (sits t alike)) contents answer old
       new s

@@ -22,10 +22,8 @@ number_in entry.End = 0
 
 -- the scalar that an entry names
 abbrev pub scalar_in : Entry → Option ℕ
-scalar_in (entry.Array behind) = None
-scalar_in (entry.Dictionary behind) = None
 scalar_in (entry.Scalar place) = Some place
-scalar_in entry.End = None
+scalar_in other = None
 
 -- the entry of a kind and a number
 abbrev pub entry_of : Kind → ℕ → Entry
@@ -41,6 +39,5 @@ IsNumberAt entries place number =
 
 -- the entries, place by place
 abbrev pub entries_of : List Kind → List ℕ → List Entry
-entries_of [] numbers = []
-entries_of (k ∷ kinds) [] = []
 entries_of (k ∷ kinds) (n ∷ numbers) = entry_of k n ∷ entries_of kinds numbers
+entries_of kinds numbers = []

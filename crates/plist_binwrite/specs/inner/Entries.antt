@@ -15,10 +15,8 @@ AreApart {K} keys = (i j : ℕ) (k : K) → slice_get keys i ≡ Some k → slic
     → i ≡ j
 
 abbrev pub is_leaf : PlainEvent → Bool
-is_leaf (StartArray hint) = false
-is_leaf (StartDictionary hint) = false
-is_leaf EndCollection = false
 is_leaf (Single x) = true
+is_leaf event = false
 
 -- the entry at a place
 abbrev pub entry_at : List Entry → ℕ → Entry
@@ -36,31 +34,25 @@ all_shown scalars entries = map (shown scalars) entries
 
 -- where an entry names a scalar, that is one
 abbrev pub is_sound : (scalars : List PlainEvent) → Entry → Bool
-is_sound scalars (entry.Array behind) = true
-is_sound scalars (entry.Dictionary behind) = true
 is_sound scalars (entry.Scalar place) = is_leaf (get_or scalars place EndCollection)
-is_sound scalars entry.End = true
+is_sound scalars other = true
 
 -- does the entry name the scalar of this number?
 abbrev pub names : (scalar : ℕ) → Entry → Bool
-names scalar (entry.Array behind) = false
-names scalar (entry.Dictionary behind) = false
 names scalar (entry.Scalar place) = place == scalar
-names scalar entry.End = false
+names scalar other = false
 
 -- is it a start?
 abbrev pub is_start : Entry → Bool
 is_start (entry.Array behind) = true
 is_start (entry.Dictionary behind) = true
-is_start (entry.Scalar place) = false
-is_start entry.End = false
+is_start other = false
 
 -- the place behind the tree that begins with the entry here
 abbrev pub behind_of : (place : ℕ) → Entry → ℕ
 behind_of place (entry.Array behind) = behind
 behind_of place (entry.Dictionary behind) = behind
-behind_of place (entry.Scalar scalar) = place + 1
-behind_of place entry.End = place + 1
+behind_of place other = place + 1
 
 abbrev pub behind_at : List Entry → (place : ℕ) → ℕ
 behind_at entries place = behind_of place (entry_at entries place)
@@ -73,8 +65,7 @@ IsUnclosed place entry = behind_of place entry ≡ place + 1
 abbrev pub closed_at : Entry → ℕ → Entry
 closed_at (entry.Array old) behind = entry.Array behind
 closed_at (entry.Dictionary old) behind = entry.Dictionary behind
-closed_at (entry.Scalar place) behind = entry.Scalar place
-closed_at entry.End behind = entry.End
+closed_at other behind = other
 
 -- an end behind the entries, which closes the start here
 abbrev pub ended_at : List Entry → (start : ℕ) → List Entry

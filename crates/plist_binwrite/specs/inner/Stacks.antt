@@ -66,9 +66,8 @@ want_eq a b = false
 
 abbrev pub stack_eq : List Want → List Want → Bool
 stack_eq [] [] = true
-stack_eq [] (b ∷ ys) = false
-stack_eq (a ∷ xs) [] = false
 stack_eq (a ∷ xs) (b ∷ ys) = want_eq a b && stack_eq xs ys
+stack_eq xs ys = false
 
 abbrev pub is_stack : Option (List Want) → List Want → Bool
 is_stack None stack = false

@@ -5,9 +5,6 @@ use Rattle.plist_binwrite.proofs.Outgoing.{puts_none, puts_then, puts_front, put
 use Rattle.plist_binwrite.proofs.Passing.{halves_first, halves_within, halves_next, halves_stop}
 use Rattle.plist_binwrite.proofs.objects.put_halves.Goals as goal
 
-pub walk-init : goal.walk-init
-walk-init g c = λ ms s. record { left = ms; sits = s; goes = λ answer d k p. p }
-
 pub walk-preserved : goal.walk-preserved
 walk-preserved g c = λ ms s.
     halves_next (c.walk.invariant ms s) (c.walk-test.ensures.yes refl).1 c.skip-key.ensures.ends

@@ -4,9 +4,6 @@ use Rattle.plist_binwrite.proofs.Outgoing.{puts_none, puts_then, puts_front, put
 use Rattle.plist_binwrite.proofs.Passing.{items_first, items_next, items_stop}
 use Rattle.plist_binwrite.proofs.objects.put_items.Goals as goal
 
-pub walk-init : goal.walk-init
-walk-init g c = λ ts s. record { left = ts; sits = s; goes = λ answer d k p. p }
-
 pub walk-preserved : goal.walk-preserved
 walk-preserved g c = λ ts s.
     items_next (c.walk.invariant ts s) (c.walk-test.ensures.yes refl).1 c.skip-place.ensures.ends
