@@ -1,5 +1,5 @@
 -- Stamps on the keys of a dictionary: where one that is met has the stamp, it stood there before.
-use Rattle.std.proofs.Common.{◌≡◌, ◌≢◌, inl, inr, ℕ, ◌+◌, ◌<◌, false, Some, List, length, get_or, set, refl, ap, sym, ◌∙◌, subst, arith}
+use Rattle.std.proofs.Common.{◌≡◌, ◌≢◌, inl, inr, ℕ, ◌+◌, ◌<◌, false, Some, List, length, get_or, set, refl, ap, sym, ◌∙◌, arith}
 use Rattle.std.specs.List.{AllByRecursion}
 use Rattle.std.specs.Prelude.{slice_get}
 use Rattle.std.proofs.lemmas.Bool.Decides.{eqb_tells}
@@ -16,7 +16,8 @@ use Rattle.plist_binwrite.specs.Keys.{Lacks, HasDistinctKeys, HasKeysOnce, Items
 use Rattle.plist_binwrite.specs.Standing.{size, Sits, SitsItems, SitsPairs, met, met_in_items, met_in_pairs}
 use Rattle.plist_binwrite.proofs.Inside.{met_all}
 use Rattle.plist_binwrite.proofs.Sitting.{sits_whole, sits_items, sits_pairs, sits_item, sits_next, sits_key, sits_value, sits_next_pair}
-use Rattle.plist_binwrite.proofs.Skipping.{stands_single, starts_array, FirstPair, pairs_on, pairs_off, first_event}
+use Rattle.plist_binwrite.proofs.Skipping.{stands_single, starts_array, first_event}
+use Rattle.plist_binwrite.proofs.Passing.{Pairs, FirstPair, pairs_first, pairs_next, pairs_stop}
 use Rattle.plist_binwrite.proofs.Uniques.{all_both}
 
 same_key : (k l : List ℕ) → Some (Single (String k)) ≡ Some (Single (String l)) → k ≡ l
@@ -36,10 +37,8 @@ AreFresh scalars mark stamps (MemberAnd key tree ms) =
     (IsStamped scalars mark stamps key → ⊥) × AreFresh scalars mark stamps ms
 
 -- the pairs that are left tell whether all keys are different
-pub record Walked (scalars : List PlainEvent) (mark : ℕ) (es : List PlainEvent) (stamps : List ℕ)
-    (q : ℕ) (all : Members) : Type 0 where
-  pub left : Members
-  pub sits : SitsPairs es left q
+pub record Tells (scalars : List PlainEvent) (mark : ℕ) (stamps : List ℕ) (all left : Members)
+    (q : ℕ) : Type 0 where
   pub down : HasDistinctKeys all → HasDistinctKeys left × AreFresh scalars mark stamps left
   pub up : HasDistinctKeys left × AreFresh scalars mark stamps left → HasDistinctKeys all
 
@@ -53,7 +52,7 @@ fresh_all scalars mark stamps none (MemberAnd key tree ms) =
 module _ {scalars : List PlainEvent} {mark : ℕ} {es : List PlainEvent} {stamps : List ℕ} where
   pub walked_start : (start : ℕ) → mark ≡ start + 1 → length stamps ≡ length scalars
       → AllBelow (start + 1) stamps → (all : Members) → Sits es (Dictionary all) start
-      → Walked scalars mark es stamps (start + 1) all
+      → Pairs es (Tells scalars mark stamps all) (start + 1)
   walked_start start is long older all sits =
       let none : (key : List ℕ) → IsStamped scalars mark stamps key → ⊥ = λ key stamped.
       omega (
@@ -67,29 +66,22 @@ module _ {scalars : List PlainEvent} {mark : ℕ} {es : List PlainEvent} {stamps
       record {
         left = all;
         sits = sits_pairs sits;
-        down = λ d. (d, fresh_all scalars mark stamps none all);
-        up = λ d. d.0;
+        goes = record { down = λ d. (d, fresh_all scalars mark stamps none all); up = λ d. d.0 };
       }
 
-  module _ {q : ℕ} {all : Members} (w : Walked scalars mark es stamps q all) where
+  module _ {q : ℕ} {all : Members} (w : Pairs es (Tells scalars mark stamps all) q) where
     pub walked_end : LacksItem es q → HasDistinctKeys all
-    walked_end h =
-        w.up (rw (pairs_off w.left w.sits h) (tt, tt))
+    walked_end h = (pairs_stop w h).up (tt, tt)
 
-    key_is : (f : FirstPair es w.left q) → event_at es q ≡ Single (String f.key)
+    key_is : (f : FirstPair es (Tells scalars mark stamps all) q)
+        → event_at es q ≡ Single (String f.key)
     key_is f = first_event es q (Single (String f.key)) _ f.here.is
-
-    down_first : (f : FirstPair es w.left q) → HasDistinctKeys all
-        → HasDistinctKeys (MemberAnd f.key f.tree f.rest)
-        × AreFresh scalars mark stamps (MemberAnd f.key f.tree f.rest)
-    down_first f d =
-        subst (λ ms. HasDistinctKeys ms × AreFresh scalars mark stamps ms) f.is (w.down d)
 
     -- each key is a scalar
     pub walked_leaf : {A : Type 0} → is_stop (event_at es q) ≡ false
         → is_leaf (event_at es q) ≡ false → A
     walked_leaf h leaf =
-        cc (ap is_leaf (key_is (pairs_on w.left w.sits h)))
+        cc (ap is_leaf (key_is (pairs_first w h)))
 
     module _ (s : ℕ) (apart : AreApart scalars) (here : slice_get scalars s ≡ Some (event_at es q))
       where
@@ -97,8 +89,7 @@ module _ {scalars : List PlainEvent} {mark : ℕ} {es : List PlainEvent} {stamps
         pub walked_repeats : is_stop (event_at es q) ≡ false → get_or stamps s 0 ≡ mark
             → HasDistinctKeys all → ⊥
         walked_repeats h is d =
-            let f = pairs_on w.left w.sits h in
-            (down_first f d).1.0 (s, here ∙ ap Some (key_is f), is)
+            let f = pairs_first w h in (f.goes.down d).1.0 (s, here ∙ ap Some (key_is f), is)
 
         module _ (other : get_or stamps s 0 ≢ mark) (within : s < length stamps) (key : List ℕ)
             (is : slice_get scalars s ≡ Some (Single (String key))) where
@@ -147,22 +138,17 @@ module _ {scalars : List PlainEvent} {mark : ℕ} {es : List PlainEvent} {stamps
         pub walked_next : (next : ℕ) → get_or stamps s 0 ≢ mark → s < length stamps
             → is_stop (event_at es q) ≡ false
             → EndsTree es (q + 1) next
-            → Walked scalars mark es (set stamps s mark) next all
-        walked_next next other within h skip =
-            let f = pairs_on w.left w.sits h in
+            → Pairs es (Tells scalars mark (set stamps s mark) all) next
+        walked_next next other within h skip = pairs_next w h skip (λ f.
             let is = here ∙ ap Some (key_is f) in
-            rw (skip f.tree f.value)
-            (record {
-              left = f.rest;
-              sits = f.sits;
+            record {
               down = λ d.
-                  let l = down_first f d in
+                  let l = f.goes.down d in
                   (l.0.1, fresh_more other within f.key is f.rest l.0.0 l.1.1);
-              up = λ (d, fresh).
-                  w.up (rw f.is (
-                    (lacks_back other within f.key is f.rest fresh, d),
-                    (unstamped other within f.key is, fresh_back other within f.key is f.rest fresh),
-                  ));
+              up = λ (d, fresh). f.goes.up (
+                (lacks_back other within f.key is f.rest fresh, d),
+                (unstamped other within f.key is, fresh_back other within f.key is f.rest fresh),
+              );
             })
 
 -- ---- the stamps

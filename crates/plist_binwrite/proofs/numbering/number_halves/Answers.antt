@@ -1,7 +1,7 @@
 use Rattle.std.proofs.Common.{◌≡◌, refl, subst, false}
 use Rattle.plist_binwrite.specs.Held.{plain_events, is_stop, event_at, IsNumbered}
 use Rattle.plist_binwrite.proofs.Numbered.{keeps_self}
-use Rattle.plist_binwrite.proofs.Passing.{halves_next, halves_stop}
+use Rattle.plist_binwrite.proofs.Passing.{stands, pairs_next, pairs_stop}
 use Rattle.plist_binwrite.proofs.PlannedBy.{keeps_then}
 use Rattle.plist_binwrite.proofs.numbering.number_halves.Goals as goal
 
@@ -12,15 +12,15 @@ walk-preserved c =
     let found = c.number_one.new.found in (
       record { long = c.requires.so_far.long; plan = one.plan; ids = one.ids },
       keeps_then c.walk.invariant.1 one.keeps,
-      λ ms s. halves_next (c.walk.invariant.2 ms s) y.1 c.skip_pair-key.ensures.ends
-          (λ places starts rest ns fs k all. rest ns fs (keeps_then one.keeps k) (
+      λ ms s. pairs_next (c.walk.invariant.2 ms s) y.1 c.skip_pair-key.ensures.ends
+          (λ f ns fs k all. f.goes ns fs (keeps_then one.keeps k) (
             k.numbered _ (subst (λ p. is_stop (event_at (plain_events c.args.given.now.events.now) p)
                 ≡ false → IsNumbered found.numbers found.firsts p) c.half_of-place.ensures.half
-                one.numbered starts),
+                one.numbered (stands c.args.values f)),
             all,
           )),
     )
 
 pub returns-clause-numbered : goal.returns-clause-numbered
 returns-clause-numbered c = λ ms s.
-    halves_stop (c.walk.invariant.2 ms s) (c.walk-test.ensures.no refl) _ _ keeps_self tt
+    pairs_stop (c.walk.invariant.2 ms s) (c.walk-test.ensures.no refl) _ _ keeps_self tt

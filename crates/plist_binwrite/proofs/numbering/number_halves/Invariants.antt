@@ -4,7 +4,7 @@ use Rattle.plist_binwrite.specs.Standing.{SitsPairs}
 use Rattle.plist_binwrite.specs.Held.{plain_events, half_places}
 use Rattle.plist_binwrite.specs.inner.Numbering.{GoesSoFar, KeepsNumbers}
 use Rattle.plist_binwrite.proofs.Numbered.{NumbersRest}
-use Rattle.plist_binwrite.proofs.Passing.{Halves}
+use Rattle.plist_binwrite.proofs.Passing.{Pairs}
 use Rattle.plist_binwrite.proofs.numbering.number_halves.Given as goal
 
 abbrev pub invariant-walk : goal.invariant-walk
@@ -12,8 +12,9 @@ invariant-walk l =
     GoesSoFar l.given l.found
     × KeepsNumbers l.initial.found l.found
     × ((ms : Members) → SitsPairs (plain_events l.given.events.now) ms l.from
-    → Halves l.values (plain_events l.given.events.now)
-    (NumbersRest l.found (half_places l.values ms l.from)) l.key)
+    → Pairs (plain_events l.given.events.now)
+    (λ left q. NumbersRest l.found (half_places l.values ms l.from) (half_places l.values left q))
+    l.key)
 
 abbrev pub decreases-walk : goal.decreases-walk
 decreases-walk l = length (plain_events l.given.events.now) - l.key

@@ -11,7 +11,7 @@ walk-preserved c =
       record { long = c.requires.so_far.long; plan = one.plan; ids = one.ids },
       keeps_then c.walk.invariant.1 one.keeps,
       λ ts s. items_next (c.walk.invariant.2 ts s) y.1 c.skip-place.ensures.ends
-          (λ places rest ns fs k all. rest ns fs (keeps_then one.keeps k)
+          (λ f ns fs k all. f.goes ns fs (keeps_then one.keeps k)
           (k.numbered _ (one.numbered y.1), all)),
     )
 

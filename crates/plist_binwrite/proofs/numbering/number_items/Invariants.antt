@@ -12,7 +12,8 @@ invariant-walk l =
     GoesSoFar l.given l.found
     × KeepsNumbers l.initial.found l.found
     × ((ts : Trees) → SitsItems (plain_events l.given.events.now) ts l.from
-    → Items (plain_events l.given.events.now) (NumbersRest l.found (item_places ts l.from)) l.place)
+    → Items (plain_events l.given.events.now)
+    (λ left q. NumbersRest l.found (item_places ts l.from) (item_places left q)) l.place)
 
 abbrev pub decreases-walk : goal.decreases-walk
 decreases-walk l = length (plain_events l.given.events.now) - l.place

@@ -2,28 +2,28 @@ use Rattle.std.proofs.Common.{arith, refl, ap, ◌∙◌}
 use Rattle.plist_binwrite.specs.Forms.{big_endian}
 use Rattle.plist_binwrite.specs.inner.Putting.{numbers_by}
 use Rattle.plist_binwrite.proofs.Outgoing.{puts_none, puts_then, puts_front, puts_as}
-use Rattle.plist_binwrite.proofs.Passing.{halves_first, halves_within, halves_next, halves_stop}
+use Rattle.plist_binwrite.proofs.Passing.{pairs_first, pairs_within, pairs_next, pairs_stop}
 use Rattle.plist_binwrite.proofs.objects.put_halves.Goals as goal
 
 pub walk-preserved : goal.walk-preserved
 walk-preserved g c = λ ms s.
-    halves_next (c.walk.invariant ms s) (c.walk-test.ensures.yes refl).1 c.skip-key.ensures.ends
-    (λ places starts rest answer d k p. rest answer d k (puts_then
+    pairs_next (c.walk.invariant ms s) (c.walk-test.ensures.yes refl).1 c.skip-key.ensures.ends
+    (λ f answer d k p. f.goes answer d k (puts_then
     (puts_as (ap (big_endian c.args.file.now.width)
     (c.number-number.ensures ∙ ap (numbers_by c.args.file.now) c.half_of.ensures.half))
     c.in-Ok.ensures) p))
 
 pub returns-in-Err : goal.returns-in-Err
 returns-in-Err g c = λ ms s.
-    (halves_first (c.walk.invariant ms s) (c.walk-test.ensures.yes refl).1).1 _ _ _ (puts_front _
+    (pairs_first (c.walk.invariant ms s) (c.walk-test.ensures.yes refl).1).goes _ _ _ (puts_front _
     (puts_as (ap (big_endian c.args.file.now.width)
     (c.number-number.ensures ∙ ap (numbers_by c.args.file.now) c.half_of.ensures.half))
     c.in-Err.ensures))
 
 pub returns : goal.returns
-returns g c = λ ms s. halves_stop (c.walk.invariant ms s) (c.walk-test.ensures.no refl) _ _ _ puts_none
+returns g c = λ ms s. pairs_stop (c.walk.invariant ms s) (c.walk-test.ensures.no refl) _ _ _ puts_none
 
 pub returns-then-value-len : goal.returns-then-value-len
 returns-then-value-len g c = λ ms s.
-    halves_within (c.walk.invariant ms s) (c.walk-test.ensures.yes refl).1
+    pairs_within (c.walk.invariant ms s) (c.walk-test.ensures.yes refl).1
     (omega (arith, c.if-value-len.true, c.len.ensures))

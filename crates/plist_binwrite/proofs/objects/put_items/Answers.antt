@@ -7,12 +7,12 @@ use Rattle.plist_binwrite.proofs.objects.put_items.Goals as goal
 pub walk-preserved : goal.walk-preserved
 walk-preserved g c = λ ts s.
     items_next (c.walk.invariant ts s) (c.walk-test.ensures.yes refl).1 c.skip-place.ensures.ends
-    (λ places rest answer d k p. rest answer d k (puts_then
+    (λ f answer d k p. f.goes answer d k (puts_then
     (puts_as (ap (big_endian c.args.file.now.width) c.number-number.ensures) c.in-Ok.ensures) p))
 
 pub returns-in-Err : goal.returns-in-Err
 returns-in-Err g c = λ ts s.
-    (items_first (c.walk.invariant ts s) (c.walk-test.ensures.yes refl).1).1 _ _ _ (puts_front _
+    (items_first (c.walk.invariant ts s) (c.walk-test.ensures.yes refl).1).goes _ _ _ (puts_front _
     (puts_as (ap (big_endian c.args.file.now.width) c.number-number.ensures) c.in-Err.ensures))
 
 pub returns : goal.returns

@@ -10,10 +10,10 @@ use Rattle.plist_binwrite.proofs.objects.put_items.Given as goal
 
 abbrev pub invariant-walk : goal.invariant-walk
 invariant-walk g l = (ts : Trees) → SitsItems (events_in l.file) ts l.from
-    → Items (events_in l.file) (PutsRest (numbers_by l.file) l.file.width
+    → Items (events_in l.file) (λ left q. PutsRest (numbers_by l.file) l.file.width
     (g.W.Write.contents l.initial.out) l.initial.room.items
     (table_form l.file.width (map (numbers_by l.file) (item_places ts l.from)))
-    (g.W.Write.contents l.out) l.room.items) l.place
+    (g.W.Write.contents l.out) l.room.items (item_places left q)) l.place
 
 abbrev pub decreases-walk : goal.decreases-walk
 decreases-walk g l = length (events_in l.file) - l.place

@@ -1,18 +1,17 @@
 use Rattle.std.proofs.Common.{arith, refl}
 use Rattle.plist_binwrite.proofs.Passing.{items_next, items_stop}
-use Rattle.plist_binwrite.proofs.Placed.{item_count}
 use Rattle.plist_binwrite.proofs.size.count_items.Goals as goal
 
 pub walk-init : goal.walk-init
 walk-init c =
-    (omega arith, λ ts s. record { left = ts; sits = s; goes = omega (arith, item_count ts c.args.from) })
+    (omega arith, λ ts s. record { left = ts; sits = s; goes = omega arith })
 
 pub walk-preserved : goal.walk-preserved
 walk-preserved c =
     let y = c.walk-test.ensures.yes refl in (
       omega (arith, c.skip-place.ensures.forward.0, c.walk.invariant.0),
       λ ts s. items_next (c.walk.invariant.1 ts s) y.1 c.skip-place.ensures.ends
-          (λ places e. omega (arith, e)),
+          (λ f. omega (arith, f.goes)),
     )
 
 pub returns-clause-value : goal.returns-clause-value

@@ -7,7 +7,8 @@ use Rattle.plist_binwrite.proofs.size.count_items.Given as goal
 
 abbrev pub invariant-walk : goal.invariant-walk
 invariant-walk l = (l.count ≤ l.place) × ((ts : Trees) → SitsItems (plain_events l.events) ts l.from
-    → Items (plain_events l.events) (λ places. l.count + length places ≡ number_of_trees ts) l.place)
+    → Items (plain_events l.events) (λ left q. l.count + number_of_trees left ≡ number_of_trees ts)
+    l.place)
 
 abbrev pub decreases-walk : goal.decreases-walk
 decreases-walk l = length (plain_events l.events) - l.place
