@@ -37,6 +37,19 @@ read_pushed ps new k v r n e is read =
     same_Some r v (read ∙ ap (λ l. slice_get (values_of l) n) e
     ∙ ap (λ m. slice_get (values_of (ps ++ (k, v) ∷ [])) m) is ∙ get_last ps k v)
 
+read_at : {K X : Type 0} (ps : List (K × X)) (i : ℕ) (v r : X)
+    → slice_get (values_of (set_value_at ps i v)) i ≡ Some r → r ≡ v
+read_at [] i v r read = absurd (none-some r read)
+read_at (p ∷ ps) zero v r read = same_Some r v (sym read)
+read_at (p ∷ ps) (suc i) v r read = read_at ps i v r read
+
+-- what is read at a place is what was set there
+pub read_set : {K X : Type 0} (ps new : List (K × X)) (i j : ℕ) (v r : X)
+    → new ≡ set_value_at ps i v → j ≡ i → slice_get (values_of new) j ≡ Some r → r ≡ v
+read_set ps new i j v r is same read =
+    read_at ps i v r (sym (ap (λ n. slice_get (values_of (set_value_at ps i v)) n) same)
+    ∙ sym (ap (λ l. slice_get (values_of l) j) is) ∙ read)
+
 -- a key that isn't there comes last
 pub comes_last : {X : Type 0} (k : List ℕ) (v : X) (ps : List (List ℕ × X))
     → lookup (bytes_eq k) ps ≡ None → insert_entry bytes_eq ps k v ≡ ps ++ (k, v) ∷ []

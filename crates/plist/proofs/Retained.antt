@@ -1,5 +1,5 @@
 -- What a loop keeps that moves the items to be kept to the front.
-use Rattle.std.proofs.Common.{◌≡◌, ℕ, ◌+◌, ◌<◌, ◌≤◌, Bool, true, false, List, [], ◌∷◌, ◌++◌, length, take, set, get_or, refl, sym, ap, subst, ◌∙◌, append_assoc, arith, length-append}
+use Rattle.std.proofs.Common.{◌≡◌, ℕ, ◌+◌, ◌<◌, ◌≤◌, Bool, true, false, List, [], ◌∷◌, ◌++◌, length, take, set, get_or, cond, filter, refl, sym, ap, subst, ◌∙◌, append_assoc, arith, length-append}
 use Rattle.std.specs.Prelude.{Some, slice_get}
 use Rattle.std.specs.List.{AllZip, items_where_true, swap}
 use Rattle.std.specs.Map.{keys_of}
@@ -245,3 +245,19 @@ module _ {X : Type 0} (A : X → Bool → Type 0) where
 pub key-of : {K V : Type 0} (ps : List (K × V)) (i : ℕ) (k l : K) (v : V)
     → slice_get (keys_of ps) i ≡ Some k → slice_get ps i ≡ Some (l, v) → k ≡ l
 key-of ps i k l v a b = same_Some k l (sym a ∙ get-map (λ p. p.0) ps i (l, v) b)
+
+-- where the answers are those of a test, what it passes is kept
+pub where_true : {X : Type 0} (R : X → Bool → Type 0) (test : X → Bool)
+    (says : (x : X) (answer : Bool) → R x answer → answer ≡ test x)
+    (xs : List X) (answers : List Bool) → AllZip R xs answers
+    → items_where_true answers xs ≡ filter test xs
+where_true R test says [] [] all = refl
+where_true R test says [] (answer ∷ answers) all = elim all [ ]
+where_true R test says (x ∷ xs) [] all = elim all [ ]
+where_true R test says (x ∷ xs) (answer ∷ answers) all =
+    by answer (says x answer all.0) (where_true R test says xs answers all.1)
+  where
+    by : (b : Bool) → b ≡ test x → items_where_true answers xs ≡ filter test xs
+        → items_where_true (b ∷ answers) (x ∷ xs) ≡ filter test (x ∷ xs)
+    by true e rest = ap (λ l. x ∷ l) rest ∙ ap (λ c. cond c (x ∷ filter test xs) (filter test xs)) e
+    by false e rest = rest ∙ ap (λ c. cond c (x ∷ filter test xs) (filter test xs)) e

@@ -1,11 +1,16 @@
 //! Proved callers of the conversions into values and of the look into them: what was put in is
 //! found as what it is, and as nothing else.
 
-ghost use Rattle.std.specs.Prelude.{◌≡◌, None, Some, option_map, string_bytes, true};
-ghost use Rattle.plist.specs.Views.{item_trees, pair_trees};
+ghost use Rattle.std.specs.Prelude.{◌≡◌, IfOk, IsSome, None, Some, option_map, string_bytes, true};
+ghost use Rattle.std.specs.Option.{option_copied};
+ghost use Rattle.plist_base.specs.declared.error.EventKind.TheVariants as event_kind;
+ghost use Rattle.plist_base.specs.Trees.{Array, Dictionary as Pairs, NoMembers, NoTrees};
+ghost use Rattle.plist.specs.Contents.{array_in, dictionary_in};
+ghost use Rattle.plist.specs.Views.{item_trees, kind_of_tree, pair_trees, tree_of};
 
-use crate::{Dictionary, Value};
-use plist_base::{Date, RealBits, Uid};
+use crate::{Dictionary, Value, kind_of_value};
+use plist_base::{Date, Error, EventKind, RealBits, Uid};
+use std::alloc::Global;
 
 /// A truth value, by way of a value.
 pub fn boolean_again(flag: bool) -> Option<bool>
@@ -142,4 +147,79 @@ pub fn number_of_text(text: String) -> Option<i64>
     ensures { result ≡ None }
 {
     Value::from(text).as_signed_integer()
+}
+
+/// Puts an array in the place of a value, which lends it then.
+pub fn put_array(place: &mut Value, items: Vec<Value>) -> Option<&Vec<Value>>
+    ensures { option_map (λ v. item_trees v.now.items) result ≡ Some (item_trees items.items) }
+{
+    *place = Value::from(items);
+    place.as_array()
+}
+
+/// Puts a dictionary in the place of a value, which lends it then.
+pub fn put_dictionary(place: &mut Value, pairs: Dictionary) -> Option<&Dictionary>
+    ensures { option_map (λ lent. pair_trees lent.now) result ≡ Some (pair_trees pairs) }
+{
+    *place = Value::from(pairs);
+    place.as_dictionary()
+}
+
+/// Puts data in the place of a value, which lends its bytes then.
+pub fn put_data(place: &mut Value, bytes: Vec<u8>) -> Option<&[u8]>
+    ensures { option_copied result ≡ Some bytes.items }
+{
+    *place = Value::Data(bytes);
+    place.as_data()
+}
+
+/// Puts an identifier in the place of a value, which lends it then.
+pub fn put_uid(place: &mut Value, uid: Uid) -> Option<&Uid>
+    ensures { option_copied result ≡ Some uid }
+{
+    *place = Value::Uid(uid);
+    place.as_uid()
+}
+
+/// Drops the items of an array; any other value stays as it is.
+pub fn drop_items(held: &mut Value)
+    ensures items { IsSome (array_in (tree_of held.old)) → tree_of held.new ≡ Array NoTrees }
+    ensures other { array_in (tree_of held.old) ≡ None → held.new ≡ held.old }
+{
+    match held.as_array_mut() {
+        Some(items) => items.clear(),
+        None => {}
+    }
+}
+
+/// Drops the pairs of a dictionary; any other value stays as it is.
+pub fn drop_pairs(held: &mut Value)
+    ensures pairs { IsSome (dictionary_in (tree_of held.old)) → tree_of held.new ≡ Pairs NoMembers }
+    ensures other { dictionary_in (tree_of held.old) ≡ None → held.new ≡ held.old }
+{
+    match held.as_dictionary_mut() {
+        Some(pairs) => pairs.clear(),
+        None => {}
+    }
+}
+
+/// A text that is copied, by way of a value.
+pub fn copied_text(alloc: Global, text: &str) -> Result<Option<String>, Error>
+    ensures { IfOk result (λ again. option_map string_bytes again ≡ Some text.now) }
+{
+    Ok(Value::try_from_str(alloc, text)?.into_string())
+}
+
+/// The kind of an identifier.
+pub fn kind_of_uid(uid: Uid) -> EventKind
+    ensures { result ≡ event_kind.Uid }
+{
+    kind_of_value(&Value::Uid(uid))
+}
+
+/// The kind of a value's copy, which is the value's.
+pub fn kind_of_copy(alloc: Global, value: &Value) -> Result<EventKind, Error>
+    ensures { IfOk result (λ kind. kind ≡ kind_of_tree (tree_of value.now)) }
+{
+    Ok(kind_of_value(&value.clone(alloc)?))
 }
