@@ -6,6 +6,7 @@
 #![tactic(auto)]
 
 mod archive;
+pub mod callers;
 mod error;
 mod walk;
 

@@ -2,6 +2,7 @@
 use Rattle.std.specs.Prelude.{ℕ, List, Option, Result, Ok, IfOk, IfSome}
 use Rattle.std.specs.Io.KnownBytes.{Appends}
 use Rattle.plist_base.specs.declared.error.Error.{Error}
+use Rattle.plist_base.specs.Trees.{Tree}
 use Rattle.plist_binwrite.specs.Files.{IsFileOf}
 use Rattle.plist_reader.specs.Reader.{items_of_input}
 use Rattle.plist.specs.declared.value.Value.{Value}
@@ -18,3 +19,8 @@ abbrev pub SendsFileOf : {W : Type 0} → (contents : W → Option (List ℕ)) �
     → Type 0
 SendsFileOf contents value old new = (file : List ℕ) × IsFileOf (tree_of value) file
     × Appends (contents old) (contents new) file
+
+-- the bytes are a file of what an input holds
+abbrev pub IsFileOfInput : (input bytes : List ℕ) → Type 0
+IsFileOfInput input bytes =
+    (tree : Tree) × IsReadFrom (items_of_input input) (Ok tree) × IsFileOf tree bytes

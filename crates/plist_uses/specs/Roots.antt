@@ -1,9 +1,10 @@
 -- What the root of an archive is.
-use Rattle.std.specs.Prelude.{◌≡◌, ℕ, List, Ok, codes, map}
+use Rattle.std.specs.Prelude.{◌≡◌, ℕ, List, Ok, Some, codes, map}
 use Rattle.plist_base.specs.Trees.{Tree}
 use Rattle.plist_keyed.specs.Archives.{resolved_tree}
 use Rattle.plist_keyed.specs.Contents.{IsArchiveOf, IsUidAt}
 use Rattle.plist.specs.declared.value.Value.{Value}
+use Rattle.plist.specs.Contents.{text_in}
 use Rattle.plist.specs.Views.{tree_of}
 
 -- the tree of the Uid that stands at `root` among the names of the archive
@@ -12,3 +13,8 @@ IsRootOf archive root =
     (objects : List Value) × (names : List (List ℕ × Value)) × (uid : ℕ)
     × IsArchiveOf archive objects names × IsUidAt (codes "root") names uid
     × (resolved_tree (map tree_of objects) uid ≡ Ok root)
+
+-- the archive's root is this text
+abbrev pub IsRootText : (archive : Value) → (text : List ℕ) → Type 0
+IsRootText archive text =
+    (root : Tree) × IsRootOf archive root × (text_in root ≡ Some text)

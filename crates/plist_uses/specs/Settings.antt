@@ -1,11 +1,14 @@
 -- What contracts see of settings.
-use Rattle.std.specs.Prelude.{◌≡◌, ℕ, List, Option, Ok, IfSome}
+use Rattle.std.specs.Prelude.{◌≡◌, ℕ, List, Option, Ok, IfSome, option_and_then}
+use Rattle.std.specs.Map.{lookup}
 use Rattle.std.specs.Str.{bytes_eq}
 use Rattle.indexmap.specs.IndexMap.{insert_entry}
 use Rattle.plist_base.specs.Trees.{Tree, Dictionary}
+use Rattle.plist_binwrite.specs.Files.{IsFileOf}
 use Rattle.plist.specs.declared.value.Value.{Value}
+use Rattle.plist.specs.Contents.{text_in}
 use Rattle.plist.specs.Inputs.{IsReadFrom}
-use Rattle.plist.specs.Views.{pair_trees}
+use Rattle.plist.specs.Views.{pair_trees, tree_of}
 use Rattle.plist_reader.specs.Reader.{items_of_input}
 use Rattle.plist_uses.specs.declared.settings.Settings.{Settings}
 
@@ -24,3 +27,15 @@ IsReadOf known tree = IfSome known (λ bytes. IsReadFrom (items_of_input bytes) 
 -- the name has this setting; the others and their order are left
 abbrev pub Sets : Settings → (name : List ℕ) → (setting : Value) → Settings → Type 0
 Sets old name setting new = pairs_of new ≡ insert_entry bytes_eq (pairs_of old) name setting
+
+-- the text that a name has
+abbrev pub text_at : (name : List ℕ) → Settings → Option (List ℕ)
+text_at name settings =
+    option_and_then (λ setting. text_in (tree_of setting)) (lookup (bytes_eq name) settings.pairs)
+
+-- the bytes are a file of the settings of another one, once the name has this setting
+abbrev pub IsChanged : (known : Option (List ℕ)) → (name : List ℕ) → (setting : Value)
+    → (bytes : List ℕ) → Type 0
+IsChanged known name setting bytes =
+    (pairs : List (List ℕ × Value)) × IsReadOf known (Dictionary (pair_trees pairs))
+    × IsFileOf (Dictionary (pair_trees (insert_entry bytes_eq pairs name setting))) bytes

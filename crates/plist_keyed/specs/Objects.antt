@@ -1,0 +1,16 @@
+-- Which object of an archive a key names.
+use Rattle.std.specs.Prelude.{◌≡◌, ℕ, List, None, Some, slice_get}
+use Rattle.plist.specs.declared.value.Value.{Value}
+use Rattle.plist_keyed.specs.declared.archive.Archive.{Archive}
+use Rattle.plist_keyed.specs.Contents.{IsUidAt, names_of, objects_of}
+
+-- the key's Uid is that of this object
+abbrev pub IsObjectAt : (key : List ℕ) → Archive → (object : Value) → Type 0
+IsObjectAt key archive object =
+    (uid : ℕ) × IsUidAt key (names_of archive) uid
+    × (slice_get (objects_of archive) uid ≡ Some object)
+
+-- it is that of none
+abbrev pub HasNoObjectAt : (key : List ℕ) → Archive → Type 0
+HasNoObjectAt key archive =
+    (uid : ℕ) → IsUidAt key (names_of archive) uid → slice_get (objects_of archive) uid ≡ None

@@ -1,0 +1,75 @@
+//! Proved callers of the examples.
+
+ghost use Rattle.std.specs.Prelude.{◌≡◌, IfOk, IfSome, string_bytes};
+ghost use Rattle.std.specs.Option.{option_copied};
+ghost use Rattle.plist_uses.specs.Converting.{IsFileOfInput};
+ghost use Rattle.plist_uses.specs.Roots.{IsRootText};
+ghost use Rattle.plist_uses.specs.Settings.{IsChanged, text_at};
+
+use crate::archive::root_of;
+use crate::convert::convert;
+use crate::settings::{Settings, SettingsError};
+use plist::stream::Source;
+use plist::{Error, ErrorKind, Value};
+use plist_keyed::KeyedError;
+use std::alloc::Global;
+
+/// The text of a setting, if it is one.
+pub fn text_of<'a>(settings: &'a Settings, name: &str) -> Option<&'a str>
+    ensures { option_copied result ≡ text_at name.now settings.now }
+{
+    match settings.get(name) {
+        Some(value) => value.as_string(),
+        None => None,
+    }
+}
+
+/// The bytes of a binary file of the settings of a file, once one of them is set.
+///
+/// # Errors
+///
+/// Those of [`Settings::open`] and [`Settings::save`], and `OutOfMemory`.
+pub fn changed<R: Source>(
+    alloc: Global,
+    file: R,
+    name: String,
+    setting: Value,
+) -> Result<Vec<u8>, SettingsError>
+    ensures file { IfOk result (λ f. IsChanged (R.known file) (string_bytes name) setting f.items) }
+{
+    let mut settings = Settings::open(alloc, file)?;
+    match settings.set(name, setting) {
+        Ok(()) => {}
+        Err(_) => return Err(SettingsError::Fault(ErrorKind::OutOfMemory.without_position())),
+    }
+    let mut bytes = Vec::new(alloc);
+    settings.save(alloc, &mut bytes)?;
+    Ok(bytes)
+}
+
+/// The bytes of a binary property list of what these bytes hold.
+///
+/// # Errors
+///
+/// Those of [`convert`].
+pub fn converted(alloc: Global, bytes: &[u8]) -> Result<Vec<u8>, Error>
+    ensures file { IfOk result (λ file. IsFileOfInput bytes.now file.items) }
+{
+    let mut file = Vec::new(alloc);
+    let _value = convert(alloc, bytes, &mut file)?;
+    Ok(file)
+}
+
+/// The root of an archive, where it is a text.
+///
+/// # Errors
+///
+/// Those of [`root_of`].
+pub fn root_text(alloc: Global, archive: &Value) -> Result<Option<String>, KeyedError>
+    ensures root { IfOk result (λ r. IfSome r (λ t. IsRootText archive.now (string_bytes t))) }
+{
+    match root_of(alloc, archive)? {
+        Some(root) => Ok(root.into_string()),
+        None => Ok(None),
+    }
+}
