@@ -1,5 +1,5 @@
 -- The first item of a file.
-use Rattle.std.proofs.Common.{◌≡◌, ℕ, suc, ◌<◌, ◌≤◌, ◌-◌, get_or, replicate, List, [], ◌∷◌, ◌++◌, length, take, reverse, inl, inr, Option, None, Some, Result, Ok, Err, IfSome, MatchResult, refl, ap, sym, ◌∙◌, arith, append-nil}
+use Rattle.std.proofs.Common.{◌≡◌, ℕ, suc, ◌<◌, ◌≤◌, ◌-◌, get_or, replicate, List, [], ◌∷◌, ◌++◌, length, take, reverse, inl, inr, Option, Result, Ok, Err, IfSome, MatchResult, refl, ap, sym, ◌∙◌, arith, append-nil}
 use Rattle.std.specs.Prelude.{⊤}
 use Rattle.std.specs.List.{slice_get}
 use Rattle.std.proofs.lemmas.Bool.{cases_lt}
@@ -21,6 +21,9 @@ use Rattle.plist_binread.specs.inner.Tables.{head_seen}
 use Rattle.plist_binread.proofs.Steps.{slice_get-within, slice_get-beyond, items_beyond, items_step, owed_at}
 use Rattle.plist_binread.proofs.Opened.{get_or-zeros}
 use Rattle.plist_binread.proofs.Known.{found}
+use Rattle.std.proofs.lemmas.Option.{IfSome_then}
+use Rattle.plist_binread.proofs.OverKnown.{IfSome-all, IfSome-both}
+use Rattle.std.proofs.lemmas.List.{nil_from_length}
 
 -- something is wanted only where something is owed
 owed_if_wanted : (items : List Item) → WantsMemory items → IsOwed items
@@ -97,10 +100,9 @@ Begins bytes answer told after = MatchResult answer
 pub known_unread : (known : Option (List ℕ)) (e : Error)
     → IfSome known (λ bytes. MatchFault (kind_of (error_kind_of e)) ⊤ ⊤
     (head_of bytes ≡ Err (fault_of e))) → IfSome known (λ bytes. RefusesFirst bytes e)
-known_unread None e refused = tt
-known_unread (Some bytes) e refused =
+known_unread known e refused = IfSome_then known refused (λ bytes.
     MatchFault-weaker (kind_of (error_kind_of e)) (λ _. owed_file bytes) (λ _. owed_file bytes)
-    (λ is. file_refused bytes (fault_of e) is) refused
+    (λ is. file_refused bytes (fault_of e) is))
 
 begins_with : (bytes : List ℕ) (before after : List Item) (answer : Result (Unit {0}) Error)
     (told : PlainEvent) → items_of_file bytes ≡ until_fault before
@@ -110,16 +112,11 @@ begins_with bytes before after (Err e) told is pays =
     MatchFault-weaker (kind_of (error_kind_of e)) (λ owed. rw is owed)
     (λ wanted. rw is (owed_if_wanted (until_fault before) wanted)) (λ only. is ∙ only) pays
 
-none : (fs : List Frame) → length fs ≡ 0 → fs ≡ []
-none [] h = refl
-none (f ∷ fs) h = absurd (omega arith)
-
 pub known_wanted : (known : Option (List ℕ)) (e : Error) → fault_of e ≡ fault_nowhere OutOfMemory
     → IfSome known (λ bytes. RefusesFirst bytes e)
-known_wanted None e memory = tt
-known_wanted (Some bytes) e memory =
+known_wanted known e memory = IfSome-all known (λ bytes.
     MatchFault-at (kind_of (error_kind_of e)) OutOfMemory _ _ _ (ap (λ (f : Fault). f.kind) memory)
-    (owed_file bytes)
+    (owed_file bytes))
 
 pub known_opens : (known now : Option (List ℕ)) (table : Table) (bounds : Bounds) (tags : List ℕ)
     (n : ℕ) (fs : List Frame) → now ≡ known
@@ -128,11 +125,9 @@ pub known_opens : (known now : Option (List ℕ)) (table : Table) (bounds : Boun
     → bounds.reference_width ≡ table.reference_width
     → tags ≡ replicate n 0 → n ≡ length table.places.items → length fs ≡ 0
     → IfSome now (λ bytes. IsKnown bytes bounds tags table.places.items (reverse fs))
-known_opens None now table bounds tags n fs same value within trailer width zeros count len =
-    rw same tt
-known_opens (Some bytes) now table bounds tags n fs same value within trailer width zeros count
-    len = rw (same, none fs len) (known_first bytes table bounds value trailer width tags n zeros
-    count within)
+known_opens known now table bounds tags n fs same value within trailer width zeros count len =
+    rw (same, nil_from_length fs len) (IfSome-both known value within (λ bytes value within.
+    known_first bytes table bounds value trailer width tags n zeros count within))
 
 pub known_begun : (known now : Option (List ℕ)) (table : Table) (bounds : Bounds) (tags : List ℕ)
     (fs gs : List Frame) (answer : Result (Unit {0}) Error) (told : PlainEvent) → now ≡ known
@@ -146,20 +141,15 @@ pub known_begun : (known now : Option (List ℕ)) (table : Table) (bounds : Boun
     (owed_by (entries_of bytes bounds) (reverse gs)))
     → IfSome known (λ bytes. Begins bytes answer told
     (owed_by (entries_of bytes bounds) (reverse gs)))
-known_begun None now table bounds tags fs gs answer told same len count trailer width value pays =
-    tt
-known_begun (Some bytes) now table bounds tags fs gs answer told same len count trailer width value
-    pays =
+known_begun known now table bounds tags fs gs answer told same len count trailer width value pays =
     let whole : length tags - 0 ≡ length table.places.items = omega arith in
-    let pays' = rw (same, none fs len, whole) at pays in
-    begins_with bytes _ _ answer told
+    let pays' = rw (same, nil_from_length fs len, whole) at pays in
+    IfSome-both known value pays' (λ bytes value pays. begins_with bytes _ _ answer told
     (file_walked bytes table bounds value trailer width
     ∙ ap until_fault (sym (append-nil
     (unfolding_of (entries_of bytes bounds) (length table.places.items) [] table.trailer
-    table.root))))
-    pays'
+    table.root)))) pays)
 
 pub known_few : (known : Option (List ℕ)) (tags : List ℕ) → length tags ≡ 0
     → IfSome known (λ bytes. length tags ≤ length (places_of bytes))
-known_few None tags count = tt
-known_few (Some bytes) tags count = omega arith
+known_few known tags count = IfSome-all known (λ bytes. omega arith)

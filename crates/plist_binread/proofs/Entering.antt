@@ -19,6 +19,8 @@ use Rattle.plist_binread.specs.Unfolding.{Entry, unfolding_of}
 use Rattle.plist_binread.proofs.Known.{Entered, as_many, entry_of, entry_there, held_place, held_scalar, lent_as, place_is}
 use Rattle.plist_binread.proofs.KnownTurns.{Turned, child_is}
 use Rattle.plist_binread.proofs.Steps.{pays_scalar}
+use Rattle.std.proofs.lemmas.Option.{IfSome_then}
+use Rattle.plist_binread.proofs.OverKnown.{IfSome-both}
 
 -- what is owed where an object is to be entered goes on with this event
 abbrev pub EnteredTold : (bytes : List ℕ) (bounds : Bounds) (tags : List ℕ) (n : ℕ)
@@ -27,26 +29,10 @@ EnteredTold bytes bounds tags n fs number told after =
     (at : ℕ) → PaysTold (unfolding_of (entries_of bytes bounds) (length tags - n) (path_of fs) at
     number ++ owed_by (entries_of bytes bounds) fs) told (owed_by (entries_of bytes bounds) after)
 
--- a scalar that is cached
-pub known_recalled : (known : Option (List ℕ)) (bounds : Bounds) (tags contents : List ℕ)
-    (fs : List Frame) (n number : ℕ) (told : PlainEvent) → n ≡ length fs → IsOpen tags fs
-    → IfSome known (λ bytes. IsKnown bytes bounds tags contents fs) → number < length tags
-    → is_marked (get_or tags number 0) ≡ false
-    → 0 < unmarked (get_or tags number 0)
-    → single (cached (get_or tags number 0) (get_or contents number 0)) ≡ Some told
-    → IfSome known (λ bytes. EnteredTold bytes bounds tags n fs number told fs)
-known_recalled None bounds tags contents fs n number told depth o k h free some is = tt
-known_recalled (Some bytes) bounds tags contents fs n number told depth o k h free some is = λ at.
-    pays_scalar (entries_of bytes bounds) tags (as_many bytes bounds tags contents fs k) n fs at
-    number (entry_of bytes bounds number) depth o h
-    (entry_there bytes bounds tags contents fs k number h) (sym (o.marks number h) ∙ free) told
-    (ap single (held_scalar bytes bounds tags contents fs k number h some) ∙ is)
-
 -- wherever it is referred to from
 pub from_any : (known : Option (List ℕ)) (P : List ℕ → ℕ → Type 0) (at : ℕ)
     → IfSome known (λ bytes. (at : ℕ) → P bytes at) → IfSome known (λ bytes. P bytes at)
-from_any None P at h = tt
-from_any (Some bytes) P at h = h at
+from_any known P at h = IfSome_then known h (λ bytes h. h at)
 
 -- the object of a number is what is lent at its place
 abbrev pub LentAt : (bytes : List ℕ) (bounds : Bounds) (number : ℕ) → PlainEvent → Lent → Type 0
@@ -54,60 +40,75 @@ LentAt bytes bounds number told lent =
     (slice_get (entries_of bytes bounds) number ≡ Some (entry_of bytes bounds number))
     × IsLentAs (entry_of bytes bounds number).object told lent
 
-pub known_lent : (known : Option (List ℕ)) (bounds : Bounds) (tags contents : List ℕ)
-    (fs : List Frame) (number place : ℕ) (seen : List ℕ) (told : PlainEvent) (lent : Lent)
-    → IfSome known (λ bytes. IsKnown bytes bounds tags contents fs) → number < length tags
-    → (unmarked (get_or tags number 0) ≡ 0) × (place ≡ get_or contents number 0)
-    → IfSome known (λ bytes. bounds.trailer ≤ length bytes → (more : List ℕ)
-    × (drop place (take bounds.trailer bytes) ≡ seen ++ more))
-    → ((more : List ℕ) → length (seen ++ more) ≡ bounds.trailer - place
-    → IsLentAs (object_in bounds.reference_width (seen ++ more)) told lent)
-    → IfSome known (λ bytes. LentAt bytes bounds number told lent)
-known_lent None bounds tags contents fs number place seen told lent k h is front means = tt
-known_lent (Some bytes) bounds tags contents fs number place seen told lent k h is front means =
-    let cut = front k.within in
-    let room : length (seen ++ cut.0) ≡ bounds.trailer - place = ap length (sym cut.1)
-    ∙ length-drop place (take bounds.trailer bytes)
-    ∙ ap (λ m. m - place) (length-take-le bounds.trailer bytes k.within) in (
-      entry_there bytes bounds tags contents fs k number h,
-      rw
-          (← place_is bytes bounds tags contents fs k number place h is, cut.1) (means cut.0 room),
-    )
+module _ (known : Option (List ℕ)) (bounds : Bounds) (tags contents : List ℕ)
+    (fs : List Frame) where
+  abbrev Knows : Type 0
+  Knows = IfSome known (λ bytes. IsKnown bytes bounds tags contents fs)
 
--- the same of what is decoded
-pub known_decoded : (known : Option (List ℕ)) (bounds : Bounds) (tags contents : List ℕ)
-    (fs : List Frame) (number place : ℕ) (told : PlainEvent) (lent : Lent)
-    → IfSome known (λ bytes. IsKnown bytes bounds tags contents fs) → number < length tags
-    → (unmarked (get_or tags number 0) ≡ 0) × (place ≡ get_or contents number 0)
-    → IfSome known (λ bytes. bounds.trailer ≤ length bytes
-    → IsDecodedAs (object_in bounds.reference_width (drop place (take bounds.trailer bytes)))
-    told lent)
-    → IfSome known (λ bytes. LentAt bytes bounds number told lent)
-known_decoded None bounds tags contents fs number place told lent k h is decoded = tt
-known_decoded (Some bytes) bounds tags contents fs number place told lent k h is decoded = (
-  entry_there bytes bounds tags contents fs k number h,
-  lent_as _ told lent
-      (rw (place_is bytes bounds tags contents fs k number place h is) at (decoded k.within)),
-)
+  -- the object isn't cached, and this is its place
+  abbrev IsPlaceOf : (number place : ℕ) → Type 0
+  IsPlaceOf number place =
+      (unmarked (get_or tags number 0) ≡ 0) × (place ≡ get_or contents number 0)
 
--- what holds of it holds then
-pub known_gains : (known : Option (List ℕ)) (bounds : Bounds) (tags contents : List ℕ)
-    (fs : List Frame) (number : ℕ) (told : PlainEvent) (lent : Lent)
-    (P Q : List ℕ → Bounds → Type 0) → IfSome known (λ bytes. IsKnown bytes bounds tags contents fs)
-    → IfSome known (λ bytes. LentAt bytes bounds number told lent)
-    → ((bytes : List ℕ) (bounds : Bounds) (entry : Entry) → IsKnown bytes bounds tags contents fs
-    → slice_get (entries_of bytes bounds) number ≡ Some entry → IsLentAs entry.object told lent
-    → P bytes bounds × Q bytes bounds)
-    → IfSome known (λ bytes. P bytes bounds × Q bytes bounds)
-known_gains None bounds tags contents fs number told lent P Q k there gains = tt
-known_gains (Some bytes) bounds tags contents fs number told lent P Q k there gains =
-    gains bytes bounds (entry_of bytes bounds number) k there.0 there.1
+  -- a scalar that is cached
+  pub known_recalled : (n number : ℕ) (told : PlainEvent) → n ≡ length fs → IsOpen tags fs → Knows
+      → number < length tags → is_marked (get_or tags number 0) ≡ false
+      → 0 < unmarked (get_or tags number 0)
+      → single (cached (get_or tags number 0) (get_or contents number 0)) ≡ Some told
+      → IfSome known (λ bytes. EnteredTold bytes bounds tags n fs number told fs)
+  known_recalled n number told depth o k h free some is = IfSome_then known k (λ bytes k at.
+      pays_scalar (entries_of bytes bounds) tags (as_many bytes bounds tags contents fs k) n fs at
+      number (entry_of bytes bounds number) depth o h
+      (entry_there bytes bounds tags contents fs k number h) (sym (o.marks number h) ∙ free) told
+      (ap single (held_scalar bytes bounds tags contents fs k number h some) ∙ is))
+
+  pub known_lent : (number place : ℕ) (seen : List ℕ) (told : PlainEvent) (lent : Lent) → Knows
+      → number < length tags → IsPlaceOf number place → IfSome known (λ bytes.
+      bounds.trailer ≤ length bytes → (more : List ℕ)
+      × (drop place (take bounds.trailer bytes) ≡ seen ++ more))
+      → ((more : List ℕ) → length (seen ++ more) ≡ bounds.trailer - place
+      → IsLentAs (object_in bounds.reference_width (seen ++ more)) told lent)
+      → IfSome known (λ bytes. LentAt bytes bounds number told lent)
+  known_lent number place seen told lent k h is front means =
+      IfSome-both known k front (λ bytes k front.
+      let cut = front k.within in
+      let room : length (seen ++ cut.0) ≡ bounds.trailer - place = ap length (sym cut.1)
+      ∙ length-drop place (take bounds.trailer bytes)
+      ∙ ap (λ m. m - place) (length-take-le bounds.trailer bytes k.within) in (
+        entry_there bytes bounds tags contents fs k number h,
+        rw (← place_is bytes bounds tags contents fs k number place h is, cut.1) (means cut.0 room),
+      ))
+
+  -- the same of what is decoded
+  pub known_decoded : (number place : ℕ) (told : PlainEvent) (lent : Lent) → Knows
+      → number < length tags → IsPlaceOf number place → IfSome known (λ bytes.
+      bounds.trailer ≤ length bytes → IsDecodedAs
+      (object_in bounds.reference_width (drop place (take bounds.trailer bytes))) told lent)
+      → IfSome known (λ bytes. LentAt bytes bounds number told lent)
+  known_decoded number place told lent k h is decoded =
+      IfSome-both known k decoded (λ bytes k decoded. (
+        entry_there bytes bounds tags contents fs k number h,
+        lent_as _ told lent
+            (rw (place_is bytes bounds tags contents fs k number place h is) at (decoded k.within)),
+      ))
+
+  -- what holds of it holds then
+  pub known_gains : (number : ℕ) (told : PlainEvent) (lent : Lent)
+      (P Q : List ℕ → Bounds → Type 0) → Knows
+      → IfSome known (λ bytes. LentAt bytes bounds number told lent)
+      → ((bytes : List ℕ) (bounds : Bounds) (entry : Entry)
+      → IsKnown bytes bounds tags contents fs
+      → slice_get (entries_of bytes bounds) number ≡ Some entry → IsLentAs entry.object told lent
+      → P bytes bounds × Q bytes bounds)
+      → IfSome known (λ bytes. P bytes bounds × Q bytes bounds)
+  known_gains number told lent P Q k there gains = IfSome-both known k there (λ bytes k there.
+      gains bytes bounds (entry_of bytes bounds number) k there.0 there.1)
 
 pub known_small : (known : Option (List ℕ)) (bounds : Bounds) (number : ℕ) (told : PlainEvent)
     (lent : Lent) (X : Type 0) → IfSome known (λ bytes. LentAt bytes bounds number told lent)
     → ((object : Object) → IsLentAs object told lent → X) → IfSome known (λ bytes. X)
-known_small None bounds number told lent X there kept = tt
-known_small (Some bytes) bounds number told lent X there kept = kept _ there.1
+known_small known bounds number told lent X there kept =
+    IfSome_then known there (λ bytes there. kept _ there.1)
 
 -- ---- a child that is entered
 
@@ -136,14 +137,12 @@ pub known_child_goes : (known : Option (List ℕ)) (bounds : Bounds) (tags conte
     → IfSome known (λ bytes. PaysAnswer (owed_by (entries_of bytes bounds) fs) answer told
     (owed_by (entries_of bytes bounds) after)
     × IsKeptTold (next_number (entries_of bytes bounds) fs) (Some answer) told new)
-known_child_goes None bounds tags contents new fs gs after object index answer told h none turned
-    enters = tt
-known_child_goes (Some bytes) bounds tags contents new fs gs after object index answer told h none
-    turned enters =
+known_child_goes known bounds tags contents new fs gs after object index answer told h none turned
+    enters = IfSome-both known turned enters (λ bytes turned enters.
     let is : enters.0 ≡ get_or (children_at (slice_get (entries_of bytes bounds) object)) index 0 =
     child_is bytes bounds tags contents fs gs object index h none turned (Ok enters.0)
     (λ _. enters.1) in
     let place = held_place bytes bounds tags contents gs turned.1 object h none in (
       rw (turned.0.0, as_many bytes bounds tags contents gs turned.1, ← place, ← is) enters.3,
       rw (turned.0.3, ← is) enters.2,
-    )
+    ))

@@ -11,7 +11,7 @@ use Rattle.plist_base.specs.Trees.{Scalar}
 use Rattle.plist_base.proofs.Refusals.{MatchFault-at, MatchFault-weaker}
 use Rattle.plist_binread.specs.declared.frames.Frame.{Frame}
 use Rattle.plist_binread.specs.declared.lent.Lent.{Lent}
-use Rattle.plist_binread.specs.declared.lent.Lent.TheVariants.{Nothing, TooLarge, Null, Fill, Unknown, OutOfRange, NoDate, Scalar as ScalarLent, Collection}
+use Rattle.plist_binread.specs.declared.lent.Lent.TheVariants.{Scalar as ScalarLent, Collection}
 use Rattle.plist_binread.specs.Lent.{IsLentAs, PaysAnswer}
 use Rattle.plist_binread.specs.Stepping.{WantsRoom}
 use Rattle.plist_binread.specs.declared.table.Bounds.{Bounds}
@@ -21,6 +21,9 @@ use Rattle.plist_binread.specs.Unfolding.{Entry, unfolding_of, until_fault}
 use Rattle.plist_binread.specs.Debt.{place_at, scalar_at, path_of, IsOpen, HoldsPlaceOr, IsHeld, IsKnown, places_of, entries_of, owed_by, Explains}
 use Rattle.plist_binread.specs.Decoding.{IsCollection, IsDecodedAs, IsRefusedAs, scalar_in}
 use Rattle.plist_binread.proofs.Steps.{slice_get-within, slice_get-beyond, length-table_of, collection_count, items_beyond, items_open, pays_refused, refused_cached, refused_memory}
+use Rattle.std.proofs.lemmas.Option.{IfSome_then}
+use Rattle.plist_binread.proofs.OverKnown.{IfSome-both}
+use Rattle.std.proofs.lemmas.Bool.{eqb-false}
 
 not_zero : (t : ℕ) → 0 < t → nat_eq t 0 ≡ false
 not_zero t h = grind (arith, nat_tests)
@@ -126,9 +129,6 @@ module _ (bytes : List ℕ) (bounds : Bounds) where
         counts = k.counts;
       }
         where
-          apart : (q : ℕ) → nat_eq q number ≡ false → (q ≡ number → ⊥)
-          apart q e = grind (arith, nat_tests)
-
           here : IsHeld (slice_get table number) (get_or new number 0)
               (get_or (slice_set contents number content) number 0)
           here = from_scalar _ _ (get_or (slice_set contents number content) number 0) _ event
@@ -146,7 +146,7 @@ module _ (bytes : List ℕ) (bounds : Bounds) where
             | inr e ↦ rw (
               m.others q e.0,
               get_or-set_other contents number q content 0
-                  (apart q e.0),
+                  (eqb-false q number e.0),
             )
                 (k.held q less)
           ]
@@ -207,13 +207,11 @@ module _ (bytes : List ℕ) (bounds : Bounds) where
 
 pub first : (known : Option (List ℕ)) (P Q : List ℕ → Type 0)
     → IfSome known (λ bytes. P bytes × Q bytes) → IfSome known P
-first None P Q h = tt
-first (Some bytes) P Q h = h.0
+first known P Q h = IfSome_then known h (λ bytes h. h.0)
 
 pub second : (known : Option (List ℕ)) (P Q : List ℕ → Type 0)
     → IfSome known (λ bytes. P bytes × Q bytes) → IfSome known Q
-second None P Q h = tt
-second (Some bytes) P Q h = h.1
+second known P Q h = IfSome_then known h (λ bytes h. h.1)
 
 -- what is owed where an object is to be entered
 abbrev pub Entered : {A : Type 0} → (bytes : List ℕ) (bounds : Bounds) (tags : List ℕ) (n : ℕ)
@@ -241,25 +239,18 @@ pub known_refused : (known : Option (List ℕ)) (bounds : Bounds) (tags contents
     place e)
     → IfSome known (λ bytes. Explains (until_fault (unfolding_of (entries_of bytes bounds)
     (length tags - n) (path_of fs) at number ++ owed_by (entries_of bytes bounds) fs)) e)
-known_refused None bounds tags contents fs n at number place e depth o k h free is refused = tt
-known_refused (Some bytes) bounds tags contents fs n at number place e depth o k h free is refused =
-    pays_refused (entries_of bytes bounds) tags (as_many bytes bounds tags contents fs k) n fs at
-    number (entry_of bytes bounds number) depth o h
-    (entry_there bytes bounds tags contents fs k number h) (sym (o.marks number h) ∙ free) e
-    (rw (place_is bytes bounds tags contents fs k number place h is) at (refused k.within))
+known_refused known bounds tags contents fs n at number place e depth o k h free is refused =
+    IfSome-both known k refused (λ bytes k refused. pays_refused (entries_of bytes bounds) tags
+    (as_many bytes bounds tags contents fs k) n fs at number (entry_of bytes bounds number) depth o
+    h (entry_there bytes bounds tags contents fs k number h) (sym (o.marks number h) ∙ free) e
+    (rw (place_is bytes bounds tags contents fs k number place h is) at (refused k.within)))
 
 -- what is decoded is lent
 pub lent_as : (object : Object) (told : PlainEvent) (lent : Lent) → IsDecodedAs object told lent
     → IsLentAs object told lent
-lent_as object told Nothing h = absurd h
-lent_as object told TooLarge h = absurd h
-lent_as object told Null h = absurd h
-lent_as object told Fill h = absurd h
-lent_as object told (Unknown marker) h = absurd h
-lent_as object told OutOfRange h = absurd h
-lent_as object told NoDate h = absurd h
 lent_as object told ScalarLent h = h
 lent_as object told (Collection count) h = h
+lent_as object told lent h = absurd h
 
 -- a collection for which room is wanted
 pub known_full : (known : Option (List ℕ)) (t place : ℕ) (object : List ℕ → Object)
@@ -267,18 +258,11 @@ pub known_full : (known : Option (List ℕ)) (t place : ℕ) (object : List ℕ 
     → WantsRoom lent
     → IfSome known (λ bytes. t ≤ length bytes → IsDecodedAs (object bytes) told lent)
     → IfSome known (λ bytes. t ≤ length bytes → IsRefusedAs (object bytes) place e)
-known_full None t place object told lent e memory wanted decoded = tt
-known_full (Some bytes) t place object told lent e memory wanted decoded = λ fits.
-    by lent wanted (decoded fits)
+known_full known t place object told lent e memory wanted decoded =
+    IfSome_then known decoded (λ bytes decoded fits. by (object bytes) lent wanted (decoded fits))
   where
-    by : (lent : Lent) → WantsRoom lent → IsDecodedAs (object bytes) told lent
-        → IsRefusedAs (object bytes) place e
-    by Nothing wanted h = absurd h
-    by TooLarge wanted h = absurd h
-    by Null wanted h = absurd h
-    by Fill wanted h = absurd h
-    by (Unknown marker) wanted h = absurd h
-    by OutOfRange wanted h = absurd h
-    by NoDate wanted h = absurd h
-    by ScalarLent wanted h = absurd wanted
-    by (Collection count) wanted h = refused_memory (object bytes) place e told count memory h
+    by : (object : Object) (lent : Lent) → WantsRoom lent → IsDecodedAs object told lent
+        → IsRefusedAs object place e
+    by object ScalarLent wanted h = absurd wanted
+    by object (Collection count) wanted h = refused_memory object place e told count memory h
+    by object lent wanted h = absurd h

@@ -1,5 +1,5 @@
 -- What is known after a turn of the walk.
-use Rattle.std.proofs.Common.{◌≡◌, ℕ, ◌<◌, ◌≤◌, List, [], ◌∷◌, length, take, drop, get_or, Option, None, Some, Result, Ok, Err, IfSome, MatchResult, ap, ◌∙◌}
+use Rattle.std.proofs.Common.{◌≡◌, ℕ, ◌<◌, ◌≤◌, List, [], ◌∷◌, length, take, drop, get_or, Option, Result, Ok, Err, IfSome, MatchResult, ap, ◌∙◌}
 use Rattle.std.specs.List.{slice_get}
 use Rattle.plist_base.specs.declared.error.Error.{Error}
 use Rattle.plist_base.specs.Faults.{IsIo, kind_of, error_kind_of}
@@ -14,7 +14,9 @@ use Rattle.plist_binread.specs.Packed.{unmarked}
 use Rattle.plist_binread.specs.Unfolding.{until_fault}
 use Rattle.plist_binread.specs.Debt.{place_at, children_at, IsKnown, entries_of, owed_by, Explains}
 use Rattle.plist_binread.specs.Turning.{ReadsChild, Turns}
-use Rattle.plist_binread.proofs.Known.{entry_of, entry_there, held_place, second}
+use Rattle.plist_binread.proofs.Known.{entry_of, entry_there, held_place}
+use Rattle.std.proofs.lemmas.Option.{IfSome_then}
+use Rattle.plist_binread.proofs.OverKnown.{IfSome-both}
 
 -- ---- one turn of the walk
 
@@ -29,34 +31,8 @@ pub known_turned : (known : Option (List ℕ)) (bounds : Bounds) (tags new conte
     → ((bytes : List ℕ) (bounds : Bounds) → IsKnown bytes bounds tags contents fs
     → Turned bytes bounds new others fs turn gs)
     → IfSome known (λ bytes. Turned bytes bounds new others fs turn gs)
-known_turned None bounds tags new contents others fs gs turn k turns = tt
-known_turned (Some bytes) bounds tags new contents others fs gs turn k turns = turns bytes bounds k
-
-pub known_after : (known : Option (List ℕ)) (bounds : Bounds) (tags contents : List ℕ)
-    (fs gs : List Frame) (turn : Turn)
-    → IfSome known (λ bytes. Turned bytes bounds tags contents fs turn gs)
-    → IfSome known (λ bytes. IsKnown bytes bounds tags contents gs)
-known_after known bounds tags contents fs gs turn =
-    second known (λ bytes. Turns (entries_of bytes bounds) fs turn gs)
-    (λ bytes. IsKnown bytes bounds tags contents gs)
-
-pub known_done : (known : Option (List ℕ)) (bounds : Bounds) (tags contents : List ℕ)
-    (fs gs : List Frame) → IfSome known (λ bytes. Turned bytes bounds tags contents fs Done gs)
-    → IfSome known (λ bytes. (owed_by (entries_of bytes bounds) fs ≡ [])
-    × (owed_by (entries_of bytes bounds) gs ≡ []))
-known_done None bounds tags contents fs gs turned = tt
-known_done (Some bytes) bounds tags contents fs gs turned = (
-  ap (owed_by (entries_of bytes bounds)) turned.0.0,
-  ap (owed_by (entries_of bytes bounds))
-      turned.0.1,
-)
-
-pub known_closed : (known : Option (List ℕ)) (bounds : Bounds) (tags contents : List ℕ)
-    (fs gs : List Frame) → IfSome known (λ bytes. Turned bytes bounds tags contents fs Closed gs)
-    → IfSome known (λ bytes. until_fault (owed_by (entries_of bytes bounds) fs) ≡ Ok EndCollection
-    ∷ until_fault (owed_by (entries_of bytes bounds) gs))
-known_closed None bounds tags contents fs gs turned = tt
-known_closed (Some bytes) bounds tags contents fs gs turned = ap until_fault turned.0
+known_turned known bounds tags new contents others fs gs turn k turns =
+    IfSome_then known k (λ bytes k. turns bytes bounds k)
 
 -- the number that was read is that of the child
 pub child_is : (bytes : List ℕ) (bounds : Bounds) (tags contents : List ℕ) (fs gs : List Frame)
@@ -76,17 +52,36 @@ child_is bytes bounds tags contents fs gs object index h none turned answer read
     none ∙ ap place_at there in
     rw there ((rw place at (reads k.within)) (rw there at turned.0.1))
 
--- a read of the reference failed
-pub known_child_failed : (known : Option (List ℕ)) (bounds : Bounds) (tags contents : List ℕ)
-    (fs gs : List Frame) (object index : ℕ) (e : Error) → object < length tags
-    → unmarked (get_or tags object 0) ≡ 0
-    → IfSome known (λ bytes. Turned bytes bounds tags contents fs (Child object index) gs)
-    → IfSome known (λ bytes. bounds.trailer ≤ length bytes
-    → ReadsChild (object_in bounds.reference_width
-    (drop (get_or contents object 0) (take bounds.trailer bytes))) index (Err e))
-    → IfSome known (λ bytes. Explains (until_fault (owed_by (entries_of bytes bounds) fs)) e)
-known_child_failed None bounds tags contents fs gs object index e h none turned reads = tt
-known_child_failed (Some bytes) bounds tags contents fs gs object index e h none turned reads =
-    MatchFault-weaker (kind_of (error_kind_of e)) (λ _. turned.0.2) (λ none. absurd none)
-    (λ none. absurd none) (child_is bytes bounds tags contents fs gs object index h none turned
-    (Err e) reads)
+module _ (known : Option (List ℕ)) (bounds : Bounds) (tags contents : List ℕ)
+    (fs gs : List Frame) where
+  abbrev HasTurned : Turn → Type 0
+  HasTurned turn = IfSome known (λ bytes. Turned bytes bounds tags contents fs turn gs)
+
+  pub known_after : (turn : Turn) → HasTurned turn
+      → IfSome known (λ bytes. IsKnown bytes bounds tags contents gs)
+  known_after turn turned = IfSome_then known turned (λ bytes turned. turned.1)
+
+  pub known_done : HasTurned Done → IfSome known (λ bytes.
+      (owed_by (entries_of bytes bounds) fs ≡ []) × (owed_by (entries_of bytes bounds) gs ≡ []))
+  known_done turned = IfSome_then known turned (λ bytes turned. (
+    ap (owed_by (entries_of bytes bounds)) turned.0.0,
+    ap (owed_by (entries_of bytes bounds)) turned.0.1,
+  ))
+
+  pub known_closed : HasTurned Closed → IfSome known (λ bytes.
+      until_fault (owed_by (entries_of bytes bounds) fs) ≡ Ok EndCollection
+      ∷ until_fault (owed_by (entries_of bytes bounds) gs))
+  known_closed turned = IfSome_then known turned (λ bytes turned. ap until_fault turned.0)
+
+  -- a read of the reference failed
+  pub known_child_failed : (object index : ℕ) (e : Error) → object < length tags
+      → unmarked (get_or tags object 0) ≡ 0 → HasTurned (Child object index)
+      → IfSome known (λ bytes. bounds.trailer ≤ length bytes
+      → ReadsChild (object_in bounds.reference_width
+      (drop (get_or contents object 0) (take bounds.trailer bytes))) index (Err e))
+      → IfSome known (λ bytes. Explains (until_fault (owed_by (entries_of bytes bounds) fs)) e)
+  known_child_failed object index e h none turned reads =
+      IfSome-both known turned reads (λ bytes turned reads.
+      MatchFault-weaker (kind_of (error_kind_of e)) (λ _. turned.0.2) (λ none. absurd none)
+      (λ none. absurd none) (child_is bytes bounds tags contents fs gs object index h none turned
+      (Err e) reads))

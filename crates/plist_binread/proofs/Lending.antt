@@ -1,6 +1,6 @@
 -- What lies in bytes that are lent, whatever follows them.
-use Rattle.std.proofs.Common.{◌≡◌, ℕ, suc, ◌+◌, ◌-◌, ◌<◌, ◌≤◌, List, [], ◌∷◌, ◌++◌, length, take, drop, get_or, Option, None, Some, IfSome, refl, ap, sym, ◌∙◌, arith}
-use Rattle.std.proofs.lemmas.List.{length-append, drop-append-le, length-drop, length-take-le, take-append-drop}
+use Rattle.std.proofs.Common.{◌≡◌, ℕ, suc, ◌+◌, ◌-◌, ◌<◌, ◌≤◌, List, [], ◌∷◌, ◌++◌, length, take, drop, get_or, Option, Some, IfSome, refl, ap, sym, ◌∙◌, arith}
+use Rattle.std.proofs.lemmas.List.{take-take, length-append, drop-append-le, length-drop, length-take-le, take-append-drop}
 use Rattle.std.proofs.Math.Seq.{take-length}
 use Rattle.plist_base.specs.Events.{PlainEvent}
 use Rattle.plist_base.specs.Sources.{LiesAt}
@@ -16,7 +16,8 @@ use Rattle.plist_binread.specs.declared.lent.Lent.{Lent}
 use Rattle.plist_binread.specs.declared.lent.Lent.TheVariants as lent
 use Rattle.plist_binread.specs.Object.{Object, Faulty, layout_of, length_in, object_behind, object_in}
 use Rattle.plist_binread.proofs.Contents.{refused_as}
-use Rattle.plist_binread.proofs.Columns.{take-drop-take, take-take-le, known_at_hand}
+use Rattle.plist_binread.proofs.Columns.{take-drop-take, known_at_hand}
+use Rattle.std.proofs.lemmas.Option.{IfSome_then}
 
 -- the object behind a marker
 pub object_lent : (w m : ℕ) (xs ys : List ℕ) → xs ≡ m ∷ ys
@@ -31,33 +32,30 @@ pub lent_front : (bytes lent : List ℕ) (t p w : ℕ) → p + w ≤ t
 lent_front bytes lent t p w near is h =
     sym (take-append-drop w (drop p (take t bytes)))
     ∙ ap (λ ys. ys ++ drop w (drop p (take t bytes)))
-    (take-drop-take p w t bytes near ∙ sym (take-take-le w (length lent) (drop p bytes) h)
+    (take-drop-take p w t bytes near ∙ sym (take-take w (length lent) (drop p bytes) h)
     ∙ ap (take w) (sym is))
 
 pub known_front : (known : Option (List ℕ)) (lent found : List ℕ) (t p w : ℕ) → p + w ≤ t
     → w ≤ length lent → found ≡ take w lent → IfSome known (λ bytes. LiesAt bytes p lent)
     → IfSome known (λ bytes. t ≤ length bytes → (more : List ℕ)
     × (drop p (take t bytes) ≡ found ++ more))
-known_front None lent found t p w near h cut is = tt
-known_front (Some bytes) lent found t p w near h cut is =
-    λ fits. (
-      drop w (drop p (take t bytes)),
-      lent_front bytes lent t p w near is h
-          ∙ ap (λ ys. ys ++ drop w (drop p (take t bytes))) (sym cut),
-    )
+known_front known lent found t p w near h cut is = IfSome_then known is (λ bytes is fits. (
+  drop w (drop p (take t bytes)),
+  lent_front bytes lent t p w near is h
+      ∙ ap (λ ys. ys ++ drop w (drop p (take t bytes))) (sym cut),
+))
 
 -- what bytes tell that lie before the trailer, seen from the front of an object
 pub known_seen : (known : Option (List ℕ)) (t w p : ℕ) (seen : List ℕ) (told : PlainEvent)
     (lent : Lent) → p + length seen ≤ t → IfSome known (λ bytes. LiesAt bytes p seen)
     → LendsWhole (t - p) (object_in w) seen told lent → IfSome known
     (λ bytes. t ≤ length bytes → IsLentAs (object_in w (drop p (take t bytes))) told lent)
-known_seen None t w p seen told lent near is means = tt
-known_seen (Some bytes) t w p seen told lent near is means = λ fits.
+known_seen known t w p seen told lent near is means = IfSome_then known is (λ bytes is fits.
     let cut = known_front (Some bytes) seen seen t p (length seen) near (omega arith)
     (sym (take-length seen)) is fits in
     let room : length (seen ++ cut.0) ≡ t - p = ap length (sym cut.1)
     ∙ length-drop p (take t bytes) ∙ ap (λ m. m - p) (length-take-le t bytes fits) in
-    rw cut.1 (means cut.0 room)
+    rw cut.1 (means cut.0 room))
 
 -- an object that is refused where what was seen of it is refused
 pub known_refused : (known : Option (List ℕ)) (t w p : ℕ) (seen : List ℕ) (told : PlainEvent)
@@ -68,10 +66,9 @@ pub known_refused : (known : Option (List ℕ)) (t w p : ℕ) (seen : List ℕ) 
     → fault_of error ≡ fault_at kind p → MatchFault kind ⊥ ⊥ ⊤
     → IfSome known (λ bytes. t ≤ length bytes
     → IsRefusedAs (object_in w (drop p (take t bytes))) p error)
-known_refused None t w p seen told lent kind error near is means same fault inside = tt
-known_refused (Some bytes) t w p seen told lent kind error near is means same fault inside =
-    λ fits. refused_as _ p error kind fault inside
-    (same _ (known_seen (Some bytes) t w p seen told lent near is means fits))
+known_refused known t w p seen told lent kind error near is means same fault inside =
+    IfSome_then known (known_seen known t w p seen told lent near is means)
+    (λ bytes found fits. refused_as _ p error kind fault inside (same _ (found fits)))
 
 -- one whose marker is unknown
 pub known_unknown : (known : Option (List ℕ)) (t w p : ℕ) (seen : List ℕ) (told : PlainEvent)
@@ -80,10 +77,9 @@ pub known_unknown : (known : Option (List ℕ)) (t w p : ℕ) (seen : List ℕ) 
     → LendsWhole (t - p) (object_in w) seen told (lent.Unknown marker)
     → (marker < 256 → IsUnknownAt marker p error) → IfSome known (λ bytes. t ≤ length bytes
     → IsRefusedAs (object_in w (drop p (take t bytes))) p error)
-known_unknown None t w p seen told marker error near is means named = tt
-known_unknown (Some bytes) t w p seen told marker error near is means named = λ fits.
-    let found = known_seen (Some bytes) t w p seen told (lent.Unknown marker) near is means fits in
-    rw found.1 (named found.0)
+known_unknown known t w p seen told marker error near is means named =
+    IfSome_then known (known_seen known t w p seen told (lent.Unknown marker) near is means)
+    (λ bytes found fits. rw (found fits).1 (named (found fits).0))
 
 -- and their first byte
 pub known_first : (known : Option (List ℕ)) (p : ℕ) (seen : List ℕ) → 0 < length seen

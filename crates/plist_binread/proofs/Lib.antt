@@ -12,6 +12,7 @@ pub mod Lending
 pub mod Markers
 pub mod Marks
 pub mod Opened
+pub mod OverKnown
 pub mod Packing
 pub mod Stacked
 pub mod Staying

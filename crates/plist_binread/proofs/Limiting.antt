@@ -14,14 +14,15 @@ use Rattle.plist_base.specs.Sources.{IsPlaceWithin}
 use Rattle.plist_binread.specs.BinaryReader.{has_room_in}
 use Rattle.plist_binread.specs.Telling.{TellsItem}
 use Rattle.plist_binread.specs.declared.reader.State.{State}
-use Rattle.plist_binread.specs.declared.reader.State.TheVariants.{Fresh, Walking, Ended}
+use Rattle.plist_binread.specs.declared.reader.State.TheVariants.{Walking}
 use Rattle.plist_binread.specs.declared.table.Bounds.{Bounds}
 use Rattle.plist_binread.specs.declared.frames.Frame.{Frame}
 use Rattle.plist_binread.specs.Lent.{PaysTold}
 use Rattle.plist_binread.specs.Debt.{IsOwed, WantsMemory, entries_of, owed_by, still_owed}
-use Rattle.plist_binread.specs.Turning.{is_fresh, is_walking}
+use Rattle.plist_binread.specs.Turning.{is_fresh}
 use Rattle.plist_binread.specs.Failures.{FailsWithin, HasPlace, IsGivenWithin, MatchGiven, MatchReader}
 use Rattle.plist_base.proofs.Refusals.{MatchFault-weaker}
+use Rattle.std.proofs.lemmas.Option.{IfSome_then}
 
 -- ---- where a fault is
 
@@ -126,9 +127,8 @@ module _ (new : Bool) (told : PlainEvent) where
       → IfSome known (λ bytes. TellsItem {A = Unit {0}} new (before bytes) None told (after bytes))
       → IfSome known (λ bytes. TellsItem {A = Unit {0}} new (under_any old (before bytes)) None told
       (under_any now (after bytes)))
-  none-told None old now before after h = tt
-  none-told (Some bytes) old now before after h =
-      (ap (under_any old) h.0 ∙ none-under old, ap (under_any now) h.1 ∙ none-under now)
+  none-told known old now before after h = IfSome_then known h (λ bytes h.
+      (ap (under_any old) h.0 ∙ none-under old, ap (under_any now) h.1 ∙ none-under now))
 
   pub fault-told : (known : Option (List ℕ)) (old now : Option Limiter)
       (before after : List ℕ → List Item) (error : Error)
@@ -136,13 +136,12 @@ module _ (new : Bool) (told : PlainEvent) where
       (after bytes))
       → IfSome known (λ bytes. TellsItem {A = Unit {0}} new (under_any old (before bytes))
       (Some (Err error)) told (under_any now (after bytes)))
-  fault-told None old now before after error h = tt
-  fault-told (Some bytes) old now before after error h = (
+  fault-told known old now before after error h = IfSome_then known h (λ bytes h. (
     ap (under_any now) h.0 ∙ none-under now,
     MatchFault-weaker (kind_of (error_kind_of error))
         (owed-under old (before bytes)) (either-under new old (before bytes))
         (λ b. ap (under_any old) b ∙ fault-under old (fault_of error)) h.1,
-  )
+  ))
 
   pub event-told : (known : Option (List ℕ)) (old now : Option Limiter)
       (before after : List ℕ → List Item) (x : Unit {0}) → AdmitsAny old told now
@@ -150,8 +149,8 @@ module _ (new : Bool) (told : PlainEvent) where
       (after bytes))
       → IfSome known (λ bytes. TellsItem {A = Unit {0}} new (under_any old (before bytes))
       (Some (Ok x)) told (under_any now (after bytes)))
-  event-told None old now before after x a h = tt
-  event-told (Some bytes) old now before after x a h = ap (under_any old) h ∙ a (after bytes)
+  event-told known old now before after x a h =
+      IfSome_then known h (λ bytes h. ap (under_any old) h ∙ a (after bytes))
 
   limit-refused : (kind : FaultKind) (limit : Limit) (X Y Z : Type 0) → kind ≡ LimitReached limit
       → Z → MatchFault kind X Y Z
@@ -177,9 +176,8 @@ module _ (new : Bool) (told : PlainEvent) where
       (after bytes))
       → IfSome known (λ bytes. TellsItem {A = Unit {0}} new (under_any old (before bytes))
       (Some (Err error)) told (under_any now []))
-  limit-told None old now before after x error r h = tt
-  limit-told (Some bytes) old now before after x error r h =
-      limit-item old now (before bytes) (after bytes) error r h
+  limit-told known old now before after x error r h =
+      IfSome_then known h (λ bytes h. limit-item old now (before bytes) (after bytes) error r h)
 
 -- an event that is told where there are no limits
 pub near-told : (known : Option (List ℕ)) (state : State) (bounds : Bounds) (fs gs : List Frame)
@@ -189,13 +187,7 @@ pub near-told : (known : Option (List ℕ)) (state : State) (bounds : Bounds) (f
     → IfSome known (λ bytes. TellsItem {A = Unit {0}} (is_fresh state)
     (under_any limiter (still_owed bytes state bounds fs)) (Some (Ok (tt {0}))) told
     (under_any limiter (still_owed bytes state bounds gs)))
-near-told None state bounds fs gs limiter told is none pays = tt
-near-told (Some bytes) Walking bounds fs gs None told is none pays = pays
-near-told (Some bytes) Walking bounds fs gs (Some limiter) told is none pays = absurd (cc)
-near-told (Some bytes) Fresh bounds fs gs limiter told is none pays =
-    let no : false ≡ true = ap is_walking is in absurd (cc)
-near-told (Some bytes) Ended bounds fs gs limiter told is none pays =
-    let no : false ≡ true = ap is_walking is in absurd (cc)
+near-told known state bounds fs gs limiter told is none pays = rw (is, none) pays
 
 -- ---- an end that comes
 

@@ -16,6 +16,8 @@ use Rattle.plist_binread.specs.Lent.{PaysNextTold}
 use Rattle.plist_binread.specs.Turning.{IsKeptTold, is_fresh, is_walking, ends_next}
 use Rattle.plist_binread.specs.Beginning.{RefusesFirst}
 use Rattle.plist_binread.proofs.Opened.{IsOpen-length}
+use Rattle.std.proofs.lemmas.Option.{IfSome_then}
+use Rattle.plist_binread.proofs.OverKnown.{IfSome-all}
 
 -- no more collections are open than there are objects
 open_below : (tags : List ℕ) (fs : List Frame) → IsOpen tags (reverse fs) → length fs ≤ length tags
@@ -34,40 +36,37 @@ pub holds_head : (known : Option (List ℕ)) (bounds : Bounds) (tags contents : 
     → IfSome known (λ bytes. IsKnown bytes bounds tags contents fs)
     → IfSome known (λ bytes. walking → AreBoundsOf (head_of bytes) bounds
     × (length tags ≡ length (places_of bytes)))
-holds_head None bounds tags contents fs walking k = tt
-holds_head (Some bytes) bounds tags contents fs walking k = λ w. (k.head, sym k.size)
+holds_head known bounds tags contents fs walking k =
+    IfSome_then known k (λ bytes k w. (k.head, sym k.size))
 
 -- and nothing where no file is held
 pub holds_none : (known : Option (List ℕ)) (bounds : Bounds) (tags : List ℕ) (walking : Type 0)
     → (walking → ⊥) → IfSome known
     (λ bytes. walking → AreBoundsOf (head_of bytes) bounds
     × (length tags ≡ length (places_of bytes)))
-holds_none None bounds tags walking never = tt
-holds_none (Some bytes) bounds tags walking never = λ w. absurd (never w)
+holds_none known bounds tags walking never = IfSome-all known (λ bytes w. absurd (never w))
 
 -- and none of the lists is longer
 pub lists : (known : Option (List ℕ)) (tags contents : List ℕ) (fs : List Frame)
     → IsOpen tags (reverse fs) → length contents ≡ length tags
     → IfSome known (λ bytes. length tags ≤ length (places_of bytes))
     → IfSome known (λ bytes. AreWithin (length (places_of bytes)) tags contents fs)
-lists None tags contents fs path same bounded = tt
-lists (Some bytes) tags contents fs path same bounded =
-    (bounded, omega arith, omega (arith, open_below tags fs path))
+lists known tags contents fs path same bounded = IfSome_then known bounded (λ bytes bounded.
+    (bounded, omega arith, omega (arith, open_below tags fs path)))
 
 -- what was to come and what is to come, over known bytes, by the item that was taken
 
 pub nothing_ended : (known : Option (List ℕ)) (bounds : Bounds) (fs : List Frame)
     → IfSome known (λ bytes. GivesItem (is_fresh Ended) (still_owed bytes Ended bounds fs) None
     (still_owed bytes Ended bounds fs))
-nothing_ended None bounds fs = tt
-nothing_ended (Some bytes) bounds fs = (refl, refl)
+nothing_ended known bounds fs = IfSome-all known (λ bytes. (refl, refl))
 
 pub first_fault : (known : Option (List ℕ)) (bounds after_bounds : Bounds) (fs gs : List Frame)
     (e : Error) → IfSome known (λ bytes. RefusesFirst bytes e)
     → IfSome known (λ bytes. GivesItem (is_fresh Fresh) (still_owed bytes Fresh bounds fs)
     (Some (Err e)) (still_owed bytes Ended after_bounds gs))
-first_fault None bounds after_bounds fs gs e refused = tt
-first_fault (Some bytes) bounds after_bounds fs gs e refused = (refl, refused)
+first_fault known bounds after_bounds fs gs e refused =
+    IfSome_then known refused (λ bytes refused. (refl, refused))
 
 module _ (known : Option (List ℕ)) (bounds : Bounds) (fs gs : List Frame) (told : PlainEvent) where
   -- what a step of the walk pays
@@ -82,18 +81,12 @@ module _ (known : Option (List ℕ)) (bounds : Bounds) (fs gs : List Frame) (tol
       IfSome known (λ bytes. TellsItem (is_fresh Walking) (still_owed bytes Walking bounds fs) item
       told (still_owed bytes state bounds gs))
 
-pub step_fault : (known : Option (List ℕ)) (bounds : Bounds) (fs gs : List Frame)
-    (told : PlainEvent) (e : Error) → StepPays known bounds fs gs told (Some (Err e))
-    → StepTells known bounds fs gs told (Some (Err e)) Ended
-step_fault None bounds fs gs told e pays = tt
-step_fault (Some bytes) bounds fs gs told e pays = (refl, pays)
+  pub step_fault : (e : Error) → StepPays (Some (Err e)) → StepTells (Some (Err e)) Ended
+  step_fault e pays = IfSome_then known pays (λ bytes pays. (refl, pays))
 
-pub step_nothing : (known : Option (List ℕ)) (bounds : Bounds) (fs gs : List Frame)
-    (told : PlainEvent) → StepPays known bounds fs gs told None
-    → StepTells known bounds fs gs told None Ended
-step_nothing None bounds fs gs told pays = tt
-step_nothing (Some bytes) bounds fs gs told pays =
-    let nothing = pays in (ap until_fault nothing.0, refl)
+  pub step_nothing : StepPays None → StepTells None Ended
+  step_nothing pays =
+      IfSome_then known pays (λ bytes nothing. (ap until_fault nothing.0, refl))
 
 -- no end comes first, or after the last item
 pub closes-fresh : (state : State) (fs : List Frame) → state ≡ Fresh → ends_next state fs ≡ true → ⊥
@@ -112,8 +105,7 @@ walking-ended state is e = let no : is_walking state ≡ false = ap is_walking i
 pub kept_fault : (known : Option (List ℕ)) (number : List ℕ → Option ℕ) (tags : List ℕ) (e : Error)
     (told : PlainEvent) → IfSome known
     (λ bytes. IsKeptTold {A = Unit {0}} (number bytes) (Some (Err e)) told tags)
-kept_fault None number tags e told = tt
-kept_fault (Some bytes) number tags e told = by_number (number bytes)
+kept_fault known number tags e told = IfSome-all known (λ bytes. by_number (number bytes))
   where
     by_number : (n : Option ℕ) → IsKeptTold {A = Unit {0}} n (Some (Err e)) told tags
     by_number None = tt
@@ -122,8 +114,7 @@ kept_fault (Some bytes) number tags e told = by_number (number bytes)
 pub kept_end : (known : Option (List ℕ)) (number : List ℕ → Option ℕ) (tags : List ℕ)
     (told : PlainEvent) → IfSome known
     (λ bytes. IsKeptTold {A = Unit {0}} (number bytes) None told tags)
-kept_end None number tags told = tt
-kept_end (Some bytes) number tags told = by_number (number bytes)
+kept_end known number tags told = IfSome-all known (λ bytes. by_number (number bytes))
   where
     by_number : (n : Option ℕ) → IsKeptTold {A = Unit {0}} n None told tags
     by_number None = tt

@@ -1,5 +1,5 @@
 -- What the innermost collection asks for.
-use Rattle.std.proofs.Common.{◌≡◌, cond, ℕ, zero, suc, ◌+◌, ◌-◌, ◌*◌, ◌<◌, ◌≤◌, List, [], ◌∷◌, ◌++◌, length, drop, get_or, reverse, not, true, Ok, Err, refl, ap, sym, ◌∙◌, arith, append_assoc, add-one, None, Some, false}
+use Rattle.std.proofs.Common.{◌≡◌, cond, ℕ, suc, ◌+◌, ◌-◌, ◌*◌, ◌<◌, ◌≤◌, List, [], ◌∷◌, ◌++◌, length, drop, get_or, reverse, not, true, Ok, Err, refl, ap, sym, ◌∙◌, arith, append_assoc, add-one, None, Some, false}
 use Rattle.std.specs.List.{flat_map, slice_get}
 use Rattle.std.proofs.lemmas.Bool.{lt-ltb}
 use Rattle.std.proofs.Math.Seq.{drop-cons}
@@ -11,23 +11,19 @@ use Rattle.plist_binread.specs.Unfolding.{Entry, unfolding_of, until_fault}
 use Rattle.plist_binread.specs.declared.table.Bounds.{Bounds}
 use Rattle.plist_binread.specs.Debt.{path_of, IsOpen, IsKnown, children_at, place_at, entries_of, owed_by, IsOwed, next_number, steps, weight}
 use Rattle.plist_binread.specs.Turning.{closes, given_back}
+use Rattle.std.proofs.lemmas.List.{drop_all, get_or_default}
 
 -- frames that are the same from the innermost one on
 pub same_frames : (xs ys : List Frame) → reverse xs ≡ reverse ys → xs ≡ ys
 same_frames xs ys e = sym (reverse-reverse xs) ∙ ap reverse e ∙ reverse-reverse ys
 
--- the frame after its next child was taken
-abbrev pub after : Frame → Frame
-after f = record { object = f.object; next = f.next + 1; count = f.count }
-
-pub child_path : (tags : List ℕ) (f : Frame) (fs : List Frame) → IsOpen tags (f ∷ fs)
-    → IsOpen tags (after f ∷ fs)
-child_path tags f fs o =
-    record { distinct = o.distinct; below = o.below; marks = o.marks; uncached = o.uncached }
-
 -- the frame with another number of its next child
 abbrev pub with_next : Frame → ℕ → Frame
 with_next f n = record { object = f.object; next = n; count = f.count }
+
+-- the frame after its next child was taken
+abbrev pub after : Frame → Frame
+after f = with_next f (f.next + 1)
 
 pub next_path : (tags : List ℕ) (f : Frame) (n : ℕ) (fs : List Frame) → IsOpen tags (f ∷ fs)
     → IsOpen tags (with_next f n ∷ fs)
@@ -48,17 +44,6 @@ child_flat step xs more i x h e =
     let rest : drop i xs ≡ x ∷ drop (i + 1) xs = drop-cons xs i x h
     ∙ ap (λ y. y ∷ drop (suc i) xs) (sym e) ∙ ap (λ j. x ∷ drop j xs) (sym (add-one i)) in
     rw rest (append_assoc (step x) (flat_map step (drop (i + 1) xs)) more)
-
-read_or : (xs : List ℕ) (i : ℕ) → get_or xs i 0 ≡ get_or xs i (get_or xs i 0)
-read_or [] i = refl
-read_or (x ∷ xs) zero = refl
-read_or (x ∷ xs) (suc i) = read_or xs i
-
-drop_all : (xs : List ℕ) (n : ℕ) → length xs ≤ n → drop n xs ≡ []
-drop_all [] zero h = refl
-drop_all [] (suc n) h = refl
-drop_all (x ∷ xs) zero h = absurd (omega arith)
-drop_all (x ∷ xs) (suc n) h = drop_all xs n (omega arith)
 
 until_some : (items : List Item) (event : PlainEvent) (more : List Item)
     → IsOwed (until_fault (items ++ Ok event ∷ more))
@@ -87,7 +72,8 @@ module _ (bytes tags contents : List ℕ) (bounds : Bounds) (f : Frame) (fs : Li
     (
       child_flat (λ c. unfolding_of table (length table - suc (length fs)) (f.object ∷ path_of fs)
           (place_at (slice_get table f.object)) c) children (Ok EndCollection ∷ owed_by table fs)
-          f.next (get_or children f.next 0) (rw k.counts.0 h) (read_or children f.next),
+          f.next (get_or children f.next 0) (rw k.counts.0 h)
+          (get_or_default children f.next 0 _ (rw k.counts.0 h)),
       rw k.counts.0 h,
       until_some (flat_map (λ c. unfolding_of table (length table - suc (length fs))
           (f.object ∷ path_of fs) (place_at (slice_get table f.object)) c) (drop f.next children))
@@ -109,7 +95,7 @@ module _ (bytes tags contents : List ℕ) (bounds : Bounds) (f : Frame) (fs : Li
       → (owed_by table (f ∷ fs) ≡ Ok EndCollection ∷ owed_by table fs)
       × IsKnown bytes bounds new contents fs
   closed_owed new h m = (
-    rw (drop_all children f.next (rw k.counts.0 h)) refl,
+    rw (drop_all f.next children (rw k.counts.0 h)) refl,
     record {
       head = k.head;
       within = k.within;

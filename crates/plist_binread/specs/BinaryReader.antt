@@ -5,7 +5,7 @@ use Rattle.plist_base.specs.declared.event.Event.{Event}
 use Rattle.plist_base.specs.declared.event.Event.TheVariants.{EndCollection}
 use Rattle.plist_base.specs.declared.source.Source.{Ghosts}
 use Rattle.plist_base.specs.Faults.{MatchFault, kind_of, error_kind_of, fault_of}
-use Rattle.plist_base.specs.Events.{Item, event_of}
+use Rattle.plist_base.specs.Events.{PlainEvent, Item, event_of}
 use Rattle.plist_base.specs.Sources.{ItemCountsIo}
 use Rattle.plist_binread.specs.Container.{head_of}
 use Rattle.std.specs.Option.{is_some}
@@ -21,125 +21,129 @@ use Rattle.plist_binread.specs.declared.counter.DecodeCounter.{Ghosts as Counter
 use Rattle.plist_binread.specs.Debt.{IsOpen, still_owed, cached_count, places_of, AreBoundsOf, IsOwed, WantsMemory, steps_left}
 use Rattle.plist_binread.specs.Turning.{number_owed, IsKept, is_fresh, is_walking, ends_next}
 
--- the source inside
-abbrev pub source_of : {R C : Type 0} {g : Ghosts R} {h : CounterGhosts C} → BinaryReader R C g h
-    → R
-source_of reader = reader.source
-
--- the items of the file that are still to come, were there no limits
-abbrev pub walk_to_come : {R C : Type 0} {g : Ghosts R} {h : CounterGhosts C} → List ℕ
-    → BinaryReader R C g h → List Item
-walk_to_come bytes reader = still_owed bytes reader.state reader.bounds reader.walk.frames
-
--- the items still to come, where these are the file's bytes
-abbrev pub to_come : {R C : Type 0} {g : Ghosts R} {h : CounterGhosts C} → List ℕ
-    → BinaryReader R C g h → List Item
-to_come bytes reader = under_any reader.limiter (walk_to_come bytes reader)
-
--- are there limits?
-abbrev pub is_limited : {R C : Type 0} {g : Ghosts R} {h : CounterGhosts C} → BinaryReader R C g h
-    → Bool
-is_limited reader = is_some reader.limiter
-
--- has no item been asked for?
-abbrev pub is_new : {R C : Type 0} {g : Ghosts R} {h : CounterGhosts C} → BinaryReader R C g h
-    → Bool
-is_new reader = is_fresh reader.state
-
--- the reader gives nothing more
-abbrev pub HasEnded : {R C : Type 0} {g : Ghosts R} {h : CounterGhosts C} → BinaryReader R C g h
-    → Type 0
-HasEnded reader = reader.state ≡ Ended
-
--- how many collections are open
-abbrev pub open_collections : {R C : Type 0} {g : Ghosts R} {h : CounterGhosts C}
-    → BinaryReader R C g h → ℕ
-open_collections reader = length reader.walk.frames
-
--- does the end of the innermost collection come next, none of whose children is left, were there no
--- limits?
-abbrev pub walk_closes : {R C : Type 0} {g : Ghosts R} {h : CounterGhosts C} → BinaryReader R C g h
-    → Bool
-walk_closes reader = ends_next reader.state reader.walk.frames
-
 -- may one more event come?
 abbrev pub has_room_in : Option Limiter → Bool
 has_room_in None = true
 has_room_in (Some limiter) = has_room limiter
 
--- does that end come next?
-abbrev pub end_comes : {R C : Type 0} {g : Ghosts R} {h : CounterGhosts C} → BinaryReader R C g h
-    → Bool
-end_comes reader = has_room_in reader.limiter && walk_closes reader
-
 -- how many objects the head of these bytes tells
 abbrev pub told_objects : List ℕ → ℕ
 told_objects bytes = length (places_of bytes)
-
--- how many objects the file has, as far as that has been read
-abbrev pub object_count : {R C : Type 0} {g : Ghosts R} {h : CounterGhosts C} → BinaryReader R C g h
-    → ℕ
-object_count reader = length reader.walk.tags.items
-
--- the number of the object whose item comes next, or none where that is an end
-abbrev pub number_to_come : {R C : Type 0} {g : Ghosts R} {h : CounterGhosts C} → List ℕ
-    → BinaryReader R C g h → Option ℕ
-number_to_come bytes reader = number_owed bytes reader.state reader.bounds reader.walk.frames
-
--- a reader that has begun and not ended holds the head of these bytes
-abbrev pub HoldsHead : {R C : Type 0} {g : Ghosts R} {h : CounterGhosts C} → List ℕ
-    → BinaryReader R C g h → Type 0
-HoldsHead bytes reader =
-    is_walking reader.state ≡ true → AreBoundsOf (head_of bytes) reader.bounds
-    × (object_count reader ≡ told_objects bytes)
 
 -- What was to come begins with this item and goes on with what is to come then. Nothing comes only
 -- where nothing was to come. After a fault nothing is to come; a device's fault comes only where
 -- something was, and want of memory only there at the first call, and later only in the place of a
 -- start, a text or the fault of a text or of a limit.
-abbrev pub GivesItem : (new : Bool) (before : List Item) → Option (Result Event Error)
-    → (after : List Item) → Type 0
-GivesItem new before item after =
+abbrev pub GivesAs : {A : Type 0} → (shown : A → PlainEvent) → (new : Bool) (before : List Item)
+    → Option (Result A Error) → (after : List Item) → Type 0
+GivesAs shown new before item after =
     MatchOption item ((before ≡ []) × (after ≡ [])) (λ answer. MatchResult answer
-    (λ event. before ≡ Ok (event_of event) ∷ after)
+    (λ event. before ≡ Ok (shown event) ∷ after)
     (λ error. (after ≡ []) × MatchFault (kind_of (error_kind_of error)) (IsOwed before)
     (MatchBool new (IsOwed before) (WantsMemory before)) (before ≡ Err (fault_of error) ∷ [])))
 
--- after a fault, and where nothing comes, the reader has ended
-abbrev pub EndsAfter : {R C : Type 0} {g : Ghosts R} {h : CounterGhosts C}
-    → Option (Result Event Error) → BinaryReader R C g h → Type 0
-EndsAfter item after = MatchOption item (HasEnded after) (λ answer. OnErr answer (HasEnded after))
-
--- the counter inside
-abbrev pub counter_of : {R C : Type 0} {g : Ghosts R} {h : CounterGhosts C} → BinaryReader R C g h
-    → C
-counter_of reader = reader.counter
-
--- how many objects are cached
-abbrev pub cached_objects : {R C : Type 0} {g : Ghosts R} {h : CounterGhosts C}
-    → BinaryReader R C g h → ℕ
-cached_objects reader = cached_count reader.walk.tags.items
-
--- the marks stand exactly on the objects that are open, none of which is cached
-abbrev pub MarksItsPath : {R C : Type 0} {g : Ghosts R} {h : CounterGhosts C} → BinaryReader R C g h
-    → Type 0
-MarksItsPath reader = IsOpen reader.walk.tags.items (reverse reader.walk.frames)
-
--- the object of this number is cached in a reader that gave this item, if that is small
-abbrev pub CachesItem : {R C : Type 0} {g : Ghosts R} {h : CounterGhosts C} → Option ℕ
-    → Option (Result Event Error) → BinaryReader R C g h → Type 0
-CachesItem number item reader = IsKept number item reader.walk.tags.items
+abbrev pub GivesItem : (new : Bool) (before : List Item) → Option (Result Event Error)
+    → (after : List Item) → Type 0
+GivesItem new before item after = GivesAs event_of new before item after
 
 -- none of the reader's lists is longer than there are objects
 abbrev pub AreWithin : (count : ℕ) → (tags contents : List ℕ) → List Frame → Type 0
 AreWithin count tags contents frames =
     (length tags ≤ count) × (length contents ≤ count) × (length frames ≤ count)
 
--- the same of a reader
-abbrev pub KeepsWithin : {R C : Type 0} {g : Ghosts R} {h : CounterGhosts C} → (count : ℕ)
-    → BinaryReader R C g h → Type 0
-KeepsWithin count reader =
-    AreWithin count reader.walk.tags.items reader.walk.contents.items reader.walk.frames
+-- a file's items under these limits, and what a limiter makes of them
+abbrev pub limited_file : Limits → List ℕ → List Item
+limited_file limits bytes = limited_items limits (items_of_file bytes)
+
+abbrev pub file_under : Option Limiter → List ℕ → List Item
+file_under limiter bytes = under_any limiter (items_of_file bytes)
+
+module _ {R C : Type 0} {g : Ghosts R} {h : CounterGhosts C} where
+  -- the source inside
+  abbrev pub source_of : BinaryReader R C g h → R
+  source_of reader = reader.source
+
+  -- the items of the file that are still to come, were there no limits
+  abbrev pub walk_to_come : List ℕ → BinaryReader R C g h → List Item
+  walk_to_come bytes reader = still_owed bytes reader.state reader.bounds reader.walk.frames
+
+  -- the items still to come, where these are the file's bytes
+  abbrev pub to_come : List ℕ → BinaryReader R C g h → List Item
+  to_come bytes reader = under_any reader.limiter (walk_to_come bytes reader)
+
+  -- are there limits?
+  abbrev pub is_limited : BinaryReader R C g h → Bool
+  is_limited reader = is_some reader.limiter
+
+  -- has no item been asked for?
+  abbrev pub is_new : BinaryReader R C g h → Bool
+  is_new reader = is_fresh reader.state
+
+  -- the reader gives nothing more
+  abbrev pub HasEnded : BinaryReader R C g h → Type 0
+  HasEnded reader = reader.state ≡ Ended
+
+  -- how many collections are open
+  abbrev pub open_collections : BinaryReader R C g h → ℕ
+  open_collections reader = length reader.walk.frames
+
+  -- does the end of the innermost collection come next, none of whose children is left, were there
+  -- no limits?
+  abbrev pub walk_closes : BinaryReader R C g h → Bool
+  walk_closes reader = ends_next reader.state reader.walk.frames
+
+  -- does that end come next?
+  abbrev pub end_comes : BinaryReader R C g h → Bool
+  end_comes reader = has_room_in reader.limiter && walk_closes reader
+
+  -- how many objects the file has, as far as that has been read
+  abbrev pub object_count : BinaryReader R C g h → ℕ
+  object_count reader = length reader.walk.tags.items
+
+  -- the number of the object whose item comes next, or none where that is an end
+  abbrev pub number_to_come : List ℕ → BinaryReader R C g h → Option ℕ
+  number_to_come bytes reader = number_owed bytes reader.state reader.bounds reader.walk.frames
+
+  -- a reader that has begun and not ended holds the head of these bytes
+  abbrev pub HoldsHead : List ℕ → BinaryReader R C g h → Type 0
+  HoldsHead bytes reader =
+      is_walking reader.state ≡ true → AreBoundsOf (head_of bytes) reader.bounds
+      × (object_count reader ≡ told_objects bytes)
+
+  -- after a fault, and where nothing comes, the reader has ended
+  abbrev pub EndsAfter : {A : Type 0} → Option (Result A Error) → BinaryReader R C g h → Type 0
+  EndsAfter item after = MatchOption item (HasEnded after) (λ answer. OnErr answer (HasEnded after))
+
+  -- the counter inside
+  abbrev pub counter_of : BinaryReader R C g h → C
+  counter_of reader = reader.counter
+
+  -- how many objects are cached
+  abbrev pub cached_objects : BinaryReader R C g h → ℕ
+  cached_objects reader = cached_count reader.walk.tags.items
+
+  -- the marks stand exactly on the objects that are open, none of which is cached
+  abbrev pub MarksItsPath : BinaryReader R C g h → Type 0
+  MarksItsPath reader = IsOpen reader.walk.tags.items (reverse reader.walk.frames)
+
+  -- the object of this number is cached in a reader that gave this item, if that is small
+  abbrev pub CachesItem : Option ℕ → Option (Result Event Error) → BinaryReader R C g h → Type 0
+  CachesItem number item reader = IsKept number item reader.walk.tags.items
+
+  -- the same of a reader
+  abbrev pub KeepsWithin : (count : ℕ) → BinaryReader R C g h → Type 0
+  KeepsWithin count reader =
+      AreWithin count reader.walk.tags.items reader.walk.contents.items reader.walk.frames
+
+  -- at most how many items are still to come
+  abbrev pub steps_to_come : BinaryReader R C g h → ℕ
+  steps_to_come reader =
+      steps_left reader.state (length reader.walk.tags.items) reader.walk.frames
+
+  -- where the bytes are known, all their items are still to come
+  abbrev pub HasToCome : (known : Option (List ℕ)) → (items : List ℕ → List Item)
+      → BinaryReader R C g h → Type 0
+  HasToCome known items reader = IfSome known (λ bytes. to_come bytes reader ≡ items bytes)
 
 -- one call of `next`: known bytes stay as they are, and the item is the first of those to come
 pub record Gives {R C : Type 0} {g : Ghosts R} {h : CounterGhosts C} (known : R → Option (List ℕ))
@@ -162,21 +166,3 @@ pub record Gives {R C : Type 0} {g : Ghosts R} {h : CounterGhosts C} (known : R 
   pub marked : MarksItsPath new
   pub counted : counts → count (counter_of new) ≡ cached_objects new
   pub lists : IfSome (known (source_of old)) (λ bytes. KeepsWithin (told_objects bytes) new)
-
--- at most how many items are still to come
-abbrev pub steps_to_come : {R C : Type 0} {g : Ghosts R} {h : CounterGhosts C}
-    → BinaryReader R C g h → ℕ
-steps_to_come reader =
-    steps_left reader.state (length reader.walk.tags.items) reader.walk.frames
-
--- where the bytes are known, all their items are still to come
-abbrev pub HasToCome : {R C : Type 0} {g : Ghosts R} {h : CounterGhosts C}
-    → (known : Option (List ℕ)) → (items : List ℕ → List Item) → BinaryReader R C g h → Type 0
-HasToCome known items reader = IfSome known (λ bytes. to_come bytes reader ≡ items bytes)
-
--- a file's items under these limits, and what a limiter makes of them
-abbrev pub limited_file : Limits → List ℕ → List Item
-limited_file limits bytes = limited_items limits (items_of_file bytes)
-
-abbrev pub file_under : Option Limiter → List ℕ → List Item
-file_under limiter bytes = under_any limiter (items_of_file bytes)

@@ -1,8 +1,7 @@
 -- What one call of a reader's `advance` does, and the event that it tells.
-use Rattle.std.specs.Prelude.{◌≡◌, ℕ, ◌^◌, ◌<◌, ◌≤◌, Bool, true, false, List, [], ◌∷◌, Option, None, Some, Result, Ok, Err, MatchBool, MatchOption, MatchResult, OnErr, IfSome}
+use Rattle.std.specs.Prelude.{◌≡◌, ℕ, ◌^◌, ◌<◌, ◌≤◌, Bool, true, false, List, Option, None, Some, Result, Ok, MatchOption, IfSome}
 use Rattle.plist_base.specs.declared.error.Error.{Error}
 use Rattle.plist_base.specs.declared.source.Source.{Ghosts}
-use Rattle.plist_base.specs.Faults.{MatchFault, kind_of, error_kind_of, fault_of}
 use Rattle.plist_base.specs.Events.{PlainEvent, Item}
 use Rattle.plist_base.specs.Sources.{ItemCountsIo}
 use Rattle.plist_binread.specs.Failures.{ItemGivenWithin}
@@ -12,42 +11,29 @@ use Rattle.plist_binread.specs.Lent.{IsToldEnd}
 use Rattle.plist_binread.specs.Told.{event_in, event_with}
 use Rattle.plist_binread.specs.declared.told.Told.{Told}
 use Rattle.std.specs.String.{string_bytes}
-use Rattle.plist_binread.specs.Debt.{IsOwed, WantsMemory}
 use Rattle.plist_binread.specs.Turning.{IsKeptTold}
-use Rattle.plist_binread.specs.BinaryReader.{HasEnded, HoldsHead, KeepsWithin, MarksItsPath, cached_objects, counter_of, end_comes, is_limited, is_new, number_to_come, object_count, open_collections, source_of, steps_to_come, to_come, told_objects, walk_closes, walk_to_come}
+use Rattle.plist_binread.specs.BinaryReader.{EndsAfter, GivesAs, HasEnded, HoldsHead, KeepsWithin, MarksItsPath, cached_objects, counter_of, end_comes, is_limited, is_new, number_to_come, object_count, open_collections, source_of, steps_to_come, to_come, told_objects, walk_closes, walk_to_come}
 
--- the event that was told last
-abbrev pub event_told : {R C : Type 0} {g : Ghosts R} {h : CounterGhosts C} → BinaryReader R C g h
-    → PlainEvent
-event_told reader = event_in reader.last
+module _ {R C : Type 0} {g : Ghosts R} {h : CounterGhosts C} where
+  -- the event that was told last
+  abbrev pub event_told : BinaryReader R C g h → PlainEvent
+  event_told reader = event_in reader.last
 
--- the text, and the data, that were told last
-abbrev pub text_told : {R C : Type 0} {g : Ghosts R} {h : CounterGhosts C} → BinaryReader R C g h
-    → List ℕ
-text_told reader = string_bytes reader.last.text
+  -- the text, and the data, that were told last
+  abbrev pub text_told : BinaryReader R C g h → List ℕ
+  text_told reader = string_bytes reader.last.text
 
-abbrev pub data_told : {R C : Type 0} {g : Ghosts R} {h : CounterGhosts C} → BinaryReader R C g h
-    → List ℕ
-data_told reader = reader.last.data.items
+  abbrev pub data_told : BinaryReader R C g h → List ℕ
+  data_told reader = reader.last.data.items
 
--- the event that its smallest form tells
-abbrev pub event_as : {R C : Type 0} {g : Ghosts R} {h : CounterGhosts C} → BinaryReader R C g h
-    → Told → PlainEvent
-event_as reader told = event_with reader.last told
+  -- the event that its smallest form tells
+  abbrev pub event_as : BinaryReader R C g h → Told → PlainEvent
+  event_as reader told = event_with reader.last told
 
 -- as `GivesItem`, where the item is told: the event is `told`
 abbrev pub TellsItem : {A : Type 0} → (new : Bool) (before : List Item) → Option (Result A Error)
     → (told : PlainEvent) → (after : List Item) → Type 0
-TellsItem new before item told after =
-    MatchOption item ((before ≡ []) × (after ≡ [])) (λ answer. MatchResult answer
-    (λ _. before ≡ Ok told ∷ after)
-    (λ error. (after ≡ []) × MatchFault (kind_of (error_kind_of error)) (IsOwed before)
-    (MatchBool new (IsOwed before) (WantsMemory before)) (before ≡ Err (fault_of error) ∷ [])))
-
--- as `EndsAfter`, where the item is told
-abbrev pub EndsTold : {A R C : Type 0} {g : Ghosts R} {h : CounterGhosts C}
-    → Option (Result A Error) → BinaryReader R C g h → Type 0
-EndsTold item after = MatchOption item (HasEnded after) (λ answer. OnErr answer (HasEnded after))
+TellsItem new before item told after = GivesAs (λ _. told) new before item after
 
 -- as `CachesItem`, where the item is told
 abbrev pub CachesTold : {A R C : Type 0} {g : Ghosts R} {h : CounterGhosts C} → Option ℕ
@@ -66,7 +52,7 @@ pub record TellsBy {A R C : Type 0} {g : Ghosts R} {h : CounterGhosts C}
       (λ bytes. TellsItem (is_new old) (coming bytes old) item (event_told new) (coming bytes new))
   pub failures : ItemCountsIo item (failed (source_of old)) (failed (source_of new))
   pub ended : HasEnded old → item ≡ None
-  pub ends : EndsTold item new
+  pub ends : EndsAfter item new
   pub begun : is_new new ≡ false
   pub faults : ItemGivenWithin 0 (2 ^ 64) (limited old) item
   pub closes : closing old ≡ true → IsToldEnd item (event_told new)
@@ -80,34 +66,23 @@ pub record TellsBy {A R C : Type 0} {g : Ghosts R} {h : CounterGhosts C}
   pub lists : IfSome (known (source_of old)) (λ bytes. KeepsWithin (told_objects bytes) new)
   pub falls : IfSome item (λ _. steps_to_come new < steps_to_come old)
 
-abbrev pub Tells : {A R C : Type 0} {g : Ghosts R} {h : CounterGhosts C}
-    (known : R → Option (List ℕ)) (failed : R → ℕ) (counts : Type 0) (count : C → ℕ)
-    (old : BinaryReader R C g h) (item : Option (Result A Error)) (new : BinaryReader R C g h)
-    → Type 0
-Tells known failed counts count old item new =
-    TellsBy to_come end_comes is_limited known failed counts count old item new
+module _ {R C : Type 0} {g : Ghosts R} {h : CounterGhosts C} (known : R → Option (List ℕ))
+    (failed : R → ℕ) (counts : Type 0) (count : C → ℕ) (old : BinaryReader R C g h) where
+  abbrev pub Tells : {A : Type 0} → Option (Result A Error) → (new : BinaryReader R C g h) → Type 0
+  Tells item new = TellsBy to_come end_comes is_limited known failed counts count old item new
 
--- the same of the walk that knows no limits
-abbrev pub Walks : {A R C : Type 0} {g : Ghosts R} {h : CounterGhosts C}
-    (known : R → Option (List ℕ)) (failed : R → ℕ) (counts : Type 0) (count : C → ℕ)
-    (old : BinaryReader R C g h) (item : Option (Result A Error)) (new : BinaryReader R C g h)
-    → Type 0
-Walks known failed counts count old item new =
-    TellsBy walk_to_come walk_closes (λ _. false) known failed counts count old item new
+  -- the same of the walk that knows no limits
+  abbrev pub Walks : {A : Type 0} → Option (Result A Error) → (new : BinaryReader R C g h) → Type 0
+  Walks item new =
+      TellsBy walk_to_come walk_closes (λ _. false) known failed counts count old item new
 
--- one call of `advance` that tells an event
-abbrev pub TellsOne : {R C : Type 0} {g : Ghosts R} {h : CounterGhosts C}
-    (known : R → Option (List ℕ)) (failed : R → ℕ) (counts : Type 0) (count : C → ℕ)
-    (old new : BinaryReader R C g h) → Type 0
-TellsOne known failed counts count old new =
-    Tells {A = Unit {0}} known failed counts count old (Some (Ok (tt {0}))) new
+  -- one call of `advance` that tells an event
+  abbrev pub TellsOne : (new : BinaryReader R C g h) → Type 0
+  TellsOne new = Tells {A = Unit {0}} (Some (Ok (tt {0}))) new
 
--- the same of a step that may not have been done
-abbrev pub TellsIf : {R C : Type 0} {g : Ghosts R} {h : CounterGhosts C}
-    (known : R → Option (List ℕ)) (failed : R → ℕ) (counts : Type 0) (count : C → ℕ)
-    (old : BinaryReader R C g h) (done : Bool) (new : BinaryReader R C g h) → Type 0
-TellsIf known failed counts count old done new =
-    done ≡ true → TellsOne known failed counts count old new
+  -- the same of a step that may not have been done
+  abbrev pub TellsIf : (done : Bool) → (new : BinaryReader R C g h) → Type 0
+  TellsIf done new = done ≡ true → TellsOne new
 
 -- all that is said of what is to come stays as it was
 pub record Stays {R C : Type 0} {g : Ghosts R} {h : CounterGhosts C}

@@ -1,10 +1,13 @@
 -- How the worked examples write a file down.
-use Rattle.std.specs.Prelude.{⊤, ℕ, ◌+◌, ◌-◌, ◌*◌, not, filter, List, [], ◌∷◌, ◌++◌, ◌==◌, nat_lt, if◌then◌else◌, codes}
+use Rattle.std.specs.Prelude.{⊤, ℕ, ◌≡◌, map, Some, Ok, Err, ◌+◌, ◌-◌, ◌*◌, not, filter, List, [], ◌∷◌, ◌++◌, ◌==◌, nat_lt, if◌then◌else◌, codes}
 use Prim.Native.String.{String}
 use Rattle.std.specs.Int.{bytes_high_first}
 use Rattle.std.specs.Str.{is_utf8, chars}
 use Rattle.std.specs.Char.Utf16.{utf16_chars}
 use lib.Utf8.{encode}
+use Rattle.plist_base.specs.Events.{Item, StartArray, StartDictionary, EndCollection, Single}
+use Rattle.plist_base.specs.Faults.{FaultKind, fault_at}
+use Rattle.plist_base.specs.Trees.{Scalar}
 use Rattle.plist_base.specs.Date.{real_exponent, real_mantissa, real_scale, parts_in_second, parts_of, whole_seconds, parts_left, real_second, second_of_bits}
 use Rattle.plist_binread.specs.Container.{Trailer, magic, head_of}
 use Rattle.plist_binread.specs.Object.{object_in}
@@ -44,6 +47,33 @@ bytes_of_trailer t =
 -- a file: the magic, then the objects and the table, in hexadecimal, then the trailer
 abbrev pub file : (objects : String) → Trailer → List ℕ
 file objects t = magic ++ hex objects ++ bytes_of_trailer t
+
+-- a file with one object: the table, then the object, whose place is 9
+abbrev pub one_object : String → List ℕ
+one_object object = magic ++ 9 ∷ hex object ++ bytes_of_trailer (trailer 1 1 1 0 8)
+
+-- ---- the items of a file
+
+-- the fault that ends them
+abbrev pub refused : FaultKind → (place : ℕ) → List Item
+refused kind place = Err (fault_at kind place) ∷ []
+
+abbrev pub scalar : Scalar → Item
+scalar value = Ok (Single value)
+
+abbrev pub array : (items : ℕ) → Item
+array items = Ok (StartArray (Some items))
+
+abbrev pub dictionary : (pairs : ℕ) → Item
+dictionary pairs = Ok (StartDictionary (Some pairs))
+
+abbrev pub close : Item
+close = Ok EndCollection
+
+-- each of these files unfolds to the items beside it
+abbrev pub AreWorked : List (List ℕ × List Item) → Type 0
+AreWorked examples =
+    map (λ example. items_of_file example.0) examples ≡ map (λ example. example.1) examples
 
 -- what a worked example unfolds, to compute the items of a file
 unfoldable pub worked_files : ⊤

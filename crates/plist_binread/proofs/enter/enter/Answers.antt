@@ -1,4 +1,4 @@
-use Rattle.std.proofs.Common.{arith, sym, length, ◌-◌, reverse, IfSome}
+use Rattle.std.proofs.Common.{arith, sym, length, ◌-◌, IfSome}
 use Rattle.std.proofs.lemmas.List.{length-reverse}
 use Rattle.std.proofs.lemmas.Result.{err_from_is_err_and}
 use Rattle.plist_binread.proofs.Entering.{LentAt, from_any, known_decoded, known_gains, known_recalled, known_small}
@@ -21,8 +21,7 @@ pub returns-in-None-clause-pays : goal.returns-in-None-clause-pays
 returns-in-None-clause-pays g c =
     let found = rw (c.in-None.is, c.as_slice.ensures.value, c.as_slice-2.ensures.value) at
     c.in_ok-found.ensures.found in
-    from_any _ _ c.args.at (known_recalled _ c.args.bounds.now c.args.walk.now.tags.items
-    c.args.walk.now.contents.items (reverse c.args.walk.now.frames) _ c.args.number _
+    from_any _ _ c.args.at (known_recalled _ _ _ _ _ _ c.args.number _
     (sym (length-reverse c.args.walk.now.frames)) c.args.walk.now.path c.requires.known
     (rw c.as_slice.ensures.value at c.in_ok-found.ensures.below)
     (rw c.as_slice.ensures.value at c.in_ok-found.ensures.new) found.0 found.1)
@@ -31,8 +30,7 @@ pub returns-in_err-lent-in-Some-clause-pays : goal.returns-in_err-lent-in-Some-c
 returns-in_err-lent-in-Some-clause-pays g c =
     let p = err_from_is_err_and c.from_residual-in_err-lent-in-Some.result
     c.from_residual-in_err-lent-in-Some.ensures.1 in
-    rw (p.1, p.2) (known_refused _ c.args.bounds.now c.args.walk.now.tags.items
-    c.args.walk.now.contents.items (reverse c.args.walk.now.frames) _ c.args.at c.args.number
+    rw (p.1, p.2) (known_refused _ _ _ _ _ _ c.args.at c.args.number
     c.in-Some.place _ (sym (length-reverse c.args.walk.now.frames)) c.args.walk.now.path
     c.requires.known (rw c.as_slice.ensures.value at c.in_ok-found.ensures.below)
     (rw c.as_slice.ensures.value at c.in_ok-found.ensures.new)
@@ -44,24 +42,21 @@ there : (g : _) (c : After-open_lent g)
     → IfSome (g.S.Source.known c.args.source.now) (λ bytes. LentAt bytes c.args.bounds.now
     c.args.number (event_in c.decode.new.last) c.in_ok-lent-in-Some.lent)
 there g c =
-    known_decoded _ c.args.bounds.now c.args.walk.now.tags.items c.args.walk.now.contents.items
-    (reverse c.args.walk.now.frames) c.args.number c.in-Some.place _ _ c.requires.known
+    known_decoded _ _ _ _ _ c.args.number c.in-Some.place _ _ c.requires.known
     (rw c.as_slice.ensures.value at c.in_ok-found.ensures.below)
     (rw (c.in-Some.is, c.as_slice.ensures.value, c.as_slice-2.ensures.value) at
     c.in_ok-found.ensures.found) c.in_ok-lent-in-Some.ensures.decoded
 
 pub returns-then-open_lent-clause-known : goal.returns-then-open_lent-clause-known
 returns-then-open_lent-clause-known g c =
-    second _ _ _ (known_gains _ c.args.bounds.now c.args.walk.now.tags.items
-    c.args.walk.now.contents.items (reverse c.args.walk.now.frames) c.args.number _ _ _ _
+    second _ _ _ (known_gains _ _ _ _ _ c.args.number _ _ _ _
     c.requires.known (there g (goal.at.returns-then-open_lent-clause-known g c).After-open_lent)
     (c.open_lent.ensures.pays c.if-open_lent.true))
 
 pub returns-then-open_lent-clause-pays : goal.returns-then-open_lent-clause-pays
 returns-then-open_lent-clause-pays g c =
-    from_any _ _ c.args.at (first _ _ _ (known_gains _ c.args.bounds.now
-    c.args.walk.now.tags.items c.args.walk.now.contents.items
-    (reverse c.args.walk.now.frames) c.args.number _ _ _ _ c.requires.known
+    from_any _ _ c.args.at (first _ _ _ (known_gains _ _ _ _ _ c.args.number _ _ _ _
+    c.requires.known
     (there g (goal.at.returns-then-open_lent-clause-pays g c).After-open_lent)
     (c.open_lent.ensures.pays c.if-open_lent.true)))
 
@@ -73,8 +68,7 @@ returns-then-open_lent-clause-kept g c =
 
 pub returns-else-open_lent-clause-pays : goal.returns-else-open_lent-clause-pays
 returns-else-open_lent-clause-pays g c =
-    known_refused _ c.args.bounds.now c.args.walk.now.tags.items
-    c.args.walk.now.contents.items (reverse c.args.walk.now.frames) _ c.args.at c.args.number
+    known_refused _ _ _ _ _ _ c.args.at c.args.number
     c.in-Some.place _ (sym (length-reverse c.args.walk.now.frames)) c.args.walk.now.path
     c.requires.known (rw c.as_slice.ensures.value at c.in_ok-found.ensures.below)
     (rw c.as_slice.ensures.value at c.in_ok-found.ensures.new)

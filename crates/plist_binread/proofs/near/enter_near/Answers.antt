@@ -1,4 +1,4 @@
-use Rattle.std.proofs.Common.{◌≡◌, ℕ, ◌-◌, ◌%◌, ◌<◌, arith, sym, refl, List, get_or, length, reverse, IfSome}
+use Rattle.std.proofs.Common.{◌≡◌, ℕ, ◌-◌, ◌%◌, ◌<◌, arith, sym, refl, List, get_or, length, IfSome}
 use Rattle.std.proofs.lemmas.List.{length-reverse, get_or_read_under}
 use Rattle.plist_binread.specs.Told.{event_in}
 use Rattle.plist_binread.proofs.Entering.{LentAt, known_recalled, known_lent, known_gains, known_small}
@@ -31,8 +31,7 @@ returns-then-held-ne0-clause-pays g c = λ yes.
     let free = leb_short 128 c.index-held.result.now (omega (arith, c.if-held-ge128.false)) in
     let some : 0 < c.index-held.result.now % 128 = omega
     (arith, c.if-held-ge128.false, c.if-held-ne0.true) in
-    known_recalled _ c.args.bounds.now c.args.walk.now.tags.items c.args.walk.now.contents.items
-    (reverse c.args.walk.now.frames) _ c.args.number _
+    known_recalled _ _ _ _ _ _ c.args.number _
     (sym (length-reverse c.args.walk.now.frames)) c.args.walk.now.path c.requires.known k.0
     (rw k.1 at free) (rw k.1 at some) (rw (k.1, k.2) at (c.recall.ensures.told yes))
 
@@ -51,24 +50,21 @@ there : (g : _) (c : After-open_lent g) → Held c.args.walk.now.tags.items
     c.args.number (event_in c.decode_lent-lent.new.last) c.decode_lent-lent.result)
 there g c k =
     let none : c.index-held.result.now % 128 ≡ 0 = omega (arith, c.if-held-ne0.false) in
-    known_lent _ c.args.bounds.now c.args.walk.now.tags.items c.args.walk.now.contents.items
-    (reverse c.args.walk.now.frames) c.args.number c.index-content.result.now
+    known_lent _ _ _ _ _ c.args.number c.index-content.result.now
     c.lent_before-seen.result.now _ _ c.requires.known k.0 (rw k.1 at none, k.2)
     c.lent_before-seen.ensures.bytes c.decode_lent-lent.ensures.lent
 
 pub returns-clause-known : goal.returns-clause-known
 returns-clause-known g c = λ yes.
     let t = goal.at.returns-clause-known g c in
-    second _ _ _ (known_gains _ c.args.bounds.now c.args.walk.now.tags.items
-    c.args.walk.now.contents.items (reverse c.args.walk.now.frames) c.args.number _ _ _ _
+    second _ _ _ (known_gains _ _ _ _ _ c.args.number _ _ _ _
     c.requires.known (there g t.After-open_lent (held g t.After-index-content))
     (c.open_lent.ensures.pays yes))
 
 pub returns-clause-pays : goal.returns-clause-pays
 returns-clause-pays g c = λ yes.
     let t = goal.at.returns-clause-pays g c in
-    first _ _ _ (known_gains _ c.args.bounds.now c.args.walk.now.tags.items
-    c.args.walk.now.contents.items (reverse c.args.walk.now.frames) c.args.number _ _ _ _
+    first _ _ _ (known_gains _ _ _ _ _ c.args.number _ _ _ _
     c.requires.known (there g t.After-open_lent (held g t.After-index-content))
     (c.open_lent.ensures.pays yes))
 

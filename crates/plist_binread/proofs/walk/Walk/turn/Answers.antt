@@ -1,6 +1,6 @@
 use Rattle.std.proofs.Common.{false, refl, sym, ◌∙◌}
 use Rattle.plist_binread.specs.Frames.{frame_of}
-use Rattle.plist_binread.proofs.Turned.{child_path, child_owed, closed_owed, child_weight, closed_weight, closes-none, closes-child, taken_back}
+use Rattle.plist_binread.proofs.Turned.{next_path, child_owed, closed_owed, child_weight, closed_weight, closes-none, closes-child, taken_back}
 use Rattle.plist_binread.proofs.Opened.{IsOpen-pop, first_below, first_uncached, cached_count-mark}
 use Rattle.plist_binread.proofs.walk.Walk.turn.Goals as goal
 
@@ -50,8 +50,8 @@ invariant_of-self-in-Child-1 c =
     let is = c.in-Child.ensures in
     record {
       same = c.args.self.now.same;
-      path = rw is.3 (child_path c.args.self.now.tags.items
-          (frame_of c.in-Child.object c.in-Child.index is.0) is.1
+      path = rw is.3 (next_path c.args.self.now.tags.items
+          (frame_of c.in-Child.object c.in-Child.index is.0) _ is.1
           (rw is.2 at c.args.self.now.path));
     }
 

@@ -1,0 +1,14 @@
+-- Facts over bytes that may be unknown.
+use Rattle.std.proofs.Common.{Option, None, Some, IfSome}
+
+-- what holds of any bytes
+pub IfSome-all : {X : Type 0} (known : Option X) {P : X → Type 0} → ((bytes : X) → P bytes)
+    → IfSome known P
+IfSome-all None f = tt
+IfSome-all (Some bytes) f = f bytes
+
+-- what follows from two facts
+pub IfSome-both : {X : Type 0} (known : Option X) {P Q S : X → Type 0} → IfSome known P
+    → IfSome known Q → ((bytes : X) → P bytes → Q bytes → S bytes) → IfSome known S
+IfSome-both None p q f = tt
+IfSome-both (Some bytes) p q f = f bytes p q
