@@ -7,7 +7,6 @@ use Rattle.std.proofs.lemmas.List.{map_push}
 use Rattle.plist.specs.LastWins.{Rows, with_pair, last_values, last_wins, last_wins_in_items, last_wins_in_pairs}
 use Rattle.plist.specs.Building.{OpenCollection, InArray, InDictionary, AfterKey, Unfinished, NotBegun, Within, Complete, last_wins_in_rows, last_wins_within, last_wins_so_far}
 use Rattle.plist.specs.inner.Steps.{and_pair, and_tree, begun, in_array, in_dictionary, carried_on}
-use Rattle.plist.proofs.Keeping.{Settled}
 
 -- ---- the last value of each key
 
@@ -17,11 +16,12 @@ rows-snoc ps k t =
     ap last_values (map_push (λ p. (p.0, last_wins p.1)) ps (k, t))
     ∙ insert_all_push _ [] (map (λ p. (p.0, last_wins p.1)) ps) (k, last_wins t)
 
-items-last : (ts : List Tree) → last_wins_in_items (trees_of ts) ≡ map last_wins ts
+pub items-last : (ts : List Tree) → last_wins_in_items (trees_of ts) ≡ map last_wins ts
 items-last [] = refl
 items-last (t ∷ ts) = ap (λ l. last_wins t ∷ l) (items-last ts)
 
-pairs-last : (ps : Rows) → last_wins_in_pairs (members_of ps) ≡ map (λ p. (p.0, last_wins p.1)) ps
+pub pairs-last : (ps : Rows)
+    → last_wins_in_pairs (members_of ps) ≡ map (λ p. (p.0, last_wins p.1)) ps
 pairs-last [] = refl
 pairs-last (p ∷ ps) = ap (λ l. (p.0, last_wins p.1) ∷ l) (pairs-last ps)
 
@@ -71,8 +71,3 @@ carried-last (Within (InArray ts) outer) e = array-last ts _ e
 carried-last (Within (InDictionary ps) outer) e = dictionary-last ps _ e
 carried-last (Within (AfterKey ps k) outer) e = begun-last _ e
 carried-last (Complete t) e = refl
-
-pub map-fixed : (ps : Rows) → Settled ps → map (λ p. (p.0, last_wins p.1)) ps ≡ ps
-map-fixed [] d = refl
-map-fixed (p ∷ ps) d =
-    ap (λ t. (p.0, t) ∷ map (λ q. (q.0, last_wins q.1)) ps) d.0 ∙ ap (λ l. p ∷ l) (map-fixed ps d.1)

@@ -98,12 +98,6 @@ complete_last NotBegun t p = absurd (none-some t p)
 complete_last (Within c outer) t p = absurd (none-some t p)
 complete_last (Complete w) t p = (w, refl, sym (same_Some _ t p))
 
-built-tree : (ends : Type 0) (items : List Item) (built : Built) (t : Tree) → ends
-    → TookAll items built → complete_tree built.unfinished ≡ Some t → IsBuiltFrom ends items (Ok t)
-built-tree ends items built t end (events, is, fine, (held, ok, alike, last)) p =
-    let w = complete_last _ t (sym (ap complete_tree last) ∙ p) in
-    (events, w.0, is, end, sym alike ∙ ap (λ u. map unhinted (events_so_far u)) w.1, w.2)
-
 ended : (ends : Type 0) (items : List Item) (built : Built) (fault : Fault) (kind : FaultKind)
     → fault.kind ≡ kind → ends → TookAll items built → fault.offset ≡ None
     → IsUnfinishedFor kind built → IsBuiltFrom ends items (Err fault)
@@ -131,8 +125,9 @@ pub finished : (ends : Type 0) (items : List Item) (built : Built) (result : Res
     (λ value. complete_tree built.unfinished ≡ Some (tree_of value))
     → IfErr result (λ error. IsUnfinished built (fault_of error))
     → IsBuiltFrom ends items (built_tree result)
-finished ends items built (Ok value) end t ok err =
-    built-tree ends items built (tree_of value) end t ok
+finished ends items built (Ok value) end (events, is, fine, (held, nested, alike, last)) ok err =
+    let w = complete_last held _ (sym (ap complete_tree last) ∙ ok) in
+    (events, w.0, is, end, sym alike ∙ ap (λ u. map unhinted (events_so_far u)) w.1, w.2)
 finished ends items built (Err error) end t ok err =
     ended ends items built (fault_of error) (fault_of error).kind refl end t err.0 err.1
 

@@ -7,9 +7,10 @@ use Rattle.std.specs.Map.{lookup, keys_of, values_of}
 use Rattle.std.specs.Option.{option_eq, option_to_list}
 use Rattle.std.specs.Cmp.{both_ways}
 use Rattle.std.specs.Cmp.Lexicographic.{nat_list_eq_equiv}
-use Rattle.std.proofs.lemmas.Option.{none-some, same_Some, slice_get_within}
+use Rattle.std.proofs.lemmas.Option.{get_or_from_slice_get, none-some, same_Some, slice_get-get_or, slice_get_read, slice_get_within}
 use Rattle.std.proofs.lemmas.Bool.{and_parts}
 use Rattle.std.proofs.Math.Bool.{and-true, and-false}
+use Rattle.std.proofs.Math.Seq.{drop-cons}
 use Rattle.std.specs.Cmp.Derive.{both_true}
 use Rattle.std_collections.specs.HashMap.Eq.{get_from_hash_map_eq}
 use Rattle.std_collections.proofs.HashMapEq.{key_at, own_value, equal_by_keys}
@@ -103,17 +104,12 @@ pub less-to-compare : (before mid after : List Pair) (p : Pair) → before ≡ m
 less-to-compare before mid after p is some most =
     let e = ap to_compare is ∙ left-behind mid p in omega (arith, e, some, most)
 
-nothing-left : (l : List Pair) (o : Option Pair) (n : ℕ) → n ≡ length l → (IsSome o ↔ (0 < n))
-    → o ≡ None → l ≡ []
-nothing-left [] o n e h none = refl
-nothing-left (p ∷ l) o n e h none =
-    absurd (true≢false (sym (subst IsSome none (h.1 (omega (arith, e))))))
-
 -- the last pair is taken, or there is none
 pub taken : (was l m : List Pair) (o : Option Pair) (n : ℕ) → was ≡ l → n ≡ length l
     → (IsSome o ↔ (0 < n)) → l ≡ m ++ option_to_list o
     → MatchOption o (was ≡ []) (λ p. was ≡ m ++ p ∷ [])
-taken was l m None n is e h left = is ∙ nothing-left l None n e h refl
+taken was [] m None n is e h left = is
+taken was (p ∷ l) m None n is e h left = absurd (true≢false (sym (h.1 (omega (arith, e)))))
 taken was l m (Some p) n is e h left = is ∙ left
 
 -- nothing is put off
@@ -134,8 +130,7 @@ puts-off before after p ps true true was e is = (
   ap to_compare is ∙ left-behind ps p ∙ ap (λ l. weight p.value.now + to_compare l) was,
 )
 puts-off before after p ps false false was e is = is ∙ was
-puts-off before after p ps true false was e is = absurd (cc)
-puts-off before after p ps false true was e is = absurd (cc)
+puts-off before after p ps done ok was e is = absurd (cc)
 
 step-some : (layer : Value-F ℕ) → 1 ≤ weight_step layer
 step-some (Value-F.Array items) = omega arith
@@ -154,61 +149,57 @@ weight-some value =
 
 -- ---- arrays
 
-pub items-from : (vs ws : List Value) (i : ℕ) (v w : Value) → i < length vs → i < length ws
-    → v ≡ get_or vs i v → w ≡ get_or ws i w
-    → same_items (item_trees (drop i vs)) (item_trees (drop i ws))
-    ≡ same_values v w && same_items (item_trees (drop (suc i) vs)) (item_trees (drop (suc i) ws))
-items-from [] ws i v w p q a b = absurd (omega (arith, p))
-items-from (x ∷ vs) [] i v w p q a b = absurd (omega (arith, q))
-items-from (x ∷ vs) (y ∷ ws) zero v w p q a b =
-    λ j. same_values (sym a j) (sym b j) && same_items (item_trees vs) (item_trees ws)
-items-from (x ∷ vs) (y ∷ ws) (suc i) v w p q a b =
-    items-from vs ws i v w (omega (arith, p)) (omega (arith, q)) a b
+-- what is left of a list begins with the item at its place
+left-from : {X : Type 0} (xs : List X) (i : ℕ) (x : X) → slice_get xs i ≡ Some x
+    → drop i xs ≡ x ∷ drop (suc i) xs
+left-from xs i x e =
+    drop-cons xs i x (slice_get_within xs i x e)
+    ∙ ap (λ y. y ∷ drop (suc i) xs) (get_or_from_slice_get xs i x x e)
 
-pub weights-from : (vs : List Value) (i : ℕ) (v : Value) → i < length vs → v ≡ get_or vs i v
+weights-from : (vs : List Value) (i : ℕ) (v : Value) → slice_get vs i ≡ Some v
     → weights (drop i vs) ≡ weight v + weights (drop (suc i) vs)
-weights-from [] i v p a = absurd (omega (arith, p))
-weights-from (x ∷ vs) zero v p a = weights-more x vs ∙ ap (λ u. weight u + weights vs) (sym a)
-weights-from (x ∷ vs) (suc i) v p a = weights-from vs i v (omega (arith, p)) a
+weights-from vs i v e = ap weights (left-from vs i v e) ∙ weights-more v (drop (suc i) vs)
 
 -- an item of both arrays is compared
 module _ (vs ws : List Value) (i : ℕ) (v w : Value) (start before : Later) (answer : Bool)
     (after : Later) (p : i < length vs) (q : i < length ws) (a : v ≡ get_or vs i v)
     (b : w ≡ get_or ws i w) (so : ItemsLeft vs ws start i before)
     (compared : ComparesValues v w before answer after) where
+  first : slice_get vs i ≡ Some v
+  first = slice_get_read vs (length vs) i v refl p a
+
+  items-from : same_items (item_trees (drop i vs)) (item_trees (drop i ws))
+      ≡ same_values v w && same_items (item_trees (drop (suc i) vs)) (item_trees (drop (suc i) ws))
+  items-from = λ j. same_items (item_trees (left-from vs i v first j))
+      (item_trees (left-from ws i w (slice_get_read ws (length ws) i w refl q b) j))
+
   pub items-stop : answer ≡ false → ComparesItems vs ws start false after
   items-stop unequal =
       stops _ (same_values v w) (same_items (item_trees (drop (suc i) vs))
       (item_trees (drop (suc i) ws))) _ _ (weight v) (weights (drop (suc i) vs)) before answer after
-      (items-from vs ws i v w p q a b) _ (weights-from vs i v p a) so compared unequal
+      items-from _ (weights-from vs i v first) so compared unequal
 
   pub items-go : answer ≡ true → ItemsLeft vs ws start (i + 1) after
   items-go equal =
       rw add-one (goes-on _ (same_values v w) (same_items (item_trees (drop (suc i) vs))
       (item_trees (drop (suc i) ws))) _ _ (weight v) (weights (drop (suc i) vs)) before answer after
-      (items-from vs ws i v w p q a b) _ (weights-from vs i v p a) so compared equal)
+      items-from _ (weights-from vs i v first) so compared equal)
 
 -- ---- dictionaries
 
 abbrev pub Rows : Type 0
 Rows = List (List ℕ × Value)
 
-pub pairs-from : (ps qs : Rows) (i : ℕ) (k : List ℕ) (v : Value) → slice_get ps i ≡ Some (k, v)
+pairs-from : (ps qs : Rows) (i : ℕ) (k : List ℕ) (v : Value) → slice_get ps i ≡ Some (k, v)
     → are_covered (drop i ps) qs
     ≡ option_eq same_values (Some v) (lookup (bytes_eq k) qs) && are_covered (drop (suc i) ps) qs
-pairs-from [] qs i k v e = absurd (none-some (k, v) e)
-pairs-from (p ∷ ps) qs zero k v e =
-    ap (λ r. option_eq same_values (Some r.1) (lookup (bytes_eq r.0) qs) && are_covered ps qs)
-    (same_Some p (k, v) e)
-pairs-from (p ∷ ps) qs (suc i) k v e = pairs-from ps qs i k v e
+pairs-from ps qs i k v e = ap (λ l. are_covered l qs) (left-from ps i (k, v) e)
 
-pub values-from : (ps : Rows) (i : ℕ) (k : List ℕ) (v : Value) → slice_get ps i ≡ Some (k, v)
+values-from : (ps : Rows) (i : ℕ) (k : List ℕ) (v : Value) → slice_get ps i ≡ Some (k, v)
     → weights (values_of (drop i ps)) ≡ weight v + weights (values_of (drop (suc i) ps))
-values-from [] i k v e = absurd (none-some (k, v) e)
-values-from (p ∷ ps) zero k v e =
-    weights-more p.1 (values_of ps)
-    ∙ ap (λ r. weight r.1 + weights (values_of ps)) (same_Some p (k, v) e)
-values-from (p ∷ ps) (suc i) k v e = values-from ps i k v e
+values-from ps i k v e =
+    ap (λ l. weights (values_of l)) (left-from ps i (k, v) e)
+    ∙ weights-more v (values_of (drop (suc i) ps))
 
 -- a key of the first that the others lack
 pub pairs-lack : (ps qs : Rows) (i : ℕ) (k : List ℕ) (v : Value) (start now : Later)
@@ -246,8 +237,8 @@ module _ (ps qs : Rows) (i : ℕ) (k : List ℕ) (v w : Value) (start before : L
 pair-there : (ps : Rows) (i : ℕ) → i < length ps
     → (k : List ℕ) × (v : Value) × (slice_get ps i ≡ Some (k, v))
 pair-there [] i p = absurd (omega (arith, p))
-pair-there (q ∷ ps) zero p = (q.0, q.1, refl)
-pair-there (q ∷ ps) (suc i) p = pair-there ps i (omega (arith, p))
+pair-there (q ∷ ps) i p =
+    let r = get_or (q ∷ ps) i q in (r.0, r.1, slice_get-get_or (q ∷ ps) i q p)
 
 covered-at : (rs qs : Rows) (i : ℕ) (k : List ℕ) (v : Value) → are_covered rs qs ≡ true
     → slice_get rs i ≡ Some (k, v) → option_eq same_values (Some v) (lookup (bytes_eq k) qs) ≡ true

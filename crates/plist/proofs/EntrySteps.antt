@@ -6,25 +6,16 @@ use Rattle.std.proofs.lemmas.Option.{slice_get-get_or, none-some, same_Some}
 use Rattle.std.proofs.lemmas.Slice.Eq.{bytes_eq-Decides}
 use Rattle.std.specs.Map.{lookup, keys_of, values_of}
 use Rattle.std.specs.Str.{bytes_eq}
-use Rattle.indexmap.proofs.MapLemmas.{Found-position, insert_entry-first, some_index, swap_remove_entry-found, swap_remove_entry-missing}
+use Rattle.std_collections.proofs.HashLookup.{set_value_at_push}
+use Rattle.plist.proofs.Columns.{get-map}
+use Rattle.indexmap.proofs.MapLemmas.{Found-position, absent_from_lookup, insert_entry-absent, insert_entry-first, some_index, swap_remove_entry-found, swap_remove_entry-missing}
 use Rattle.indexmap.specs.IndexMap.{set_value_at, insert_entry, swap_remove_entry}
-
-pub set_last : {K X : Type 0} (ps : List (K × X)) (k : K) (v w : X)
-    → set_value_at (ps ++ (k, v) ∷ []) (length ps) w ≡ ps ++ (k, w) ∷ []
-set_last [] k v w = refl
-set_last (p ∷ ps) k v w = ap (λ l. p ∷ l) (set_last ps k v w)
 
 pub set_pushed : {K X : Type 0} (ps new : List (K × X)) (k : K) (v w : X) (n : ℕ)
     → new ≡ ps ++ (k, v) ∷ [] → n ≡ length ps → set_value_at new n w ≡ ps ++ (k, w) ∷ []
 set_pushed ps new k v w n e is =
     ap (λ l. set_value_at l n w) e ∙ ap (λ m. set_value_at (ps ++ (k, v) ∷ []) m w) is
-    ∙ set_last ps k v w
-
-pub length-set : {K X : Type 0} (ps : List (K × X)) (i : ℕ) (w : X)
-    → length (set_value_at ps i w) ≡ length ps
-length-set [] i w = refl
-length-set (p ∷ ps) zero w = refl
-length-set (p ∷ ps) (suc i) w = ap suc (length-set ps i w)
+    ∙ set_value_at_push ps k v w
 
 get_last : {K X : Type 0} (ps : List (K × X)) (k : K) (v : X)
     → slice_get (values_of (ps ++ (k, v) ∷ [])) (length ps) ≡ Some v
@@ -53,14 +44,7 @@ read_set ps new i j v r is same read =
 -- a key that isn't there comes last
 pub comes_last : {X : Type 0} (k : List ℕ) (v : X) (ps : List (List ℕ × X))
     → lookup (bytes_eq k) ps ≡ None → insert_entry bytes_eq ps k v ≡ ps ++ (k, v) ∷ []
-comes_last k v [] e = refl
-comes_last {X} k v (p ∷ ps) e = by (bytes_eq k p.0) e (comes_last k v ps)
-  where
-    by : (b : Bool) → cond b (Some p.1) (lookup (bytes_eq k) ps) ≡ None
-        → (lookup (bytes_eq k) ps ≡ None → insert_entry bytes_eq ps k v ≡ ps ++ (k, v) ∷ [])
-        → (if b then (p.0, v) ∷ ps else p ∷ insert_entry bytes_eq ps k v) ≡ p ∷ (ps ++ (k, v) ∷ [])
-    by true h rest = absurd (none-some p.1 (sym h))
-    by false h rest = ap (λ l. p ∷ l) (rest h)
+comes_last k v ps e = insert_entry-absent bytes_eq k v ps (absent_from_lookup _ ps e)
 
 -- a key that is there keeps its place
 pub keeps_place : {X : Type 0} (k : List ℕ) (v : X) (ps : List (List ℕ × X)) (i : ℕ)
@@ -72,9 +56,7 @@ keeps_place k v ps i q =
 -- the value of the pair at a place
 pub second_at : {K X : Type 0} (ps : List (K × X)) (i : ℕ) (k : K) (v : X)
     → slice_get ps i ≡ Some (k, v) → Some v ≡ slice_get (values_of ps) i
-second_at [] i k v e = absurd (none-some (k, v) e)
-second_at (p ∷ ps) zero k v e = ap Some (ap (λ q. q.1) (same_Some (k, v) p (sym e)))
-second_at (p ∷ ps) (suc i) k v e = second_at ps i k v e
+second_at ps i k v e = sym (get-map (λ p. p.1) ps i (k, v) e)
 
 pub none_of : {X : Type 0} (o : Option X) → is_some o ≡ false → o ≡ None
 none_of None e = refl

@@ -1,29 +1,19 @@
 -- Pairs that are inserted one after the other.
-use Rattle.std.proofs.Common.{◌≡◌, ℕ, List, [], ◌∷◌, ◌++◌, map, refl, sym, ap, ◌∙◌, Option, Ok, Err}
+use Rattle.std.proofs.Common.{◌≡◌, ℕ, List, [], ◌∷◌, ◌++◌, map, sym, ap, ◌∙◌, Option, Ok, Err}
 use Rattle.std.specs.Prelude.{String, Result, OnOk}
 use Rattle.std.specs.Iterator.{Drains}
 use Rattle.std.specs.Iterator.Runs.{YieldsInOrder}
 use Rattle.std.specs.Str.{bytes_eq}
 use Rattle.std.specs.declared.alloc.Global.{Global}
+use Rattle.std.proofs.lemmas.List.{map_push}
 use Rattle.indexmap.specs.IndexMap.{insert_all, insert_entry}
 use Rattle.indexmap.proofs.CallerLemmas.{Drains-YieldsInOrder}
+use Rattle.indexmap.proofs.MapLemmas.{insert_all_push}
 use Rattle.plist_base.specs.declared.error.Error.{Error}
 use Rattle.plist.specs.Bulk.{ExtendsBy, IsMadeOf}
 use Rattle.plist.specs.Shown.{shown_owned_pair}
 
 module _ {V : Type 0} where
-  all-more : (done ps : List (List ℕ × V)) (p : List ℕ × V)
-      → insert_all bytes_eq done (ps ++ p ∷ [])
-      ≡ insert_entry bytes_eq (insert_all bytes_eq done ps) p.0 p.1
-  all-more done [] p = refl
-  all-more done (q ∷ ps) p = all-more (insert_entry bytes_eq done q.0 q.1) ps p
-
-  shown-more : (rows : List (String Global × V)) (row : String Global × V)
-      → map shown_owned_pair (rows ++ row ∷ []) ≡ map shown_owned_pair rows ++ shown_owned_pair row
-      ∷ []
-  shown-more [] row = refl
-  shown-more (r ∷ rows) row = ap (λ l. shown_owned_pair r ∷ l) (shown-more rows row)
-
   -- one more pair is inserted
   pub inserted-more : (old now new : List (List ℕ × V)) (rows : List (String Global × V))
       (row : String Global × V) → now ≡ insert_all bytes_eq old (map shown_owned_pair rows)
@@ -31,8 +21,8 @@ module _ {V : Type 0} where
       → new ≡ insert_all bytes_eq old (map shown_owned_pair (rows ++ row ∷ []))
   inserted-more old now new rows row h e =
       e ∙ ap (λ l. insert_entry bytes_eq l (shown_owned_pair row).0 row.1) h
-      ∙ sym (ap (insert_all bytes_eq old) (shown-more rows row)
-      ∙ all-more old (map shown_owned_pair rows) (shown_owned_pair row))
+      ∙ sym (ap (insert_all bytes_eq old) (map_push shown_owned_pair rows row)
+      ∙ insert_all_push bytes_eq old (map shown_owned_pair rows) (shown_owned_pair row))
 
 -- of an iterator that gives a list in order, all pairs of the list are inserted
 module _ {V I : Type 0} (gives : I → Option (String Global × V) → I → Type 0)

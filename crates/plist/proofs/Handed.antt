@@ -9,13 +9,6 @@ use Rattle.plist.specs.declared.stream.events.Events.{Events}
 use Rattle.plist.specs.Handing.{Took, Hands, HandsItem}
 use Rattle.plist.specs.Events.{remaining_events, GivesEvent}
 
-no_answer : {A : Type 0} (done : Unit {0}) (fault : Fault) → ◌≡◌ {A = Answer} (Ok done) (Err fault)
-    → A
-no_answer done fault p = cc
-
-same_fault : (a b : Fault) → ◌≡◌ {A = Answer} (Err a) (Err b) → a ≡ b
-same_fault a b p = cc
-
 module _ {S : Type 0} (Step : S → PlainEvent → Answer → S → Type 0) where
   took-more : (taken : List PlainEvent) (before between after : S) (e : PlainEvent)
       → Took Step before taken between → Step between e (Ok tt) after
@@ -42,7 +35,7 @@ module _ {S : Type 0} (Step : S → PlainEvent → Answer → S → Type 0) wher
     took-more taken
         before now after (event_of e) took s,
   )
-  one-more before now after all events left (Err error) h g s = no_answer tt (fault_of error) s.0
+  one-more before now after all events left (Err error) h g s = absurd (cc s.0)
 
   pub refused : (before now after : S) (all : List PlainEvent) (events left : Events)
       (item : Result Event Error) (fault : Fault) → HandedSoFar before all events now
@@ -55,7 +48,7 @@ module _ {S : Type 0} (Step : S → PlainEvent → Answer → S → Type 0) wher
     taken,
     remaining_events events,
     is,
-    (now, took, inr (same_fault fault (fault_of error) s.0 ∙ g.0, g.1, s.1)),
+    (now, took, inr (cc (s.0, g.0), g.1, s.1)),
   )
 
   pub all-handed : (before now : S) (all : List PlainEvent) (events left : Events)

@@ -1,6 +1,7 @@
 -- What a builder has taken of the items that are seen to come.
-use Rattle.std.proofs.Common.{◌≡◌, false, true≢false, List, [], ◌∷◌, ◌++◌, Option, Some, None, Result, Ok, Err, IfOk, IfErr, IfSome, map, refl, sym, ap, ◌∙◌, subst, append-nil}
+use Rattle.std.proofs.Common.{◌≡◌, false, true≢false, List, [], ◌∷◌, ◌++◌, Option, Some, None, Result, Ok, Err, IfOk, IfErr, IfSome, map, refl, sym, ap, ◌∙◌, subst, append_assoc, append-nil}
 use Rattle.std.specs.Prelude.{⊤}
+use Rattle.std.proofs.lemmas.List.{map_push}
 use Rattle.std.proofs.lemmas.Option.{none-some}
 use Rattle.plist_base.specs.declared.error.Error.{Error}
 use Rattle.plist_base.specs.Events.{PlainEvent, Item}
@@ -40,23 +41,18 @@ reads-none (Some all) coming built e b =
 
 pub event-more : (events : List PlainEvent) (e : PlainEvent) (after : List Item)
     → map Ok events ++ Ok e ∷ after ≡ map Ok (events ++ e ∷ []) ++ after
-event-more [] e after = refl
-event-more (x ∷ events) e after = ap (λ l. Ok x ∷ l) (event-more events e after)
-
-took-event : (all before after : List Item) (e : PlainEvent) (old new : Built)
-    → before ≡ Ok e ∷ after → TookFrom all before old → Takes old (Ok e) new
-    → TookFrom all after new
-took-event all before after e old new b (events, is, h) k = (
-  events ++ e ∷ [],
-  is ∙ ap (λ l. map Ok events ++ l) b ∙ event-more events e after,
-  holds-more events e old new h k,
-)
+event-more events e after =
+    sym (ap (λ l. l ++ after) (map_push Ok events e)
+    ∙ append_assoc (map Ok events) (Ok e ∷ []) after)
 
 took-given : (all before after : List Item) (item : Item) (old new : Built)
     → BeginsWith before (Some item) after → TookFrom all before old → Takes old item new
     → TookFrom all after new
-took-given all before after (Ok event) old new g t k =
-    took-event all before after event old new g t k
+took-given all before after (Ok e) old new b (events, is, h) k = (
+  events ++ e ∷ [],
+  is ∙ ap (λ l. map Ok events ++ l) b ∙ event-more events e after,
+  holds-more events e old new h k,
+)
 took-given all before after (Err error) old new g t k = absurd k
 
 goes-at : (o n : Option (List Item)) (left : List Item) (item : Option Item) → o ≡ Some left
@@ -77,26 +73,13 @@ pub all-events : (events others : List PlainEvent) (next : List Item)
     → map Ok events ++ next ≡ map Ok others → (more : List PlainEvent) × (next ≡ map Ok more)
     × (others ≡ events ++ more)
 all-events [] others next e = (others, e, refl)
-all-events (x ∷ events) [] next e =
-    let no : (Ok x ∷ (map Ok events ++ next) ≡ []) → (more : List PlainEvent) × (next ≡ map Ok more)
-    × ([] ≡ x ∷ (events ++ more)) = λ p. cc in no e
+all-events (x ∷ events) [] next e = absurd (cc e)
 all-events (x ∷ events) (y ∷ others) next e =
-    let r = all-events events others next (tails (Ok x) (Ok y) _ _ e) in
-    (r.0, r.1, λ i. same_event y x (sym (heads (Ok x) (Ok y) _ _ e)) i ∷ r.2 i)
-  where
-    tails : (a b : Item) (xs ys : List Item) → a ∷ xs ≡ b ∷ ys → xs ≡ ys
-    tails a b xs ys p = cc
-
-    heads : (a b : Item) (xs ys : List Item) → a ∷ xs ≡ b ∷ ys → a ≡ b
-    heads a b xs ys p = cc
-
-    same_event : (a b : PlainEvent) → ◌≡◌ {A = Item} (Ok a) (Ok b) → a ≡ b
-    same_event a b p = cc
+    let r = all-events events others next (cc e) in (r.0, r.1, cc (e, r.2))
 
 pub no-events : (es : List PlainEvent) → ◌≡◌ {A = List Item} [] (map Ok es) → es ≡ []
 no-events [] p = refl
-no-events (x ∷ es) p =
-    let no : ◌≡◌ {A = List Item} [] (Ok x ∷ map Ok es) → x ∷ es ≡ [] = λ q. cc in no p
+no-events (x ∷ es) p = cc p
 
 -- an error among the items, or a refused event, and they are no tree's
 no-tree-error : (all : List Item) (events : List PlainEvent) (error : Fault) (more : List Item)
@@ -122,14 +105,10 @@ no-tree-event all events held e kind more is ok alike r tree (others, same, like
           ∙ ap (λ l. map unhinted (events ++ l)) (sym rest.1) ∙ ap (map unhinted) (sym s.2) ∙ like,
     )
   where
-    same_event : (a b : PlainEvent) (xs ys : List Item) → Ok a ∷ xs ≡ Ok b ∷ ys → a ≡ b
-    same_event a b xs ys p = cc
-
     first : (es : List PlainEvent) → Ok e ∷ more ≡ map Ok es → (rest : List PlainEvent)
         × (es ≡ e ∷ rest)
-    first [] p =
-        let no : (Ok e ∷ more ≡ []) → (rest : List PlainEvent) × ([] ≡ e ∷ rest) = λ q. cc in no p
-    first (x ∷ es) p = (es, ap (λ y. y ∷ es) (sym (same_event e x more (map Ok es) p)))
+    first [] p = absurd (cc p)
+    first (x ∷ es) p = (es, cc p)
 
 no-tree-end : (all : List Item) (events : List PlainEvent) → all ≡ map Ok events ++ []
     → ((tree : Tree) → AreAlike events (bracketing tree) → ⊥) → (tree : Tree) → AreOf all tree → ⊥
@@ -140,10 +119,10 @@ no-tree-end all events is none tree (others, same, like) =
 
 -- ---- a refusal
 
-stops-event : (all : List Item) (before after : List Item) (e : PlainEvent) (built : Built)
-    (fault : Fault) → before ≡ Ok e ∷ after → TookFrom all before built
-    → IsRefusal (refusal_of built.unfinished e) fault → IsReadFrom all (Err fault)
-stops-event all before after e built fault b (events, is, (held, ok, alike, last)) r =
+stops-given : (all before after : List Item) (item : Item) (built : Built) (fault : Fault)
+    → BeginsWith before (Some item) after → TookFrom all before built
+    → Refuses built.unfinished item fault → IsReadFrom all (Err fault)
+stops-given all before after (Ok e) built fault b (events, is, (held, ok, alike, last)) r =
     by (refusal_of held e) refl (subst (λ o. IsRefusal o fault)
     (ap (λ u. refusal_of u e) last ∙ refusal-last held e) r)
   where
@@ -159,11 +138,7 @@ stops-event all before after e built fault b (events, is, (held, ok, alike, last
           (events, Ok e ∷ after, held, here, ok, alike, subst (λ o. IsRefusal o fault) (sym q) h),
           no-tree-event all events held e kind after here ok alike q,
         )
-
-stops-error : (all before after : List Item) (error : Fault) (built : Built) (fault : Fault)
-    → BeginsWith before (Some (Err error)) after → TookFrom all before built → fault ≡ error
-    → IsReadFrom all (Err fault)
-stops-error all before after error built fault g (events, is, (held, ok, alike, last)) r =
+stops-given all before after (Err error) built fault g (events, is, (held, ok, alike, last)) r =
     MatchFault-weaker fault.kind (λ _. tt) (λ _. tt)
     (λ b. let here : all ≡ map Ok events ++ Err error ∷ after = is
     ∙ ap (λ l. map Ok events ++ l) b in (
@@ -173,14 +148,6 @@ stops-error all before after error built fault g (events, is, (held, ok, alike, 
     ))
     (subst (λ k. MatchFault k ⊤ ⊤ (before ≡ Err error ∷ after)) (ap (λ (f : Fault). f.kind) (sym r))
     g)
-
-stops-given : (all before after : List Item) (item : Item) (built : Built) (fault : Fault)
-    → BeginsWith before (Some item) after → TookFrom all before built
-    → Refuses built.unfinished item fault → IsReadFrom all (Err fault)
-stops-given all before after (Ok event) built fault g t r =
-    stops-event all before after event built fault g t r
-stops-given all before after (Err error) built fault g t r =
-    stops-error all before after error built fault g t r
 
 pub reads-refused : (items o n : Option (List Item)) (given : Option Item) (item : Item)
     (built : Built) (fault : Fault) → given ≡ Some item → Reads items o built → GoesOn o given n

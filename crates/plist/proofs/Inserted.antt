@@ -7,7 +7,8 @@ use Rattle.std.specs.Str.{bytes_eq}
 use Rattle.std.proofs.lemmas.List.{length-map, map_push}
 use Rattle.std.proofs.lemmas.Bool.{lt-ltb}
 use Rattle.indexmap.specs.IndexMap.{insert_entry}
-use Rattle.plist.proofs.Columns.{Text, rows, any-rows, zip-snoc}
+use Rattle.indexmap.proofs.ReorderLemmas.{zip_push}
+use Rattle.plist.proofs.Columns.{Text, rows, any-rows}
 use Rattle.plist.proofs.EntrySteps.{comes_last, none_of}
 
 at_first : {A : Type 0} (p : A → Bool) (xs : List A) (i : ℕ) → i ≡ position_or_len p xs
@@ -38,7 +39,7 @@ module _ {X : Type 0} (ks : List Text) (vs : List X) (e : length vs ≡ length k
   pub put-rows : rows ls ws ≡ rows ks vs ++ (string_bytes k, v) ∷ []
   put-rows =
       (λ i. rows (put-keys i) (hw i)) ∙ ap (λ l. zip l (vs ++ v ∷ [])) (map_push string_bytes ks k)
-      ∙ zip-snoc (map string_bytes ks) vs (string_bytes k) v (e ∙ sym (length-map ks string_bytes))
+      ∙ zip_push (map string_bytes ks) vs (string_bytes k) v (e ∙ sym (length-map ks string_bytes))
 
 module _ {X : Type 0} (ks : List Text) (vs : List X) (e : length vs ≡ length ks) (k : Text)
     (ps : List (List ℕ × X)) (is : rows ks vs ≡ ps) (b : Bool) (new : b ≡ not (has ks k))

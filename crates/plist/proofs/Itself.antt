@@ -1,21 +1,22 @@
 -- A value is its own last-value form.
 use Rattle.std.proofs.Common.{◌≡◌, ℕ, List, [], ◌∷◌, Option, Some, None, option_map, map, refl, sym, ap, ◌∙◌, subst, string_bytes}
+use mathlib.Core.List.{map-map}
 use Rattle.std.proofs.lemmas.Option.{same_Some}
 use Rattle.plist_base.specs.Events.{PlainEvent}
-use Rattle.plist_base.specs.Trees.{Tree, Array, trees_of}
+use Rattle.plist_base.specs.Trees.{Tree, Array, Dictionary, trees_of, members_of}
 use Rattle.plist.specs.declared.value.Value.{Value, ind-Value, fold-roll-Value, roll-Value}
 use Rattle.plist.specs.declared.value.Value.TheOpen.{Value-F}
 use Rattle.plist.specs.declared.value.Value.TheFolds.{map-Value}
-use Rattle.plist.specs.LastWins.{with_pair, last_values, last_wins}
+use Rattle.plist.specs.LastWins.{Rows, with_pair, last_values, last_wins}
 use Rattle.plist.specs.Building.{Unfinished, IsNested, IsCarriedOn, refusal_of, last_wins_in_rows, last_wins_within, last_wins_so_far, InArray, InDictionary, AfterKey, Within, Complete}
 use Rattle.plist.specs.declared.partial.Open.{Open}
 use Rattle.plist.specs.declared.partial.Open.TheVariants as run
 use Rattle.plist.specs.Partials.{open_of, held_by}
 use Rattle.plist.specs.Views.{tree_of, tree_step, tree_pairs}
-use Rattle.plist.proofs.Keeping.{Settled, SettledItems, settled-items, settled-dictionary, settled-inserts, last-values-once, once-inserts}
+use Rattle.plist.proofs.Keeping.{last-values-once, once-last, values-inserts}
 use Rattle.plist.specs.inner.Steps.{and_pair, carried_on}
 use Rattle.plist.specs.inner.Carried.{carried-taken, carried-nested, carried-events}
-use Rattle.plist.proofs.Carrying.{map-fixed, carried-last}
+use Rattle.plist.proofs.Carrying.{items-last, pairs-last, carried-last}
 
 abbrev IsItself : Value → Type 0
 IsItself value = last_wins (tree_of value) ≡ tree_of value
@@ -27,23 +28,32 @@ Layer x = let t = tree_step (map-Value Value Tree tree_of x) in last_wins t ≡ 
 from-layer : (x : Value-F Value) → Layer x → IsItself (roll-Value x)
 from-layer x p = let e = fold-roll-Value _ _ x in ap last_wins e ∙ p ∙ sym e
 
-items-itself : (vs : List ((v : Value) × IsItself v))
-    → SettledItems (map tree_of (map (λ e. e.0) vs))
-items-itself [] = tt
-items-itself (e ∷ vs) = (e.1, items-itself vs)
+-- what a function leaves as it is, item by item, the list too
+fixed : {A B : Type 0} (f : A → A) (g : B → A) → ((b : B) → f (g b) ≡ g b) → (bs : List B)
+    → map f (map g bs) ≡ map g bs
+fixed f g e [] = refl
+fixed f g e (b ∷ bs) = λ i. e b i ∷ fixed f g e bs i
 
-pairs-itself : (ps : List (List ℕ × ((v : Value) × IsItself v)))
-    → Settled (tree_pairs (map (λ p. (p.0, p.1.0)) ps))
-pairs-itself [] = tt
-pairs-itself (p ∷ ps) = (p.1.1, pairs-itself ps)
+rows-itself : (rows : Rows) → map (λ p. (p.0, last_wins p.1)) rows ≡ rows
+    → last_wins_in_rows (last_values rows) ≡ last_values rows
+rows-itself rows s =
+    ap last_values (values-inserts last_wins [] rows ∙ ap last_values s)
+    ∙ last-values-once (last_values rows) (once-last rows)
 
 layer-of : (y : Value-F ((v : Value) × IsItself v))
     → Layer (map-Value ((v : Value) × IsItself v) Value (λ e. e.0) y)
 layer-of (Value-F.Array items) =
-    ap (λ l. Array (trees_of l)) (settled-items (map tree_of (map (λ e. e.0) items.items))
-    (items-itself items.items))
+    ap (λ l. Array (trees_of l)) (items-last _
+    ∙ subst (λ l. map last_wins l ≡ l) (sym (map-map tree_of (λ e. e.0) items.items))
+    (fixed last_wins (λ e. tree_of e.0) (λ e. e.1) items.items))
 layer-of (Value-F.Dictionary pairs) =
-    settled-dictionary (tree_pairs (map (λ p. (p.0, p.1.0)) pairs)) (pairs-itself pairs)
+    let rows = tree_pairs (map (λ p. (p.0, p.1.0)) pairs) in
+    ap (λ l. Dictionary (members_of (last_values l))) (pairs-last (last_values rows))
+    ∙ ap (λ l. Dictionary (members_of l)) (rows-itself rows
+    (subst (λ l. map (λ p. (p.0, last_wins p.1)) l ≡ l)
+    (sym (map-map (λ p. (p.0, tree_of p.1)) (λ p. (p.0, p.1.0)) pairs))
+    (fixed (λ p. (p.0, last_wins p.1)) (λ p. (p.0, tree_of p.1.0))
+    (λ p. ap (λ t. (p.0, t)) p.1.1) pairs)))
 layer-of (Value-F.Boolean b) = refl
 layer-of (Value-F.Data d) = refl
 layer-of (Value-F.Date d) = refl
@@ -56,33 +66,16 @@ layer-of (Value-F.Uid u) = refl
 pub itself : (v : Value) → last_wins (tree_of v) ≡ tree_of v
 itself = ind-Value IsItself (λ x y is. from-layer x (subst Layer is (layer-of y)))
 
-all-itself : (vs : List Value) → map last_wins (map tree_of vs) ≡ map tree_of vs
-all-itself [] = refl
-all-itself (v ∷ vs) =
-    ap (λ t. t ∷ map last_wins (map tree_of vs)) (itself v)
-    ∙ ap (λ l. tree_of v ∷ l) (all-itself vs)
-
-rows-settled : (ps : List (List ℕ × Value)) → Settled (tree_pairs ps)
-rows-settled [] = tt
-rows-settled (p ∷ ps) = (itself p.1, rows-settled ps)
-
-rows-itself : (ps : List (List ℕ × Value))
+pairs-itself : (ps : List (List ℕ × Value))
     → last_wins_in_rows (last_values (tree_pairs ps)) ≡ last_values (tree_pairs ps)
-rows-itself ps =
-    ap last_values (map-fixed (last_values (tree_pairs ps))
-    (settled-inserts [] (tree_pairs ps) tt (rows-settled ps)))
-    ∙ last-values-once (last_values (tree_pairs ps)) (once-inserts [] (tree_pairs ps) tt)
+pairs-itself ps =
+    rows-itself (tree_pairs ps) (fixed (λ p. (p.0, last_wins p.1)) (λ p. (p.0, tree_of p.1))
+    (λ p. ap (λ t. (p.0, t)) (itself p.1)) ps)
 
 open-itself : (c : Open) → last_wins_within (open_of c) ≡ open_of c
-open-itself (run.Array items) = ap InArray (all-itself items.items)
-open-itself (run.Dictionary pairs) = ap InDictionary (rows-itself pairs)
-open-itself (run.AfterKey pairs key) = ap (λ d. AfterKey d (string_bytes key)) (rows-itself pairs)
-
-opens-itself : (cs : List Open) → map last_wins_within (map open_of cs) ≡ map open_of cs
-opens-itself [] = refl
-opens-itself (c ∷ cs) =
-    ap (λ d. d ∷ map last_wins_within (map open_of cs)) (open-itself c)
-    ∙ ap (λ l. open_of c ∷ l) (opens-itself cs)
+open-itself (run.Array items) = ap InArray (fixed last_wins tree_of itself items.items)
+open-itself (run.Dictionary pairs) = ap InDictionary (pairs-itself pairs)
+open-itself (run.AfterKey pairs key) = ap (λ d. AfterKey d (string_bytes key)) (pairs-itself pairs)
 
 -- what is held is its own last-value form
 pub held-itself : (root : Option Value) (cs : List Open)
@@ -90,8 +83,7 @@ pub held-itself : (root : Option Value) (cs : List Open)
 held-itself (Some v) cs = ap Complete (itself v)
 held-itself None [] = refl
 held-itself None (c ∷ cs) =
-    ap (λ d. Within d (map last_wins_within (map open_of cs))) (open-itself c)
-    ∙ ap (Within (open_of c)) (opens-itself cs)
+    λ i. Within (open-itself c i) (fixed last_wins_within open_of open-itself cs i)
 
 -- what a builder holds is carried on by an event as the plain events are
 pub carry : (root : Option Value) (cs : List Open) (e : PlainEvent) (a : Unfinished)

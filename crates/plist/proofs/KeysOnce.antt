@@ -1,133 +1,103 @@
 -- A tree is its own last-value form exactly where no key stands twice in a dictionary.
-use Rattle.std.proofs.Common.{◌≡◌, ◌≢◌, ℕ, Bool, true, false, List, [], ◌∷◌, refl, sym, ap, ◌∙◌, subst, true≢false}
+use Rattle.std.proofs.Common.{◌≡◌, ℕ, false, List, [], ◌∷◌, refl, sym, ap, ◌∙◌, subst}
 use Rattle.std.specs.Str.{bytes_eq}
+use Rattle.std.specs.List.{IsDistinct, AllByRecursion}
+use Rattle.std.specs.Map.{keys_of}
+use Rattle.std.proofs.lemmas.Bool.{false_from_ne_true}
+use Rattle.std.proofs.lemmas.Bool.Decides.{not_from_Decides}
+use Rattle.std.proofs.lemmas.Map.Keys.{IsDistinct-cons}
 use Rattle.std.proofs.lemmas.Slice.Eq.{bytes_eq-Decides}
 use Rattle.plist_base.specs.Trees.{Tree, Leaf, Array, Dictionary, Trees, NoTrees, TreeAnd, Members, NoMembers, MemberAnd, trees_of, members_of}
 use Rattle.plist_binwrite.specs.Keys as keys
 use Rattle.plist_binwrite.specs.Keys.{HasDistinctKeys, HasKeysOnce, ItemsHaveKeysOnce, ValuesHaveKeysOnce}
 use Rattle.plist.specs.LastWins.{Rows, last_values, last_wins, last_wins_in_items, last_wins_in_pairs}
-use Rattle.plist.proofs.Keeping.{Lacks, EachOnce, last-values-once, once-inserts}
-
--- ---- keys that differ
-
-not_eq : (k l : List ℕ) → k ≢ l → (b : Bool) → bytes_eq k l ≡ b → b ≡ false
-not_eq k l never true p = absurd (never ((bytes_eq-Decides k l).0 p))
-not_eq k l never false p = refl
-
-differ : (k l : List ℕ) → bytes_eq k l ≡ false → k ≢ l
-differ k l p e = true≢false (sym ((bytes_eq-Decides k l).1 e) ∙ p)
+use Rattle.plist.proofs.Columns.{no-keys}
+use Rattle.plist.proofs.Keeping.{EachOnce, last-values-once, once-last}
 
 -- ---- no key twice, so nothing for the last value to change
 
-lacks-rows : (k : List ℕ) (ms : Members) → keys.Lacks k ms → Lacks k (last_wins_in_pairs ms)
-lacks-rows k NoMembers l = tt
-lacks-rows k (MemberAnd key t ms) (a, l) =
-    (not_eq k key a _ refl, lacks-rows k ms l)
+abbrev list_of_members : Members → Rows
+list_of_members NoMembers = []
+list_of_members (MemberAnd key tree members) = (key, tree) ∷ list_of_members members
 
-once-rows : (ms : Members) → HasDistinctKeys ms → EachOnce (last_wins_in_pairs ms)
-once-rows NoMembers o = tt
-once-rows (MemberAnd key t ms) (a, o) = (lacks-rows key ms a, once-rows ms o)
+lacks-listed : (k : List ℕ) (ms : Members) → keys.Lacks k ms
+    → AllByRecursion (λ l. bytes_eq k l ≡ false) (keys_of (list_of_members ms))
+lacks-listed k NoMembers l = tt
+lacks-listed k (MemberAnd key t ms) (a, l) = (
+  false_from_ne_true (bytes_eq k key) (λ p. a ((bytes_eq-Decides k key).0 p)),
+  lacks-listed k ms l,
+)
+
+listed-once : (ms : Members) → HasDistinctKeys ms → EachOnce (list_of_members ms)
+listed-once NoMembers o = no-keys
+listed-once (MemberAnd key t ms) (a, o) =
+    IsDistinct-cons bytes_eq key _ (lacks-listed key ms a) (listed-once ms o)
+
+-- the keys stay
+same-keys : (ms : Members) → keys_of (list_of_members ms) ≡ keys_of (last_wins_in_pairs ms)
+same-keys NoMembers = refl
+same-keys (MemberAnd key t ms) = ap (λ l. key ∷ l) (same-keys ms)
+
+last-listed : (ms : Members) → EachOnce (list_of_members ms)
+    → last_values (last_wins_in_pairs ms) ≡ last_wins_in_pairs ms
+last-listed ms once =
+    last-values-once (last_wins_in_pairs ms) (subst (IsDistinct bytes_eq) (same-keys ms) once)
 
 mutual
   pub last-wins-nothing : (t : Tree) → HasKeysOnce t → last_wins t ≡ t
   last-wins-nothing (Leaf x) o = refl
   last-wins-nothing (Array ts) o = ap Array (items-nothing ts o)
   last-wins-nothing (Dictionary ms) o =
-      ap (λ l. Dictionary (members_of l))
-      (last-values-once (last_wins_in_pairs ms) (once-rows ms o.0))
+      ap (λ l. Dictionary (members_of l)) (last-listed ms (listed-once ms o.0))
       ∙ ap Dictionary (pairs-nothing ms o.1)
 
   items-nothing : (ts : Trees) → ItemsHaveKeysOnce ts → trees_of (last_wins_in_items ts) ≡ ts
   items-nothing NoTrees o = refl
   items-nothing (TreeAnd t ts) (a, o) =
-      ap (λ u. TreeAnd u (trees_of (last_wins_in_items ts))) (last-wins-nothing t a)
-      ∙ ap (TreeAnd t) (items-nothing ts o)
+      λ i. TreeAnd (last-wins-nothing t a i) (items-nothing ts o i)
 
   pairs-nothing : (ms : Members) → ValuesHaveKeysOnce ms → members_of (last_wins_in_pairs ms) ≡ ms
   pairs-nothing NoMembers o = refl
   pairs-nothing (MemberAnd key t ms) (b, o) =
-      ap (λ u. MemberAnd key u (members_of (last_wins_in_pairs ms))) (last-wins-nothing t b)
-      ∙ ap (MemberAnd key t) (pairs-nothing ms o)
+      λ i. MemberAnd key (last-wins-nothing t b i) (pairs-nothing ms o i)
 
 -- ---- and back
-
-abbrev list_of_members : Members → Rows
-list_of_members NoMembers = []
-list_of_members (MemberAnd key tree members) = (key, tree) ∷ list_of_members members
 
 rows-back : (rows : Rows) → list_of_members (members_of rows) ≡ rows
 rows-back [] = refl
 rows-back (p ∷ ps) = ap (λ l. p ∷ l) (rows-back ps)
 
-abbrev members_in : Tree → Members
-members_in (Leaf x) = NoMembers
-members_in (Array ts) = NoMembers
-members_in (Dictionary ms) = ms
-
-abbrev trees_in : Tree → Trees
-trees_in (Leaf x) = NoTrees
-trees_in (Array ts) = ts
-trees_in (Dictionary ms) = NoTrees
-
-lacks-members : (k : List ℕ) (ms : Members) → Lacks k (list_of_members ms) → keys.Lacks k ms
+lacks-members : (k : List ℕ) (ms : Members)
+    → AllByRecursion (λ l. bytes_eq k l ≡ false) (keys_of (list_of_members ms)) → keys.Lacks k ms
 lacks-members k NoMembers l = tt
-lacks-members k (MemberAnd key t ms) (a, l) = (differ k key a, lacks-members k ms l)
+lacks-members k (MemberAnd key t ms) (a, l) =
+    (not_from_Decides _ (bytes_eq-Decides k key) a, lacks-members k ms l)
 
-lacks-again : (k : List ℕ) (ms : Members) → Lacks k (list_of_members ms)
-    → Lacks k (last_wins_in_pairs ms)
-lacks-again k NoMembers l = tt
-lacks-again k (MemberAnd key t ms) (a, l) = (a, lacks-again k ms l)
-
-once-again : (ms : Members) → EachOnce (list_of_members ms) → EachOnce (last_wins_in_pairs ms)
-once-again NoMembers o = tt
-once-again (MemberAnd key t ms) (a, o) = (lacks-again key ms a, once-again ms o)
+distinct-listed : (ms : Members) → EachOnce (list_of_members ms) → HasDistinctKeys ms
+unfolding IsDistinct
+distinct-listed NoMembers o = tt
+distinct-listed (MemberAnd key t ms) (a, o) = (lacks-members key ms a, distinct-listed ms o)
 
 -- the keys of pairs that are last values stand once
 once-listed : (ms : Members) (rows : Rows) → members_of (last_values rows) ≡ ms
     → EachOnce (list_of_members ms)
 once-listed ms rows p =
     subst EachOnce (sym (rows-back (last_values rows)) ∙ ap list_of_members p)
-    (once-inserts [] rows tt)
-
-same_tree : (a b : Tree) (x y : Trees) → TreeAnd a x ≡ TreeAnd b y → a ≡ b
-same_tree a b x y p = cc
-
-same_trees : (a b : Tree) (x y : Trees) → TreeAnd a x ≡ TreeAnd b y → x ≡ y
-same_trees a b x y p = cc
-
-same_value : (k l : List ℕ) (a b : Tree) (x y : Members) → MemberAnd k a x ≡ MemberAnd l b y → a ≡ b
-same_value k l a b x y p = cc
-
-same_members : (k l : List ℕ) (a b : Tree) (x y : Members) → MemberAnd k a x ≡ MemberAnd l b y
-    → x ≡ y
-same_members k l a b x y p = cc
-
-distinct-listed : (ms : Members) → EachOnce (list_of_members ms) → HasDistinctKeys ms
-distinct-listed NoMembers o = tt
-distinct-listed (MemberAnd key t ms) (a, o) = (lacks-members key ms a, distinct-listed ms o)
+    (once-last rows)
 
 mutual
   pub keys-once : (t : Tree) → last_wins t ≡ t → HasKeysOnce t
   keys-once (Leaf x) p = tt
-  keys-once (Array ts) p = items-once ts (ap trees_in p)
+  keys-once (Array ts) p = items-once ts (cc)
   keys-once (Dictionary ms) p =
-      let q : members_of (last_values (last_wins_in_pairs ms)) ≡ ms = ap members_in p in
+      let q : members_of (last_values (last_wins_in_pairs ms)) ≡ ms = cc in
       let once = once-listed ms (last_wins_in_pairs ms) q in
-      let same : last_values (last_wins_in_pairs ms) ≡ last_wins_in_pairs ms = last-values-once
-      (last_wins_in_pairs ms) (once-again ms once) in
-      (distinct-listed ms once, values-once ms (ap members_of (sym same) ∙ q))
+      (distinct-listed ms once, values-once ms (ap members_of (sym (last-listed ms once)) ∙ q))
 
   items-once : (ts : Trees) → trees_of (last_wins_in_items ts) ≡ ts → ItemsHaveKeysOnce ts
   items-once NoTrees p = tt
-  items-once (TreeAnd t ts) p = (
-    keys-once t (same_tree (last_wins t) t (trees_of (last_wins_in_items ts)) ts p),
-    items-once ts (same_trees (last_wins t) t (trees_of (last_wins_in_items ts)) ts p),
-  )
+  items-once (TreeAnd t ts) p = (keys-once t (cc), items-once ts (cc))
 
   values-once : (ms : Members) → members_of (last_wins_in_pairs ms) ≡ ms → ValuesHaveKeysOnce ms
   values-once NoMembers p = tt
-  values-once (MemberAnd key t ms) p = (
-    keys-once t (same_value key key (last_wins t) t (members_of (last_wins_in_pairs ms)) ms p),
-    values-once ms
-        (same_members key key (last_wins t) t (members_of (last_wins_in_pairs ms)) ms p),
-  )
+  values-once (MemberAnd key t ms) p = (keys-once t (cc), values-once ms (cc))

@@ -1,17 +1,16 @@
 -- The last values nest no deeper than all.
 use Rattle.std.proofs.Common.{ℕ, ◌-◌, Bool, true, false, List, [], ◌∷◌}
-use Rattle.std.specs.Prelude.{if◌then◌else◌, ⊤}
+use Rattle.std.specs.Prelude.{if◌then◌else◌}
 use Rattle.std.specs.Str.{bytes_eq}
 use Rattle.indexmap.specs.IndexMap.{insert_entry, insert_all}
 use Rattle.plist_base.specs.Trees.{Tree, Leaf, Array, Dictionary, Trees, NoTrees, TreeAnd, Members, NoMembers, MemberAnd, trees_of, members_of}
-use Rattle.plist.specs.LastWins.{Rows, last_values, last_wins, last_wins_in_items, last_wins_in_pairs}
+use Rattle.plist.specs.LastWins.{Rows, last_wins, last_wins_in_items, last_wins_in_pairs}
 use Rattle.plist.specs.Limiting.{NestsWithin, ItemsNestWithin, PairsNestWithin}
 
 -- ---- the last values nest no deeper
 
 abbrev AllNest : Rows → ℕ → Type 0
-AllNest [] depth = ⊤
-AllNest (row ∷ rows) depth = NestsWithin row.1 depth × AllNest rows depth
+AllNest rows depth = PairsNestWithin (members_of rows) depth
 
 insert-choice : (b : Bool) (k : List ℕ) (v : Tree) (e : List ℕ × Tree) (es more : Rows) (depth : ℕ)
     → AllNest (e ∷ es) depth → NestsWithin v depth → AllNest more depth
@@ -33,19 +32,13 @@ all-nest done (row ∷ rows) depth h n =
     all-nest (insert_entry bytes_eq done row.0 row.1) rows depth
     (insert-nests done row.0 row.1 depth h n.0) n.1
 
-members-nest : (rows : Rows) (depth : ℕ) → AllNest rows depth
-    → PairsNestWithin (members_of rows) depth
-members-nest [] depth h = tt
-members-nest (row ∷ rows) depth h = (h.0, members-nest rows depth h.1)
-
 mutual
   pub last-nests : (t : Tree) (depth : ℕ) → NestsWithin t depth → NestsWithin (last_wins t) depth
   last-nests (Leaf s) depth h = tt
   last-nests (Array items) depth h = (h.0, last-items items (depth - 1) h.1)
   last-nests (Dictionary pairs) depth h = (
     h.0,
-    members-nest (last_values (last_wins_in_pairs pairs)) (depth - 1)
-        (all-nest [] (last_wins_in_pairs pairs) (depth - 1) tt (last-pairs pairs (depth - 1) h.1)),
+    all-nest [] (last_wins_in_pairs pairs) (depth - 1) tt (last-pairs pairs (depth - 1) h.1),
   )
 
   last-items : (items : Trees) (depth : ℕ) → ItemsNestWithin items depth

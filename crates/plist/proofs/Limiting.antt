@@ -1,6 +1,6 @@
 -- Values under limits.
 use Rattle.std.proofs.lemmas.Bool.Decides.{nat_tests}
-use Rattle.std.proofs.Common.{◌≡◌, ℕ, ◌+◌, ◌-◌, ◌≤◌, ◌<◌, Bool, true, false, cond, List, [], ◌∷◌, ◌++◌, length, map, Option, None, Some, Result, Ok, Err, IfSome, MatchBool, refl, sym, ap, ◌∙◌, subst, arith, append_assoc, append-nil}
+use Rattle.std.proofs.Common.{◌≡◌, ℕ, ◌+◌, ◌-◌, ◌≤◌, ◌<◌, Bool, true, false, cond, List, [], ◌∷◌, ◌++◌, length, map, Option, None, Some, Result, Ok, Err, IfSome, MatchBool, ◌↔◌, refl, sym, ap, ◌∙◌, subst, arith, append_assoc, append-nil}
 use Rattle.std.specs.Prelude.{◌&&◌, nat_le, IfOk, ⊤}
 use Rattle.std.specs.Iterator.{Yields}
 use Rattle.std.specs.Option.{option_map}
@@ -107,25 +107,14 @@ events-pass : (old new : Limiter) (was now : Bool) (asked : Given) (x : Result E
     (e : PlainEvent) (items : List Item) → was ≡ false → item_by event_of x ≡ Ok e
     → PassesNext old asked (Some x) new now
     → come was old (Ok e ∷ items) ≡ Ok e ∷ come now new items
-events-pass old new was now None x e items w is p =
-    let no : ◌≡◌ {A = Given} (Some x) None
-    → come was old (Ok e ∷ items) ≡ Ok e ∷ come now new items = λ q. cc in no p.0
+events-pass old new was now None x e items w is p = cc p.0
 events-pass old new was now (Some (Ok event)) (Ok passed) e items w is p =
+    let same : event_of event ≡ e = cc (ap event_of p.0, is) in
     rw (w, p.2) (ap (λ v. under old (Ok v ∷ items)) (sym same) ∙ p.1 items
     ∙ ap (λ v. Ok v ∷ under new items) same)
-  where
-    inside : (a b : PlainEvent) → ◌≡◌ {A = Item} (Ok a) (Ok b) → a ≡ b
-    inside a b q = cc
-
-    same : event_of event ≡ e
-    same = ap event_of (sym p.0) ∙ inside (event_of passed) e is
-events-pass old new was now (Some (Ok event)) (Err error) e items w is p =
-    let no : ◌≡◌ {A = Item} (Err (fault_of error)) (Ok e)
-    → come was old (Ok e ∷ items) ≡ Ok e ∷ come now new items = λ q. cc in no is
+events-pass old new was now (Some (Ok event)) (Err error) e items w is p = cc is
 events-pass old new was now (Some (Err error)) x e items w is p =
-    let no : ◌≡◌ {A = Item} (Err (fault_of error)) (Ok e)
-    → come was old (Ok e ∷ items) ≡ Ok e ∷ come now new items = λ q. cc in
-    no (ap (item_by event_of) (sym p.0) ∙ is)
+    cc (ap (item_by event_of) (sym p.0) ∙ is)
 
 asked-by : (was : Bool) {A B : Type 0} → MatchBool was A B → (A → ⊥) → (was ≡ false) × B
 asked-by true h never = absurd (never h)
@@ -141,26 +130,13 @@ run-passes inner_gives old rest [] [] y e = none old.ended
     none : (b : Bool) → come b old.limiter [] ≡ []
     none true = refl
     none false = refl
-run-passes inner_gives old rest [] (event ∷ events) y e =
-    let no : ◌≡◌ {A = List Item} [] (Ok event ∷ map Ok events)
-    → come_of old (map Ok (event ∷ events)) ≡ map Ok (event ∷ events) = λ q. cc in no e
-run-passes inner_gives old rest (x ∷ taken) [] y e =
-    let no : ◌≡◌ {A = List Item} (item_by event_of x ∷ map (item_by event_of) taken) []
-    → come_of old [] ≡ [] = λ q. cc in no e
+run-passes inner_gives old rest [] (event ∷ events) y e = cc e
+run-passes inner_gives old rest (x ∷ taken) [] y e = cc e
 run-passes inner_gives old rest (x ∷ taken) (event ∷ events) (mid, step, more) e =
-    let no : Some x ≡ None → ⊥ = λ q. cc in
-    let asked = asked-by old.ended step (λ a. no a.0) in
+    let asked = asked-by old.ended step (λ a. cc a.0) in
     events-pass old.limiter mid.limiter old.ended mid.ended asked.1.0 x event (map Ok events)
-    asked.0 (head (item_by event_of x) (Ok event) (map (item_by event_of) taken) (map Ok events)
-    e) asked.1.2
-    ∙ ap (λ l. Ok event ∷ l) (run-passes inner_gives mid rest taken events more
-    (tail (item_by event_of x) (Ok event) (map (item_by event_of) taken) (map Ok events) e))
-  where
-    head : (a b : Item) (xs ys : List Item) → a ∷ xs ≡ b ∷ ys → a ≡ b
-    head a b xs ys q = cc
-
-    tail : (a b : Item) (xs ys : List Item) → a ∷ xs ≡ b ∷ ys → xs ≡ ys
-    tail a b xs ys q = cc
+    asked.0 (cc e) asked.1.2
+    ∙ ap (λ l. Ok event ∷ l) (run-passes inner_gives mid rest taken events more (cc e))
 
 -- ---- what passes
 
@@ -173,13 +149,8 @@ module _ (limits : Limits) where
 
   pass-choice : (o : Option Limit) (e : PlainEvent) (behind es : List Item)
       → event_or_limit o e behind ≡ Ok e ∷ es → (o ≡ None) × (behind ≡ es)
-  pass-choice None e behind es h = (refl, tail behind es h)
-    where
-      tail : (xs ys : List Item) → Ok e ∷ xs ≡ Ok e ∷ ys → xs ≡ ys
-      tail xs ys q = cc
-  pass-choice (Some limit) e behind es h =
-      let no : ◌≡◌ {A = List Item} (event_or_limit (Some limit) e behind) (Ok e ∷ es)
-      → (Some limit ≡ None) × (behind ≡ es) = λ q. cc in no h
+  pass-choice None e behind es h = (refl, cc h)
+  pass-choice (Some limit) e behind es h = absurd (cc h)
 
   passes : (came level : ℕ) (es : List PlainEvent)
       → limited_from limits came level (map Ok es) ≡ map Ok es → Pass came level es
@@ -190,50 +161,27 @@ module _ (limits : Limits) where
       (c.0, passes (came + 1) (level_behind e level) es c.1)
 
   -- lengths decide nothing
-  limit-unhinted : (came level : ℕ) (e : PlainEvent)
-      → limit_at limits came level (unhinted e) ≡ limit_at limits came level e
-  limit-unhinted came level (event.StartArray length) = refl
-  limit-unhinted came level (event.StartDictionary length) = refl
-  limit-unhinted came level e = refl
+  next : {P Q R : Type 0} → Q ↔ R → (P × Q) ↔ (P × R)
+  next h = (λ p. (p.0, h.0 p.1), λ p. (p.0, h.1 p.1))
 
-  level-unhinted : (level : ℕ) (e : PlainEvent)
-      → level_behind (unhinted e) level ≡ level_behind e level
-  level-unhinted level (event.StartArray length) = refl
-  level-unhinted level (event.StartDictionary length) = refl
-  level-unhinted level e = refl
-
-  unhinted-passes : (came level : ℕ) (es : List PlainEvent) → Pass came level es
-      → Pass came level (map unhinted es)
-  unhinted-passes came level [] h = tt
-  unhinted-passes came level (e ∷ es) h = (
-    limit-unhinted came level e ∙ h.0,
-    subst (λ n. Pass (came + 1) n (map unhinted es))
-        (sym (level-unhinted level e)) (unhinted-passes (came + 1) (level_behind e level) es h.1),
-  )
-
-  passes-unhinted : (came level : ℕ) (es : List PlainEvent) → Pass came level (map unhinted es)
-      → Pass came level es
-  passes-unhinted came level [] h = tt
-  passes-unhinted came level (e ∷ es) h = (
-    sym (limit-unhinted came level e)
-        ∙ h.0,
-    passes-unhinted (came + 1) (level_behind e level) es
-        (subst (λ n. Pass (came + 1) n (map unhinted es)) (level-unhinted level e) h.1),
-  )
+  both-pass : (came level : ℕ) (es : List PlainEvent)
+      → Pass came level (map unhinted es) ↔ Pass came level es
+  both-pass came level [] = (λ h. h, λ h. h)
+  both-pass came level (event.StartArray length ∷ es) = next (both-pass (came + 1) (level + 1) es)
+  both-pass came level (event.StartDictionary length ∷ es) =
+      next (both-pass (came + 1) (level + 1) es)
+  both-pass came level (e ∷ es) = next (both-pass (came + 1) (level_behind e level) es)
 
   alike-passes : (left right : List PlainEvent) → AreAlike left right → Pass 0 0 left
       → Pass 0 0 right
   alike-passes left right alike h =
-      passes-unhinted 0 0 right (subst (λ l. Pass 0 0 l) alike (unhinted-passes 0 0 left h))
+      (both-pass 0 0 right).0 (subst (λ l. Pass 0 0 l) alike ((both-pass 0 0 left).1 h))
 
   -- an event that passes is within both limits
   allowed : (a b : Bool) → cond a (Some limit.Items) (cond b (Some limit.Depth) None) ≡ None
       → (a ≡ false) × (b ≡ false)
-  allowed true b h =
-      let no : Some limit.Items ≡ None → (true ≡ false) × (b ≡ false) = λ q. cc in no h
-  allowed false true h =
-      let no : Some limit.Depth ≡ None → (false ≡ false) × (true ≡ false) = λ q. cc in no h
   allowed false false h = (refl, refl)
+  allowed a b h = absurd (cc)
 
   below : (m n : ℕ) → nat_le m n ≡ false → n < m
   below m n h = grind (arith, nat_tests)

@@ -1,19 +1,19 @@
 -- Pairs that are put into columns again, and their order.
 use Rattle.std.proofs.Common.{◌≡◌, ℕ, ◌+◌, ◌<◌, Bool, false, cond, List, [], ◌∷◌, ◌++◌, length, map, refl, sym, ap, subst, ◌∙◌, append_assoc, arith, is_some, is_lt}
-use Rattle.std.specs.Prelude.{Some, None, string_bytes, string_cmp, IsPermutation, IsSorted}
+use Rattle.std.specs.Prelude.{string_bytes, string_cmp, IsPermutation, IsSorted}
 use Rattle.std.specs.Cmp.Lexicographic.{slice_cmp, nat_list_eq_equiv}
 use Rattle.std.specs.Ordering.{nat_cmp}
-use Rattle.std.specs.List.{IsDistinct, AllByRecursion}
+use Rattle.std.specs.List.{IsDistinct}
 use Rattle.std.specs.List.Sorted.{IsSortedBy}
-use Rattle.std.specs.Map.{lookup, keys_of}
+use Rattle.std.specs.Map.{keys_of}
 use Rattle.std.specs.Str.{bytes_eq}
-use Rattle.std.proofs.lemmas.List.{get_or-map, length-map}
+use Rattle.std.proofs.lemmas.List.{get_or-map, length-map, map-append}
 use Rattle.std.proofs.lemmas.List.Sorted.{IsPermutation-map}
-use Rattle.indexmap.proofs.MapLemmas.{distinct_permutation}
+use Rattle.indexmap.proofs.MapLemmas.{absent_before, distinct_permutation}
 use Rattle.plist.specs.Shown.{shown_owned_pair}
 use Rattle.plist.proofs.Columns.{Text, rows, any-rows, keys-rows}
 use Rattle.plist.proofs.Inserted.{has, put-lengths, put-rows}
-use Rattle.plist.proofs.Keeping.{differs}
+use Rattle.plist.proofs.Keeping.{first-distinct}
 
 -- what is in order by a function's values, seen as these values
 sorted-map : {A K : Type 0} (f : A → K) (lt : K → K → Bool) (xs : List A)
@@ -26,42 +26,15 @@ sorted-map f lt (x ∷ xs) s k d a b =
     (get_or-map f all k x d (omega (arith, within)) j)) ∙ s k x a within
 
 module _ {V : Type 0} where
-  among : (key k : List ℕ) (v : V) (ps more : List (List ℕ × V))
-      → AllByRecursion (λ y. bytes_eq key y ≡ false) (keys_of (ps ++ (k, v) ∷ more))
-      → bytes_eq key k ≡ false
-  among key k v [] more a = a.0
-  among key k v (p ∷ ps) more a = among key k v ps more a.1
-
-  -- a key that comes later isn't among those before
-  before : (ps more : List (List ℕ × V)) (k : List ℕ) (v : V)
-      → IsDistinct bytes_eq (keys_of (ps ++ (k, v) ∷ more)) → lookup (bytes_eq k) ps ≡ None
-  unfolding IsDistinct
-  before [] more k v d = refl
-  before (p ∷ ps) more k v d =
-      ap (λ b. cond b (Some p.1) (lookup (bytes_eq k) ps))
-      (differs p.0 k (among p.0 k v ps more d.0)) ∙ before ps more k v d.1
-
-  first-all : (key : List ℕ) (ps more : List (List ℕ × V))
-      → AllByRecursion (λ y. bytes_eq key y ≡ false) (keys_of (ps ++ more))
-      → AllByRecursion (λ y. bytes_eq key y ≡ false) (keys_of ps)
-  first-all key [] more a = tt
-  first-all key (p ∷ ps) more a = (a.0, first-all key ps more a.1)
-
-  first-distinct : (ps more : List (List ℕ × V)) → IsDistinct bytes_eq (keys_of (ps ++ more))
-      → IsDistinct bytes_eq (keys_of ps)
-  unfolding IsDistinct
-  first-distinct [] more d = tt
-  first-distinct (p ∷ ps) more d = (first-all p.0 ps more d.0, first-distinct ps more d.1)
-
   module _ (ks : List Text) (vs : List V) (e : length vs ≡ length ks) (whole : List (List ℕ × V))
       (d : IsDistinct bytes_eq (keys_of whole)) where
     -- the keys so far
     pub so-far : (more : List (List ℕ × V)) → rows ks vs ++ more ≡ whole
         → IsDistinct bytes_eq (map string_bytes ks)
     so-far more all =
-        subst (IsDistinct bytes_eq) (keys-rows ks vs e)
-        (first-distinct (rows ks vs) more
-        (subst (λ l. IsDistinct bytes_eq (keys_of l)) (sym all) d))
+        first-distinct (map string_bytes ks) (keys_of more) (subst (IsDistinct bytes_eq)
+        (ap keys_of (sym all) ∙ map-append (λ p. p.0) (rows ks vs) more
+        ∙ ap (λ l. l ++ keys_of more) (keys-rows ks vs e)) d)
 
     module _ (k : Text) (v : V) (rest less : List (Text × V)) (next : rest ≡ (k, v) ∷ less)
         (all : rows ks vs ++ map shown_owned_pair rest ≡ whole) where
@@ -71,19 +44,18 @@ module _ {V : Type 0} where
       lacks : has ks k ≡ false
       lacks =
           any-rows ks vs _ e
-          ∙ ap is_some (before _ _ _ v
+          ∙ ap is_some (absent_before nat_list_eq_equiv (rows ks vs) _ (string_bytes k, v)
           (subst (λ l. IsDistinct bytes_eq (keys_of l)) (sym parts) d))
 
       module _ (ls : List Text) (ws : List V) (hl : ls ≡ cond (has ks k) ks (ks ++ k ∷ []))
           (hw : ws ≡ vs ++ v ∷ []) where
-        pub then-lengths : length ws ≡ length ls
-        then-lengths = put-lengths ks vs e k v lacks ls ws hl hw
-
-        pub then-rows : rows ls ws ++ map shown_owned_pair less ≡ whole
-        then-rows =
-            ap (λ l. l ++ map shown_owned_pair less) (put-rows ks vs e k v lacks ls ws hl hw)
-            ∙ append_assoc (rows ks vs) ((string_bytes k, v) ∷ []) (map shown_owned_pair less)
-            ∙ parts
+        pub then-put : (length ws ≡ length ls) × (rows ls ws ++ map shown_owned_pair less ≡ whole)
+        then-put = (
+          put-lengths ks vs e k v lacks ls ws hl hw,
+          ap (λ l. l ++ map shown_owned_pair less) (put-rows ks vs e k v lacks ls ws hl hw)
+              ∙ append_assoc (rows ks vs) ((string_bytes k, v) ∷ []) (map shown_owned_pair less)
+              ∙ parts,
+        )
 
   keys-shown : (all : List (Text × V))
       → map (λ (r : Text × V). string_bytes r.0) all ≡ keys_of (map shown_owned_pair all)

@@ -3,36 +3,17 @@ use Rattle.std.proofs.Common.{◌≡◌, ℕ, ◌+◌, ◌<◌, ◌≤◌, Bool,
 use Rattle.std.specs.Prelude.{Some, slice_get}
 use Rattle.std.specs.List.{AllZip, items_where_true, swap}
 use Rattle.std.specs.Map.{keys_of}
-use Rattle.std.proofs.lemmas.List.{append-nil}
+use Rattle.std.proofs.Math.Seq.{get_or-append_seam, set-append_seam, take-append_seam}
+use Rattle.std.proofs.lemmas.List.{append-nil, nil_from_length}
 use Rattle.std.proofs.lemmas.List.Edits.{swap_is}
 use Rattle.std.proofs.lemmas.Option.{none-some, same_Some}
+use Rattle.indexmap.proofs.IndexTableLemmas.Indexes.{swap_self}
+use Rattle.indexmap.proofs.SetLemmas.{AllZip-push}
 use Rattle.plist.proofs.Columns.{get-map}
 
 module _ {X : Type 0} where
-  get-at : (front : List X) (x : X) (todo : List X) (d : X)
-      → get_or (front ++ x ∷ todo) (length front) d ≡ x
-  get-at [] x todo d = refl
-  get-at (y ∷ front) x todo d = get-at front x todo d
-
-  set-at : (front : List X) (x y : X) (todo : List X)
-      → set (front ++ x ∷ todo) (length front) y ≡ front ++ y ∷ todo
-  set-at [] x y todo = refl
-  set-at (z ∷ front) x y todo = ap (λ l. z ∷ l) (set-at front x y todo)
-
   within-at : (front : List X) (x : X) (todo : List X) → length front < length (front ++ x ∷ todo)
   within-at front x todo = omega (arith, length-append front (x ∷ todo))
-
-  -- an item in its own place
-  swap-one : (front : List X) (x : X) (todo : List X)
-      → swap (front ++ x ∷ todo) (length front) (length front) ≡ front ++ x ∷ todo
-  swap-one front x todo =
-      let all = front ++ x ∷ todo in
-      let n = length front in
-      let within : n < length all = within-at front x todo in
-      let read : get_or all n x ≡ x = get-at front x todo x in
-      let once : set all n (get_or all n x) ≡ all = ap (λ y. set all n y) read
-      ∙ set-at front x x todo in
-      sym (swap_is all n n x within within) ∙ ap (λ l. set l n (get_or all n x)) once ∙ once
 
   -- two items that stand apart
   swap-two : (front : List X) (y : X) (gap : List X) (x : X) (todo : List X)
@@ -46,26 +27,19 @@ module _ {X : Type 0} where
       let within : j < length all = subst (λ l. j < length l) other
       (within-at (front ++ y ∷ gap) x todo) in
       let at_j : get_or all j x ≡ x = ap (λ l. get_or l j x) (sym other)
-      ∙ get-at (front ++ y ∷ gap) x todo x in
-      let at_i : get_or all i x ≡ y = get-at front y (gap ++ x ∷ todo) x in
+      ∙ get_or-append_seam (front ++ y ∷ gap) x todo x in
+      let at_i : get_or all i x ≡ y = get_or-append_seam front y (gap ++ x ∷ todo) x in
       let moved : (front ++ x ∷ gap) ++ x ∷ todo ≡ front ++ x
       ∷ (gap ++ x ∷ todo) = append_assoc front (x ∷ gap) (x ∷ todo) in
       let same : j ≡ length (front ++ x ∷ gap) = length-append front (y ∷ gap)
       ∙ sym (length-append front (x ∷ gap)) in
       sym (swap_is all i j x (within-at front y (gap ++ x ∷ todo)) within)
       ∙ (λ n. set (set all i (at_j n)) j (at_i n))
-      ∙ ap (λ l. set l j y) (set-at front y x (gap ++ x ∷ todo) ∙ sym moved)
+      ∙ ap (λ l. set l j y) (set-append_seam front y (gap ++ x ∷ todo) x ∙ sym moved)
       ∙ ap (λ n. set ((front ++ x ∷ gap) ++ x ∷ todo) n y) same
-      ∙ set-at (front ++ x ∷ gap) x y todo ∙ append_assoc front (x ∷ gap) (y ∷ todo)
+      ∙ set-append_seam (front ++ x ∷ gap) x todo y ∙ append_assoc front (x ∷ gap) (y ∷ todo)
 
 module _ {X : Type 0} (A : X → Bool → Type 0) where
-  asked-more : (xs : List X) (bs : List Bool) (x : X) (b : Bool) → AllZip A xs bs → A x b
-      → AllZip A (xs ++ x ∷ []) (bs ++ b ∷ [])
-  asked-more [] [] x b a h = (h, tt)
-  asked-more [] (c ∷ bs) x b a h = absurd a
-  asked-more (y ∷ xs) [] x b a h = absurd a
-  asked-more (y ∷ xs) (c ∷ bs) x b a h = (a.0, asked-more xs bs x b a.1 h)
-
   where-true : (xs : List X) (bs : List Bool) (x : X) → AllZip A xs bs
       → items_where_true bs xs ++ x ∷ [] ≡ items_where_true (bs ++ true ∷ []) (xs ++ x ∷ [])
   where-true [] [] x a = refl
@@ -143,7 +117,7 @@ module _ {X : Type 0} (A : X → Bool → Type 0) where
         now_is = k.now_is ∙ (λ n. same n ++ (k.gap ++ is n))
             ∙ ap (λ l. items_where_true (k.answers ++ false ∷ []) (k.done ++ x ∷ []) ++ l)
             (sym (append_assoc k.gap (x ∷ []) rest));
-        asked = asked-more k.done k.answers x false k.asked h;
+        asked = AllZip-push A k.done k.answers x false k.asked h;
         at = omega (arith, k.at, length-append k.done (x ∷ []));
         kept_is = k.kept_is ∙ ap length same;
         apart = omega (
@@ -163,7 +137,7 @@ module _ {X : Type 0} (A : X → Bool → Type 0) where
     [],
     refl,
     (λ n. swap (front ++ x ∷ rest) (a n) ((b ∙ ap length (append-nil front)) n))
-        ∙ swap-one front x rest ∙ sym (append_assoc front (x ∷ []) rest),
+        ∙ swap_self (front ++ x ∷ rest) (length front) ∙ sym (append_assoc front (x ∷ []) rest),
   )
   moved front (y ∷ gap) x rest i kept a b = (
     gap ++ y ∷ [],
@@ -189,7 +163,7 @@ module _ {X : Type 0} (A : X → Bool → Type 0) where
         old_is = k.old_is ∙ ap (λ l. k.done ++ l) is ∙ sym (append_assoc k.done (x ∷ []) rest);
         now_is = ap (λ l. swap l kept i) (k.now_is ∙ ap (λ l. front ++ (k.gap ++ l)) is) ∙ m
             ∙ ap (λ l. l ++ (less ++ rest)) same;
-        asked = asked-more k.done k.answers x true k.asked h;
+        asked = AllZip-push A k.done k.answers x true k.asked h;
         at = omega (arith, k.at, length-append k.done (x ∷ []));
         kept_is = omega (arith, k.kept_is, ap length same, length-append front (x ∷ []));
         apart = omega (
@@ -217,27 +191,18 @@ module _ {X : Type 0} (A : X → Bool → Type 0) where
       subst (λ l. KeptSoFar old l (i + 1) more) (sym n)
       (subst (λ c. KeptSoFar old now (i + 1) c) (sym m) (kept-other old now i kept x k e h))
 
-  take-front : (front rest : List X) → take (length front) (front ++ rest) ≡ front
-  take-front [] [] = refl
-  take-front [] (x ∷ rest) = refl
-  take-front (x ∷ front) rest = ap (λ l. x ∷ l) (take-front front rest)
-
-  none-left : (todo : List X) → length todo ≡ 0 → todo ≡ []
-  none-left [] e = refl
-  none-left (x ∷ todo) e = absurd (omega arith)
-
   -- all were asked
   pub kept-all : (old now new : List X) (i kept : ℕ) → KeptSoFar old now i kept → length old ≤ i
       → new ≡ take kept now → (answers : List Bool) × AllZip A old answers
       × (new ≡ items_where_true answers old)
   kept-all old now new i kept k end is =
       let front = items_where_true k.answers k.done in
-      let nothing = none-left k.todo
+      let nothing = nil_from_length k.todo
       (omega (arith, end, k.at, ap length k.old_is, length-append k.done k.todo)) in
       let all : old ≡ k.done = k.old_is ∙ ap (λ l. k.done ++ l) nothing ∙ append-nil k.done in (
         k.answers,
         subst (λ l. AllZip A l k.answers) (sym all) k.asked,
-        is ∙ (λ n. take (k.kept_is n) (k.now_is n)) ∙ take-front front (k.gap ++ k.todo)
+        is ∙ (λ n. take (k.kept_is n) (k.now_is n)) ∙ take-append_seam front (k.gap ++ k.todo)
             ∙ ap (items_where_true k.answers) (sym all),
       )
 

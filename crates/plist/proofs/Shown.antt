@@ -44,11 +44,12 @@ pub reader-shows : (before after : Option (List Item)) (item : Given)
 reader-shows None after item h = tt
 reader-shows (Some all) after item h = (h.0, h.1, reader-item all h.0 item h.2)
 
-pub of-input : (k : Option (List ℕ)) (items : Option (List Item)) (answer : Result Tree Fault)
-    → items ≡ option_map items_of_input k → Answers items answer
-    → IfSome k (λ bytes. IsReadFrom (items_of_input bytes) answer)
-of-input None items answer e h = tt
-of-input (Some bytes) items answer e h = subst (λ o. Answers o answer) e h
+-- the answer is that of the items that these bytes are read to
+pub of-items : (f : List ℕ → List Item) (k : Option (List ℕ)) (items : Option (List Item))
+    (answer : Result Tree Fault) → items ≡ option_map f k → Answers items answer
+    → IfSome k (λ bytes. IsReadFrom (f bytes) answer)
+of-items f None items answer e h = tt
+of-items f (Some bytes) items answer e h = subst (λ o. Answers o answer) e h
 
 -- ---- a reader of ASCII property lists
 
@@ -69,13 +70,6 @@ ascii-shows now then k l p q item same h =
     (option_map (item_by event_of) item)
     (option_map (λ bytes. items_of_ascii (ends_bare d) bytes q) l)) (sym same)
     (reader-shows _ _ item (ascii-goes (ends_bare now) k l p q item h))
-
-pub of-ascii : (stops : ℕ → Bool) (k : Option (List ℕ)) (items : Option (List Item))
-    (answer : Result Tree Fault) → items
-    ≡ option_map (λ bytes. items_of_ascii stops (front bytes) 0) k → Answers items answer
-    → IfSome k (λ bytes. IsReadFrom (items_of_ascii stops (front bytes) 0) answer)
-of-ascii stops None items answer e h = tt
-of-ascii stops (Some bytes) items answer e h = subst (λ o. Answers o answer) e h
 
 pub ascii-start : (now given : Dialect) (k left : Option (List ℕ)) (place : ℕ) → now ≡ given
     → left ≡ option_map front k → place ≡ 0
@@ -136,12 +130,6 @@ file-items : (k : Option (List ℕ)) (coming : List ℕ → List Item)
 file-items None coming h = refl
 file-items (Some bytes) coming h = ap Some h
 
-of-file : (k : Option (List ℕ)) (items : Option (List Item)) (answer : Result Tree Fault)
-    → items ≡ option_map items_of_file k → Answers items answer
-    → IfSome k (λ bytes. IsReadFrom (items_of_file bytes) answer)
-of-file None items answer e h = tt
-of-file (Some bytes) items answer e h = subst (λ o. Answers o answer) e h
-
 pub of-binary : {R C : Type 0} {g : Ghosts R} {h : CounterGhosts C} (known : R → Option (List ℕ))
     (source : R) (iter new : BinaryReader R C g h) (answer : Result Tree Fault) → iter ≡ new
     → binary.source_of new ≡ source
@@ -149,7 +137,7 @@ pub of-binary : {R C : Type 0} {g : Ghosts R} {h : CounterGhosts C} (known : R �
     → Answers (binary_coming known iter) answer
     → IfSome (known source) (λ bytes. IsReadFrom (items_of_file bytes) answer)
 of-binary known source iter new answer is holds items seen =
-    of-file (known source) (binary_coming known iter) answer
+    of-items items_of_file (known source) (binary_coming known iter) answer
     (ap (binary_coming known) is ∙ ap
     (λ s. option_map (λ bytes. binary.to_come bytes new) (known s)) holds
     ∙ file-items (known source) (λ bytes. binary.to_come bytes new) items) seen

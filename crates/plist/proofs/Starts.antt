@@ -10,9 +10,8 @@ use Rattle.plist.specs.declared.value.Value.{Value}
 use Rattle.plist.specs.declared.value.Value.TheVariants as value
 use Rattle.plist.specs.LastWins.{Rows}
 use Rattle.plist.specs.Views.{tree_of, tree_pairs}
-use Rattle.plist.proofs.Keeping.{last-values-once}
 use Rattle.plist.proofs.TreeOf.{tree_of-Array, tree_of-Dictionary}
-use Rattle.plist.proofs.Tops.{once_from, once_trees}
+use Rattle.plist.proofs.Tops.{trees-once}
 
 trees-length : (vs : List Value) → number_of_trees (trees_of (map tree_of vs)) ≡ length vs
 trees-length [] = refl
@@ -51,7 +50,7 @@ dictionary_begins v pairs slice n rest after p s d l q =
     ap (λ t. bracketing t ++ rest)
     (ap tree_of p ∙ tree_of-Dictionary pairs
     ∙ ap (λ (r : Rows). Dictionary (members_of r))
-    (last-values-once (tree_pairs pairs) (once_trees pairs (once_from pairs d))))
+    (trees-once pairs d))
     ∙ ap (λ k. StartDictionary (Some k) ∷ ((inner ++ EndCollection ∷ []) ++ rest))
     (members-length pairs ∙ sym l)
     ∙ ap (λ l. StartDictionary (Some n) ∷ l)

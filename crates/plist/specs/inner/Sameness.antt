@@ -12,17 +12,6 @@ use Rattle.plist_base.specs.declared.real.RealBits.TheVariants.{Four, Eight}
 use Rattle.plist_base.specs.Trees.{Scalar, Boolean, Data, Date, Integer, Real, String, Uid, Tree, Leaf, Array, Dictionary, Trees, NoTrees, TreeAnd, Members, NoMembers, MemberAnd}
 use Rattle.plist.specs.Same.{AreSameAt, same_real, same_scalar, first_value, is_among, if_found, has_keys, same, same_items, is_covered}
 
-or_later : (a b : Bool) → a ≡ false → a || b ≡ true → b ≡ true
-or_later true b e h = absurd (cc)
-or_later false b e h = h
-
-or_second : (a b : Bool) → b ≡ true → a || b ≡ true
-or_second true b h = refl
-or_second false b h = h
-
-or_none : (a b : Bool) → a ≡ false → b ≡ false → a || b ≡ false
-or_none a b p q = rw (p, q) refl
-
 pub key_eq : (k l : List ℕ) → bytes_eq k l ≡ true → k ≡ l
 key_eq k l h = (bytes_eq-Decides k l).0 h
 
@@ -32,8 +21,7 @@ key_self k = (bytes_eq-Decides k k).1 refl
 real_is : (a b : RealBits) → same_real a b ≡ true → a ≡ b
 real_is (Four a) (Four b) h = ap Four (key_eq a b h)
 real_is (Eight a) (Eight b) h = ap Eight (key_eq a b h)
-real_is (Four a) (Eight b) h = absurd (cc)
-real_is (Eight a) (Four b) h = absurd (cc)
+real_is a b h = absurd (cc)
 
 real_refl : (a : RealBits) → same_real a a ≡ true
 real_refl (Four a) = key_self a
@@ -41,9 +29,8 @@ real_refl (Eight a) = key_self a
 
 boolean_is : (a b : Bool) → cond a b (not b) ≡ true → a ≡ b
 boolean_is true true h = refl
-boolean_is true false h = absurd (cc)
-boolean_is false true h = absurd (cc)
 boolean_is false false h = refl
+boolean_is a b h = absurd (cc)
 
 boolean_refl : (a : Bool) → cond a a (not a) ≡ true
 boolean_refl true = refl
@@ -87,11 +74,10 @@ covered_key : (b : Bool) (seen : List (List ℕ)) (l : List ℕ) (u : Tree) (ms 
 covered_key true seen l u ms ns k t is h fresh e later =
     let k_is : k ≡ l = key_eq k l is in
     let t_is : u ≡ t = same_Some u t (rw is at e) in
-    let here = or_later (is_among l seen) (if_found (first_value l ns) (λ v. same u v))
-    (rw k_is at fresh) h in
-    rw (k_is, ← t_is) (found_at (first_value l ns) u here)
+    let unseen = rw k_is at fresh in
+    rw (k_is, ← t_is) (found_at (first_value l ns) u (rw unseen at h))
 covered_key false seen l u ms ns k t is h fresh e later =
-    later (or_none (bytes_eq k l) (is_among k seen) is fresh) (rw is at e)
+    later (rw (is, fresh) refl) (rw is at e)
 
 covered_at : (seen : List (List ℕ)) (ms ns : Members) (k : List ℕ) (t : Tree)
     → is_covered seen ms ns ≡ true → is_among k seen ≡ false → first_value k ms ≡ Some t
@@ -137,9 +123,7 @@ covered_here : (b : Bool) (seen : List (List ℕ)) (l : List ℕ) (u : Tree) (ns
     → is_among l seen ≡ b → (is_among l seen ≡ false → AreSameAt (Some u) (first_value l ns))
     → is_among l seen || if_found (first_value l ns) (λ v. same u v) ≡ true
 covered_here true seen l u ns is f = rw is refl
-covered_here false seen l u ns is f =
-    or_second (is_among l seen) (if_found (first_value l ns) (λ v. same u v))
-    (at_found (first_value l ns) u (f is))
+covered_here false seen l u ns is f = rw is (at_found (first_value l ns) u (f is))
 
 covered_from : (seen : List (List ℕ)) (ms ns : Members)
     → ((k : List ℕ) (t : Tree) → is_among k seen ≡ false → first_value k ms ≡ Some t
@@ -223,20 +207,14 @@ mutual
   sym_tree (Dictionary ms) (Dictionary ns) h =
       dict_from ns ms (λ k. sym_at (first_value k ms) (first_value k ns) (dict_to ms ns h k)
       (λ t u e. sym_found ms k t u e))
-  sym_tree (Leaf x) (Array us) h = absurd (cc)
-  sym_tree (Leaf x) (Dictionary ns) h = absurd (cc)
-  sym_tree (Array ts) (Leaf y) h = absurd (cc)
-  sym_tree (Array ts) (Dictionary ns) h = absurd (cc)
-  sym_tree (Dictionary ms) (Leaf y) h = absurd (cc)
-  sym_tree (Dictionary ms) (Array us) h = absurd (cc)
+  sym_tree t u h = absurd (cc)
 
   sym_items : (ts us : Trees) → same_items ts us ≡ true → same_items us ts ≡ true
   sym_items NoTrees NoTrees h = refl
-  sym_items NoTrees (TreeAnd u us) h = absurd (cc)
-  sym_items (TreeAnd t ts) NoTrees h = absurd (cc)
   sym_items (TreeAnd t ts) (TreeAnd u us) h =
       let p = and_parts (same t u) (same_items ts us) h in
       both_true (sym_tree t u p.0) (sym_items ts us p.1)
+  sym_items ts us h = absurd (cc)
 
   sym_found : (ms : Members) (k : List ℕ) (t u : Tree) → first_value k ms ≡ Some t → same t u ≡ true
       → same u t ≡ true
@@ -266,14 +244,12 @@ mutual
   trans_items : (ts us vs : Trees) → same_items ts us ≡ true → same_items us vs ≡ true
       → same_items ts vs ≡ true
   trans_items NoTrees NoTrees vs h g = g
-  trans_items NoTrees (TreeAnd u us) vs h g = absurd (cc)
-  trans_items (TreeAnd t ts) NoTrees vs h g = absurd (cc)
-  trans_items (TreeAnd t ts) (TreeAnd u us) NoTrees h g = absurd (cc)
   trans_items (TreeAnd t ts) (TreeAnd u us) (TreeAnd v vs) h g =
       let p = and_parts (same t u) (same_items ts us) h in
       let q = and_parts (same u v) (same_items us vs) g in
       both_true (trans_tree t u v p.0 q.0)
       (trans_items ts us vs p.1 q.1)
+  trans_items ts us vs h g = absurd (cc)
 
   trans_found : (ms : Members) (k : List ℕ) (t u v : Tree) → first_value k ms ≡ Some t
       → same t u ≡ true → same u v ≡ true → same t v ≡ true

@@ -4,9 +4,10 @@ use Rattle.std.proofs.lemmas.List.{length-map, take_all}
 use Rattle.indexmap.specs.IndexMap.{insert_entry}
 use Rattle.plist_base.specs.Trees.{Tree}
 use Rattle.plist.specs.Views.{tree_of, tree_pairs}
-use Rattle.plist.proofs.TreeOf.{tree_pairs_insert}
-use Rattle.plist.proofs.SameTrees.{once-pairs}
-use Rattle.plist.proofs.Copies.{tree-at, next-last}
+use Rattle.plist.proofs.Keeping.{values-insert}
+use Rattle.plist.proofs.Tops.{once_trees}
+use Rattle.plist.proofs.Columns.{get-map}
+use Rattle.plist.proofs.Copies.{next-last}
 use Rattle.plist.proofs.copy.copy_pairs.Goals as goal
 
 pub loop-i-preserved : goal.loop-i-preserved
@@ -19,12 +20,12 @@ loop-i-preserved c =
     let copied = c.in_ok-copy.field-0 in
     let one : suc i ≡ i + 1 = omega arith in
     ap tree_pairs c.in-Ok.ensures.pairs
-    ∙ tree_pairs_insert (string_bytes name) copied c.loop-i.copies
+    ∙ values-insert tree_of (string_bytes name) copied c.loop-i.copies
     ∙ ap (λ l. insert_entry bytes_eq l (string_bytes name) (tree_of copied)) c.loop-i.invariant
     ∙ (λ j. insert_entry bytes_eq (take i (tree_pairs ps)) (c.in_ok-name.ensures.ok j)
     (c.in_ok-copy.ensures j))
-    ∙ next-last (tree_pairs ps) i k (tree_of v) (once-pairs ps c.pair_count-count.ensures.distinct)
-    (tree-at ps i k v c.pair_at.ensures)
+    ∙ next-last (tree_pairs ps) i k (tree_of v) (once_trees ps c.pair_count-count.ensures.distinct)
+    (get-map _ ps i (k, v) c.pair_at.ensures)
     ∙ ap (λ n. take n (tree_pairs ps)) one
 
 pub returns : goal.returns

@@ -1,59 +1,35 @@
-use Rattle.std.proofs.Common.{None, Some, position, sym, ap, ◌∙◌, cond, is_some}
+use Rattle.std.proofs.Common.{None, Some, position, refl, sym, ap, ◌∙◌, cond, is_some}
 use Rattle.std.specs.Str.{bytes_eq}
 use Rattle.std.specs.Map.{lookup, keys_of}
 use Rattle.plist.proofs.EntrySteps.{comes_last, keeps_place, key-there, value-there, kept-there, taken-there, none-taken}
 use Rattle.plist.proofs.dictionary.Pairs.entry.Goals as goal
 
-pub returns-in-Some-clause-key : goal.returns-in-Some-clause-key
-returns-in-Some-clause-key g c =
+pub returns-in-Some : goal.returns-in-Some
+returns-in-Some g c =
     let ps = c.args.self.now in
-    key-there _ ps _
-    (c.in-Some.ensures.1 ∙ ap (λ b. position (bytes_eq b) (keys_of ps)) c.as_str.ensures.value)
+    let at = c.in-Some.ensures.1 ∙ ap (λ b. position (bytes_eq b) (keys_of ps))
+    c.as_str.ensures.value in
+    record {
+      same_pairs = refl;
+      now = refl;
+      key = key-there _ ps _ at;
+      value = value-there _ ps _ at;
+      kept = kept-there _ ps _ _ at;
+      writes = λ v. keeps_place _ v ps _ at;
+      removes = λ after is. taken-there _ ps _ _ at is;
+    }
 
-pub returns-in-Some-clause-value : goal.returns-in-Some-clause-value
-returns-in-Some-clause-value g c =
+pub returns : goal.returns
+returns g c =
     let ps = c.args.self.now in
-    value-there _ ps _
-    (c.in-Some.ensures.1 ∙ ap (λ b. position (bytes_eq b) (keys_of ps)) c.as_str.ensures.value)
-
-pub returns-in-Some-clause-kept : goal.returns-in-Some-clause-kept
-returns-in-Some-clause-kept g c =
-    let ps = c.args.self.now in
-    kept-there _ ps _ _
-    (c.in-Some.ensures.1 ∙ ap (λ b. position (bytes_eq b) (keys_of ps)) c.as_str.ensures.value)
-
-pub returns-in-Some-clause-writes : goal.returns-in-Some-clause-writes
-returns-in-Some-clause-writes g c =
-    let ps = c.args.self.now in
-    λ v. keeps_place _ v ps _
-    (c.in-Some.ensures.1 ∙ ap (λ b. position (bytes_eq b) (keys_of ps)) c.as_str.ensures.value)
-
-pub returns-in-Some-clause-removes : goal.returns-in-Some-clause-removes
-returns-in-Some-clause-removes g c =
-    let ps = c.args.self.now in
-    λ after is. taken-there _ ps _ _
-    (c.in-Some.ensures.1 ∙ ap (λ b. position (bytes_eq b) (keys_of ps)) c.as_str.ensures.value)
-    is
-
-pub returns-clause-value : goal.returns-clause-value
-returns-clause-value g c =
-    sym (ap (λ b. lookup (bytes_eq b) c.args.self.now) (sym c.as_str.ensures.value)
-    ∙ c.in-None.ensures)
-
-pub returns-clause-writes : goal.returns-clause-writes
-returns-clause-writes g c =
-    let ps = c.args.self.now in
-    λ v. sym (comes_last _ v ps
-    (ap (λ b. lookup (bytes_eq b) ps) (sym c.as_str.ensures.value) ∙ c.in-None.ensures))
-
-pub returns-clause-kept : goal.returns-clause-kept
-returns-clause-kept g c =
-    ap (λ o. cond (is_some o) None (Some c.args.key))
-    (sym (ap (λ b. lookup (bytes_eq b) c.args.self.now) (sym c.as_str.ensures.value)
-    ∙ c.in-None.ensures))
-
-pub returns-clause-removes : goal.returns-clause-removes
-returns-clause-removes g c =
-    let ps = c.args.self.now in
-    λ after is. is ∙ sym (none-taken _ ps
-    (ap (λ b. lookup (bytes_eq b) ps) (sym c.as_str.ensures.value) ∙ c.in-None.ensures))
+    let lacks = ap (λ b. lookup (bytes_eq b) ps) (sym c.as_str.ensures.value)
+    ∙ c.in-None.ensures in
+    record {
+      same_pairs = refl;
+      now = refl;
+      key = refl;
+      value = sym lacks;
+      kept = ap (λ o. cond (is_some o) None (Some c.args.key)) (sym lacks);
+      writes = λ v. sym (comes_last _ v ps lacks);
+      removes = λ after is. is ∙ sym (none-taken _ ps lacks);
+    }

@@ -34,6 +34,6 @@ returns g c =
     let l = c.loop-i in
     record {
       kept = kept-all (Answers g.F.Fn c.args.keep) c.args.self.now l.self c.truncate.new.self
-          l.i l.kept l.invariant (omega (arith, c.loop-i-test.false, c.len-i-end.ensures))
+          l.i l.kept l.invariant (omega arith)
           c.truncate.ensures;
     }

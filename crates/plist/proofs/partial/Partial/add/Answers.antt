@@ -1,6 +1,6 @@
 use Rattle.std.proofs.Common.{◌∙◌, ap, reverse, Some}
 use Rattle.plist.specs.Partials.{held_by}
-use Rattle.plist.proofs.Tops.{once_from, pair_made}
+use Rattle.plist.proofs.Tops.{pair_made}
 use Rattle.plist.proofs.partial.Partial.add.Goals as goal
 
 pub returns-in-Ok : goal.returns-in-Ok
@@ -9,4 +9,4 @@ returns-in-Ok c =
     ap (λ root. held_by root (reverse c.push_reserved-in-Some-AfterKey.new.self.items)) c.requires
     ∙ pair_made _ _ _ _ _ _ _ _ c.pop.ensures.items (found.is ∙ ap Some found.field-0-is)
     c.push_reserved-in-Some-AfterKey.ensures.items c.in-Ok.ensures.pairs
-    (once_from _ c.pair_count.ensures.distinct)
+    c.pair_count.ensures.distinct

@@ -27,34 +27,16 @@ compare_items-returns-then-len t c =
 
 pub compare_items-returns-then-not-compare : goal.compare_items-returns-then-not-compare
 compare_items-returns-then-not-compare t c =
-    let first : c.loop-i.i < length c.args.items.now.items = omega
-    (arith, c.loop-i-test.true, c.len-i-end.ensures, c.args.items.now.ok.0) in
-    let second : c.loop-i.i < length c.args.others.now.items = omega (
-      arith,
-      first,
-      c.if-len.false,
-      c.len.ensures,
-      c.len-2.ensures,
-      c.args.items.now.ok.0,
-      c.args.others.now.ok.0,
-    ) in
+    let first : c.loop-i.i < length c.args.items.now.items = omega arith in
+    let second : c.loop-i.i < length c.args.others.now.items = omega arith in
     items-stop _ _ _ _ _ c.args.self.now c.loop-i.self _
     c.compare.new.self first second c.index.ensures c.index-in-loop-i.ensures
     c.loop-i.invariant c.compare.ensures c.if-not-compare.true
 
 pub compare_items-loop-i-preserved : goal.compare_items-loop-i-preserved
 compare_items-loop-i-preserved t c =
-    let first : c.loop-i.i < length c.args.items.now.items = omega
-    (arith, c.loop-i-test.true, c.len-i-end.ensures, c.args.items.now.ok.0) in
-    let second : c.loop-i.i < length c.args.others.now.items = omega (
-      arith,
-      first,
-      c.if-len.false,
-      c.len.ensures,
-      c.len-2.ensures,
-      c.args.items.now.ok.0,
-      c.args.others.now.ok.0,
-    ) in
+    let first : c.loop-i.i < length c.args.items.now.items = omega arith in
+    let second : c.loop-i.i < length c.args.others.now.items = omega arith in
     items-go _ _ _ _ _ c.args.self.now c.loop-i.self _
     c.compare.new.self first second c.index.ensures c.index-in-loop-i.ensures
     c.loop-i.invariant c.compare.ensures c.if-not-compare.false
@@ -64,23 +46,14 @@ compare_items-returns t c =
     let i = c.loop-i.i in
     let vs = c.args.items.now.items in
     let ws = c.args.others.now.items in
-    let past : length vs ≤ i = omega
-    (arith, c.loop-i-test.false, c.len-i-end.ensures, c.args.items.now.ok.0) in
-    let past-too : length ws ≤ i = omega (
-      arith,
-      past,
-      c.if-len.false,
-      c.len.ensures,
-      c.len-2.ensures,
-      c.args.items.now.ok.0,
-      c.args.others.now.ok.0,
-    ) in
+    let past : length vs ≤ i = omega arith in
+    let past-too : length ws ≤ i = omega arith in
     let now = are_same (waiting c.loop-i.self) in
     let so = c.loop-i.invariant.1 in (
       sym (λ j. same_items (item_trees (drop_all i vs past j))
           (item_trees (drop_all i ws past-too j)) && now)
           ∙ c.loop-i.invariant.0,
-      omega (arith, so),
+      omega arith,
     )
 
 pub compare_pairs-returns-then-count-pair_count : goal.compare_pairs-returns-then-count-pair_count
@@ -98,7 +71,7 @@ compare_pairs-returns-then-count-pair_count t c =
 pub compare_pairs-compare-requires : goal.compare_pairs-compare-requires
 compare_pairs-compare-requires t c = (
   let d = no-deeper size-Value c.args.pairs.now c.loop-i.i c.pair_at.result.0.now
-      c.pair_at.result.1.now c.pair_at.ensures in omega (arith, c.decreases, d),
+      c.pair_at.result.1.now c.pair_at.ensures in omega arith,
   tt,
 )
 
@@ -107,7 +80,7 @@ compare_pairs-returns-in-None t c =
     let a = c.pair_count-count.ensures in
     let b = c.pair_count.ensures in
     covered-answers _ _ a.distinct b.distinct
-    (omega (arith, c.if-count-pair_count.false, a.count, b.count)) c.args.self.now
+    (omega arith) c.args.self.now
     false c.loop-i.self
     (pairs-lack _ _ _ _ _ c.args.self.now c.loop-i.self c.pair_at.ensures
     c.in-None.ensures.value c.loop-i.invariant)
@@ -117,7 +90,7 @@ compare_pairs-returns-then-not-compare t c =
     let a = c.pair_count-count.ensures in
     let b = c.pair_count.ensures in
     covered-answers _ _ a.distinct b.distinct
-    (omega (arith, c.if-count-pair_count.false, a.count, b.count)) c.args.self.now
+    (omega arith) c.args.self.now
     false c.compare.new.self
     (pairs-stop _ _ _ _ _ _ c.args.self.now c.loop-i.self _ c.compare.new.self
     c.pair_at.ensures c.in-Some.ensures.value c.loop-i.invariant
@@ -136,14 +109,13 @@ compare_pairs-returns t c =
     let i = c.loop-i.i in
     let a = c.pair_count-count.ensures in
     let b = c.pair_count.ensures in
-    let count : length ps ≡ length qs = omega
-    (arith, c.if-count-pair_count.false, a.count, b.count) in
-    let past : length ps ≤ i = omega (arith, c.loop-i-test.false, a.count) in
+    let count : length ps ≡ length qs = omega arith in
+    let past : length ps ≤ i = omega arith in
     let start = are_same (waiting c.args.self.now) in
     let now = are_same (waiting c.loop-i.self) in
     let so = c.loop-i.invariant.1 in (
       sym (λ j. are_covered (drop_all i ps past j) qs && now)
           ∙ c.loop-i.invariant.0
           ∙ ap (λ s. s && start) (covered-is-same ps qs a.distinct b.distinct count),
-      omega (arith, so),
+      omega arith,
     )

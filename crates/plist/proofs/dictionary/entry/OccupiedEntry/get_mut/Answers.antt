@@ -2,13 +2,13 @@ use Rattle.std.proofs.Common.{◌≡◌, length, refl, ◌<◌}
 use Rattle.std.proofs.Props.{props}
 use Rattle.indexmap.specs.IndexMap.{set_value_at}
 use Rattle.plist.specs.declared.dictionary.entry.OccupiedEntry.{OccupiedEntry}
-use Rattle.plist.proofs.EntrySteps.{length-set}
+use Rattle.indexmap.specs.Layout.{length-set_value_at}
 use Rattle.plist.specs.EntryPlaces.{with_entry_value, still_within}
 use Rattle.plist.proofs.dictionary.entry.OccupiedEntry.get_mut.Goals as goal
 
 pub invariant_of-self-lent : goal.invariant_of-self-lent
 invariant_of-self-lent g c =
-    λ w. (rw (length-set c.args.self.now.pairs.now c.args.self.now.at w) c.args.self.now.within, tt)
+    let o = c.args.self.now in λ w. (rw (length-set_value_at o.pairs.now o.at w) o.within, tt)
 
 same_entry : {V : Type 0} (o : OccupiedEntry V) (w : V)
     (p : o.at < length (set_value_at o.pairs.now o.at w))

@@ -62,5 +62,5 @@ returns g c =
     let b = c.pair_count.ensures in
     equal_by_keys bytes_eq nat_list_eq_equiv g.V.PartialEq.eq (as_map c.args.self.now)
     (as_map c.args.other.now) a.distinct b.distinct
-    (omega (arith, c.if-count-pair_count.false, a.count, b.count))
-    (λ k p. c.loop-i.invariant k (omega (arith, c.loop-i-test.false, a.count)))
+    (omega arith)
+    (λ k p. c.loop-i.invariant k (omega arith))

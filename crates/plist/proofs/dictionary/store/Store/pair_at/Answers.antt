@@ -12,7 +12,7 @@ bounds-as_slice-index g c =
 pub index-requires : goal.index-requires
 index-requires g c =
     let there = item-there _ _ c.self.invariant.0 _ c.self.view_is c.args.index c.requires in
-    omega (arith, there, c.self.inside.items.ok.0)
+    omega arith
 
 pub offset_bounds-as_slice-index : goal.offset_bounds-as_slice-index
 offset_bounds-as_slice-index g c =

@@ -3,7 +3,8 @@ use Rattle.std.specs.Str.{bytes_eq}
 use Rattle.std.specs.List.{zip}
 use Rattle.std.specs.Map.{lookup}
 use Rattle.std.proofs.lemmas.List.{length-map, map_push}
-use Rattle.plist.proofs.Columns.{rows, any-rows, zip-snoc, distinct-bytes}
+use Rattle.indexmap.proofs.ReorderLemmas.{zip_push}
+use Rattle.plist.proofs.Columns.{rows, any-rows, distinct-bytes}
 use Rattle.plist.proofs.dictionary.store.Store.push.Goals as goal
 
 new-keys : (g : _) (c : goal.After-push_reserved g)
@@ -36,6 +37,6 @@ returns-in-Ok-insert-clause-pairs g c =
     (λ i. rows (new-keys g c i) (new-items g c i))
     ∙ ap (λ l. zip l (k.items.items ++ c.args.value ∷ []))
     (map_push string_bytes k.keys.keys c.args.key)
-    ∙ zip-snoc (map string_bytes k.keys.keys) k.items.items (string_bytes c.args.key) c.args.value
+    ∙ zip_push (map string_bytes k.keys.keys) k.items.items (string_bytes c.args.key) c.args.value
     (c.self.invariant.0 ∙ sym (length-map k.keys.keys string_bytes))
     ∙ ap (λ l. l ++ (string_bytes c.args.key, c.args.value) ∷ []) c.self.view_is

@@ -14,12 +14,12 @@ swap_indices-requires-clause-b_in_bounds g c =
 pub swap-requires-clause-i_in_bounds : goal.swap-requires-clause-i_in_bounds
 swap-requires-clause-i_in_bounds g c =
     let there = item-there _ _ c.self.invariant.0 _ c.self.view_is _ c.requires.first in
-    omega (arith, there, c.self.inside.items.ok.0)
+    omega arith
 
 pub swap-requires-clause-j_in_bounds : goal.swap-requires-clause-j_in_bounds
 swap-requires-clause-j_in_bounds g c =
     let there = item-there _ _ c.self.invariant.0 _ c.self.view_is _ c.requires.second in
-    omega (arith, there, c.self.inside.items.ok.0)
+    omega arith
 
 pub invariant_of-self : goal.invariant_of-self
 invariant_of-self g c = (

@@ -8,7 +8,7 @@ use Rattle.plist.proofs.dictionary.store.Store.swap_remove_at.Goals as goal
 pub swap_remove-requires : goal.swap_remove-requires
 swap_remove-requires g c =
     let within = item-there _ _ c.self.invariant.0 _ c.self.view_is c.args.place c.requires in
-    omega (arith, within, c.self.inside.items.ok.0)
+    omega arith
 
 pub invariant_of-self : goal.invariant_of-self
 invariant_of-self g c =
@@ -16,18 +16,11 @@ invariant_of-self g c =
     let e = c.swap_remove_index.ensures in
     let within = item-there _ _ c.self.invariant.0 _ c.self.view_is c.args.place c.requires in
     let there = is_given k.keys.keys c.args.place c.swap_remove_index.result
-    (omega (arith, within, c.self.invariant.0)) e.key in
+    (omega arith) e.key in
     let len : length c.swap_remove_index.new.self.keys + 1
     ≡ length k.keys.keys = subst (λ b. length c.swap_remove_index.new.self.keys
     + (if b then 1 else 0) ≡ length k.keys.keys) there e.len in (
-      omega (
-        arith,
-        c.self.invariant.0,
-        len,
-        c.swap_remove.ensures.len,
-        k.items.ok.0,
-        c.swap_remove.new.self.ok.0,
-      ),
+      omega arith,
       distinct-bytes c.swap_remove_index.new.self.keys e.unique,
     )
 
@@ -49,7 +42,7 @@ returns-clause-pairs g c =
     let within = item-there _ _ c.self.invariant.0 _ c.self.view_is i c.requires in
     let taken = item_given k.keys.keys i c.swap_remove_index.result
     (λ l. c.swap_remove_index.new.self.keys ≡ swap_remove k.keys.keys i l)
-    (omega (arith, within, c.self.invariant.0)) e.key e.keys in
+    (omega arith) e.key e.keys in
     rows-taken _ _ c.self.invariant.0 i taken.0 c.swap_remove.result
     c.swap_remove_index.new.self.keys c.swap_remove.new.self.items within taken.1
     c.swap_remove.ensures.items c.args.self.now c.self.view_is

@@ -1,6 +1,6 @@
 use Rattle.std.proofs.Common.{◌≡◌, length, ap, arith, length-append, ◌∷◌, []}
 use Rattle.std.specs.Vec.Iter.{into_iter_items}
-use Rattle.plist.proofs.Rebuilt.{so-far, then-lengths, then-rows}
+use Rattle.plist.proofs.Rebuilt.{so-far, then-put}
 use Rattle.plist.proofs.dictionary.store.sorted.store_of.Goals as goal
 
 pub loop-key-preserved-in-Ok : goal.loop-key-preserved-in-Ok
@@ -11,13 +11,12 @@ loop-key-preserved-in-Ok g c =
     let less = into_iter_items c.next.new.self in
     let next : rest ≡ (c.in-Some.key, c.in-Some.value) ∷ less = c.in-Some.ensures.steps.0 in
     let put = c.push_reserved.ensures in
+    let then = then-put l.keys.keys l.items.items i.same _ c.requires.distinct c.in-Some.key
+    c.in-Some.value rest less next i.all c.insert.new.self.keys c.push_reserved.new.self.items
+    c.in-Ok.ensures.keys put.items in
     record {
-      same = then-lengths l.keys.keys l.items.items i.same _ c.requires.distinct c.in-Some.key
-          c.in-Some.value rest less next i.all c.insert.new.self.keys c.push_reserved.new.self.items
-          c.in-Ok.ensures.keys put.items;
-      all = then-rows l.keys.keys l.items.items i.same _ c.requires.distinct c.in-Some.key
-          c.in-Some.value rest less next i.all c.insert.new.self.keys c.push_reserved.new.self.items
-          c.in-Ok.ensures.keys put.items;
+      same = then.0;
+      all = then.1;
       keys = omega (arith, i.keys, ap length next, c.in-Ok.ensures.spare);
       items = omega (
         arith,
