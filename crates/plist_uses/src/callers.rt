@@ -1,15 +1,24 @@
 //! Proved callers of the examples.
 
-ghost use Rattle.std.specs.Prelude.{◌≡◌, IfOk, IfSome, string_bytes};
+ghost use Rattle.std.specs.Prelude.{◌≡◌, ◌∷◌, [], IfOk, IfSome, OnOk, string_bytes};
 ghost use Rattle.std.specs.Option.{option_copied};
+ghost use Rattle.plist.specs.Handing.{Took};
+ghost use Rattle.plist.specs.Limiting.{NestsWithin};
+ghost use Rattle.plist.specs.Views.{tree_of};
+ghost use Rattle.plist_reader.specs.Reader.{items_of_input};
 ghost use Rattle.plist_uses.specs.Converting.{IsFileOfInput};
+ghost use Rattle.plist_uses.specs.Counting.{AreCountedOf};
+ghost use Rattle.plist_uses.specs.Generated.{list_events};
 ghost use Rattle.plist_uses.specs.Roots.{IsRootText};
 ghost use Rattle.plist_uses.specs.Settings.{IsChanged, text_at};
 
 use crate::archive::root_of;
 use crate::convert::convert;
+use crate::counting::{Counts, count};
+use crate::generated::{Reading, write_readings};
 use crate::settings::{Settings, SettingsError};
-use plist::stream::Source;
+use crate::strangers::read_upload;
+use plist::stream::{Source, Writer};
 use plist::{Error, ErrorKind, Value};
 use plist_keyed::KeyedError;
 use std::alloc::Global;
@@ -72,4 +81,37 @@ pub fn root_text(alloc: Global, archive: &Value) -> Result<Option<String>, Keyed
         Some(root) => Ok(root.into_string()),
         None => Ok(None),
     }
+}
+
+/// Counts what bytes hold.
+///
+/// # Errors
+///
+/// Those of [`count`].
+pub fn counted(alloc: Global, bytes: &[u8]) -> Result<Counts, Error>
+    ensures counts { AreCountedOf (items_of_input bytes.now) result }
+{
+    count(alloc, bytes)
+}
+
+/// Writes a list of one reading.
+///
+/// # Errors
+///
+/// Those of [`write_readings`].
+pub fn write_one<W: Writer>(reading: Reading, writer: &mut W) -> Result<(), Error>
+    ensures handed { OnOk result (Took W.Step writer.old (list_events (reading ∷ [])) writer.new) }
+{
+    write_readings(&[reading], writer)
+}
+
+/// What a stranger sent, which nests at most 64 collections.
+///
+/// # Errors
+///
+/// Those of [`read_upload`].
+pub fn uploaded(alloc: Global, bytes: &[u8]) -> Result<Value, Error>
+    ensures shallow { IfOk result (λ value. NestsWithin (tree_of value) 64) }
+{
+    read_upload(alloc, bytes)
 }
