@@ -1,6 +1,6 @@
 //! Where a reader takes its bytes from.
 
-ghost use Rattle.std.specs.Prelude.{◌≡◌, ℕ, ◌+◌, ◌-◌, ◌^◌, ◌<◌, ◌≤◌, List, length, drop, None, Some, Option, IfOk, IfErr, IfSome, OnOk};
+ghost use Rattle.std.specs.Prelude.{◌≡◌, ℕ, ◌+◌, ◌-◌, ◌^◌, ◌<◌, ◌≤◌, List, length, drop, Some, Option, IfOk, IfErr, IfSome, OnOk};
 ghost use Rattle.plist_base.specs.Faults.{fault_of};
 ghost use Rattle.plist_base.specs.Sources.{CountsFailure, GivesAt, LiesAt, AnswersIo, FailsReading, EndsTooEarly, IsIoWithin};
 ghost use Rattle.plist_base.specs.Outcomes.{IfRead, DecodesBy, IfRefused};
