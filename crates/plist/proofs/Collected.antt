@@ -1,5 +1,5 @@
 -- The items that a builder has taken, and what comes of them.
-use Rattle.std.proofs.Common.{◌≡◌, inl, inr, false, true≢false, List, [], ◌∷◌, ◌++◌, Option, Some, None, Result, Ok, Err, option_map, map, refl, sym, ap, ◌∙◌, subst}
+use Rattle.std.proofs.Common.{◌≡◌, inl, inr, false, true≢false, List, [], ◌∷◌, ◌++◌, Option, Some, None, Result, Ok, Err, option_map, map, refl, sym, ap, ◌∙◌, IfOk, IfErr}
 use Rattle.plist_base.specs.declared.error.Error.{Error}
 use Rattle.plist_base.specs.Events.{PlainEvent, Item}
 use Rattle.plist_base.specs.Faults as faults
@@ -9,16 +9,14 @@ use Rattle.plist_base.specs.Bracketing.{unhinted, AreAlike}
 use Rattle.std.proofs.lemmas.List.{map-append}
 use Rattle.plist_base.proofs.Grammar.{alike_with}
 use Rattle.plist.specs.LastWins.{with_pair, last_wins}
-use Rattle.plist.specs.Building.{Unfinished, NotBegun, Within, Complete, Built, IsNested, nothing_built, complete_tree, events_so_far, last_wins_so_far, refusal_of, IsUnfinishedFor, IsUnfinished}
+use Rattle.plist.specs.Building.{Unfinished, NotBegun, Within, Complete, Built, IsNested, nothing_built, complete_tree, events_so_far, last_wins_so_far, refusal_at, IsUnfinishedFor, IsUnfinished}
 use Rattle.plist.specs.inner.Steps.{and_pair, carried_on}
-use Rattle.plist.specs.inner.Following.{complete, refusal-last}
-use Rattle.std.specs.Prelude.{IfOk, IfErr}
+use Rattle.plist.specs.inner.Following.{complete, refusal-last, carried}
 use Rattle.std.proofs.lemmas.Option.{none-some, same_Some}
 use Rattle.plist_base.specs.Faults.{fault_of}
 use Rattle.plist.specs.declared.value.Value.{Value}
 use Rattle.plist.specs.Views.{tree_of}
-use Rattle.plist.specs.Collecting.{IsBuiltFrom, IsRefusal, Takes, Refuses, built_tree}
-use Rattle.plist.specs.inner.Carried.{carried-nested, carried-events}
+use Rattle.plist.specs.Collecting.{IsBuiltFrom, TakesOne, RefusesOne, built_tree}
 use Rattle.plist.proofs.Carrying.{carried-last}
 
 -- these events are held, with the last value of each key
@@ -48,18 +46,15 @@ from_last (Some v) w p = (v, refl, sym (same_Some _ w p))
 
 -- an event more is held
 pub holds-more : (events : List PlainEvent) (e : PlainEvent) (before after : Built)
-    → Holds events before → Takes before (Ok e) after → Holds (events ++ e ∷ []) after
+    → Holds events before → TakesOne before (Ok e) after → Holds (events ++ e ∷ []) after
 holds-more events e before after (held, ok, alike, last) k =
     let w = from_last (carried_on and_pair held e) after.unfinished
-    (carried-last held e ∙ sym (ap (λ u. carried_on with_pair u e) last) ∙ k.0) in (
-      w.0,
-      carried-nested and_pair held e w.0 ok w.1,
-      carried-events held e w.0 ok w.1 ∙ alike_with (events_so_far held) events (e ∷ []) alike,
-      w.2,
-    )
+    (carried-last held e ∙ sym (ap (λ u. carried_on with_pair u e) last) ∙ k.0) in
+    let c = carried held e w.0 ok w.1 in
+    (w.0, c.0, c.1 ∙ alike_with (events_so_far held) events (e ∷ []) alike, w.2)
 
 pub took-more : (items : List Item) (item : Item) (before after : Built) → TookAll items before
-    → Takes before item after → TookAll (items ++ item ∷ []) after
+    → TakesOne before item after → TookAll (items ++ item ∷ []) after
 took-more items (Err fault) before after t k = absurd k
 took-more items (Ok e) before after (events, is, fine, h) k = (
   events ++ e ∷ [],
@@ -69,15 +64,14 @@ took-more items (Ok e) before after (events, is, fine, h) k = (
 )
 
 pub refused-last : (ends : Type 0) (items : List Item) (item : Item) (built : Built) (fault : Fault)
-    → TookAll items built → Refuses built.unfinished item fault
+    → TookAll items built → RefusesOne built.unfinished item fault
     → IsBuiltFrom ends (items ++ item ∷ []) (Err fault)
 refused-last ends items (Err error) built fault (events, is, fine, (held, ok, alike, last)) r = (
   events,
   held,
   ok,
   alike,
-  inl (ap (λ l. l ++ Err error ∷ []) is
-      ∙ ap (λ d. map Ok events ++ d ∷ []) (ap Err (sym r))),
+  inl (cc),
 )
 refused-last ends items (Ok e) built fault (events, is, fine, (held, ok, alike, last)) r = (
   events,
@@ -87,8 +81,7 @@ refused-last ends items (Ok e) built fault (events, is, fine, (held, ok, alike, 
   inr (inl (
     e,
     ap (λ l. l ++ Ok e ∷ []) is,
-    subst (λ o. IsRefusal o fault)
-        (ap (λ u. refusal_of u e) last ∙ refusal-last _ e) r,
+    rw (← (ap (λ u. refusal_at u e) last ∙ refusal-last _ e)) r,
   )),
 )
 
@@ -116,7 +109,7 @@ ended ends items built fault UnexpectedEndOfEventStream q end
       )),
     )
 ended ends items built fault faults.WriterFailed q end (events, is, fine, (held, ok, alike, last)) o
-    k = absurd (true≢false (sym k ∙ fine))
+    k = absurd (true≢false (cc))
 ended ends items built fault kind q end t o k = absurd k
 
 -- whatever `finish` answers
@@ -134,4 +127,4 @@ finished ends items built (Err error) end t ok err =
 -- one more of the items that are seen
 pub seen-more : {E : Type 0} (see : E → Item) (seen : List E) (item : E) (P : List Item → Type 0)
     → P (map see seen ++ see item ∷ []) → P (map see (seen ++ item ∷ []))
-seen-more see seen item P h = subst P (sym (map-append see _ _)) h
+seen-more see seen item P h = rw (map-append see _ _) h

@@ -1,31 +1,35 @@
 -- Equality of values, of which some are put off.
-use Rattle.std.proofs.Common.{◌≡◌, ℕ, zero, suc, ◌<◌, ◌≤◌, ◌+◌, ◌-◌, Bool, true, false, ◌&&◌, Option, Some, None, List, [], ◌∷◌, ◌++◌, length, drop, get_or, if◌then◌else◌, IsSome, ◌↔◌, MatchOption, true≢false, refl, sym, ap, ◌∙◌, subst, arith, add-one}
-use Rattle.std.specs.Prelude.{slice_get}
-use Rattle.std.specs.Str.{bytes_eq}
+use Rattle.std.proofs.Common.{◌≡◌, ℕ, zero, suc, ◌≤◌, Some, List, [], ◌∷◌, ap, arith, slice_get, ◌<◌, ◌+◌, ◌-◌, Bool, true, false, ◌&&◌, Option, None, ◌++◌, length, drop, get_or, IsSome, ◌↔◌, MatchOption, true≢false, refl, sym, ◌∙◌, subst, add-one, bytes_eq, option_to_list, drop-cons}
+use Rattle.std.specs.Map.{values_of, lookup, keys_of}
+use Rattle.std.proofs.lemmas.Option.{none-some, same_Some, get_or_from_slice_get, slice_get-get_or, slice_get_read, slice_get_within}
+use denote.Param.Weighed.{most}
 use Rattle.std.specs.List.{IsDistinct}
-use Rattle.std.specs.Map.{lookup, keys_of, values_of}
-use Rattle.std.specs.Option.{option_eq, option_to_list}
+use Rattle.std.specs.Option.{option_eq}
 use Rattle.std.specs.Cmp.{both_ways}
 use Rattle.std.specs.Cmp.Lexicographic.{nat_list_eq_equiv}
-use Rattle.std.proofs.lemmas.Option.{get_or_from_slice_get, none-some, same_Some, slice_get-get_or, slice_get_read, slice_get_within}
 use Rattle.std.proofs.lemmas.Bool.{and_parts}
-use Rattle.std.proofs.Math.Bool.{and-true, and-false}
-use Rattle.std.proofs.Math.Seq.{drop-cons}
+use Rattle.std.proofs.Math.Bool.{and-false}
 use Rattle.std.specs.Cmp.Derive.{both_true}
 use Rattle.std_collections.specs.HashMap.Eq.{get_from_hash_map_eq}
 use Rattle.std_collections.proofs.HashMapEq.{key_at, own_value, equal_by_keys}
 use Rattle.plist_base.specs.Trees.{Dictionary}
 use Rattle.plist.specs.declared.same.Later.{Later}
 use Rattle.plist.specs.declared.same.Pair.{Pair}
-use Rattle.plist.specs.declared.value.Value.{Value}
-use Rattle.plist.specs.declared.value.Value.{Value-F, fold_out-Value}
+use Rattle.plist.specs.declared.value.Value.{Value, Value-F, fold_out-Value}
 use Rattle.plist.specs.inner.PairsSame.{as_map}
-use Rattle.plist.specs.inner.PutOff.{Compares, ComparesItems, ComparesPairs, ComparesValues, ItemsLeft, PairsLeft, PutsOff, are_covered, are_same, same_values, to_compare, waiting}
+use Rattle.plist.specs.inner.PutOff.{Compares, ComparesItems, ComparesPairs, ComparesValues, ItemsLeft, PairsLeft, are_covered, are_same, same_values, to_compare, waiting}
 use Rattle.plist.specs.Same.{same, same_items, same_pairs}
 use Rattle.plist.specs.Views.{item_trees, pair_trees}
 use Rattle.plist.specs.inner.Weights.{weight, weight_step, weights}
 use Rattle.plist.proofs.Dropping.{weights-more}
-use Rattle.plist.proofs.SameTrees.{same-dictionaries}
+use Rattle.plist.proofs.SameTrees.{same_dictionaries}
+
+pub no-deeper : {X : Type 0} (f : X → ℕ) (ps : List (List ℕ × X)) (i : ℕ) (k : List ℕ) (v : X)
+    → slice_get ps i ≡ Some (k, v) → f v ≤ most f (values_of ps)
+no-deeper f [] i k v e = absurd (none-some (k, v) e)
+no-deeper f (p ∷ ps) zero k v e =
+    let same = ap (λ q. f q.1) (same_Some p (k, v) e) in omega arith
+no-deeper f (p ∷ ps) (suc i) k v e = let rest = no-deeper f ps i k v e in omega arith
 
 -- ---- truth values
 
@@ -41,23 +45,22 @@ module _ (all here left was : Bool) (bound one rest : ℕ) (before : Later) (ans
     (compared : Compares here one before answer after) where
   decides : left && (answer && are_same (waiting after)) ≡ all
   decides =
-      ap (λ b. left && b) compared.0 ∙ sym (and-moved here left (are_same (waiting before)))
-      ∙ ap (λ b. b && are_same (waiting before)) (sym first) ∙ so.0
+      cc (and-moved here left (are_same (waiting before)))
 
-  -- it isn't equal
-  pub stops : answer ≡ false → (false ≡ all) × (to_compare (waiting after) ≤ bound)
-  stops unequal = (
-    sym (and-false left) ∙ ap (λ b. left && (b && are_same (waiting after))) (sym unequal)
-        ∙ decides,
-    omega (arith, so.1, compared.1),
-  )
-
-  -- it is: what is left and what is put off decide
-  pub goes-on : answer ≡ true → (left && are_same (waiting after) ≡ all)
-      × (to_compare (waiting after) + rest ≤ bound)
-  goes-on equal = (
-    ap (λ b. left && (b && are_same (waiting after))) (sym equal) ∙ decides,
-    omega (arith, so.1, compared.1),
+  -- where it isn't equal that is the answer, and else what is left and what is put off decide
+  pub next : (answer ≡ false → (false ≡ all) × (to_compare (waiting after) ≤ bound))
+      × (answer ≡ true → (left && are_same (waiting after) ≡ all)
+      × (to_compare (waiting after) + rest ≤ bound))
+  next = (
+    λ unequal. (
+      sym (and-false left) ∙ ap (λ b. left && (b && are_same (waiting after))) (sym unequal)
+          ∙ decides,
+      omega arith,
+    ),
+    λ equal. (
+      ap (λ b. left && (b && are_same (waiting after))) (sym equal) ∙ decides,
+      omega arith,
+    ),
   )
 
 -- ---- pairs that are put off
@@ -66,9 +69,11 @@ pub same-behind : (ps : List Pair) (p : Pair)
     → are_same (ps ++ p ∷ []) ≡ same_values p.value.now p.other.now && are_same ps
 same-behind [] p = refl
 same-behind (q ∷ ps) p =
-    ap (λ b. same_values q.value.now q.other.now && b) (same-behind ps p)
-    ∙ swapped (same_values q.value.now q.other.now) (same_values p.value.now p.other.now)
-    (are_same ps)
+    cc (
+      same-behind ps p,
+      swapped (same_values q.value.now q.other.now)
+          (same_values p.value.now p.other.now) (are_same ps),
+    )
   where
     swapped : (a b c : Bool) → a && (b && c) ≡ b && (a && c)
     swapped true b c = refl
@@ -78,38 +83,14 @@ same-behind (q ∷ ps) p =
 pub left-behind : (ps : List Pair) (p : Pair)
     → to_compare (ps ++ p ∷ []) ≡ weight p.value.now + to_compare ps
 left-behind [] p = refl
-left-behind (q ∷ ps) p = let e = left-behind ps p in omega (arith, e)
-
--- the first two differ
-pub never : (answer equal after : Bool) → answer ≡ false → answer && after ≡ equal && true
-    → false ≡ equal
-never answer equal after e h = sym (ap (λ b. b && after) e) ∙ h ∙ and-true equal
-
--- the first two are equal but for what is put off
-pub begun : (answer equal after : Bool) → answer ≡ true → answer && after ≡ equal && true
-    → after ≡ equal
-begun answer equal after e h = sym (ap (λ b. b && after) e) ∙ h ∙ and-true equal
-
--- a pair that was put off is compared
-pub carried : (before mid : List Pair) (p : Pair) (answer after equal : Bool)
-    → before ≡ mid ++ p ∷ [] → are_same before ≡ equal
-    → answer && after ≡ same_values p.value.now p.other.now && are_same mid
-    → answer && after ≡ equal
-carried before mid p answer after equal is so h =
-    h ∙ sym (ap are_same is ∙ same-behind mid p) ∙ so
-
-pub less-to-compare : (before mid after : List Pair) (p : Pair) → before ≡ mid ++ p ∷ []
-    → 1 ≤ weight p.value.now → to_compare after ≤ to_compare mid + (weight p.value.now - 1)
-    → to_compare after < to_compare before
-less-to-compare before mid after p is some most =
-    let e = ap to_compare is ∙ left-behind mid p in omega (arith, e, some, most)
+left-behind (q ∷ ps) p = let e = left-behind ps p in omega arith
 
 -- the last pair is taken, or there is none
 pub taken : (was l m : List Pair) (o : Option Pair) (n : ℕ) → was ≡ l → n ≡ length l
     → (IsSome o ↔ (0 < n)) → l ≡ m ++ option_to_list o
     → MatchOption o (was ≡ []) (λ p. was ≡ m ++ p ∷ [])
 taken was [] m None n is e h left = is
-taken was (p ∷ l) m None n is e h left = absurd (true≢false (sym (h.1 (omega (arith, e)))))
+taken was (p ∷ l) m None n is e h left = absurd (true≢false (sym (h.1 (omega arith))))
 taken was l m (Some p) n is e h left = is ∙ left
 
 -- nothing is put off
@@ -119,18 +100,6 @@ at-once later equal answer most e = (
   ap (λ b. b && are_same (waiting later)) e,
   omega arith,
 )
-
--- a pair comes to those that are put off where there is room
-pub puts-off : (before after : Later) (p : Pair) (ps : List Pair) (done ok : Bool)
-    → ps ≡ waiting before → done ≡ ok → waiting after ≡ (if ok then ps ++ p ∷ [] else ps)
-    → PutsOff p.value.now p.other.now before done after
-puts-off before after p ps true true was e is = (
-  ap are_same is ∙ same-behind ps p
-      ∙ ap (λ l. same_values p.value.now p.other.now && are_same l) was,
-  ap to_compare is ∙ left-behind ps p ∙ ap (λ l. weight p.value.now + to_compare l) was,
-)
-puts-off before after p ps false false was e is = is ∙ was
-puts-off before after p ps done ok was e is = absurd (cc)
 
 step-some : (layer : Value-F ℕ) → 1 ≤ weight_step layer
 step-some (Value-F.Array items) = omega arith
@@ -145,20 +114,15 @@ step-some (Value-F.Uid n) = omega arith
 
 pub weight-some : (value : Value) → 1 ≤ weight value
 weight-some value =
-    subst (λ n. 1 ≤ n) (sym (fold_out-Value ℕ weight_step value)) (step-some _)
+    rw (fold_out-Value ℕ weight_step value) (step-some _)
 
 -- ---- arrays
 
 -- what is left of a list begins with the item at its place
 left-from : {X : Type 0} (xs : List X) (i : ℕ) (x : X) → slice_get xs i ≡ Some x
-    → drop i xs ≡ x ∷ drop (suc i) xs
+    → drop i xs ≡ x ∷ drop (i + 1) xs
 left-from xs i x e =
-    drop-cons xs i x (slice_get_within xs i x e)
-    ∙ ap (λ y. y ∷ drop (suc i) xs) (get_or_from_slice_get xs i x x e)
-
-weights-from : (vs : List Value) (i : ℕ) (v : Value) → slice_get vs i ≡ Some v
-    → weights (drop i vs) ≡ weight v + weights (drop (suc i) vs)
-weights-from vs i v e = ap weights (left-from vs i v e) ∙ weights-more v (drop (suc i) vs)
+    rw add-one (cc (drop-cons xs i x (slice_get_within xs i x e), get_or_from_slice_get xs i x x e))
 
 -- an item of both arrays is compared
 module _ (vs ws : List Value) (i : ℕ) (v w : Value) (start before : Later) (answer : Bool)
@@ -166,73 +130,25 @@ module _ (vs ws : List Value) (i : ℕ) (v w : Value) (start before : Later) (an
     (b : w ≡ get_or ws i w) (so : ItemsLeft vs ws start i before)
     (compared : ComparesValues v w before answer after) where
   first : slice_get vs i ≡ Some v
-  first = slice_get_read vs (length vs) i v refl p a
+  first = slice_get_read vs _ i v refl p a
 
   items-from : same_items (item_trees (drop i vs)) (item_trees (drop i ws))
-      ≡ same_values v w && same_items (item_trees (drop (suc i) vs)) (item_trees (drop (suc i) ws))
+      ≡ same_values v w && same_items (item_trees (drop (i + 1) vs)) (item_trees (drop (i + 1) ws))
   items-from = λ j. same_items (item_trees (left-from vs i v first j))
       (item_trees (left-from ws i w (slice_get_read ws (length ws) i w refl q b) j))
 
-  pub items-stop : answer ≡ false → ComparesItems vs ws start false after
-  items-stop unequal =
-      stops _ (same_values v w) (same_items (item_trees (drop (suc i) vs))
-      (item_trees (drop (suc i) ws))) _ _ (weight v) (weights (drop (suc i) vs)) before answer after
-      items-from _ (weights-from vs i v first) so compared unequal
-
-  pub items-go : answer ≡ true → ItemsLeft vs ws start (i + 1) after
-  items-go equal =
-      rw add-one (goes-on _ (same_values v w) (same_items (item_trees (drop (suc i) vs))
-      (item_trees (drop (suc i) ws))) _ _ (weight v) (weights (drop (suc i) vs)) before answer after
-      items-from _ (weights-from vs i v first) so compared equal)
+  pub items-next : (answer ≡ false → ComparesItems vs ws start false after)
+      × (answer ≡ true → ItemsLeft vs ws start (i + 1) after)
+  items-next =
+      next _ (same_values v w) (same_items (item_trees (drop (i + 1) vs))
+      (item_trees (drop (i + 1) ws))) _ _ (weight v) (weights (drop (i + 1) vs)) before answer after
+      items-from _ (ap weights (left-from vs i v first) ∙ weights-more v (drop (i + 1) vs)) so
+      compared
 
 -- ---- dictionaries
 
 abbrev pub Rows : Type 0
 Rows = List (List ℕ × Value)
-
-pairs-from : (ps qs : Rows) (i : ℕ) (k : List ℕ) (v : Value) → slice_get ps i ≡ Some (k, v)
-    → are_covered (drop i ps) qs
-    ≡ option_eq same_values (Some v) (lookup (bytes_eq k) qs) && are_covered (drop (suc i) ps) qs
-pairs-from ps qs i k v e = ap (λ l. are_covered l qs) (left-from ps i (k, v) e)
-
-values-from : (ps : Rows) (i : ℕ) (k : List ℕ) (v : Value) → slice_get ps i ≡ Some (k, v)
-    → weights (values_of (drop i ps)) ≡ weight v + weights (values_of (drop (suc i) ps))
-values-from ps i k v e =
-    ap (λ l. weights (values_of l)) (left-from ps i (k, v) e)
-    ∙ weights-more v (values_of (drop (suc i) ps))
-
--- a key of the first that the others lack
-pub pairs-lack : (ps qs : Rows) (i : ℕ) (k : List ℕ) (v : Value) (start now : Later)
-    → slice_get ps i ≡ Some (k, v) → None ≡ lookup (bytes_eq k) qs → PairsLeft ps qs start i now
-    → Compares (are_covered ps qs) (weights (values_of ps)) start false now
-pairs-lack ps qs i k v start now at none so = (
-  (λ j. (option_eq same_values (Some v) (none j) && are_covered (drop (suc i) ps) qs)
-      && are_same (waiting now))
-      ∙ ap (λ s. s && are_same (waiting now)) (sym (pairs-from ps qs i k v at)) ∙ so.0,
-  omega (arith, so.1),
-)
-
--- a key of both, whose values are compared
-module _ (ps qs : Rows) (i : ℕ) (k : List ℕ) (v w : Value) (start before : Later) (answer : Bool)
-    (after : Later) (at : slice_get ps i ≡ Some (k, v)) (found : Some w ≡ lookup (bytes_eq k) qs)
-    (so : PairsLeft ps qs start i before) (compared : ComparesValues v w before answer after) where
-  covered-from : are_covered (drop i ps) qs ≡ same_values v w && are_covered (drop (suc i) ps) qs
-  covered-from =
-      pairs-from ps qs i k v at
-      ∙ λ j. option_eq same_values (Some v) (sym found j) && are_covered (drop (suc i) ps) qs
-
-  pub pairs-stop : answer ≡ false
-      → Compares (are_covered ps qs) (weights (values_of ps)) start false after
-  pairs-stop unequal =
-      stops _ (same_values v w) (are_covered (drop (suc i) ps) qs) _ _ (weight v)
-      (weights (values_of (drop (suc i) ps))) before answer after covered-from _
-      (values-from ps i k v at) so compared unequal
-
-  pub pairs-go : answer ≡ true → PairsLeft ps qs start (i + 1) after
-  pairs-go equal =
-      rw add-one (goes-on _ (same_values v w) (are_covered (drop (suc i) ps) qs) _ _ (weight v)
-      (weights (values_of (drop (suc i) ps))) before answer after covered-from _
-      (values-from ps i k v at) so compared equal)
 
 pair-there : (ps : Rows) (i : ℕ) → i < length ps
     → (k : List ℕ) × (v : Value) × (slice_get ps i ≡ Some (k, v))
@@ -280,11 +196,39 @@ module _ (ps qs : Rows) (d : IsDistinct bytes_eq (keys_of ps))
       ap (λ o. option_eq same_values o (lookup (bytes_eq k) qs))
       (sym (own_value bytes_eq nat_list_eq_equiv ps i k v at d (slice_get_within ps i (k, v) at)))
       ∙ get_from_hash_map_eq bytes_eq same_values nat_list_eq_equiv (as_map ps) (as_map qs) h k))
-      ∙ same-dictionaries ps qs d e
+      ∙ same_dictionaries ps qs d e
 
-  -- what was found of the pairs at each key is the answer for the dictionaries
-  pub covered-answers : (start : Later) (answer : Bool) (after : Later)
-      → Compares (are_covered ps qs) (weights (values_of ps)) start answer after
-      → ComparesPairs ps qs start answer after
-  covered-answers start answer after h =
-      (h.0 ∙ ap (λ s. s && are_same (waiting start)) covered-is-same, h.1)
+  module _ (i : ℕ) (k : List ℕ) (v : Value) (start before : Later)
+      (at : slice_get ps i ≡ Some (k, v)) (so : PairsLeft ps qs start i before) where
+    pairs-from : (o : Option Value) → o ≡ lookup (bytes_eq k) qs → are_covered (drop i ps) qs
+        ≡ option_eq same_values (Some v) o && are_covered (drop (i + 1) ps) qs
+    pairs-from o is =
+        ap (λ l. are_covered l qs) (left-from ps i (k, v) at)
+        ∙ λ j. option_eq same_values (Some v) (sym is j) && are_covered (drop (i + 1) ps) qs
+
+    answers : (answer : Bool) (after : Later)
+        → Compares (are_covered ps qs) (weights (values_of ps)) start answer after
+        → ComparesPairs ps qs start answer after
+    answers answer after h = (h.0 ∙ ap (λ s. s && are_same (waiting start)) covered-is-same, h.1)
+
+    -- a key of the first that the others lack
+    pub pairs-lack : None ≡ lookup (bytes_eq k) qs → ComparesPairs ps qs start false before
+    pairs-lack none =
+        answers false before (
+          ap (λ s. s && are_same (waiting before)) (sym (pairs-from None none)) ∙ so.0,
+          omega (arith, so.1),
+        )
+
+    -- a key of both, whose values are compared
+    pub pairs-next : (w : Value) (answer : Bool) (after : Later) → Some w ≡ lookup (bytes_eq k) qs
+        → ComparesValues v w before answer after
+        → (answer ≡ false → ComparesPairs ps qs start false after)
+        × (answer ≡ true → PairsLeft ps qs start (i + 1) after)
+    pairs-next w answer after found compared =
+        let n = next _ (same_values v w) (are_covered (drop (i + 1) ps) qs) _ _ (weight v)
+        (weights (values_of (drop (i + 1) ps))) before answer after (pairs-from (Some w) found) _
+        (ap (λ l. weights (values_of l)) (left-from ps i (k, v) at)
+        ∙ weights-more v (values_of (drop (i + 1) ps))) so compared in
+        (λ e. answers false after (n.0 e), n.1)
+
+pub ruleset put_off = (same-behind, left-behind, weight-some)

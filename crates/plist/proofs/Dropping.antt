@@ -20,22 +20,22 @@ square-less a k = omega arith
 
 by-square : (a b o p : ℕ) → a < b → o ≤ a → a * a + o < b * b + p
 by-square a b o p less le =
-    let e : b ≡ a + suc (b - suc a) = omega (arith, less) in
+    let e : b ≡ a + suc (b - suc a) = omega arith in
     let s = square-less a (b - suc a) in
-    let same : b * b ≡ (a + suc (b - suc a)) * (a + suc (b - suc a)) = ap (λ n. n * n) e in
-    omega (arith, s, same, le)
+    let same = ap (λ n. n * n) e in
+    omega arith
 
 -- a value that holds no others is dropped
 pub less-by-one : (xs ys : List Value) (v : Value) → weight v ≡ 1 → ys ≡ xs ++ v ∷ []
     → to_drop xs < to_drop ys
 less-by-one xs ys v one is =
-    let t : weights ys ≡ weights xs + weights (v ∷ []) = ap weights is ∙ weights-append xs _ in
-    by-square (weights xs) (weights ys) (weights (others xs)) (weights (others ys))
-    (omega (arith, t, one, weights-more v [])) (others-le xs)
+    let t = ap weights is ∙ weights-append xs _ in
+    by-square _ _ _ _
+    (omega (arith, weights-more v [])) (others-le xs)
 
 others-append : (xs : List Value) (v : Value) → 0 < length xs
     → weights (others (xs ++ v ∷ [])) ≡ weights (others xs) + weight v
-others-append [] v p = absurd (omega (arith, p))
+others-append [] v p = absurd (omega arith)
 others-append (x ∷ xs) v p = omega (arith, weights-append xs (v ∷ []), weights-more v [])
 
 -- what a value holds comes in its place
@@ -43,10 +43,10 @@ pub less-by-joining : (joined left below ys : List Value) (v : Value)
     → weight v ≡ 1 + weights below → ys ≡ left ++ v ∷ [] → IsLess joined left below
     → to_drop joined < to_drop ys
 less-by-joining joined left below ys v w is (inl less) =
-    let t : weights ys ≡ weights left + weights (v ∷ []) =
+    let t =
     ap weights is ∙ weights-append left (v ∷ []) in
-    by-square (weights joined) (weights ys) (weights (others joined)) (weights (others ys))
-    (omega (arith, t, w, less, weights-more v [])) (others-le joined)
+    by-square _ _ _ _
+    (omega (arith, weights-more v [])) (others-le joined)
 less-by-joining joined left below ys v w is (inr (some, same, fewer)) =
     let t : weights ys ≡ weights left + weights (v ∷ []) =
     ap weights is ∙ weights-append left (v ∷ []) in

@@ -1,21 +1,19 @@
 -- What is written at a place of a list of pairs.
-use Rattle.std.proofs.Common.{◌≡◌, ℕ, zero, suc, List, [], ◌∷◌, ◌++◌, length, refl, ap, sym, ◌∙◌, Some, None, cond}
-use Rattle.std.specs.Prelude.{slice_get, Option, position, Bool, true, false, is_some, get_or, swap_remove, if◌then◌else◌}
+use Rattle.std.proofs.Common.{◌≡◌, ℕ, zero, suc, List, [], ◌∷◌, ◌++◌, length, refl, ap, sym, ◌∙◌, Some, None, cond, slice_get, Option, position, false, is_some, get_or, swap_remove, bytes_eq}
 use Rattle.std.proofs.lemmas.List.Quantifiers.{position-Some}
 use Rattle.std.proofs.lemmas.Option.{slice_get-get_or, none-some, same_Some}
 use Rattle.std.proofs.lemmas.Slice.Eq.{bytes_eq-Decides}
 use Rattle.std.specs.Map.{lookup, keys_of, values_of}
-use Rattle.std.specs.Str.{bytes_eq}
 use Rattle.std_collections.proofs.HashLookup.{set_value_at_push}
 use Rattle.plist.proofs.Columns.{get-map}
 use Rattle.indexmap.proofs.MapLemmas.{Found-position, absent_from_lookup, insert_entry-absent, insert_entry-first, some_index, swap_remove_entry-found, swap_remove_entry-missing}
+use Rattle.indexmap.specs.Layout.{length-set_value_at}
 use Rattle.indexmap.specs.IndexMap.{set_value_at, insert_entry, swap_remove_entry}
 
 pub set_pushed : {K X : Type 0} (ps new : List (K × X)) (k : K) (v w : X) (n : ℕ)
     → new ≡ ps ++ (k, v) ∷ [] → n ≡ length ps → set_value_at new n w ≡ ps ++ (k, w) ∷ []
 set_pushed ps new k v w n e is =
-    ap (λ l. set_value_at l n w) e ∙ ap (λ m. set_value_at (ps ++ (k, v) ∷ []) m w) is
-    ∙ set_value_at_push ps k v w
+    cc (set_value_at_push ps k v w)
 
 get_last : {K X : Type 0} (ps : List (K × X)) (k : K) (v : X)
     → slice_get (values_of (ps ++ (k, v) ∷ [])) (length ps) ≡ Some v
@@ -25,8 +23,7 @@ get_last (p ∷ ps) k v = get_last ps k v
 pub read_pushed : {K X : Type 0} (ps new : List (K × X)) (k : K) (v r : X) (n : ℕ)
     → new ≡ ps ++ (k, v) ∷ [] → n ≡ length ps → Some r ≡ slice_get (values_of new) n → r ≡ v
 read_pushed ps new k v r n e is read =
-    same_Some r v (read ∙ ap (λ l. slice_get (values_of l) n) e
-    ∙ ap (λ m. slice_get (values_of (ps ++ (k, v) ∷ [])) m) is ∙ get_last ps k v)
+    same_Some r v (cc (get_last ps k v))
 
 read_at : {K X : Type 0} (ps : List (K × X)) (i : ℕ) (v r : X)
     → slice_get (values_of (set_value_at ps i v)) i ≡ Some r → r ≡ v
@@ -38,13 +35,12 @@ read_at (p ∷ ps) (suc i) v r read = read_at ps i v r read
 pub read_set : {K X : Type 0} (ps new : List (K × X)) (i j : ℕ) (v r : X)
     → new ≡ set_value_at ps i v → j ≡ i → slice_get (values_of new) j ≡ Some r → r ≡ v
 read_set ps new i j v r is same read =
-    read_at ps i v r (sym (ap (λ n. slice_get (values_of (set_value_at ps i v)) n) same)
-    ∙ sym (ap (λ l. slice_get (values_of l) j) is) ∙ read)
+    read_at ps i v r (cc)
 
 -- a key that isn't there comes last
 pub comes_last : {X : Type 0} (k : List ℕ) (v : X) (ps : List (List ℕ × X))
     → lookup (bytes_eq k) ps ≡ None → insert_entry bytes_eq ps k v ≡ ps ++ (k, v) ∷ []
-comes_last k v ps e = insert_entry-absent bytes_eq k v ps (absent_from_lookup _ ps e)
+comes_last k v ps e = insert_entry-absent _ k v ps (absent_from_lookup _ ps e)
 
 -- a key that is there keeps its place
 pub keeps_place : {X : Type 0} (k : List ℕ) (v : X) (ps : List (List ℕ × X)) (i : ℕ)
@@ -92,4 +88,7 @@ module _ {X : Type 0} (k : List ℕ) where
       → swap_remove_entry (bytes_eq k) ps ≡ ps
   none-taken ps e =
       swap_remove_entry-missing _ ps
-      (none_of _ (some_index _ ps ∙ ap is_some e))
+      (none_of _ (cc (some_index _ ps)))
+
+-- what proofs of entries know of a place
+pub ruleset places = (second_at, length-set_value_at)

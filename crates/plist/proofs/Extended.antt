@@ -1,10 +1,7 @@
 -- Pairs that are inserted one after the other.
-use Rattle.std.proofs.Common.{◌≡◌, ℕ, List, [], ◌∷◌, ◌++◌, map, sym, ap, ◌∙◌, Option, Ok, Err}
-use Rattle.std.specs.Prelude.{String, Result, OnOk}
+use Rattle.std.proofs.Common.{◌≡◌, ℕ, List, [], ◌∷◌, ◌++◌, map, sym, ap, ◌∙◌, Option, Ok, Err, String, Result, OnOk, bytes_eq, Global}
 use Rattle.std.specs.Iterator.{Drains}
 use Rattle.std.specs.Iterator.Runs.{YieldsInOrder}
-use Rattle.std.specs.Str.{bytes_eq}
-use Rattle.std.specs.declared.alloc.Global.{Global}
 use Rattle.std.proofs.lemmas.List.{map_push}
 use Rattle.indexmap.specs.IndexMap.{insert_all, insert_entry}
 use Rattle.indexmap.proofs.CallerLemmas.{Drains-YieldsInOrder}
@@ -38,9 +35,9 @@ module _ {V I : Type 0} (gives : I → Option (String Global × V) → I → Typ
   pub list-added : (old : List (List ℕ × V)) (answer : Result (Unit {0}) Error)
       (new : List (List ℕ × V)) → ExtendsBy gives iter old answer new
       → OnOk answer (new ≡ insert_all bytes_eq old (map shown_owned_pair list))
-  list-added old (Ok done) new ran = ran.2 ∙ all-taken old ran.0 ran.1
+  list-added old (Ok done) new ran = ran.2 ∙ all-taken old _ ran.1
   list-added old (Err error) new ran = tt
 
   pub list-made : (made : List (List ℕ × V)) → IsMadeOf gives iter made
       → made ≡ insert_all bytes_eq [] (map shown_owned_pair list)
-  list-made made ran = ran.2 ∙ all-taken [] ran.0 ran.1
+  list-made made ran = ran.2 ∙ all-taken [] _ ran.1

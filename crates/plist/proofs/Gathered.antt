@@ -1,12 +1,12 @@
 -- The events of a value are gathered, and their file goes out.
-use Rattle.std.proofs.Common.{◌≡◌, ℕ, List, ◌∷◌, [], ◌++◌, Option, Some, Result, Ok, Err, map, refl, sym, ap, ◌∙◌, subst, append_assoc, append-nil}
+use Rattle.std.proofs.Common.{◌≡◌, ℕ, List, ◌∷◌, [], ◌++◌, Option, Some, Result, Ok, Err, map, refl, sym, ap, ◌∙◌, subst, append_assoc, append-nil, None, IfErr}
 use Rattle.plist_base.specs.Bracketing.{bracketing, unhinted, shape, AreAlike, AreWhole}
 use Rattle.plist_base.specs.declared.error.Error.{Error}
 use Rattle.plist_base.specs.declared.event.Event.{Event}
 use Rattle.plist_base.specs.Events.{PlainEvent, event_of}
-use Rattle.plist_base.specs.Faults.{FaultKind, Fault, Io, OutOfMemory, PlistTooLarge, fault_nowhere}
+use Rattle.plist_base.specs.Faults.{FaultKind, Fault, Io, OutOfMemory, PlistTooLarge, fault_nowhere, fault_of}
 use Rattle.plist_base.specs.Trees.{Tree}
-use Rattle.plist_base.specs.Writing.{Answer}
+use Rattle.plist_base.specs.Writing.{Answer, answer_of}
 use Rattle.plist_base.proofs.Grammar.{alike_unhinted}
 use Rattle.plist_base.proofs.Stacks.{shape-is}
 use Rattle.plist_binwrite.specs.Sending.{Sends, FailsWith}
@@ -33,7 +33,7 @@ gathered_more all held new before after item event so gives is grown =
 pub gathered_all : (tree : Tree) (held left : List PlainEvent)
     → held ++ map unhinted left ≡ map unhinted (bracketing tree) → left ≡ [] → held ≡ shape tree
 gathered_all tree held left so none =
-    sym (append-nil _) ∙ ap (λ l. held ++ map unhinted l) (sym none) ∙ so ∙ shape-is _
+    cc (append-nil _, shape-is _)
 
 pub gathered_alike : (tree : Tree) (es : List PlainEvent) → es ≡ shape tree
     → AreAlike es (bracketing tree)
@@ -49,17 +49,31 @@ module _ (tree : Tree) (es : List PlainEvent) (alike : AreAlike es (bracketing t
   module _ {W : Type 0} (contents : W → Option (List ℕ)) (old new : W) where
     stops : (kind : FaultKind) → FailsWith contents kind es old new
         → StopsSending contents kind tree old new
-    stops Io f = (f.0, f.1.1 tree alike, f.2)
-    stops PlistTooLarge f = (f.0.1 tree alike, f.1)
+    stops Io f = (f.0, f.1.1 _ alike, f.2)
+    stops PlistTooLarge f = (f.0.1 _ alike, f.1)
     stops OutOfMemory f = (tt, f)
     stops kind f = absurd f
 
     pub sends_tree : (answer : Answer) → Sends contents es answer old new
         → SendsTree contents tree answer old new
-    sends_tree (Ok done) s = (s.0, s.1.1 tree alike, s.2)
-    sends_tree (Err fault) s = (s.0, stops fault.kind s.1)
+    sends_tree (Ok done) s = (s.0, s.1.1 _ alike, s.2)
+    sends_tree (Err fault) s = (s.0, stops _ s.1)
 
 pub wants_memory : {W : Type 0} (contents : W → Option (List ℕ)) (tree : Tree) (fault : Fault)
     (w : W) → fault ≡ fault_nowhere OutOfMemory → SendsTree contents tree (Err fault) w w
 wants_memory contents tree fault w is =
-    subst (λ f. SendsTree contents tree (Err f) w w) (sym is) (refl, (tt, refl))
+    rw is (refl, (tt, refl))
+
+-- a device's failure behind the whole file stops its sending
+stops_behind : {W : Type 0} (tree : Tree) (fault : Fault) (old new : W)
+    → SendsTree (λ w. None) tree (Ok tt) old new → fault ≡ fault_nowhere Io
+    → (fault.offset ≡ None) × StopsSending (λ w. None) fault.kind tree old new
+stops_behind tree fault old new sent is =
+    rw is (refl, (sent.0, sent.1, (sent.0, [], tt, sym (append-nil _))))
+
+pub stored : {W : Type 0} (tree : Tree) (answer : Result (Unit {0}) Error) (old new : W)
+    → SendsTree (λ w. None) tree (Ok tt) old new
+    → IfErr answer (λ error. fault_of error ≡ fault_nowhere Io)
+    → SendsTree (λ w. None) tree (answer_of answer) old new
+stored tree (Ok done) old new sent is = sent
+stored tree (Err error) old new sent is = stops_behind _ (fault_of error) old new sent is

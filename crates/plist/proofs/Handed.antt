@@ -3,7 +3,7 @@ use Rattle.std.proofs.Common.{◌≡◌, inl, inr, List, [], ◌∷◌, ◌++◌
 use Rattle.plist_base.specs.declared.error.Error.{Error}
 use Rattle.plist_base.specs.declared.event.Event.{Event}
 use Rattle.plist_base.specs.Events.{PlainEvent, event_of, item_of}
-use Rattle.plist_base.specs.Faults.{Fault, fault_of}
+use Rattle.plist_base.specs.Faults.{Fault}
 use Rattle.plist_base.specs.Writing.{Answer}
 use Rattle.plist.specs.declared.stream.events.Events.{Events}
 use Rattle.plist.specs.Handing.{Took, Hands, HandsItem}
@@ -32,8 +32,8 @@ module _ {S : Type 0} (Step : S → PlainEvent → Answer → S → Type 0) wher
     taken ++ event_of e ∷ [],
     is ∙ ap (λ l. taken ++ l) g.0
         ∙ sym (append_assoc taken (event_of e ∷ []) (remaining_events left)),
-    took-more taken
-        before now after (event_of e) took s,
+    took-more _
+        _ now _ _ took s,
   )
   one-more before now after all events left (Err error) h g s = absurd (cc s.0)
 
@@ -54,5 +54,4 @@ module _ {S : Type 0} (Step : S → PlainEvent → Answer → S → Type 0) wher
   pub all-handed : (before now : S) (all : List PlainEvent) (events left : Events)
       → HandedSoFar before all events now → GivesEvent events None left → Took Step before all now
   all-handed before now all events left (taken, is, took) g =
-      subst (λ l. Took Step before l now) (sym (is ∙ ap (λ l. taken ++ l) g.0 ∙ append-nil taken))
-      took
+      rw (is ∙ ap (λ l. taken ++ l) g.0 ∙ append-nil taken) took

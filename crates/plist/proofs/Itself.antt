@@ -8,14 +8,14 @@ use Rattle.plist.specs.declared.value.Value.{Value, ind-Value, fold-roll-Value, 
 use Rattle.plist.specs.declared.value.Value.TheOpen.{Value-F}
 use Rattle.plist.specs.declared.value.Value.TheFolds.{map-Value}
 use Rattle.plist.specs.LastWins.{Rows, with_pair, last_values, last_wins}
-use Rattle.plist.specs.Building.{Unfinished, IsNested, IsCarriedOn, refusal_of, last_wins_in_rows, last_wins_within, last_wins_so_far, InArray, InDictionary, AfterKey, Within, Complete}
+use Rattle.plist.specs.Building.{Unfinished, IsNested, IsCarriedOn, refusal_at, last_wins_in_rows, last_wins_within, last_wins_so_far, InArray, InDictionary, AfterKey, Within, Complete}
 use Rattle.plist.specs.declared.partial.Open.{Open}
 use Rattle.plist.specs.declared.partial.Open.TheVariants as run
-use Rattle.plist.specs.Partials.{open_of, held_by}
+use Rattle.plist.specs.Partials.{open_of, held_in}
 use Rattle.plist.specs.Views.{tree_of, tree_step, tree_pairs}
 use Rattle.plist.proofs.Keeping.{last-values-once, once-last, values-inserts}
-use Rattle.plist.specs.inner.Steps.{and_pair, carried_on}
-use Rattle.plist.specs.inner.Carried.{carried-taken, carried-nested, carried-events}
+use Rattle.plist.specs.inner.Steps.{carried_on}
+use Rattle.plist.specs.inner.Following.{taken}
 use Rattle.plist.proofs.Carrying.{items-last, pairs-last, carried-last}
 
 abbrev IsItself : Value → Type 0
@@ -79,7 +79,7 @@ open-itself (run.AfterKey pairs key) = ap (λ d. AfterKey d (string_bytes key)) 
 
 -- what is held is its own last-value form
 pub held-itself : (root : Option Value) (cs : List Open)
-    → last_wins_so_far (held_by root cs) ≡ held_by root cs
+    → last_wins_so_far (held_in root cs) ≡ held_in root cs
 held-itself (Some v) cs = ap Complete (itself v)
 held-itself None [] = refl
 held-itself None (c ∷ cs) =
@@ -87,15 +87,11 @@ held-itself None (c ∷ cs) =
 
 -- what a builder holds is carried on by an event as the plain events are
 pub carry : (root : Option Value) (cs : List Open) (e : PlainEvent) (a : Unfinished)
-    → IsNested (held_by root cs) → refusal_of (held_by root cs) e ≡ None
-    → carried_on with_pair (held_by root cs) e ≡ Some a → IsCarriedOn (held_by root cs) e a
+    → IsNested (held_in root cs) → refusal_at (held_in root cs) e ≡ None
+    → carried_on with_pair (held_in root cs) e ≡ Some a → IsCarriedOn (held_in root cs) e a
 carry root cs e a ok p q =
-    let b = held_by root cs in
-    let g = carried-taken and_pair b e p in
+    let b = held_in root cs in
+    let g = taken b e ok p in
     let last : Some (last_wins_so_far g.0) ≡ Some a = sym (ap (option_map last_wins_so_far) g.1)
-    ∙ carried-last b e ∙ ap (λ u. carried_on with_pair u e) (held-itself root cs) ∙ q in (
-      g.0,
-      carried-nested and_pair b e g.0 ok g.1,
-      carried-events b e g.0 ok g.1,
-      sym (same_Some _ a last),
-    )
+    ∙ carried-last b e ∙ ap (λ u. carried_on with_pair u e) (held-itself root cs) ∙ q in
+    (g.0, g.2, g.3, sym (same_Some _ a last))

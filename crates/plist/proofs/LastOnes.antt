@@ -1,8 +1,7 @@
 -- The last values of pairs: keys in the order in which they came first, each with its last value.
-use Rattle.std.proofs.Common.{◌≡◌, ℕ, Bool, true, false, cond, if◌then◌else◌, List, [], ◌∷◌, Option, None, Some, refl, sym, ap, ◌∙◌}
+use Rattle.std.proofs.Common.{◌≡◌, ℕ, Bool, true, false, cond, if◌then◌else◌, List, [], ◌∷◌, Option, None, Some, refl, ap, ◌∙◌, bytes_eq}
 use Rattle.std.specs.Map.{lookup, keys_of}
 use Rattle.std.specs.Option.{option_or}
-use Rattle.std.specs.Str.{bytes_eq}
 use Rattle.std.proofs.lemmas.Slice.Eq.{bytes_eq-Decides}
 use Rattle.indexmap.specs.IndexMap.{insert_entry, insert_all}
 use Rattle.indexmap.proofs.SetLemmas.{keys_insert_entry}
@@ -25,15 +24,15 @@ one true c d v w l more f g r = rw (f refl) (twice d)
     twice true = refl
     twice false = refl
 one false true d v w l more f g r = rw (g refl) r
-one false false d v w l more f g r = ap (cond d (Some w)) r
+one false false d v w l more f g r = ap (cond d _) r
 
 lookup-insert : (q k : Key) (v : Tree) (es : Rows)
     → lookup (bytes_eq q) (insert_entry bytes_eq es k v)
     ≡ cond (bytes_eq q k) (Some v) (lookup (bytes_eq q) es)
 lookup-insert q k v [] = refl
 lookup-insert q k v (e ∷ es) =
-    moved (bytes_eq k e.0)
-    ∙ one (bytes_eq k e.0) (bytes_eq q k) (bytes_eq q e.0) v e.1 (lookup (bytes_eq q) es) _
+    moved _
+    ∙ one _ _ _ v e.1 (lookup (bytes_eq q) es) _
     (λ p. ap (bytes_eq q) ((bytes_eq-Decides k e.0).0 p))
     (λ p. ap (λ x. bytes_eq x e.0) ((bytes_eq-Decides q k).0 p)) (lookup-insert q k v es)
   where
@@ -51,8 +50,7 @@ keys-all : (es rows : Rows) → keys_of (insert_all bytes_eq es rows)
     ≡ first_keys_behind (keys_of es) (keys_of rows)
 keys-all es [] = refl
 keys-all es (r ∷ rows) =
-    keys-all (insert_entry bytes_eq es r.0 r.1) rows
-    ∙ ap (λ ks. first_keys_behind ks (keys_of rows)) (keys_insert_entry bytes_eq es r.0 r.1)
+    cc (keys-all (insert_entry bytes_eq es r.0 r.1) rows, keys_insert_entry bytes_eq es r.0 r.1)
 
 or-later : (o l : Option Tree) (b : Bool) (x : Tree)
     → option_or o (cond b (Some x) l) ≡ option_or (option_or o (cond b (Some x) None)) l
@@ -65,9 +63,12 @@ lookup-all : (q : Key) (es rows : Rows)
     ≡ option_or (last_value q rows) (lookup (bytes_eq q) es)
 lookup-all q es [] = refl
 lookup-all q es (r ∷ rows) =
-    lookup-all q (insert_entry bytes_eq es r.0 r.1) rows
-    ∙ ap (option_or (last_value q rows)) (lookup-insert q r.0 r.1 es)
-    ∙ or-later (last_value q rows) (lookup (bytes_eq q) es) (bytes_eq q r.0) r.1
+    cc (
+      lookup-all q (insert_entry bytes_eq es r.0 r.1) rows,
+      lookup-insert q r.0 r.1 es,
+      or-later
+          (last_value q rows) (lookup (bytes_eq q) es) (bytes_eq q r.0) r.1,
+    )
 
 or-none : (o : Option Tree) → option_or o None ≡ o
 or-none None = refl

@@ -1,9 +1,8 @@
 -- Values under limits.
 use Rattle.std.proofs.lemmas.Bool.Decides.{nat_tests}
-use Rattle.std.proofs.Common.{◌≡◌, ℕ, ◌+◌, ◌-◌, ◌≤◌, ◌<◌, Bool, true, false, cond, List, [], ◌∷◌, ◌++◌, length, map, Option, None, Some, Result, Ok, Err, IfSome, MatchBool, ◌↔◌, refl, sym, ap, ◌∙◌, subst, arith, append_assoc, append-nil}
-use Rattle.std.specs.Prelude.{◌&&◌, nat_le, IfOk, ⊤}
+use Rattle.std.proofs.Common.{◌≡◌, ℕ, ◌+◌, ◌-◌, ◌≤◌, ◌<◌, Bool, true, false, cond, List, [], ◌∷◌, ◌++◌, length, map, Option, None, Some, Result, Ok, Err, MatchBool, ◌↔◌, refl, sym, ap, ◌∙◌, subst, arith, append_assoc, append-nil, ◌&&◌, nat_le, IfOk, option_map}
+use Rattle.std.specs.Prelude.{⊤}
 use Rattle.std.specs.Iterator.{Yields}
-use Rattle.std.specs.Option.{option_map}
 use Rattle.plist_base.specs.declared.error.Error.{Error}
 use Rattle.plist_base.specs.declared.event.Event.{Event}
 use Rattle.plist_base.specs.declared.limited.Limited.{Limited}
@@ -13,15 +12,15 @@ use Rattle.plist_base.specs.declared.limits.Limits.{Limits}
 use Rattle.plist_base.specs.declared.limits.Limiter.{Limiter}
 use Rattle.plist_base.specs.Events as event
 use Rattle.plist_base.specs.Events.{Item, PlainEvent, event_of}
-use Rattle.plist_base.specs.Faults.{Fault, fault_of, kind_of, error_kind_of}
+use Rattle.plist_base.specs.Faults.{Fault, kind_of, error_kind_of}
 use Rattle.plist_base.specs.Limits.{GivesLimited, PassesNext, come_of, event_or_limit, inner_of, level_behind, limit_at, limited_from, limited_items, opens, under}
 use Rattle.plist_base.specs.Trees.{Tree, Leaf, Array, Dictionary, Trees, NoTrees, TreeAnd, Members, NoMembers, MemberAnd}
 use Rattle.plist_base.specs.Bracketing.{AreAlike, bracketing, bracketing_of_items, bracketing_of_pairs, unhinted}
 use Rattle.plist.specs.Collecting.{Collects, item_by}
-use Rattle.plist.specs.Inputs.{Answers, BeginsWith, GoesOn, IsReadFrom, Shows}
-use Rattle.plist.specs.Limiting.{IsWithin, NestsWithin, ItemsNestWithin, PairsNestWithin}
+use Rattle.plist.specs.Inputs.{BeginsWith, BeginsWithIfKnown, Shows}
+use Rattle.plist.specs.Limiting.{IsWithinLimits, NestsWithin, ItemsNestWithin, PairsNestWithin}
 use Rattle.plist_base.proofs.Refusals.{MatchFault-all, MatchFault-weaker}
-use Rattle.plist.proofs.LimitedNests.{last-nests}
+use Rattle.plist.proofs.KeysOnce.{last-nests}
 
 abbrev Given : Type 0
 Given = Option (Result Event Error)
@@ -36,8 +35,7 @@ begins : (was : Bool) (old new : Limiter) (now : Bool) (asked item : Given) (all
     → PassesNext old asked item new now
     → BeginsWith (come was old all) (option_map (item_by event_of) item) (come now new left)
 begins was old new now None item all left w b p =
-    subst (λ i. BeginsWith (come was old all) (option_map (item_by event_of) i) (come now new left))
-    (sym p.0) (rw (w, b) refl)
+    rw (p.0, w, b) refl
 begins was old new now (Some (Ok asked)) None all left w b p = absurd p
 begins was old new now (Some (Ok asked)) (Some (Ok passed)) all left w b p =
     rw (w, p.2) (ap (under old) b ∙ p.1 left ∙ ap (λ v. Ok (event_of v) ∷ under new left) (sym p.0))
@@ -46,15 +44,13 @@ begins was old new now (Some (Ok asked)) (Some (Err error)) all left w b p =
     (rw (w, p.1) (ap (under old) b ∙ p.0.2 left))
 begins was old new now (Some (Err fault)) None all left w b p = absurd p
 begins was old new now (Some (Err fault)) (Some given) all left w b p =
-    subst (λ g. BeginsWith (come was old all) (Some (item_by event_of g)) (come now new left))
-    (sym p.0)
-    (MatchFault-weaker (kind_of (error_kind_of fault)) (λ _. tt) (λ _. tt)
+    rw p.0 (MatchFault-weaker (kind_of (error_kind_of fault)) (λ _. tt) (λ _. tt)
     (λ c. rw (w, p.1) (ap (under old) c)) b)
 
 goes : (was : Bool) (old new : Limiter) (now : Bool) (k l : Option (List Item)) (asked item : Given)
-    → was ≡ false → GoesOn k (option_map (item_by event_of) asked) l
+    → was ≡ false → BeginsWithIfKnown k (option_map (item_by event_of) asked) l
     → PassesNext old asked item new now
-    → GoesOn (option_map (come was old) k) (option_map (item_by event_of) item)
+    → BeginsWithIfKnown (option_map (come was old) k) (option_map (item_by event_of) item)
     (option_map (come now new) l)
 goes was old new now None l asked item w g p = tt
 goes was old new now (Some all) l asked item w g p = (
@@ -68,18 +64,13 @@ module _ {I : Type 0} (inner_gives : I → Given → I → Type 0) where
   -- nothing more comes
   over : (coming : I → Option (List Item)) (old new : Limited I) (item : Given) → old.ended ≡ true
       → item ≡ None → new ≡ old
-      → GoesOn (option_map (come_of old) (coming (inner_of old)))
+      → BeginsWithIfKnown (option_map (come_of old) (coming (inner_of old)))
       (option_map (item_by event_of) item) (option_map (come_of new) (coming (inner_of new)))
   over coming old new item e none same =
-      subst (λ n. GoesOn (option_map (come_of old) (coming (inner_of old)))
-      (option_map (item_by event_of) item) (option_map (come_of n) (coming (inner_of n))))
-      (sym same)
-      (subst (λ i. GoesOn (option_map (come_of old) (coming (inner_of old)))
-      (option_map (item_by event_of) i) (option_map (come_of old) (coming (inner_of old))))
-      (sym none) (stays (coming (inner_of old))))
+      rw (same, none) (stays _)
     where
       stays : (k : Option (List Item))
-          → GoesOn (option_map (come_of old) k) None (option_map (come_of old) k)
+          → BeginsWithIfKnown (option_map (come_of old) k) None (option_map (come_of old) k)
       stays None = tt
       stays (Some all) = (come_of old all, refl, rw e refl)
 
@@ -93,7 +84,7 @@ module _ {I : Type 0} (inner_gives : I → Given → I → Type 0) where
           → MatchBool b ((item ≡ None) × (new ≡ old))
           ((asked : Given) × inner_gives old.inner asked new.inner
           × PassesNext old.limiter asked item new.limiter new.ended)
-          → GoesOn (option_map (come_of old) (coming (inner_of old)))
+          → BeginsWithIfKnown (option_map (come_of old) (coming (inner_of old)))
           (option_map (item_by event_of) item)
           (option_map (come_of new) (coming (inner_of new)))
       by true e (none, same) = over coming old new item e none same
@@ -110,11 +101,10 @@ events-pass : (old new : Limiter) (was now : Bool) (asked : Given) (x : Result E
 events-pass old new was now None x e items w is p = cc p.0
 events-pass old new was now (Some (Ok event)) (Ok passed) e items w is p =
     let same : event_of event ≡ e = cc (ap event_of p.0, is) in
-    rw (w, p.2) (ap (λ v. under old (Ok v ∷ items)) (sym same) ∙ p.1 items
-    ∙ ap (λ v. Ok v ∷ under new items) same)
+    rw (w, p.2) (cc (p.1 items))
 events-pass old new was now (Some (Ok event)) (Err error) e items w is p = cc is
 events-pass old new was now (Some (Err error)) x e items w is p =
-    cc (ap (item_by event_of) (sym p.0) ∙ is)
+    cc (ap (item_by _) (sym p.0) ∙ is)
 
 asked-by : (was : Bool) {A B : Type 0} → MatchBool was A B → (A → ⊥) → (was ≡ false) × B
 asked-by true h never = absurd (never h)
@@ -156,9 +146,9 @@ module _ (limits : Limits) where
       → limited_from limits came level (map Ok es) ≡ map Ok es → Pass came level es
   passes came level [] h = tt
   passes came level (e ∷ es) h =
-      let c = pass-choice (limit_at limits came level e) e
-      (limited_from limits (came + 1) (level_behind e level) (map Ok es)) (map Ok es) h in
-      (c.0, passes (came + 1) (level_behind e level) es c.1)
+      let c = pass-choice _ e
+      _ _ h in
+      (c.0, passes (came + 1) _ es c.1)
 
   -- lengths decide nothing
   next : {P Q R : Type 0} → Q ↔ R → (P × Q) ↔ (P × R)
@@ -167,15 +157,15 @@ module _ (limits : Limits) where
   both-pass : (came level : ℕ) (es : List PlainEvent)
       → Pass came level (map unhinted es) ↔ Pass came level es
   both-pass came level [] = (λ h. h, λ h. h)
-  both-pass came level (event.StartArray length ∷ es) = next (both-pass (came + 1) (level + 1) es)
+  both-pass came level (event.StartArray length ∷ es) = next (both-pass (came + 1) _ es)
   both-pass came level (event.StartDictionary length ∷ es) =
-      next (both-pass (came + 1) (level + 1) es)
-  both-pass came level (e ∷ es) = next (both-pass (came + 1) (level_behind e level) es)
+      next (both-pass _ _ es)
+  both-pass came level (e ∷ es) = next (both-pass _ _ es)
 
   alike-passes : (left right : List PlainEvent) → AreAlike left right → Pass 0 0 left
       → Pass 0 0 right
   alike-passes left right alike h =
-      (both-pass 0 0 right).0 (subst (λ l. Pass 0 0 l) alike ((both-pass 0 0 left).1 h))
+      (both-pass 0 0 _).0 (rw (← alike) ((both-pass 0 0 left).1 h))
 
   -- an event that passes is within both limits
   allowed : (a b : Bool) → cond a (Some limit.Items) (cond b (Some limit.Depth) None) ≡ None
@@ -191,80 +181,82 @@ module _ (limits : Limits) where
       → came + length es ≤ limits.items
   few came level [] l h = omega arith
   few came level (e ∷ es) l h =
-      let less : came < limits.items = below limits.items came
+      let less = below _ _
       (allowed (nat_le limits.items came) (opens e && nat_le limits.depth level) h.0).0 in
       let more : came + 1 + length es
-      ≤ limits.items = few (came + 1) (level_behind e level) es (omega arith) h.1 in
+      ≤ limits.items = few (came + 1) _ es (omega arith) h.1 in
       omega arith
-
-  -- behind the end of a collection as many are open as before its start
-  closed : (came level : ℕ) (rest : List PlainEvent) → (n : ℕ)
-      × Pass n (level + 1) (event.EndCollection ∷ rest) → (n : ℕ) × Pass n level rest
-  closed came level rest (n, h) = (
-    n + 1,
-    subst (λ k. Pass (n + 1) k rest)
-        (let same : level + 1 - 1 ≡ level = omega arith in same) h.1,
-  )
 
   -- a start that passes finds room for its collection
   room : (came level : ℕ)
       → limit_at limits came level (event.StartArray None) ≡ None → level < limits.depth
   room came level h =
-      below limits.depth level (allowed (nat_le limits.items came) (nat_le limits.depth level) h).1
+      below _ _ (allowed _ _ h).1
+
+  abbrev PassFrom : (level : ℕ) → List PlainEvent → Type 0
+  PassFrom level es = (came : ℕ) × Pass came level es
 
   -- what nests within a collection, nests one level deeper with it
-  around : (P : ℕ → Type 0) (level : ℕ) (rest : List PlainEvent) → level < limits.depth
-      → P (limits.depth - (level + 1))
-      × ((n : ℕ) × Pass n (level + 1) (event.EndCollection ∷ rest))
-      → ((1 ≤ limits.depth - level) × P (limits.depth - level - 1))
-      × ((n : ℕ) × Pass n level rest)
-  around P level rest less (inside, behind) =
+  around : (P : ℕ → Type 0) (inside rest : List PlainEvent) (came level : ℕ)
+      → limit_at limits came level (event.StartArray None) ≡ None
+      → Pass (came + 1) (level + 1) ((inside ++ event.EndCollection ∷ []) ++ rest)
+      → (PassFrom (level + 1) (inside ++ event.EndCollection ∷ rest)
+      → P (limits.depth - (level + 1)) × PassFrom (level + 1) (event.EndCollection ∷ rest))
+      → ((1 ≤ limits.depth - level) × P (limits.depth - level - 1)) × PassFrom level rest
+  around P inside rest came level h passed nests =
+      let less = room _ _ h in
       let one : limits.depth - (level + 1) ≡ limits.depth - level - 1 = omega arith in
-      ((omega arith, subst P one inside), closed 0 level rest behind)
+      let same : level + 1 - 1 ≡ level = omega arith in
+      let n = nests (
+        came + 1,
+        subst (Pass (came + 1) (level + 1))
+            (append_assoc inside _ rest) passed,
+      )
+      in ((omega arith, rw (← one) n.0), (n.1.0 + 1, rw same at n.1.1.1))
 
   mutual
-    tree-nests : (t : Tree) (came level : ℕ) (rest : List PlainEvent) → level ≤ limits.depth
-        → Pass came level (bracketing t ++ rest) → NestsWithin t (limits.depth - level)
-        × ((n : ℕ) × Pass n level rest)
-    tree-nests (Leaf s) came level rest l h = (tt, (came + 1, h.1))
-    tree-nests (Array items) came level rest l h =
-        let less = room came level h.0 in
-        around (ItemsNestWithin items) level rest less
-        (items-nest items (came + 1) (level + 1) (event.EndCollection ∷ rest) (omega arith)
-        (subst (Pass (came + 1) (level + 1)) (append_assoc (bracketing_of_items items) _ rest) h.1))
-    tree-nests (Dictionary pairs) came level rest l h =
-        let less = room came level h.0 in
-        around (PairsNestWithin pairs) level rest less
-        (pairs-nest pairs (came + 1) (level + 1) (event.EndCollection ∷ rest) (omega arith)
-        (subst (Pass (came + 1) (level + 1)) (append_assoc (bracketing_of_pairs pairs) _ rest) h.1))
+    tree-nests : (t : Tree) (level : ℕ) (rest : List PlainEvent)
+        → PassFrom level (bracketing t ++ rest)
+        → NestsWithin t (limits.depth - level) × PassFrom level rest
+    tree-nests (Leaf s) level rest (n, h) = (tt, (n + 1, h.1))
+    tree-nests (Array items) level rest (n, h) =
+        around (ItemsNestWithin items) (bracketing_of_items items) rest n level h.0 h.1
+        (λ p. items-nest items (level + 1) (event.EndCollection ∷ rest) p)
+    tree-nests (Dictionary pairs) level rest (n, h) =
+        around (PairsNestWithin pairs) (bracketing_of_pairs pairs) rest n level h.0 h.1
+        (λ p. pairs-nest pairs (level + 1) (event.EndCollection ∷ rest) p)
 
-    items-nest : (items : Trees) (came level : ℕ) (rest : List PlainEvent) → level ≤ limits.depth
-        → Pass came level (bracketing_of_items items ++ rest)
-        → ItemsNestWithin items (limits.depth - level) × ((n : ℕ) × Pass n level rest)
-    items-nest NoTrees came level rest l h = (tt, (came, h))
-    items-nest (TreeAnd tree trees) came level rest l h =
-        let first = tree-nests tree came level (bracketing_of_items trees ++ rest) l
-        (subst (λ es. Pass came level es)
-        (append_assoc (bracketing tree) (bracketing_of_items trees) rest) h) in
-        let others = items-nest trees first.1.0 level rest l first.1.1 in
-        ((first.0, others.0), others.1)
+    items-nest : (items : Trees) (level : ℕ) (rest : List PlainEvent)
+        → PassFrom level (bracketing_of_items items ++ rest)
+        → ItemsNestWithin items (limits.depth - level) × PassFrom level rest
+    items-nest NoTrees level rest h = (tt, h)
+    items-nest (TreeAnd tree trees) level rest (n, h) =
+        let first = tree-nests tree level (bracketing_of_items trees ++ rest) (
+          n,
+          subst (Pass n level) (append_assoc (bracketing tree) (bracketing_of_items trees) rest)
+              h,
+        )
+        in
+        let others = items-nest trees level rest first.1 in ((first.0, others.0), others.1)
 
-    pairs-nest : (pairs : Members) (came level : ℕ) (rest : List PlainEvent) → level ≤ limits.depth
-        → Pass came level (bracketing_of_pairs pairs ++ rest)
-        → PairsNestWithin pairs (limits.depth - level) × ((n : ℕ) × Pass n level rest)
-    pairs-nest NoMembers came level rest l h = (tt, (came, h))
-    pairs-nest (MemberAnd key tree members) came level rest l h =
-        let first = tree-nests tree (came + 1) level (bracketing_of_pairs members ++ rest) l
-        (subst (λ es. Pass (came + 1) level es)
-        (append_assoc (bracketing tree) (bracketing_of_pairs members) rest) h.1) in
-        let others = pairs-nest members first.1.0 level rest l first.1.1 in
-        ((first.0, others.0), others.1)
+    pairs-nest : (pairs : Members) (level : ℕ) (rest : List PlainEvent)
+        → PassFrom level (bracketing_of_pairs pairs ++ rest)
+        → PairsNestWithin pairs (limits.depth - level) × PassFrom level rest
+    pairs-nest NoMembers level rest h = (tt, h)
+    pairs-nest (MemberAnd key tree members) level rest (n, h) =
+        let first = tree-nests tree level (bracketing_of_pairs members ++ rest) (
+          n + 1,
+          subst (Pass (n + 1) level)
+              (append_assoc (bracketing tree) (bracketing_of_pairs members) rest) h.1,
+        ) in
+        let others = pairs-nest members level rest first.1 in ((first.0, others.0), others.1)
 
 -- ---- the value
 
 pub built-within : {I : Type 0} (inner_gives : I → Given → I → Type 0) (limits : Limits)
     (limited : Limited I) (answer : Result Tree Fault) → come_of limited ≡ limited_items limits
-    → Collects event_of (GivesLimited inner_gives) limited answer → IfOk answer (IsWithin limits)
+    → Collects event_of (GivesLimited inner_gives) limited answer → IfOk answer
+    (IsWithinLimits limits)
 built-within inner_gives limits limited (Err fault) fresh c = tt
 built-within inner_gives limits limited (Ok tree) fresh
     (taken, (rest, yields), (events, whole, same, ends, alike, last)) =
@@ -273,22 +265,8 @@ built-within inner_gives limits limited (Ok tree) fresh
     ∙ run-passes inner_gives limited rest taken events yields same in
     let pass = alike-passes limits events (bracketing whole) alike (passes limits 0 0 events came)
     in
-    let nests = (tree-nests limits whole 0 0 [] (omega arith)
-    (subst (λ es. Pass limits 0 0 es) (sym (append-nil (bracketing whole))) pass)).0 in
-    let deep : NestsWithin whole limits.depth = subst (λ d. NestsWithin whole d)
-    (let same : limits.depth - 0 ≡ limits.depth = omega arith in same) nests in
-    let long : 0 + length (bracketing whole)
-    ≤ limits.items = few limits 0 0 (bracketing whole) (omega arith) pass in (
-      subst (λ t. NestsWithin t limits.depth) (sym last) (last-nests whole limits.depth deep),
-      (whole, last, omega arith),
-    )
-
-pub of-limited : (limits : Limits) (items : Option (List Item)) (bytes : Option (List ℕ))
-    (read : List ℕ → List Item) (come_now : List Item → List Item) (answer : Result Tree Fault)
-    → come_now ≡ limited_items limits → items ≡ option_map read bytes
-    → Answers (option_map come_now items) answer
-    → IfSome bytes (λ b. IsReadFrom (limited_items limits (read b)) answer)
-of-limited limits items None read come_now answer f e h = tt
-of-limited limits items (Some b) read come_now answer f e h =
-    subst (λ c. IsReadFrom (c (read b)) answer) f
-    (subst (λ o. Answers (option_map come_now o) answer) e h)
+    let nests = (tree-nests limits whole 0 []
+    (0, subst (Pass limits 0 0) (sym (append-nil (bracketing whole))) pass)).0 in
+    let same : limits.depth - 0 ≡ limits.depth = omega arith in
+    let long = few limits 0 0 (bracketing whole) (omega arith) pass in
+    (rw last (last-nests whole limits.depth (rw same at nests)), (whole, last, omega arith))

@@ -1,6 +1,5 @@
 -- Sameness of values, list by list.
-use Rattle.std.proofs.Common.{◌≡◌, ℕ, suc, Bool, true, false, ◌&&◌, cond, Option, Some, None, option_map, List, [], ◌∷◌, length, ◌↔◌, refl, sym, ap, ◌∙◌, subst}
-use Rattle.std.specs.Str.{bytes_eq}
+use Rattle.std.proofs.Common.{◌≡◌, ℕ, suc, true, false, cond, Option, Some, None, option_map, List, [], ◌∷◌, length, ◌↔◌, refl, sym, ap, bytes_eq}
 use Rattle.std.specs.List.{IsDistinct}
 use Rattle.std.specs.Map.{lookup, keys_of}
 use Rattle.std.specs.Option.{option_eq}
@@ -12,7 +11,7 @@ use Rattle.std_collections.specs.HashMap.Eq.{get_from_hash_map_eq, hash_map_eq_f
 use Rattle.plist_base.specs.Trees.{Tree, Dictionary, members_of}
 use Rattle.plist.specs.declared.value.Value.{Value}
 use Rattle.plist.specs.Same.{AreSameAt, same, same_items, first_value, same_pairs}
-use Rattle.plist.specs.inner.Sameness.{dict_to, dict_from, same_by}
+use Rattle.plist.specs.inner.Sameness.{dictionaries_alike, refl_tree, same_by, scalars_alike, symmetric, trans_tree}
 use Rattle.plist.specs.inner.PairsSame.{as_map}
 use Rattle.plist.specs.Views.{tree_of, tree_pairs, item_trees, pair_trees}
 use Rattle.plist.proofs.Tops.{trees-once}
@@ -26,8 +25,7 @@ first-lookup k (p ∷ ps) = ap (cond (bytes_eq k p.0) (Some p.1)) (first-lookup 
 pub first-at : (k : List ℕ) (ps : List (List ℕ × Value)) → IsDistinct bytes_eq (keys_of ps)
     → first_value k (pair_trees ps) ≡ option_map tree_of (lookup (bytes_eq k) ps)
 first-at k ps d =
-    ap (λ l. first_value k (members_of l)) (trees-once ps d) ∙ first-lookup k (tree_pairs ps)
-    ∙ lookup-map_values tree_of (bytes_eq k) ps
+    cc (trees-once ps d, first-lookup k (tree_pairs ps), lookup-map_values tree_of (bytes_eq k) ps)
 
 at-values : (p q : Option Value) → (option_eq (same_by tree_of) p q ≡ true)
     ↔ AreSameAt (option_map tree_of p) (option_map tree_of q)
@@ -37,33 +35,34 @@ at-values (Some v) None = (λ h. absurd (cc), λ h. absurd h)
 at-values (Some v) (Some w) = (λ h. h, λ h. h)
 
 -- dictionaries are the same where their values are so key by key
-pub same-dictionaries : (ps qs : List (List ℕ × Value)) → IsDistinct bytes_eq (keys_of ps)
+pub same_dictionaries : (ps qs : List (List ℕ × Value)) → IsDistinct bytes_eq (keys_of ps)
     → IsDistinct bytes_eq (keys_of qs)
     → same_pairs (same_by tree_of) ps qs
     ≡ same (Dictionary (pair_trees ps)) (Dictionary (pair_trees qs))
-same-dictionaries ps qs d e =
+same_dictionaries ps qs d e =
     both_ways (same_pairs (same_by tree_of) ps qs)
     (same (Dictionary (pair_trees ps)) (Dictionary (pair_trees qs)))
-    (λ h. dict_from (pair_trees ps) (pair_trees qs) (λ k.
-    subst (λ o. AreSameAt o (first_value k (pair_trees qs))) (sym (first-at k ps d))
-    (subst (AreSameAt (option_map tree_of (lookup (bytes_eq k) ps))) (sym (first-at k qs e))
+    (λ h. (dictionaries_alike (pair_trees ps) (pair_trees qs)).1 (λ k.
+    rw (first-at k ps d, first-at k qs e)
     ((at-values (lookup (bytes_eq k) ps) (lookup (bytes_eq k) qs)).0
     (get_from_hash_map_eq bytes_eq (same_by tree_of) nat_list_eq_equiv (as_map ps) (as_map qs) h
-    k)))))
+    k))))
     (λ h. hash_map_eq_from_get bytes_eq (same_by tree_of) (as_map ps) (as_map qs) (λ k.
     (at-values (lookup (bytes_eq k) ps) (lookup (bytes_eq k) qs)).1
-    (subst (λ o. AreSameAt o (option_map tree_of (lookup (bytes_eq k) qs))) (first-at k ps d)
-    (subst (AreSameAt (first_value k (pair_trees ps))) (first-at k qs e)
-    (dict_to (pair_trees ps) (pair_trees qs) h k)))))
+    (rw (← first-at k ps d, ← first-at k qs e)
+    ((dictionaries_alike (pair_trees ps) (pair_trees qs)).0 h k))))
 
 -- arrays by place
 pub same-lengths : (vs ws : List Value) → same_items (item_trees vs) (item_trees ws) ≡ true
     → length vs ≡ length ws
 same-lengths [] [] h = refl
 same-lengths (v ∷ vs) (w ∷ ws) h =
-    ap suc (same-lengths vs ws (and_parts (same_by tree_of v w) _ h).1)
+    ap suc (same-lengths vs ws (and_parts _ _ h).1)
 same-lengths vs ws h = absurd (cc)
 
 pub unequal-lengths : (vs ws : List Value) → (length vs ≡ length ws → ⊥)
     → false ≡ same_items (item_trees vs) (item_trees ws)
 unequal-lengths vs ws n = sym (false_from_ne_true _ (λ h. n (same-lengths vs ws h)))
+
+-- an equivalence, and what it says of scalars and of dictionaries
+pub ruleset sameness = (refl_tree, symmetric, trans_tree, scalars_alike, dictionaries_alike)

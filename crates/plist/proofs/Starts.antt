@@ -1,17 +1,28 @@
 -- The first event of a collection, and those behind it.
-use Rattle.std.proofs.Common.{◌≡◌, ℕ, List, [], ◌∷◌, ◌++◌, Some, map, length, refl, sym, ap, ◌∙◌, append_assoc, arith, Vec, Global}
-use Rattle.std.specs.Str.{bytes_eq}
+use Rattle.std.proofs.Common.{◌≡◌, ℕ, List, sym, ap, ◌∙◌, Vec, Global, [], ◌∷◌, ◌++◌, Some, map, length, refl, append_assoc, arith, bytes_eq}
+use Rattle.plist.specs.declared.value.Value.{Value, fold-roll-Value}
+use Rattle.plist.specs.declared.value.Value.TheVariants.{rolls-Array, rolls-Dictionary}
+use Rattle.plist.specs.Views.{tree_of, item_trees, pair_trees, tree_pairs}
 use Rattle.std.specs.List.{IsDistinct}
 use Rattle.std.specs.Map.{keys_of}
 use Rattle.plist_base.specs.Events.{PlainEvent, StartArray, StartDictionary, EndCollection}
-use Rattle.plist_base.specs.Trees.{Dictionary, trees_of, members_of, number_of_trees, number_of_members}
+use Rattle.plist_base.specs.Trees.{Tree, Dictionary, trees_of, members_of, number_of_trees, number_of_members}
 use Rattle.plist_base.specs.Bracketing.{bracketing, bracketing_of_items, bracketing_of_pairs}
-use Rattle.plist.specs.declared.value.Value.{Value}
-use Rattle.plist.specs.declared.value.Value.TheVariants as value
 use Rattle.plist.specs.LastWins.{Rows}
-use Rattle.plist.specs.Views.{tree_of, tree_pairs}
-use Rattle.plist.proofs.TreeOf.{tree_of-Array, tree_of-Dictionary}
 use Rattle.plist.proofs.Tops.{trees-once}
+use Rattle.plist_base.specs.Trees as tree
+use Rattle.plist.specs.declared.value.Value.TheVariants as value
+
+pub tree_of-Array : (items : Vec Value Global)
+    → tree_of (value.Array items) ≡ tree.Array (item_trees items.items)
+tree_of-Array items =
+    ap tree_of (sym (rolls-Array _)) ∙ fold-roll-Value _ _ _
+
+pub tree_of-Dictionary : (pairs : List (List ℕ × Value))
+    → tree_of (value.Dictionary pairs) ≡ tree.Dictionary (pair_trees pairs)
+tree_of-Dictionary pairs =
+    ap tree_of (sym (rolls-Dictionary _))
+    ∙ fold-roll-Value _ _ _
 
 trees-length : (vs : List Value) → number_of_trees (trees_of (map tree_of vs)) ≡ length vs
 trees-length [] = refl
@@ -22,23 +33,25 @@ members-length : (ps : List (List ℕ × Value))
 members-length [] = refl
 members-length (p ∷ ps) = omega (arith, members-length ps)
 
--- an array begins
+-- a collection begins
+begins : (t : Tree) (start : PlainEvent) (inner rest after : List PlainEvent)
+    → bracketing t ≡ start ∷ (inner ++ EndCollection ∷ []) → after ≡ inner ++ EndCollection ∷ rest
+    → bracketing t ++ rest ≡ start ∷ after
+begins t start inner rest after p q =
+    ap (λ l. l ++ rest) p
+    ∙ ap (λ l. start ∷ l) (append_assoc inner (EndCollection ∷ []) rest ∙ sym q)
+
 pub array_begins : (v : Value) (items : Vec Value Global) (slice : List Value) (n : ℕ)
     (rest after : List PlainEvent)
     → v ≡ value.Array items → slice ≡ items.items → n ≡ length items.items
     → after ≡ bracketing_of_items (trees_of (map tree_of slice)) ++ EndCollection ∷ rest
     → bracketing (tree_of v) ++ rest ≡ StartArray (Some n) ∷ after
 array_begins v items slice n rest after p s l q =
-    let inner = bracketing_of_items (trees_of (map tree_of items.items)) in
-    ap (λ t. bracketing t ++ rest) (ap tree_of p ∙ tree_of-Array items)
-    ∙ ap (λ k. StartArray (Some k) ∷ ((inner ++ EndCollection ∷ []) ++ rest))
-    (trees-length items.items ∙ sym l)
-    ∙ ap (λ l. StartArray (Some n) ∷ l)
-    (append_assoc inner (EndCollection ∷ []) rest
-    ∙ ap (λ xs. bracketing_of_items (trees_of (map tree_of xs)) ++ EndCollection ∷ rest) (sym s)
-    ∙ sym q)
+    begins (tree_of v) (StartArray (Some n)) _ rest after
+    (ap bracketing (ap tree_of p ∙ tree_of-Array items)
+    ∙ λ j. StartArray (Some ((trees-length items.items ∙ sym l) j))
+    ∷ (bracketing_of_items (trees_of (map tree_of (sym s j))) ++ EndCollection ∷ [])) q
 
--- a dictionary begins
 pub dictionary_begins : (v : Value) (pairs slice : List (List ℕ × Value)) (n : ℕ)
     (rest after : List PlainEvent)
     → v ≡ value.Dictionary pairs → slice ≡ pairs → IsDistinct bytes_eq (keys_of pairs)
@@ -46,14 +59,8 @@ pub dictionary_begins : (v : Value) (pairs slice : List (List ℕ × Value)) (n 
     ++ EndCollection ∷ rest
     → bracketing (tree_of v) ++ rest ≡ StartDictionary (Some n) ∷ after
 dictionary_begins v pairs slice n rest after p s d l q =
-    let inner = bracketing_of_pairs (members_of (tree_pairs pairs)) in
-    ap (λ t. bracketing t ++ rest)
-    (ap tree_of p ∙ tree_of-Dictionary pairs
-    ∙ ap (λ (r : Rows). Dictionary (members_of r))
-    (trees-once pairs d))
-    ∙ ap (λ k. StartDictionary (Some k) ∷ ((inner ++ EndCollection ∷ []) ++ rest))
-    (members-length pairs ∙ sym l)
-    ∙ ap (λ l. StartDictionary (Some n) ∷ l)
-    (append_assoc inner (EndCollection ∷ []) rest
-    ∙ ap (λ xs. bracketing_of_pairs (members_of (tree_pairs xs)) ++ EndCollection ∷ rest)
-    (sym s) ∙ sym q)
+    begins (tree_of v) (StartDictionary (Some n)) _ rest after
+    (ap bracketing (ap tree_of p ∙ tree_of-Dictionary pairs
+    ∙ ap (λ (r : Rows). Dictionary (members_of r)) (trees-once pairs d))
+    ∙ λ j. StartDictionary (Some ((members-length pairs ∙ sym l) j))
+    ∷ (bracketing_of_pairs (members_of (tree_pairs (sym s j))) ++ EndCollection ∷ [])) q

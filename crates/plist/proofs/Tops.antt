@@ -1,7 +1,6 @@
 -- The innermost collection of a value that isn't complete yet.
-use Rattle.std.proofs.Common.{◌≡◌, ℕ, List, [], ◌∷◌, ◌++◌, Option, Some, None, map, reverse, option_to_list, sym, ap, ◌∙◌, subst, string_bytes, String, Global}
+use Rattle.std.proofs.Common.{◌≡◌, ℕ, List, [], ◌∷◌, ◌++◌, Option, Some, None, map, reverse, option_to_list, sym, ap, ◌∙◌, subst, string_bytes, String, Global, bytes_eq}
 use Rattle.std.proofs.lemmas.List.{reverse-append}
-use Rattle.std.specs.Str.{bytes_eq}
 use Rattle.std.specs.List.{IsDistinct}
 use Rattle.std.proofs.lemmas.Map.Made.{keys_of-map_values}
 use Rattle.indexmap.specs.IndexMap.{insert_entry}
@@ -10,7 +9,7 @@ use Rattle.plist.specs.declared.partial.Open.TheVariants as run
 use Rattle.plist.specs.declared.value.Value.{Value}
 use Rattle.plist.specs.Building.{InDictionary, Within}
 use Rattle.plist.specs.LastWins.{with_pair, last_values}
-use Rattle.plist.specs.Partials.{open_of, held_by}
+use Rattle.plist.specs.Partials.{open_of, held_in}
 use Rattle.plist.specs.inner.Steps.{and_tree}
 use Rattle.plist.specs.Views.{tree_of, tree_pairs}
 use Rattle.plist.proofs.Keeping.{EachOnce, last-values-once, once-earlier, values-insert}
@@ -18,7 +17,7 @@ use Rattle.plist.proofs.Keeping.{EachOnce, last-values-once, once-earlier, value
 -- the innermost collection stands first
 pub innermost : (outer : List Open) (inner : Open)
     → reverse (outer ++ inner ∷ []) ≡ inner ∷ reverse outer
-innermost outer inner = reverse-append outer (inner ∷ [])
+innermost outer inner = reverse-append outer _
 
 pub innermost_of : (collections outer : List Open) (popped : Option Open) (inner : Open)
     → collections ≡ outer ++ option_to_list popped → popped ≡ Some inner
@@ -28,11 +27,11 @@ innermost_of collections outer popped inner p q =
 
 -- pairs whose keys stand once do so with their trees, too, and so they are their own last values
 pub once_trees : (ps : List (List ℕ × Value)) → EachOnce ps → EachOnce (tree_pairs ps)
-once_trees ps = subst (IsDistinct bytes_eq) (sym (keys_of-map_values tree_of ps))
+once_trees ps = subst (IsDistinct _) (sym (keys_of-map_values _ ps))
 
 pub trees-once : (ps : List (List ℕ × Value)) → EachOnce ps
     → last_values (tree_pairs ps) ≡ tree_pairs ps
-trees-once ps d = last-values-once (tree_pairs ps) (once_trees ps d)
+trees-once ps d = last-values-once _ (once_trees ps d)
 
 last_insert : (k : List ℕ) (v : Value) (ps after : List (List ℕ × Value))
     → after ≡ insert_entry bytes_eq ps k v → EachOnce after
@@ -48,11 +47,11 @@ pub pair_made : (collections outer new : List Open) (popped : Option Open)
     → collections ≡ outer ++ option_to_list popped → popped ≡ Some (run.AfterKey pairs key)
     → new ≡ outer ++ run.Dictionary after ∷ []
     → after ≡ insert_entry bytes_eq pairs (string_bytes key) value
-    → EachOnce after → held_by None (reverse new)
+    → EachOnce after → held_in None (reverse new)
     ≡ and_tree with_pair (tree_of value) (map open_of (reverse collections))
 pair_made collections outer new popped pairs after key value p q r s once =
-    ap (λ l. held_by None (reverse l)) r
-    ∙ ap (held_by None) (innermost outer (run.Dictionary after))
+    ap (λ l. held_in None (reverse l)) r
+    ∙ ap (held_in None) (innermost outer (run.Dictionary after))
     ∙ ap (λ d. Within (InDictionary d) (map open_of (reverse outer)))
     (last_insert (string_bytes key) value pairs after s once)
     ∙ sym (ap (λ l. and_tree with_pair (tree_of value) (map open_of l))

@@ -7,7 +7,7 @@ use Rattle.plist_base.specs.Faults.{Fault, fault_of}
 use Rattle.plist_base.specs.Writing.{Answer}
 use Rattle.plist.specs.declared.stream.builder.Builder.{Builder}
 use Rattle.plist.specs.Building.{Built, IsNested, IsAnswered, complete_tree, events_so_far}
-use Rattle.plist.specs.Collecting.{Refuses, Takes}
+use Rattle.plist.specs.Collecting.{RefusesOne, TakesOne}
 use Rattle.plist.specs.Partials.{CarriesOn, unfinished_of}
 use Rattle.plist.specs.Views.{tree_of}
 use Rattle.plist.specs.declared.value.Value.{Value}
@@ -24,19 +24,19 @@ IsBuildingStep before event answer after =
 
 -- a builder takes an item's event
 abbrev pub TakesItem : (before : Builder) → Item → (after : Builder) → Type 0
-TakesItem before item after = Takes (built_of before) item (built_of after)
+TakesItem before item after = TakesOne (built_of before) item (built_of after)
 
 -- a builder that hasn't failed refuses an item's event, or hands an item's fault on
 abbrev pub RefusesItem : (before : Builder) → Item → Fault → Type 0
-RefusesItem before item fault = Refuses (built_of before).unfinished item fault
+RefusesItem before item fault = RefusesOne (built_of before).unfinished item fault
 
 -- the same of a call's answer
 abbrev pub RefusesWith : {A : Type 0} → (before : Builder) → Item → Result A Error → Type 0
 RefusesWith before item answer = IfErr answer (λ error. RefusesItem before item (fault_of error))
 
 -- the events so far are all of this value's
-abbrev pub IsWhole : Built → Value → Type 0
-IsWhole built value = AreAlike (events_so_far built.unfinished) (bracketing (tree_of value))
+abbrev pub IsWholeOf : Built → Value → Type 0
+IsWholeOf built value = AreAlike (events_so_far built.unfinished) (bracketing (tree_of value))
 
 -- its tree is what was built
 abbrev pub IsBuilt : Built → Value → Type 0

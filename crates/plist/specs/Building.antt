@@ -117,10 +117,10 @@ refusal_within (InArray items) event = None
 refusal_within (InDictionary pairs) event = refusal_of_key event
 refusal_within (AfterKey pairs key) event = refusal_of_value event
 
-abbrev pub refusal_of : Unfinished → PlainEvent → Option FaultKind
-refusal_of NotBegun event = refusal_of_value event
-refusal_of (Within collection outer) event = refusal_within collection event
-refusal_of (Complete tree) event = Some (ExpectedEndOfEventStream (kind_of_event event))
+abbrev pub refusal_at : Unfinished → PlainEvent → Option FaultKind
+refusal_at NotBegun event = refusal_of_value event
+refusal_at (Within collection outer) event = refusal_within collection event
+refusal_at (Complete tree) event = Some (ExpectedEndOfEventStream (kind_of_event event))
 
 -- what a builder holds, and whether it has failed
 pub record Built : Type 0 where
@@ -132,22 +132,22 @@ abbrev pub nothing_built : Built
 nothing_built = record { unfinished = NotBegun; failed = false }
 
 -- what a builder's step is where it answers a fault of this kind
-abbrev pub IsRefused : (before : Built) → PlainEvent → FaultKind → (after : Built)
+abbrev pub IsRefusedStep : (before : Built) → PlainEvent → FaultKind → (after : Built)
     → (unchanged : Type 0) → Type 0
-IsRefused before event OutOfMemory after unchanged =
-    (before.failed ≡ false) × (refusal_of before.unfinished event ≡ None) × (after.failed ≡ true)
-IsRefused before event WriterFailed after unchanged = (before.failed ≡ true) × unchanged
-IsRefused before event kind after unchanged =
-    (before.failed ≡ false) × (refusal_of before.unfinished event ≡ Some kind) × unchanged
+IsRefusedStep before event OutOfMemory after unchanged =
+    (before.failed ≡ false) × (refusal_at before.unfinished event ≡ None) × (after.failed ≡ true)
+IsRefusedStep before event WriterFailed after unchanged = (before.failed ≡ true) × unchanged
+IsRefusedStep before event kind after unchanged =
+    (before.failed ≡ false) × (refusal_at before.unfinished event ≡ Some kind) × unchanged
 
 -- what a builder's step is where it gives this answer
 abbrev pub IsAnswered : (before : Built) → PlainEvent → Answer → (after : Built)
     → (unchanged : Type 0) → Type 0
 IsAnswered before event (Ok done) after unchanged =
-    (before.failed ≡ false) × (refusal_of before.unfinished event ≡ None) × (after.failed ≡ false)
+    (before.failed ≡ false) × (refusal_at before.unfinished event ≡ None) × (after.failed ≡ false)
     × IsCarriedOn before.unfinished event after.unfinished
 IsAnswered before event (Err fault) after unchanged =
-    (fault.offset ≡ None) × IsRefused before event fault.kind after unchanged
+    (fault.offset ≡ None) × IsRefusedStep before event fault.kind after unchanged
 
 -- why a value can't be had: the builder has failed, or the events are no tree's yet
 abbrev pub IsUnfinishedFor : FaultKind → Built → Type 0

@@ -1,9 +1,8 @@
 -- What calls that go over all pairs do.
-use Rattle.std.specs.Prelude.{◌≡◌, ℕ, ◌++◌, ◌∷◌, [], Bool, List, Option, String, Result, Ok, Err, map, string_bytes}
+use Rattle.std.specs.Prelude.{◌≡◌, ℕ, ◌++◌, ◌∷◌, [], Bool, List, Option, String, Result, Ok, Err, map, string_bytes, bytes_eq}
 use Rattle.std.specs.Borrow.{Bor}
 use Rattle.std.specs.Iterator.{Drains, Yields}
 use Rattle.std.specs.List.{AllZip, items_where_true}
-use Rattle.std.specs.Str.{bytes_eq}
 use Rattle.std.specs.declared.alloc.Global.{Global}
 use denote.Param.Members.{Shared}
 use Rattle.indexmap.specs.IndexMap.{insert_all}
@@ -15,7 +14,7 @@ Rows V = List (List ℕ × V)
 
 module _ {F V : Type 0} (g : Shared F (Bor (String Global) × (Bor V × Unit {0})) Bool) (f : F) where
   -- the closure, called at a key and a value that are those of the pair, may give this answer
-  pub record Answers (pair : List ℕ × V) (answer : Bool) : Type 0 where
+  pub record AnswersAtPair (pair : List ℕ × V) (answer : Bool) : Type 0 where
     pub key : Bor (String Global)
     pub value : Bor V
     pub shows : (string_bytes key.now ≡ pair.0) × (value.now ≡ pair.1)
@@ -24,7 +23,8 @@ module _ {F V : Type 0} (g : Shared F (Bor (String Global) × (Bor V × Unit {0}
   -- the pairs for which the closure answered `true`, in their order
   abbrev pub Retains : Rows V → Rows V → Type 0
   Retains old new =
-      (answers : List Bool) × AllZip Answers old answers × (new ≡ items_where_true answers old)
+      (answers : List Bool) × AllZip AnswersAtPair old answers
+      × (new ≡ items_where_true answers old)
 
 module _ {I V : Type 0} (next_gives : I → Option (String Global × V) → I → Type 0) (iter : I) where
   -- All pairs of the iterator are inserted in turn. After an error these are the pairs before one

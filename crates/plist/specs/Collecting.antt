@@ -7,7 +7,7 @@ use Rattle.plist_base.specs.Faults.{FaultKind, Fault, fault_of, fault_nowhere, O
 use Rattle.plist_base.specs.Trees.{Tree}
 use Rattle.plist_base.specs.Bracketing.{bracketing, AreAlike}
 use Rattle.plist.specs.declared.value.Value.{Value}
-use Rattle.plist.specs.Building.{Unfinished, IsNested, Built, events_so_far, refusal_of}
+use Rattle.plist.specs.Building.{Unfinished, IsNested, Built, events_so_far, refusal_at}
 use Rattle.plist.specs.LastWins.{with_pair, last_wins}
 use Rattle.plist.specs.inner.Steps.{carried_on}
 use Rattle.plist.specs.Views.{tree_of}
@@ -35,11 +35,12 @@ EndsInError events items fault = items ≡ map Ok events ++ Err fault ∷ []
 abbrev pub EndsInRefusal : Unfinished → (events : List PlainEvent) → List Item → Fault → Type 0
 EndsInRefusal held events items fault =
     (event : PlainEvent) × (items ≡ map Ok events ++ Ok event ∷ [])
-    × IsRefusal (refusal_of held event) fault
+    × IsRefusal (refusal_at held event) fault
 
 -- the events end, no item comes behind them, and they are no tree's
-abbrev pub EndsTooEarly : (ends : Type 0) → (events : List PlainEvent) → List Item → Fault → Type 0
-EndsTooEarly ends events items fault =
+abbrev pub EndsUnfinished : (ends : Type 0) → (events : List PlainEvent) → List Item → Fault
+    → Type 0
+EndsUnfinished ends events items fault =
     (items ≡ map Ok events) × ends × (fault ≡ fault_nowhere UnexpectedEndOfEventStream)
     × ((tree : Tree) → AreAlike events (bracketing tree) → ⊥)
 
@@ -54,7 +55,7 @@ IsBuiltFrom ends items (Err fault) =
     (events : List PlainEvent) × (held : Unfinished) × IsNested held
     × AreAlike (events_so_far held) events
     × (EndsInError events items fault
-    ⊎ (EndsInRefusal held events items fault ⊎ EndsTooEarly ends events items fault))
+    ⊎ (EndsInRefusal held events items fault ⊎ EndsUnfinished ends events items fault))
 
 -- the items that were taken of an iterator, in order, and what came of them
 abbrev pub Collects : {E I : Type 0} → (plain : E → PlainEvent)
@@ -64,12 +65,12 @@ Collects {E} {I} plain next_gives iter answer =
     × IsBuiltFrom (Drains next_gives iter taken) (map (item_by plain) taken) answer
 
 -- an item's event is taken
-abbrev pub Takes : Built → Item → Built → Type 0
-Takes before (Ok event) after =
+abbrev pub TakesOne : Built → Item → Built → Type 0
+TakesOne before (Ok event) after =
     (carried_on with_pair before.unfinished event ≡ Some after.unfinished) × (after.failed ≡ false)
-Takes before (Err fault) after = ⊥
+TakesOne before (Err fault) after = ⊥
 
 -- an item is an error, or its event is refused
-abbrev pub Refuses : Unfinished → Item → Fault → Type 0
-Refuses held (Ok event) fault = IsRefusal (refusal_of held event) fault
-Refuses held (Err error) fault = fault ≡ error
+abbrev pub RefusesOne : Unfinished → Item → Fault → Type 0
+RefusesOne held (Ok event) fault = IsRefusal (refusal_at held event) fault
+RefusesOne held (Err error) fault = fault ≡ error

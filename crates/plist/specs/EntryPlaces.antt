@@ -1,16 +1,14 @@
 -- What the contracts of a dictionary's entries say. The words serve an entry's halves too, as
 -- `with_value (Occupied o)`.
 pub use Rattle.plist.specs.declared.dictionary.entry.Entry.TheVariants.{Occupied, Vacant}
-use Rattle.std.specs.Prelude.{◌≡◌, ℕ, ◌<◌, List, [], ◌∷◌, ◌++◌, length, Option, None, Some, Result, cond, is_some, slice_get, string_bytes}
+use Rattle.std.specs.Prelude.{◌≡◌, ℕ, ◌<◌, List, [], ◌∷◌, ◌++◌, length, Option, None, Some, Result, cond, is_some, slice_get, string_bytes, bytes_eq, String}
 use Rattle.std.specs.Borrow.{Fml, RattleType, MutBor, follows, follows_if, name_if_ok}
 use Rattle.std.specs.Map.{keys_of, lookup, values_of}
 use Rattle.std.specs.Option.{UnwrapsOrElse}
-use Rattle.std.specs.Str.{bytes_eq}
 use Rattle.indexmap.specs.IndexMap.{set_value_at}
 use Rattle.indexmap.specs.Layout.{length-set_value_at}
 use Rattle.std.proofs.Common.{sym, subst}
 use mir.Syntax.{named}
-use Rattle.std.specs.Prelude.{String}
 use Rattle.std.specs.declared.alloc.Global.{Global}
 use Rattle.plist.specs.EntryLends.{IsRemovedAt}
 use Rattle.plist.specs.Keys.{IsSetAt, IsTakenAt}

@@ -22,8 +22,8 @@ module _ {S : Type 0} (Step : S → PlainEvent → Answer → S → Type 0) wher
   RefusesNext before (event ∷ events) fault after = Step before event (Err fault) after
 
   -- memory ran out at a start, which the writer wasn't handed
-  abbrev pub WantsMemory : (before : S) → List PlainEvent → Fault → (after : S) → Type 0
-  WantsMemory before events fault after =
+  abbrev pub StopsForMemory : (before : S) → List PlainEvent → Fault → (after : S) → Type 0
+  StopsForMemory before events fault after =
       (fault ≡ fault_nowhere OutOfMemory) × BeginsWithStart events × (after ≡ before)
 
   -- The writer took all events; or the first of them, and then refused the next, or memory ran out
@@ -33,7 +33,7 @@ module _ {S : Type 0} (Step : S → PlainEvent → Answer → S → Type 0) wher
   Hands before events (Err fault) after =
       (taken : List PlainEvent) × (left : List PlainEvent) × (events ≡ taken ++ left)
       × ((between : S) × Took before taken between
-      × (RefusesNext between left fault after ⊎ WantsMemory between left fault after))
+      × (RefusesNext between left fault after ⊎ StopsForMemory between left fault after))
 
   -- the events of a value
   abbrev pub HandsValue : (before : S) → Value → Result (Unit {0}) Error → (after : S) → Type 0

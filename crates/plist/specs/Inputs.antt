@@ -1,13 +1,12 @@
 -- The value of an input, from the items that it is seen to give.
-use Rattle.std.specs.Prelude.{◌≡◌, ℕ, List, [], ◌∷◌, ◌++◌, Option, None, Some, Result, Ok, Err, IfSome, map, ⊤}
+use Rattle.std.specs.Prelude.{◌≡◌, ℕ, List, [], ◌∷◌, ◌++◌, Option, None, Some, Result, Ok, Err, IfSome, map, ⊤, option_map}
 use Rattle.std.specs.Iterator.{Count, IsFiniteIterable}
-use Rattle.std.specs.Option.{option_map}
 use Rattle.plist_base.specs.declared.error.Error.{Error}
 use Rattle.plist_base.specs.Events.{PlainEvent, Item}
 use Rattle.plist_base.specs.Faults.{Fault, fault_nowhere, UnexpectedEndOfEventStream, MatchFault, IsFromOutside}
 use Rattle.plist_base.specs.Trees.{Tree}
 use Rattle.plist_base.specs.Bracketing.{bracketing, AreAlike}
-use Rattle.plist.specs.Building.{Unfinished, IsNested, events_so_far, refusal_of}
+use Rattle.plist.specs.Building.{Unfinished, IsNested, events_so_far, refusal_at}
 use Rattle.plist.specs.Collecting.{Collects, IsRefusal, built_tree, item_by}
 use Rattle.plist.specs.declared.value.Value.{Value}
 use Rattle.plist.specs.LastWins.{last_wins}
@@ -19,7 +18,7 @@ abbrev pub Decides : (held : Unfinished) (events : List PlainEvent) → (next : 
 Decides held events [] fault =
     (fault ≡ fault_nowhere UnexpectedEndOfEventStream)
     × ((tree : Tree) → AreAlike events (bracketing tree) → ⊥)
-Decides held events (Ok event ∷ more) fault = IsRefusal (refusal_of held event) fault
+Decides held events (Ok event ∷ more) fault = IsRefusal (refusal_at held event) fault
 Decides held events (Err error ∷ more) fault = fault ≡ error
 
 -- the items are a tree's events, up to lengths
@@ -42,8 +41,8 @@ IsReadFrom items (Ok tree) = (whole : Tree) × AreOf items whole × (tree ≡ la
 IsReadFrom items (Err fault) = MatchFault fault.kind ⊤ ⊤ (StopsAt items fault)
 
 -- the same of items that may not be known
-abbrev pub Answers : Option (List Item) → Result Tree Fault → Type 0
-Answers items answer = IfSome items (λ all. IsReadFrom all answer)
+abbrev pub IsReadIfKnown : Option (List Item) → Result Tree Fault → Type 0
+IsReadIfKnown items answer = IfSome items (λ all. IsReadFrom all answer)
 
 -- the value of the items that known bytes have
 abbrev pub ReadsItems : (List ℕ → List Item) → (known : Option (List ℕ)) → Result Value Error
@@ -59,9 +58,10 @@ BeginsWith before (Some (Ok event)) after = before ≡ Ok event ∷ after
 BeginsWith before (Some (Err fault)) after = MatchFault fault.kind ⊤ ⊤ (before ≡ Err fault ∷ after)
 
 -- the same, and what comes next is seen too, where what is to come is seen
-abbrev pub GoesOn : (before : Option (List Item)) → Option Item → (after : Option (List Item))
+abbrev pub BeginsWithIfKnown : (before : Option (List Item)) → Option Item
+    → (after : Option (List Item))
     → Type 0
-GoesOn before item after =
+BeginsWithIfKnown before item after =
     IfSome before (λ all. (left : List Item) × (after ≡ Some left) × BeginsWith all item left)
 
 -- an iterator's calls give the items that are seen to come, one after the other
@@ -69,13 +69,14 @@ abbrev pub Shows : {E I : Type 0} → (plain : E → PlainEvent)
     → (I → Option (Result E Error) → I → Type 0) → (coming : I → Option (List Item)) → Type 0
 Shows {E} {I} plain next_gives coming =
     (old : I) (item : Option (Result E Error)) (new : I) → next_gives old item new
-    → GoesOn (coming old) (option_map (item_by plain) item) (coming new)
+    → BeginsWithIfKnown (coming old) (option_map (item_by plain) item) (coming new)
 
 -- whatever shows the items of an iterator, the answer is that of these items
 abbrev pub AnswersAsSeen : {E I : Type 0} → (plain : E → PlainEvent)
     → (I → Option (Result E Error) → I → Type 0) → I → Result Tree Fault → Type 0
 AnswersAsSeen {E} {I} plain next_gives iter answer =
-    (coming : I → Option (List Item)) → Shows plain next_gives coming → Answers (coming iter) answer
+    (coming : I → Option (List Item)) → Shows plain next_gives coming → IsReadIfKnown
+    (coming iter) answer
 
 -- one is made of something: what comes of its items is the answer
 abbrev pub CollectsOf : {E I J : Type 0} → (becomes : J → I → Type 0) → (plain : E → PlainEvent)

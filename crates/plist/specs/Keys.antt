@@ -1,7 +1,6 @@
 -- Pairs by their keys. Two keys are one where their bytes are equal.
-use Rattle.std.specs.Prelude.{◌≡◌, ℕ, List, false, is_some}
+use Rattle.std.specs.Prelude.{◌≡◌, ℕ, List, false, is_some, bytes_eq}
 use Rattle.std.specs.Map.{lookup}
-use Rattle.std.specs.Str.{bytes_eq}
 use Rattle.indexmap.specs.IndexMap.{insert_entry, swap_remove_entry}
 
 module _ {V : Type 0} where

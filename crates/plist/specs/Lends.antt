@@ -1,8 +1,7 @@
 -- What is lent of pairs by `&mut`.
-use Rattle.std.specs.Prelude.{ℕ, List, Option}
+use Rattle.std.specs.Prelude.{ℕ, List, Option, bytes_eq}
 use Rattle.std.specs.Borrow.{Lends, LendsIf, MutBor, Fml}
 use Rattle.std.specs.Map.{set_value}
-use Rattle.std.specs.Str.{bytes_eq}
 use denote.RattleType.{RattleType}
 use Rattle.plist.specs.contracts.dictionary.Pairs.{the_row}
 

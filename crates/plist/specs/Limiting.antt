@@ -1,6 +1,5 @@
 -- What limits say of a value.
-use Rattle.std.specs.Prelude.{◌≡◌, ℕ, ◌-◌, ◌≤◌, List, length, Option, Result, ⊤}
-use Rattle.std.specs.Option.{option_map}
+use Rattle.std.specs.Prelude.{◌≡◌, ℕ, ◌-◌, ◌≤◌, List, length, Option, Result, ⊤, option_map}
 use Rattle.plist_base.specs.declared.limited.Limited.{Limited}
 use Rattle.plist_base.specs.declared.limits.Limits.{Limits}
 use Rattle.plist_base.specs.Events.{Item, event_of}
@@ -31,8 +30,8 @@ abbrev mutual
 
 -- a value's tree nests at most `depth` collections, and came of at most `items` events: those of a
 -- tree whose last-value form it is
-abbrev pub IsWithin : Limits → Tree → Type 0
-IsWithin limits tree =
+abbrev pub IsWithinLimits : Limits → Tree → Type 0
+IsWithinLimits limits tree =
     NestsWithin tree limits.depth
     × ((whole : Tree) × (tree ≡ last_wins whole) × (length (bracketing whole) ≤ limits.items))
 

@@ -10,7 +10,7 @@ use Rattle.plist.specs.declared.partial.Open.{Open}
 use Rattle.plist.specs.declared.partial.Open.TheVariants as run
 use Rattle.plist.specs.declared.partial.Partial.{Partial}
 use Rattle.plist.specs.declared.value.Value.{Value}
-use Rattle.plist.specs.Building.{OpenCollection, InArray, InDictionary, AfterKey, Unfinished, NotBegun, Within, Complete, refusal_of}
+use Rattle.plist.specs.Building.{OpenCollection, InArray, InDictionary, AfterKey, Unfinished, NotBegun, Within, Complete, refusal_at}
 use Rattle.plist.specs.LastWins.{last_values, with_pair}
 use Rattle.plist.specs.inner.Steps.{and_tree, carried_on}
 use Rattle.plist.specs.Views.{tree_of, tree_pairs}
@@ -23,10 +23,10 @@ open_of (run.Dictionary pairs) = InDictionary (last_values (tree_pairs pairs))
 open_of (run.AfterKey pairs key) = AfterKey (last_values (tree_pairs pairs)) (string_bytes key)
 
 -- what a root, if there is one, and the open collections, innermost first, hold
-abbrev pub held_by : Option Value → List Open → Unfinished
-held_by (Some root) collections = Complete (tree_of root)
-held_by None [] = NotBegun
-held_by None (inner ∷ outer) = Within (open_of inner) (map open_of outer)
+abbrev pub held_in : Option Value → List Open → Unfinished
+held_in (Some root) collections = Complete (tree_of root)
+held_in None [] = NotBegun
+held_in None (inner ∷ outer) = Within (open_of inner) (map open_of outer)
 
 -- the open collections, innermost first
 abbrev pub collections_of : Partial → List OpenCollection
@@ -34,7 +34,7 @@ collections_of partial = map open_of (reverse partial.collections.items)
 
 -- what is held
 abbrev pub unfinished_of : Partial → Unfinished
-unfinished_of partial = held_by partial.root (reverse partial.collections.items)
+unfinished_of partial = held_in partial.root (reverse partial.collections.items)
 
 -- the event carries on what is held
 abbrev pub CarriesOn : (before : Partial) → PlainEvent → (after : Partial) → Type 0
@@ -58,7 +58,7 @@ Opens before collection after =
 -- why the event can't come next, if it can't
 abbrev pub IsRefusalOf : Partial → Event → Option ErrorKind → Type 0
 IsRefusalOf partial event found =
-    option_map kind_of found ≡ refusal_of (unfinished_of partial) (event_of event)
+    option_map kind_of found ≡ refusal_at (unfinished_of partial) (event_of event)
 
 -- nothing is held where the root was taken out, and else nothing changed
 abbrev pub IsLeft : (before : Partial) → Option Value → (after : Partial) → Type 0

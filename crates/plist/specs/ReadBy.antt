@@ -1,6 +1,5 @@
 -- A source that is read whole, item by item.
-use Rattle.std.specs.Prelude.{◌≡◌, ℕ, Bool, List, Option, Some, Result}
-use Rattle.std.specs.Option.{option_map}
+use Rattle.std.specs.Prelude.{◌≡◌, ℕ, Bool, List, Option, Some, Result, option_map}
 use Rattle.plist_base.specs.Events.{Item, event_of}
 use Rattle.plist_base.specs.Faults.{Fault}
 use Rattle.plist_base.specs.Trees.{Tree}
@@ -9,15 +8,15 @@ use Rattle.plist_ascii.specs.AsciiReader as ascii
 use Rattle.plist_ascii.specs.AsciiReader.{dialect_of, inner_of}
 use Rattle.plist_ascii.specs.declared.reader.AsciiReader.{AsciiReader}
 use Rattle.plist_ascii.specs.declared.dialect.Dialect.{Dialect}
-use Rattle.plist_reader.specs.Formats.{front}
+use Rattle.plist_reader.specs.Formats.{input_front}
 use Rattle.plist_reader.specs.declared.reader.Reader.{Reader}
 use Rattle.plist_reader.specs.Reader.{Gives, items_of_input, source_of, to_come}
 use Rattle.plist.specs.Collecting.{Collects}
 
 -- the answer comes of the run of a reader that holds this very source and has all its items to give
-abbrev pub IsReadBy : {R : Type 0} (known : R → Option (List ℕ)) (failed : R → ℕ) (source : R)
+abbrev pub ComesOfReader : {R : Type 0} (known : R → Option (List ℕ)) (failed : R → ℕ) (source : R)
     → Result Tree Fault → Type 0
-IsReadBy {R} known failed source answer =
+ComesOfReader {R} known failed source answer =
     (reader : Reader R (record { known = known; failures = failed }))
     × (source_of reader ≡ Some source)
     × (to_come known reader ≡ option_map items_of_input (known source))
@@ -32,4 +31,4 @@ IsReadAsAscii {R} known failed source dialect answer =
 
 -- the items of an ASCII text
 abbrev pub items_of_text : (bare : ℕ → Bool) → List ℕ → List Item
-items_of_text bare bytes = items_of_ascii bare (front bytes) 0
+items_of_text bare bytes = items_of_ascii bare (input_front bytes) 0

@@ -1,7 +1,6 @@
 -- The types that a value holds, for what its `&mut` accessors lend.
 use denote.RattleType.{RattleType}
-use Rattle.std.specs.Prelude.{ℕ, List, Option}
-use Rattle.std.specs.Option.{option_map}
+use Rattle.std.specs.Prelude.{ℕ, List, Option, option_map}
 use Rattle.plist_base.specs.Trees.{Members, Trees}
 use Rattle.plist.specs.Views.{item_trees, pair_trees}
 use Rattle.std.specs.Borrow.{LendsIf, MutBor, Fml}

@@ -1,11 +1,9 @@
 -- What bodies and proofs speak of, and no public clause.
 pub mod Steps
-pub mod Carried
 pub mod Following
 pub mod Laws
 pub mod Sameness
 pub mod PairsSame
-pub mod Places
 pub mod StoreLends
 pub mod Weights
 pub mod PutOff

@@ -96,6 +96,7 @@ pub fn meets_an_end<R: Files>(rt: &R, alloc: Global, value: &Value, path: &str) 
 /// Whether two values are equal: whether their trees are the same, whatever the order of a
 /// dictionary's pairs. Sameness is an equivalence; scalars are the same where they are one, and
 /// dictionaries where they have the same at every key.
+#[tactic(auto, using(crate::proofs::SameTrees::sameness))]
 pub fn are_equal(value: &Value, other: &Value) -> bool
     ensures same { result ≡ same (tree_of value.now) (tree_of other.now) }
     ensures reflexive { (tree : Tree) → same tree tree ≡ true }
@@ -115,6 +116,7 @@ pub fn equals_its_copy(alloc: Global, value: &Value) -> Result<bool, Error>
 }
 
 /// Whether two dictionaries are equal: whether they are so as values.
+#[tactic(auto, using(crate::proofs::SameTrees::same_dictionaries))]
 pub fn are_equal_dictionaries(pairs: &Dictionary, others: &Dictionary) -> bool
     ensures same { result ≡ same_members (pair_trees pairs.now) (pair_trees others.now) }
     ensures pairs { result ≡ same_values_at pairs.now others.now }

@@ -184,6 +184,7 @@ impl<V> Pairs<V> {
     }
 
     /// The pairs, in their order.
+    #[tactic(auto, using(crate::proofs::Columns::no_keys))]
     pub fn iter(&self) -> Iter<'_, V>
         ensures rest { result ≡ self.now }
         ensures runs { ShowsInOrder (shown_pair {V = V}) }
@@ -196,6 +197,7 @@ impl<V> Pairs<V> {
     }
 
     /// The keys, in the order of the pairs.
+    #[tactic(auto, using(crate::proofs::Columns::no_keys))]
     pub fn keys(&self) -> Keys<'_>
         ensures rest { result ≡ keys_of self.now }
         ensures runs { ShowsInOrder shown_key }

@@ -4,7 +4,7 @@ ghost use Rattle.std.specs.Prelude.{◌≡◌, None, OnOk, option_map};
 ghost use Rattle.plist_base.specs.Events as events;
 ghost use Rattle.plist_base.specs.Events.{event_of};
 ghost use Rattle.plist_base.specs.Faults.{kind_of};
-ghost use Rattle.plist.specs.Building.{NotBegun, complete_tree, refusal_of, refusal_of_key, refusal_of_value};
+ghost use Rattle.plist.specs.Building.{NotBegun, complete_tree, refusal_at, refusal_of_key, refusal_of_value};
 ghost use Rattle.plist.specs.Partials.{AddsValue, CarriesOn, IsLeft, IsRefusalOf, Opens, TakesText, unfinished_of};
 ghost use Rattle.plist.specs.Views.{tree_of};
 
@@ -129,7 +129,7 @@ impl Partial {
 
     // Ends the innermost collection, which is a value then.
     fn end(&mut self) -> Result<(), AllocError>
-        requires place { refusal_of (unfinished_of self.old) events.EndCollection ≡ None }
+        requires place { refusal_at (unfinished_of self.old) events.EndCollection ≡ None }
         requires root { self.old.root ≡ None }
         ensures { OnOk result (CarriesOn self.old events.EndCollection self.new) }
     {
@@ -162,7 +162,7 @@ impl Partial {
     ///
     /// After a failure what is held isn't known.
     pub(crate) fn take(&mut self, alloc: Global, event: Event<'_>) -> Result<(), AllocError>
-        requires { refusal_of (unfinished_of self.old) (event_of event) ≡ None }
+        requires { refusal_at (unfinished_of self.old) (event_of event) ≡ None }
         ensures { OnOk result (CarriesOn self.old (event_of event.entry) self.new) }
     {
         match event {

@@ -28,6 +28,7 @@ impl PartialEq for Value {
 
     ghost laws = { partial_equiv_from_equiv (same_by_equiv tree_of) };
 
+    #[tactic(auto, using(crate::proofs::Comparing::put_off))]
     fn eq(&self, other: &Value) -> bool {
         let mut later = Later { pairs: None };
         if !later.compare(self, other, LEVELS) {
@@ -83,6 +84,7 @@ impl<'a> Later<'a> {
     }
 
     // Puts a pair off, if it is one of collections and memory is found for it.
+    #[tactic(auto, using(crate::proofs::Comparing::put_off))]
     fn put_off(&mut self, value: &'a Value, other: &'a Value) -> bool
         ensures { PutsOff value.now other.now self.old result self.new }
     {

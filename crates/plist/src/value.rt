@@ -6,14 +6,14 @@ ghost use Rattle.plist.specs.Sent.{SendsValue};
 ghost use Rattle.plist.specs.Collecting.{built_tree};
 ghost use Rattle.plist.specs.Contents.{array_in, data_in, dictionary_in, text_in};
 ghost use Rattle.plist.specs.Inputs.{AnswersOf, CollectsOf, Ends, ReadsItems, TellsTrees};
-ghost use Rattle.plist.specs.ReadBy.{IsReadAsAscii, IsReadBy, items_of_text};
+ghost use Rattle.plist.specs.ReadBy.{IsReadAsAscii, ComesOfReader, items_of_text};
 ghost use Rattle.plist.specs.ReadingBack.{ReadsBackIn};
 ghost use Rattle.plist_ascii.specs.Texts.{ends_bare, lax};
 ghost use Rattle.plist_reader.specs.Reader.{items_of_input};
 ghost use Rattle.plist_base.specs.Outcomes.{OnlyMemory};
 ghost use Rattle.plist_base.specs.Trees.{Leaf, String};
 ghost use Rattle.plist.specs.LastWins.{AreLastValues, Rows, last_values, last_wins};
-ghost use Rattle.plist.specs.Limiting.{IsReadUnder, IsWithin, limited_input};
+ghost use Rattle.plist.specs.Limiting.{IsReadUnder, IsWithinLimits, limited_input};
 ghost use Rattle.plist.specs.Events.{remaining_events};
 ghost use Rattle.plist.specs.Views.{item_trees, kind_of_tree, pair_trees, tree_of};
 ghost use Rattle.plist.specs.inner.Weights.{SplitsInto};
@@ -141,6 +141,7 @@ impl Value {
     }
 
     /// The events of the value, depth first.
+    #[tactic(auto, using(crate::proofs::Itself::itself))]
     pub fn events(&self, alloc: Global) -> Events<'_>
         ensures items { remaining_events result ≡ bracketing (tree_of self.now) }
         ensures itself { last_wins (tree_of self.now) ≡ tree_of self.now }
@@ -187,7 +188,7 @@ impl Value {
     /// - `OutOfMemory`.
     pub fn from_reader<R: Source>(alloc: Global, source: R) -> Result<Value, Error>
         ensures value { ReadsItems items_of_input (R.known source) result }
-        ensures read { IsReadBy R.known R.failures source (built_tree result) }
+        ensures read { ComesOfReader R.known R.failures source (built_tree result) }
         ensures reads_back { ReadsBackIn (R.known source) result }
     {
         let reader = Reader::new(alloc, source);
@@ -208,7 +209,7 @@ impl Value {
         limits: Limits,
     ) -> Result<Value, Error>
         ensures value { ReadsItems (limited_input limits) (R.known source) result }
-        ensures within { IfOk (built_tree result) (IsWithin limits) }
+        ensures within { IfOk (built_tree result) (IsWithinLimits limits) }
         ensures read { IsReadUnder limits R.known R.failures source (built_tree result) }
     {
         collect(alloc, Limited::new(Reader::new(alloc, source), limits))

@@ -4,8 +4,8 @@ use Rattle.std.proofs.lemmas.List.{drop-drop}
 use Rattle.plist_base.specs.Faults.{FaultKind, Fault, fault_at}
 use Rattle.plist_base.specs.Events.{PlainEvent, Item}
 use Rattle.plist_ascii.specs.Texts.{Token}
-use Rattle.plist_ascii.specs.Ascii.{PlacedItem, placed, item_then, items_in, items_of_ascii, placed_items, token, token_by, lead_of, WantsMemory, BeginsWithText}
-use Rattle.plist_ascii.specs.AsciiReader.{BeginsWith}
+use Rattle.plist_ascii.specs.Ascii.{PlacedItem, placed, item_then, items_in, items_of_ascii, placed_items, token, token_by, lead_of, IsTextToken, BeginsWithText}
+use Rattle.plist_ascii.specs.AsciiReader.{BeginsWithItem}
 
 then_same : (q : ℕ) (g : Result (Option PlainEvent) FaultKind) (xs ys : List PlacedItem) → xs ≡ ys
     → item_then q g xs ≡ item_then q g ys
@@ -19,11 +19,11 @@ items_nil stops (suc r) p = refl
 items_room : (stops : ℕ → Bool) (r s : ℕ) (xs : List ℕ) (p : ℕ) → length xs ≤ r → length xs ≤ s
     → items_in stops r xs p ≡ items_in stops s xs p
 unfolding items_in token
-items_room stops r s [] p l m = items_nil stops r p ∙ sym (items_nil _ s p)
+items_room stops r s [] p l m = items_nil _ r p ∙ sym (items_nil _ s p)
 items_room stops zero s (c ∷ cs) p l m = absurd (let none : ⊥ = omega arith in none)
 items_room stops (suc r) zero (c ∷ cs) p l m = absurd (let none : ⊥ = omega arith in none)
 items_room stops (suc r) (suc s) (c ∷ cs) p l m =
-    let b = token_by stops (lead_of c) c cs in
+    let b = token_by _ _ c cs in
     let short : length (drop b.bytes cs) ≤ length cs = rw length-drop (omega arith) in
     then_same (p + suc b.bytes) b.gives _ _
     (items_room _ r s _ _ (omega arith) (omega arith))
@@ -58,11 +58,11 @@ going_start stops xs p =
 
 begins : (stops : ℕ → Bool) (xs : List ℕ) (p : ℕ) (x : Item) (ys : List ℕ) (q : ℕ)
     → placed_items stops xs p ≡ placed q x ∷ placed_items stops ys q → ys ≡ drop (q - p) xs
-    → BeginsWith stops xs p x ys q
+    → BeginsWithItem stops xs p x ys q
 begins stops xs p x ys q e d = record { items = ap (map (λ i. i.item)) e; ends = e; rest = d }
 
 text_first : (q : ℕ) (g : Result (Option PlainEvent) FaultKind) (more : List PlacedItem)
-    → WantsMemory g → BeginsWithText (map (λ i. i.item) (item_then q g more))
+    → IsTextToken g → BeginsWithText (map (λ i. i.item) (item_then q g more))
 text_first q g more h = search rules
 
 module _ {stops : ℕ → Bool} {xs : List ℕ} {p : ℕ} {ys : List ℕ} {m c : ℕ} {cs : List ℕ}
@@ -75,10 +75,10 @@ module _ {stops : ℕ → Bool} {xs : List ℕ} {p : ℕ} {ys : List ℕ} {m c :
 
   going_all : (q : ℕ) → q ≡ m + suc token_here.bytes
       → placed_items stops xs p ≡ item_then q token_here.gives (behind q)
-  going_all q s = h.all ∙ ap (λ z. placed_items stops z m) e ∙ items_cons _ c cs m q s
+  going_all q s = cc (items_cons _ c cs m q s)
 
   -- whatever the token takes
-  pub going_text : WantsMemory token_here.gives → BeginsWithText (items_of_ascii stops xs p)
+  pub going_text : IsTextToken token_here.gives → BeginsWithText (items_of_ascii stops xs p)
   going_text w =
       let P : List PlacedItem → Type 0 = λ is. BeginsWithText (map (λ i. i.item) is) in
       subst P (sym (going_all _ refl)) (text_first _ token_here.gives _ w)
@@ -87,12 +87,12 @@ module _ {stops : ℕ → Bool} {xs : List ℕ} {p : ℕ} {ys : List ℕ} {m c :
   module _ {n q : ℕ} (t : n ≡ m + 1) (s : q ≡ n + token_here.bytes) where
     going_by : (g : Result (Option PlainEvent) FaultKind) → token_here.gives ≡ g
         → placed_items stops xs p ≡ item_then q g (behind q)
-    going_by g is = going_all q (omega arith) ∙ ap (λ g. item_then q g (behind q)) is
+    going_by g is = cc (going_all q (omega arith))
 
     going_rest : drop token_here.bytes cs ≡ drop (q - p) xs
     going_rest =
-        let n = suc token_here.bytes in
-        let le : p ≤ m = h.rises in
+        let n = suc _ in
+        let le = h.rises in
         let sum : m - p + n ≡ q - p = omega arith in
         ap (drop n) (sym e ∙ h.rest) ∙ drop-drop n (m - p) xs ∙ ap (λ k. drop k xs) sum
 
@@ -105,11 +105,11 @@ module _ {stops : ℕ → Bool} {xs : List ℕ} {p : ℕ} {ys : List ℕ} {m c :
     }
 
     pub going_event : {x : PlainEvent} → token_here.gives ≡ Ok (Some x)
-        → BeginsWith stops xs p (Ok x) (drop token_here.bytes cs) q
+        → BeginsWithItem stops xs p (Ok x) (drop token_here.bytes cs) q
     going_event g = begins stops xs p _ _ q (going_by _ g) going_rest
 
     pub going_fault : {k : FaultKind} {f : Fault} → f ≡ fault_at k q
-        → token_here.gives ≡ Err k → BeginsWith stops xs p (Err f) (drop token_here.bytes cs) q
+        → token_here.gives ≡ Err k → BeginsWithItem stops xs p (Err f) (drop token_here.bytes cs) q
     going_fault i g = begins stops xs p _ _ q
         (going_by _ g ∙ ap (λ f. placed q (Err f) ∷ behind q) (sym i)) going_rest
 

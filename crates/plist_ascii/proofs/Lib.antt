@@ -1,12 +1,7 @@
-pub mod Inside
-pub mod Runs
 pub mod Unread
 pub mod Answering
-pub mod Octal
-pub mod Texts
 pub mod Quotes
-pub mod Comments
-pub mod Slashes
+pub mod Loops
 pub mod Items
-pub mod Wants
+pub mod Texts
 pub mod Dialects

@@ -1,12 +1,13 @@
 -- A quoted text, part by part.
-use Rattle.std.proofs.Common.{◌≡◌, ℕ, zero, suc, ◌+◌, ◌<◌, ◌≤◌, false, cond, List, [], ◌∷◌, ◌++◌, length, take, drop, Option, Some, Result, Ok, Err, refl, sym, ap, ◌∙◌, arith, rules, append_assoc, append-nil, length-drop}
+use Rattle.std.proofs.Common.{◌≡◌, ℕ, zero, suc, ◌+◌, ◌<◌, ◌≤◌, false, cond, List, [], ◌∷◌, ◌++◌, length, take, drop, Option, Some, Result, Ok, Err, refl, ap, ◌∙◌, arith, rules, append_assoc, append-nil, length-drop}
 use Rattle.std.specs.Prelude.{◌==◌}
 use Rattle.std.proofs.lemmas.List.{drop-drop}
-use Rattle.plist_base.specs.Faults.{FaultKind}
-use Rattle.plist_base.specs.Faults.{UnclosedString}
+use Rattle.plist_base.specs.Faults.{FaultKind, UnclosedString}
 use Rattle.plist_ascii.specs.Taken.{Taken, taken, past_one, run}
 use Rattle.plist_ascii.specs.Escapes.{escape}
 use Rattle.plist_ascii.specs.Quoted.{behind, with_front, ends_run, run_end, quoted_by, quoted_in, quoted, escape_then}
+use Rattle.plist_ascii.specs.Unread.{TakesFront}
+use Rattle.plist_ascii.proofs.Loops.{Behind, behind_start, behind_more, behind_ends}
 
 -- behind a run
 
@@ -15,10 +16,9 @@ pub end_goes_on : (quote c : ℕ) (xs ys part : List ℕ) → xs ≡ c ∷ ys �
     → run_end quote more xs ≡ behind (suc (escape ys).bytes) part
     (more (drop (suc (escape ys).bytes) xs))
 end_goes_on quote c xs ys part s e g more =
-    let t = more (drop (escape ys).bytes ys) in
-    rw (s, e, g) (ap (λ n. taken n (with_front part t.gives))
-    (let n : suc ((escape ys).bytes + t.bytes) ≡ suc (escape ys).bytes
-    + t.bytes = omega arith in n))
+    let t = more _ in
+    let n : suc ((escape ys).bytes + t.bytes) ≡ suc (escape ys).bytes + t.bytes = omega arith in
+    rw (s, e, g) (ap (λ n. taken n (with_front part t.gives)) n)
 
 pub end_fails : (quote c : ℕ) (xs ys : List ℕ) (k : FaultKind) → xs ≡ c ∷ ys → (c == quote) ≡ false
     → (escape ys).gives ≡ Err k → (more : List ℕ → Taken (List ℕ))
@@ -36,19 +36,17 @@ pub part_ends : (quote n : ℕ) (xs : List ℕ) (g : Result (List ℕ) FaultKind
     ((more : List ℕ → Taken (List ℕ)) → run_end quote more (drop m xs) ≡ taken n g)
     → (more : List ℕ → Taken (List ℕ))
     → quoted_by quote more xs ≡ taken (m + n) (with_front (take m xs) g)
-part_ends quote n xs g h more = ap (behind _ (take _ xs)) (h more)
+part_ends quote n xs g h more = ap (behind _ _) (h more)
 
 with_with : (a b : List ℕ) (r : Result (List ℕ) FaultKind)
     → with_front a (with_front b r) ≡ with_front (a ++ b) r
-with_with a b (Ok c) = ap Ok (sym (append_assoc a b c))
-with_with a b (Err k) = refl
+with_with a b r = search (rules, append_assoc)
 
 pub behind_behind : (m n : ℕ) (a b : List ℕ) (t : Taken (List ℕ))
     → behind m a (behind n b t) ≡ behind (m + n) (a ++ b) t
 behind_behind m n a b t =
     let place : m + (n + t.bytes) ≡ m + n + t.bytes = omega arith in
-    ap (λ k. taken k (with_front a (with_front b t.gives))) place
-    ∙ ap (taken _) (with_with a b _)
+    rw (place, with_with a b _) refl
 
 pub part_goes_on : (quote n : ℕ) (xs part : List ℕ) → let m = run (ends_run quote) xs in
     ((more : List ℕ → Taken (List ℕ))
@@ -56,7 +54,7 @@ pub part_goes_on : (quote n : ℕ) (xs part : List ℕ) → let m = run (ends_ru
     → (more : List ℕ → Taken (List ℕ))
     → quoted_by quote more xs ≡ behind (m + n) (take m xs ++ part) (more (drop (m + n) xs))
 part_goes_on quote n xs part h more =
-    let m = run (ends_run quote) xs in
+    let m = run _ xs in
     ap (behind m (take m xs)) (h more)
     ∙ behind_behind m n (take m xs) part (more _)
     ∙ ap (λ zs. behind (m + n) (take m xs ++ part) (more zs)) (drop-drop n m xs)
@@ -67,8 +65,10 @@ then_same : (n : ℕ) (r : Result (List ℕ) FaultKind) (f g : ℕ → Taken (Li
     → escape_then n r f ≡ escape_then n r g
 then_same n r f g h = search rules
 
-end_same : (quote : ℕ) (f g : List ℕ → Taken (List ℕ)) (xs : List ℕ)
-    → ((ys : List ℕ) → length ys < length xs → f ys ≡ g ys)
+abbrev AreSame : (f g : List ℕ → Taken (List ℕ)) → List ℕ → Type 0
+AreSame f g xs = (ys : List ℕ) → length ys < length xs → f ys ≡ g ys
+
+end_same : (quote : ℕ) (f g : List ℕ → Taken (List ℕ)) (xs : List ℕ) → AreSame f g xs
     → run_end quote f xs ≡ run_end quote g xs
 end_same quote f g [] h = refl
 end_same quote f g (c ∷ xs) h =
@@ -77,25 +77,21 @@ end_same quote f g (c ∷ xs) h =
     ap (λ t. past_one (cond (c == quote) (taken 0 (Ok [])) t))
     (then_same e.bytes e.gives (λ k. f (drop k xs)) (λ k. g (drop k xs)) (h _ less))
 
-by_same : (quote : ℕ) (f g : List ℕ → Taken (List ℕ)) (xs : List ℕ)
-    → ((ys : List ℕ) → length ys < length xs → f ys ≡ g ys)
+by_same : (quote : ℕ) (f g : List ℕ → Taken (List ℕ)) (xs : List ℕ) → AreSame f g xs
     → quoted_by quote f xs ≡ quoted_by quote g xs
 by_same quote f g xs h =
-    let m = run (ends_run quote) xs in
-    ap (behind m _) (end_same _ f g (drop m xs)
-    (λ ys l. let short : length (drop m xs)
-    ≤ length xs = rw length-drop (omega arith) in h ys (omega arith)))
+    let m = run _ xs in
+    let short : length (drop m xs) ≤ length xs = rw length-drop (omega arith) in
+    ap (behind m _) (end_same _ f g (drop m xs) (λ ys l. h ys (omega arith)))
 
 quoted_room : (quote r s : ℕ) (xs : List ℕ) → length xs ≤ r → length xs ≤ s
     → quoted_in quote r xs ≡ quoted_in quote s xs
 unfolding quoted_in
 quoted_room quote zero zero xs l m = refl
 quoted_room quote zero (suc s) xs l m =
-    by_same _ (λ _. taken 0 (Err UnclosedString)) (quoted_in _ s) xs
-    (λ ys h. let none : ⊥ = omega arith in absurd none)
+    by_same _ (λ _. taken 0 (Err UnclosedString)) (quoted_in _ s) xs (λ ys h. absurd (omega arith))
 quoted_room quote (suc r) zero xs l m =
-    by_same _ (quoted_in _ r) (λ _. taken 0 (Err UnclosedString)) xs
-    (λ ys h. let none : ⊥ = omega arith in absurd none)
+    by_same _ (quoted_in _ r) (λ _. taken 0 (Err UnclosedString)) xs (λ ys h. absurd (omega arith))
 quoted_room quote (suc r) (suc s) xs l m =
     by_same _ (quoted_in _ r) (quoted_in _ s) xs
     (λ ys h. quoted_room quote r s ys (omega arith) (omega arith))
@@ -107,34 +103,39 @@ quoted_opens quote (c ∷ xs) =
     by_same quote (quoted_in _ _) (quoted quote) (c ∷ xs)
     (λ ys h. quoted_room quote (length xs) (length ys) ys (omega arith) (omega arith))
 
--- The text so far, where `k` bytes were taken.
-pub record Quoting (quote : ℕ) (xs text : List ℕ) (k : ℕ) (ys : List ℕ) : Type 0 where
-  pub all : quoted quote xs ≡ behind k text (quoted quote ys)
-  pub rest : ys ≡ drop k xs
+-- the text so far
+abbrev pub Quoting : (quote : ℕ) (text xs : List ℕ) → ℕ → List ℕ → ℕ → Type 0
+Quoting quote text = Behind (quoted quote) (λ k ys. behind k text (quoted quote ys))
 
-module _ {quote : ℕ} {xs text : List ℕ} {k : ℕ} {ys : List ℕ} (q : Quoting quote xs text k ys)
-    (n : ℕ) where
-  pub quoting_more : (part longer : List ℕ) → ((more : List ℕ → Taken (List ℕ))
+pub quoting_start : (quote : ℕ) (xs : List ℕ) (p : ℕ) → Quoting quote [] xs p xs p
+quoting_start quote xs p = behind_start (behind_none _)
+  where
+    with_none : (r : Result (List ℕ) FaultKind) → with_front [] r ≡ r
+    with_none r = search rules
+
+    behind_none : (t : Taken (List ℕ)) → t ≡ behind 0 [] t
+    behind_none t =
+        let n : 0 + t.bytes ≡ t.bytes = omega arith in rw (n, with_none _) refl
+
+module _ (quote : ℕ) (text : List ℕ) {xs : List ℕ} {p : ℕ} {ys : List ℕ} {q : ℕ}
+    (h : Quoting quote text xs p ys q) (n : ℕ) {r : ℕ} (s : r ≡ q + n) where
+  pub quoting_more : (part : List ℕ) {longer : List ℕ} → ((more : List ℕ → Taken (List ℕ))
       → quoted_by quote more ys ≡ behind n part (more (drop n ys))) → longer ≡ text ++ part
-      → Quoting quote xs longer (k + n) (drop n ys)
-  quoting_more part longer h e = record {
-    all = q.all ∙ ap (behind k text) (quoted_opens quote ys ∙ h (quoted quote))
-        ∙ behind_behind k n text part (quoted quote (drop n ys))
-        ∙ ap (λ z. behind (k + n) z (quoted quote (drop n ys))) (sym e);
-    rest = ap (drop n) q.rest ∙ drop-drop n k xs;
-  }
+      → Quoting quote longer xs p (drop n ys) r
+  quoting_more part w e = behind_more h n r s
+      (ap (behind h.k text) (quoted_opens quote ys ∙ w (quoted quote))
+      ∙ behind_behind h.k n text part (quoted quote (drop n ys)) ∙ rw e refl)
 
-  pub quoting_ends : (g : Result (List ℕ) FaultKind)
+  pub quoting_ends : {g all : Result (List ℕ) FaultKind} {new : Option (List ℕ)}
       → ((more : List ℕ → Taken (List ℕ)) → quoted_by quote more ys ≡ taken n g)
-      → quoted quote xs ≡ taken (k + n) (with_front text g)
-  quoting_ends g h = q.all ∙ ap (behind k _) (quoted_opens _ ys ∙ h (quoted _))
-
-  pub quoting_rest : drop n ys ≡ drop (k + n) xs
-  quoting_rest = ap (drop n) q.rest ∙ drop-drop n k xs
+      → with_front text g ≡ all → new ≡ Some (drop n ys)
+      → TakesFront (quoted quote xs) all new p r xs
+  quoting_ends w e = behind_ends h n r s
+      (ap (behind h.k text) (quoted_opens _ ys ∙ w (quoted _)) ∙ ap (taken (h.k + n)) e)
 
 pub text_closes : (text old more : List ℕ) → text ≡ old ++ more → text ≡ old ++ (more ++ [])
-text_closes text old more e = e ∙ ap (λ z. old ++ z) (sym (append-nil _))
+text_closes text old more e = cc (append-nil _)
 
 pub text_goes_on : (text mid old more piece : List ℕ) → mid ≡ old ++ more → text ≡ mid ++ piece
     → text ≡ old ++ (more ++ piece)
-text_goes_on text mid old more piece e h = h ∙ ap (λ z. z ++ piece) e ∙ append_assoc old more piece
+text_goes_on text mid old more piece e h = cc (append_assoc old more piece)

@@ -1,13 +1,23 @@
--- What a text gives.
-use Rattle.std.proofs.Common.{◌≡◌, ℕ, List, true, false, Option, Some, Ok, Err, refl, rules}
+-- What texts give, which tokens are texts, and what a slash begins.
+use Rattle.std.proofs.Common.{◌≡◌, ℕ, List, true, false, Option, Some, Ok, Err, refl, rules, ◌<◌, None, ap, arith, zero, suc, Bool, cond, [], ◌∷◌, take, drop, Result, ◌≢◌}
 use Rattle.std.specs.Str.{is_utf8}
 use Rattle.plist_base.specs.declared.error.ErrorKind.{ErrorKind}
-use Rattle.plist_base.specs.Faults.{InvalidUtf8AsciiStream, kind_of}
+use Rattle.plist_base.specs.Faults.{InvalidUtf8AsciiStream, kind_of, FaultKind, UnclosedString}
 use Rattle.plist_base.specs.Events.{PlainEvent, Single}
 use Rattle.plist_base.specs.Trees.{Scalar}
-use Rattle.std.specs.Prelude.{ℤ}
-use Rattle.plist_ascii.specs.Texts.{utf8_or_fault, number_or_text}
+use Rattle.std.specs.Prelude.{ℤ, SomeIff, ⊤, ◌==◌, length}
+use Rattle.plist_ascii.specs.Texts.{utf8_or_fault, number_or_text, bare, bare_event, quoted_event}
 use Rattle.plist_ascii.specs.Kinds.{IsFaultOfBytes, IsTextEvent}
+use lib.Utf8.{low_scalar}
+use Rattle.std.specs.Char.{IsScalar, is_digit}
+use Rattle.plist_ascii.specs.Taken.{Taken, taken, past_outcome, front, front_gives, run}
+use Rattle.plist_ascii.specs.Escapes.{escape, escape_by, simple, simple_escape, octal_text, unit, first_unit, second_unit, second_letter, second_digits, pair_text}
+use Rattle.plist_ascii.specs.Quoted.{with_front, escape_then, run_end, quoted_by, quoted_in, quoted, quoted_outcome, quoted_token}
+use Rattle.plist_ascii.specs.Ascii.{IsTextFault, IsTextToken}
+use Rattle.plist_ascii.specs.Comments.{slash}
+use Rattle.plist_ascii.specs.Unread.{Known, first}
+use Rattle.std.proofs.lemmas.Bool.{ne_eqb}
+use Rattle.plist_ascii.proofs.Unread.{first_splits}
 
 pub text_gives : (xs : List ℕ) (e : Scalar) (f : PlainEvent) → is_utf8 xs ≡ true → f ≡ Single e
     → IsTextEvent (Single e) → (utf8_or_fault xs e ≡ Ok (Some f)) × IsTextEvent f
@@ -20,3 +30,133 @@ pub text_fails : (xs : List ℕ) (e : Scalar) (k : ErrorKind) → is_utf8 xs ≡
     → kind_of k ≡ InvalidUtf8AsciiStream → (utf8_or_fault xs e ≡ Err (kind_of k))
     × IsFaultOfBytes (kind_of k)
 text_fails xs e k t h = rw (t, h) (refl, tt)
+
+pub to_char : (r : Option ℕ) (n : ℕ) → n < 512 → SomeIff r (IsScalar n) n → r ≡ Some n
+to_char None n l h = absurd (h (low_scalar n (omega arith)))
+to_char (Some x) n l h = ap Some h.1
+
+-- only faults of a text
+abbrev pub InText : {A : Type 0} → Result A FaultKind → Type 0
+InText (Ok a) = ⊤
+InText (Err kind) = IsTextFault kind
+
+number_wants : (text : List ℕ) (o : Option ℤ)
+    → IsTextToken (Ok (Some (Single (number_or_text text o))))
+number_wants text o = search rules
+
+utf8_wants : (b : Bool) (text : List ℕ) (scalar : Scalar) → is_utf8 text ≡ b
+    → IsTextToken (Ok (Some (Single scalar))) → IsTextToken (utf8_or_fault text scalar)
+utf8_wants b text scalar e h = search rules
+
+pub bare_wants : (stops : ℕ → Bool) (c : ℕ) (xs : List ℕ) → IsTextToken (bare stops c xs).gives
+unfolding bare_event
+bare_wants stops c xs =
+    let text = c ∷ take (run stops xs) xs in
+    utf8_wants _ _ _ refl (number_wants _ _)
+
+-- ---- the parts of a quoted text
+
+needs_in : {A : Type 0} (n : ℕ) (xs : List ℕ) (o : Option (List ℕ))
+    (meaning : List ℕ → Result A FaultKind) → ((ds : List ℕ) → InText (meaning ds))
+    → InText (front_gives n (length xs) o meaning).gives
+needs_in n xs o meaning h = search rules
+
+followed_in : {A B : Type 0} (xs : List ℕ) (n : ℕ) (g : Result A FaultKind)
+    (next : A → List ℕ → Taken B) → InText g → ((a : A) (ys : List ℕ) → InText (next a ys).gives)
+    → InText (past_outcome xs n g next).gives
+followed_in xs n g next h k = search rules
+
+cond_in : {A : Type 0} (b : Bool) (t u : Taken A) → InText t.gives → InText u.gives
+    → InText (cond b t u).gives
+cond_in b t u h k = search rules
+
+unit_in : (xs : List ℕ) → InText (unit xs).gives
+unit_in xs = needs_in 4 xs _ (λ ds. Ok _) (λ ds. tt)
+
+pair_in : (high : ℕ) (low : Option ℕ) → InText (pair_text high low)
+pair_in high low = search rules
+
+digits_in : (high : ℕ) (xs : List ℕ) → InText (second_digits high xs).gives
+digits_in high xs =
+    followed_in xs (unit xs).bytes (unit xs).gives (λ low _. taken 0 (pair_text high low))
+    (unit_in xs) (λ low _. pair_in high low)
+
+letter_in : (high : ℕ) (xs : List ℕ) → InText (second_letter high xs).gives
+letter_in high [] = tt
+letter_in high (c ∷ xs) = search (rules, digits_in)
+
+second_in : (high : ℕ) (xs : List ℕ) → InText (second_unit high xs).gives
+second_in high xs = search (rules, letter_in)
+
+first_in : (u : Option ℕ) (xs : List ℕ) → InText (first_unit u xs).gives
+first_in None xs = tt
+first_in (Some u) xs = search (rules, second_in)
+
+simple_in : (o : Option ℕ) → InText (simple o).gives
+simple_in o = search rules
+
+octal_in : (digits : List ℕ) → InText (octal_text digits)
+unfolding octal_text
+octal_in digits = search rules
+
+by_in : (c : ℕ) (xs : List ℕ) → InText (escape_by c xs).gives
+by_in c xs =
+    let u = followed_in xs (unit xs).bytes (unit xs).gives first_unit (unit_in xs) first_in in
+    let o = needs_in 2 xs (front 2 xs) (λ ds. octal_text (c ∷ ds)) (λ ds. octal_in (c ∷ ds)) in
+    let s = simple_in (simple_escape c) in
+    cond_in (c == 85) _ _ u (cond_in (is_digit c 8) _ _ o s)
+
+escape_in : (xs : List ℕ) → InText (escape xs).gives
+unfolding escape
+escape_in [] = tt
+escape_in (c ∷ xs) = by_in c xs
+
+with_in : (front : List ℕ) (r : Result (List ℕ) FaultKind) → InText r → InText (with_front front r)
+with_in front r h = search rules
+
+then_in : (n : ℕ) (r : Result (List ℕ) FaultKind) (more : ℕ → Taken (List ℕ)) → InText r
+    → InText (more n).gives → InText (escape_then n r more).gives
+then_in n r more h k = search rules
+
+end_in : (quote : ℕ) (more : List ℕ → Taken (List ℕ)) (xs : List ℕ)
+    → ((ys : List ℕ) → InText (more ys).gives) → InText (run_end quote more xs).gives
+end_in quote more [] h = tt
+end_in quote more (c ∷ xs) h =
+    let t = then_in (escape xs).bytes (escape xs).gives (λ n. more (drop n xs)) (escape_in xs) (h _)
+    in search rules
+
+part_in : (quote : ℕ) (more : List ℕ → Taken (List ℕ)) (xs : List ℕ)
+    → ((ys : List ℕ) → InText (more ys).gives) → InText (quoted_by quote more xs).gives
+part_in quote more xs h =
+    with_in _ (run_end quote more (drop _ xs)).gives
+    (end_in quote more (drop _ xs) h)
+
+quoted_in_text : (quote room : ℕ) (xs : List ℕ) → InText (quoted_in quote room xs).gives
+unfolding quoted_in
+quoted_in_text quote zero xs = part_in _ (λ _. taken 0 (Err UnclosedString)) xs (λ ys. tt)
+quoted_in_text quote (suc room) xs =
+    part_in quote (quoted_in _ _) xs (λ ys. quoted_in_text quote room ys)
+
+outcome_wants : (r : Result (List ℕ) FaultKind) → InText r → IsTextToken (quoted_outcome r)
+unfolding quoted_event
+outcome_wants r h = search (rules, utf8_wants)
+
+pub quoted_wants : (quote : ℕ) (xs : List ℕ) → IsTextToken (quoted_token quote xs).gives
+quoted_wants quote xs = outcome_wants (quoted quote xs).gives (quoted_in_text _ _ xs)
+
+-- where the next byte begins no comment, a bare text begins
+pub bare_looked : (stops : ℕ → Bool) (old mid : Option (List ℕ)) (o : Option ℕ) (c : ℕ)
+    → o ≡ Some c → Known old (λ xs. (mid ≡ Some xs) × (o ≡ first xs)) → c ≢ 47 → c ≢ 42
+    → Known old (λ xs. (mid ≡ Some xs) × (slash stops xs ≡ bare stops 47 xs))
+bare_looked stops old mid o c is looked a b =
+    λ xs e. let h = looked xs e in
+    (h.0, rw (first_splits _ _ xs is h.1, ne_eqb _ _ a, ne_eqb _ _ b) refl)
+
+pub slash_wants : (stops : ℕ → Bool) (xs : List ℕ) → slash stops xs ≡ bare stops 47 xs
+    → IsTextToken (slash stops xs).gives
+slash_wants stops xs e = rw e (bare_wants _ 47 xs)
+
+-- what is made of a text that was read, quoted or bare
+pub ruleset texts = (text_gives, text_fails)
+
+pub ruleset bare_texts = (text_gives, text_fails, number_is_text)

@@ -7,7 +7,7 @@ use Rattle.std.proofs.lemmas.List.{length-take-le}
 use Rattle.std.proofs.Math.Seq.{take-append-add, take-nil}
 use Rattle.plist_ascii.specs.Incoming.{GivesByte}
 use Rattle.plist_ascii.specs.Taken.{run}
-use Rattle.plist_ascii.specs.Unread.{unread_of, first, within, Known, Takes, TakesPart}
+use Rattle.plist_ascii.specs.Unread.{unread_of, first, within, Known, FirstIsTaken, TakesPart}
 
 pub ended_unread : (k : Option (List ℕ)) (e : Bool) (p : Option ℕ) (t : ℕ) (xs : List ℕ) → e ≡ true
     → unread_of k e p t ≡ Some xs → xs ≡ []
@@ -38,7 +38,7 @@ unfolding unread_of
 end_unread None now t xs h e = cc
 end_unread (Some a) None t xs h e = absurd h.0
 end_unread (Some a) (Some b) t xs h e =
-    let none : a ≡ [] = h.0 ∙ h.1 in
+    let none = h.0 ∙ h.1 in
     let cut : within None t a ≡ [] = rw none (take-nil _) in
     cc
 
@@ -72,7 +72,7 @@ module _ (k : Option (List ℕ)) (e : Bool) (p : Option ℕ) (t : ℕ) (xs : Lis
       → Looks (unread_of now true p t) None xs
   end_looks now q r =
       let known : unread_of k false None t ≡ Some xs = rw (← h, ← q) g in
-      let none : xs ≡ [] = end_unread k _ t xs r known in
+      let none = end_unread k _ t xs r known in
       none_looks _ xs none (nothing_unread _ p t ∙ ap Some (sym none))
 
 pub one_looks : (k now : Option (List ℕ)) (e : Bool) (p : Option ℕ) (c t : ℕ) (xs : List ℕ)
@@ -105,7 +105,7 @@ first_none o (c ∷ xs) e h = cc
 -- a byte that was looked at is taken
 pub takes_looked : (old mid new : Option (List ℕ)) (o : Option ℕ) (b : ℕ) → o ≡ Some b
     → Known old (λ xs. (mid ≡ Some xs) × (o ≡ first xs))
-    → Known mid (λ xs. new ≡ Some (drop 1 xs)) → Takes old b new
+    → Known mid (λ xs. new ≡ Some (drop 1 xs)) → FirstIsTaken old b new
 takes_looked old mid new o b is looked taken =
     λ xs e. let h = looked xs e in (_, first_splits _ _ xs is h.1, taken xs h.0)
 
@@ -126,7 +126,7 @@ unfolding unread_of
 known_behind None now t n part xs l room c g = cc
 known_behind (Some a) None t n part xs l room c g = absurd c
 known_behind (Some a) (Some b) t n part xs l room c g =
-    let left : 2 ^ 64 - 1 - t ≡ length part + (2 ^ 64 - 1 - (t + n)) = omega (arith, l, room) in
+    let left : 2 ^ 64 - 1 - t ≡ length part + (2 ^ 64 - 1 - (t + n)) = omega (arith, room) in
     let e : within None t a ≡ part
     ++ within None (t + n) b = rw c (rw left (take-append-add _ b _)) in
     let same : within None t a ≡ xs = cc in
@@ -147,9 +147,9 @@ pub part_taken : (stop : ℕ → Bool) (hand : List ℕ) (k now : Option (List �
     → Consumes k now (take n hand) → longer ≡ text ++ take n hand → unread_of k e p t ≡ Some xs
     → TakesPart stop t text (unread_of now e p (t + n)) (t + n) longer xs
 part_taken stop hand k now e p t n text longer xs h q most room runs c is g =
-    let len : length (take n hand) ≡ n = length-take-le n _ most in
+    let len = length-take-le n _ most in
     let left = part_unread k _ e p t n _ xs h q len room c g in
-    (take n _, left.0, left.1, runs ∙ sym len, is, left.2, omega (arith, len))
+    (take n _, left.0, left.1, cc, is, left.2, omega arith)
 
 -- what a reader has before its first byte
 pub new_unread : {R : Type 0} (known : R → Option (List ℕ)) (r inner : R) (e : Bool) (p : Option ℕ)
@@ -163,3 +163,6 @@ pub going_unread : (k : Option (List ℕ)) (e : Bool) (p : Option ℕ) (t : ℕ)
     → IfSome k (λ xs. unread_of k e p t ≡ Some (within p t xs))
 unfolding unread_of
 going_unread k e p t h = search rules
+
+-- what a look finds
+pub ruleset looks = (none_looks, ended_unread, full_unread, held_looks)

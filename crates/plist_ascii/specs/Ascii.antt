@@ -21,15 +21,15 @@ lead_of c =
     (cond ((c == 39) || (c == 34)) lead.Quote (cond (c == 47) lead.Slash lead.Bare)))))
 
 -- a token of one byte
-abbrev pub single : Option PlainEvent → Token
-single event = taken 0 (Ok event)
+abbrev pub token_of_one : Option PlainEvent → Token
+token_of_one event = taken 0 (Ok event)
 
 -- the token that c begins, without c itself
 abbrev pub token_by : (stops : ℕ → Bool) → Lead → ℕ → List ℕ → Token
-token_by stops lead.ArrayStart c rest = single (Some (StartArray None))
-token_by stops lead.DictionaryStart c rest = single (Some (StartDictionary None))
-token_by stops lead.End c rest = single (Some EndCollection)
-token_by stops lead.Blank c rest = single None
+token_by stops lead.ArrayStart c rest = token_of_one (Some (StartArray None))
+token_by stops lead.DictionaryStart c rest = token_of_one (Some (StartDictionary None))
+token_by stops lead.End c rest = token_of_one (Some EndCollection)
+token_by stops lead.Blank c rest = token_of_one None
 token_by stops lead.Quote c rest = quoted_token c rest
 token_by stops lead.Slash c rest = slash stops rest
 token_by stops lead.Bare c rest = bare stops c rest
@@ -86,11 +86,11 @@ IsTextFault InvalidUtf16String = ⊤
 IsTextFault kind = ⊥
 
 -- a token is a bare or a quoted text
-abbrev pub WantsMemory : Result (Option PlainEvent) FaultKind → Type 0
-WantsMemory (Ok (Some (Single (String text)))) = ⊤
-WantsMemory (Ok (Some (Single (Integer number)))) = ⊤
-WantsMemory (Err kind) = IsTextFault kind
-WantsMemory outcome = ⊥
+abbrev pub IsTextToken : Result (Option PlainEvent) FaultKind → Type 0
+IsTextToken (Ok (Some (Single (String text)))) = ⊤
+IsTextToken (Ok (Some (Single (Integer number)))) = ⊤
+IsTextToken (Err kind) = IsTextFault kind
+IsTextToken outcome = ⊥
 
 -- the first item is a text, a number or a text's fault
 abbrev pub BeginsWithText : List Item → Type 0

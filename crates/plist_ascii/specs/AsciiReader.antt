@@ -11,7 +11,7 @@ use Rattle.plist_ascii.specs.declared.dialect.Dialect.{Dialect}
 use Rattle.plist_ascii.specs.Texts.{ends_bare}
 use Rattle.plist_ascii.specs.Ascii.{placed, placed_items, items_of_ascii, BeginsWithText}
 use Rattle.plist_ascii.specs.Kinds.{IsAsciiItem, ItemBehindBracket}
-use Rattle.plist_ascii.specs.Incoming.{ItemCountsIo}
+use Rattle.plist_ascii.specs.Incoming.{ItemCountsIoIfTold}
 use Rattle.plist_ascii.specs.Unread.{within, unread, Known, IsAt}
 
 -- the reader inside
@@ -53,7 +53,7 @@ HoldsLeft reader known inner = IfSome (known inner) (λ bytes.
 
 -- From place p on the items begin with this one, which ends at place q; the others are those of the
 -- rest, which are the bytes from q on.
-pub record BeginsWith (stops : ℕ → Bool) (bytes : List ℕ) (p : ℕ) (item : Item) (left : List ℕ)
+pub record BeginsWithItem (stops : ℕ → Bool) (bytes : List ℕ) (p : ℕ) (item : Item) (left : List ℕ)
     (q : ℕ) : Type 0 where
   pub items : items_of_ascii stops bytes p ≡ item ∷ items_of_ascii stops left q
   pub ends : placed_items stops bytes p ≡ placed q item ∷ placed_items stops left q
@@ -66,10 +66,10 @@ abbrev pub GivesItem : (stops : ℕ → Bool) → List ℕ → (p : ℕ) → Opt
 GivesItem stops bytes p item rest q = MatchOption item
     ((items_of_ascii stops bytes p ≡ []) × (rest ≡ []))
     (λ answer. MatchResult answer
-    (λ event. BeginsWith stops bytes p (Ok (event_of event)) rest q)
+    (λ event. BeginsWithItem stops bytes p (Ok (event_of event)) rest q)
     (λ error. MatchFault (kind_of (error_kind_of error)) (rest ≡ [])
     ((rest ≡ []) × BeginsWithText (items_of_ascii stops bytes p))
-    (BeginsWith stops bytes p (Err (fault_of error)) rest q)))
+    (BeginsWithItem stops bytes p (Err (fault_of error)) rest q)))
 
 -- an event and a fault in the bytes have taken a byte or more; whatever came, no byte comes back
 abbrev pub Rises : Option (Result Event Error) → (p q : ℕ) → Type 0
@@ -101,7 +101,7 @@ pub record Gives {R : Type 0} (known : R → Option (List ℕ)) (failed : R → 
   pub offset : FaultIsAt item (place_of new)
   pub kinds : IsAsciiItem item
   pub brackets : ItemBehindBracket item (looked_at new ≡ None)
-  pub failures : ItemCountsIo item (failed (inner_of old)) (failed (inner_of new))
+  pub failures : ItemCountsIoIfTold item (failed (inner_of old)) (failed (inner_of new))
   pub ended : HasEnded old → item ≡ None
   pub unasked : HasEnded old → inner_of new ≡ inner_of old
   pub ends : EndsAfter item (HasEnded new)

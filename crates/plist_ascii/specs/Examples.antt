@@ -1,4 +1,119 @@
 -- Worked examples: short texts and the items that they give.
-pub mod Bare
-pub mod Quoted
-pub mod Tight
+use Rattle.std.specs.Prelude.{◌≡◌, ℕ, Bool, List, [], ◌∷◌, map, pos, None, Ok, Err, refl, codes}
+use Prim.Native.String.{String}
+use Rattle.std.specs.Str.{is_utf8, chars}
+use lib.Utf8.{encode}
+use Rattle.plist_base.specs.Faults.{FaultKind, fault_at, UnclosedString, IncompleteComment, InvalidUtf8AsciiStream, InvalidOctalString, InvalidUtf16String}
+use Rattle.plist_base.specs.Events.{Item, StartArray, StartDictionary, EndCollection, Single}
+use Rattle.plist_base.specs.Trees as trees
+use Rattle.plist_base.specs.IntegerText.{integer_of_text}
+use Rattle.plist_ascii.specs.Texts.{lax, tight, bare_event, quoted_event}
+use Rattle.plist_ascii.specs.Escapes.{octal_char, octal_text, escape}
+use Rattle.plist_ascii.specs.Quoted.{quoted_in}
+use Rattle.plist_ascii.specs.Ascii.{token, items_in, items_of_ascii}
+
+abbrev text : String → Item
+text s = Ok (Single (trees.String (codes s)))
+
+abbrev number : ℕ → Item
+number n = Ok (Single (trees.Integer (pos n)))
+
+abbrev array : Item
+array = Ok (StartArray None)
+
+abbrev dictionary : Item
+dictionary = Ok (StartDictionary None)
+
+abbrev close : Item
+close = Ok EndCollection
+
+abbrev refused : FaultKind → (place : ℕ) → Item
+refused kind place = Err (fault_at kind place)
+
+-- each of these texts, a byte for a character, gives the items beside it
+abbrev AreRead : (stops : ℕ → Bool) → List (String × List Item) → Type 0
+AreRead stops rows =
+    map (λ row. items_of_ascii stops (codes row.0) 0) rows ≡ map (λ row. row.1) rows
+
+bare_texts : AreRead lax (
+    -- a slash opens a bare text
+    ("/abc", text "/abc" ∷ [])
+    -- a slash alone is one
+    ∷ ("/ a", text "/" ∷ text "a" ∷ [])
+    -- the shortest comment
+    ∷ ("/**/a", text "a" ∷ [])
+    -- a star doesn't open and close at once
+    ∷ ("/*/", refused IncompleteComment 3 ∷ [])
+    -- the first star and slash close
+    ∷ ("/* * */z", text "z" ∷ [])
+    -- nothing behind a slash
+    ∷ ("/", refused IncompleteComment 1 ∷ [])
+    -- a comment up to the end
+    ∷ ("//x", [])
+    -- no comment inside a text
+    ∷ ("a/*x*/ b", text "a/*x*/" ∷ text "b" ∷ [])
+    -- a bare text goes on over = and }
+    ∷ ("{a=b}", dictionary ∷ text "a=b}" ∷ [])
+    -- and over LF
+    ∷ ("(a\n)", array ∷ text "a\n" ∷ close ∷ [])
+    -- numbers
+    ∷ ("(42, 0x10)", array ∷ number 42 ∷ number 16 ∷ close ∷ [])
+    -- data of other readers is a text
+    ∷ ("(<00ff>)", array ∷ text "<00ff>" ∷ close ∷ [])
+    -- no UTF-8
+    ∷ ("ÿ", refused InvalidUtf8AsciiStream 1 ∷ [])
+    -- nothing
+    ∷ ("", []) ∷ [])
+unfolding items_in token bare_event integer_of_text quoted_in quoted_event escape octal_char is_utf8
+    chars encode
+bare_texts = refl
+
+quoted_texts : AreRead lax (
+    -- the end in a text
+    ("\"ab", refused UnclosedString 3 ∷ [])
+    -- three digits are taken before they are judged
+    ∷ ("\"\\12\"", refused InvalidOctalString 5 ∷ [])
+    -- an escape of nothing
+    ∷ ("\"\\9\"", refused InvalidUtf8AsciiStream 3 ∷ refused UnclosedString 4 ∷ [])
+    -- NeXTSTEP from 128 to 255, Unicode above
+    ∷ ("\"\\200\\377\\400\"", text "Â\u{a0}ï¿½Ä\u{80}" ∷ [])
+    -- a plus sign is no digit
+    ∷ ("\"\\U+123\"", refused InvalidUtf16String 7 ∷ refused UnclosedString 8 ∷ [])
+    -- a surrogate pair
+    ∷ ("\"\\UD83D\\UDCA9\"", text "ð\u{9f}\u{92}©" ∷ [])
+    -- its second unit by a small letter
+    ∷ ("\"\\UD83D\\uDCA9\"", text "ð\u{9f}\u{92}©" ∷ [])
+    -- no second unit
+    ∷ ("\"\\UD83Dx\"", refused InvalidUtf16String 8 ∷ refused UnclosedString 9 ∷ [])
+    -- a pair in the wrong order is taken whole
+    ∷ ("\"\\UDCA9\\UD83D\"", refused InvalidUtf16String 13 ∷ refused UnclosedString 14 ∷ [])
+    -- the end among the digits
+    ∷ ("\"\\U12", refused UnclosedString 5 ∷ [])
+    -- no letter behind the backslash
+    ∷ ("\"\\UD83D\\", refused InvalidUtf16String 8 ∷ [])
+    -- a small letter alone is no escape
+    ∷ ("\"\\u0080\"", refused InvalidUtf8AsciiStream 3 ∷ text "0080\"" ∷ [])
+    -- letters
+    ∷ ("'it\\'s\\n'", text "it's\n" ∷ []) ∷ [])
+unfolding items_in token bare_event integer_of_text quoted_in quoted_event escape octal_char
+    octal_text is_utf8 chars encode
+quoted_texts = refl
+
+tight_texts : AreRead tight (
+    -- = and } end a bare text
+    ("{a=b}", dictionary ∷ text "a" ∷ text "b" ∷ close ∷ [])
+    -- and LF does
+    ∷ ("(a\n)", array ∷ text "a" ∷ close ∷ [])
+    -- numbers
+    ∷ ("{k=0x10}", dictionary ∷ text "k" ∷ number 16 ∷ close ∷ [])
+    -- a slash before a stop
+    ∷ ("/=", text "/" ∷ [])
+    -- a quoted text goes on over all of them
+    ∷ ("'=}\n'", text "=}\n" ∷ [])
+    -- and so does one that isn't closed
+    ∷ ("'=}", refused UnclosedString 3 ∷ [])
+    -- and a comment
+    ∷ ("/*=}*/ //=}", []) ∷ [])
+unfolding items_in token bare_event integer_of_text quoted_in quoted_event escape octal_char is_utf8
+    chars encode
+tight_texts = refl

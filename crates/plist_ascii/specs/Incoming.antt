@@ -21,18 +21,21 @@ RisesIfTold (Some old) None = ⊥
 RisesIfTold (Some old) (Some new) = Rises old new
 
 -- `Ok` leaves the count of failures, and `Err` raises it
-abbrev pub CountsFailure : {A E : Type 0} → Result A E → Option ℕ → Option ℕ → Type 0
-CountsFailure answer old new = MatchResult answer (λ _. new ≡ old) (λ _. RisesIfTold old new)
+abbrev pub CountsFailureIfTold : {A E : Type 0} → Result A E → Option ℕ → Option ℕ → Type 0
+CountsFailureIfTold answer old new = MatchResult answer (λ _. new ≡ old) (λ _. RisesIfTold old new)
 
 -- `Io` only where the count of failures rose; whatever else came, it is as it was
-abbrev pub CountsIo : Error → Option ℕ → Option ℕ → Type 0
-CountsIo error old new =
+abbrev pub CountsIoIfTold : Error → Option ℕ → Option ℕ → Type 0
+CountsIoIfTold error old new =
     MatchFault (kind_of (error_kind_of error)) (RisesIfTold old new) (new ≡ old) (new ≡ old)
 
 -- the same of a call's answer
-abbrev pub AnswersIo : {A : Type 0} → Result A Error → Option ℕ → Option ℕ → Type 0
-AnswersIo answer old new = MatchResult answer (λ _. new ≡ old) (λ error. CountsIo error old new)
+abbrev pub AnswersIoIfTold : {A : Type 0} → Result A Error → Option ℕ → Option ℕ → Type 0
+AnswersIoIfTold answer old new = MatchResult answer (λ _. new ≡ old)
+    (λ error. CountsIoIfTold error old new)
 
 -- the same of an iterator's item
-abbrev pub ItemCountsIo : {A : Type 0} → Option (Result A Error) → Option ℕ → Option ℕ → Type 0
-ItemCountsIo item old new = MatchOption item (new ≡ old) (λ answer. AnswersIo answer old new)
+abbrev pub ItemCountsIoIfTold : {A : Type 0} → Option (Result A Error) → Option ℕ → Option ℕ
+    → Type 0
+ItemCountsIoIfTold item old new = MatchOption item (new ≡ old)
+    (λ answer. AnswersIoIfTold answer old new)

@@ -57,8 +57,9 @@ IsAt fault place =
     (IsFaultOfBytes fault.kind × (fault.offset ≡ Some place))
 
 -- the first of the old bytes was taken
-abbrev pub Takes : Option (List ℕ) → ℕ → Option (List ℕ) → Type 0
-Takes old c new = Known old (λ bytes. (rest : List ℕ) × (bytes ≡ c ∷ rest) × (new ≡ Some rest))
+abbrev pub FirstIsTaken : Option (List ℕ) → ℕ → Option (List ℕ) → Type 0
+FirstIsTaken old c new = Known old (λ bytes. (rest : List ℕ) × (bytes ≡ c ∷ rest)
+    × (new ≡ Some rest))
 
 -- from place p to place q some of the first bytes were taken, which no stop is among, and stand
 -- behind the text

@@ -80,6 +80,7 @@ fn is_nextstep(number: u32) -> bool
 }
 
 // The character of a number of three octal digits.
+#[tactic(auto, unfolding(crate::specs::Escapes::octal_char), using(crate::proofs::Texts::to_char))]
 fn octal_char(number: u32) -> Option<char>
     requires { number < 512 }
     ensures { result ≡ Some (octal_char number) }

@@ -7,7 +7,7 @@ ghost use Rattle.plist_base.specs.Outcomes.{OnlyFault, OnlyMemory};
 ghost use Rattle.plist_ascii.specs.Taken.{run};
 ghost use Rattle.plist_ascii.specs.Texts.{ends_bare};
 ghost use Rattle.plist_ascii.specs.Unread.{unread, stops};
-ghost use Rattle.plist_ascii.specs.inner.Inputs.{CountsFailed, IfCame, LooksAt, CanTake, TakesNoMore, DropsOne, TakesByte, HasNone, IsStopped, TakesPlain, IsOneOn, CountsByte, IsUnclosed, SkipsSome, AddsTo};
+ghost use Rattle.plist_ascii.specs.inner.Inputs.{CountsFailed, IfCame, LooksAt, CanTakeByte, TakesNoMore, DropsOne, TakesByte, HasNothingLeft, StopsRun, TakesPlain, IsOneOn, CountsByte, IsUnclosedText, SkipsSome, AddsTo};
 
 use crate::bytes::Bytes;
 use crate::dialect::Dialect;
@@ -121,7 +121,7 @@ impl<R: Bytes> Input<R> {
         requires room { self.old.taken < 2 ^ 64 - 1 }
         requires none { self.old.peeked ≡ None }
         ensures next { IfOk result (λ byte. LooksAt R.remaining self.old byte self.new) }
-        ensures held { IfOk result (CanTake self.new) }
+        ensures held { IfOk result (CanTakeByte self.new) }
         ensures end { IfOk result (λ byte. byte ≡ None → self.new.ended ≡ true) }
         ensures fault { OnlyFault result (fault_at Io self.new.taken) }
         ensures place { self.new.taken ≡ self.old.taken }
@@ -141,9 +141,10 @@ impl<R: Bytes> Input<R> {
     }
 
     /// The next byte, which isn't taken.
+    #[tactic(auto, using(crate::proofs::Unread::looks))]
     pub fn look(&mut self) -> Result<Option<u8>, Error>
         ensures next { IfOk result (λ byte. LooksAt R.remaining self.old byte self.new) }
-        ensures held { IfOk result (CanTake self.new) }
+        ensures held { IfOk result (CanTakeByte self.new) }
         ensures end { IfOk result (λ byte. byte ≡ None → TakesNoMore self.new) }
         ensures unasked { TakesNoMore self.old → (result ≡ Ok None) × (self.new ≡ self.old) }
         ensures fault { OnlyFault result (fault_at Io self.new.taken) }
@@ -163,6 +164,7 @@ impl<R: Bytes> Input<R> {
     }
 
     /// Takes the byte that was looked at.
+    #[tactic(auto, using(crate::proofs::Unread::taken_next))]
     pub fn advance(&mut self)
         requires some { IsSome self.old.peeked }
         requires going { self.old.ended ≡ false }
@@ -179,7 +181,7 @@ impl<R: Bytes> Input<R> {
     /// Takes the next byte, unless it ends the run.
     pub fn take_unless(&mut self, stop: Stop) -> Result<Option<u8>, Error>
         ensures some { IfCame result (λ c. TakesPlain R.remaining stop self.old c self.new) }
-        ensures none { IfOk result (λ o. o ≡ None → IsStopped R.remaining stop self.old self.new) }
+        ensures none { IfOk result (λ o. o ≡ None → StopsRun R.remaining stop self.old self.new) }
         ensures fault { OnlyFault result (fault_at Io self.new.taken) }
         ensures place { IfOk result (λ o. CountsByte self.old o self.new) }
         ensures unchanged { IfErr result (λ _. self.new.taken ≡ self.old.taken) }
@@ -239,7 +241,7 @@ impl<R: Bytes> Input<R> {
     pub fn take(&mut self) -> Result<Option<u8>, Error>
         ensures some { IfCame result (λ c. TakesByte R.remaining self.old c self.new) }
         ensures looked { IfCame result (λ _. self.new.peeked ≡ None) }
-        ensures none { IfOk result (λ o. o ≡ None → HasNone R.remaining self.old self.new) }
+        ensures none { IfOk result (λ o. o ≡ None → HasNothingLeft R.remaining self.old self.new) }
         ensures fault { OnlyFault result (fault_at Io self.new.taken) }
         ensures place { IfOk result (λ o. CountsByte self.old o self.new) }
         ensures unchanged { IfErr result (λ _. self.new.taken ≡ self.old.taken) }
@@ -259,7 +261,7 @@ impl<R: Bytes> Input<R> {
         ensures value { IfOk result (λ c. TakesByte R.remaining self.old c self.new) }
         ensures place { OnOk result (IsOneOn self.old self.new) }
         ensures unchanged { IfErr result (λ _. self.new.taken ≡ self.old.taken) }
-        ensures fault { IfErr result (IsUnclosed R.remaining self.old self.new) }
+        ensures fault { IfErr result (IsUnclosedText R.remaining self.old self.new) }
         ensures failures { CountsFailed R.failures self.old result self.new }
     {
         match self.take()? {
@@ -269,6 +271,7 @@ impl<R: Bytes> Input<R> {
     }
 
     /// Nothing more is read.
+    #[tactic(auto, unfolding(crate::specs::Unread::unread_of))]
     pub fn end(&mut self)
         ensures unread { unread R.remaining self.new ≡ Some [] }
         ensures ended { self.new.ended ≡ true }

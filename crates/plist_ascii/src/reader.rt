@@ -106,6 +106,7 @@ impl<R: Bytes> AsciiReader<R> {
     /// asked for.
     ///
     /// In the tight dialect `{a=b}` gives a dictionary's start, `a`, `b` and an end.
+    #[tactic(auto, using(crate::proofs::Unread::new_unread))]
     pub fn with_dialect(alloc: Global, inner: R, dialect: Dialect) -> Self
         ensures bytes { bytes_left R.remaining result ≡ readable (R.remaining inner) }
         ensures place { place_of result ≡ 0 }
@@ -124,6 +125,7 @@ impl<R: Bytes> AsciiReader<R> {
     /// The device, from which at most one byte past the last item has been read.
     ///
     /// That byte is lost. Behind a bracket or a quoted text none is.
+    #[tactic(auto, using(crate::proofs::Unread::going_unread))]
     pub fn into_inner(self) -> R
         ensures inner { result ≡ inner_of self }
         ensures bytes { (HasEnded self → ⊥) → HoldsLeft self R.remaining result }

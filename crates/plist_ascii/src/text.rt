@@ -48,6 +48,7 @@ fn number_or_text(text: String) -> OwnedEvent
 }
 
 /// What the bytes of a bare text mean.
+#[tactic(auto, unfolding(crate::specs::Texts::bare_event), using(crate::proofs::Texts::bare_texts))]
 pub fn bare_event(bytes: Vec<u8>) -> Result<OwnedEvent, ErrorKind>
     ensures { Means result (bare_event bytes.items) }
 {
@@ -56,6 +57,7 @@ pub fn bare_event(bytes: Vec<u8>) -> Result<OwnedEvent, ErrorKind>
 }
 
 /// What the bytes of a quoted text mean.
+#[tactic(auto, unfolding(crate::specs::Texts::quoted_event), using(crate::proofs::Texts::texts))]
 pub fn quoted_event(bytes: Vec<u8>) -> Result<OwnedEvent, ErrorKind>
     ensures { Means result (quoted_event bytes.items) }
 {

@@ -8,8 +8,8 @@ use Rattle.std.proofs.lemmas.Bool.Decides.{nat_tests, leb_tells}
 use Rattle.std.specs.Prelude.{unsigned_abs, is_none, ◌*ℤ◌}
 use Rattle.std.specs.Int.Signed.{lt_z}
 use Rattle.std.proofs.lemmas.Int.{ints}
-use Rattle.plist_base.specs.Date.{real_exponent, real_mantissa, real_scale, parts_in_second, parts_of, whole_seconds, parts_left, real_second, rounded_down, is_second_of_date, if_second_of_date, is_negative, second_of_bits, has_fraction, real_bits, real_parts, date_if}
-use Rattle.plist_base.specs.inner.DateBits.{whole_bits, second_bits}
+use Rattle.plist_base.specs.Date.{real_exponent, real_mantissa, real_scale, parts_in_second, parts_of, whole_seconds, parts_left, real_second, rounded_down, is_second_of_date, if_second_of_date, is_negative, second_of_bits, has_fraction, real_bits, real_parts, date_if, IsWholeAt}
+use Rattle.plist_base.specs.inner.DateBits.{whole_bits, second_bits, AreBitsAt}
 
 pub record Encoded (n : ℕ) : Type 0 where
   pub j : ℕ
@@ -20,23 +20,22 @@ pub record Encoded (n : ℕ) : Type 0 where
   pub is : whole_bits n ≡ (1022 + j) * 2 ^ 52 + n * 2 ^ (52 - j)
 
 powers : (a b : ℕ) → a + b ≡ 52 → 2 ^ a * 2 ^ b ≡ 2 ^ 52
-powers a b e = sym (pow-add 2 a b) ∙ ap (λ k. 2 ^ k) e
+powers a b e = cc (pow-add 2 a b)
 
 not_far : (n j : ℕ) → n < 2 ^ 53 → 2 ^ j ≤ n → j ≤ 52
 not_far n j big lo =
     elim (leb_tells 53 j) [
-      | inl e ↦ (let far = e.1 in let p : 2 ^ 53
-          ≤ 2 ^ j = pow-le-pow_right {n = 2} (omega arith) far in absurd (omega arith))
-      | inr e ↦ (let near = e.1 in omega arith)
+      | inl e ↦ let p : 2 ^ 53 ≤ 2 ^ j = pow-le-pow_right (omega arith) e.1 in omega arith
+      | inr e ↦ omega arith
     ]
 
 scaled_low : (n j q : ℕ) → 2 ^ j ≤ n → 2 ^ j * q ≡ 2 ^ 52 → 2 ^ 52 ≤ n * q
-scaled_low n j q lo e = let p : 2 ^ j * q ≤ n * q = mul-le-mul_right q lo in omega arith
+scaled_low n j q lo e = let p = mul-le-mul_right q lo in omega arith
 
 scaled_high : (n j q : ℕ) → n < 2 ^ suc j → 1 ≤ q → 2 ^ j * q ≡ 2 ^ 52 → n * q < 2 ^ 53
 scaled_high n j q hi one e =
     let up : suc n ≤ 2 * 2 ^ j = omega arith in
-    let p : suc n * q ≤ 2 * 2 ^ j * q = mul-le-mul_right q up in
+    let p = mul-le-mul_right q up in
     let l : suc n * q ≡ n * q + q = omega arith in
     let r : 2 * 2 ^ j * q ≡ 2 * (2 ^ j * q) = omega arith in
     omega arith
@@ -45,11 +44,8 @@ pub encoded : (n : ℕ) → 0 < n → n < 2 ^ 53 → Encoded n
 unfolding whole_bits
 encoded n h big =
     let t = leading_top 64 n h (omega arith) in
-    let z : count_leading_zeros 64 n + suc t.0 ≡ 64 = t.1 in
-    let lo : 2 ^ t.0 ≤ n = t.2 in
-    let hi : n < 2 ^ suc t.0 = t.3 in
-    let near : t.0 ≤ 52 = not_far n _ big lo in
-    let q : 2 ^ t.0 * 2 ^ (52 - t.0) ≡ 2 ^ 52 = powers _ _ (omega arith) in
+    let near = not_far n _ big t.2 in
+    let q = powers _ _ (omega arith) in
     let none : eqb n 0 ≡ false = grind (arith, nat_tests) in
     let a : 1085 - count_leading_zeros 64 n ≡ 1022 + t.0 = omega arith in
     let b : count_leading_zeros 64 n - 11 ≡ 52 - t.0 = omega arith in
@@ -57,8 +53,8 @@ encoded n h big =
       j = t.0;
       small = near;
       zeros = omega arith;
-      low = scaled_low n _ _ lo q;
-      high = scaled_high n _ _ hi (one-le-pow _ 2 (omega arith)) q;
+      low = scaled_low n _ _ t.2 q;
+      high = scaled_high n _ _ t.3 (one-le-pow _ 2 (omega arith)) q;
       is = rw (none, a, b) refl;
     }
 
@@ -67,30 +63,29 @@ whole_parts : (n j : ℕ) → j ≤ 52 → parts_of (n * 2 ^ (52 - j)) (1023 + j
 unfolding parts_of parts_in_second
 whole_parts n j near =
     let s : (52 - j) + (1023 + j) ≡ 1075 = omega arith in
-    let p : 2 ^ (52 - j) * 2 ^ (1023 + j) ≡ 2 ^ 1075 = sym (pow-add 2 _ _)
+    let p = sym (pow-add 2 _ _)
     ∙ ap (λ k. 2 ^ k) s in
     let a : n * 2 ^ (52 - j) * 2 ^ (1023 + j) ≡ n * (2 ^ (52 - j) * 2 ^ (1023 + j)) = omega arith in
-    a ∙ ap (λ k. n * k) p
+    cc
 
 second_pos : 0 < parts_in_second
 unfolding parts_in_second
-second_pos = let p : 1 ≤ 2 ^ 1075 = one-le-pow 1075 2 (omega arith) in omega arith
+second_pos = let p = one-le-pow 1075 2 (omega arith) in omega arith
 
 module _ (n s : ℕ) (k : Encoded n) (bits : ℕ) (sign : s ≤ 1)
     (are : bits ≡ s * 2 ^ 63 + whole_bits n) where
   sum : bits ≡ s * 2 ^ 63 + ((1022 + k.j) * 2 ^ 52 + n * 2 ^ (52 - k.j))
-  sum = are ∙ ap (λ b. s * 2 ^ 63 + b) k.is
+  sum = cc
 
   exponent_is : real_exponent bits ≡ 1023 + k.j
   unfolding real_exponent
   exponent_is =
-      let e = sum in let lo = k.low in let hi = k.high in let near = k.small in omega arith
+      let e = sum in omega arith
 
   mantissa_is : real_mantissa bits ≡ n * 2 ^ (52 - k.j)
   unfolding real_mantissa
   mantissa_is =
-      let e = sum in let lo = k.low in let hi = k.high in let near = k.small in
-      let x = exponent_is in
+      let e = sum in let x = exponent_is in
       let none : eqb (real_exponent bits) 0 ≡ false = grind (arith, nat_tests) in
       rw none (omega arith)
 
@@ -112,7 +107,7 @@ module _ (n s : ℕ) (k : Encoded n) (bits : ℕ) (sign : s ≤ 1)
   pub second_is : second_of_bits bits ≡ if_second_of_date (rounded_down (is_negative bits) n 0)
   unfolding second_of_bits real_second
   second_is =
-      let x = exponent_is in let near = k.small in
+      let x = exponent_is in
       let none : eqb (real_exponent bits) 2047 ≡ false = grind (arith, nat_tests) in
       rw (none, whole_is, left_is) refl
 
@@ -123,50 +118,48 @@ module _ (n s : ℕ) (k : Encoded n) (bits : ℕ) (sign : s ≤ 1)
 pub shifted : (n z : ℕ) → Encoded n → z ≡ count_leading_zeros 64 n
     → n * 2 ^ (z - 11) % 18446744073709551616 ≡ n * 2 ^ (z - 11)
 shifted n z k e =
-    let near = k.small in let zs = k.zeros in let hi = k.high in
     let b : z - 11 ≡ 52 - k.j = omega arith in
-    rw b (mod-eq_of_lt {n = n * 2 ^ (52 - k.j)} {m = 18446744073709551616} (omega arith))
+    rw b (mod-eq_of_lt (omega arith))
 
 pub sum_is : (n z : ℕ) → Encoded n → z ≡ count_leading_zeros 64 n
     → ((1085 - z) * 4503599627370496 + n * 2 ^ (z - 11) % 18446744073709551616 ≡ whole_bits n)
     × (whole_bits n < 2 ^ 63)
 sum_is n z k e =
-    let near = k.small in let zs = k.zeros in let hi = k.high in let is = k.is in
     let b : z - 11 ≡ 52 - k.j = omega arith in
     let a : 1085 - z ≡ 1022 + k.j = omega arith in
     let m = shifted n z k e in
-    (rw (m, a, b) (sym is), omega arith)
+    (rw (m, a, b) (sym k.is), omega (arith, k.is))
 
 whole_small : (n : ℕ) → Encoded n → whole_bits n < 2 ^ 63
-whole_small n k = let near = k.small in let hi = k.high in let is = k.is in omega arith
+whole_small n k = omega arith
 
 -- the law: these bits are the second's, give it back, and are exactly at it
 pub record AreWritten (second : ℤ) (bits : ℕ) : Type 0 where
-  pub ranged : is_second_of_date second ≡ true
-  pub is : bits ≡ second_bits second
-  pub back : second_of_bits bits ≡ Some second
-  pub whole : has_fraction bits ≡ false
+  pub is : AreBitsAt second bits
+  pub back : IsWholeAt second bits
   pub exact : real_parts bits ≡ (second *ℤ pos parts_in_second)
 
 zero_written : AreWritten (pos 0) (whole_bits 0)
 unfolding second_of_bits real_second real_exponent real_mantissa real_scale whole_seconds parts_left
     parts_of parts_in_second has_fraction whole_bits second_bits real_parts
-zero_written = record { ranged = refl; is = refl; back = refl; whole = refl; exact = refl }
+zero_written = record { is = (refl, refl); back = (refl, refl); exact = refl }
 
 written_pos : (n : ℕ) → is_second_of_date (pos n) ≡ true → AreWritten (pos n) (whole_bits n)
 unfolding real_parts second_bits
 written_pos zero h = zero_written
 written_pos (suc n) h =
     let small : suc n < 2 ^ 53 = grind (arith, nat_tests) in
-    let k = encoded (suc n) (omega arith) small in
+    let k = encoded _ (omega arith) small in
     let low = whole_small _ k in
     let bits = whole_bits (suc n) in
     let plus : is_negative bits ≡ false = grind (arith, nat_tests) in
     record {
-      ranged = h;
-      is = refl;
-      back = second_is _ 0 k bits (omega arith) (omega arith) ∙ rw (plus, h) refl;
-      whole = no_fraction (suc n) 0 k bits (omega arith) (omega arith);
+      is = (h, refl);
+      back = (
+        second_is _ 0 k bits (omega arith) (omega arith) ∙ rw (plus, h) refl,
+        no_fraction
+            (suc n) 0 k bits (omega arith) (omega arith),
+      );
       exact = rw plus (ap pos (parts_are _ 0 k _ (omega arith) (omega arith)));
     }
 
@@ -175,14 +168,16 @@ written_neg : (n : ℕ) → is_second_of_date (negsuc n) ≡ true
 unfolding real_parts second_bits
 written_neg n h =
     let small : suc n < 2 ^ 53 = grind (arith, nat_tests) in
-    let k = encoded (suc n) (omega arith) small in
-    let bits = 2 ^ 63 + whole_bits (suc n) in
+    let k = encoded _ (omega arith) small in
+    let bits = 2 ^ 63 + whole_bits _ in
     let minus : is_negative bits ≡ true = grind (arith, nat_tests) in
     record {
-      ranged = h;
-      is = rw add-one refl;
-      back = second_is _ 1 k bits (omega arith) (omega arith) ∙ rw (minus, h) refl;
-      whole = no_fraction _ 1 k _ (omega arith) (omega arith);
+      is = (h, rw add-one refl);
+      back = (
+        second_is _ 1 k bits (omega arith) (omega arith) ∙ rw
+            (minus, h) refl,
+        no_fraction _ 1 k _ (omega arith) (omega arith),
+      );
       exact = rw minus (ap (λ p. neg_ℤ (pos p))
           (parts_are _ 1 k _ (omega arith) (omega arith)));
     }
@@ -223,7 +218,7 @@ plain_bits (negsuc n) h =
     plain_high b h = grind (arith, nat_tests)
 
 pub bytes_are : (bs : List ℕ) (b : ℕ) → bs ≡ to_be_bytes w64 b → b < 2 ^ 64 → real_bits bs ≡ b
-bytes_are bs b e h = ap real_bits e ∙ from_be_bytes-to_be_bytes_8 b h
+bytes_are bs b e h = cc (from_be_bytes-to_be_bytes_8 b h)
 
 -- bytes that stand for a second, and not for a zero with a sign, are a date's
 pub date_of_second : (second : Option ℤ) (bs : List ℕ) → is_none second ≡ false

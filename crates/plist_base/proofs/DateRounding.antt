@@ -1,11 +1,15 @@
--- The second of a value is the greatest that isn't above it.
-use Rattle.std.proofs.Common.{◌≡◌, ℕ, zero, suc, ◌+◌, ◌*◌, ◌/◌, ◌%◌, ◌^◌, ◌<◌, ◌≤◌, Bool, true, false, cond, eqb, ℤ, pos, negsuc, neg_ℤ, ◌<ℤ◌, ◌≤ℤ◌, Option, None, Some, List, slice_index, replicate, subst, refl, ap, sym, ◌∙◌, arith, ◌⊎◌, inl, inr}
-use Rattle.std.specs.Prelude.{◌+ℤ◌, ◌*ℤ◌, is_some, not}
+-- The second of a value is the greatest that isn't above it, and the one that a date's text spells.
+use Rattle.std.proofs.Common.{◌≡◌, ℕ, zero, suc, ◌+◌, ◌*◌, ◌<◌, ◌≤◌, Bool, true, false, cond, eqb, ℤ, pos, negsuc, neg_ℤ, ◌<ℤ◌, ◌≤ℤ◌, Option, None, Some, List, slice_index, replicate, subst, refl, ap, sym, ◌∙◌, arith, ◌⊎◌, inl, inr, ◌+ℤ◌, ◌-ℤ◌}
+use Rattle.std.specs.Prelude.{◌*ℤ◌, is_some, not}
 use Rattle.std.proofs.Math.Nat.{div-add-mod, mod-lt, one-le-pow, mul-le-mul_right}
+use Rattle.std.proofs.lemmas.Option.{cond_some}
+use Rattle.std.proofs.lemmas.Bool.{false_from_ne_true}
 use Rattle.std.specs.Int.Signed.{le_z}
 use Rattle.std.proofs.lemmas.Bool.Decides.{nat_tests}
 use Rattle.std.proofs.lemmas.Int.{ints}
-use Rattle.plist_base.specs.Date.{IsSecondOf, real_exponent, real_mantissa, real_scale, real_parts, parts_in_second, parts_of, whole_seconds, parts_left, real_second, rounded_down, is_second_of_date, if_second_of_date, IsSecondOfDate, second_of_bits, date_if, is_no_number}
+use Rattle.plist_base.specs.Date.{IsSecondOf, real_parts, parts_in_second, parts_of, whole_seconds, parts_left, real_second, rounded_down, is_second_of_date, if_second_of_date, IsSecondOfDate, second_of_bits, date_if, is_no_number, IsDate, IsWhole, plist_epoch, real_bits, second_of_bytes}
+use Rattle.plist_base.specs.DateTexts.{HasTextYear, IsDateText, IsInUtc}
+use Rattle.plist_dates.specs.DateText.{HasFourDigitYear, IsTextOfSecond, unix_second_of_text}
 
 -- d parts make a second
 abbrev Bounds : ℤ → ℤ → ℕ → Type 0
@@ -37,8 +41,8 @@ bounds_pos w l d v e h = (le_pos _ v (omega arith), lt_pos v _ (omega arith))
 bounds_up : (w l d v : ℕ) → d * w + l ≡ v → 0 < l → l < d
     → Bounds (neg_ℤ (pos (suc w))) (neg_ℤ (pos v)) d
 bounds_up w l d v e some h = (
-  rw (neg_times (suc w) d) (le_neg (suc w * d) v (omega arith)),
-  rw (neg_next w, neg_times w d) (lt_neg v (w * d) (omega arith)),
+  rw (neg_times _ d) (le_neg _ v (omega arith)),
+  rw (neg_next w, neg_times w d) (lt_neg v _ (omega arith)),
 )
 
 -- where none are
@@ -47,10 +51,10 @@ bounds_even zero d h =
     let z : 0 * d ≡ 0 = omega arith in rw z (le_pos 0 0 (omega arith), lt_zero d h)
   where
     lt_zero : (d : ℕ) → 0 < d → pos 0 <ℤ ((pos 0 +ℤ pos 1) *ℤ pos d)
-    lt_zero d h = lt_pos 0 ((0 + 1) * d) (omega arith)
+    lt_zero d h = lt_pos 0 _ (omega arith)
 bounds_even (suc w) d h = (
-  le_neg (suc w * d) (suc w * d) (omega arith),
-  rw (neg_next w, neg_times w d) (lt_neg (suc w * d) (w * d) (omega arith)),
+  le_neg _ _ (omega arith),
+  rw (neg_next w, neg_times w d) (lt_neg _ _ (omega arith)),
 )
 
 bounds : (negative : Bool) (w l d v : ℕ) → d * w + l ≡ v → l < d
@@ -65,13 +69,13 @@ bounds true w (suc l) d v e h =
 
 second_pos : 0 < parts_in_second
 unfolding parts_in_second
-second_pos = let p : 1 ≤ 2 ^ 1075 = one-le-pow 1075 2 (omega arith) in omega arith
+second_pos = let p = one-le-pow 1075 2 (omega arith) in omega arith
 
 pub second_is_greatest : (bits : ℕ) → IsSecondOf (real_second bits) bits
 unfolding real_second real_parts whole_seconds parts_left
 second_is_greatest bits =
-    let v : ℕ = parts_of (real_mantissa bits) (real_scale bits) in
-    bounds _ (v / parts_in_second) (v % parts_in_second) parts_in_second v
+    let v = parts_of _ _ in
+    bounds _ _ _ _ v
     (div-add-mod v _) (mod-lt v second_pos)
 
 -- ---- a date's second
@@ -79,14 +83,7 @@ second_is_greatest bits =
 pub second_kept : (b : Bool) (y z : ℤ) → cond b None (if_second_of_date y) ≡ Some z → (y ≡ z)
     × (is_second_of_date z ≡ true)
 second_kept true y z e = absurd (cc)
-second_kept false y z e = second_in_range _ y z refl e
-  where
-    second_in_range : (b : Bool) (y z : ℤ) → is_second_of_date y ≡ b
-        → cond (is_second_of_date y) (Some y) None ≡ Some z → (y ≡ z) × (is_second_of_date z ≡ true)
-    second_in_range true y z is e =
-        let kept = rw is at e in let same : y ≡ z = cc in
-        (same, ap is_second_of_date (sym same) ∙ is)
-    second_in_range false y z is e = let none = rw is at e in absurd (cc)
+second_kept false y z e = let k = cond_some _ y z e in (k.1, rw (← k.1) k.0)
 
 pub in_bounds : (z : ℤ) → is_second_of_date z ≡ true → IsSecondOfDate z
 in_bounds (pos n) h =
@@ -107,8 +104,8 @@ pub second_facts : (bits : ℕ) (z : ℤ) → second_of_bits bits ≡ Some z →
     × IsSecondOfDate z
 unfolding second_of_bits
 second_facts bits z e =
-    let kept = second_kept (eqb (real_exponent bits) 2047) (real_second bits) z e in
-    (subst (λ s. IsSecondOf s bits) kept.0 (second_is_greatest _), in_bounds z kept.1)
+    let kept = second_kept _ _ z e in
+    (rw (← kept.0) (second_is_greatest _), in_bounds z kept.1)
 
 -- a date has a second
 pub date_has_second : (second : Option ℤ) (bs : List ℕ) → date_if second bs ≡ Some bs
@@ -143,15 +140,15 @@ below_next s t v d le lt =
     by_test false s t e = inr (grind (arith, ints))
 
     at_most : (s t : ℤ) → (s ≤ℤ t) ⊎ ((t +ℤ pos 1) ≤ℤ s)
-    at_most s t = by_test (le_z s t) s t refl
+    at_most s t = by_test _ s t refl
 
     no_cycle : (a v b : ℤ) → a ≤ℤ v → v <ℤ b → b ≤ℤ a → ⊥
     no_cycle a v b h k l = omega (arith, ints)
 
 second_is_unique : (bits : ℕ) (s t : ℤ) → IsSecondOf s bits → IsSecondOf t bits → s ≡ t
 second_is_unique bits s t h k =
-    let a : s ≤ℤ t = below_next s t (real_parts _) parts_in_second h.0 k.1 in
-    let b : t ≤ℤ s = below_next t s (real_parts _) parts_in_second k.0 h.1 in
+    let a = below_next s t _ _ h.0 k.1 in
+    let b = below_next t s _ _ k.0 h.1 in
     omega (arith, ints)
 
 -- a real that is refused, though it is a number, has no second in the range of dates
@@ -159,21 +156,16 @@ pub no_second : (bits : ℕ) → second_of_bits bits ≡ None → is_no_number b
     → IsSecondOf second bits → IsSecondOfDate second → ⊥
 unfolding second_of_bits
 no_second bits e number second is within =
-    let same : real_second bits ≡ second = second_is_unique _ _ _
+    let same = second_is_unique _ _ _
     (second_is_greatest _) is in
-    out_of_bounds second (none_out (is_no_number _) (real_second _) second number same e)
+    out_of_bounds _ (none_out (is_no_number _) (real_second _) second number same e)
     within
   where
-    by_range : (b : Bool) (y : ℤ) → is_second_of_date y ≡ b
-        → cond (is_second_of_date y) (Some y) None ≡ None → is_second_of_date y ≡ false
-    by_range true y is e = let some = rw is at e in absurd (cc)
-    by_range false y is e = is
-
     none_out : (b : Bool) (y z : ℤ) → b ≡ false → y ≡ z → cond b None (if_second_of_date y) ≡ None
         → is_second_of_date z ≡ false
     none_out true y z number same e = absurd (cc)
     none_out false y z number same e =
-        subst (λ s. is_second_of_date s ≡ false) same (by_range (is_second_of_date y) y refl e)
+        rw (← same) (false_from_ne_true _ (λ t. let some = rw t at e in cc))
 
 pub none_by_test : (s t : Option ℤ) (b : Bool) → t ≡ s → is_some t ≡ not b → b ≡ true → s ≡ None
 none_by_test s None b same test is = sym same
@@ -184,4 +176,81 @@ none_by_test s (Some x) false same test is = absurd (cc)
 pub zeros_small : (count place : ℕ) → slice_index (replicate count 0) place < 256
 zeros_small zero place = omega arith
 zeros_small (suc count) zero = omega arith
-zeros_small (suc count) (suc place) = zeros_small count place
+zeros_small (suc count) (suc place) = zeros_small count _
+
+back_to_unix : (second : ℤ) → ((second -ℤ plist_epoch) +ℤ plist_epoch) ≡ second
+back_to_unix second = omega (arith, ints)
+
+pub unix_year : (date : List ℕ) (second : ℤ) → second_of_bytes date ≡ Some (second -ℤ plist_epoch)
+    → HasTextYear date → HasFourDigitYear second
+unix_year date second is year =
+    subst HasFourDigitYear (back_to_unix _) (year _ is)
+
+pub text_year : (date : List ℕ) (second : ℤ) → second_of_bytes date ≡ Some (second -ℤ plist_epoch)
+    → HasFourDigitYear second → HasTextYear date
+text_year date second is year other is_other =
+    let same : second -ℤ plist_epoch ≡ other = cc in
+    subst HasFourDigitYear (sym (back_to_unix _) ∙ ap (λ s. s +ℤ plist_epoch) same) year
+
+-- what is a text of the date is one of its Unix second
+pub text_at : (date text : List ℕ) (second : ℤ)
+    → second_of_bytes date ≡ Some (second -ℤ plist_epoch) → IsDateText date text
+    → IsTextOfSecond second text
+text_at date text second is text_of =
+    subst (λ s. IsTextOfSecond s text) (back_to_unix _) (text_of.2 _ is)
+
+-- what is a text of the Unix second, in UTC, is one of a whole date there
+pub text_in_utc : (date text : List ℕ) (second : ℤ) → IsDate date → IsWhole date
+    → second_of_bytes date ≡ Some (second -ℤ plist_epoch) → Some second ≡ unix_second_of_text text
+    → IsInUtc text → IsDateText date text
+text_in_utc date text second is_date whole is spells in_utc = (
+  is_date,
+  whole,
+  λ other is_other.
+      let same : second -ℤ plist_epoch ≡ other = cc in
+      let unix : second ≡ other +ℤ plist_epoch = omega (arith, ints) in
+      record { spells = sym spells ∙ ap Some unix; letter = in_utc.0; utc = in_utc.1 },
+)
+
+-- ---- the second that the text of a date spells
+
+pub record Printed (date text : List ℕ) : Type 0 where
+  pub at : ℤ
+  pub is : second_of_bytes date ≡ Some at
+  pub spells : unix_second_of_text text ≡ Some (at +ℤ plist_epoch)
+  pub within : IsSecondOfDate at
+
+pub printed : (date text : List ℕ) → IsDateText date text → Printed date text
+printed date text is = by_second _ refl
+  where
+    by_second : (second : Option ℤ) → second_of_bytes date ≡ second → Printed date text
+    by_second None none = absurd (date_has_second (second_of_bytes date) date is.0.1 none)
+    by_second (Some second) some = record {
+      at = second;
+      is = some;
+      spells = (is.2 second some).spells;
+      within = (second_facts (real_bits date) second some).1;
+    }
+
+-- a text that spells no second is none of a date
+pub not_printed : (date text : List ℕ) → None ≡ unix_second_of_text text → IsDateText date text → ⊥
+not_printed date text none text_of =
+    let p = printed date text text_of in let spells = p.spells in cc
+
+-- nor is one whose second isn't in range
+pub not_ranged : (date text : List ℕ) (second : ℤ) → Some second ≡ unix_second_of_text text
+    → (IsSecondOfDate (second -ℤ plist_epoch) → ⊥) → IsDateText date text → ⊥
+not_ranged date text second is out text_of =
+    let p = printed date text text_of in
+    let same : second ≡ p.at +ℤ plist_epoch = cc (p.spells) in
+    let back : p.at ≡ second -ℤ plist_epoch = omega (arith, ints, same) in
+    out (subst IsSecondOfDate back p.within)
+
+-- the date's second is the one that its text spells
+pub printed_at : (date text : List ℕ) (second : ℤ) → Some second ≡ unix_second_of_text text
+    → IsDateText date text → second_of_bytes date ≡ Some (second -ℤ plist_epoch)
+printed_at date text second is text_of =
+    let p = printed date text text_of in
+    let same : second ≡ p.at +ℤ plist_epoch = cc (p.spells) in
+    let back : p.at ≡ second -ℤ plist_epoch = omega (arith, ints, same) in
+    p.is ∙ ap Some back

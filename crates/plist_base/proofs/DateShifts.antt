@@ -14,17 +14,17 @@ split e h = let s : 1075 ≡ (1075 - e) + e =
 -- a quotient and its remainder, where both numbers have a factor
 factored : (m q c : ℕ) → 0 < q → 0 < c → (m * c / (q * c) ≡ m / q) × (m * c % (q * c) ≡ m % q * c)
 factored m q c hq hc =
-    let d : q * (m / q) + m % q ≡ m = div-add-mod m q in
-    let lt : m % q < q = mod-lt m hq in
-    let up : suc (m % q) * c ≤ q * c = mul-le-mul_right c lt in
+    let d = div-add-mod m q in
+    let lt = mod-lt m hq in
+    let up = mul-le-mul_right c lt in
     let small : m % q * c < q * c = omega arith in
-    let e : m * c ≡ (m / q) * (q * c) + m % q * c = sym (ap (λ k. k * c) d) ∙ omega arith in (
+    let e = sym (ap (λ k. k * c) d) ∙ omega arith in (
       ap (λ k. k / (q * c)) e ∙ div-mul-add _ _ _ small,
       ap (λ k. k % (q * c)) e ∙ mod-mul-add _ _ _ small,
     )
 
 pub power_pos : (k : ℕ) → 0 < 2 ^ k
-power_pos k = let p : 1 ≤ 2 ^ k = one-le-pow k 2 (omega arith) in omega arith
+power_pos k = let p = one-le-pow k 2 (omega arith) in omega arith
 
 pub whole_shifted : (m e : ℕ) → e < 1075 → whole_seconds m e ≡ m / 2 ^ (1075 - e)
 unfolding whole_seconds parts_of
@@ -41,7 +41,7 @@ zero_scaled zero c h = let z : 0 * c ≡ 0 = omega arith in rw z refl
 zero_scaled (suc a) c h =
     let p : 1 * c ≤ suc a * c = mul-le-mul_right c (omega arith) in let q : eqb (suc a * c) 0
     ≡ false = grind (arith, nat_tests) in let r : eqb (suc a) 0
-    ≡ false = grind (arith, nat_tests) in q ∙ sym r
+    ≡ false = grind (arith, nat_tests) in cc
 
 -- whether anything is left does not depend on the scale
 pub left_shifted : (m e : ℕ) → e < 1075 → eqb (parts_left m e) 0 ≡ eqb (m % 2 ^ (1075 - e)) 0
@@ -57,11 +57,11 @@ left_far : (m e : ℕ) → 1075 ≤ e → parts_left m e ≡ 0
 unfolding parts_left parts_of parts_in_second
 left_far m e h =
     let s : e ≡ (e - 1075) + 1075 = omega arith in
-    multiple m (2 ^ (e - 1075)) _ _ (power_pos 1075)
+    multiple m _ _ _ (power_pos 1075)
     (ap (λ k. 2 ^ k) s ∙ pow-add 2 _ _)
 
 above : (m k : ℕ) → m < 2 ^ 53 → 53 ≤ k → m < 2 ^ k
-above m k h big = let p : 2 ^ 53 ≤ 2 ^ k = pow-le-pow_right {n = 2} (omega arith) big in omega arith
+above m k h big = let p = pow-le-pow_right {n = 2} (omega arith) big in omega arith
 
 -- a shift past all bits
 pub whole_none : (m e : ℕ) → m < 2 ^ 53 → e < 1075 → 64 ≤ 1075 - e → whole_seconds m e ≡ 0
@@ -92,14 +92,14 @@ far_second true w left h = far_up _ w h
 whole_far : (m e : ℕ) → 2 ^ 52 ≤ m → 1075 ≤ e → 2 ^ 52 ≤ whole_seconds m e
 unfolding whole_seconds parts_of parts_in_second
 whole_far m e h big =
-    let p : 2 ^ 1075 ≤ 2 ^ e = pow-le-pow_right {n = 2} (omega arith) big in
+    let p = pow-le-pow_right (omega arith) big in
     far_quotient m _ _ h (power_pos 1075) p
   where
     far_quotient : (m c d : ℕ) → 2 ^ 52 ≤ m → 0 < d → d ≤ c → 2 ^ 52 ≤ m * c / d
     far_quotient m c d h hd le =
-        let a : d * m ≤ c * m = mul-le-mul_right m le in
-        let b : 2 ^ 52 * d ≤ m * d = mul-le-mul_right d h in
-        (le-div_iff_mul-le {k = d} {x = 2 ^ 52} {y = m * c} hd).1 (omega arith)
+        let a = mul-le-mul_right m le in
+        let b = mul-le-mul_right d h in
+        (le-div_iff_mul-le hd).1 (omega arith)
 
 mantissa_far : (bits : ℕ) → 1075 ≤ real_exponent bits → 2 ^ 52 ≤ real_mantissa bits
 unfolding real_mantissa
@@ -112,7 +112,7 @@ scale_far bits h = omega arith
 
 pub fraction_far : (bits : ℕ) → 1075 ≤ real_exponent bits → false ≡ has_fraction bits
 unfolding has_fraction
-fraction_far bits h = rw (left_far (real_mantissa _) (real_scale _) (scale_far _ h)) refl
+fraction_far bits h = rw (left_far _ _ (scale_far _ h)) refl
 
 pub fraction_is : (bits m e : ℕ) (is_left : Bool) → m ≡ real_mantissa bits → e ≡ real_scale bits
     → is_left ≡ not (eqb (parts_left m e) 0) → is_left ≡ has_fraction bits
@@ -128,7 +128,7 @@ pub second_far : (bits : ℕ) → 1075 ≤ real_exponent bits
     → ◌≡◌ {A = Option ℤ} None (second_of_bits bits)
 unfolding second_of_bits real_second
 second_far bits h =
-    sym (none_of (eqb (real_exponent _) 2047) (real_second bits)
+    sym (none_of _ (real_second bits)
     (far_second (is_negative _) (whole_seconds _ _)
     (parts_left _ _)
     (whole_far _ _ (mantissa_far _ h) (scale_far _ h))))
@@ -144,14 +144,14 @@ second_near bits h =
 pub whole_small : (m e : ℕ) → m < 2 ^ 53 → e < 1075 → m / 2 ^ (1075 - e) < 2 ^ 52
 whole_small m e h lt =
     let near : 1 ≤ 1075 - e = omega arith in
-    let p : 2 ^ 1 ≤ 2 ^ (1075 - e) = pow-le-pow_right {n = 2} (omega arith) near in
+    let p = pow-le-pow_right (omega arith) near in
     let q : 2 * 2 ^ 52 ≤ 2 ^ (1075 - e) * 2 ^ 52 = mul-le-mul_right _ p in
     (div-lt_iff_lt-mul {k = 2 ^ (1075 - e)} {x = m} {y = 2 ^ 52} (omega arith)).1 (omega arith)
 
 pub left_masked : (m k : ℕ) → k < 64 → m % (1 * 2 ^ k % 18446744073709551616) ≡ m % 2 ^ k
 left_masked m k h =
     let near : k ≤ 63 = omega arith in
-    let p : 2 ^ k ≤ 2 ^ 63 = pow-le-pow_right {n = 2} (omega arith) near in
+    let p = pow-le-pow_right {n = 2} (omega arith) near in
     let q : 1 * 2 ^ k ≡ 2 ^ k = omega arith in
     rw q (rw (mod-eq_of_lt {n = 2 ^ k} {m = 18446744073709551616} (omega arith)) refl)
 
@@ -163,3 +163,10 @@ pub second_is : (bits m e w : ℕ) → m ≡ real_mantissa bits → e ≡ real_s
     → w ≡ whole_seconds m e → real_exponent bits < 1075
     → if_second_of_date (rounded_down (is_negative bits) w (parts_left m e)) ≡ second_of_bits bits
 second_is bits m e w is_m is_e is_w lt = rw (is_w, is_m, is_e) (second_near _ lt)
+
+-- whole seconds, what is left behind them, and whether something is
+pub ruleset whole_parts = (whole_none, whole_shifted, whole_small)
+
+pub ruleset left_parts = (left_all, left_shifted, left_masked)
+
+pub ruleset fraction_parts = (fraction_far, fraction_is)

@@ -7,7 +7,7 @@ use Rattle.std.proofs.lemmas.Bool.{cases_lt}
 use Rattle.std.proofs.lemmas.Bool.Decides.{nat_tests}
 use Rattle.std.proofs.lemmas.Int.{ints}
 use Rattle.std.proofs.lemmas.Nat.{be_bytes_8}
-use Rattle.plist_base.specs.Date.{AreEightBytes, IsDate, IsWhole, date_bytes, date_if, has_fraction, is_negative, parts_in_second, parts_left, parts_of, real_bits, real_exponent, real_mantissa, real_parts, real_scale, real_second, rounded_down, second_of_bits, second_of_bytes, whole_seconds}
+use Rattle.plist_base.specs.Date.{AreEightBytes, IsDate, IsWhole, date_if, has_fraction, is_negative, parts_in_second, parts_left, parts_of, real_bits, real_exponent, real_mantissa, real_parts, real_scale, real_second, rounded_down, second_of_bits, second_of_bytes, whole_seconds}
 use Rattle.plist_base.proofs.DateRounding.{neg_times, second_kept}
 use Rattle.plist_base.proofs.DateShifts.{power_pos}
 
@@ -24,7 +24,7 @@ value_suc e fraction =
 
 value_low : (e fraction : ℕ) → 2 ^ 53 * 2 ^ e ≤ value (suc e) fraction
 value_low e fraction =
-    let p : 2 ^ 52 * 2 ^ suc e ≤ (2 ^ 52 + fraction) * 2 ^ suc e = mul-le-mul_right _
+    let p = mul-le-mul_right _
     (omega arith) in
     let q : 2 ^ 53 * 2 ^ e ≡ 2 ^ 52 * 2 ^ suc e = omega arith in
     rw (value_suc e _, q) p
@@ -34,7 +34,7 @@ value_high zero fraction small = omega arith
 value_high (suc e) fraction small =
     let some = power_pos (suc e) in
     let next : suc (2 ^ 52 + fraction) * 2 ^ suc e
-    ≤ 2 ^ 53 * 2 ^ suc e = mul-le-mul_right (2 ^ suc e) (omega arith) in
+    ≤ 2 ^ 53 * 2 ^ suc e = mul-le-mul_right _ (omega arith) in
     let split : suc (2 ^ 52 + fraction) * 2 ^ suc e ≡ (2 ^ 52 + fraction) * 2 ^ suc e
     + 2 ^ suc e = omega arith in
     rw (value_suc e fraction) (omega arith)
@@ -44,7 +44,7 @@ value_grows : (e d fraction other : ℕ) → fraction < 2 ^ 52 → e < d
     → value e fraction < value d other
 value_grows e zero fraction other small less = absurd (omega arith)
 value_grows e (suc d) fraction other small less =
-    let high = value_high e fraction small in
+    let high = value_high e _ small in
     let low = value_low d other in
     let powers : 2 ^ e ≤ 2 ^ d = pow-le-pow_right {n = 2} (omega arith) (omega arith) in
     let between : 2 ^ e * 2 ^ 53 ≤ 2 ^ d * 2 ^ 53 = mul-le-mul_right _ powers in
@@ -53,9 +53,8 @@ value_grows e (suc d) fraction other small less =
 value_fraction : (e fraction other : ℕ) → value e fraction ≡ value e other → fraction ≡ other
 value_fraction zero fraction other same = omega arith
 value_fraction (suc e) fraction other same =
-    let scaled : (2 ^ 52 + fraction) * 2 ^ suc e
-    ≡ (2 ^ 52 + other) * 2 ^ suc e = sym (value_suc e _) ∙ same ∙ value_suc e other in
-    let sums = eq_of_mul-eq-mul_right _ (power_pos (suc e)) (2 ^ 52 + fraction)
+    let scaled = sym (value_suc e _) ∙ same ∙ value_suc e other in
+    let sums = eq_of_mul-eq-mul_right _ (power_pos _) _
     (2 ^ 52 + other) scaled in
     omega arith
 
@@ -80,31 +79,20 @@ unfolding parts_of real_mantissa real_scale
 parts_value bits = refl
 
 neg_once : (a b : ℕ) → neg_ℤ (pos a) ≡ neg_ℤ (pos b) → a ≡ b
-neg_once a b same = omega (arith, ints, same)
+neg_once a b same = omega (arith, ints)
 
 pos_once : (a b : ℕ) → pos a ≡ pos b → a ≡ b
-pos_once a b same = omega (arith, ints, same)
+pos_once a b same = omega (arith, ints)
 
 neg_pos : (a b : ℕ) → neg_ℤ (pos a) ≡ pos b → a ≡ 0
-neg_pos a b same = omega (arith, ints, same)
+neg_pos a b same = omega (arith, ints)
 
 -- bits with the same sign, exponent and fraction
 bits_same : (a b : ℕ) → a < 2 ^ 64 → b < 2 ^ 64 → is_negative a ≡ is_negative b
     → real_exponent a ≡ real_exponent b → a % 2 ^ 52 ≡ b % 2 ^ 52 → a ≡ b
 unfolding real_exponent
 bits_same a b sa sb sign exponent fraction =
-    elim (cases_lt a (2 ^ 63)) [
-      | inl la ↦
-          elim (cases_lt b (2 ^ 63)) [
-            | inl lb ↦ omega arith
-            | inr gb ↦ absurd (grind (arith, nat_tests))
-          ]
-      | inr ga ↦
-          elim (cases_lt b (2 ^ 63)) [
-            | inl lb ↦ absurd (grind (arith, nat_tests))
-            | inr gb ↦ omega arith
-          ]
-    ]
+    grind (arith, nat_tests)
 
 zero_exponent : 0 ≡ real_exponent (2 ^ 63)
 unfolding real_exponent
@@ -134,27 +122,20 @@ module _ (a b : ℕ) (small_a : a < 2 ^ 64) (small_b : b < 2 ^ 64) (plain_a : eq
   not_zero bits small plain negative none =
       let zero_signed = negative_zero bits small negative none in cc
 
-  same_sign : (c d : Bool) → is_negative a ≡ c → is_negative b ≡ d
-      → signed c (parts a) ≡ signed d (parts b) → c ≡ d
-  same_sign true true is_c is_d same = refl
-  same_sign false false is_c is_d same = refl
-  same_sign true false is_c is_d same =
+  same_both : (c d : Bool) → is_negative a ≡ c → is_negative b ≡ d
+      → signed c (parts a) ≡ signed d (parts b) → (c ≡ d) × (parts a ≡ parts b)
+  same_both true true is_c is_d same = (refl, neg_once _ _ same)
+  same_both false false is_c is_d same = (refl, pos_once _ _ same)
+  same_both true false is_c is_d same =
       absurd (not_zero a small_a plain_a is_c (neg_pos _ (parts b) same))
-  same_sign false true is_c is_d same =
+  same_both false true is_c is_d same =
       absurd (not_zero b small_b plain_b is_d (neg_pos _ (parts a) (sym same)))
-
-  same_parts : (c d : Bool) → c ≡ d → signed c (parts a) ≡ signed d (parts b) → parts a ≡ parts b
-  same_parts true true is same = neg_once _ _ same
-  same_parts false false is same = pos_once _ _ same
-  same_parts true false is same = absurd (cc)
-  same_parts false true is same = absurd (cc)
 
   one_real : signed (is_negative a) (parts a) ≡ signed (is_negative b) (parts b) → a ≡ b
   one_real same =
-      let sign = same_sign (is_negative a) _ refl refl same in
-      let once = value_once _ (real_exponent b) _ _
-      (omega arith) (omega arith) (same_parts (is_negative a) (is_negative b) sign same) in
-      bits_same a b small_a small_b sign once.0 once.1
+      let both = same_both (is_negative a) _ refl refl same in
+      let once = value_once _ (real_exponent b) _ _ (omega arith) (omega arith) both.1 in
+      bits_same a b small_a small_b both.0 once.0 once.1
 
 real_is : (bits : ℕ) → real_parts bits
     ≡ signed (is_negative bits) (value (real_exponent bits) (bits % 2 ^ 52))
@@ -168,12 +149,11 @@ whole_value : (bits : ℕ) (second : ℤ) → has_fraction bits ≡ false
     → second_of_bits bits ≡ Some second → real_parts bits ≡ (second *ℤ pos parts_in_second)
 unfolding has_fraction second_of_bits real_parts real_second whole_seconds parts_left
 whole_value bits second whole is =
-    let parts : ℕ = parts_of (real_mantissa bits) (real_scale bits) in
-    let none : parts % parts_in_second ≡ 0 = grind (arith, nat_tests, whole) in
-    let split : parts_in_second * (parts / parts_in_second) + parts % parts_in_second
-    ≡ parts = div-add-mod parts parts_in_second in
+    let parts = parts_of _ _ in
+    let none : parts % parts_in_second ≡ 0 = grind (arith, nat_tests) in
+    let split = div-add-mod parts parts_in_second in
     let all : parts ≡ parts / parts_in_second * parts_in_second = omega arith in
-    let kept = second_kept (eqb (real_exponent bits) 2047) (real_second bits) second is in
+    let kept = second_kept _ _ _ is in
     ap (signed (is_negative bits)) all
     ∙ times _ (parts / parts_in_second) _
     ∙ ap (λ left. rounded_down (is_negative bits) (parts / parts_in_second) left *ℤ pos
@@ -182,7 +162,7 @@ whole_value bits second whole is =
   where
     times : (negative : Bool) (whole unit : ℕ)
         → signed negative (whole * unit) ≡ (rounded_down negative whole 0 *ℤ pos unit)
-    times true whole unit = sym (neg_times whole unit)
+    times true whole unit = sym (neg_times _ _)
     times false whole unit = refl
 
 -- ---- the bytes
@@ -193,25 +173,16 @@ bits_small bytes are =
 
 -- a date is no zero with a sign
 no_signed_zero : (bytes : List ℕ) → IsDate bytes → eqb (real_bits bytes) (2 ^ 63) ≡ false
-no_signed_zero bytes is = by_second (second_of_bytes bytes) bytes is.1
+no_signed_zero bytes is = by_test (second_of_bytes bytes) _ bytes refl is.1
   where
-    by_test : (b : Bool) (bytes : List ℕ) → eqb (real_bits bytes) (2 ^ 63) ≡ b
-        → ◌≡◌ {A = Option (List ℕ)} (Some (date_bytes bytes)) (Some bytes) → b ≡ false
-    by_test false bytes is same = refl
-    by_test true bytes is same = absurd (zeros bytes is (cc))
-      where
-        zeros : (bytes : List ℕ) → eqb (real_bits bytes) (2 ^ 63) ≡ true → date_bytes bytes ≡ bytes
-            → ⊥
-        zeros bytes is same =
-            let are : 0 ∷ 0 ∷ 0 ∷ 0 ∷ 0 ∷ 0 ∷ 0 ∷ 0 ∷ [] ≡ bytes = sym (rw is refl) ∙ same in
-            let none : eqb (real_bits bytes) (2 ^ 63)
-            ≡ false = ap (λ list. eqb (real_bits list) (2 ^ 63)) (sym are) in
-            cc
-
-    by_second : (second : Option ℤ) (bytes : List ℕ) → date_if second bytes ≡ Some bytes
-        → eqb (real_bits bytes) (2 ^ 63) ≡ false
-    by_second None bytes is = absurd (cc)
-    by_second (Some second) bytes is = by_test (eqb (real_bits bytes) (2 ^ 63)) bytes refl is
+    by_test : (second : Option ℤ) (b : Bool) (bytes : List ℕ) → eqb (real_bits bytes) (2 ^ 63) ≡ b
+        → date_if second bytes ≡ Some bytes → b ≡ false
+    by_test second false bytes is same = refl
+    by_test None true bytes is same = absurd (cc)
+    by_test (Some second) true bytes is same =
+        let kept = rw is at same in
+        let are : 0 ∷ 0 ∷ 0 ∷ 0 ∷ 0 ∷ 0 ∷ 0 ∷ 0 ∷ [] ≡ bytes = cc in
+        sym is ∙ ap (λ list. eqb (real_bits list) (2 ^ 63)) (sym are)
 
 -- two dates of one second without a fraction
 pub one_date : (second : ℤ) (date other : List ℕ) → IsDate date → IsDate other

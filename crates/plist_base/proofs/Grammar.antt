@@ -1,24 +1,16 @@
 -- The stack of what is wanted takes exactly the events that can go on to a tree's.
-use Rattle.std.proofs.Common.{◌≡◌, List, [], ◌∷◌, ◌++◌, Option, Some, None, map, refl, sym, ap, ◌∙◌, append_assoc, append-nil, option_and_then}
+use Rattle.std.proofs.Common.{◌≡◌, List, [], ◌∷◌, ◌++◌, Option, Some, None, map, refl, sym, ap, ◌∙◌, append_assoc, append-nil, option_and_then, rules}
 use Rattle.std.proofs.lemmas.List.{map-append}
 use Rattle.std.proofs.lemmas.Option.{option_and_then_some}
-use Rattle.plist_base.specs.Events.{PlainEvent, StartArray, StartDictionary, EndCollection, Single}
+use Rattle.plist_base.specs.Events.{PlainEvent}
 use Rattle.plist_base.specs.Trees.{Tree}
-use Rattle.plist_base.specs.Bracketing.{shape, bracketing, unhinted, AreAlike, AreWhole, AreComplete, CanContinue, ContinueAlike}
-use Rattle.plist_base.specs.inner.Wants.{OneValue, Items, Pairs, step, steps, wanted_after}
+use Rattle.plist_base.specs.Bracketing.{bracketing, unhinted, AreAlike, AreWhole, AreComplete, CanContinue, ContinueAlike}
+use Rattle.plist_base.specs.inner.Wants.{OneValue, step, steps, wanted_after}
 use Rattle.plist_base.proofs.Stacks.{Fills, Stack, all-unhinted-twice, filling, run_back, shape-is, steps_tree}
 
 -- lengths change nothing for the stack
 step_unhinted : (s : Stack) (e : PlainEvent) → step s (unhinted e) ≡ step s e
-step_unhinted [] e = refl
-step_unhinted (OneValue ∷ s) (StartArray n) = refl
-step_unhinted (OneValue ∷ s) (StartDictionary n) = refl
-step_unhinted (Items ∷ s) (StartArray n) = refl
-step_unhinted (Items ∷ s) (StartDictionary n) = refl
-step_unhinted (Pairs ∷ s) (StartArray n) = refl
-step_unhinted (Pairs ∷ s) (StartDictionary n) = refl
-step_unhinted (w ∷ s) EndCollection = refl
-step_unhinted (w ∷ s) (Single x) = refl
+step_unhinted s e = search rules
 
 steps_unhinted : (es : List PlainEvent) (s : Stack) → steps s (map unhinted es) ≡ steps s es
 steps_unhinted [] s = refl
@@ -29,17 +21,13 @@ steps_unhinted (e ∷ es) s =
 pub wanted_alike : (left right : List PlainEvent) → AreAlike left right
     → wanted_after left ≡ wanted_after right
 wanted_alike left right p =
-    sym (steps_unhinted left (OneValue ∷ [])) ∙ ap (steps (OneValue ∷ [])) p
-    ∙ steps_unhinted right (OneValue ∷ [])
+    rw (← steps_unhinted left, p) (steps_unhinted right (OneValue ∷ []))
 
 -- ---- where the stack takes an event, it can go on to a tree
 
 -- what fills the first want are a tree's events
 filled : (es : List PlainEvent) → Fills (OneValue ∷ []) (map unhinted es) → AreWhole es
-filled es (t, left, p, none) = (
-  t,
-  p ∙ ap (λ l. shape t ++ l) none ∙ append-nil (shape t) ∙ sym (shape-is t),
-)
+filled es (t, left, p, none) = (t, rw (p, none, append-nil, shape-is t) refl)
 
 pub can_continue : (held : List PlainEvent) (e : PlainEvent) (t : Stack)
     → wanted_after (held ++ e ∷ []) ≡ Some t → CanContinue held e
@@ -47,13 +35,12 @@ can_continue held e t p =
     let g = filling t in
     let f = filled ((held ++ e ∷ []) ++ g.0)
     (run_back (held ++ e ∷ []) g.0 (OneValue ∷ []) t p g.1) in
-    (g.0, f.0, ap (map unhinted) (sym (append_assoc held (e ∷ []) g.0)) ∙ f.1)
+    (g.0, f.0, simp append_assoc at f.1)
 
 -- the events are those of a tree exactly where nothing more is wanted after them
 pub bracketed : (held : List PlainEvent) → wanted_after held ≡ Some [] → AreWhole held
 bracketed held p =
-    let f = filled (held ++ []) (run_back held [] (OneValue ∷ []) [] p refl) in
-    (f.0, ap (map unhinted) (sym (append-nil held)) ∙ f.1)
+    rw append-nil at (filled (held ++ []) (run_back held [] (OneValue ∷ []) [] p refl))
 
 pub all_taken : (held : List PlainEvent) (t : Tree) → AreAlike held (bracketing t)
     → wanted_after held ≡ Some []
@@ -66,8 +53,7 @@ none_is o t p q = cc
 
 in_turn : {A B C : Type 0} (f : A → Option B) (g : B → Option C) (o : Option A)
     → option_and_then (λ x. option_and_then g (f x)) o ≡ option_and_then g (option_and_then f o)
-in_turn f g None = refl
-in_turn f g (Some x) = refl
+in_turn f g o = search rules
 
 steps_append : (es more : List PlainEvent) (s : Stack)
     → steps s (es ++ more) ≡ option_and_then (λ t. steps t more) (steps s es)
@@ -85,8 +71,7 @@ continues held e (more, tree, p) =
     (λ t q r. (t, q))
 
 only : {A : Type 0} (o : Option A) → option_and_then Some o ≡ o
-only None = refl
-only (Some t) = refl
+only o = search rules
 
 -- one more event
 pub steps_snoc : (es : List PlainEvent) (s : Stack) (e : PlainEvent)
@@ -100,8 +85,7 @@ none_behind : (events : List PlainEvent) → AreWhole events → (e : PlainEvent
 none_behind events (t, alike) e c =
     let g = continues _ e c in
     none_is (wanted_after (events ++ e ∷ [])) g.0
-    (steps_snoc events (OneValue ∷ []) e
-    ∙ ap (option_and_then (λ s. step s e)) (all_taken events t alike)) g.1
+    (rw (steps_snoc events, all_taken events t alike) refl) g.1
 
 pub complete_of_whole : (events : List PlainEvent) → AreWhole events → AreComplete events
 complete_of_whole events whole = (whole, none_behind _ whole)
@@ -112,14 +96,12 @@ complete_of_whole events whole = (whole, none_behind _ whole)
 pub alike_with : (left right more : List PlainEvent) → AreAlike left right
     → AreAlike (left ++ more) (right ++ more)
 alike_with left right more p =
-    map-append _ _ _ ∙ ap (λ l. l ++ map unhinted more) p
-    ∙ sym (map-append _ _ _)
+    rw (map-append, map-append, p) refl
 
 pub alike_behind : (front left right : List PlainEvent) → AreAlike left right
     → AreAlike (front ++ left) (front ++ right)
 alike_behind front left right p =
-    map-append unhinted front left ∙ ap (λ l. map unhinted front ++ l) p
-    ∙ sym (map-append unhinted front right)
+    rw (map-append, map-append, p) refl
 
 pub whole_alike : (left right : List PlainEvent) → AreAlike left right → AreWhole left
     → AreWhole right

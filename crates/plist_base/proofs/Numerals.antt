@@ -1,6 +1,6 @@
 -- What the parsers of integers say, as tests.
-use Rattle.std.proofs.Common.{◌≡◌, ℕ, ◌^◌, ◌<◌, Bool, true, false, cond, List, [], ◌∷◌, drop, Option, None, Some, refl, sym, ap, ◌∙◌, arith}
-use Rattle.std.specs.Prelude.{◌==◌, ℤ, pos, negsuc, FitsSigned}
+use Rattle.std.proofs.Common.{◌≡◌, ℕ, ◌^◌, ◌<◌, Bool, true, false, cond, List, [], ◌∷◌, drop, Option, None, Some, refl, ap, ◌∙◌, arith}
+use Rattle.std.specs.Prelude.{◌==◌, ◌&&◌, ℤ, pos, negsuc, FitsSigned}
 use Rattle.std.proofs.lemmas.Bool.Decides.{nat_tests}
 use Rattle.std.proofs.lemmas.Int.{ints, to_z-of_z}
 use mir.Val.{of_z, to_z}
@@ -28,31 +28,34 @@ numeral_true radix ds h = and_from _ _ (lt-ltb _ _ h.0) (all_digits _ ds h.1)
 pub numeral_from : (radix : ℕ) (ds : List ℕ) → is_numeral radix ds ≡ true → IsNumeral radix ds
 numeral_from radix ds h = let s = and_parts _ _ h in (ltb-true _ _ s.0, digits_all _ ds s.1)
 
-decide : {A : Type 0} (b : Bool) (x : A) → (b ≡ true → ⊥) → None ≡ cond b (Some x) None
-decide true x h = absurd (h refl)
-decide false x h = refl
+-- a number is given exactly where a numeral passes a test
+parsed : (radix : ℕ) (ds : List ℕ) (b : Bool) {P : Type 0} (v n : ℤ) → (P → b ≡ true)
+    → (IsNumeral radix ds × P) × (n ≡ v) → Some n ≡ cond (is_numeral radix ds && b) (Some v) None
+parsed radix ds b v n t h = rw (numeral_true radix ds h.0.0, t h.0.1, h.1) refl
+
+not_parsed : (radix : ℕ) (ds : List ℕ) (b : Bool) {P : Type 0} (v : ℤ) → (b ≡ true → P)
+    → (IsNumeral radix ds × P → ⊥) → None ≡ cond (is_numeral radix ds && b) (Some v) None
+not_parsed radix ds b v t h =
+    let none = false_from_ne_true (is_numeral radix ds && b) (λ e. let s = and_parts _ _ e in h
+    (numeral_from _ _ s.0, t s.1)) in
+    rw none refl
 
 pub unsigned_ok : (radix n : ℕ) (text : List ℕ)
     → (IsNumeral radix (without_leading_plus text)
     × (digits_value radix (without_leading_plus text) < 2 ^ 64))
     × (n ≡ digits_value radix (without_leading_plus text))
     → Some (pos n) ≡ unsigned_of_text radix text
-unsigned_ok radix n text h =
-    let ds = without_leading_plus text in
-    let t = and_from _ _ (numeral_true radix ds h.0.0) (lt-ltb _ _ h.0.1) in
-    rw t (ap (λ n. Some (pos n)) h.1)
+unsigned_ok radix n text h = parsed radix _ _ _ _ (lt-ltb _ _) (h.0, ap pos h.1)
 
 pub unsigned_err : (radix : ℕ) (text : List ℕ)
     → (IsNumeral radix (without_leading_plus text)
     × (digits_value radix (without_leading_plus text) < 2 ^ 64) → ⊥)
     → None ≡ unsigned_of_text radix text
-unsigned_err radix text h =
-    decide _ _ (λ t. let s = and_parts _ _ t in h
-    (numeral_from _ _ s.0, ltb-true _ _ s.1))
+unsigned_err radix text h = not_parsed radix _ _ _ (ltb-true _ _) h
 
 fits_true : (z : ℤ) → FitsSigned w64 z → fits_signed z ≡ true
-fits_true (pos n) h = let l : n < 2 ^ 63 = grind (arith, ints) in lt-ltb _ _ l
-fits_true (negsuc n) h = let l : n < 2 ^ 63 = grind (arith, ints) in lt-ltb _ _ l
+fits_true (pos n) h = grind (arith, ints, nat_tests)
+fits_true (negsuc n) h = grind (arith, ints, nat_tests)
 
 fits_from : (z : ℤ) → fits_signed z ≡ true → FitsSigned w64 z
 fits_from (pos n) h = let l : n < 2 ^ 63 = ltb-true _ _ h in grind (arith, ints)
@@ -61,16 +64,12 @@ fits_from (negsuc n) h = let l : n < 2 ^ 63 = ltb-true _ _ h in grind (arith, in
 pub signed_ok : (z : ℤ) (text : List ℕ)
     → (IsNumeral 10 (without_leading_sign text) × FitsSigned w64 (signed_digits_value 10 text))
     × (z ≡ signed_digits_value 10 text) → Some z ≡ signed_of_text text
-signed_ok z text h =
-    let t = and_from _ _ (numeral_true 10 (without_leading_sign text) h.0.0) (fits_true _ h.0.1) in
-    rw t (ap Some h.1)
+signed_ok z text h = parsed 10 _ _ _ _ (fits_true _) h
 
 pub signed_err : (text : List ℕ)
     → (IsNumeral 10 (without_leading_sign text) × FitsSigned w64 (signed_digits_value 10 text) → ⊥)
     → None ≡ signed_of_text text
-signed_err text h =
-    decide _ _ (λ t. let s = and_parts _ _ t in h
-    (numeral_from 10 _ s.0, fits_from _ s.1))
+signed_err text h = not_parsed 10 _ _ _ (fits_from _) h
 
 pub signed_back : (x z : ℤ) (text : List ℕ) → x ≡ to_z w64 (of_z w64 z)
     → FitsSigned w64 (signed_digits_value 10 text) → z ≡ signed_digits_value 10 text → x ≡ z
@@ -83,19 +82,14 @@ pub integer_prefixed : (text rest : List ℕ) (n : ℕ) → text ≡ 48 ∷ 120 
 unfolding integer_of_text
 integer_prefixed text rest n e h = let same : text ≡ 48 ∷ 120 ∷ rest = cc in ap integer_of_text same
 
-eq_from : (a b : ℕ) → (a == b) ≡ true → a ≡ b
-eq_from a b h = grind (arith, nat_tests)
-
-cons_same : (a b : ℕ) (rest : List ℕ) → a ≡ 48 → b ≡ 120 → a ∷ b ∷ rest ≡ 48 ∷ 120 ∷ rest
-cons_same a b rest e h = cc
-
 unprefixed : (text : List ℕ) → ((rest : List ℕ) → text ≡ 48 ∷ 120 ∷ rest → ⊥)
     → has_prefix text ≡ false
 unprefixed [] h = refl
 unprefixed (a ∷ []) h = refl
-unprefixed (a ∷ b ∷ rest) h =
-    false_from_ne_true _ (λ t. let s = and_parts _ _ t in h rest
-    (cons_same a b _ (eq_from a 48 s.0) (eq_from b _ s.1)))
+unprefixed (a ∷ b ∷ rest) h = false_from_ne_true _ (λ t.
+    let s = and_parts (a == 48) _ t in
+    let first : a ≡ 48 = grind (arith, nat_tests) in
+    let second : b ≡ 120 = grind (arith, nat_tests) in h rest (cc))
 
 pub integer_plain : (text : List ℕ) → ((rest : List ℕ) → text ≡ 48 ∷ 120 ∷ rest → ⊥)
     → integer_of_text text ≡ or_else (signed_of_text text) (unsigned_of_text 10 text)
@@ -105,11 +99,14 @@ integer_plain text h = rw (unprefixed _ h) refl
 pub integer_signed : (text : List ℕ) (o : Option ℤ) (z : ℤ)
     → ((rest : List ℕ) → text ≡ 48 ∷ 120 ∷ rest → ⊥) → o ≡ signed_of_text text → o ≡ Some z
     → Some z ≡ integer_of_text text
-integer_signed text o z h e i =
-    sym (integer_plain _ h ∙ ap (λ o. or_else o (unsigned_of_text 10 text)) (sym e ∙ i))
+integer_signed text o z h e i = rw (integer_plain _ h, ← e, i) refl
 
 pub integer_unsigned : (text : List ℕ) (o r : Option ℤ)
     → ((rest : List ℕ) → text ≡ 48 ∷ 120 ∷ rest → ⊥) → o ≡ signed_of_text text → o ≡ None
     → r ≡ unsigned_of_text 10 text → r ≡ integer_of_text text
-integer_unsigned text o r h e i u =
-    u ∙ sym (integer_plain _ h ∙ ap (λ o. or_else o (unsigned_of_text 10 text)) (sym e ∙ i))
+integer_unsigned text o r h e i u = rw (integer_plain _ h, ← e, i) u
+
+-- a signed number's text, and an integer's
+pub ruleset signed_texts = (signed_ok, signed_err, signed_back)
+
+pub ruleset integer_texts = (integer_prefixed, integer_signed, integer_unsigned)

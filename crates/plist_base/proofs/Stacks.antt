@@ -1,5 +1,5 @@
 -- What fills a stack of wants, event by event.
-use Rattle.std.proofs.Common.{◌≡◌, ℕ, true, List, [], ◌∷◌, ◌++◌, Option, Some, None, map, refl, sym, ap, ◌∙◌, append_assoc, subst, option_and_then}
+use Rattle.std.proofs.Common.{◌≡◌, ℕ, true, List, [], ◌∷◌, ◌++◌, Option, Some, None, map, refl, ap, ◌∙◌, append_assoc, subst, option_and_then, rules}
 use Rattle.std.proofs.lemmas.List.{map-append}
 use Rattle.plist_base.specs.Events.{PlainEvent, StartArray, StartDictionary, EndCollection, Single}
 use Rattle.plist_base.specs.Trees as trees
@@ -11,43 +11,27 @@ abbrev pub Stack : Type 0
 Stack = List Want
 
 pub unhinted-twice : (e : PlainEvent) → unhinted (unhinted e) ≡ unhinted e
-unhinted-twice (StartArray n) = refl
-unhinted-twice (StartDictionary n) = refl
-unhinted-twice EndCollection = refl
-unhinted-twice (Single x) = refl
+unhinted-twice e = search rules
 
 pub all-unhinted-twice : (es : List PlainEvent) → map unhinted (map unhinted es) ≡ map unhinted es
 all-unhinted-twice [] = refl
-all-unhinted-twice (e ∷ es) =
-    ap (λ d. d ∷ map unhinted (map unhinted es)) (unhinted-twice e)
-    ∙ ap (λ l. unhinted e ∷ l) (all-unhinted-twice es)
+all-unhinted-twice (e ∷ es) = rw (unhinted-twice e, all-unhinted-twice es) refl
 
 mutual
   -- a tree's events without their lengths
   pub shape-is : (t : Tree) → map unhinted (bracketing t) ≡ shape t
   shape-is (Leaf s) = refl
-  shape-is (Array ts) =
-      ap (λ l. StartArray None ∷ l) (map-append unhinted (bracketing_of_items ts)
-      (EndCollection ∷ []) ∙ ap (λ l. l ++ EndCollection ∷ []) (shape-of-items-is ts))
-  shape-is (Dictionary ms) =
-      ap (λ l. StartDictionary None ∷ l)
-      (map-append unhinted (bracketing_of_pairs ms) (EndCollection ∷ [])
-      ∙ ap (λ l. l ++ EndCollection ∷ []) (shape-of-pairs-is ms))
+  shape-is (Array ts) = rw (map-append unhinted, shape-of-items-is ts) refl
+  shape-is (Dictionary ms) = rw (map-append unhinted, shape-of-pairs-is ms) refl
 
   pub shape-of-items-is : (ts : Trees) → map unhinted (bracketing_of_items ts) ≡ shape_of_items ts
   shape-of-items-is NoTrees = refl
-  shape-of-items-is (TreeAnd t ts) =
-      map-append unhinted (bracketing t) (bracketing_of_items ts)
-      ∙ ap (λ l. l ++ map unhinted (bracketing_of_items ts)) (shape-is t)
-      ∙ ap (λ l. shape t ++ l) (shape-of-items-is ts)
+  shape-of-items-is (TreeAnd t ts) = rw (map-append unhinted, shape-is t, shape-of-items-is ts) refl
 
   pub shape-of-pairs-is : (ms : Members) → map unhinted (bracketing_of_pairs ms) ≡ shape_of_pairs ms
   shape-of-pairs-is NoMembers = refl
-  shape-of-pairs-is (MemberAnd k t ms) =
-      ap (λ l. Single (trees.String k) ∷ l)
-      (map-append unhinted (bracketing t) (bracketing_of_pairs ms)
-      ∙ ap (λ l. l ++ map unhinted (bracketing_of_pairs ms)) (shape-is t)
-      ∙ ap (λ l. shape t ++ l) (shape-of-pairs-is ms))
+  shape-of-pairs-is (MemberAnd k t ms) = rw
+      (map-append unhinted, shape-is t, shape-of-pairs-is ms) refl
 
 -- the events give what is wanted, and nothing more
 abbrev pub Fills : Stack → List PlainEvent → Type 0
@@ -62,10 +46,7 @@ Fills (Pairs ∷ rest) es =
     × Fills rest left
 
 refill : {a b : Stack} (m : List PlainEvent) → Some a ≡ Some b → Fills b m → Fills a m
-refill {a} {b} m p f = subst (λ s. Fills s m) (same_stack a b p) f
-  where
-    same_stack : (a b : Stack) → Some a ≡ Some b → b ≡ a
-    same_stack a b p = cc
+refill {a} {b} m p f = let same : b ≡ a = cc in subst (λ s. Fills s m) same f
 
 no_stack : {A : Type 0} (b : Stack) → None ≡ Some b → A
 no_stack b e = cc
@@ -82,47 +63,22 @@ filling (Pairs ∷ s) =
 
 on_array : (s : Stack) (m : List PlainEvent) → Fills (Items ∷ s) m
     → Fills (OneValue ∷ s) (StartArray None ∷ m)
-on_array s m f = (
-  Array f.0,
-  f.1,
-  ap (λ l. StartArray None ∷ l)
-      (f.2 ∙ sym (append_assoc (shape_of_items f.0) (EndCollection ∷ []) f.1)),
-  f.3,
-)
+on_array s m f = (Array f.0, f.1, rw (f.2, append_assoc) refl, f.3)
 
 on_dictionary : (s : Stack) (m : List PlainEvent) → Fills (Pairs ∷ s) m
     → Fills (OneValue ∷ s) (StartDictionary None ∷ m)
-on_dictionary s m f = (
-  Dictionary f.0,
-  f.1,
-  ap (λ l. StartDictionary None ∷ l)
-      (f.2 ∙ sym (append_assoc (shape_of_pairs f.0) (EndCollection ∷ []) f.1)),
-  f.3,
-)
+on_dictionary s m f = (Dictionary f.0, f.1, rw (f.2, append_assoc) refl, f.3)
 
 -- a value before the other items
 on_item : (s : Stack) (m : List PlainEvent) → Fills (OneValue ∷ Items ∷ s) m → Fills (Items ∷ s) m
 on_item s m f =
-    let g = f.3 in (
-      TreeAnd f.0 g.0,
-      g.1,
-      f.2 ∙ ap (λ l. shape f.0 ++ l) g.2
-          ∙ sym (append_assoc (shape _) (shape_of_items _) (EndCollection ∷ g.1)),
-      g.3,
-    )
+    let g = f.3 in (TreeAnd f.0 g.0, g.1, rw (f.2, g.2, append_assoc) refl, g.3)
 
 -- a key and a value before the other pairs
 on_pair : (k : List ℕ) (s : Stack) (m : List PlainEvent) → Fills (OneValue ∷ Pairs ∷ s) m
     → Fills (Pairs ∷ s) (Single (trees.String k) ∷ m)
 on_pair k s m f =
-    let g = f.3 in (
-      MemberAnd k f.0 g.0,
-      g.1,
-      ap (λ l. Single (trees.String k) ∷ l)
-          (f.2 ∙ ap (λ l. shape f.0 ++ l) g.2
-          ∙ sym (append_assoc (shape _) (shape_of_pairs _) (EndCollection ∷ g.1))),
-      g.3,
-    )
+    let g = f.3 in (MemberAnd k f.0 g.0, g.1, rw (f.2, g.2, append_assoc) refl, g.3)
 
 on_value : (s : Stack) (e : PlainEvent) (t : Stack) (m : List PlainEvent)
     → step (OneValue ∷ s) e ≡ Some t → Fills t m → Fills (OneValue ∷ s) (unhinted e ∷ m)
@@ -131,24 +87,16 @@ on_value s (StartDictionary n) t m p f = on_dictionary s m (refill m p f)
 on_value s EndCollection t m p f = no_stack t p
 on_value s (Single x) t m p f = (Leaf x, m, refl, refill m p f)
 
-on_items : (s : Stack) (e : PlainEvent) (t : Stack) (m : List PlainEvent)
-    → step (Items ∷ s) e ≡ Some t → Fills t m → Fills (Items ∷ s) (unhinted e ∷ m)
-on_items s EndCollection t m p f = (NoTrees, m, refl, refill m p f)
-on_items s e t m p f = on_item s _ (on_value (Items ∷ s) e t m p f)
-
-on_pairs : (s : Stack) (e : PlainEvent) (t : Stack) (m : List PlainEvent)
-    → step (Pairs ∷ s) e ≡ Some t → Fills t m → Fills (Pairs ∷ s) (unhinted e ∷ m)
-on_pairs s EndCollection t m p f = (NoMembers, m, refl, refill m p f)
-on_pairs s (Single (trees.String k)) t m p f = on_pair k s m (refill m p f)
-on_pairs s e t m p f = no_stack t p
-
 -- what fills the stack after a step fills, with the event in front, the stack before it
 fill_back : (s : Stack) (e : PlainEvent) (t : Stack) (m : List PlainEvent) → step s e ≡ Some t
     → Fills t m → Fills s (unhinted e ∷ m)
 fill_back [] e t m p f = no_stack t p
 fill_back (OneValue ∷ s) e t m p f = on_value s e t m p f
-fill_back (Items ∷ s) e t m p f = on_items s e t m p f
-fill_back (Pairs ∷ s) e t m p f = on_pairs s e t m p f
+fill_back (Items ∷ s) EndCollection t m p f = (NoTrees, m, refl, refill m p f)
+fill_back (Items ∷ s) e t m p f = on_item s _ (on_value (Items ∷ s) e t m p f)
+fill_back (Pairs ∷ s) EndCollection t m p f = (NoMembers, m, refl, refill m p f)
+fill_back (Pairs ∷ s) (Single (trees.String k)) t m p f = on_pair k s m (refill m p f)
+fill_back (Pairs ∷ s) e t m p f = no_stack t p
 
 run_along : (o : Option Stack) (s : Stack) (e : PlainEvent) (t : Stack) (es more : List PlainEvent)
     → step s e ≡ o → option_and_then (λ u. steps u es) o ≡ Some t
@@ -177,23 +125,20 @@ mutual
       → steps (OneValue ∷ s) (bracketing t ++ es) ≡ steps s es
   steps_tree (Leaf x) s es = refl
   steps_tree (Array ts) s es =
-      ap (steps (Items ∷ s)) (append_assoc (bracketing_of_items ts) (EndCollection ∷ []) es)
-      ∙ steps_items ts s (EndCollection ∷ es)
+      ap (steps (Items ∷ s)) (append_assoc (bracketing_of_items ts) _ es) ∙ steps_items ts s _
   steps_tree (Dictionary ms) s es =
-      ap (steps (Pairs ∷ s)) (append_assoc (bracketing_of_pairs ms) (EndCollection ∷ []) es)
-      ∙ steps_pairs ms s (EndCollection ∷ es)
+      ap (steps (Pairs ∷ s)) (append_assoc (bracketing_of_pairs ms) _ es) ∙ steps_pairs ms s _
 
   pub steps_items : (ts : Trees) (s : Stack) (es : List PlainEvent)
       → steps (Items ∷ s) (bracketing_of_items ts ++ es) ≡ steps (Items ∷ s) es
   steps_items NoTrees s es = refl
   steps_items (TreeAnd t ts) s es =
-      ap (steps (Items ∷ s)) (append_assoc (bracketing t) (bracketing_of_items ts) es)
-      ∙ item_begins t s (bracketing_of_items ts ++ es)
-      ∙ steps_tree t (Items ∷ s) (bracketing_of_items ts ++ es) ∙ steps_items ts s es
+      ap (steps (Items ∷ s)) (append_assoc (bracketing t) _ es) ∙ item_begins t s _
+      ∙ steps_tree t (Items ∷ s) _ ∙ steps_items ts s es
 
   pub steps_pairs : (ms : Members) (s : Stack) (es : List PlainEvent)
       → steps (Pairs ∷ s) (bracketing_of_pairs ms ++ es) ≡ steps (Pairs ∷ s) es
   steps_pairs NoMembers s es = refl
   steps_pairs (MemberAnd k t ms) s es =
-      ap (steps (OneValue ∷ Pairs ∷ s)) (append_assoc (bracketing t) (bracketing_of_pairs ms) es)
-      ∙ steps_tree t (Pairs ∷ s) (bracketing_of_pairs ms ++ es) ∙ steps_pairs ms s es
+      ap (steps (OneValue ∷ Pairs ∷ s)) (append_assoc (bracketing t) _ es)
+      ∙ steps_tree t (Pairs ∷ s) _ ∙ steps_pairs ms s es

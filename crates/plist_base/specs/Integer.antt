@@ -9,14 +9,14 @@ abbrev pub whole : Number → ℤ
 whole (number.Negative z) = z
 whole (number.Unsigned n) = pos n
 
-abbrev pub number_of : ℤ → Number
-number_of (pos n) = number.Unsigned n
-number_of (negsuc n) = number.Negative (negsuc n)
+abbrev pub number_for : ℤ → Number
+number_for (pos n) = number.Unsigned n
+number_for (negsuc n) = number.Negative (negsuc n)
 
 -- the number in the one form that it has, within the bounds of an integer
 abbrev pub IsNumberOf : ℤ → Number → Type 0
 IsNumberOf z held =
-    (negsuc (2 ^ 63 - 1) ≤ℤ z) × (z <ℤ pos (2 ^ 64)) × (number_of z ≡ held)
+    (negsuc (2 ^ 63 - 1) ≤ℤ z) × (z <ℤ pos (2 ^ 64)) × (number_for z ≡ held)
 
 -- how two whole numbers stand to each other
 abbrev pub IsOrderOf : (left right : ℤ) → Ordering → Type 0

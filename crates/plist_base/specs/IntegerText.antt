@@ -1,5 +1,6 @@
 -- The whole number that a text spells: hexadecimal behind `0x`, or decimal.
-use Rattle.std.specs.Prelude.{◌≡◌, ℕ, ◌-◌, ◌^◌, Bool, false, cond, ◌&&◌, ◌==◌, nat_lt, List, [], ◌∷◌, length, ℤ, pos, negsuc, Option, None, Some, Result, refl, codes, MatchResult}
+use Prim.Native.String.{String}
+use Rattle.std.specs.Prelude.{map, ◌≡◌, ℕ, ◌-◌, ◌^◌, Bool, false, cond, ◌&&◌, ◌==◌, nat_lt, List, [], ◌∷◌, length, ℤ, pos, negsuc, Option, None, Some, Result, refl, codes, MatchResult}
 use Rattle.std.specs.List.{list_all}
 use Rattle.std.specs.Char.{is_digit}
 use Rattle.std.specs.Str.Parse.{digits_value, signed_digits_value, without_leading_plus, without_leading_sign}
@@ -57,58 +58,24 @@ SpellsInteger text answer =
 
 -- ---- worked examples
 
-greatest : integer_of_text (codes "18446744073709551615") ≡ Some (pos (2 ^ 64 - 1))
-unfolding integer_of_text
-greatest = refl
+-- each of these texts spells the number beside it, or none
+abbrev AreRead : List (String × Option ℤ) → Type 0
+AreRead rows = map (λ row. integer_of_text (codes row.0)) rows ≡ map (λ row. row.1) rows
 
-past_the_greatest : integer_of_text (codes "18446744073709551616") ≡ None
+worked : AreRead (
+    ("18446744073709551615", Some (pos (2 ^ 64 - 1)))
+    ∷ ("18446744073709551616", None)
+    ∷ ("-9223372036854775808", Some (negsuc (2 ^ 63 - 1)))
+    ∷ ("-9223372036854775809", None)
+    ∷ ("-1", Some (negsuc 0))
+    ∷ ("-0", Some (pos 0))
+    ∷ ("+5", Some (pos 5))
+    ∷ ("007", Some (pos 7))
+    ∷ ("0x0x10", Some (pos 16))
+    ∷ ("0x0xff", Some (pos 255))
+    ∷ ("0x+fF", Some (pos 255))
+    ∷ ("-0x1", None)
+    ∷ ("0x", None)
+    ∷ ("", None) ∷ [])
 unfolding integer_of_text
-past_the_greatest = refl
-
-least : integer_of_text (codes "-9223372036854775808") ≡ Some (negsuc (2 ^ 63 - 1))
-unfolding integer_of_text
-least = refl
-
-below_the_least : integer_of_text (codes "-9223372036854775809") ≡ None
-unfolding integer_of_text
-below_the_least = refl
-
-negative : integer_of_text (codes "-1") ≡ Some (negsuc 0)
-unfolding integer_of_text
-negative = refl
-
-negative_zero : integer_of_text (codes "-0") ≡ Some (pos 0)
-unfolding integer_of_text
-negative_zero = refl
-
-plus : integer_of_text (codes "+5") ≡ Some (pos 5)
-unfolding integer_of_text
-plus = refl
-
-leading_zeros : integer_of_text (codes "007") ≡ Some (pos 7)
-unfolding integer_of_text
-leading_zeros = refl
-
-every_prefix : integer_of_text (codes "0x0x10") ≡ Some (pos 16)
-unfolding integer_of_text
-every_prefix = refl
-
-hexadecimal : integer_of_text (codes "0x0xff") ≡ Some (pos 255)
-unfolding integer_of_text
-hexadecimal = refl
-
-hexadecimal_plus : integer_of_text (codes "0x+fF") ≡ Some (pos 255)
-unfolding integer_of_text
-hexadecimal_plus = refl
-
-sign_before_prefix : integer_of_text (codes "-0x1") ≡ None
-unfolding integer_of_text
-sign_before_prefix = refl
-
-no_digits : integer_of_text (codes "0x") ≡ None
-unfolding integer_of_text
-no_digits = refl
-
-empty : integer_of_text [] ≡ None
-unfolding integer_of_text
-empty = refl
+worked = refl

@@ -166,6 +166,7 @@ struct Small {
 
 impl Small {
     // `None` where it is 2^52 or more, infinite or no number.
+    #[tactic(auto, using(crate::proofs::DateShifts::scale_is))]
     fn from_bits(bits: u64) -> Option<Small>
         ensures range { IsNoneFrom 1075 (real_exponent bits) result }
         ensures mantissa { IfSome result (λ small. small.mantissa ≡ real_mantissa bits) }
@@ -182,6 +183,7 @@ impl Small {
     }
 
     // Its whole seconds.
+    #[tactic(auto, using(crate::proofs::DateShifts::whole_parts))]
     fn whole(self) -> u64
         ensures is { result ≡ whole_seconds self.mantissa self.scale }
         ensures small { result < 2 ^ 52 }
@@ -195,6 +197,7 @@ impl Small {
     }
 
     // Whether something is left behind them.
+    #[tactic(auto, using(crate::proofs::DateShifts::left_parts))]
     fn is_left(self) -> bool
         ensures { result ≡ not (parts_left self.mantissa self.scale == 0) }
     {
@@ -208,6 +211,7 @@ impl Small {
 }
 
 // Whether the value lies between two seconds. One of 2^52 or more doesn't.
+#[tactic(auto, using(crate::proofs::DateShifts::fraction_parts))]
 fn is_fractional(bits: u64) -> bool
     ensures { result ≡ has_fraction bits }
 {
@@ -239,6 +243,7 @@ fn in_range(second: i64) -> Option<i64>
 }
 
 // The greatest second that isn't above the value.
+#[tactic(auto, using(crate::proofs::DateShifts::second_far))]
 fn second_of_bits(bits: u64) -> Option<i64>
     ensures { result ≡ second_of_bits bits }
 {
@@ -248,6 +253,7 @@ fn second_of_bits(bits: u64) -> Option<i64>
     }
 }
 
+#[tactic(auto, using(crate::proofs::DateEncoding::encoded, crate::proofs::DateEncoding::sum_is))]
 fn bits_of_whole(number: u64) -> u64
     requires { number < 2 ^ 53 }
     ensures is { result ≡ whole_bits number }

@@ -29,7 +29,7 @@ pub struct Integer {
 impl Model for Integer {
     ghost use Rattle.std.specs.Prelude.{ℤ};
     ghost use Rattle.std.proofs.Common.{ap};
-    ghost use Rattle.plist_base.specs.Integer.{IsNumberOf, number_of, whole};
+    ghost use Rattle.plist_base.specs.Integer.{IsNumberOf, number_for, whole};
 
     ghost Value = { ℤ };
 
@@ -37,7 +37,7 @@ impl Model for Integer {
 
     ghost invariant = { λ a. IsNumberOf (whole a.number) a.number };
 
-    ghost inverse = { λ z. record { number = number_of z } };
+    ghost inverse = { λ z. record { number = number_for z } };
 
     ghost inverse_ok = { λ a kept. ap (λ n. record { number = n }) kept.2 };
 }
@@ -239,6 +239,7 @@ impl fmt::Display for InvalidInteger {
 impl std::error::Error for InvalidInteger {}
 
 // A signed decimal number, with an optional sign.
+#[tactic(auto, using(crate::proofs::Numerals::signed_texts))]
 fn signed(text: &str) -> Option<Integer>
     ensures { result ≡ signed_of_text text.now }
 {
@@ -249,6 +250,7 @@ fn signed(text: &str) -> Option<Integer>
 }
 
 // An unsigned number, with an optional plus.
+#[tactic(auto, using(crate::proofs::Numerals::unsigned_ok, crate::proofs::Numerals::unsigned_err))]
 fn unsigned(text: &str, radix: u32) -> Option<Integer>
     requires radix { (2 ≤ radix) × (radix ≤ 36) }
     ensures { result ≡ unsigned_of_text radix text.now }
@@ -271,6 +273,7 @@ fn strip_prefixes(text: &str) -> &str
 }
 
 // The number that a text spells.
+#[tactic(auto, using(crate::proofs::Numerals::integer_texts))]
 fn number_in(text: &str) -> Option<Integer>
     ensures { result ≡ integer_of_text text.now }
 {

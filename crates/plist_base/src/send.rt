@@ -52,6 +52,7 @@ pub fn flush<W: Write>(writer: &mut W) -> Result<(), Error>
 /// # Errors
 /// `Io` without an offset where a write fails or takes no byte, and a beginning of the bytes was
 /// sent; or where the flush fails, and all of them were.
+#[tactic(auto, using(crate::proofs::Fronts::front_whole))]
 pub fn send_whole<W: Write>(writer: &mut W, bytes: &[u8]) -> Result<(), Error>
     ensures sent { OnOk result (Appends (W.contents writer.old) (W.contents writer.new) bytes.now) }
     ensures fault { OnlyDevice result }

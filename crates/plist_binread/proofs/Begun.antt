@@ -1,5 +1,5 @@
 -- The first item of a file.
-use Rattle.std.proofs.Common.{◌≡◌, ℕ, suc, ◌<◌, ◌≤◌, ◌-◌, get_or, replicate, List, [], ◌∷◌, ◌++◌, length, take, reverse, inl, inr, Option, Result, Ok, Err, IfSome, MatchResult, refl, ap, sym, ◌∙◌, arith, append-nil}
+use Rattle.std.proofs.Common.{◌≡◌, ℕ, suc, ◌<◌, ◌≤◌, ◌-◌, get_or, replicate, List, [], ◌∷◌, ◌++◌, length, reverse, inl, inr, Option, Result, Ok, Err, IfSome, MatchResult, refl, ap, sym, ◌∙◌, arith, append-nil}
 use Rattle.std.specs.Prelude.{⊤}
 use Rattle.std.specs.List.{slice_get}
 use Rattle.std.proofs.lemmas.Bool.{cases_lt}
@@ -43,7 +43,7 @@ unfolding_owed before [] width at i =
     (slice_get-beyond before [] width i (omega arith))) (omega arith)
 unfolding_owed before (p ∷ places) width at i = elim (cases_lt i (length (p ∷ places))) [
   | inl low ↦ rw (items_step (table_of before width (p ∷ places)) (length places) [] at i _
-      (slice_get-within before (p ∷ places) width i low) refl) (owed_alone _ _ _)
+      (slice_get-within before (p ∷ places) _ i low) refl) (owed_alone _ _ _)
   | inr high ↦ rw (items_beyond (table_of before width (p ∷ places)) (suc (length places)) [] at i
       (slice_get-beyond before (p ∷ places) width i high)) (omega arith)
 ]
@@ -52,11 +52,11 @@ unfolding_owed before (p ∷ places) width at i = elim (cases_lt i (length (p �
 owed_with : (bytes : List ℕ) (head : Result Head Fault) → IsOwed (items_with bytes head)
 owed_with bytes (Err fault) = omega arith
 owed_with bytes (Ok head) =
-    unfolding_owed (take head.trailer bytes) head.places head.reference_width head.trailer head.root
+    unfolding_owed _ _ _ _ _
 
 owed_file : (bytes : List ℕ) → IsOwed (items_of_file bytes)
 unfolding items_of_file
-owed_file bytes = owed_with bytes (head_of bytes)
+owed_file bytes = owed_with _ _
 
 -- the fault of a head is the file's one item
 file_refused : (bytes : List ℕ) (fault : Fault) → head_of bytes ≡ Err fault

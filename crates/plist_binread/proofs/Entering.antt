@@ -57,9 +57,9 @@ module _ (known : Option (List ℕ)) (bounds : Bounds) (tags contents : List ℕ
       → single (cached (get_or tags number 0) (get_or contents number 0)) ≡ Some told
       → IfSome known (λ bytes. EnteredTold bytes bounds tags n fs number told fs)
   known_recalled n number told depth o k h free some is = IfSome_then known k (λ bytes k at.
-      pays_scalar (entries_of bytes bounds) tags (as_many bytes bounds tags contents fs k) n fs at
-      number (entry_of bytes bounds number) depth o h
-      (entry_there bytes bounds tags contents fs k number h) (sym (o.marks number h) ∙ free) told
+      pays_scalar _ _ (as_many _ _ _ _ fs k) n fs at
+      number (entry_of _ bounds _) depth o h
+      (entry_there _ _ _ _ fs k _ h) (sym (o.marks number h) ∙ free) _
       (ap single (held_scalar bytes bounds tags contents fs k number h some) ∙ is))
 
   pub known_lent : (number place : ℕ) (seen : List ℕ) (told : PlainEvent) (lent : Lent) → Knows
@@ -101,14 +101,14 @@ module _ (known : Option (List ℕ)) (bounds : Bounds) (tags contents : List ℕ
       → slice_get (entries_of bytes bounds) number ≡ Some entry → IsLentAs entry.object told lent
       → P bytes bounds × Q bytes bounds)
       → IfSome known (λ bytes. P bytes bounds × Q bytes bounds)
-  known_gains number told lent P Q k there gains = IfSome-both known k there (λ bytes k there.
-      gains bytes bounds (entry_of bytes bounds number) k there.0 there.1)
+  known_gains number told lent P Q k there gains = IfSome-both _ k there (λ bytes k there.
+      gains _ bounds (entry_of bytes bounds number) k there.0 there.1)
 
 pub known_small : (known : Option (List ℕ)) (bounds : Bounds) (number : ℕ) (told : PlainEvent)
     (lent : Lent) (X : Type 0) → IfSome known (λ bytes. LentAt bytes bounds number told lent)
     → ((object : Object) → IsLentAs object told lent → X) → IfSome known (λ bytes. X)
 known_small known bounds number told lent X there kept =
-    IfSome_then known there (λ bytes there. kept _ there.1)
+    IfSome_then _ there (λ bytes there. kept _ there.1)
 
 -- ---- a child that is entered
 

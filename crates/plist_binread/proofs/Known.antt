@@ -5,7 +5,7 @@ use Rattle.std.specs.List.{slice_get}
 use Rattle.std.proofs.lemmas.Bool.Decides.{eqb_tells, nat_tests}
 use Rattle.std.proofs.lemmas.List.{get_or-set_same, get_or-set_other}
 use Rattle.plist_base.specs.declared.error.Error.{Error}
-use Rattle.plist_base.specs.Faults.{Fault, FaultKind, OutOfMemory, ObjectReferenceTooLarge, RecursiveObject, MatchFault, kind_of, error_kind_of, fault_of, fault_at, fault_nowhere}
+use Rattle.plist_base.specs.Faults.{Fault, FaultKind, OutOfMemory, ObjectReferenceTooLarge, RecursiveObject, MatchFault, fault_of, fault_at, fault_nowhere}
 use Rattle.plist_base.specs.Events.{PlainEvent, Single, Item}
 use Rattle.plist_base.specs.Trees.{Scalar}
 use Rattle.plist_base.proofs.Refusals.{MatchFault-at, MatchFault-weaker}
@@ -56,7 +56,7 @@ from_scalar : (b : Bool) (scalar : Option Scalar) (content : ℕ) (entry : Optio
 from_scalar true scalar content entry event b is h = absurd (cc)
 from_scalar false None content entry event b is h = absurd (cc)
 from_scalar false (Some s) content entry event b is h =
-    sym (unsingle-single (scalar_at entry)) ∙ ap unsingle (h ∙ sym is)
+    sym (unsingle-single _) ∙ ap unsingle (h ∙ sym is)
 
 module _ (bytes : List ℕ) (bounds : Bounds) where
   abbrev table : List Entry
@@ -73,12 +73,12 @@ module _ (bytes : List ℕ) (bounds : Bounds) where
 
   pub length-entries : length table ≡ length (places_of bytes)
   length-entries =
-      length-table_of (take bounds.trailer bytes) (places_of bytes) bounds.reference_width
+      length-table_of _ _ _
 
   pub found : (number : ℕ) → number < length (places_of bytes)
       → slice_get table number ≡ Some (entry_of number)
   found number h =
-      slice_get-within (take bounds.trailer bytes) (places_of bytes) bounds.reference_width number h
+      slice_get-within _ _ _ _ h
 
   module _ (tags contents : List ℕ) (fs : List Frame) (k : IsKnown bytes bounds tags contents fs)
     where
@@ -87,12 +87,12 @@ module _ (bytes : List ℕ) (bounds : Bounds) where
 
       pub entry_there : (number : ℕ) → number < length tags
           → slice_get table number ≡ Some (entry_of number)
-      entry_there number h = found number (rw k.size h)
+      entry_there number h = found _ (rw k.size h)
 
       -- an object that isn't cached is at the place that is held
       pub held_place : (number : ℕ) → number < length tags → unmarked (get_or tags number 0) ≡ 0
           → get_or contents number 0 ≡ place_at (slice_get table number)
-      held_place number h none = rw none at (k.held number h)
+      held_place number h none = rw none at (k.held _ h)
 
       -- and one that is cached is the scalar that is held
       pub held_scalar : (number : ℕ) → number < length tags → 0 < unmarked (get_or tags number 0)
@@ -100,8 +100,8 @@ module _ (bytes : List ℕ) (bounds : Bounds) where
           ≡ cached (get_or tags number 0) (get_or contents number 0)
       held_scalar number h some =
           sym (ap scalar_at (entry_there number h))
-          ∙ to_scalar _ _ (get_or contents number 0) _
-          (not_zero (unmarked (get_or tags number 0)) some) (k.held number h)
+          ∙ to_scalar _ _ _ _
+          (not_zero _ some) (k.held number h)
 
       -- one more object is open
       pub known_opened : (new : List ℕ) (f : Frame) (start : PlainEvent) (entry : Entry)
@@ -131,11 +131,9 @@ module _ (bytes : List ℕ) (bounds : Bounds) where
         where
           here : IsHeld (slice_get table number) (get_or new number 0)
               (get_or (slice_set contents number content) number 0)
-          here = from_scalar _ _ (get_or (slice_set contents number content) number 0) _ event
-              (ap (λ t. nat_eq t 0) m.here ∙ not_zero tag some)
-              (ap (λ t. single (scalar_of t (get_or (slice_set contents number content) number 0)))
-              m.here ∙ ap (λ c. single (scalar_of tag c))
-              (get_or-set_same contents number content 0 (rw same h)) ∙ packs)
+          here = from_scalar _ _ _ _ _
+              (cc (not_zero tag some))
+              (cc (get_or-set_same contents number content 0 (rw same h)))
               is
 
           held : (q : ℕ) → q < length tags
@@ -163,7 +161,7 @@ module _ (bytes : List ℕ) (bounds : Bounds) where
             → unfolding_of table (length tags - length fs) (path_of fs) at number
             ≡ Err (record { kind = kind; offset = offset }) ∷ [] → Explains (until_fault before) e
         explained kind offset e is inside only =
-            MatchFault-at (kind_of (error_kind_of e)) kind _ _ _ (ap (λ (f : Fault). f.kind) is)
+            MatchFault-at _ _ _ _ _ (ap (λ (f : Fault). f.kind) is)
             (MatchFault-weaker kind (λ none. absurd none) (λ none. absurd none)
             (λ _. ap (λ items. until_fault (items ++ owed_by table fs))
             (only ∙ ap (λ f. Err f ∷ []) (sym is))) inside)
@@ -172,10 +170,10 @@ module _ (bytes : List ℕ) (bounds : Bounds) where
         pub unfound_beyond : (e : Error) → length tags ≤ number
             → fault_of e ≡ fault_at ObjectReferenceTooLarge at → Explains (until_fault before) e
         unfound_beyond e h is =
-            explained ObjectReferenceTooLarge (Some at) e is tt
-            (items_beyond table (length tags - length fs) (path_of fs) at number
-            (slice_get-beyond (take bounds.trailer bytes) (places_of bytes) bounds.reference_width
-            number (rw k.size h)))
+            explained _ _ e is tt
+            (items_beyond _ _ _ at number
+            (slice_get-beyond _ (places_of _) _
+            _ (rw k.size h)))
 
         -- it is open
         pub unfound_open : (e : Error) → number < length tags
@@ -183,12 +181,12 @@ module _ (bytes : List ℕ) (bounds : Bounds) where
             → fault_of e ≡ fault_at RecursiveObject (get_or contents number 0)
             → Explains (until_fault before) e
         unfound_open e h marked is =
-            explained RecursiveObject (Some (get_or contents number 0)) e is tt
-            (items_open table (length tags - length fs) (path_of fs) at number (entry_of number)
-            (entry_there number h) (sym (o.marks number h) ∙ marked)
+            explained _ _ e is tt
+            (items_open _ _ _ at number (entry_of _)
+            (entry_there _ h) (cc (o.marks number h))
             ∙ ap (λ p. Err (fault_at RecursiveObject p) ∷ [])
-            (sym (held_place number h (o.uncached number marked)
-            ∙ ap place_at (entry_there number h))))
+            (sym (held_place _ h (o.uncached _ marked)
+            ∙ ap place_at (entry_there _ h))))
 
         -- memory was wanted for the scalar that is held
         pub unfound_memory : (e : Error) → number < length tags
@@ -197,7 +195,7 @@ module _ (bytes : List ℕ) (bounds : Bounds) where
             → MayWantMemory (cached (get_or tags number 0) (get_or contents number 0))
             → Explains (until_fault before) e
         unfound_memory e h free some memory wanted =
-            pays_refused table tags as_many (length fs) fs at number (entry_of number) refl o h
+            pays_refused _ _ as_many _ fs at number _ refl o h
             (entry_there number h) (sym (o.marks number h) ∙ free) e
             (refused_cached (entry_of number).object (entry_of number).place e _ memory
             (held_scalar number h some)
@@ -226,8 +224,11 @@ pub place_is : (bytes : List ℕ) (bounds : Bounds) (tags contents : List ℕ) (
     → (unmarked (get_or tags number 0) ≡ 0) × (place ≡ get_or contents number 0)
     → place ≡ (entry_of bytes bounds number).place
 place_is bytes bounds tags contents fs k number place h is =
-    is.1 ∙ held_place bytes bounds tags contents fs k number h is.0
-    ∙ ap place_at (entry_there bytes bounds tags contents fs k number h)
+    cc (
+      held_place bytes bounds tags contents fs k number h is.0,
+      entry_there bytes bounds tags
+          contents fs k number h,
+    )
 
 pub known_refused : (known : Option (List ℕ)) (bounds : Bounds) (tags contents : List ℕ)
     (fs : List Frame) (n at number place : ℕ) (e : Error) → n ≡ length fs → IsOpen tags fs

@@ -14,7 +14,7 @@ use Rattle.plist_binread.specs.Packed.{unmarked}
 use Rattle.plist_binread.specs.Unfolding.{until_fault}
 use Rattle.plist_binread.specs.Debt.{place_at, children_at, IsKnown, entries_of, owed_by, Explains}
 use Rattle.plist_binread.specs.Turning.{ReadsChild, Turns}
-use Rattle.plist_binread.proofs.Known.{entry_of, entry_there, held_place}
+use Rattle.plist_binread.proofs.Known.{entry_there, held_place}
 use Rattle.std.proofs.lemmas.Option.{IfSome_then}
 use Rattle.plist_binread.proofs.OverKnown.{IfSome-both}
 
@@ -32,7 +32,7 @@ pub known_turned : (known : Option (List ℕ)) (bounds : Bounds) (tags new conte
     → Turned bytes bounds new others fs turn gs)
     → IfSome known (λ bytes. Turned bytes bounds new others fs turn gs)
 known_turned known bounds tags new contents others fs gs turn k turns =
-    IfSome_then known k (λ bytes k. turns bytes bounds k)
+    IfSome_then _ k (λ bytes k. turns _ _ k)
 
 -- the number that was read is that of the child
 pub child_is : (bytes : List ℕ) (bounds : Bounds) (tags contents : List ℕ) (fs gs : List Frame)
@@ -46,9 +46,8 @@ pub child_is : (bytes : List ℕ) (bounds : Bounds) (tags contents : List ℕ) (
     (λ error. IsIo (kind_of (error_kind_of error)))
 child_is bytes bounds tags contents fs gs object index h none turned answer reads =
     let k = turned.1 in
-    let there = entry_there bytes bounds tags contents gs k object h in
-    let place : get_or contents object 0
-    ≡ (entry_of bytes bounds object).place = held_place bytes bounds tags contents gs k object h
+    let there = entry_there _ _ _ _ gs k _ h in
+    let place = held_place _ _ _ _ gs k _ h
     none ∙ ap place_at there in
     rw there ((rw place at (reads k.within)) (rw there at turned.0.1))
 
@@ -64,8 +63,8 @@ module _ (known : Option (List ℕ)) (bounds : Bounds) (tags contents : List ℕ
   pub known_done : HasTurned Done → IfSome known (λ bytes.
       (owed_by (entries_of bytes bounds) fs ≡ []) × (owed_by (entries_of bytes bounds) gs ≡ []))
   known_done turned = IfSome_then known turned (λ bytes turned. (
-    ap (owed_by (entries_of bytes bounds)) turned.0.0,
-    ap (owed_by (entries_of bytes bounds)) turned.0.1,
+    ap (owed_by _) turned.0.0,
+    ap (owed_by _) turned.0.1,
   ))
 
   pub known_closed : HasTurned Closed → IfSome known (λ bytes.
@@ -81,7 +80,7 @@ module _ (known : Option (List ℕ)) (bounds : Bounds) (tags contents : List ℕ
       (drop (get_or contents object 0) (take bounds.trailer bytes))) index (Err e))
       → IfSome known (λ bytes. Explains (until_fault (owed_by (entries_of bytes bounds) fs)) e)
   known_child_failed object index e h none turned reads =
-      IfSome-both known turned reads (λ bytes turned reads.
+      IfSome-both _ turned reads (λ bytes turned reads.
       MatchFault-weaker (kind_of (error_kind_of e)) (λ _. turned.0.2) (λ none. absurd none)
       (λ none. absurd none) (child_is bytes bounds tags contents fs gs object index h none turned
       (Err e) reads))

@@ -30,18 +30,17 @@ pub lent_front : (bytes lent : List ℕ) (t p w : ℕ) → p + w ≤ t
     → lent ≡ take (length lent) (drop p bytes) → w ≤ length lent
     → drop p (take t bytes) ≡ take w lent ++ drop w (drop p (take t bytes))
 lent_front bytes lent t p w near is h =
-    sym (take-append-drop w (drop p (take t bytes)))
+    sym (take-append-drop w _)
     ∙ ap (λ ys. ys ++ drop w (drop p (take t bytes)))
-    (take-drop-take p w t bytes near ∙ sym (take-take w (length lent) (drop p bytes) h)
-    ∙ ap (take w) (sym is))
+    (cc (take-drop-take p w t bytes near, take-take w (length lent) (drop p bytes) h))
 
 pub known_front : (known : Option (List ℕ)) (lent found : List ℕ) (t p w : ℕ) → p + w ≤ t
     → w ≤ length lent → found ≡ take w lent → IfSome known (λ bytes. LiesAt bytes p lent)
     → IfSome known (λ bytes. t ≤ length bytes → (more : List ℕ)
     × (drop p (take t bytes) ≡ found ++ more))
 known_front known lent found t p w near h cut is = IfSome_then known is (λ bytes is fits. (
-  drop w (drop p (take t bytes)),
-  lent_front bytes lent t p w near is h
+  drop w _,
+  lent_front _ _ t p w near is h
       ∙ ap (λ ys. ys ++ drop w (drop p (take t bytes))) (sym cut),
 ))
 
@@ -51,11 +50,11 @@ pub known_seen : (known : Option (List ℕ)) (t w p : ℕ) (seen : List ℕ) (to
     → LendsWhole (t - p) (object_in w) seen told lent → IfSome known
     (λ bytes. t ≤ length bytes → IsLentAs (object_in w (drop p (take t bytes))) told lent)
 known_seen known t w p seen told lent near is means = IfSome_then known is (λ bytes is fits.
-    let cut = known_front (Some bytes) seen seen t p (length seen) near (omega arith)
-    (sym (take-length seen)) is fits in
-    let room : length (seen ++ cut.0) ≡ t - p = ap length (sym cut.1)
+    let cut = known_front (Some bytes) seen seen t p _ near (omega arith)
+    (sym (take-length _)) is fits in
+    let room = ap length (sym cut.1)
     ∙ length-drop p (take t bytes) ∙ ap (λ m. m - p) (length-take-le t bytes fits) in
-    rw cut.1 (means cut.0 room))
+    rw cut.1 (means _ room))
 
 -- an object that is refused where what was seen of it is refused
 pub known_refused : (known : Option (List ℕ)) (t w p : ℕ) (seen : List ℕ) (told : PlainEvent)
@@ -98,10 +97,10 @@ pub lent_slots : (w m count pairs start : ℕ) (seen rest behind more : List ℕ
     → length_in m (rest ++ more) ≡ Some (count, behind ++ more)
     → drop (length rest - length behind) rest ≡ behind → IsSlots w (seen ++ more) start pairs
 lent_slots w m count pairs start seen rest behind more has some is short at counted lies =
-    let whole : length seen ≡ suc (length rest) = ap length is in
+    let whole = ap length is in
     let next : start ≡ suc (length rest - length behind) = omega arith in
     let cut : drop start seen ≡ behind = rw (next, is) lies in
-    has w start (seen ++ more) (rest ++ more) some (omega (arith, length-append seen more))
+    has w start (seen ++ more) _ some (omega (arith, length-append seen more))
     (object_lent w m (seen ++ more) (rest ++ more) (ap (λ xs. xs ++ more) is))
     (counted ∙ ap (λ ys. Some (count, ys))
     (sym (drop-append-le start seen more (omega arith) ∙ ap (λ ys. ys ++ more) cut)))

@@ -1,6 +1,6 @@
 -- What limits make of one call.
-use Rattle.std.proofs.Common.{◌≡◌, ℕ, ◌+◌, Bool, true, false, cond, List, [], ◌∷◌, length, reverse, Option, None, Some, Ok, Err, IfSome, MatchBool, refl, sym, ap, ◌∙◌, subst, arith}
-use Rattle.std.specs.Prelude.{not, nat_le, ◌&&◌}
+use Rattle.std.proofs.Common.{◌≡◌, ℕ, Bool, true, false, cond, List, [], ◌∷◌, length, reverse, Option, None, Some, Ok, Err, IfSome, MatchBool, refl, sym, ap, ◌∙◌, arith}
+use Rattle.std.specs.Prelude.{not, ◌&&◌}
 use Rattle.std.specs.Option.{is_some}
 use Rattle.plist_base.specs.declared.error.Error.{Error}
 use Rattle.plist_base.specs.declared.limits.Limit.{Limit}
@@ -9,7 +9,7 @@ use Rattle.plist_base.specs.declared.limits.Limiter.{Limiter}
 use Rattle.plist_base.specs.Events.{PlainEvent, Item, StartArray, StartDictionary, EndCollection, Single}
 use Rattle.plist_base.specs.Trees.{Data, String}
 use Rattle.plist_base.specs.Faults.{FaultKind, Fault, LimitReached, MatchFault, fault_of, fault_nowhere, kind_of, error_kind_of}
-use Rattle.plist_base.specs.Limits.{AdmitsAny, RefusesAny, event_or_limit, has_room, level_behind, limit_at, limited_from, under, under_any}
+use Rattle.plist_base.specs.Limits.{AdmitsAny, RefusesAny, event_or_limit, under, under_any}
 use Rattle.plist_base.specs.Sources.{IsPlaceWithin}
 use Rattle.plist_binread.specs.BinaryReader.{has_room_in}
 use Rattle.plist_binread.specs.Telling.{TellsItem}
@@ -42,17 +42,17 @@ pub refused-other : (limiter : Option Limiter) (event : PlainEvent) (fault : Fau
     → RefusesAny limiter event fault → Z → MatchFault fault.kind X Y Z
 refused-other None event fault X Y Z r z = absurd r
 refused-other (Some limiter) event fault X Y Z r z =
-    subst (λ (f : Fault). MatchFault f.kind X Y Z) (sym r.1) z
+    rw r.1 z
 
 limit-given : (start end : ℕ) (limited : Bool) (fault : Fault) (limit : Limit) → limited ≡ true
     → fault ≡ fault_nowhere (LimitReached limit) → IsGivenWithin start end limited fault
 limit-given start end limited fault limit e is =
-    subst (λ f. IsGivenWithin start end limited f) (sym is) (record { placed = (e, refl) })
+    rw is (record { placed = (e, refl) })
 
 pub refused-given : (start end : ℕ) (limiter : Option Limiter) (event : PlainEvent) (fault : Fault)
     → RefusesAny limiter event fault → IsGivenWithin start end (is_some limiter) fault
 refused-given start end None event fault h = absurd h
-refused-given start end (Some limiter) event fault h = limit-given start end true fault h.0 refl h.1
+refused-given start end (Some limiter) event fault h = limit-given _ end _ _ h.0 refl h.1
 
 pub still-given : (start end : ℕ) (limited : Bool) (fault : Fault)
     → IsGivenWithin start end false fault → IsGivenWithin start end limited fault
@@ -89,8 +89,8 @@ owed-under : (limiter : Option Limiter) (items : List Item) → IsOwed items
 owed-under None items h = h
 owed-under (Some limiter) [] h = h
 owed-under (Some limiter) (Ok event ∷ items) h =
-    choice-owed (limit_at limiter.limits limiter.came limiter.level event) event
-    (limited_from limiter.limits (limiter.came + 1) (level_behind event limiter.level) items)
+    choice-owed _ _
+    _
 owed-under (Some limiter) (Err fault ∷ items) h = one-owed (Err fault) []
 
 event-wants : (event : PlainEvent) (items others : List Item) → WantsMemory (Ok event ∷ items)
@@ -103,7 +103,7 @@ event-wants event items others h = h
 
 choice-wants : (o : Option Limit) (event : PlainEvent) (items behind : List Item)
     → WantsMemory (Ok event ∷ items) → WantsMemory (event_or_limit o event behind)
-choice-wants None event items behind h = event-wants event items behind h
+choice-wants None event items behind h = event-wants _ _ _ h
 choice-wants (Some limit) event items behind h = tt
 
 wants-under : (limiter : Option Limiter) (items : List Item) → WantsMemory items
@@ -111,15 +111,15 @@ wants-under : (limiter : Option Limiter) (items : List Item) → WantsMemory ite
 wants-under None items h = h
 wants-under (Some limiter) [] h = h
 wants-under (Some limiter) (Ok event ∷ items) h =
-    choice-wants (limit_at limiter.limits limiter.came limiter.level event) event items
-    (limited_from limiter.limits (limiter.came + 1) (level_behind event limiter.level) items) h
+    choice-wants _ _ _
+    _ h
 wants-under (Some limiter) (Err fault ∷ items) h = h
 
 either-under : (new : Bool) (limiter : Option Limiter) (items : List Item)
     → MatchBool new (IsOwed items) (WantsMemory items)
     → MatchBool new (IsOwed (under_any limiter items)) (WantsMemory (under_any limiter items))
-either-under true limiter items h = owed-under limiter items h
-either-under false limiter items h = wants-under limiter items h
+either-under true limiter items h = owed-under _ _ h
+either-under false limiter items h = wants-under _ _ h
 
 module _ (new : Bool) (told : PlainEvent) where
   pub none-told : (known : Option (List ℕ)) (old now : Option Limiter)
@@ -128,7 +128,7 @@ module _ (new : Bool) (told : PlainEvent) where
       → IfSome known (λ bytes. TellsItem {A = Unit {0}} new (under_any old (before bytes)) None told
       (under_any now (after bytes)))
   none-told known old now before after h = IfSome_then known h (λ bytes h.
-      (ap (under_any old) h.0 ∙ none-under old, ap (under_any now) h.1 ∙ none-under now))
+      (cc (none-under old), cc (none-under now)))
 
   pub fault-told : (known : Option (List ℕ)) (old now : Option Limiter)
       (before after : List ℕ → List Item) (error : Error)
@@ -137,10 +137,10 @@ module _ (new : Bool) (told : PlainEvent) where
       → IfSome known (λ bytes. TellsItem {A = Unit {0}} new (under_any old (before bytes))
       (Some (Err error)) told (under_any now (after bytes)))
   fault-told known old now before after error h = IfSome_then known h (λ bytes h. (
-    ap (under_any now) h.0 ∙ none-under now,
+    cc (none-under now),
     MatchFault-weaker (kind_of (error_kind_of error))
         (owed-under old (before bytes)) (either-under new old (before bytes))
-        (λ b. ap (under_any old) b ∙ fault-under old (fault_of error)) h.1,
+        (λ b. ap (under_any old) b ∙ fault-under old _) h.1,
   ))
 
   pub event-told : (known : Option (List ℕ)) (old now : Option Limiter)
@@ -150,11 +150,11 @@ module _ (new : Bool) (told : PlainEvent) where
       → IfSome known (λ bytes. TellsItem {A = Unit {0}} new (under_any old (before bytes))
       (Some (Ok x)) told (under_any now (after bytes)))
   event-told known old now before after x a h =
-      IfSome_then known h (λ bytes h. ap (under_any old) h ∙ a (after bytes))
+      IfSome_then known h (λ bytes h. cc (a (after bytes)))
 
   limit-refused : (kind : FaultKind) (limit : Limit) (X Y Z : Type 0) → kind ≡ LimitReached limit
       → Z → MatchFault kind X Y Z
-  limit-refused kind limit X Y Z e z = subst (λ k. MatchFault k X Y Z) (sym e) z
+  limit-refused kind limit X Y Z e z = rw e z
 
   limit-item : (old now : Option Limiter) (before after : List Item) (error : Error)
       → RefusesAny old told (fault_of error) → before ≡ Ok told ∷ after
@@ -163,10 +163,10 @@ module _ (new : Bool) (told : PlainEvent) where
   limit-item None now before after error r h = absurd r
   limit-item (Some limiter) now before after error r h = (
     none-under now,
-    limit-refused (kind_of (error_kind_of error)) r.0 (IsOwed (under limiter before))
-        (MatchBool new (IsOwed (under limiter before)) (WantsMemory (under limiter before)))
-        (under limiter before ≡ Err (fault_of error) ∷ [])
-        (ap (λ (f : Fault). f.kind) r.1) (ap (under limiter) h ∙ r.2 after),
+    limit-refused _ r.0 _
+        _
+        _
+        (ap (λ (f : Fault). f.kind) r.1) (cc (r.2 after)),
   )
 
   pub limit-told : (known : Option (List ℕ)) (old now : Option Limiter)
@@ -177,7 +177,7 @@ module _ (new : Bool) (told : PlainEvent) where
       → IfSome known (λ bytes. TellsItem {A = Unit {0}} new (under_any old (before bytes))
       (Some (Err error)) told (under_any now []))
   limit-told known old now before after x error r h =
-      IfSome_then known h (λ bytes h. limit-item old now (before bytes) (after bytes) error r h)
+      IfSome_then _ h (λ bytes h. limit-item old now (before bytes) _ _ r h)
 
 -- an event that is told where there are no limits
 pub near-told : (known : Option (List ℕ)) (state : State) (bounds : Bounds) (fs gs : List Frame)
@@ -208,11 +208,11 @@ pub refused-closes : (limiter : Option Limiter) (closing : Bool) (told : PlainEv
     → (has_room_in limiter && closing) ≡ true → ⊥
 refused-closes None closing told fault r w h = absurd r
 refused-closes (Some limiter) closing told fault r w h =
-    let two = both (has_room limiter) closing h in
-    end-passes (nat_le limiter.limits.items limiter.came) [] fault two.0
+    let two = both _ _ h in
+    end-passes _ [] fault two.0
     (ap (λ e. under limiter (Ok e ∷ [])) (sym (w two.1)) ∙ r.2 [])
 
 -- the end comes where the walk's comes
 pub walk-closes : (limiter : Option Limiter) (closing : Bool)
     → (has_room_in limiter && closing) ≡ true → closing ≡ true
-walk-closes limiter closing h = (both (has_room_in limiter) closing h).1
+walk-closes limiter closing h = (both _ _ h).1

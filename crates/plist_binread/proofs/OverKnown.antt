@@ -5,10 +5,10 @@ use Rattle.std.proofs.Common.{Option, None, Some, IfSome}
 pub IfSome-all : {X : Type 0} (known : Option X) {P : X → Type 0} → ((bytes : X) → P bytes)
     → IfSome known P
 IfSome-all None f = tt
-IfSome-all (Some bytes) f = f bytes
+IfSome-all (Some bytes) f = f _
 
 -- what follows from two facts
 pub IfSome-both : {X : Type 0} (known : Option X) {P Q S : X → Type 0} → IfSome known P
     → IfSome known Q → ((bytes : X) → P bytes → Q bytes → S bytes) → IfSome known S
 IfSome-both None p q f = tt
-IfSome-both (Some bytes) p q f = f bytes p q
+IfSome-both (Some bytes) p q f = f _ p q

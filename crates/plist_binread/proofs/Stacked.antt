@@ -8,10 +8,10 @@ use Rattle.plist_binread.proofs.Turned.{next_path}
 
 -- the innermost one comes last, and first from inside outwards
 pub innermost_first : (fs : List Frame) (f : Frame) → reverse (fs ++ f ∷ []) ≡ f ∷ reverse fs
-innermost_first fs f = reverse-append fs (f ∷ [])
+innermost_first fs f = reverse-append fs _
 
 -- a child that is given back leaves the path as it is
 pub given_back_path : (tags : List ℕ) (fs : List Frame) → IsOpen tags fs
     → IsOpen tags (given_back fs)
 given_back_path tags [] o = o
-given_back_path tags (f ∷ fs) o = next_path tags f (f.next - 1) fs o
+given_back_path tags (f ∷ fs) o = next_path _ f _ fs o

@@ -1,5 +1,5 @@
 -- One call of a reader.
-use Rattle.std.proofs.Common.{◌≡◌, ℕ, ◌≤◌, arith, List, length, reverse, true, false, Option, None, Some, Result, Err, IfSome, MatchOption, refl, ap, sym}
+use Rattle.std.proofs.Common.{◌≡◌, ℕ, ◌≤◌, arith, List, length, reverse, true, Option, None, Some, Result, Err, IfSome, MatchOption, refl, ap, sym}
 use Rattle.std.proofs.lemmas.List.{length-reverse}
 use Rattle.plist_base.specs.declared.error.Error.{Error}
 use Rattle.plist_base.specs.Events.{PlainEvent}
@@ -21,14 +21,14 @@ use Rattle.plist_binread.proofs.OverKnown.{IfSome-all}
 
 -- no more collections are open than there are objects
 open_below : (tags : List ℕ) (fs : List Frame) → IsOpen tags (reverse fs) → length fs ≤ length tags
-open_below tags fs path = rw (← length-reverse fs) (IsOpen-length tags (reverse fs) path)
+open_below tags fs path = rw (← length-reverse fs) (IsOpen-length _ _ path)
 
 -- nor than the head of the file tells
 pub nested : (known : Option (List ℕ)) (tags : List ℕ) (fs : List Frame) → IsOpen tags (reverse fs)
     → IfSome known (λ bytes. length tags ≤ length (places_of bytes))
     → MatchOption known (length fs ≤ length tags) (λ bytes. length fs ≤ length (places_of bytes))
-nested None tags fs path bounded = open_below tags fs path
-nested (Some bytes) tags fs path bounded = omega (arith, open_below tags fs path)
+nested None tags fs path bounded = open_below _ fs path
+nested (Some bytes) tags fs path bounded = omega (arith, open_below _ fs path)
 
 -- what is known of a file is known with its head
 pub holds_head : (known : Option (List ℕ)) (bounds : Bounds) (tags contents : List ℕ)
@@ -91,21 +91,21 @@ module _ (known : Option (List ℕ)) (bounds : Bounds) (fs gs : List Frame) (tol
 -- no end comes first, or after the last item
 pub closes-fresh : (state : State) (fs : List Frame) → state ≡ Fresh → ends_next state fs ≡ true → ⊥
 closes-fresh state fs is e =
-    let no : ends_next state fs ≡ false = ap (λ s. ends_next s fs) is in absurd (cc)
+    let no = ap (λ s. ends_next s fs) is in absurd (cc)
 
 pub closes-ended : (state : State) (fs : List Frame) → state ≡ Ended → ends_next state fs ≡ true → ⊥
 closes-ended state fs is e =
-    let no : ends_next state fs ≡ false = ap (λ s. ends_next s fs) is in absurd (cc)
+    let no = ap (λ s. ends_next s fs) is in absurd (cc)
 
 pub walking-ended : (state : State) → state ≡ Ended → is_walking state ≡ true → ⊥
-walking-ended state is e = let no : is_walking state ≡ false = ap is_walking is in absurd (cc)
+walking-ended state is e = let no = ap is_walking is in absurd (cc)
 
 -- ---- what is cached then
 
 pub kept_fault : (known : Option (List ℕ)) (number : List ℕ → Option ℕ) (tags : List ℕ) (e : Error)
     (told : PlainEvent) → IfSome known
     (λ bytes. IsKeptTold {A = Unit {0}} (number bytes) (Some (Err e)) told tags)
-kept_fault known number tags e told = IfSome-all known (λ bytes. by_number (number bytes))
+kept_fault known number tags e told = IfSome-all _ (λ bytes. by_number (number _))
   where
     by_number : (n : Option ℕ) → IsKeptTold {A = Unit {0}} n (Some (Err e)) told tags
     by_number None = tt
@@ -114,7 +114,7 @@ kept_fault known number tags e told = IfSome-all known (λ bytes. by_number (num
 pub kept_end : (known : Option (List ℕ)) (number : List ℕ → Option ℕ) (tags : List ℕ)
     (told : PlainEvent) → IfSome known
     (λ bytes. IsKeptTold {A = Unit {0}} (number bytes) None told tags)
-kept_end known number tags told = IfSome-all known (λ bytes. by_number (number bytes))
+kept_end known number tags told = IfSome-all _ (λ bytes. by_number (number _))
   where
     by_number : (n : Option ℕ) → IsKeptTold {A = Unit {0}} n None told tags
     by_number None = tt

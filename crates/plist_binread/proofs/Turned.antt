@@ -9,13 +9,13 @@ use Rattle.plist_binread.specs.declared.frames.Frame.{Frame}
 use Rattle.plist_binread.specs.Packed.{Remarked}
 use Rattle.plist_binread.specs.Unfolding.{Entry, unfolding_of, until_fault}
 use Rattle.plist_binread.specs.declared.table.Bounds.{Bounds}
-use Rattle.plist_binread.specs.Debt.{path_of, IsOpen, IsKnown, children_at, place_at, entries_of, owed_by, IsOwed, next_number, steps, weight}
+use Rattle.plist_binread.specs.Debt.{path_of, IsOpen, IsKnown, children_at, place_at, entries_of, owed_by, IsOwed, next_number, walk_steps, walk_weight}
 use Rattle.plist_binread.specs.Turning.{closes, given_back}
 use Rattle.std.proofs.lemmas.List.{drop_all, get_or_default}
 
 -- frames that are the same from the innermost one on
 pub same_frames : (xs ys : List Frame) → reverse xs ≡ reverse ys → xs ≡ ys
-same_frames xs ys e = sym (reverse-reverse xs) ∙ ap reverse e ∙ reverse-reverse ys
+same_frames xs ys e = cc (reverse-reverse xs, reverse-reverse ys)
 
 -- the frame with another number of its next child
 abbrev pub with_next : Frame → ℕ → Frame
@@ -32,7 +32,7 @@ next_path tags f n fs o =
 
 -- the child that was taken is given back
 pub taken_back : (f : Frame) (below : List Frame) → given_back (after f ∷ below) ≡ f ∷ below
-taken_back f below = ap (λ n. with_next f n ∷ below) (plus_less f.next)
+taken_back f below = ap (λ n. with_next f n ∷ below) (plus_less _)
   where
     plus_less : (n : ℕ) → n + 1 - 1 ≡ n
     plus_less n = omega arith
@@ -41,9 +41,9 @@ child_flat : (step : ℕ → List Item) (xs : List ℕ) (more : List Item) (i x 
     → x ≡ get_or xs i x → flat_map step (drop i xs) ++ more ≡ step x
     ++ (flat_map step (drop (i + 1) xs) ++ more)
 child_flat step xs more i x h e =
-    let rest : drop i xs ≡ x ∷ drop (i + 1) xs = drop-cons xs i x h
+    let rest = drop-cons xs i x h
     ∙ ap (λ y. y ∷ drop (suc i) xs) (sym e) ∙ ap (λ j. x ∷ drop j xs) (sym (add-one i)) in
-    rw rest (append_assoc (step x) (flat_map step (drop (i + 1) xs)) more)
+    rw rest (append_assoc (step x) (flat_map _ (drop _ xs)) more)
 
 until_some : (items : List Item) (event : PlainEvent) (more : List Item)
     → IsOwed (until_fault (items ++ Ok event ∷ more))
@@ -71,14 +71,13 @@ module _ (bytes tags contents : List ℕ) (bounds : Bounds) (f : Frame) (fs : Li
   child_owed h = (
     (
       child_flat (λ c. unfolding_of table (length table - suc (length fs)) (f.object ∷ path_of fs)
-          (place_at (slice_get table f.object)) c) children (Ok EndCollection ∷ owed_by table fs)
-          f.next (get_or children f.next 0) (rw k.counts.0 h)
-          (get_or_default children f.next 0 _ (rw k.counts.0 h)),
+          (place_at (slice_get table f.object)) c) children _
+          _ _ (rw k.counts.0 h)
+          (get_or_default children _ 0 _ (rw k.counts.0 h)),
       rw k.counts.0 h,
-      until_some (flat_map (λ c. unfolding_of table (length table - suc (length fs))
-          (f.object ∷ path_of fs) (place_at (slice_get table f.object)) c) (drop f.next children))
-          EndCollection (owed_by table fs),
-      ap (λ b. cond b (Some (get_or children f.next 0)) None) (lt-ltb f.next f.count h),
+      until_some _
+          _ _,
+      ap (λ b. cond b (Some (get_or children f.next 0)) None) (lt-ltb _ _ h),
     ),
     record {
       head = k.head;
@@ -111,22 +110,22 @@ one_less : (l i s w : ℕ) → i < l → (l - i) * s + 1 + w ≡ (l - (i + 1)) *
 one_less l i s w h = let e : l - i ≡ suc (l - (i + 1)) = omega arith in rw e (omega arith)
 
 pub child_weight : (n : ℕ) (f : Frame) (fs : List Frame) → f.next < f.count
-    → weight n (f ∷ fs) ≡ weight n (after f ∷ fs) + steps (n - length (after f ∷ fs))
-child_weight n f fs h = one_less f.count f.next (steps (n - suc (length fs))) (weight n fs) h
+    → walk_weight n (f ∷ fs) ≡ walk_weight n (after f ∷ fs) + walk_steps (n - length (after f ∷ fs))
+child_weight n f fs h = one_less _ _ _ _ h
 
 pub closed_weight : (n : ℕ) (f : Frame) (fs : List Frame) → f.count ≤ f.next
-    → weight n (f ∷ fs) ≡ weight n fs + 1
+    → walk_weight n (f ∷ fs) ≡ walk_weight n fs + 1
 closed_weight n f fs h =
     let none : f.count - f.next ≡ 0 = omega arith in rw none (omega arith)
 
 -- nothing closes where nothing is open
 pub closes-none : (xs : List Frame) → xs ≡ [] → closes xs ≡ true → ⊥
-closes-none xs none e = let no : closes xs ≡ false = ap closes none in absurd (cc)
+closes-none xs none e = let no = ap closes none in absurd (cc)
 
 -- nor where a child is left
 pub closes-child : (xs : List Frame) (f : Frame) (below : List Frame) → xs ≡ f ∷ below
     → f.next < f.count → closes xs ≡ true → ⊥
 closes-child xs f below whole h e =
-    let no : closes (f ∷ below) ≡ false = ap not (lt-ltb f.next f.count h) in
-    let yes : closes (f ∷ below) ≡ true = sym (ap closes whole) ∙ e in
+    let no = ap not (lt-ltb _ _ h) in
+    let yes = sym (ap closes whole) ∙ e in
     absurd (cc)

@@ -7,14 +7,14 @@ use Rattle.plist_binread.specs.Debt.{IsOwed, places_of}
 use Rattle.plist_binread.specs.Told.{event_in}
 use Rattle.plist_binread.specs.Turning.{IsKeptTold, root_with}
 use Rattle.plist_binread.specs.Unfolding.{until_fault, items_of_file}
-use Rattle.plist_binread.specs.Walking.{IsWalkOf, objects_of, owed_in}
+use Rattle.plist_binread.specs.Walking.{IsWalkOf, walk_objects, owed_in}
 use Rattle.plist_binread.specs.declared.table.Bounds.{Bounds}
 use Rattle.plist_binread.specs.declared.told.Last.{Last}
 use Rattle.plist_binread.specs.declared.walk.Walk.{Walk}
 
 -- the walk has no more objects than the file
 abbrev pub IsBounded : Walk → List ℕ → Type 0
-IsBounded walk bytes = objects_of walk ≤ length (places_of bytes)
+IsBounded walk bytes = walk_objects walk ≤ length (places_of bytes)
 
 -- it is a walk over the file, where its bytes are known
 abbrev pub IsKnownWalk : (known : Option (List ℕ)) → Bounds → Walk → Type 0

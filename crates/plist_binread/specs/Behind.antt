@@ -5,7 +5,7 @@ use Rattle.plist_base.specs.declared.error.Error.{Error}
 use Rattle.plist_base.specs.Faults.{Fault, IsFromOutside, MatchFault, ObjectOffsetTooLarge, kind_of, error_kind_of, fault_of}
 use Rattle.plist_base.specs.declared.real.RealBits.TheVariants.{Four, Eight}
 use Rattle.plist_base.specs.Trees.{Data, Real, Uid}
-use Rattle.plist_binread.specs.Container.{number_at, number_of, numbers_of}
+use Rattle.plist_binread.specs.Container.{number_at, number_of, numbers_spelled}
 use Rattle.plist_binread.specs.Decoding.{children_in, Decodes, GrowsAt, IsRefusedAs}
 use Rattle.plist_binread.specs.Lent.{IsAsked, IsSlots}
 use Rattle.plist_binread.specs.Object.{Faulty, Object, Scalar, layout_of, length_in, meaning_counted, object_behind, object_in}
@@ -42,7 +42,7 @@ AreBytesAt place size bytes found = found.items ≡ take size (drop place bytes)
 abbrev pub AreNumbersAt : (place width count : ℕ) → List ℕ → Vec ℕ Global → Type 0
 AreNumbersAt place width count bytes numbers =
     place + count * width ≤ length bytes
-    → numbers.items ≡ numbers_of width (take (count * width) (drop place bytes))
+    → numbers.items ≡ numbers_spelled width (take (count * width) (drop place bytes))
 
 -- ---- what the content of an object of a fixed size means
 
@@ -52,12 +52,12 @@ short_real content = Scalar (Real (Four content))
 abbrev pub long_real : List ℕ → Object
 long_real content = Scalar (Real (Eight content))
 
-abbrev pub uid_in : List ℕ → Object
-uid_in content = Scalar (Uid (number_of content))
+abbrev pub uid_of_content : List ℕ → Object
+uid_of_content content = Scalar (Uid (number_of content))
 
 -- and that of data
-abbrev pub data_in : List ℕ → Object
-data_in content = Scalar (Data content)
+abbrev pub data_of_content : List ℕ → Object
+data_of_content content = Scalar (Data content)
 
 -- ---- an object whose marker was read
 
@@ -116,8 +116,8 @@ HasNoChildren marker =
     (width : ℕ) (rest : List ℕ) → children_in (object_with width marker rest) ≡ []
 
 -- the bytes from a place on, up to the trailer, begin with these
-abbrev pub BeginsWith : (known : Option (List ℕ)) → Bounds → (place : ℕ) → List ℕ → Type 0
-BeginsWith known bounds place lent = IfSome known (λ bytes. bounds.trailer ≤ length bytes
+abbrev pub BeginsThere : (known : Option (List ℕ)) → Bounds → (place : ℕ) → List ℕ → Type 0
+BeginsThere known bounds place lent = IfSome known (λ bytes. bounds.trailer ≤ length bytes
     → (more : List ℕ) × (drop place (take bounds.trailer bytes) ≡ lent ++ more))
 
 -- a child's number is found at hand

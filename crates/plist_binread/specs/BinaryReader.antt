@@ -19,7 +19,7 @@ use Rattle.plist_binread.specs.declared.reader.State.TheVariants.{Ended}
 use Rattle.plist_binread.specs.declared.frames.Frame.{Frame}
 use Rattle.plist_binread.specs.declared.counter.DecodeCounter.{Ghosts as CounterGhosts}
 use Rattle.plist_binread.specs.Debt.{IsOpen, still_owed, cached_count, places_of, AreBoundsOf, IsOwed, WantsMemory, steps_left}
-use Rattle.plist_binread.specs.Turning.{number_owed, IsKept, is_fresh, is_walking, ends_next}
+use Rattle.plist_binread.specs.Turning.{number_owed, IsCachedIfSmall, is_fresh, is_walking, ends_next}
 
 -- may one more event come?
 abbrev pub has_room_in : Option Limiter → Bool
@@ -128,7 +128,7 @@ module _ {R C : Type 0} {g : Ghosts R} {h : CounterGhosts C} where
 
   -- the object of this number is cached in a reader that gave this item, if that is small
   abbrev pub CachesItem : Option ℕ → Option (Result Event Error) → BinaryReader R C g h → Type 0
-  CachesItem number item reader = IsKept number item reader.walk.tags.items
+  CachesItem number item reader = IsCachedIfSmall number item reader.walk.tags.items
 
   -- the same of a reader
   abbrev pub KeepsWithin : (count : ℕ) → BinaryReader R C g h → Type 0

@@ -150,18 +150,19 @@ Explains before error =
 -- ---- the falling number
 
 -- more than the steps of a walk below an object, where `room` objects aren't on its path
-unfoldable pub steps : (room : ℕ) → ℕ
-steps zero = 1
-steps (suc room) = 2 + 2 ^ 64 * steps room
+unfoldable pub walk_steps : (room : ℕ) → ℕ
+walk_steps zero = 1
+walk_steps (suc room) = 2 + 2 ^ 64 * walk_steps room
 
-abbrev pub weight : (count : ℕ) → List Frame → ℕ
-weight count [] = 0
-weight count (frame ∷ below) =
-    (frame.count - frame.next) * steps (count - suc (length below)) + 1 + weight count below
+abbrev pub walk_weight : (count : ℕ) → List Frame → ℕ
+walk_weight count [] = 0
+walk_weight count (frame ∷ below) =
+    (frame.count - frame.next) * walk_steps (count - suc (length below)) + 1 + walk_weight count
+    below
 
 abbrev pub steps_left : State → (count : ℕ) → List Frame → ℕ
-steps_left Fresh count frames = steps (2 ^ 64) + 1
-steps_left Walking count frames = weight count (reverse frames)
+steps_left Fresh count frames = walk_steps (2 ^ 64) + 1
+steps_left Walking count frames = walk_weight count (reverse frames)
 steps_left Ended count frames = 0
 
 -- the number of the object whose item these frames owe first, or none where that is an end

@@ -49,8 +49,8 @@ slot_of pairs index =
     cond (nat_eq pairs 0) index (cond (nat_eq (index % 2) 0) (index / 2) (pairs + index / 2))
 
 -- where the reference of a child of the collection stands that was asked last
-abbrev pub place_of : Asked → (index width : ℕ) → ℕ
-place_of asked index width = asked.place + (asked.start + slot_of asked.pairs index * width)
+abbrev pub slot_place : Asked → (index width : ℕ) → ℕ
+slot_place asked index width = asked.place + (asked.start + slot_of asked.pairs index * width)
 
 -- the references of the children of the object at the front of these bytes stand from `start` on
 abbrev pub IsSlots : (width : ℕ) (object : List ℕ) (start pairs : ℕ) → Type 0

@@ -5,7 +5,7 @@ use Rattle.std.specs.Str.{IsUtf8}
 use Rattle.plist_base.specs.declared.error.Error.{Error}
 use Rattle.plist_base.specs.Events.{PlainEvent, Single}
 use Rattle.plist_base.specs.Trees.{String}
-use Rattle.plist_binread.specs.Container.{number_of, numbers_of}
+use Rattle.plist_binread.specs.Container.{number_of, numbers_spelled}
 use Rattle.plist_binread.specs.Decoding.{DecodesTold, single_in}
 use Rattle.plist_binread.specs.Behind.{object_at}
 use Rattle.plist_binread.specs.declared.table.Bounds.{Bounds}
@@ -73,11 +73,12 @@ LendsCounted marker size meaning rest told lent = (more : List ℕ) →
 
 abbrev pub array_with : (width marker : ℕ) → List ℕ → Object
 array_with width marker rest =
-    meaning_counted width (λ _ content. Array (numbers_of width content)) (length_in marker rest)
+    meaning_counted width (λ _ content. Array (numbers_spelled width content))
+    (length_in marker rest)
 
 abbrev pub pairs_with : (width marker : ℕ) → List ℕ → Object
 pairs_with width marker rest = meaning_counted (2 * width)
-    (λ count content. dictionary count (numbers_of width content)) (length_in marker rest)
+    (λ count content. dictionary count (numbers_spelled width content)) (length_in marker rest)
 
 -- a collection whose length isn't all there, or which doesn't end before the trailer
 abbrev pub RefusesCounted : (marker size room : ℕ) (rest : List ℕ) → Lent → Type 0

@@ -4,13 +4,13 @@ use Rattle.std.specs.List.{slice_get}
 use Rattle.plist_base.specs.declared.error.Error.{Error}
 use Rattle.plist_base.specs.Events.{PlainEvent, EndCollection}
 use Rattle.plist_binread.specs.Behind.{object_at}
-use Rattle.plist_binread.specs.Debt.{Explains, IsKnown, IsOpen, entries_of, next_number, owed_by, path_of, weight}
+use Rattle.plist_binread.specs.Debt.{Explains, IsKnown, IsOpen, entries_of, next_number, owed_by, path_of, walk_weight}
 use Rattle.plist_binread.specs.Lent.{EntersChild, IsKeptNear, IsLentAs, PaysAnswer, PaysNextTold, PaysTold}
 use Rattle.plist_binread.specs.Packed.{is_small_event, unmarked}
 use Rattle.plist_binread.specs.Told.{event_in}
 use Rattle.plist_binread.specs.Turning.{CanGiveBack, IsFound, IsKeptTold, Lightens, Turns, closes}
 use Rattle.plist_binread.specs.Unfolding.{Entry, unfolding_of, until_fault}
-use Rattle.plist_binread.specs.Walking.{IsWalkOf, objects_of, open_in, owed_entering, owed_in, weight_entering, weight_in}
+use Rattle.plist_binread.specs.Walking.{IsWalkOf, walk_objects, open_in, owed_entering, owed_in, weight_entering, weight_in}
 use Rattle.plist_binread.specs.declared.frames.Frame.{Frame}
 use Rattle.plist_binread.specs.declared.lent.Lent.{Lent}
 use Rattle.plist_binread.specs.declared.lent.Lent.TheVariants as lent
@@ -24,10 +24,10 @@ use Rattle.plist_binread.specs.Object.{Object}
 
 -- less is left to do than where an object was about to be entered, or than before a step
 abbrev pub IsLighterEntered : (old new : Walk) → Type 0
-IsLighterEntered old new = weight (objects_of old) (open_in new) < weight_entering old
+IsLighterEntered old new = walk_weight (walk_objects old) (open_in new) < weight_entering old
 
 abbrev pub IsLighter : (old new : Walk) → Type 0
-IsLighter old new = weight (objects_of old) (open_in new) < weight_in old
+IsLighter old new = walk_weight (walk_objects old) (open_in new) < weight_in old
 
 -- an item came of a walk that owed some, and less is left to do
 abbrev pub LightensNext : {A : Type 0} → (old : Walk) → Option (Result A Error) → (new : Walk)
@@ -54,8 +54,8 @@ TurnsWalk old turn new = (bytes : List ℕ) (bounds : Bounds) → IsWalkOf bytes
 abbrev pub LightensBy : (old : Walk) → Turn → (new : Walk) → Type 0
 LightensBy old turn new = (count : ℕ) → Lightens count (open_in old) turn (open_in new)
 
-abbrev pub GivesBack : (old : Walk) → Turn → (new : Walk) → Type 0
-GivesBack old turn new =
+abbrev pub TurnGivesBack : (old : Walk) → Turn → (new : Walk) → Type 0
+TurnGivesBack old turn new =
     CanGiveBack turn old.tags.items new.tags.items (open_in old) (open_in new)
 
 -- ---- what is looked up
@@ -139,7 +139,7 @@ abbrev pub Goes : {S : Type 0} → (S → Option (List ℕ)) → S → Bounds �
 Goes known source bounds at index old done last new =
     done ≡ true → IfSome (known source) (λ bytes.
     EntersChild {A = Unit {0}} (entries_of bytes bounds) (object_at bounds at bytes) at index
-    (objects_of old) (open_in old) (Ok (tt {0})) (event_in last) new.tags.items (open_in new))
+    (walk_objects old) (open_in old) (Ok (tt {0})) (event_in last) new.tags.items (open_in new))
 
 abbrev pub PaysNext : (known : Option (List ℕ)) → Bounds → (old : Walk) → (done : Bool) → Last
     → (new : Walk) → Type 0

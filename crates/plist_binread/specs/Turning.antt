@@ -16,7 +16,7 @@ use Rattle.plist_binread.specs.declared.reader.State.TheVariants.{Fresh, Walking
 use Rattle.plist_binread.specs.Object.{Object}
 use Rattle.plist_binread.specs.Unfolding.{Entry, unfolding_of, until_fault}
 use Rattle.plist_binread.specs.Decoding.{children_in}
-use Rattle.plist_binread.specs.Debt.{IsOwed, children_at, entries_of, next_number, owed_by, path_of, place_at, steps, weight}
+use Rattle.plist_binread.specs.Debt.{IsOwed, children_at, entries_of, next_number, owed_by, path_of, place_at, walk_steps, walk_weight}
 
 -- ---- what the innermost frame asks for
 
@@ -33,9 +33,9 @@ Turns table old (turn.Child object index) new =
 
 abbrev pub Lightens : (count : ℕ) → List Frame → Turn → List Frame → Type 0
 Lightens count old turn.Done new = Unit {0}
-Lightens count old turn.Closed new = weight count old ≡ weight count new + 1
+Lightens count old turn.Closed new = walk_weight count old ≡ walk_weight count new + 1
 Lightens count old (turn.Child object index) new =
-    weight count old ≡ weight count new + steps (count - length new)
+    walk_weight count old ≡ walk_weight count new + walk_steps (count - length new)
 
 -- the frames before the innermost one's last child was taken
 abbrev pub given_back : List Frame → List Frame
@@ -88,10 +88,10 @@ ReadsChild object index answer =
     (λ error. IsIo (kind_of (error_kind_of error)))
 
 -- a child that is asked for is one of an open object that isn't cached
-abbrev pub IsWithin : (tags : List ℕ) → Turn → Type 0
-IsWithin tags (turn.Child object index) =
+abbrev pub AsksWithin : (tags : List ℕ) → Turn → Type 0
+AsksWithin tags (turn.Child object index) =
     (object < length tags) × (unmarked (get_or tags object 0) ≡ 0)
-IsWithin tags _ = Unit {0}
+AsksWithin tags _ = Unit {0}
 
 -- ---- which object comes next
 
@@ -107,9 +107,9 @@ number_owed bytes Walking bounds frames = next_number (entries_of bytes bounds) 
 number_owed bytes Ended bounds frames = None
 
 -- the object is cached if the event that it gave is small
-abbrev pub IsKept : Option ℕ → Option (Result Event Error) → (tags : List ℕ) → Type 0
-IsKept None item tags = ⊤
-IsKept (Some number) item tags =
+abbrev pub IsCachedIfSmall : Option ℕ → Option (Result Event Error) → (tags : List ℕ) → Type 0
+IsCachedIfSmall None item tags = ⊤
+IsCachedIfSmall (Some number) item tags =
     MatchOption item ⊤ (λ answer. IfOk answer
     (λ event. is_small_event (event_of event) ≡ true → 0 < unmarked (get_or tags number 0)))
 

@@ -5,12 +5,12 @@ use Rattle.plist_base.specs.Events.{Item}
 use Rattle.plist_binread.specs.declared.table.Bounds.{Bounds}
 use Rattle.plist_binread.specs.declared.frames.Frame.{Frame}
 use Rattle.plist_binread.specs.declared.walk.Walk.{Walk}
-use Rattle.plist_binread.specs.Debt.{IsKnown, cached_count, entries_of, owed_by, path_of, steps, weight}
+use Rattle.plist_binread.specs.Debt.{IsKnown, cached_count, entries_of, owed_by, path_of, walk_steps, walk_weight}
 use Rattle.plist_binread.specs.Unfolding.{unfolding_of}
 
 -- how many objects there are
-abbrev pub objects_of : Walk → ℕ
-objects_of walk = length walk.tags.items
+abbrev pub walk_objects : Walk → ℕ
+walk_objects walk = length walk.tags.items
 
 -- how many of them are cached
 abbrev pub cached_in : Walk → ℕ
@@ -40,11 +40,11 @@ owed_entering bytes bounds walk at number =
 
 -- more than the steps that are left
 abbrev pub weight_in : Walk → ℕ
-weight_in walk = weight (objects_of walk) (open_in walk)
+weight_in walk = walk_weight (walk_objects walk) (open_in walk)
 
 -- the same where an object is about to be entered
 abbrev pub weight_entering : Walk → ℕ
-weight_entering walk = weight (objects_of walk) (open_in walk) + steps (room_in walk)
+weight_entering walk = walk_weight (walk_objects walk) (open_in walk) + walk_steps (room_in walk)
 
 -- nothing is open, and no object is held
 abbrev pub IsEmpty : Walk → Type 0

@@ -6,7 +6,7 @@ ghost use Rattle.plist_base.specs.Sources.{ItemCountsIo};
 ghost use Rattle.plist_binread.specs.Turning.{closes};
 ghost use Rattle.plist_binread.specs.Lent.{IsToldEnd};
 ghost use Rattle.plist_binread.specs.Told.{event_in};
-ghost use Rattle.plist_binread.specs.Walking.{IsWalkOf, cached_in, objects_of, open_in};
+ghost use Rattle.plist_binread.specs.Walking.{IsWalkOf, cached_in, walk_objects, open_in};
 ghost use Rattle.plist_binread.specs.Failures.{ItemWithin};
 ghost use Rattle.plist_binread.specs.Behind.{IsAskedOf};
 ghost use Rattle.plist_binread.specs.Stepping.{IsAsBefore, IsLighter, KeepsItem, KeepsNext, LightensNext, PaysItem, PaysNext, TellsEnd};
@@ -34,7 +34,7 @@ pub fn advance_near<S: Source, C: DecodeCounter>(
     requires known { IfSome (S.known source.now) (λ bytes. IsWalkOf bytes bounds.now walk.old) }
     requires counted { C.counts → C.count counter.old ≡ cached_in walk.old }
     requires asked { IsAskedOf (S.known source.now) bounds.now asked.old }
-    ensures size { objects_of walk.new ≡ objects_of walk.old }
+    ensures size { walk_objects walk.new ≡ walk_objects walk.old }
     ensures known { IfSome (S.known source.now) (λ bytes. IsWalkOf bytes bounds.now walk.new) }
     ensures counted { C.counts → C.count counter.new ≡ cached_in walk.new }
     ensures asked { IsAskedOf (S.known source.now) bounds.now asked.new }
@@ -75,7 +75,7 @@ pub fn advance<S: Source, C: DecodeCounter>(
     requires known { IfSome (S.known source.old) (λ bytes. IsWalkOf bytes bounds.now walk.old) }
     requires counted { C.counts → C.count counter.old ≡ cached_in walk.old }
     requires asked { IsAskedOf (S.known source.old) bounds.now asked.old }
-    ensures size { objects_of walk.new ≡ objects_of walk.old }
+    ensures size { walk_objects walk.new ≡ walk_objects walk.old }
     ensures known { IfSome (S.known source.old) (λ bytes. IsWalkOf bytes bounds.now walk.new) }
     ensures counted { C.counts → C.count counter.new ≡ cached_in walk.new }
     ensures asked { IsAskedOf (S.known source.old) bounds.now asked.new }

@@ -3,9 +3,9 @@
 ghost use Rattle.std.specs.Prelude.{◌≡◌, ◌^◌, ◌<◌, Ok, replicate, IfOk, IfSome, OnOk};
 ghost use Rattle.plist_base.specs.Outcomes.{OnlyMemory};
 ghost use Rattle.plist_base.specs.Sources.{AnswersIo};
-ghost use Rattle.plist_binread.specs.Debt.{steps};
+ghost use Rattle.plist_binread.specs.Debt.{walk_steps};
 ghost use Rattle.plist_binread.specs.Failures.{ErrWithin};
-ghost use Rattle.plist_binread.specs.Walking.{IsEmpty, cached_in, objects_of, weight_in};
+ghost use Rattle.plist_binread.specs.Walking.{IsEmpty, cached_in, walk_objects, weight_in};
 ghost use Rattle.plist_binread.specs.Beginning.{GivesFirst, IsBounded, IsKnownWalk, KeepsRoot};
 
 use crate::counter::DecodeCounter;
@@ -41,7 +41,7 @@ pub fn begin<S: Source, C: DecodeCounter>(
     ensures known { OnOk result (IsKnownWalk (S.known source.old) bounds.new walk.new) }
     ensures kept { IfSome (S.known source.old) (KeepsRoot result last.new walk.new) }
     ensures pays { IfSome (S.known source.old) (GivesFirst result bounds.new last.new walk.new) }
-    ensures falls { OnOk result (weight_in walk.new < steps (objects_of walk.new)) }
+    ensures falls { OnOk result (weight_in walk.new < walk_steps (walk_objects walk.new)) }
     ensures fault { ErrWithin 0 (2 ^ 64) result }
     ensures unchanged { S.known source.new ≡ S.known source.old }
     ensures failures { AnswersIo result (S.failures source.old) (S.failures source.new) }

@@ -2,9 +2,9 @@
 
 ghost use Rattle.std.specs.Prelude.{◌≡◌, ◌-◌, ◌^◌, ◌<◌, ◌≤◌, length, IfNone, IfOk, IfSome};
 ghost use Rattle.plist_base.specs.Sources.{AnswersIo};
-ghost use Rattle.plist_binread.specs.Lent.{place_of, slot_of};
+ghost use Rattle.plist_binread.specs.Lent.{slot_place, slot_of};
 ghost use Rattle.plist_binread.specs.Failures.{ErrWithin};
-ghost use Rattle.plist_binread.specs.Behind.{AsksAt, BeginsWith, FindsAt, FindsSlots, HasNoChildren, HasPairs, IsAskedBehind, IsAskedOf};
+ghost use Rattle.plist_binread.specs.Behind.{AsksAt, BeginsThere, FindsAt, FindsSlots, HasNoChildren, HasPairs, IsAskedBehind, IsAskedOf};
 
 use crate::extent::read_length;
 use crate::lent::lent_length;
@@ -107,10 +107,10 @@ fn slot_of(pairs: u64, index: u64) -> Option<u64>
 
 // Where the reference of a child stands.
 #[inline(always)]
-fn place_of(asked: &Asked, index: u64, width: usize) -> Option<u64>
+fn slot_place(asked: &Asked, index: u64, width: usize) -> Option<u64>
     requires { 0 < width }
-    ensures value { IfSome result (λ place. place ≡ place_of asked.now index width) }
-    ensures far { IfNone result (2 ^ 64 ≤ place_of asked.now index width) }
+    ensures value { IfSome result (λ place. place ≡ slot_place asked.now index width) }
+    ensures far { IfNone result (2 ^ 64 ≤ slot_place asked.now index width) }
 {
     let behind = slot_of(asked.pairs, index)?.checked_mul(width as u64)?;
     asked.place.checked_add(asked.start.checked_add(behind)?)
@@ -130,7 +130,7 @@ pub fn read_child<S: Source>(
 {
     let asked = read_asked(source, bounds, place)?;
     let width = bounds.reference_width;
-    match place_of(&asked, index, width) {
+    match slot_place(&asked, index, width) {
         Some(at) if at < bounds.trailer && width as u64 <= bounds.trailer - at => {
             read_number(source, at, width)
         }
@@ -142,7 +142,7 @@ pub fn read_child<S: Source>(
 pub fn lent_before<'a, S: Source>(source: &'a S, bounds: &Bounds, place: u64) -> &'a [u8]
     requires { place < bounds.now.trailer }
     ensures room { length result.now ≤ bounds.now.trailer - place }
-    ensures bytes { BeginsWith (S.known source.now) bounds.now place result.now }
+    ensures bytes { BeginsThere (S.known source.now) bounds.now place result.now }
 {
     let seen = source.near(place);
     let room = bounds.trailer - place;
@@ -158,7 +158,7 @@ fn near_number<S: Source>(source: &S, bounds: &Bounds, asked: &Asked, index: u64
     ensures child { FindsAt result (S.known source.now) bounds.now asked.now.place index }
 {
     let width = bounds.reference_width;
-    let place = place_of(asked, index, width)?;
+    let place = slot_place(asked, index, width)?;
     let number = number_at_hand(source, place, width)?;
     Some(number)
 }

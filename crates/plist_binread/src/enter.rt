@@ -4,7 +4,7 @@ ghost use Rattle.std.specs.Prelude.{◌≡◌, ◌-◌, ◌<◌, length, get_or,
 ghost use Rattle.plist_base.specs.Faults.{MatchFault, kind_of, error_kind_of};
 ghost use Rattle.plist_base.specs.Sources.{AnswersIo};
 ghost use Rattle.plist_binread.specs.Packed.{is_marked};
-ghost use Rattle.plist_binread.specs.Walking.{IsWalkOf, cached_in, objects_of};
+ghost use Rattle.plist_binread.specs.Walking.{IsWalkOf, cached_in, walk_objects};
 ghost use Rattle.plist_binread.specs.Failures.{ErrWithin};
 ghost use Rattle.plist_binread.specs.Stepping.{ExplainsEntering, IsFoundAt, IsLighterEntered, KeepsEntered, Meets};
 
@@ -64,7 +64,7 @@ pub fn enter<S: Source, C: DecodeCounter>(
 ) -> Result<(), Error>
     requires known { IfSome (S.known source.old) (λ bytes. IsWalkOf bytes bounds.now walk.old) }
     requires counted { C.counts → C.count counter.old ≡ cached_in walk.old }
-    ensures size { objects_of walk.new ≡ objects_of walk.old }
+    ensures size { walk_objects walk.new ≡ walk_objects walk.old }
     ensures known { IfSome (S.known source.old) (λ bytes. IsWalkOf bytes bounds.now walk.new) }
     ensures counted { C.counts → C.count counter.new ≡ cached_in walk.new }
     ensures kept { KeepsEntered (S.known source.old) number result last.new walk.new }

@@ -4,16 +4,15 @@
 ghost use Rattle.std.specs.Prelude.{◌≡◌, ◌-◌, ◌*◌, ◌^◌, ◌<◌, ◌≤◌, length, Some, IfSome, IfNone, IfOk, IfErr, cond};
 ghost use Rattle.plist_base.specs.declared.real.RealBits.TheVariants.{Eight};
 ghost use Rattle.plist_base.specs.Trees.{Real};
-ghost use Rattle.plist_binread.specs.Container.{numbers_of};
 ghost use Rattle.plist_binread.specs.Lent.{small_lent};
 ghost use Rattle.plist_binread.specs.Object.{Scalar, Array, date, text, wide_text, unsigned_integer, signed_integer, wide_integer, object_in};
 ghost use Rattle.plist_binread.specs.Told.{event_in};
 ghost use Rattle.plist_binread.specs.Nearby.{CountsLent, IsContent, IsCount, IsCounted, IsFar, IsFarOrLarge, IsFarOrText, IsLength, IsLengthCut, IsNumber, RefusesCounted, cut_at, LendsCounted, LendsFront, LendsWhole, LiesBehind, array_with, pairs_with};
-ghost use Rattle.plist_binread.specs.Behind.{data_in, short_real, long_real, uid_in, object_with};
+ghost use Rattle.plist_binread.specs.Behind.{data_of_content, short_real, long_real, uid_of_content, object_with};
 
 use crate::counter::DecodeCounter;
 use crate::extent::number_width;
-use crate::numbers::number_from;
+use crate::numbers::{number_from, write_units};
 use crate::told::{Last, Told};
 use plist_base::{Date, Event, RealBits};
 
@@ -158,7 +157,7 @@ fn lent_wide(rest: &[u8], room: u64, last: &mut Last) -> Lent
 fn lent_uid(rest: &[u8], room: u64, width: usize, last: &mut Last) -> Lent
     requires width { width ≤ 8 }
     requires room { length rest.now ≤ room }
-    ensures lent { LendsFront room width uid_in rest.now (event_in last.new) result }
+    ensures lent { LendsFront room width uid_of_content rest.now (event_in last.new) result }
     ensures far { IsFar room rest.now result }
 {
     match lent_number(rest, width) {
@@ -230,16 +229,6 @@ fn lent_text(marker: u8, rest: &[u8], last: &mut Last) -> Lent
     }
 }
 
-// Writes the units in these bytes, two a unit.
-fn write_units(bytes: &[u8], units: &mut [u16])
-    requires { length bytes.now ≡ length units.old * 2 }
-    ensures { units.new ≡ numbers_of 2 bytes.now }
-{
-    for i in 0..units.len() {
-        units[i] = number_from(&bytes[i * 2..i * 2 + 2]) as u16;
-    }
-}
-
 // A text of at most eight units of two bytes.
 fn lent_wide_text(marker: u8, rest: &[u8], last: &mut Last) -> Lent
     ensures lent { LendsCounted marker 2 wide_text rest.now (event_in last.new) result }
@@ -263,7 +252,7 @@ fn lent_wide_text(marker: u8, rest: &[u8], last: &mut Last) -> Lent
 }
 
 fn lent_data(marker: u8, rest: &[u8], last: &mut Last) -> Lent
-    ensures lent { LendsCounted marker 1 data_in rest.now (event_in last.new) result }
+    ensures lent { LendsCounted marker 1 data_of_content rest.now (event_in last.new) result }
 {
     match lent_bytes(marker, rest) {
         Some(bytes) => {

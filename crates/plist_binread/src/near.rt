@@ -3,7 +3,7 @@
 ghost use Rattle.std.specs.Prelude.{◌≡◌, ◌+◌, ◌^◌, ◌<◌, [], ◌∷◌, ◌++◌, get_or, true, false, IfSome, Some};
 ghost use Rattle.plist_binread.specs.Frames.{frame_of};
 ghost use Rattle.plist_binread.specs.Told.{event_in};
-ghost use Rattle.plist_binread.specs.Walking.{IsWalkOf, cached_in, objects_of};
+ghost use Rattle.plist_binread.specs.Walking.{IsWalkOf, cached_in, walk_objects};
 ghost use Rattle.plist_binread.specs.Nearby.{small_told};
 ghost use Rattle.plist_binread.specs.Behind.{IsAskedOf};
 ghost use Rattle.plist_binread.specs.Beginning.{IsKnownWalk};
@@ -32,9 +32,9 @@ fn push_near(frames: &mut Frames, object: u64, count: u64) -> bool
 /// It answers no, and nothing has changed, where room for that is wanted or nothing was lent.
 #[inline(always)]
 pub fn open_lent(walk: &mut Walk, number: u64, lent: Lent, last: &Last) -> bool
-    requires below { number < objects_of walk.old }
+    requires below { number < walk_objects walk.old }
     requires new { get_or walk.old.tags.items number 0 ≡ 0 }
-    ensures size { objects_of walk.new ≡ objects_of walk.old }
+    ensures size { walk_objects walk.new ≡ walk_objects walk.old }
     ensures counted { cached_in walk.new ≡ cached_in walk.old + small_told lent last.now }
     ensures kept { result ≡ true → KeepsLent (event_in last.now) lent number walk.new }
     ensures falls { result ≡ true → IsLighterEntered walk.old walk.new }
@@ -85,7 +85,7 @@ fn enter_near<S: Source, C: DecodeCounter>(
 ) -> bool
     requires known { IfSome (S.known source.now) (λ bytes. IsWalkOf bytes bounds.now walk.old) }
     requires counted { C.counts → C.count counter.old ≡ cached_in walk.old }
-    ensures size { objects_of walk.new ≡ objects_of walk.old }
+    ensures size { walk_objects walk.new ≡ walk_objects walk.old }
     ensures counted { C.counts → C.count counter.new ≡ cached_in walk.new }
     ensures known { result ≡ true → IsKnownWalk (S.known source.now) bounds.now walk.new }
     ensures kept { KeepsNear (S.known source.now) number result last.new walk.new }
@@ -128,7 +128,7 @@ pub fn go_near<S: Source, C: DecodeCounter>(
     requires known { IfSome (S.known source.now) (λ bytes. IsWalkOf bytes bounds.now walk.old) }
     requires counted { C.counts → C.count counter.old ≡ cached_in walk.old }
     requires asked { IsAskedOf (S.known source.now) bounds.now asked.old }
-    ensures size { objects_of walk.new ≡ objects_of walk.old }
+    ensures size { walk_objects walk.new ≡ walk_objects walk.old }
     ensures counted { C.counts → C.count counter.new ≡ cached_in walk.new }
     ensures asked { IsAskedOf (S.known source.now) bounds.now asked.new }
     ensures known { result ≡ true → IsKnownWalk (S.known source.now) bounds.now walk.new }

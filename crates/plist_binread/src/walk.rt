@@ -4,7 +4,7 @@ ghost use Rattle.std.specs.Prelude.{◌≡◌, ◌<◌, length, reverse, true};
 ghost use Rattle.std.proofs.Props.{props};
 ghost use Rattle.plist_binread.specs.declared.walk.Turn.TheVariants.{Closed};
 ghost use Rattle.plist_binread.specs.Debt.{IsOpen};
-ghost use Rattle.plist_binread.specs.Turning.{IsWithin, closes, given_back};
+ghost use Rattle.plist_binread.specs.Turning.{AsksWithin, closes, given_back};
 
 use crate::frames::{Frames, Wanted};
 use crate::packed::unmark;
@@ -35,8 +35,8 @@ pub struct Walk {
 }
 
 impl Walk {
-    ghost use Rattle.plist_binread.specs.Stepping.{GivesBack, LightensBy, TurnsWalk};
-    ghost use Rattle.plist_binread.specs.Walking.{IsEmpty, cached_in, objects_of, open_in};
+    ghost use Rattle.plist_binread.specs.Stepping.{TurnGivesBack, LightensBy, TurnsWalk};
+    ghost use Rattle.plist_binread.specs.Walking.{IsEmpty, cached_in, walk_objects, open_in};
 
     /// No object is held.
     pub fn new(alloc: Global) -> Self
@@ -51,14 +51,14 @@ impl Walk {
 
     /// Takes the next child of the innermost collection, or closes it where it has no more.
     pub fn turn(&mut self) -> Turn
-        ensures size { objects_of self.new ≡ objects_of self.old }
+        ensures size { walk_objects self.new ≡ walk_objects self.old }
         ensures counted { cached_in self.new ≡ cached_in self.old }
-        ensures within { IsWithin self.new.tags.items result }
+        ensures within { AsksWithin self.new.tags.items result }
         ensures closes { closes (open_in self.old) ≡ true → result ≡ Closed }
         ensures owed { TurnsWalk self.old result self.new }
         ensures weight { LightensBy self.old result self.new }
         ensures contents { self.new.contents.items ≡ self.old.contents.items }
-        ensures back { GivesBack self.old result self.new }
+        ensures back { TurnGivesBack self.old result self.new }
     {
         match self.frames.turn() {
             Wanted::Nothing => Turn::Done,

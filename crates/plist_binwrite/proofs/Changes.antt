@@ -9,9 +9,9 @@ pub at_set : {A : Type 0} (xs : List A) (p : ℕ) (x d : A) (q : ℕ) (P : A →
     → (q ≡ p → P x) → (q ≢ p → P (get_or xs q d)) → P (get_or (set xs p x) q d)
 at_set xs p x d q P lt same other =
     elim (eqb_tells q p) [
-      | inl e ↦ subst P (sym (ap (λ k. get_or (set xs p x) k d) e.1
-          ∙ get_or-set_same xs p x d lt)) (same e.1)
-      | inr n ↦ subst P (sym (get_or-set_other xs p q x d n.1)) (other n.1)
+      | inl e ↦ rw (ap (λ k. get_or (set xs p x) k d) e.1
+          ∙ get_or-set_same xs p x d lt) (same e.1)
+      | inr n ↦ rw (get_or-set_other xs p q x d n.1) (other n.1)
     ]
 
 pub at_more : {A : Type 0} (xs : List A) (x d : A) (q : ℕ) (P : A → Type 0)

@@ -1,15 +1,14 @@
 -- A plan by classes is a numbering: each number has one object.
-use Rattle.std.proofs.Common.{◌≡◌, ◌⊎◌, inl, inr, ℕ, ◌+◌, ◌<◌, ◌≤◌, List, ◌∷◌, get_or, refl, ap, sym, ◌∙◌, arith}
+use Rattle.std.proofs.Common.{◌≡◌, ◌⊎◌, inl, inr, ℕ, ◌+◌, ◌<◌, ◌≤◌, List, [], ◌∷◌, get_or, refl, ap, sym, ◌∙◌, arith}
 use Rattle.std.proofs.lemmas.Bool.{cases_lt}
 use Rattle.plist_base.specs.Events.{PlainEvent}
-use Rattle.plist_base.specs.Faults.{ObjectOffsetTooLarge}
 use Rattle.plist_base.specs.Trees as trees
 use Rattle.plist_base.specs.Trees.{Scalar, Tree, Leaf, Array, Dictionary, Trees, NoTrees, TreeAnd, Members, NoMembers, MemberAnd}
 use Rattle.plist_binread.specs.Object as obj
 use Rattle.plist_binread.specs.Object.{Object}
 use Rattle.plist_binwrite.specs.Classes.{AreClasses}
 use Rattle.plist_binwrite.specs.Held.{num_of, Describes}
-use Rattle.plist_binwrite.specs.Numberings.{refs, pairs, obj_of, IsNumbering}
+use Rattle.plist_binwrite.specs.Numberings.{refs, pairs, obj_of}
 use Rattle.plist_binwrite.specs.declared.plan.Plan.{Plan}
 use Rattle.plist_binwrite.specs.inner.Planning.{IsPlanned, GoesBy, numbers_of, firsts_of, count_of}
 use Rattle.plist_binwrite.proofs.Placed.{sits_at}
@@ -32,7 +31,7 @@ the_pairs a b p = cc
 pub cons_is : {A : Type 0} (a b : A) (xs ys : List A) → a ∷ xs ≡ b ∷ ys → (a ≡ b) × (xs ≡ ys)
 cons_is a b xs ys p = (cc, cc)
 
-module _ (es : List PlainEvent) (class : ℕ → ℕ) (c : AreClasses es class) where
+module _ {es : List PlainEvent} {class : ℕ → ℕ} (c : AreClasses es class) where
   module _ (num : ℕ → ℕ)
       (same : (t u : Tree) (p q : ℕ) → Sits es t p → Sits es u q → class p ≡ class q
       → num p ≡ num q) where
@@ -84,16 +83,16 @@ module _ (es : List PlainEvent) (class : ℕ → ℕ) (c : AreClasses es class) 
           ((λ i. MemberAnd (key i) (j.0 i) (more.0 i)), λ i. (m i, n i) ∷ more.1 i)
 
   pub sound : (t u : Tree) (p q : ℕ) → Sits es t p → Sits es u q → class p ≡ class q → t ≡ u
-  sound t u p q s r e = (one_object class (λ t u p q s r e. e) t u p q s r e).0
+  sound t u p q s r e = (one_object _ (λ t u p q s r e. e) t u p q s r e).0
 
--- What a plan says of the numbers: it is a numbering.
-pub record Numbered (es : List PlainEvent) (numbers : List ℕ) (count : ℕ) : Type 0 where
+-- what a plan says of the numbers: the objects, and the sizes of their trees
+pub record Numbered (es : List PlainEvent) (numbers : List ℕ) : Type 0 where
   pub rank : ℕ → ℕ
+  pub ranked : (t : Tree) (p : ℕ) → Sits es t p → rank (num_of numbers p) ≡ size t
   pub objects : ℕ → Object
   pub describes : Describes es numbers objects
-  pub numbering : IsNumbering es (num_of numbers) rank count objects
 
-module _ (es : List PlainEvent) (plan : Plan) (planned : IsPlanned es plan) where
+module _ {es : List PlainEvent} {plan : Plan} (planned : IsPlanned es plan) where
   abbrev num : ℕ → ℕ
   num p = num_of (numbers_of plan) p
 
@@ -103,7 +102,7 @@ module _ (es : List PlainEvent) (plan : Plan) (planned : IsPlanned es plan) wher
   pub number_below : (t : Tree) (p : ℕ) → Sits es t p → num p < count_of plan
   number_below t p s = planned.all p (sits_in s) (begins t p s)
 
-  module _ (class : ℕ → ℕ) (goes : GoesBy es class plan) where
+  module _ {class : ℕ → ℕ} (goes : GoesBy es class plan) where
     first_class : (t : Tree) (p : ℕ) → Sits es t p → class (first (num p)) ≡ class p
     first_class t p s = goes.same p (sits_in s) (number_below t p s)
 
@@ -111,21 +110,21 @@ module _ (es : List PlainEvent) (plan : Plan) (planned : IsPlanned es plan) wher
     pub number_apart : (t u : Tree) (p q : ℕ) → Sits es t p → Sits es u q → num p ≡ num q
         → class p ≡ class q
     number_apart t u p q s r e =
-        sym (first_class t p s) ∙ ap (λ k. class (first k)) e ∙ first_class u q r
+        cc (first_class t p s, first_class u q r)
 
     pub number_same : (t u : Tree) (p q : ℕ) → Sits es t p → Sits es u q → class p ≡ class q
         → num p ≡ num q
     number_same t u p q s r e =
-        goes.apart (num p) (num q) (number_below t p s) (number_below u q r)
+        goes.apart _ _ (number_below t p s) (number_below u q r)
         (first_class t p s ∙ e ∙ sym (first_class u q r))
 
   tree_of : (k : ℕ) → k < count_of plan → (u : Tree) × Sits es u (first k)
-  tree_of k h = let n = planned.numbered.known k h in sits_at es planned.whole (first k) n.0 n.2
+  tree_of k h = let n = planned.numbered.known k h in sits_at es planned.whole _ n.0 n.2
 
   -- the object of a number, and its rank
   made_of : (k : ℕ) → (k < count_of plan) ⊎ (count_of plan ≤ k) → Object × ℕ
   made_of k (inl h) = let u = (tree_of k h).0 in (obj_of num u (first k), size u)
-  made_of k (inr h) = (obj.Faulty ObjectOffsetTooLarge, 0)
+  made_of k (inr h) = (obj.Array [], 0)
 
   made_is : (t : Tree) (p : ℕ) → Sits es t p
       → (d : (num p < count_of plan) ⊎ (count_of plan ≤ num p))
@@ -133,24 +132,16 @@ module _ (es : List PlainEvent) (plan : Plan) (planned : IsPlanned es plan) wher
   unfolding made_of
   made_is t p s (inl h) =
       let f = tree_of (num p) h in
-      let e = first_class planned.class planned.numbered t p s in
-      let k = one_object es planned.class planned.classes num
-      (number_same planned.class planned.numbered) f.0 t _ p f.1 s e in
+      let e = first_class planned.numbered t p s in
+      let k = one_object planned.classes num (number_same planned.numbered) f.0 t _ p f.1 s e in
       λ i. (k.1 i, size (k.0 i))
   made_is t p s (inr h) = absurd (omega (arith, number_below t p s))
 
-  object_is : (t : Tree) (p : ℕ) → Sits es t p
-      → (made_of (num p) (cases_lt (num p) (count_of plan))).0 ≡ obj_of num t p
-  object_is t p s = ap (λ m. m.0) (made_is t p s (cases_lt _ _))
-
-  pub numbered : Numbered es (numbers_of plan) (count_of plan)
-  numbered = record {
-    rank = λ k. (made_of k (cases_lt k (count_of plan))).1;
-    objects = λ k. (made_of k (cases_lt k (count_of plan))).0;
-    describes = object_is;
-    numbering = record {
-      below = number_below;
-      ranked = λ t p s. ap (λ m. m.1) (made_is t p s (cases_lt _ _));
-      holds = object_is;
-    };
-  }
+  pub numbered : Numbered es (numbers_of plan)
+  numbered =
+      let made = λ (k : ℕ). made_of k (cases_lt k (count_of plan)) in record {
+        rank = λ k. (made k).1;
+        ranked = λ t p s. ap (λ m. m.1) (made_is t p s (cases_lt _ _));
+        objects = λ k. (made k).0;
+        describes = λ t p s. ap (λ m. m.0) (made_is t p s (cases_lt _ _));
+      }

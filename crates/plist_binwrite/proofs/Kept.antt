@@ -21,16 +21,16 @@ use Rattle.plist_binwrite.proofs.ClassObjects.{number_below, number_apart, numbe
 use Rattle.plist_binwrite.proofs.Inside.{Stands, met_stand, met_all}
 use Rattle.plist_binwrite.proofs.SameScalars.{tells_both}
 use Rattle.plist_binwrite.proofs.Sitting.{sits_whole}
-use Rattle.plist_binwrite.proofs.Sized.{form_size, total_bodies}
+use Rattle.plist_binwrite.proofs.Placing.{form_size, total_bodies}
 use Rattle.plist_binwrite.proofs.Totals.{total_below, count_below, total_all, unique_member, unique_distinct, total-map, total_equal, total_one}
 use Rattle.plist_binwrite.proofs.Uniques.{all_from, all_unique, members_self, member_has, unique_seen}
 
 -- ---- a plan's numbers
 
-module _ (es : List PlainEvent) (plan : Plan) (planned : IsPlanned es plan) (class : ℕ → ℕ)
+module _ {es : List PlainEvent} {plan : Plan} (planned : IsPlanned es plan) {class : ℕ → ℕ}
     (goes : GoesBy es class plan) (whole : Tree) (e : es ≡ shape whole) where
   stand : AllByRecursion (Stands es) (met whole 0)
-  stand = met_stand es whole 0 (sits_whole e)
+  stand = met_stand es _ 0 (sits_whole e)
 
   abbrev number : ℕ × Tree → ℕ
   number one = num_of (numbers_of plan) one.0
@@ -45,7 +45,7 @@ module _ (es : List PlainEvent) (plan : Plan) (planned : IsPlanned es plan) (cla
       (λ q h. member_has number (λ k. k < count_of plan)
       (met whole 0) q
       (all_from (λ one. number one < count_of plan) (Stands es)
-      (λ one s. number_below es plan planned one.1 one.0 s) (met whole 0) stand)
+      (λ one s. number_below planned one.1 one.0 s) (met whole 0) stand)
       (sym (unique_member eqb eqb_tells given q) ∙ h))
       (λ q h. let f = goes.known q h in
       let m = met_all es (λ p. is_member eqb given (num_of (numbers_of plan) p) ≡ true) whole e
@@ -60,8 +60,8 @@ module _ (es : List PlainEvent) (plan : Plan) (planned : IsPlanned es plan) (cla
       unique_seen (same_class class) eqb number (Stands es)
       (λ a b s r. tells_both eqb eqb (class a.0) (class b.0) (number a) (number b)
       (eqb_tells _ _) (eqb_tells _ _)
-      (number_same es plan planned class goes a.1 b.1 a.0 b.0 s r)
-      (number_apart es plan planned class goes a.1 b.1 a.0 b.0 s r))
+      (number_same planned goes a.1 b.1 a.0 b.0 s r)
+      (number_apart planned goes a.1 b.1 a.0 b.0 s r))
       (met whole 0) stand
 
   -- as many objects as classes

@@ -1,5 +1,5 @@
 -- Stamps on the keys of a dictionary: where one that is met has the stamp, it stood there before.
-use Rattle.std.proofs.Common.{◌≡◌, ◌≢◌, inl, inr, ℕ, ◌+◌, ◌<◌, false, Some, List, length, get_or, set, refl, ap, sym, ◌∙◌, arith}
+use Rattle.std.proofs.Common.{◌≡◌, ◌≢◌, inl, inr, ℕ, ◌+◌, ◌<◌, false, Some, List, length, get_or, set, refl, ap, sym, ◌∙◌, subst, arith}
 use Rattle.std.specs.List.{AllByRecursion}
 use Rattle.std.specs.Prelude.{slice_get}
 use Rattle.std.proofs.lemmas.Bool.Decides.{eqb_tells}
@@ -10,13 +10,13 @@ use Rattle.plist_base.specs.Bracketing.{shape}
 use Rattle.plist_base.specs.Events.{PlainEvent, EndCollection, Single}
 use Rattle.plist_base.specs.Trees.{String, Tree, Leaf, Array, Dictionary, Trees, NoTrees, TreeAnd, Members, NoMembers, MemberAnd}
 use Rattle.plist_binwrite.specs.declared.kinds.Kind.TheVariants as kind
-use Rattle.plist_binwrite.specs.Held.{AllBelow, EndsTree, LacksItem, event_at, is_stop, kind_of}
+use Rattle.plist_binwrite.specs.Held.{AllBelow, EndsTree, LacksItem, event_at, is_stop, held_kind}
 use Rattle.plist_binwrite.specs.inner.Entries.{AreApart, is_leaf}
 use Rattle.plist_binwrite.specs.Keys.{Lacks, HasDistinctKeys, HasKeysOnce, ItemsHaveKeysOnce, ValuesHaveKeysOnce}
 use Rattle.plist_binwrite.specs.Standing.{size, Sits, SitsItems, SitsPairs, met, met_in_items, met_in_pairs}
 use Rattle.plist_binwrite.proofs.Inside.{met_all}
 use Rattle.plist_binwrite.proofs.Sitting.{sits_whole, sits_items, sits_pairs, sits_item, sits_next, sits_key, sits_value, sits_next_pair}
-use Rattle.plist_binwrite.proofs.Skipping.{stands_single, starts_array, first_event}
+use Rattle.plist_binwrite.proofs.Skipping.{stands_single, starts_array}
 use Rattle.plist_binwrite.proofs.Passing.{Pairs, FirstPair, pairs_first, pairs_next, pairs_stop}
 use Rattle.plist_binwrite.proofs.Uniques.{all_both}
 
@@ -32,9 +32,8 @@ IsStamped scalars mark stamps key =
 
 -- no key of these pairs has it
 abbrev pub AreFresh : (scalars : List PlainEvent) (mark : ℕ) (stamps : List ℕ) → Members → Type 0
-AreFresh scalars mark stamps NoMembers = Unit {0}
-AreFresh scalars mark stamps (MemberAnd key tree ms) =
-    (IsStamped scalars mark stamps key → ⊥) × AreFresh scalars mark stamps ms
+AreFresh scalars mark stamps ms =
+    (key : List ℕ) → IsStamped scalars mark stamps key → Lacks key ms
 
 -- the pairs that are left tell whether all keys are different
 pub record Tells (scalars : List PlainEvent) (mark : ℕ) (stamps : List ℕ) (all left : Members)
@@ -42,46 +41,36 @@ pub record Tells (scalars : List PlainEvent) (mark : ℕ) (stamps : List ℕ) (a
   pub down : HasDistinctKeys all → HasDistinctKeys left × AreFresh scalars mark stamps left
   pub up : HasDistinctKeys left × AreFresh scalars mark stamps left → HasDistinctKeys all
 
-fresh_all : (scalars : List PlainEvent) (mark : ℕ) (stamps : List ℕ)
-    → ((key : List ℕ) → IsStamped scalars mark stamps key → ⊥) → (ms : Members)
-    → AreFresh scalars mark stamps ms
-fresh_all scalars mark stamps none NoMembers = tt
-fresh_all scalars mark stamps none (MemberAnd key tree ms) =
-    (none key, fresh_all scalars mark stamps none ms)
-
 module _ {scalars : List PlainEvent} {mark : ℕ} {es : List PlainEvent} {stamps : List ℕ} where
   pub walked_start : (start : ℕ) → mark ≡ start + 1 → length stamps ≡ length scalars
       → AllBelow (start + 1) stamps → (all : Members) → Sits es (Dictionary all) start
       → Pairs es (Tells scalars mark stamps all) (start + 1)
-  walked_start start is long older all sits =
-      let none : (key : List ℕ) → IsStamped scalars mark stamps key → ⊥ = λ key stamped.
-      omega (
-        arith,
-        is,
-        long,
-        stamped.2,
-        slice_get_within scalars stamped.0 _ stamped.1,
-        older stamped.0 (omega (arith, long, slice_get_within scalars stamped.0 _ stamped.1)),
-      ) in
-      record {
-        left = all;
-        sits = sits_pairs sits;
-        goes = record { down = λ d. (d, fresh_all scalars mark stamps none all); up = λ d. d.0 };
-      }
+  walked_start start is long older all sits = record {
+    left = all;
+    sits = sits_pairs sits;
+    goes = record {
+      down = λ d. (
+        d,
+        λ key (s, at, m).
+            let lt : s < length stamps = omega (arith, long, slice_get_within scalars s _ at) in
+            absurd (omega (arith, is, m, older s lt)),
+      );
+      up = λ d. d.0;
+    };
+  }
 
   module _ {q : ℕ} {all : Members} (w : Pairs es (Tells scalars mark stamps all) q) where
     pub walked_end : LacksItem es q → HasDistinctKeys all
-    walked_end h = (pairs_stop w h).up (tt, tt)
+    walked_end h = (pairs_stop w h).up (tt, λ key stamped. tt)
 
     key_is : (f : FirstPair es (Tells scalars mark stamps all) q)
         → event_at es q ≡ Single (String f.key)
-    key_is f = first_event es q (Single (String f.key)) _ f.here.is
+    key_is f = stands_single f.here
 
     -- each key is a scalar
     pub walked_leaf : {A : Type 0} → is_stop (event_at es q) ≡ false
         → is_leaf (event_at es q) ≡ false → A
-    walked_leaf h leaf =
-        cc (ap is_leaf (key_is (pairs_first w h)))
+    walked_leaf h leaf = cc (ap is_leaf (key_is (pairs_first w h)))
 
     module _ (s : ℕ) (apart : AreApart scalars) (here : slice_get scalars s ≡ Some (event_at es q))
       where
@@ -89,50 +78,8 @@ module _ {scalars : List PlainEvent} {mark : ℕ} {es : List PlainEvent} {stamps
         pub walked_repeats : is_stop (event_at es q) ≡ false → get_or stamps s 0 ≡ mark
             → HasDistinctKeys all → ⊥
         walked_repeats h is d =
-            let f = pairs_first w h in (f.goes.down d).1.0 (s, here ∙ ap Some (key_is f), is)
-
-        module _ (other : get_or stamps s 0 ≢ mark) (within : s < length stamps) (key : List ℕ)
-            (is : slice_get scalars s ≡ Some (Single (String key))) where
-          abbrev now : List ℕ
-          now = set stamps s mark
-
-          marked : get_or now s 0 ≡ mark
-          marked = get_or-set_same stamps s mark 0 within
-
-          unstamped : IsStamped scalars mark stamps key → ⊥
-          unstamped (t, at, m) =
-              other (ap (λ k. get_or stamps k 0) (apart s t (Single (String key)) is at) ∙ m)
-
-          still : (t : ℕ) → t ≢ s → get_or now t 0 ≡ get_or stamps t 0
-          still t never = get_or-set_other stamps s t mark 0 never
-
-          fresh_more : (ms : Members) → Lacks key ms → AreFresh scalars mark stamps ms
-              → AreFresh scalars mark now ms
-          fresh_more NoMembers l f = tt
-          fresh_more (MemberAnd k tree ms) (a, l) (b, f) = (
-            (λ (t, at, m). elim (eqb_tells t s) [
-              | inl e ↦ a (same_key key k (sym is ∙ sym (ap (slice_get scalars) e.1) ∙ at))
-              | inr d ↦ b (t, at, sym (still t d.1) ∙ m)
-            ]),
-            fresh_more ms l f,
-          )
-
-          lacks_back : (ms : Members) → AreFresh scalars mark now ms → Lacks key ms
-          lacks_back NoMembers f = tt
-          lacks_back (MemberAnd k tree ms) (b, f) =
-              ((λ e. b (s, is ∙ ap (λ l. Some (Single (String l))) e, marked)), lacks_back ms f)
-
-          fresh_back : (ms : Members) → AreFresh scalars mark now ms → AreFresh scalars mark stamps ms
-          fresh_back NoMembers f = tt
-          fresh_back (MemberAnd k tree ms) (b, f) = (
-            (λ (t, at, m). b (
-              t,
-              at,
-              still t (λ e. other (sym (ap (λ n. get_or stamps n 0) e) ∙ m))
-                  ∙ m,
-            )),
-            fresh_back ms f,
-          )
+            let f = pairs_first w h in
+            ((f.goes.down d).1 f.key (s, here ∙ ap Some (key_is f), is)).0 refl
 
         -- a key that hasn't gets it
         pub walked_next : (next : ℕ) → get_or stamps s 0 ≢ mark → s < length stamps
@@ -140,14 +87,26 @@ module _ {scalars : List PlainEvent} {mark : ℕ} {es : List PlainEvent} {stamps
             → EndsTree es (q + 1) next
             → Pairs es (Tells scalars mark (set stamps s mark) all) next
         walked_next next other within h skip = pairs_next w h skip (λ f.
-            let is = here ∙ ap Some (key_is f) in
+            let is : slice_get scalars s ≡ Some (Single (String f.key)) = here ∙ ap Some
+            (key_is f) in
             record {
-              down = λ d.
-                  let l = f.goes.down d in
-                  (l.0.1, fresh_more other within f.key is f.rest l.0.0 l.1.1);
+              down = λ d. let l = f.goes.down d in (
+                l.0.1,
+                λ key (t, at, m). elim (eqb_tells t s) [
+                  | inl e ↦ subst (λ k. Lacks k f.rest) (same_key f.key key
+                      (sym is ∙ sym (ap (slice_get scalars) e.1) ∙ at)) l.0.0
+                  | inr n ↦
+                      (l.1 key (t, at, sym (get_or-set_other stamps s t mark 0 n.1) ∙ m)).1
+                ],
+              );
               up = λ (d, fresh). f.goes.up (
-                (lacks_back other within f.key is f.rest fresh, d),
-                (unstamped other within f.key is, fresh_back other within f.key is f.rest fresh),
+                (fresh f.key (s, is, get_or-set_same stamps s mark 0 within), d),
+                λ key (t, at, m).
+                    let off : t ≢ s = λ e. other (ap (λ n. get_or stamps n 0) (sym e) ∙ m) in (
+                      (λ e. off (apart t s (Single (String key)) at
+                          (is ∙ ap (λ k. Some (Single (String k))) (sym e)))),
+                      fresh key (t, at, get_or-set_other stamps s t mark 0 off ∙ m),
+                    ),
               );
             })
 
@@ -156,8 +115,8 @@ module _ {scalars : List PlainEvent} {mark : ℕ} {es : List PlainEvent} {stamps
 pub below_set : (n : ℕ) (stamps : List ℕ) (s mark : ℕ) → mark < n → AllBelow n stamps
     → AllBelow n (set stamps s mark)
 below_set n stamps s mark lt all i h =
-    All-get_or (λ v. v < n) (set stamps s mark) i 0 h
-    (All-set (λ v. v < n) stamps s mark lt (All-from_get_or (λ v. v < n) stamps 0 all))
+    All-get_or (λ v. v < n) _ i 0 h
+    (All-set (λ v. v < n) _ s _ lt (All-from_get_or (λ v. v < n) _ 0 all))
 
 -- ---- all dictionaries
 
@@ -166,7 +125,7 @@ abbrev IfDictionary : Tree → Type 0
 IfDictionary (Dictionary ms) = HasDistinctKeys ms
 IfDictionary t = Unit {0}
 
-goes_on : (e : PlainEvent) → kind_of e ≡ kind.Dictionary → is_stop e ≡ false
+goes_on : (e : PlainEvent) → held_kind e ≡ kind.Dictionary → is_stop e ≡ false
 goes_on EndCollection k = cc
 goes_on e k = refl
 
@@ -175,8 +134,8 @@ module _ (es : List PlainEvent) where
     mutual
       once_tree : (t : Tree) (p : ℕ) → Sits es t p → HasKeysOnce t
       once_tree (Leaf x) p s = tt
-      once_tree (Array ts) p s = once_items ts (p + 1) (sits_items s)
-      once_tree (Dictionary ms) p s = (each p ms s, once_values ms (p + 1) (sits_pairs s))
+      once_tree (Array ts) p s = once_items ts _ (sits_items s)
+      once_tree (Dictionary ms) p s = (each p ms s, once_values ms _ (sits_pairs s))
 
       once_items : (ts : Trees) (q : ℕ) → SitsItems es ts q → ItemsHaveKeysOnce ts
       once_items NoTrees q s = tt
@@ -186,8 +145,8 @@ module _ (es : List PlainEvent) where
       once_values : (ms : Members) (q : ℕ) → SitsPairs es ms q → ValuesHaveKeysOnce ms
       once_values NoMembers q s = tt
       once_values (MemberAnd k t ms) q s = (
-        once_tree t (q + 1) (sits_value s),
-        once_values ms (q + 1 + size t)
+        once_tree t _ (sits_value s),
+        once_values ms _
             (sits_next_pair s),
       )
 
@@ -204,36 +163,36 @@ module _ (es : List PlainEvent) where
     once_met : (t : Tree) (p : ℕ) → Sits es t p → HasKeysOnce t
         → AllByRecursion (λ one. Once one.0) (met t p)
     once_met (Leaf x) p s h = ((Leaf x, s, tt), tt)
-    once_met (Array ts) p s h = ((Array ts, s, tt), items_met ts (p + 1) (sits_items s) h)
+    once_met (Array ts) p s h = ((Array ts, s, tt), items_met ts _ (sits_items s) h)
     once_met (Dictionary ms) p s h =
-        ((Dictionary ms, s, h.0), pairs_met ms (p + 1) (sits_pairs s) h.1)
+        ((Dictionary ms, s, h.0), pairs_met ms _ (sits_pairs s) h.1)
 
     items_met : (ts : Trees) (p : ℕ) → SitsItems es ts p → ItemsHaveKeysOnce ts
         → AllByRecursion (λ one. Once one.0) (met_in_items ts p)
     items_met NoTrees p s h = tt
     items_met (TreeAnd t ts) p s h =
-        all_both (λ one. Once one.0) (met t p) (met_in_items ts (p + size t))
+        all_both (λ one. Once _) _ _
         (once_met t p (sits_item s) h.0) (items_met ts (p + size t) (sits_next s) h.1)
 
     pairs_met : (ms : Members) (p : ℕ) → SitsPairs es ms p → ValuesHaveKeysOnce ms
         → AllByRecursion (λ one. Once one.0) (met_in_pairs ms p)
     pairs_met NoMembers p s h = tt
     pairs_met (MemberAnd k t ms) p s h = (
-      (Leaf (String k), sits_key s, tt),
-      all_both (λ one. Once one.0) (met t (p + 1)) (met_in_pairs ms (p + 1 + size t))
+      (Leaf _, sits_key s, tt),
+      all_both (λ one. Once _) _ _
           (once_met t (p + 1) (sits_value s) h.0)
           (pairs_met ms (p + 1 + size t) (sits_next_pair s) h.1),
     )
 
   -- one dictionary whose keys aren't different
   pub one_repeats : (t : Tree) (p : ℕ) → es ≡ shape t → p < length es
-      → kind_of (event_at es p) ≡ kind.Dictionary
+      → held_kind (event_at es p) ≡ kind.Dictionary
       → ((ms : Members) → Sits es (Dictionary ms) p → HasDistinctKeys ms → ⊥) → HasKeysOnce t → ⊥
   one_repeats t p is lt begin never once =
       let f = met_all es Once t is (once_met t 0 (sits_whole is) once) p lt (goes_on _ begin) in
       by f.0 f.1 f.2
     where
       by : (u : Tree) → Sits es u p → IfDictionary u → ⊥
-      by (Leaf x) s o = cc (ap kind_of (stands_single s))
-      by (Array ts) s o = cc (ap kind_of (starts_array s))
+      by (Leaf x) s o = cc (ap held_kind (stands_single s))
+      by (Array ts) s o = cc (ap held_kind (starts_array s))
       by (Dictionary ms) s o = never ms s o

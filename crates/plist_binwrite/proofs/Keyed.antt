@@ -1,31 +1,40 @@
 -- Keys of a set: equal ones show the same.
-use Rattle.std.proofs.Common.{◌≡◌, ◌⊎◌, inl, inr, ℕ, zero, suc, ◌+◌, ◌<◌, ◌≤◌, Bool, true, false, if◌then◌else◌, List, [], ◌∷◌, ◌++◌, length, get_or, map, take, position, Some, refl, sym, ap, ◌∙◌, subst, arith, append-nil}
-use Rattle.std.proofs.Math.Seq.{get_or-append_seam, take-append_seam, take-length}
-use Rattle.std.proofs.lemmas.Bool.Decides.{leb_tells}
-use Rattle.std.proofs.lemmas.List.{length-append, map-append, get_or-map}
+use Rattle.std.proofs.Common.{◌≡◌, ◌⊎◌, inl, inr, ℕ, zero, suc, ◌+◌, ◌<◌, ◌≤◌, Bool, true, false, if◌then◌else◌, List, [], ◌∷◌, ◌++◌, length, map, take, position, Some, refl, sym, ap, ◌∙◌, arith, rules, append-nil}
+use Rattle.std.proofs.Math.Seq.{take-append_seam, take-length}
+use Rattle.std.proofs.lemmas.List.{length-append, map-append}
 use Rattle.std.proofs.lemmas.List.Quantifiers.{position-Some}
-use Rattle.std.specs.Prelude.{slice_get, option_map}
+use Rattle.std.specs.Prelude.{slice_get}
 use Rattle.std.specs.List.{AllByRecursion, IsDistinct}
 use Rattle.std.proofs.lemmas.Option.{slice_get-map, slice_get-get_or}
 use Rattle.plist_binwrite.specs.inner.Scalars.{AreApart}
+use Rattle.std.specs.Cmp.Rules.{comparing}
+use Rattle.std.proofs.lemmas.Slice.Eq.{bytes_eq-Decides}
+use Rattle.std.specs.Cow.{cow_str_bytes, cow_slice_items}
+use Rattle.plist_base.specs.declared.event.Event.{Event}
+use Rattle.plist_base.specs.declared.event.Event.TheVariants as event
+use Rattle.plist_base.specs.Events.{event_of}
+use Rattle.plist_base.specs.declared.real.RealBits.TheVariants as real
+use Rattle.plist_base.specs.inner.Hashing.{eq_of_events, same_list}
 
-module _ {T P : Type 0} (same : T → T → Bool) (view : T → P) where
+module _ {T P : Type 0} (eq_of_events : T → T → Bool) (view : T → P) where
   -- the key at a place
-  pub key_at : (cs : List T) (i : ℕ) (x y : T) → (same x y ≡ true → view x ≡ view y)
-      → slice_get cs i ≡ Some y → same x y ≡ true → slice_get (map view cs) i ≡ Some (view x)
+  pub key_at : (cs : List T) (i : ℕ) (x y : T) → (eq_of_events x y ≡ true → view x ≡ view y)
+      → slice_get cs i ≡ Some y → eq_of_events x y ≡ true → slice_get (map view cs) i ≡ Some
+      (view x)
   key_at cs i x y same_key h s =
-      slice_get-map view cs i ∙ ap (option_map view) h ∙ ap Some (sym (same_key s))
+      cc (slice_get-map view cs i, same_key s)
 
   -- the keys once one has come: one more at most
   grown : (b : Bool) (old new : List T) (x : T) → new ≡ (if b then old else old ++ x ∷ [])
       → (map view new ≡ map view old) ⊎ (map view new ≡ map view old ++ view x ∷ [])
-  grown true old new x e = inl (ap (map view) e)
-  grown false old new x e = inr (ap (map view) e ∙ map-append view old (x ∷ []))
+  grown true old new x e = inl (ap (map _) e)
+  grown false old new x e = inr (cc (map-append view old (x ∷ [])))
 
-  module _ (b : Bool) (old new : List T) (x : T) (e : new ≡ (if b then old else old ++ x ∷ [])) where
+  module _ (b : Bool) (old new : List T) (x : T)
+      (e : new ≡ (if b then old else old ++ x ∷ [])) where
     pub keys_more : (more : List P) × (map view new ≡ map view old ++ more)
     keys_more = elim (grown b old new x e) [
-      | inl s ↦ ([], s ∙ sym (append-nil (map view old)))
+      | inl s ↦ ([], s ∙ sym (append-nil _))
       | inr g ↦ (view x ∷ [], g)
     ]
 
@@ -33,12 +42,12 @@ module _ {T P : Type 0} (same : T → T → Bool) (view : T → P) where
     pub keys_kept : (i : ℕ) → i < length (map view old)
         → slice_get (map view new) i ≡ slice_get (map view old) i
     keys_kept i h =
-        let more = keys_more in ap (λ l. slice_get l i) more.1 ∙ front (map view old) more.0 i h
+        let more = keys_more in cc (front (map view old) more.0 i h)
       where
         front : (xs ys : List P) (i : ℕ) → i < length xs → slice_get (xs ++ ys) i ≡ slice_get xs i
-        front [] ys i h = absurd (omega (arith, h))
+        front [] ys i h = absurd (omega arith)
         front (y ∷ xs) ys zero h = refl
-        front (y ∷ xs) ys (suc i) h = front xs ys i (omega (arith, h))
+        front (y ∷ xs) ys (suc i) h = front xs ys i (omega arith)
 
     pub keys_grow : (length (map view old) ≤ length (map view new))
         × (length (map view new) ≤ length (map view old) + 1)
@@ -53,49 +62,64 @@ module _ {T P : Type 0} (same : T → T → Bool) (view : T → P) where
     pub key_came : (i : ℕ) → i < length (map view new)
         → (i < length (map view old)) ⊎ (slice_get (map view new) i ≡ Some (view x))
     key_came i h = elim (grown b old new x e) [
-      | inl s ↦ inl (subst (λ l. i < length l) s h)
-      | inr g ↦ elim (leb_tells (length (map view old)) i) [
-        | inl a ↦
-            let last : i ≡ length (map view old) =
-            omega (arith, a.1, h, ap length g, length-append (map view old) (view x ∷ [])) in
-            inr (slice_get-get_or (map view new) i (view x) h
-            ∙ ap Some (ap (λ l. get_or l i (view x)) g
-            ∙ ap (λ n. get_or (map view old ++ view x ∷ []) n (view x)) last
-            ∙ get_or-append_seam (map view old) (view x) [] (view x)))
-        | inr c ↦ inl c.1
-      ]
+      | inl s ↦ inl (rw (← s) h)
+      | inr g ↦ rw g (last _ i (rw (← g) h))
     ]
+      where
+        last : (xs : List P) (i : ℕ) → i < length (xs ++ view x ∷ [])
+            → (i < length xs) ⊎ (slice_get (xs ++ view x ∷ []) i ≡ Some (view x))
+        last [] zero h = inr refl
+        last [] (suc i) h = absurd (omega arith)
+        last (y ∷ xs) zero h = inl (omega arith)
+        last (y ∷ xs) (suc i) h = elim (last xs i (omega arith)) [
+          | inl l ↦ inl (omega arith)
+          | inr r ↦ inr r
+        ]
 
   -- the key that a search finds
-  pub key_found : (cs : List T) (i : ℕ) (x : T) (d : T) (e : P)
-      → ((y : T) → same x y ≡ true → view x ≡ view y) → position (same x) cs ≡ Some i
-      → get_or (map view cs) i e ≡ view x
-  key_found cs i x d e same_key h =
-      let f = position-Some (same x) cs i d h in
-      get_or-map view cs i d e f.0 ∙ sym (same_key (get_or cs i d) f.1)
+  pub key_found : (cs : List T) (i : ℕ) (x : T)
+      → ((y : T) → eq_of_events x y ≡ true → view x ≡ view y) → position (eq_of_events x) cs
+      ≡ Some i
+      → slice_get (map view cs) i ≡ Some (view x)
+  key_found cs i x same_key h =
+      let f = position-Some _ cs i x h in
+      key_at cs i x _ (same_key _) (slice_get-get_or cs i x f.0) f.1
 
   -- the keys once the one that came is dropped
   pub keys_back : (b : Bool) (old new : List T) (x : T) → new ≡ (if b then old else old ++ x ∷ [])
       → take (length old) new ≡ old
-  keys_back true old new x e = ap (take (length old)) e ∙ take-length old
-  keys_back false old new x e = ap (take (length old)) e ∙ take-append_seam old (x ∷ [])
+  keys_back true old new x e = cc (take-length old)
+  keys_back false old new x e = cc (take-append_seam old (x ∷ []))
 
-  module _ (key_same : (x y : T) → view x ≡ view y → same x y ≡ true) where
-    no_key : (x : T) (cs : List T) (j : ℕ) → AllByRecursion (λ y. same x y ≡ false) cs
+  module _ (key_same : (x y : T) → view x ≡ view y → eq_of_events x y ≡ true) where
+    no_key : (x : T) (cs : List T) (j : ℕ) → AllByRecursion (λ y. eq_of_events x y ≡ false) cs
         → slice_get (map view cs) j ≡ Some (view x) → ⊥
     no_key x [] j a h = cc
     no_key x (y ∷ cs) zero a h = let k : view y
-        ≡ view x = cc in never (same x y) (key_same x y (sym k)) a.0
+        ≡ view x = cc in never _ (key_same x y (sym k)) a.0
       where
         never : (b : Bool) → b ≡ true → b ≡ false → ⊥
         never b p q = cc
     no_key x (y ∷ cs) (suc j) a h = no_key x cs j a.1 h
 
     -- keys that are apart show different things
-    pub keys_apart : (cs : List T) → IsDistinct same cs → AreApart (map view cs)
+    pub keys_apart : (cs : List T) → IsDistinct eq_of_events cs → AreApart (map view cs)
     unfolding IsDistinct
     keys_apart [] d i j k p q = cc
     keys_apart (x ∷ cs) d zero zero k p q = refl
-    keys_apart (x ∷ cs) d zero (suc j) k p q = absurd (no_key x cs j d.0 (q ∙ sym p))
-    keys_apart (x ∷ cs) d (suc i) zero k p q = absurd (no_key x cs i d.0 (p ∙ sym q))
+    keys_apart (x ∷ cs) d zero (suc j) k p q = absurd (no_key x cs j d.0 (cc))
+    keys_apart (x ∷ cs) d (suc i) zero k p q = absurd (no_key x cs i d.0 (cc))
     keys_apart (x ∷ cs) d (suc i) (suc j) k p q = ap suc (keys_apart cs d.1 i j k p q)
+
+-- the derived test of events tells whether they show the same
+pub event_same : (x y : Event) → event_of x ≡ event_of y → eq_of_events x y ≡ true
+event_same (event.Data a) (event.Data b) h = (same_list _ _).1
+    (let e : cow_slice_items a ≡ cow_slice_items b = cc in e)
+event_same (event.String a) (event.String b) h = (same_list _ _).1
+    (let e : cow_str_bytes a ≡ cow_str_bytes b = cc in e)
+event_same (event.Date a) (event.Date b) h = (same_list a b).1 (let e : a ≡ b = cc in e)
+event_same (event.Real (real.Four a)) (event.Real (real.Four b)) h = (same_list a b).1
+    (let e : a ≡ b = cc in e)
+event_same (event.Real (real.Eight a)) (event.Real (real.Eight b)) h = (same_list a b).1
+    (let e : a ≡ b = cc in e)
+event_same x y h = search (comparing, rules, bytes_eq-Decides, h)

@@ -1,5 +1,5 @@
 -- Numbers of four bytes and those behind them, as one list.
-use Rattle.std.proofs.Common.{◌≡◌, ℕ, zero, suc, ◌-◌, ◌^◌, ◌<◌, List, [], ◌∷◌, ◌++◌, length, map, replicate, set, refl, ap, sym, ◌∙◌, arith}
+use Rattle.std.proofs.Common.{◌≡◌, ℕ, zero, suc, ◌-◌, ◌^◌, ◌<◌, List, [], ◌∷◌, ◌++◌, length, map, replicate, set, refl, ap, arith}
 use Rattle.std.proofs.lemmas.List.{map-set, set-append_left, length-map}
 use Rattle.plist_binwrite.specs.inner.Narrow.{wide_of}
 
@@ -14,6 +14,8 @@ pub set_narrow : (narrow wide : List ℕ) (i stored : ℕ) → i < length narrow
     → map wide_of (set narrow i stored) ++ wide
     ≡ set (map wide_of narrow ++ wide) i (wide_of stored)
 set_narrow narrow wide i stored within =
-    ap (λ xs. xs ++ wide) (map-set wide_of narrow i stored)
-    ∙ sym (set-append_left (map wide_of narrow) wide i (wide_of stored)
-    (omega (arith, within, length-map narrow wide_of)))
+    cc (
+      map-set wide_of narrow i stored,
+      set-append_left (map wide_of narrow) wide i
+          (wide_of stored) (omega (arith, within, length-map narrow wide_of)),
+    )

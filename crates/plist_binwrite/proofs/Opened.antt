@@ -1,52 +1,72 @@
--- The skips of events once one more has come: an end is that of the innermost start without one,
--- and of no other.
-use Rattle.std.proofs.Common.{◌≡◌, ◌≢◌, ◌⊎◌, inl, inr, ℕ, ◌+◌, ◌<◌, ◌≤◌, Bool, true, false, None, List, [], ◌∷◌, ◌++◌, length, drop, take, refl, ap, sym, ◌∙◌, subst, arith, append-nil, length-append, length-drop, add-zero}
+-- What is begun behind some events, and where the tree that begins at a place ends.
+use Rattle.std.proofs.Common.{◌≡◌, ◌≢◌, ℕ, suc, ◌+◌, ◌<◌, ◌≤◌, Bool, true, false, if◌then◌else◌, List, [], ◌∷◌, ◌++◌, length, drop, take, refl, ap, sym, ◌∙◌, subst, arith, length-append, length-drop, add-zero}
 use Rattle.std.specs.List.{AllByRecursion}
-use Rattle.std.proofs.lemmas.Bool.Decides.{eqb_tells}
-use Rattle.std.proofs.lemmas.List.{drop-append-le, take-append-drop, take-append-le, take_at, length-take-le, same_from_push, nil_from_length}
-use Rattle.plist_base.specs.Trees as trees
+use Rattle.std.proofs.lemmas.Bool.{eq-eqb, ne_eqb}
+use Rattle.std.proofs.lemmas.Bool.Decides.{nat_tests}
+use Rattle.std.proofs.lemmas.List.{take-append-drop, length-take-le}
 use Rattle.plist_base.specs.Events.{PlainEvent, StartArray, StartDictionary, EndCollection, Single}
 use Rattle.plist_base.specs.Trees.{Tree, Leaf, Array, Dictionary, Trees, NoTrees, TreeAnd, Members, NoMembers, MemberAnd}
 use Rattle.plist_base.specs.Bracketing.{shape, shape_of_items, shape_of_pairs}
 use Rattle.plist_binwrite.specs.Held.{event_at}
-use Rattle.plist_binwrite.specs.Standing.{size, Sits, IsSkips}
-use Rattle.plist_binwrite.specs.inner.Opening.{without_innermost, open_behind, open_from, open_after}
-use Rattle.plist_binwrite.proofs.Sitting.{past, past_one}
-use Rattle.plist_binwrite.proofs.Skipping.{first_event, sits_in, sits_within, size_positive}
+use Rattle.plist_binwrite.specs.Standing.{size, Sits}
+use Rattle.plist_binwrite.specs.inner.Opening.{open_behind, open_from, open_after, skip_behind, skip_from, skip_after}
+use Rattle.plist_binwrite.proofs.Sitting.{past_one}
+use Rattle.plist_binwrite.proofs.Skipping.{first_event, sits_within, size_positive}
 
--- ---- what is begun behind some events
+-- ---- behind events in two parts
 
-pub open_append : (a b : List PlainEvent) (p : ℕ) (begun : List ℕ)
+open_append : (a b : List PlainEvent) (p : ℕ) (begun : List ℕ)
     → open_from (a ++ b) p begun ≡ open_from b (p + length a) (open_from a p begun)
-open_append [] b p begun = ap (λ k. open_from b k begun) (sym (add-zero p))
+open_append [] b p begun = ap (λ k. open_from b k _) (sym (add-zero p))
 open_append (e ∷ a) b p begun =
     let k : p + 1 + length a ≡ p + length (e ∷ a) = omega arith in
-    open_append a b (p + 1) (open_behind e p begun)
-    ∙ ap (λ n. open_from b n (open_from a (p + 1) (open_behind e p begun))) k
+    rw (← k) (open_append a b _ _)
+
+skip_append : (a b : List PlainEvent) (p : ℕ) (begun : List ℕ) (q told : ℕ)
+    → skip_from (a ++ b) p begun q told
+    ≡ skip_from b (p + length a) (open_from a p begun) q (skip_from a p begun q told)
+skip_append [] b p begun q told = ap (λ k. skip_from b k _ q _) (sym (add-zero p))
+skip_append (e ∷ a) b p begun q told =
+    let k : p + 1 + length a ≡ p + length (e ∷ a) = omega arith in
+    rw (← k) (skip_append a b _ _ q _)
 
 -- one more event
 pub open_more : (es : List PlainEvent) (e : PlainEvent)
     → open_after (es ++ e ∷ []) ≡ open_behind e (length es) (open_after es)
 open_more es e =
     let z : 0 + length es ≡ length es = omega arith in
-    open_append es (e ∷ []) 0 [] ∙ ap (λ n. open_behind e n (open_after es)) z
+    cc (open_append es (e ∷ []) 0 [])
+
+pub skip_more : (es : List PlainEvent) (e : PlainEvent) (q : ℕ) → skip_after (es ++ e ∷ []) q
+    ≡ skip_behind e (length es) (open_after es) q (skip_after es q)
+skip_more es e q =
+    let z : 0 + length es ≡ length es = omega arith in
+    cc (skip_append es (e ∷ []) 0 [] q (q + 1))
+
+-- ---- trees
 
 mutual
   -- a tree leaves nothing begun
-  pub open_tree : (t : Tree) (p : ℕ) (begun : List ℕ) → open_from (shape t) p begun ≡ begun
+  open_tree : (t : Tree) (p : ℕ) (begun : List ℕ) → open_from (shape t) p begun ≡ begun
   open_tree (Leaf x) p begun = refl
   open_tree (Array ts) p begun =
-      open_append (shape_of_items ts) (EndCollection ∷ []) (p + 1) (p ∷ begun)
-      ∙ ap without_innermost (open_items ts (p + 1) (p ∷ begun))
+      cc (
+        open_append (shape_of_items ts) (EndCollection ∷ []) (p + 1) (p ∷ begun),
+        open_items ts
+            (p + 1) (p ∷ begun),
+      )
   open_tree (Dictionary ms) p begun =
-      open_append (shape_of_pairs ms) (EndCollection ∷ []) (p + 1) (p ∷ begun)
-      ∙ ap without_innermost (open_pairs ms (p + 1) (p ∷ begun))
+      cc (
+        open_append (shape_of_pairs ms) (EndCollection ∷ []) (p + 1) (p ∷ begun),
+        open_pairs ms
+            (p + 1) (p ∷ begun),
+      )
 
   open_items : (ts : Trees) (p : ℕ) (begun : List ℕ) → open_from (shape_of_items ts) p begun ≡ begun
   open_items NoTrees p begun = refl
   open_items (TreeAnd t ts) p begun =
-      open_append (shape t) (shape_of_items ts) p begun
-      ∙ open_items ts (p + size t) (open_from (shape t) p begun) ∙ open_tree t p begun
+      open_append (shape t) _ p _
+      ∙ open_items ts _ _ ∙ open_tree t p _
 
   open_pairs : (ms : Members) (p : ℕ) (begun : List ℕ) → open_from (shape_of_pairs ms) p begun
       ≡ begun
@@ -56,241 +76,127 @@ mutual
       ∙ open_pairs ms (p + 1 + size t) (open_from (shape t) (p + 1) begun)
       ∙ open_tree t (p + 1) begun
 
--- ---- which places can be begun
+-- and its end is that of its start
+skip_end : (body : List PlainEvent) (q told : ℕ) (begun : List ℕ)
+    → open_from body (q + 1) (q ∷ begun) ≡ q ∷ begun
+    → skip_from (body ++ EndCollection ∷ []) (q + 1) (q ∷ begun) q told
+    ≡ q + suc (length (body ++ EndCollection ∷ []))
+skip_end body q told begun h =
+    skip_append body (EndCollection ∷ []) (q + 1) (q ∷ begun) q told
+    ∙ ap (λ b. skip_behind EndCollection (q + 1 + length body) b q
+    (skip_from body (q + 1) (q ∷ begun) q told)) h
+    ∙ ap (λ b. if b then q + 1 + length body + 1 else skip_from body (q + 1) (q ∷ begun) q told)
+    (eq-eqb q q refl) ∙ omega (arith, length-append body (EndCollection ∷ []))
+
+skip_tree : (t : Tree) (q : ℕ) (begun : List ℕ) → skip_from (shape t) q begun q (q + 1) ≡ q + size t
+skip_tree (Leaf x) q begun = refl
+skip_tree (Array ts) q begun =
+    skip_end _ q _ begun (open_items ts (q + 1) (q ∷ begun))
+skip_tree (Dictionary ms) q begun =
+    skip_end _ q _ begun (open_pairs ms (q + 1) (q ∷ begun))
+
+-- ---- a place that isn't begun
+
+abbrev Lacks : ℕ → List ℕ → Type 0
+Lacks q places = AllByRecursion (λ place. place ≢ q) places
+
+one_apart : (e : PlainEvent) (p q told : ℕ) (begun : List ℕ) → p ≢ q → Lacks q begun
+    → Lacks q (open_behind e p begun) × (skip_behind e p begun q told ≡ told)
+one_apart EndCollection p q told [] off l = (tt, refl)
+one_apart EndCollection p q told (i ∷ outer) off l =
+    (l.1, ap (λ b. if b then p + 1 else told) (ne_eqb q i (λ e. l.0 (sym e))))
+one_apart (Single x) p q told begun off l = (l, refl)
+one_apart e p q told begun off l = ((off, l), refl)
+
+-- no other events begin it, or end what begins there
+apart : (es : List PlainEvent) (p q told : ℕ) (begun : List ℕ)
+    → ((k : ℕ) → k < length es → p + k ≢ q) → Lacks q begun
+    → Lacks q (open_from es p begun) × (skip_from es p begun q told ≡ told)
+apart [] p q told begun off l = (l, refl)
+apart (e ∷ es) p q told begun off l =
+    let one = one_apart e p q told begun (λ h. off 0 (omega arith) (omega (arith, h))) l in
+    let all = apart es (p + 1) q (skip_behind e p begun q told) (open_behind e p begun)
+    (λ k lt h. off (suc k) (omega (arith, lt)) (omega (arith, h))) one.0 in
+    (all.0, all.1 ∙ one.1)
+
+-- ---- where trees end
+
+module _ (es : List PlainEvent) (q : ℕ) (le : q ≤ length es) where
+  abbrev before : List ℕ
+  before = open_from (take q es) 0 []
+
+  before_apart : Lacks q before × (skip_after (take q es) q ≡ q + 1)
+  before_apart =
+      apart (take q es) 0 q (q + 1) [] (λ k lt h. omega (arith, lt, h, length-take-le q es le)) tt
+
+  -- only the events from q on say where it ends
+  from_there : skip_after es q ≡ skip_from (drop q es) q before q (q + 1)
+  from_there =
+      let z : 0 + length (take q es) ≡ q = omega (arith, length-take-le q es le) in
+      ap (λ l. skip_after l q) (sym (take-append-drop q es))
+      ∙ skip_append (take q es) (drop q es) 0 [] q (q + 1)
+      ∙ ap (λ n. skip_from (drop q es) n before q (skip_after (take q es) q)) z
+      ∙ ap (skip_from (drop q es) q before q) before_apart.1
+
+pub skip_ends : (es : List PlainEvent) (t : Tree) (q : ℕ) → Sits es t q
+    → skip_after es q ≡ q + size t
+skip_ends es t q s =
+    let le : q ≤ length es = omega (arith, sits_within s) in
+    let b = before es q le in
+    from_there es q le ∙ ap (λ l. skip_from l q b q (q + 1)) s.is
+    ∙ skip_append (shape t) s.rest q b q (q + 1)
+    ∙ (λ i. skip_from s.rest (q + size t) (open_tree t q b i) q (skip_tree t q b i))
+    ∙ (apart s.rest (q + size t) q (q + size t) b
+    (λ k lt h. omega (arith, h, size_positive t)) (before_apart es q le).0).1
+
+one_within : (e : PlainEvent) (p q told n : ℕ) (begun : List ℕ) → q ≤ p → p < n → q < told
+    → told ≤ n → (q < skip_behind e p begun q told) × (skip_behind e p begun q told ≤ n)
+one_within EndCollection p q told n [] a b c d = (c, d)
+one_within EndCollection p q told n (i ∷ outer) a b c d =
+    (grind (arith, nat_tests), grind (arith, nat_tests))
+one_within e p q told n begun a b c d = (c, d)
+
+all_within : (es : List PlainEvent) (p q told n : ℕ) (begun : List ℕ) → q ≤ p → p + length es ≤ n
+    → q < told → told ≤ n
+    → (q < skip_from es p begun q told) × (skip_from es p begun q told ≤ n)
+all_within [] p q told n begun a b c d = (c, d)
+all_within (e ∷ es) p q told n begun a b c d =
+    let one = one_within e p q _ n _ a (omega arith) c d in
+    all_within es _ q _ n _ (omega arith) (omega arith) one.0 one.1
+
+pub skip_forward : (es : List PlainEvent) (q : ℕ) → q < length es
+    → (q < skip_after es q) × (skip_after es q ≤ length es)
+skip_forward es q lt =
+    let le : q ≤ length es = omega arith in
+    rw (from_there es q le)
+    (all_within (drop q es) q q (q + 1) (length es) (before es q le) (omega arith)
+    (omega (arith, length-drop q es)) (omega arith) (omega arith))
+
+-- ---- what is begun is a start
 
 abbrev pub is_start : PlainEvent → Bool
 is_start (StartArray hint) = true
 is_start (StartDictionary hint) = true
 is_start e = false
 
--- what holds of the places that are begun, and of those of the starts that come, goes on holding
-module _ (P : ℕ → Type 0) where
-  outer_has : (ps : List ℕ) → AllByRecursion P ps → AllByRecursion P (without_innermost ps)
-  outer_has [] a = tt
-  outer_has (p ∷ ps) a = a.1
+module _ (all : List PlainEvent) where
+  abbrev Starts : List ℕ → Type 0
+  Starts places = AllByRecursion (λ q. is_start (event_at all q) ≡ true) places
 
-  behind_has : (e : PlainEvent) (p : ℕ) (begun : List ℕ) → (is_start e ≡ true → P p)
-      → AllByRecursion P begun → AllByRecursion P (open_behind e p begun)
-  behind_has EndCollection p begun h a = outer_has begun a
-  behind_has (Single x) p begun h a = a
-  behind_has e p begun h a = (h refl, a)
+  one_starts : (e : PlainEvent) (p : ℕ) (begun : List ℕ) → event_at all p ≡ e → Starts begun
+      → Starts (open_behind e p begun)
+  one_starts EndCollection p [] is a = tt
+  one_starts EndCollection p (i ∷ outer) is a = a.1
+  one_starts (Single x) p begun is a = a
+  one_starts e p begun is a = (ap is_start is, a)
 
-  begun_have : (all es : List PlainEvent) (p : ℕ) (begun : List ℕ) → drop p all ≡ es
-      → ((q : ℕ) → p ≤ q → q < p + length es → is_start (event_at all q) ≡ true → P q)
-      → AllByRecursion P begun → AllByRecursion P (open_from es p begun)
-  begun_have all [] p begun is h a = a
-  begun_have all (e ∷ es) p begun is h a =
-      begun_have all es (p + 1) (open_behind e p begun) (past_one e es all p is)
-      (λ q le lt s. h q (omega (arith, le)) (omega (arith, lt)) s)
-      (behind_has e p begun (λ s. h p (omega arith) (omega arith)
-      (ap is_start (first_event all p e es is) ∙ s)) a)
+  all_start : (es : List PlainEvent) (p : ℕ) (begun : List ℕ) → drop p all ≡ es → Starts begun
+      → Starts (open_from es p begun)
+  all_start [] p begun is a = a
+  all_start (e ∷ es) p begun is a =
+      all_start es _ _ (past_one e es all p is)
+      (one_starts e p begun (first_event all p e es is) a)
 
--- so of the starts that are begun at the end
-open_have : (P : ℕ → Type 0) (es : List PlainEvent)
-    → ((q : ℕ) → q < length es → is_start (event_at es q) ≡ true → P q)
-    → AllByRecursion P (open_after es)
-open_have P es h = begun_have P es es 0 [] refl (λ q le lt s. h q (omega (arith, lt)) s) tt
-
-pub innermost_has : (P : ℕ → Type 0) (es : List PlainEvent) (q : ℕ) (outer : List ℕ)
-    → open_after es ≡ q ∷ outer
-    → ((q : ℕ) → q < length es → is_start (event_at es q) ≡ true → P q) → P q
-innermost_has P es q outer is h = (subst (AllByRecursion P) is (open_have P es h)).0
-
--- this place isn't among them
-abbrev Lacks : ℕ → List ℕ → Type 0
-Lacks q places = AllByRecursion (λ place. place ≢ q) places
-
--- the events in two parts
-open_parts : (es : List PlainEvent) (q : ℕ) → q ≤ length es
-    → open_after es ≡ open_from (drop q es) q (open_from (take q es) 0 [])
-open_parts es q le =
-    let z : 0 + length (take q es) ≡ q = omega (arith, length-take-le q es le) in
-    ap open_after (sym (take-append-drop q es))
-    ∙ open_append (take q es) (drop q es) 0 []
-    ∙ ap (λ n. open_from (drop q es) n (open_from (take q es) 0 [])) z
-
--- a start whose end is there isn't begun
-pub closed_lacks : (es : List PlainEvent) (t : Tree) (q : ℕ) → Sits es t q
-    → Lacks q (open_after es)
-closed_lacks es t q s =
-    let le : q ≤ length es = omega (arith, sits_within s) in
-    let before = open_from (take q es) 0 [] in
-    let is : open_after es ≡ open_from s.rest (q + size t) before = open_parts es q le
-    ∙ ap (λ l. open_from l q before) s.is
-    ∙ open_append (shape t) s.rest q before
-    ∙ ap (open_from s.rest (q + size t)) (open_tree t q before) in
-    subst (Lacks q) (sym is) (begun_have (λ place. place ≢ q) es s.rest (q + size t) before
-    (past (shape t) s.rest es q s.is) (λ k at lt start e. omega (arith, at, e, size_positive t))
-    (open_have (λ place. place ≢ q) (take q es)
-    (λ k lt start e. omega (arith, lt, e, length-take-le q es le))))
-
-pub closed_not_innermost : (es : List PlainEvent) (t : Tree) (p q : ℕ) (outer : List ℕ)
-    → Sits es t p
-    → open_after es ≡ q ∷ outer → p ≢ q
-closed_not_innermost es t p q outer s h e = (subst (Lacks p) h (closed_lacks es t p s)).0 (sym e)
-
--- ---- trees before and after one more event
-
-module _ (es : List PlainEvent) (e : PlainEvent) where
-  long : length (es ++ e ∷ []) ≡ length es + 1
-  long = length-append es (e ∷ [])
-
-  behind : (t : Tree) (q : ℕ) → Sits (es ++ e ∷ []) t q → q ≤ length es
-  behind t q s = omega (arith, sits_within s, long, size_positive t)
-
-  -- the events from its first one on
-  from_there : (t : Tree) (q : ℕ) (s : Sits (es ++ e ∷ []) t q)
-      → drop q es ++ e ∷ [] ≡ shape t ++ s.rest
-  from_there t q s = sym (drop-append-le q es (e ∷ []) (behind t q s)) ∙ s.is
-
-  -- a tree that ends before the new event stood there
-  pub sits_less : (t : Tree) (q : ℕ) → Sits (es ++ e ∷ []) t q → q + size t ≤ length es
-      → Sits es t q
-  sits_less t q s le =
-      let far : size t ≤ length (drop q es) = omega (arith, length-drop q es, le) in
-      let front : take (size t) (drop q es) ≡ shape t
-      = sym (take-append-le (size t) (drop q es) (e ∷ []) far)
-      ∙ ap (take (size t)) (from_there t q s) ∙ take_at (shape t) s.rest (size t) refl in
-      record {
-        rest = drop (size t) (drop q es);
-        is = sym (take-append-drop (size t) (drop q es))
-            ∙ ap (λ l. l ++ drop (size t) (drop q es)) front;
-      }
-
-  -- a tree that ends with the new event is all from its first one on
-  all_there : (t : Tree) (q : ℕ) (s : Sits (es ++ e ∷ []) t q) → q + size t ≡ length es + 1
-      → drop q es ++ e ∷ [] ≡ shape t
-  all_there t q s last =
-      let none : length s.rest ≡ 0 = omega (
-        arith,
-        last,
-        behind t q s,
-        ap length (from_there t q s),
-        length-append (drop q es) (e ∷ []),
-        length-append (shape t) s.rest,
-        length-drop q es,
-      ) in
-      from_there t q s ∙ ap (λ l. shape t ++ l) (nil_from_length s.rest none) ∙ append-nil (shape t)
-
--- ---- one more event
-
-pub one_leaf : (l : List PlainEvent) (e : PlainEvent) (x : trees.Scalar) → l ++ e ∷ []
-    ≡ Single x ∷ []
-    → (l ≡ []) × (e ≡ Single x)
-one_leaf [] e x p = (refl, (let h : e ≡ Single x = cc in h))
-one_leaf (a ∷ []) e x p = cc
-one_leaf (a ∷ b ∷ l) e x p = cc
-
--- what the last event of a tree is: an end, or all of a scalar
-last_of : (t : Tree) (l : List PlainEvent) (e : PlainEvent) → l ++ e ∷ [] ≡ shape t
-    → (e ≡ EndCollection) ⊎ ((l ≡ []) × ((x : trees.Scalar) × (e ≡ Single x)))
-last_of (Leaf x) l e h = inr ((one_leaf l e x h).0, (x, (one_leaf l e x h).1))
-last_of (Array ts) l e h =
-    inl (same_from_push l (StartArray None ∷ shape_of_items ts) e EndCollection h).1
-last_of (Dictionary ms) l e h =
-    inl (same_from_push l (StartDictionary None ∷ shape_of_pairs ms) e EndCollection h).1
-
--- a tree whose end has come began at the innermost start without one
-pub ends_innermost : (es : List PlainEvent) (t : Tree) (q : ℕ) → Sits (es ++ EndCollection ∷ []) t q
-    → q + size t ≡ length es + 1 → (outer : List ℕ) × (open_after es ≡ q ∷ outer)
-ends_innermost es t q s last =
-    by t (all_there es EndCollection t q s last)
-  where
-    opened : (start : PlainEvent) (body : List PlainEvent)
-        → ((begun : List ℕ) → open_from (start ∷ body) q begun ≡ q ∷ begun)
-        → drop q es ++ EndCollection ∷ [] ≡ (start ∷ body) ++ EndCollection ∷ []
-        → (outer : List ℕ) × (open_after es ≡ q ∷ outer)
-    opened start body h d =
-        let before = open_from (take q es) 0 [] in (
-          before,
-          open_parts es q (behind es EndCollection t q s)
-              ∙ ap (λ l. open_from l q before)
-              (same_from_push (drop q es) (start ∷ body) EndCollection EndCollection d).0
-              ∙ h before,
-        )
-
-    by : (t : Tree) → drop q es ++ EndCollection ∷ [] ≡ shape t
-        → (outer : List ℕ) × (open_after es ≡ q ∷ outer)
-    by (Leaf x) h =
-        cc ((one_leaf (drop q es) EndCollection x h).1)
-    by (Array ts) h =
-        opened (StartArray None) (shape_of_items ts) (λ begun. open_items ts (q + 1) (q ∷ begun)) h
-    by (Dictionary ms) h =
-        opened (StartDictionary None) (shape_of_pairs ms)
-        (λ begun. open_pairs ms (q + 1) (q ∷ begun)) h
-
--- ---- the skips after one more event
-
--- a tree that ends with an event behind these begins there
-abbrev pub EndsAlone : List PlainEvent → PlainEvent → Type 0
-EndsAlone es e =
-    (t : Tree) (q : ℕ) → Sits (es ++ e ∷ []) t q → q + size t ≡ length es + 1 → q ≡ length es
-
-module _ (es : List PlainEvent) (e : PlainEvent) (old new : ℕ → ℕ) (s : IsSkips es old)
-    (last : new (length es) ≡ length es + 1) where
-  -- only what ends with the event has another skip
-  skips_more : ((q : ℕ) → q < length es → (new q ≡ old q) ⊎ (new q ≡ length es + 1))
-      → ((t : Tree) (q : ℕ) → Sits (es ++ e ∷ []) t q → q + size t ≡ length es + 1
-      → new q ≡ length es + 1)
-      → ((t : Tree) (q : ℕ) → Sits es t q → new q ≡ old q) → IsSkips (es ++ e ∷ []) new
-  skips_more either ends kept = record {
-    forward = λ q b.
-        elim (eqb_tells q (length es)) [
-          | inl d ↦ let k : new q ≡ length es + 1 = ap new d.1 ∙ last in
-              (omega (arith, k, d.1), omega (arith, k, long es e))
-          | inr d ↦
-              let lt : q < length es = omega (arith, b, long es e, d.1) in
-              elim (either q lt) [
-                | inl k ↦ let f = s.forward q lt in
-                    (omega (arith, k, f.0), omega (arith, k, f.1, long es e))
-                | inr k ↦ (omega (arith, k, lt), omega (arith, k, long es e))
-              ]
-        ];
-    ends = λ t q there.
-        elim (eqb_tells (q + size t) (length es + 1)) [
-          | inl d ↦ ends t q there d.1 ∙ sym d.1
-          | inr d ↦
-              let le : q + size t ≤ length es = omega (arith, sits_within there, long es e, d.1) in
-              let before = sits_less es e t q there le in
-              kept t q before ∙ s.ends t q before
-        ];
-  }
-
-  pub skips_alone : ((q : ℕ) → q < length es → new q ≡ old q) → EndsAlone es e
-      → IsSkips (es ++ e ∷ []) new
-  skips_alone same alone =
-      skips_more (λ q lt. inl (same q lt)) (λ t q there d. ap new (alone t q there d) ∙ last)
-      (λ t q there. same q (sits_in there))
-
--- a start has no end yet, and a scalar is all of its tree
-pub begins_alone : (es : List PlainEvent) (e : PlainEvent) → (e ≡ EndCollection → ⊥)
-    → EndsAlone es e
-begins_alone es e other t q there last =
-    elim (last_of t (drop q es) e (all_there es e t q there last)) [
-      | inl h ↦ absurd (other h)
-      | inr h ↦ omega (arith, behind es e t q there, length-drop q es, ap length h.0)
-    ]
-
--- an end where nothing is begun ends nothing
-pub stray_alone : (es : List PlainEvent) → open_after es ≡ [] → EndsAlone es EndCollection
-stray_alone es none t q there last =
-    let h = ends_innermost es t q there last in cc (h.1, none)
-
-same_first : (a b : ℕ) (xs ys : List ℕ) → a ∷ xs ≡ b ∷ ys → a ≡ b
-same_first a b xs ys p = cc
-
--- the end of the innermost start
-pub skips_end : (es : List PlainEvent) (old new : ℕ → ℕ) (innermost : ℕ) (outer : List ℕ)
-    → IsSkips es old → open_after es ≡ innermost ∷ outer
-    → new (length es) ≡ length es + 1 → new innermost ≡ length es + 1
-    → ((q : ℕ) → q < length es → q ≢ innermost → new q ≡ old q)
-    → IsSkips (es ++ EndCollection ∷ []) new
-skips_end es old new innermost outer s h last here other =
-    skips_more es EndCollection old new s last
-    (λ q lt. elim (eqb_tells q innermost) [
-      | inl d ↦ inr (ap new d.1 ∙ here)
-      | inr d ↦ inl (other q lt d.1)
-    ])
-    (λ t q there d. let i = ends_innermost es t q there d in
-    ap new (same_first q innermost i.0 outer (sym i.1 ∙ h)) ∙ here)
-    (λ t q there. other q (sits_in there) (closed_not_innermost es t q innermost outer there h))
+  pub innermost_starts : (q : ℕ) (outer : List ℕ) → open_after all ≡ q ∷ outer
+      → is_start (event_at all q) ≡ true
+  innermost_starts q outer is = (subst Starts is (all_start all 0 [] refl tt)).0

@@ -1,64 +1,58 @@
 -- Steps of sending through a room.
-use Rattle.std.proofs.Common.{◌≡◌, ◌+◌, ◌<◌, ◌≤◌, ℕ, List, [], ◌∷◌, ◌++◌, length, get_or, map, take, drop, arith, Option, Ok, Err, refl, sym, ap, ◌∙◌, subst, append_assoc, append-nil}
+use Rattle.std.proofs.Common.{◌≡◌, ◌+◌, ◌<◌, ℕ, List, [], ◌++◌, length, get_or, map, take, drop, Option, Ok, Err, refl, sym, ap, ◌∙◌, append_assoc, append-nil}
 use Rattle.std.specs.List.{flat_map}
 use Rattle.std.proofs.lemmas.Grind.{flat_map-append}
 use Rattle.std.proofs.lemmas.List.{take-append-drop, take_more}
-use Rattle.std.proofs.Math.Seq.{take-length}
 use Rattle.std.specs.Io.KnownBytes.{Appends}
 use Rattle.std.proofs.KnownBytes.{Appends-trans, Appends-nil}
 use Rattle.plist_base.specs.Faults.{Fault, Io, fault_nowhere}
 use Rattle.plist_base.specs.Writing.{Answer}
 use Rattle.plist_base.specs.Fronts.{AppendsFront}
 use Rattle.plist_binwrite.specs.Forms.{table_form}
-use Rattle.plist_binwrite.specs.Outlets.{IsOut, Follow, PutsBytes}
+use Rattle.plist_binwrite.specs.Outlets.{IsOut, PutsBytes}
 
 -- a beginning of some bytes is one of more
 pub front_more : (a b : Option (List ℕ)) (xs ys : List ℕ) → AppendsFront a b xs
     → AppendsFront a b (xs ++ ys)
-front_more a b xs ys f = (f.0, f.1 ++ ys, f.2, ap (λ l. l ++ ys) f.3 ∙ append_assoc f.0 f.1 ys)
+front_more a b xs ys f = (f.0, f.1 ++ ys, f.2, cc (append_assoc f.0 f.1 ys))
 
 -- nothing yet
 pub puts_none : {a : Option (List ℕ)} {held : List ℕ} → PutsBytes a held [] (Ok tt) a held
-puts_none {a} {held} =
-    record { follow = λ first done out. subst (IsOut first a held) (sym (append-nil done)) out }
+puts_none = record { follow = λ first done out. rw append-nil out }
 
 -- bytes, and then more
 pub puts_then : {a b c : Option (List ℕ)} {held h k xs ys : List ℕ} {answer : Answer}
     → PutsBytes a held xs (Ok tt) b h → PutsBytes b h ys answer c k
     → PutsBytes a held (xs ++ ys) answer c k
-puts_then {a} {b} {c} {held} {h} {k} {xs} {ys} {answer} p q = go answer q.follow
-  where
-    go : (answer : Answer) → Follow b h ys answer c k → PutsBytes a held (xs ++ ys) answer c k
-    go (Ok u) q =
-        record {
-          follow = λ first done out. subst (IsOut first c k) (append_assoc done xs ys)
-              (q first (done ++ xs) (p.follow first done out));
-        }
-    go (Err fault) q =
-        record {
-          follow = (
-            q.0,
-            λ first done out. subst (AppendsFront first c)
-                (append_assoc done xs ys) (q.1 first (done ++ xs) (p.follow first done out)),
-          );
-        }
+puts_then {xs} {ys} {answer = Ok u} p q =
+    record {
+      follow = λ first done out. rw (← append_assoc done xs ys)
+          (q.follow first (done ++ xs) (p.follow first done out));
+    }
+puts_then {xs} {ys} {answer = Err fault} p q =
+    record {
+      follow = (
+        q.follow.0,
+        λ first done out. rw (← append_assoc done xs ys)
+            (q.follow.1 first (done ++ xs) (p.follow first done out)),
+      );
+    }
 
 -- what failed fails the whole
 pub puts_front : {a b : Option (List ℕ)} {held h xs : List ℕ} {fault : Fault} (ys : List ℕ)
     → PutsBytes a held xs (Err fault) b h → PutsBytes a held (xs ++ ys) (Err fault) b h
-puts_front {a} {b} {held} {h} {xs} {fault} ys p =
+puts_front {b} {xs} ys p =
     record {
       follow = (
         p.follow.0,
-        λ first done out. subst (AppendsFront first b)
-            (append_assoc done xs ys) (front_more first b (done ++ xs) ys
-            (p.follow.1 first done out)),
+        λ first done out. rw (← append_assoc done xs ys)
+            (front_more first b (done ++ xs) ys (p.follow.1 first done out)),
       );
     }
 
 pub puts_as : {a b : Option (List ℕ)} {held k xs ys : List ℕ} {answer : Answer} → xs ≡ ys
     → PutsBytes a held xs answer b k → PutsBytes a held ys answer b k
-puts_as {a} {b} {held} {k} {xs} {ys} {answer} e p = subst (λ l. PutsBytes a held l answer b k) e p
+puts_as e p = rw (← e) p
 
 -- all goes out, where the numbers at these places do yet
 abbrev pub PutsRest : (num : ℕ → ℕ) (w : ℕ) (a : Option (List ℕ)) (held all : List ℕ)
@@ -67,7 +61,7 @@ PutsRest num w a held all b h places = (answer : Answer) (c : Option (List ℕ))
     → PutsBytes b h (table_form w (map num places)) answer c k → PutsBytes a held all answer c k
 
 -- what waited goes out, and then bytes do
-puts_out : (a b : Option (List ℕ)) (held xs : List ℕ) → Appends a b (held ++ xs)
+pub puts_out : (a b : Option (List ℕ)) (held xs : List ℕ) → Appends a b (held ++ xs)
     → PutsBytes a held xs (Ok tt) b []
 puts_out a b held xs h = record {
   follow = λ first done out. record {
@@ -84,12 +78,12 @@ pub out_front : (first a b : Option (List ℕ)) (held done : List ℕ) → Appen
 out_front first a b held done f out = (
   out.sent ++ f.0,
   f.1,
-  Appends-trans first a b out.sent f.0 out.went f.2,
-  out.is ∙ ap (λ l. out.sent ++ l) f.3 ∙ sym (append_assoc out.sent f.0 f.1),
+  Appends-trans _ a b _ f.0 out.went f.2,
+  cc (append_assoc out.sent f.0 f.1),
 )
 
 -- or of it and the bytes
-puts_broken : (a b : Option (List ℕ)) (held xs h : List ℕ) (fault : Fault)
+pub puts_broken : (a b : Option (List ℕ)) (held xs h : List ℕ) (fault : Fault)
     → fault ≡ fault_nowhere Io → AppendsFront a b (held ++ xs)
     → PutsBytes a held xs (Err fault) b h
 puts_broken a b held xs h fault io f = record {
@@ -103,48 +97,23 @@ puts_broken a b held xs h fault io f = record {
   );
 }
 
--- ---- what `put` does where bytes don't fit
-
-pub put_all : (a b c : Option (List ℕ)) (held now bytes k : List ℕ) → now ≡ held → k ≡ []
-    → Appends a b now → Appends b c bytes → PutsBytes a held bytes (Ok tt) c k
-put_all a b c held now bytes k e n p q =
-    rw n (puts_out a c held bytes (Appends-trans a b c held bytes (subst (Appends a b) e p) q))
-
-pub put_half : (a b c : Option (List ℕ)) (held now bytes k : List ℕ) (fault : Fault) → now ≡ held
-    → k ≡ [] → Appends a b now → fault ≡ fault_nowhere Io → AppendsFront b c bytes
-    → PutsBytes a held bytes (Err fault) c k
-put_half a b c held now bytes k fault e n p io q =
-    puts_broken a c held bytes k fault io (
-      held ++ q.0,
-      q.1,
-      Appends-trans a b c held q.0 (subst (Appends a b) e p) q.2,
-      ap (λ l. held ++ l) q.3 ∙ sym (append_assoc held q.0 q.1),
-    )
-
-pub put_stuck : (a b : Option (List ℕ)) (held now bytes k : List ℕ) (fault : Fault) → now ≡ held
-    → fault ≡ fault_nowhere Io → AppendsFront a b now → PutsBytes a held bytes (Err fault) b k
-put_stuck a b held now bytes k fault e io f =
-    puts_broken a b held bytes k fault io
-    (front_more a b held bytes (subst (AppendsFront a b) e f))
-
 -- ---- bytes of each of some numbers
 
 module _ (f : ℕ → List ℕ) (xs : List ℕ) (i : ℕ) (lt : i < length xs) where
   pub one_part : flat_map f (take i xs) ++ f (get_or xs i 0) ≡ flat_map f (take (i + 1) xs)
   one_part =
-      sym (ap (flat_map f) (take_more xs i 0 lt)
-      ∙ flat_map-append f (take i xs) (get_or xs i 0 ∷ [])
-      ∙ ap (λ l. flat_map f (take i xs) ++ l) (append-nil (f (get_or xs i 0))))
+      rw (
+        take_more xs i 0 lt,
+        flat_map-append f _ _,
+        append-nil _,
+      ) refl
 
   pub all_parts : (flat_map f (take i xs) ++ f (get_or xs i 0)) ++ flat_map f (drop (i + 1) xs)
       ≡ flat_map f xs
   all_parts =
       ap (λ l. l ++ flat_map f (drop (i + 1) xs)) one_part
-      ∙ sym (flat_map-append f (take (i + 1) xs) (drop (i + 1) xs))
-      ∙ ap (flat_map f) (take-append-drop (i + 1) xs)
-
-pub last_part : (xs : List ℕ) (i : ℕ) → length xs ≤ i → i ≤ length xs → take i xs ≡ xs
-last_part xs i h k = let e : i ≡ length xs = omega arith in ap (λ n. take n xs) e ∙ take-length xs
+      ∙ rw (← flat_map-append f (take (i + 1) xs) (drop (i + 1) xs), take-append-drop (i + 1) xs)
+      refl
 
 -- ---- the end
 

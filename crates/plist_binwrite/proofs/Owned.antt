@@ -1,97 +1,180 @@
 -- The plain writer's classes: one for each collection, and one for each different scalar.
-use Rattle.std.proofs.Common.{◌≡◌, inl, inr, ℕ, ◌+◌, ◌<◌, Bool, true, false, cond, ◌||◌, eqb, List, [], ◌∷◌, map, refl, ap, sym, ◌∙◌, arith}
-use Rattle.std.specs.List.{AllByRecursion, IsDistinct}
+use Rattle.std.proofs.Common.{◌≡◌, ℕ, ◌+◌, ◌<◌, ◌≤◌, Bool, true, false, cond, ◌||◌, eqb, List, [], ◌∷◌, ◌++◌, length, map, refl, ap, sym, ◌∙◌, arith, append_assoc, append-nil, length-append}
+use Rattle.std.specs.List.{list_any, AllByRecursion, IsDistinct}
 use Rattle.std.specs.Set.{is_member, unique_keys}
 use Rattle.std.proofs.lemmas.Bool.{ne_eqb}
 use Rattle.std.proofs.lemmas.Bool.Decides.{eqb_tells}
 use Rattle.std.proofs.lemmas.List.{map-id}
-use Rattle.plist_base.specs.Bracketing.{shape}
-use Rattle.plist_base.specs.Events.{PlainEvent}
-use Rattle.plist_base.specs.Trees.{Scalar, Tree, Leaf}
-use Rattle.plist_binwrite.specs.Classes.{same_class, kept, count_by, objects_by, size_by}
+use Rattle.plist_base.specs.Bracketing.{shape, shape_of_items, shape_of_pairs}
+use Rattle.plist_base.specs.Events.{PlainEvent, EndCollection}
+use Rattle.plist_base.specs.Trees.{Scalar, Tree, Leaf, Array, Dictionary, Trees, NoTrees, TreeAnd, Members, NoMembers, MemberAnd}
+use Rattle.plist_binwrite.specs.Classes.{AreClasses, same_class, kept, count_by, objects_by, size_by}
 use Rattle.plist_binwrite.specs.Counts.{scalar_eq, collected, texts, collections_in, scalars_in, object_count}
-use Rattle.plist_binwrite.specs.inner.Scalars.{alone, AreOwners}
-use Rattle.plist_binwrite.specs.Sizes.{total, object_size, collections_size, scalars_size, size_with, file_size}
-use Rattle.plist_binwrite.specs.Standing.{Sits, met}
+use Rattle.plist_binwrite.specs.Numberings.{obj_of}
+use Rattle.plist_binwrite.specs.inner.Scalars.{Owner, shared, alone, own, owner, AreOwners}
+use Rattle.plist_binwrite.specs.Sizes.{total, object_size, size_with, file_size}
+use Rattle.plist_binwrite.specs.Standing.{size, Sits, met, met_in_items, met_in_pairs}
 use Rattle.plist_binwrite.specs.Written.{reference_width}
-use Rattle.plist_binwrite.proofs.Inside.{Stands, met_stand}
-use Rattle.plist_binwrite.proofs.SameScalars.{owner_eq}
+use Rattle.plist_binwrite.proofs.Inside.{Stands, one_tree, met_stand}
+use Rattle.plist_binwrite.proofs.SameScalars.{owner_eq, owners_tell, tells_both}
 use Rattle.plist_binwrite.proofs.Sitting.{sits_whole}
+use Rattle.plist_binwrite.proofs.Skipping.{stands_single, starts_array, starts_dictionary, sits_in}
 use Rattle.plist_binwrite.proofs.Totals.{total_one}
 use Rattle.plist_binwrite.proofs.Uniques.{unique_seen}
-use Rattle.plist_binwrite.proofs.OwnedApart.{One, Rising, class_owner, classes_tell, later, own_tree, owned_eq, rising}
+
+-- ---- the owner of a tree
+
+abbrev own_tree : Tree → ℕ → Owner
+own_tree (Leaf x) p = shared x
+own_tree t p = alone p
+
+owner_is : {es : List PlainEvent} (t : Tree) (p : ℕ) → Sits es t p → owner es p ≡ own_tree t p
+owner_is (Leaf x) p s = ap (λ e. own e p) (stands_single s)
+owner_is (Array ts) p s = ap (λ e. own e p) (starts_array s)
+owner_is (Dictionary ms) p s = ap (λ e. own e p) (starts_dictionary s)
+
+-- trees of one owner have one object
+same_owner : {es : List PlainEvent} (num : ℕ → ℕ) (u v : Tree) (p q : ℕ)
+    → own_tree v q ≡ own_tree u p → Sits es u p → Sits es v q → obj_of num v q ≡ obj_of num u p
+same_owner num (Leaf x) (Leaf y) p q e s r = cc
+same_owner num (Leaf x) v p q e s r = cc
+same_owner num u (Leaf y) p q e s r = cc
+same_owner {es} num u v p q e s r =
+    let k : q ≡ p = cc in
+    let t = one_tree v u p (rw (← k) r) s in λ i. obj_of num (t i) (k i)
+
+module _ {es : List PlainEvent} {class : ℕ → ℕ} {count : ℕ} (o : AreOwners es class count) where
+  pub class_owner : (t u : Tree) (p q : ℕ) → Sits es t p → Sits es u q → class p ≡ class q
+      → own_tree t p ≡ own_tree u q
+  class_owner t u p q s r e =
+      sym (owner_is t p s) ∙ o.sound p q (sits_in s) (sits_in r) e ∙ owner_is u q r
+
+  pub owner_class : (t u : Tree) (p q : ℕ) → Sits es t p → Sits es u q → own_tree t p ≡ own_tree u q
+      → class p ≡ class q
+  owner_class t u p q s r e =
+      o.complete p q (sits_in s) (sits_in r) (owner_is t p s ∙ e ∙ sym (owner_is u q r))
+
+  pub owners_classes : AreClasses es class
+  owners_classes =
+      record { object = λ t u p q s r e. same_owner class u t q p (class_owner t u p q s r e) r s }
+
+-- ---- what is met
+
+abbrev One : Type 0
+One = ℕ × Tree
+
+abbrev owned_eq : One → One → Bool
+owned_eq a b = owner_eq (own_tree a.1 a.0) (own_tree b.1 b.0)
+
+-- the places rise, from a bound on
+abbrev Rise : ℕ → List One → Type 0
+Rise low [] = Unit {0}
+Rise low (one ∷ ones) = (low ≤ one.0) × Rise (one.0 + 1) ones
+
+lower : (a b : ℕ) (ones : List One) → a ≤ b → Rise b ones → Rise a ones
+lower a b [] h r = tt
+lower a b (one ∷ ones) h r = (omega arith, r.1)
+
+later : (p : ℕ) (ones : List One) → Rise (p + 1) ones → AllByRecursion (λ one. p < one.0) ones
+later p [] r = tt
+later p (one ∷ ones) r =
+    (omega arith, later p ones (lower (p + 1) (one.0 + 1) ones (omega (arith, r.0)) r.1))
+
+mutual
+  rising : (t : Tree) (p : ℕ) (after : List One) → Rise (p + size t) after
+      → Rise p (met t p ++ after)
+  rising (Leaf x) p after r = (omega arith, r)
+  rising (Array ts) p after r = (
+    omega arith,
+    rising_items ts _ _ (lower _ _ after
+        (omega (arith, length-append (shape_of_items ts) (EndCollection ∷ []))) r),
+  )
+  rising (Dictionary ms) p after r = (
+    omega arith,
+    rising_pairs ms _ _ (lower _ _ after
+        (omega (arith, length-append (shape_of_pairs ms) (EndCollection ∷ []))) r),
+  )
+
+  rising_items : (ts : Trees) (p : ℕ) (after : List One)
+      → Rise (p + length (shape_of_items ts)) after → Rise p (met_in_items ts p ++ after)
+  rising_items NoTrees p after r = lower p _ after (omega arith) r
+  rising_items (TreeAnd t ts) p after r =
+      rw append_assoc (rising t p _
+      (rising_items ts _ _ (lower _ _ after
+      (omega (arith, length-append (shape t) (shape_of_items ts))) r)))
+
+  rising_pairs : (ms : Members) (p : ℕ) (after : List One)
+      → Rise (p + length (shape_of_pairs ms)) after → Rise p (met_in_pairs ms p ++ after)
+  rising_pairs NoMembers p after r = lower p _ after (omega arith) r
+  rising_pairs (MemberAnd k t ms) p after r = (
+    omega arith,
+    rw (append_assoc (met t (p + 1)) (met_in_pairs ms (p + 1 + size t)) after)
+        (rising t (p + 1) (met_in_pairs ms (p + 1 + size t) ++ after)
+        (rising_pairs ms (p + 1 + size t) after (lower _ _ after
+        (omega (arith, length-append (shape t) (shape_of_pairs ms))) r))),
+  )
+
+met_rise : (t : Tree) → Rise 0 (met t 0)
+met_rise t = rw (← (append-nil (met t 0))) (rising t 0 [] tt)
 
 -- ---- the weights of one of each kind
+
+text_member : (ones : List One) (p : ℕ) (x : Scalar)
+    → is_member owned_eq ones (p, Leaf x) ≡ is_member scalar_eq (texts ones) x
+text_member [] p x = refl
+text_member ((q, Leaf y) ∷ ones) p x = ap (λ b. scalar_eq x y || b) (text_member ones p x)
+text_member ((q, t) ∷ ones) p x = text_member ones p x
+
+-- a collection isn't met again
+no_other : (ones : List One) (p : ℕ) → AllByRecursion (λ later. p < later.0) ones
+    → list_any (λ one. owner_eq (alone p) (own_tree one.1 one.0)) ones ≡ false
+no_other [] p a = refl
+no_other ((q, Leaf y) ∷ ones) p a = no_other ones p a.1
+no_other ((q, u) ∷ ones) p a =
+    rw (ne_eqb p q (λ e. omega arith)) (no_other ones p a.1)
 
 module _ (weight : Tree → ℕ) where
   abbrev weigh : One → ℕ
   weigh one = weight one.1
 
-  weigh_cond : (b c : Bool) (xs : List One) (ys : List Scalar) (p : ℕ) (x : Scalar) (n : ℕ) → b ≡ c
-      → total weigh xs ≡ n + total (λ y. weight (Leaf y)) ys
-      → total weigh (cond b xs ((p, Leaf x) ∷ xs))
-      ≡ n + total (λ y. weight (Leaf y)) (cond c ys (x ∷ ys))
-  weigh_cond true true xs ys p x n e h = h
-  weigh_cond false false xs ys p x n e h = omega (arith, h)
-  weigh_cond b c xs ys p x n e h = cc
-
-  weigh_false : (b : Bool) (xs : List One) (one : One) → b ≡ false
-      → total weigh (cond b xs (one ∷ xs)) ≡ weigh one + total weigh xs
-  weigh_false true xs one e = cc
-  weigh_false false xs one e = refl
-
-  text_member : (ones : List One) (p : ℕ) (x : Scalar)
-      → is_member owned_eq ones (p, Leaf x) ≡ is_member scalar_eq (texts ones) x
-  text_member [] p x = refl
-  text_member ((q, Leaf y) ∷ ones) p x = ap (λ b. scalar_eq x y || b) (text_member ones p x)
-  text_member ((q, t) ∷ ones) p x = text_member ones p x
-
-  apart_eq : (p q : ℕ) → p < q → eqb p q ≡ false
-  apart_eq p q h = ne_eqb p q (λ e. omega (arith, e, h))
-
-  -- a collection isn't met again
-  no_other : (ones : List One) (p : ℕ) (t : Tree) → own_tree t p ≡ alone p
-      → AllByRecursion (λ later. p < later.0) ones → is_member owned_eq ones (p, t) ≡ false
-  no_other [] p t e a = refl
-  no_other ((q, u) ∷ ones) p t e a =
-      λ i. (ap (λ o. owner_eq o (own_tree u q)) e ∙ by u) i || no_other ones p t e a.1 i
-    where
-      by : (u : Tree) → owner_eq (alone p) (own_tree u q) ≡ false
-      by (Leaf y) = refl
-      by u = apart_eq p q a.0
-
-  owned_total : (low high : ℕ) (ones : List One) → Rising low high ones
+  owned_total : (low : ℕ) (ones : List One) → Rise low ones
       → total weigh (unique_keys owned_eq ones)
       ≡ total weigh (collected ones) + total (λ y. weight (Leaf y))
       (unique_keys scalar_eq (texts ones))
-  owned_total low high [] r = refl
-  owned_total low high ((p, Leaf x) ∷ ones) r =
-      weigh_cond (is_member owned_eq ones (p, Leaf x)) (is_member scalar_eq (texts ones) x)
-      (unique_keys owned_eq ones) (unique_keys scalar_eq (texts ones)) p x
-      (total weigh (collected ones)) (text_member ones p x)
-      (owned_total (p + 1) high ones r.1)
-  owned_total low high ((p, t) ∷ ones) r =
-      weigh_false (is_member owned_eq ones (p, t)) (unique_keys owned_eq ones) (p, t)
-      (no_other ones p t refl (later p high ones r.1))
-      ∙ omega (arith, owned_total (p + 1) high ones r.1)
+  owned_total low [] r = refl
+  owned_total low ((p, Leaf x) ∷ ones) r =
+      let more = owned_total (p + 1) ones r.1 in
+      rw (text_member ones p x) (elim (is_member scalar_eq (texts ones) x) as (λ b. total weigh
+      (cond b (unique_keys owned_eq ones) ((p, Leaf x) ∷ unique_keys owned_eq ones))
+      ≡ total weigh (collected ones) + total (λ y. weight (Leaf y)) (cond b
+      (unique_keys scalar_eq (texts ones)) (x ∷ unique_keys scalar_eq (texts ones)))) [
+        | true ↦ more
+        | false ↦ omega (arith, more)
+      ])
+  owned_total low ((p, t) ∷ ones) r =
+      rw (no_other ones p (later p ones r.1)) (omega (arith, owned_total (p + 1) ones r.1))
 
 -- ---- counts and sizes
 
-module _ (class : ℕ → ℕ) (count : ℕ) (tree : Tree) (o : AreOwners (shape tree) class count) where
+module _ (tree : Tree) {class : ℕ → ℕ} {count : ℕ} (o : AreOwners (shape tree) class count) where
   kept_is : kept class tree ≡ unique_keys owned_eq (met tree 0)
   kept_is =
-      sym (map-id (kept class tree))
-      ∙ unique_seen (same_class class) owned_eq (λ one. one) (Stands (shape tree))
-      (classes_tell (shape tree) class count o) (met tree 0)
-      (met_stand (shape tree) tree 0 (sits_whole refl))
-      ∙ ap (unique_keys owned_eq) (map-id (met tree 0))
+      cc (
+        map-id (kept class tree),
+        unique_seen (same_class class) owned_eq (λ one. one)
+            (Stands (shape tree)) (λ a b s r. tells_both eqb owner_eq (class a.0) (class b.0)
+            (own_tree a.1 a.0) (own_tree b.1 b.0) (eqb_tells _ _) (owners_tell _ _)
+            (class_owner o a.1 b.1 a.0 b.0 s r) (owner_class o a.1 b.1 a.0 b.0 s r)) (met tree 0)
+            (met_stand (shape tree) tree 0 (sits_whole refl)),
+        map-id (met tree 0),
+      )
 
   kept_total : (weight : Tree → ℕ) → total (λ (one : One). weight one.1) (kept class tree)
       ≡ total (λ (one : One). weight one.1) (collections_in tree) + total (λ y. weight (Leaf y))
       (unique_keys scalar_eq (scalars_in tree))
   kept_total weight =
       ap (total (λ (one : One). weight one.1)) kept_is
-      ∙ owned_total weight _ _ (met tree 0) (rising tree 0)
+      ∙ owned_total weight 0 (met tree 0) (met_rise tree)
 
   pub owned_count : count_by class tree ≡ object_count tree
   owned_count =
@@ -99,54 +182,40 @@ module _ (class : ℕ → ℕ) (count : ℕ) (tree : Tree) (o : AreOwners (shape
       ∙ (λ i. total_one (collections_in tree) i + total_one
       (unique_keys scalar_eq (scalars_in tree)) i)
 
-  owned_objects : (w : ℕ) → objects_by class w tree ≡ collections_size w tree + scalars_size tree
-  owned_objects w = kept_total (object_size w)
-
   pub owned_size : size_by class tree ≡ file_size tree
   owned_size =
       λ i. size_with (owned_count i)
       ((ap (λ n. objects_by class (reference_width n) tree) owned_count
-      ∙ owned_objects (reference_width (object_count tree))) i)
+      ∙ kept_total (object_size (reference_width (object_count tree)))) i)
 
 -- ---- no collection is entered twice
 
-module _ (es : List PlainEvent) (class num : ℕ → ℕ) (count : ℕ) (o : AreOwners es class count)
-    (num_apart : (t u : Tree) (p q : ℕ) → Sits es t p → Sits es u q → num p ≡ num q
+module _ {es : List PlainEvent} {class : ℕ → ℕ} {count : ℕ} (o : AreOwners es class count)
+    (num : ℕ → ℕ) (num_apart : (t u : Tree) (p q : ℕ) → Sits es t p → Sits es u q → num p ≡ num q
     → class p ≡ class q) where
-  abbrev IsAlone : One → Type 0
-  IsAlone one = own_tree one.1 one.0 ≡ alone one.0
-
-  alone_apart : (a b : One) → Stands es a → Stands es b → IsAlone a → IsAlone b → a.0 < b.0
-      → eqb (num a.0) (num b.0) ≡ false
-  alone_apart a b s r ia ib h =
-      elim (eqb_tells (num a.0) (num b.0)) [
-        | inl e ↦ let k : alone a.0 ≡ alone b.0 = sym ia
-            ∙ class_owner es class count o a.1 b.1 a.0 b.0 s r (num_apart a.1 b.1 a.0 b.0 s r e.1)
-            ∙ ib in
-            let j : a.0 ≡ b.0 = cc in absurd (omega (arith, j, h))
-        | inr d ↦ d.0
-      ]
-
-  all_apart : (a : One) → Stands es a → IsAlone a → (ones : List One)
+  all_apart : (a : One) → Stands es a → own_tree a.1 a.0 ≡ alone a.0 → (ones : List One)
       → AllByRecursion (Stands es) ones → AllByRecursion (λ later. a.0 < later.0) ones
       → AllByRecursion (λ y. eqb (num a.0) y ≡ false) (map (λ one. num one.0) (collected ones))
   all_apart a s i [] r h = tt
   all_apart a s i ((q, Leaf y) ∷ ones) r h = all_apart a s i ones r.1 h.1
-  all_apart a s i ((q, t) ∷ ones) r h =
-      (alone_apart a (q, t) s r.0 i refl h.0, all_apart a s i ones r.1 h.1)
+  all_apart a s i ((q, t) ∷ ones) r h = (
+    ne_eqb _ _ (λ e.
+        let k = sym i
+        ∙ class_owner o a.1 t a.0 q s r.0 (num_apart a.1 t a.0 q s r.0 e) in
+        let j : a.0 ≡ q = cc in omega arith),
+    all_apart a s i ones r.1 h.1,
+  )
 
-  distinct_at : (low high : ℕ) (ones : List One) → AllByRecursion (Stands es) ones
-      → Rising low high ones
+  distinct_at : (low : ℕ) (ones : List One) → AllByRecursion (Stands es) ones → Rise low ones
       → IsDistinct eqb (map (λ one. num one.0) (collected ones))
   unfolding IsDistinct
-  distinct_at low high [] s r = tt
-  distinct_at low high ((p, Leaf x) ∷ ones) s r = distinct_at (p + 1) high ones s.1 r.1
-  distinct_at low high ((p, t) ∷ ones) s r = (
-    all_apart (p, t) s.0 refl ones s.1 (later p high ones r.1),
-    distinct_at (p + 1) high ones s.1 r.1,
+  distinct_at low [] s r = tt
+  distinct_at low ((p, Leaf x) ∷ ones) s r = distinct_at (p + 1) ones s.1 r.1
+  distinct_at low ((p, t) ∷ ones) s r = (
+    all_apart (p, t) s.0 refl ones s.1 (later p ones r.1),
+    distinct_at (p + 1) ones s.1 r.1,
   )
 
   pub entered_once : (tree : Tree) → Sits es tree 0
       → IsDistinct eqb (map (λ one. num one.0) (collections_in tree))
-  entered_once tree s =
-      distinct_at _ _ (met tree 0) (met_stand es tree 0 s) (rising tree 0)
+  entered_once tree s = distinct_at 0 (met tree 0) (met_stand es tree 0 s) (met_rise tree)

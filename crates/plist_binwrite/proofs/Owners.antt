@@ -1,17 +1,53 @@
 -- Classes of events.
-use Rattle.std.proofs.Common.{◌≡◌, ◌⊎◌, inl, inr, ℕ, ◌<◌, ◌≤◌, true, false, List, length, Some, refl, ap, ◌∙◌, arith}
+use Rattle.std.proofs.Common.{◌≡◌, ◌≢◌, ◌⊎◌, inl, inr, ℕ, ◌+◌, ◌<◌, ◌≤◌, false, List, length, set, Some, refl, ap, sym, ◌∙◌, arith}
 use Rattle.std.specs.Prelude.{slice_get}
 use Rattle.std.proofs.lemmas.Option.{slice_get_within}
 use Rattle.plist_base.specs.Events.{Single, PlainEvent}
 use Rattle.plist_base.specs.Trees.{Scalar}
-use Rattle.plist_binwrite.specs.Held.{event_at}
+use Rattle.plist_binwrite.specs.Held.{event_at, num_of}
 use Rattle.plist_binwrite.specs.inner.Scalars.{owner, own, shared, alone, AreApart, HaveClasses, AreOwners, is_leaf}
+use Rattle.plist_binwrite.proofs.Changes.{at_set}
 
-pub not_leaf : (e : PlainEvent) (x : Scalar) → is_leaf e ≡ false → e ≡ Single x → ⊥
-not_leaf e x h k = let n : is_leaf e ≡ true = ap is_leaf k in cc
+-- ---- one more event gets its class
 
--- at the end
-module _ (es : List PlainEvent) (class : ℕ → ℕ) (keys : List PlainEvent) (top : ℕ) (place : ℕ)
+module _ {es scalars : List PlainEvent} {top place : ℕ} (cs : List ℕ) (v : ℕ)
+    (lt : place < length cs) (have : HaveClasses es (num_of cs) scalars top place) where
+  at_write : (q : ℕ) → (P : ℕ → Type 0) → (q ≡ place → P v) → (q ≢ place → P (num_of cs q))
+      → P (num_of (set cs place v) q)
+  at_write q P same other = at_set cs _ v 0 q P lt same other
+
+  -- a scalar's is its place among the different ones, and another event's is new
+  pub one_more : (new : ℕ) → top ≤ new
+      → ((x : Scalar) → event_at es place ≡ Single x → slice_get scalars v ≡ Some (Single x))
+      → (is_leaf (event_at es place) ≡ false → (top ≤ v) × (v < new) × (length scalars ≤ v))
+      → HaveClasses es (num_of (set cs place v)) scalars new (place + 1)
+  one_more new more scalar other = record {
+    scalars = λ p l x s. at_write p (λ w. slice_get scalars w ≡ Some (Single x))
+        (λ i. scalar x (rw i at s)) (λ d. have.scalars p (omega (arith, l, d)) x s);
+    others = λ p l n. at_write p (λ w. (length scalars ≤ w) × (w < new))
+        (λ i. let o = other (rw i at n) in (o.2, o.1))
+        (λ d. let h = have.others p (omega (arith, l, d)) n in (h.0, omega (arith, h.1)));
+    apart = λ p q l m n o. at_write p (λ w. w ≡ num_of (set cs place v) q → p ≡ q)
+        (λ i. at_write q (λ w. v ≡ w → p ≡ q) (λ j h. i ∙ sym j)
+        (λ f h. absurd (omega (
+          arith,
+          h,
+          (other (rw i at n)).0,
+          (have.others q (omega (arith, m, f)) o).1,
+        ))))
+        (λ d. at_write q (λ w. num_of cs p ≡ w → p ≡ q)
+        (λ j h. absurd (omega (
+          arith,
+          h,
+          (other (rw j at o)).0,
+          (have.others p (omega (arith, l, d)) n).1,
+        )))
+        (λ f h. have.apart p q (omega (arith, l, d)) (omega (arith, m, f)) n o h));
+  }
+
+-- ---- at the end
+
+module _ {es keys : List PlainEvent} {class : ℕ → ℕ} {top place : ℕ}
     (full : length es ≤ place) (have : HaveClasses es class keys top place) (apart : AreApart keys)
     (low : length keys ≤ top) where
   record IsShared (p : ℕ) : Type 0 where
@@ -28,7 +64,7 @@ module _ (es : List PlainEvent) (class : ℕ → ℕ) (keys : List PlainEvent) (
   -- an event is a scalar or not
   known : (e : PlainEvent) (p : ℕ) → p < length es → event_at es p ≡ e → IsShared p ⊎ IsAlone p
   known (Single x) p l is =
-      let key = have.scalars p (omega (arith, l, full)) x is in
+      let key = have.scalars p (omega arith) x is in
       inl (record {
         scalar = x;
         owned = ap (λ e. own e p) is;
@@ -44,7 +80,11 @@ module _ (es : List PlainEvent) (class : ℕ → ℕ) (keys : List PlainEvent) (
 
   pub owners : AreOwners es class top
   owners = record {
-    below = λ p l. elim (known _ p l refl) [ inl s ↦ omega (arith, s.early, low) | inr n ↦ n.late.1 ];
+    below = λ p l. elim (known _ p l refl) [
+      | inl s ↦ omega
+          (arith, s.early, low)
+      | inr n ↦ n.late.1
+    ];
     sound = λ p q l m h. elim (known _ p l refl) [
       | inl s ↦ elim (known _ q m refl) [
         | inl t ↦ cc (s.owned, s.key, t.owned, t.key)

@@ -70,7 +70,7 @@ pub record FirstPair (es : List PlainEvent) (Goes : Members → ℕ → Type 0) 
 -- no end stands at a pair's value or key
 pub stands : {es : List PlainEvent} {Goes : Members → ℕ → Type 0} {q : ℕ} (b : Bool)
     (f : FirstPair es Goes q) → is_stop (event_at es (half_at b q)) ≡ false
-stands {es} {Goes} {q} true f = begins f.tree (q + 1) f.value
+stands {es} {Goes} {q} true f = begins _ (q + 1) f.value
 stands {es} {Goes} {q} false f = begins _ q f.here
 
 module _ {es : List PlainEvent} {Goes : Members → ℕ → Type 0} {q : ℕ} (i : Pairs es Goes q) where

@@ -1,19 +1,28 @@
--- Steps of a layout.
-use Rattle.std.proofs.Common.{◌≡◌, ℕ, ◌+◌, ◌^◌, ◌<◌, ◌≤◌, false, List, ◌∷◌, length, map, refl, ap, arith}
+-- The objects of trees by their places: their forms, their sizes, and that they can be written.
+use Rattle.std.proofs.Common.{◌≡◌, inl, inr, ℕ, ◌+◌, ◌*◌, ◌/◌, ◌^◌, ◌<◌, ◌≤◌, false, List, ◌∷◌, ◌++◌, length, flat_map, map, Option, None, Some, SomeIff, refl, ap, sym, ◌∙◌, subst, arith, length-append}
+use Rattle.std.proofs.lemmas.Bool.{cases_lt}
 use Rattle.plist_base.specs.Events.{PlainEvent, Single}
-use Rattle.plist_base.specs.Trees as trees
-use Rattle.plist_binwrite.specs.declared.kinds.Kind.TheVariants as kind
 use Rattle.plist_base.specs.Trees.{number_of_trees, number_of_members, Scalar, Tree, Leaf, Array, Dictionary, Trees, NoTrees, TreeAnd, Members, NoMembers, MemberAnd}
 use Rattle.plist_base.specs.Bracketing.{unhinted}
-use Rattle.plist_binwrite.specs.Standing.{size, Sits, SitsItems, SitsPairs, met}
+use Rattle.plist_binwrite.specs.declared.kinds.Kind.{Kind}
+use Rattle.plist_binwrite.specs.declared.kinds.Kind.TheVariants as kind
+use Rattle.plist_binwrite.specs.Standing.{size, Sits, SitsItems, SitsPairs}
 use Rattle.plist_binwrite.specs.Numberings.{refs, pairs, obj_of}
-use Rattle.plist_binwrite.specs.Forms.{keys_of, values_of, IsWritable, AllFit}
-use Rattle.plist_binwrite.specs.Held.{is_stop, kind_of, event_at, item_places, key_places, value_places, values_in, num_of, AllNumbered, IsBracketed}
+use Rattle.plist_binwrite.specs.Forms.{big_endian, length_form, units_of, is_ascii_text, text_form, table_form, form, keys_of, values_of, IsWritable, AllFit}
+use Rattle.plist_binwrite.specs.Held.{IfScalar, is_stop, held_kind, event_at, item_places, key_places, value_places, num_of, AllNumbered, IsBracketed}
+use Rattle.plist_binwrite.specs.Sizes.{TellsSize, dictionary_size}
+use Rattle.plist_binwrite.specs.inner.Entries.{is_leaf}
 use Rattle.plist_binwrite.proofs.Sitting.{sits_whole, sits_items, sits_pairs, sits_item, sits_next, sits_key, sits_value, sits_next_pair}
-use Rattle.plist_binwrite.proofs.Skipping.{stands_single, starts_array, starts_dictionary, begins, sits_in}
+use Rattle.plist_binwrite.proofs.Skipping.{stands_single, starts_array, starts_dictionary, begins, sits_in, as_items, pairs_as_items}
 use Rattle.plist_binwrite.proofs.Inside.{Stands, met_stand, met_all}
+use Rattle.plist_binwrite.proofs.ReadingNumbers.{length-table}
 use Rattle.plist_binwrite.proofs.Uniques.{all_from}
 use Rattle.plist_binwrite.proofs.Unfold.{length-refs, length-pairs}
+
+-- the keys and the values of a dictionary are twice its pairs
+twice : (ms : Members) → number_of_trees (as_items ms) ≡ 2 * number_of_members ms
+twice NoMembers = refl
+twice (MemberAnd k t ms) = omega (arith, twice ms)
 
 -- ---- references fit
 
@@ -21,88 +30,138 @@ module _ (es : List PlainEvent) (numbers : List ℕ) (count w : ℕ)
     (all : AllNumbered es numbers count) (wide : count ≤ 256 ^ w) where
   number_fits : (t : Tree) (p : ℕ) → Sits es t p → num_of numbers p < 256 ^ w
   number_fits t p s =
-      omega (arith, wide, all p (sits_in s) (begins t p s))
+      omega (arith, all p (sits_in s) (begins t p s))
 
   refs_fit : (ts : Trees) (q : ℕ) → SitsItems es ts q → AllFit w (refs (num_of numbers) ts q)
   refs_fit NoTrees q s = tt
   refs_fit (TreeAnd t ts) q s =
-      (number_fits t q (sits_item s), refs_fit ts (q + size t) (sits_next s))
+      (number_fits t q (sits_item s), refs_fit ts _ (sits_next s))
 
   pairs_fit : (ms : Members) (q : ℕ) → SitsPairs es ms q
       → AllFit w (keys_of (pairs (num_of numbers) ms q))
       × AllFit w (values_of (pairs (num_of numbers) ms q))
   pairs_fit NoMembers q s = (tt, tt)
   pairs_fit (MemberAnd k t ms) q s =
-      let more = pairs_fit ms (q + 1 + size t) (sits_next_pair s) in (
-        (number_fits (Leaf (trees.String k)) q (sits_key s), more.0),
-        (number_fits t (q + 1) (sits_value s), more.1),
+      let more = pairs_fit ms _ (sits_next_pair s) in (
+        (number_fits _ q (sits_key s), more.0),
+        (number_fits t _ (sits_value s), more.1),
       )
 
--- ---- forms by places
+  -- a collection whose children are numbered can be written
+  pub collection_fits : (t : Tree) (p many : ℕ) → Sits es t p
+      → (held_kind (event_at es p) ≡ kind.Scalar → ⊥) → many < 2 ^ 64
+      → ((ts : Trees) → SitsItems es ts (p + 1) → many ≡ number_of_trees ts)
+      → IsWritable w (obj_of (num_of numbers) t p)
+  collection_fits (Leaf x) p many s k few h = absurd (k (ap held_kind (stands_single s)))
+  collection_fits (Array ts) p many s k few h = (
+    omega (arith, few, length-refs (num_of numbers) ts (p + 1), h ts (sits_items s)),
+    refs_fit ts _ (sits_items s),
+  )
+  collection_fits (Dictionary ms) p many s k few h =
+      let n = h (as_items ms) (pairs_as_items (sits_pairs s)) in
+      let small : length (pairs (num_of numbers) ms (p + 1)) < 2 ^ 64
+      = omega (arith, twice ms, length-pairs (num_of numbers) ms (p + 1)) in
+      let fit = pairs_fit ms _ (sits_pairs s) in (small, fit.0, fit.1)
 
-module _ {es : List PlainEvent} (P : Tree → Type 0) where
-  pub of_array : (t : Tree) (p : ℕ) → Sits es t p → kind_of (event_at es p) ≡ kind.Array
-      → ((ts : Trees) → SitsItems es ts (p + 1) → P (Array ts)) → P t
-  of_array (Leaf x) p s k h = cc (ap kind_of (stands_single s))
-  of_array (Array ts) p s k h = h ts (sits_items s)
-  of_array (Dictionary ms) p s k h = cc (ap kind_of (starts_dictionary s))
-
-  pub of_dictionary : (t : Tree) (p : ℕ) → Sits es t p
-      → kind_of (event_at es p) ≡ kind.Dictionary
-      → ((ms : Members) → SitsPairs es ms (p + 1) → P (Dictionary ms)) → P t
-  of_dictionary (Leaf x) p s k h = cc (ap kind_of (stands_single s))
-  of_dictionary (Array ts) p s k h = cc (ap kind_of (starts_array s))
-  of_dictionary (Dictionary ms) p s k h = h ms (sits_pairs s)
+-- ---- by the kind of the event here
 
 -- a scalar has no length
-pub scalar_is : (e : PlainEvent) (x : Scalar) → unhinted e ≡ Single x → e ≡ Single x
+scalar_is : (e : PlainEvent) (x : Scalar) → unhinted e ≡ Single x → e ≡ Single x
 scalar_is (Single y) x h = h
 scalar_is e x h = cc
+
+module _ {es : List PlainEvent} {k : Kind} {p : ℕ} (at : k ≡ held_kind (event_at es p))
+    (P : Tree → Type 0) where
+  pub of_array : k ≡ kind.Array → ((ts : Trees) → SitsItems es ts (p + 1) → P (Array ts))
+      → (t : Tree) → Sits es t p → P t
+  of_array is h (Leaf x) s = cc (ap held_kind (stands_single s))
+  of_array is h (Array ts) s = h ts (sits_items s)
+  of_array is h (Dictionary ms) s = cc (ap held_kind (starts_dictionary s))
+
+  pub of_dictionary : k ≡ kind.Dictionary
+      → ((ms : Members) → SitsPairs es ms (p + 1) → P (Dictionary ms)) → (t : Tree) → Sits es t p
+      → P t
+  of_dictionary is h (Leaf x) s = cc (ap held_kind (stands_single s))
+  of_dictionary is h (Array ts) s = cc (ap held_kind (starts_array s))
+  of_dictionary is h (Dictionary ms) s = h ms (sits_pairs s)
+
+  -- no collection begins
+  module _ (a : k ≡ kind.Array → ⊥) (b : k ≡ kind.Dictionary → ⊥) where
+    neither : ((x : Scalar) → event_at es p ≡ Single x → P (Leaf x)) → (t : Tree) → Sits es t p
+        → P t
+    neither h (Leaf x) s = h x (stands_single s)
+    neither h (Array ts) s = absurd (a (cc (starts_array s)))
+    neither h (Dictionary ms) s = absurd (b (cc (starts_dictionary s)))
+
+    pub of_scalar : (e : PlainEvent) → event_at es p ≡ unhinted e → IfScalar e (λ x. P (Leaf x))
+        → (t : Tree) → Sits es t p → P t
+    of_scalar e is h =
+        neither (λ x single. subst (λ d. IfScalar d (λ x. P (Leaf x)))
+        (scalar_is e x (cc)) h)
+
+    -- nor does a scalar stand there
+    pub of_nothing : is_leaf (event_at es p) ≡ false → (t : Tree) → Sits es t p → P t
+    of_nothing n = neither (λ x single. cc (ap is_leaf single))
+
+-- ---- forms and sizes
 
 module _ (num : ℕ → ℕ) where
   pub refs_are : (ts : Trees) (q : ℕ) → refs num ts q ≡ map num (item_places ts q)
   refs_are NoTrees q = refl
-  refs_are (TreeAnd t ts) q = ap (λ l. num q ∷ l) (refs_are ts (q + size t))
+  refs_are (TreeAnd t ts) q = ap (λ l. num q ∷ l) (refs_are ts _)
 
   pub keys_are : (ms : Members) (q : ℕ) → keys_of (pairs num ms q) ≡ map num (key_places ms q)
   keys_are NoMembers q = refl
-  keys_are (MemberAnd k t ms) q = ap (λ l. num q ∷ l) (keys_are ms (q + 1 + size t))
+  keys_are (MemberAnd k t ms) q = ap (λ l. num q ∷ l) (keys_are ms _)
 
   pub values_are : (ms : Members) (q : ℕ) → values_of (pairs num ms q) ≡ map num (value_places ms q)
   values_are NoMembers q = refl
-  values_are (MemberAnd k t ms) q = ap (λ l. num (q + 1) ∷ l) (values_are ms (q + 1 + size t))
+  values_are (MemberAnd k t ms) q = ap (λ l. num (q + 1) ∷ l) (values_are ms _)
 
-pub item_count : (ts : Trees) (q : ℕ) → length (item_places ts q) ≡ number_of_trees ts
-item_count NoTrees q = refl
-item_count (TreeAnd t ts) q = omega (arith, item_count ts (q + size t))
+pub array_is : (num : ℕ → ℕ) (w count : ℕ) (ts : Trees) (p : ℕ) → count ≡ number_of_trees ts
+    → length_form 0xa count ++ table_form w (map num (item_places ts (p + 1)))
+    ≡ form w (obj_of num (Array ts) p)
+array_is num w count ts p e =
+    λ i. length_form 0xa ((e ∙ sym (length-refs num ts (p + 1))) i) ++ table_form w
+    (sym (refs_are num ts (p + 1)) i)
 
-pub pair_count : (ms : Members) (q : ℕ) → length (value_places ms q) ≡ number_of_members ms
-pair_count NoMembers q = refl
-pair_count (MemberAnd k t ms) q = omega (arith, pair_count ms (q + 1 + size t))
+pub dictionary_is : {es : List PlainEvent} (num : ℕ → ℕ) (w count : ℕ) (ms : Members) (p : ℕ)
+    → SitsPairs es ms (p + 1)
+    → ((ts : Trees) → SitsItems es ts (p + 1) → count ≡ number_of_trees ts)
+    → length_form 0xd (count / 2) ++ (table_form w (map num (key_places ms (p + 1)))
+    ++ table_form w (map num (value_places ms (p + 1)))) ≡ form w (obj_of num (Dictionary ms) p)
+dictionary_is num w count ms p s h =
+    let n = h (as_items ms) (pairs_as_items s) ∙ twice ms in
+    let e : count / 2 ≡ number_of_members ms = omega arith in
+    λ i. length_form 0xd ((e ∙ sym (length-pairs num ms (p + 1))) i) ++ (table_form w
+    (sym (keys_are num ms (p + 1)) i) ++ table_form w (sym (values_are num ms (p + 1)) i))
 
--- a collection whose children are numbered can be written
-pub collection_fits : (es : List PlainEvent) (numbers : List ℕ) (count w : ℕ)
-    → AllNumbered es numbers count → count ≤ 256 ^ w → (t : Tree) (p : ℕ) → Sits es t p
-    → (kind_of (event_at es p) ≡ kind.Scalar → ⊥) → length (values_in t p) < 2 ^ 64
-    → IsWritable w (obj_of (num_of numbers) t p)
-collection_fits es numbers count w all wide (Leaf x) p s k few =
-    absurd (k (ap kind_of (stands_single s)))
-collection_fits es numbers count w all wide (Array ts) p s k few = (
-  omega (arith, few, length-refs (num_of numbers) ts (p + 1), item_count ts (p + 1)),
-  refs_fit es numbers count w all wide ts (p + 1) (sits_items s),
-)
-collection_fits es numbers count w all wide (Dictionary ms) p s k few =
-    let fit = pairs_fit es numbers count w all wide ms (p + 1) (sits_pairs s) in
-    let small : length (pairs (num_of numbers) ms (p + 1)) < 2 ^ 64
-    = omega (arith, few, length-pairs (num_of numbers) ms (p + 1), pair_count ms (p + 1)) in
-    (small, fit.0, fit.1)
+pub dictionary_told : (told : Option ℕ) (w count : ℕ) (ms : Members)
+    → count ≡ number_of_trees (as_items ms)
+    → TellsSize told (length (length_form 0xd (count / 2)) + count * w)
+    → TellsSize told (dictionary_size w (number_of_members ms))
+dictionary_told told w count ms h told_is =
+    let half : count / 2 ≡ number_of_members ms = omega (arith, twice ms) in
+    let two : count * w ≡ number_of_members ms * w + number_of_members ms * w =
+    rw (h, twice ms) (grind arith) in
+    subst (TellsSize _) (λ i. length (length_form 0xd (half i)) + two i) told_is
 
--- ---- one step
+pub told_if : (told : Option ℕ) (size : ℕ) → SomeIff told (size < 2 ^ 64) size → TellsSize told size
+told_if None size h = elim (cases_lt _ _) [ inl l ↦ absurd (h l) | inr l ↦ l ]
+told_if (Some x) size h = h.1
+
+pub wide_length : (text : List ℕ) → is_ascii_text text ≡ false
+    → length (length_form 0x6 (length (units_of text))) + length (units_of text) * 2
+    ≡ length (text_form text)
+wide_length text wide =
+    let head = length-append (length_form 0x6 (length (units_of text)))
+    (flat_map (big_endian 2) (units_of text)) in
+    rw (wide) (omega (arith, head, length-table 2 (units_of text)))
 
 -- in the events of a tree, each that isn't an end begins one
 pub sits_at : (es : List PlainEvent) → IsBracketed es → (p : ℕ) → p < length es
     → is_stop (event_at es p) ≡ false → (u : Tree) × Sits es u p
 sits_at es (t, e) p lt b =
     met_all es (λ q. (u : Tree) × Sits es u q) t e
-    (all_from (λ one. (u : Tree) × Sits es u one.0) (Stands es) (λ one s. (one.1, s)) (met t 0)
+    (all_from (λ one. (u : Tree) × Sits es u _) (Stands es) (λ one s. (one.1, s)) _
     (met_stand es t 0 (sits_whole e))) p lt b

@@ -1,114 +1,237 @@
--- Places given to objects in order, and the sizes of objects.
-use Rattle.std.proofs.Common.{◌≡◌, ℕ, ◌+◌, ◌*◌, ◌^◌, ◌<◌, true, false, eqb, List, [], ◌∷◌, ◌++◌, length, get_or, set, take, Option, Some, None, IfSome, refl, ap, sym, ◌∙◌, subst, arith, length-append, append-nil}
+-- Objects that lie back to back: their order, their places and their sizes.
+use Rattle.std.proofs.Common.{◌≡◌, ◌≢◌, ◌⊎◌, inl, inr, ℕ, ◌+◌, ◌<◌, ◌≤◌, true, false, ◌||◌, eqb, List, [], ◌∷◌, ◌++◌, length, get_or, set, refl, ap, sym, ◌∙◌, arith, append_assoc, length-append, take, Option, Some, None, IfSome, subst}
 use Rattle.std.specs.List.{list_any, IsDistinct}
-use Rattle.std.proofs.lemmas.Bool.{eq-eqb, ne_eqb, eqb-false}
-use Rattle.std.proofs.lemmas.Grind.{flat_map-append}
-use Rattle.std.proofs.lemmas.List.{take_more, get_or-take, length-take}
-use Rattle.std.proofs.lemmas.List.Folds.{list_any_at}
-use Rattle.std.proofs.lemmas.List.Recursion.{or_from_places}
-use Rattle.std.proofs.lemmas.Map.Keys.{apart_from_distinct}
-use Rattle.plist_base.specs.Trees.{number_of_trees, Tree, Leaf, Array, Dictionary, Trees}
+use Rattle.std.proofs.lemmas.Bool.{eqb-true, eqb-false, or_cases, or_parts, false_from_ne_true, true_from_ne_false, eq-eqb, ne_eqb}
+use Rattle.std.proofs.lemmas.Cmp.{nat_eq_equiv}
+use Rattle.std.proofs.lemmas.List.Recursion.{or_push, or_from_places}
+use Rattle.std.proofs.lemmas.Map.Keys.{IsDistinct-push, apart_from_distinct}
+use Rattle.std.proofs.lemmas.Bool.Decides.{eqb_tells}
+use Rattle.std.proofs.lemmas.List.{get_or-set_same, get_or-set_other, length-set, take_more, get_or-take, length-take}
+use Rattle.plist_binread.specs.Container.{magic}
 use Rattle.plist_binread.specs.Object.{Object}
-use Rattle.plist_binwrite.specs.declared.kinds.Kind.TheVariants as kind
-use Rattle.plist_binwrite.specs.Forms.{form, length_form, IsWritable}
-use Rattle.plist_binwrite.specs.Held.{kind_of, event_at, values_in, num_of, Describes}
+use Rattle.plist_binwrite.specs.Forms.{form, IsWritable}
+use Rattle.plist_binwrite.specs.Written.{bodies, Laid}
+use Rattle.plist_binwrite.specs.inner.Laying.{IsOrder, KeepsMarks, laid_out, AllOnce}
+use Rattle.std.proofs.lemmas.List.Folds.{list_any_at}
+use Rattle.plist_base.specs.Events.{PlainEvent}
+use Rattle.plist_base.specs.Trees.{Tree, Leaf, Array, Dictionary}
+use Rattle.plist_binwrite.specs.Held.{num_of, Describes}
 use Rattle.plist_binwrite.specs.declared.plan.Plan.{Plan}
 use Rattle.plist_binwrite.specs.inner.Planning.{IsPlanned, numbers_of, firsts_of, count_of}
-use Rattle.plist_base.specs.Events.{PlainEvent}
-use Rattle.plist_binwrite.specs.Standing.{size, Sits, SitsItems}
+use Rattle.plist_binwrite.specs.Standing.{Sits}
 use Rattle.plist_binwrite.specs.Numberings.{obj_of}
-use Rattle.plist_binwrite.specs.Sizes.{TellsSize, object_size}
-use Rattle.plist_binwrite.specs.Written.{bodies, Laid}
-use Rattle.plist_binwrite.proofs.SizePasses.{twice}
-use Rattle.plist_binwrite.proofs.Layouts.{laid_snoc}
-use Rattle.plist_binwrite.proofs.Placed.{item_count, pair_count, of_array, sits_at}
-use Rattle.plist_binwrite.proofs.Sitting.{sits_items, sits_pairs}
-use Rattle.plist_binwrite.proofs.Sized.{form_size}
-use Rattle.plist_binwrite.proofs.Skipping.{as_items, pairs_as_items}
+use Rattle.plist_binwrite.specs.Sizes.{total, TellsSize, object_size}
+use Rattle.plist_binwrite.proofs.Outgoing.{one_part}
+use Rattle.plist_binwrite.proofs.Placed.{sits_at}
+use Rattle.plist_binwrite.proofs.Reading.{length-keys_of, length-values_of}
+use Rattle.plist_binwrite.proofs.ReadingNumbers.{length-table}
+use Rattle.plist_binwrite.proofs.Totals.{total_below, total_all}
+use Rattle.plist_binwrite.proofs.Unfold.{length-refs, length-pairs}
 
--- ---- the objects of collections
+pub length-magic : (xs : List ℕ) → length (magic ++ xs) ≡ 8 + length xs
+length-magic xs = length-append magic xs
 
--- a collection has fewer than 2^64 values
-pub few_values : {es : List PlainEvent} (t : Tree) (p count : ℕ) → Sits es t p → count < 2 ^ 64
-    → ((ts : Trees) → SitsItems es ts (p + 1) → count ≡ number_of_trees ts)
-    → length (values_in t p) < 2 ^ 64
-few_values (Leaf x) p count s few h = omega arith
-few_values (Array ts) p count s few h =
-    omega (arith, few, h ts (sits_items s), item_count ts (p + 1))
-few_values (Dictionary ms) p count s few h =
+-- object k among bytes that lie at a place
+pub record Lies (w : ℕ) (objects : ℕ → Object) (places bytes : List ℕ) (at k : ℕ) : Type 0 where
+  pub before : List ℕ
+  pub after : List ℕ
+  pub is : bytes ≡ before ++ (form w (objects k) ++ after)
+  pub at_place : get_or places k 0 ≡ at + length before
+  pub good : IsWritable w (objects k)
+
+module _ (w : ℕ) (objects : ℕ → Object) where
+  found : (places order : List ℕ) (at k : ℕ) → Laid w objects places order at → list_any
+      (eqb k) order ≡ true → Lies w objects places (bodies w objects order) at k
+  found places [] at k l any = cc
+  found places (j ∷ order) at k l any =
+      elim (eqb_tells k j) [
+        | inl e ↦ rw e.1
+            (record {
+              before = [];
+              after = bodies w objects order;
+              is = refl;
+              at_place = omega
+                  (arith, l.0);
+              good = l.1;
+            })
+        | inr d ↦ let f = found places order _ k l.2
+            (sym (ap (λ b. b || list_any (eqb k) order) d.0) ∙ any) in
+            record {
+              before = form w (objects j) ++ f.before;
+              after = f.after;
+              is =
+                  ap (λ l. form w (objects j) ++ l) f.is
+                  ∙ sym (append_assoc (form w (objects j)) f.before
+                  (form w (objects k) ++ f.after));
+              at_place = omega (arith, f.at_place, length-append (form w (objects j)) f.before);
+              good = f.good;
+            }
+      ]
+
+  module _ (order places : List ℕ) (k : ℕ) (l : Laid w objects places order 8)
+      (any : list_any (eqb k) order ≡ true) where
+    -- where something is appended, object k is still there
+    pub object_there : (more : List ℕ)
+        → Lies w objects places (laid_out w objects order ++ more) 0 k
+    object_there more =
+        let f = found _ _ 8 k l any in
+        record {
+          before = magic ++ f.before;
+          after = f.after ++ more;
+          is =
+              ap (λ x. (magic ++ x) ++ more) f.is
+              ∙ append_assoc (magic ++ f.before) (form w (objects k) ++ f.after) more
+              ∙ ap (λ x. (magic ++ f.before) ++ x) (append_assoc (form w (objects k)) f.after more);
+          at_place = omega (arith, f.at_place, length-magic f.before);
+          good = f.good;
+        }
+
+    -- its place lies in the file
+    pub found_place : get_or places k 0 ≤ length (laid_out w objects order)
+    found_place =
+        let f = found places order 8 k l any in
+        omega (
+          arith,
+          f.at_place,
+          length-magic (bodies w objects order),
+          ap length f.is,
+          length-append f.before (form w (objects k) ++ f.after),
+        )
+
+  pub laid_snoc : (places order : List ℕ) (at k v : ℕ) → k < length places
+      → list_any (eqb k) order ≡ false → IsWritable w (objects k)
+      → v ≡ at + length (bodies w objects order)
+      → Laid w objects places order at → Laid w objects (set places k v) (order ++ k ∷ []) at
+  laid_snoc places [] at k v h new good e l =
+      (get_or-set_same _ k v 0 h ∙ omega arith, good, tt)
+  laid_snoc places (j ∷ order) at k v h new good e l =
+      elim (eqb_tells k j) [
+        | inl same ↦ cc ((or_parts (eqb k j) (list_any (eqb k) order) new).0)
+        | inr d ↦ (
+          get_or-set_other places k j v 0 (λ x. d.1 (sym x)) ∙ l.0,
+          l.1,
+          laid_snoc places order (at + length (form w (objects j))) k v h
+              (sym (ap (λ b. b || list_any (eqb k) order) d.0) ∙ new) good
+              (omega (arith, e, length-append (form w (objects j)) (bodies w objects order))) l.2,
+        )
+      ]
+
+-- any of the numbers, or the one behind them
+any_snoc : (q : ℕ) (xs : List ℕ) (y : ℕ)
+    → list_any (eqb q) (xs ++ y ∷ []) ≡ list_any (eqb q) xs || eqb q y
+any_snoc q xs y = or_push (list_any _) _ refl (λ x l. refl) xs y
+
+pub order_none : (count : ℕ) (marks : List ℕ) → length marks ≡ count
+    → ((k : ℕ) → get_or marks k 0 ≡ 0) → IsOrder count [] marks
+unfolding IsDistinct
+order_none count marks long zeros = record {
+  long = long;
+  distinct = tt;
+  below = λ k any. cc;
+  marked = λ k any. cc;
+  others = λ k any. zeros k;
+}
+
+-- one more object
+module _ {count : ℕ} {order marks : List ℕ} (k : ℕ) (o : IsOrder count order marks) (h : k < count)
+    (z : get_or marks k 0 ≡ 0) where
+  new : list_any (eqb k) order ≡ false
+  new = false_from_ne_true _ (λ e. o.marked k e z)
+
+  here : get_or (set marks k 1) k 0 ≡ 1
+  here = get_or-set_same _ k 1 0 (omega arith)
+
+  split : (q : ℕ) → list_any (eqb q) (order ++ k ∷ []) ≡ true
+      → (list_any (eqb q) order ≡ true) ⊎ (q ≡ k)
+  split q any = elim (or_cases _ _ (cc (any_snoc q order k))) [
+    | inl t ↦ inl t
+    | inr s ↦ inr (eqb-true q k s)
+  ]
+
+  pub keeps_more : KeepsMarks marks (set marks k 1)
+  keeps_more q n = elim (eqb_tells q k) [
+    | inl s ↦ λ zero. absurd (omega (
+      arith,
+      here,
+      ap (λ j. get_or (set marks k 1) j 0)
+          (sym s.1),
+    ))
+    | inr d ↦ λ zero. n (cc (get_or-set_other marks k q 1 0 d.1))
+  ]
+
+  pub marked_more : get_or (set marks k 1) k 0 ≢ 0
+  marked_more zero = absurd (omega (arith, here))
+
+  pub order_more : IsOrder count (order ++ k ∷ []) (set marks k 1)
+  order_more = record {
+    long = length-set marks k 1 ∙ o.long;
+    distinct = IsDistinct-push nat_eq_equiv order k o.distinct new;
+    below = λ q any. elim (split q any) [ inl t ↦ o.below q t | inr s ↦ omega (arith, s, h) ];
+    marked = λ q any. elim (split q any) [
+      | inl t ↦ keeps_more q (o.marked q t)
+      | inr s ↦ λ zero. marked_more (ap (λ j. get_or (set marks k 1) j 0) (sym s) ∙ zero)
+    ];
+    others = λ q any.
+        let n = or_parts _ _ (sym (any_snoc q order k) ∙ any) in
+        get_or-set_other marks k q 1 0 (eqb-false q k n.1) ∙ o.others q n.0;
+  }
+
+-- what is marked is in the order
+pub in_order : {count : ℕ} {order marks : List ℕ} (k : ℕ) → IsOrder count order marks
+    → get_or marks k 0 ≢ 0 → list_any (eqb k) order ≡ true
+in_order k o n = true_from_ne_false _ (λ e. n (o.others k e))
+
+-- ---- the bytes of objects
+
+-- the bytes of the objects, by number
+length-bodies : (w : ℕ) (objects : ℕ → Object) (order : List ℕ)
+    → length (bodies w objects order) ≡ total (λ k. length (form w (objects k))) order
+length-bodies w objects [] = refl
+length-bodies w objects (k ∷ order) =
     omega (
       arith,
-      few,
-      h (as_items ms) (pairs_as_items (sits_pairs s)),
-      twice ms,
-      pair_count ms
-          (p + 1),
+      length-append (form w (objects k)) (bodies w objects order),
+      length-bodies w objects order,
     )
 
-pub array_told : {es : List PlainEvent} (told : Option ℕ) (w count : ℕ) (t : Tree) (p : ℕ)
-    → Sits es t p → kind_of (event_at es p) ≡ kind.Array
-    → ((ts : Trees) → SitsItems es ts (p + 1) → count ≡ number_of_trees ts)
-    → TellsSize told (length (length_form 0xa count) + count * w) → TellsSize told (object_size w t)
-array_told told w count t p s k h told_is =
-    of_array (λ u. TellsSize told (object_size w u)) t p s k (λ ts r.
-    subst (λ v. TellsSize told v) (λ i. length (length_form 0xa (h ts r i)) + h ts r i * w) told_is)
+-- in whatever order they stand
+pub total_bodies : (w : ℕ) (objects : ℕ → Object) (order : List ℕ) (count : ℕ)
+    → AllOnce count order
+    → length (bodies w objects order) ≡ total_below (λ k. length (form w (objects k))) count
+total_bodies w objects order count all =
+    length-bodies w objects _
+    ∙ total_all (λ k. length _) _ _ all.distinct
+    (λ k. (all.numbered k).0) (λ k. (all.numbered k).1)
+
+-- an object's form has its size
+pub form_size : (w : ℕ) (num : ℕ → ℕ) (t : Tree) (p : ℕ)
+    → length (form w (obj_of num t p)) ≡ object_size w t
+form_size w num (Leaf x) p = refl
+form_size w num (Array ts) p = simp (length-append, length-table, length-refs)
+form_size w num (Dictionary ms) p =
+    simp (length-append, length-table, length-keys_of, length-values_of, length-pairs)
 
 -- ---- a place of an order
 
 pub any_at : (xs : List ℕ) (i : ℕ) → i < length xs → list_any (eqb (get_or xs i 0)) xs ≡ true
-any_at xs i h = list_any_at (eqb (get_or xs i 0)) xs i 0 h (eq-eqb _ _ refl)
+any_at xs i h = list_any_at _ xs i 0 h (eq-eqb _ _ refl)
 
-pub not_before : (xs : List ℕ) (i : ℕ) → IsDistinct eqb xs → i < length xs
+not_before : (xs : List ℕ) (i : ℕ) → IsDistinct eqb xs → i < length xs
     → list_any (eqb (get_or xs i 0)) (take i xs) ≡ false
 not_before xs i d h =
     or_from_places (list_any (eqb (get_or xs i 0))) (eqb (get_or xs i 0)) refl (λ x l. refl)
-    (take i xs) 0 (λ k lt.
+    _ 0 (λ k lt.
     let before : k < i = omega (arith, lt, length-take i xs) in
     ne_eqb _ _ (λ e. eqb-false _ _ (apart_from_distinct eqb xs k i 0 d before h)
     (sym (get_or-take i xs k 0 before) ∙ sym e)))
 
 -- ---- one more place
 
-module _ (w : ℕ) (objects : ℕ → Object) (order places : List ℕ) (i : ℕ)
-    (lt : i < length order) where
-  abbrev k : ℕ
-  k = get_or order i 0
-
-  abbrev pub so_far : ℕ
-  so_far = 8 + length (bodies w objects (take i order))
-
-  more : take (i + 1) order ≡ take i order ++ get_or order i 0 ∷ []
-  more = take_more order i 0 lt
-
-  pub size_next : so_far + length (form w (objects (get_or order i 0)))
-      ≡ 8 + length (bodies w objects (take (i + 1) order))
-  size_next =
-      let both = flat_map-append (λ j. form w (objects j)) (take i order) (get_or order i 0 ∷ []) in
-      let last = append-nil (form w (objects (get_or order i 0))) in
-      let all : length (bodies w objects (take (i + 1) order))
-      ≡ length (bodies w objects (take i order)) + length (form w (objects (get_or order i 0)))
-      = ap (λ l. length (bodies w objects l)) more
-      ∙ ap length (both ∙ ap (λ l. bodies w objects (take i order) ++ l) last)
-      ∙ length-append (bodies w objects (take i order)) (form w (objects (get_or order i 0))) in
-      omega (arith, all)
-
-  pub laid_next : (v : ℕ) → IsDistinct eqb order → get_or order i 0 < length places
-      → IsWritable w (objects (get_or order i 0)) → v ≡ so_far
-      → Laid w objects places (take i order) 8
-      → Laid w objects (set places (get_or order i 0) v) (take (i + 1) order) 8
-  laid_next v distinct below good is laid =
-      rw more (laid_snoc w objects places (take i order) 8 (get_or order i 0) v below
-      (not_before order i distinct lt) good is laid)
-
 -- what is told of the place so far
 pub record Along (w : ℕ) (objects : ℕ → Object) (order places : List ℕ) (i : ℕ)
     (at : Option ℕ) : Type 0 where
   pub told : TellsSize at (8 + length (bodies w objects (take i order)))
   pub laid : IfSome at (λ n. Laid w objects places (take i order) 8)
-
-pub along_begin : (w : ℕ) (objects : ℕ → Object) (order places : List ℕ)
-    → Along w objects order places 0 (Some 8)
-along_begin w objects order places = record { told = refl; laid = tt }
 
 pub along_next : (w : ℕ) (objects : ℕ → Object) (order places : List ℕ) (i v : ℕ)
     (at next : Option ℕ) → i < length order → IsDistinct eqb order
@@ -118,34 +241,43 @@ pub along_next : (w : ℕ) (objects : ℕ → Object) (order places : List ℕ) 
     → (at ≡ None → next ≡ None) → Along w objects order places i at → Along w objects order
     (set places (get_or order i 0) v) (i + 1) next
 along_next w objects order places i v at next lt distinct below good is sum none along = record {
-  told =
-      subst (TellsSize next) (size_next w objects order places i lt)
-      (sum (8 + length (bodies w objects (take i order))) along.told);
+  told = subst (TellsSize next) more (sum _ along.told);
   laid = by at next is none along.told along.laid;
 }
   where
+    more : 8 + length (bodies w objects (take i order)) + length
+        (form w (objects (get_or order i 0)))
+        ≡ 8 + length (bodies w objects (take (i + 1) order))
+    more =
+        omega (
+          arith,
+          ap length (one_part (λ k. form w (objects k)) order i lt),
+          length-append (bodies w objects (take i order)) (form w (objects (get_or order i 0))),
+        )
+
     by : (at next : Option ℕ) → IfSome at (λ n. v ≡ n) → (at ≡ None → next ≡ None)
         → TellsSize at (8 + length (bodies w objects (take i order)))
         → IfSome at (λ n. Laid w objects places (take i order) 8)
         → IfSome next (λ n. Laid w objects (set places (get_or order i 0) v) (take (i + 1) order) 8)
     by None (Some m) is none told laid = let e : Some m ≡ None = none refl in cc
     by (Some n) (Some m) is none told laid =
-        laid_next w objects order places i lt v distinct below good (is ∙ told) laid
+        rw (take_more order i 0 lt) (laid_snoc w objects places (take i order) 8 (get_or order i 0)
+        v below (not_before order i distinct lt) good (is ∙ told) laid)
     by at next is none told laid = tt
 
 -- the object of a number is that of the tree which begins at its first event
-module _ (es : List PlainEvent) (plan : Plan) (planned : IsPlanned es plan) (objects : ℕ → Object)
+module _ {es : List PlainEvent} {plan : Plan} (planned : IsPlanned es plan) (objects : ℕ → Object)
     (k first : ℕ) (e : first ≡ get_or (firsts_of plan) k 0) (h : k < count_of plan)
     (describes : Describes es (numbers_of plan) objects) where
   pub described : (u : Tree) × Sits es u first
       × (objects k ≡ obj_of (num_of (numbers_of plan)) u first)
   described =
       let f = planned.numbered.known k h in
-      let u = sits_at es planned.whole (get_or (firsts_of plan) k 0) f.0 f.2 in
-      let s : Sits es u.0 first = subst (Sits es u.0) (sym e) u.1 in (
+      let u = sits_at es planned.whole _ f.0 f.2 in
+      let s = subst (Sits es u.0) (sym e) u.1 in (
         u.0,
         s,
-        ap objects (sym (ap (num_of (numbers_of plan)) e ∙ f.1)) ∙ describes u.0 first s,
+        ap objects (sym (ap (num_of _) e ∙ f.1)) ∙ describes u.0 _ s,
       )
 
   pub sized : (w : ℕ) (told : Option ℕ)
@@ -154,13 +286,13 @@ module _ (es : List PlainEvent) (plan : Plan) (planned : IsPlanned es plan) (obj
       → TellsSize told (length (form w (objects k))) × IsWritable w (objects k)
   sized w told size good =
       let d = described in (
-        subst (TellsSize told) (sym (ap (λ v. length (form w v)) d.2
-            ∙ form_size w (num_of (numbers_of plan)) d.0 first)) (size d.0 d.1),
-        subst (IsWritable w) (sym d.2) (good d.0 d.1),
+        rw (ap (λ v. length (form w v)) d.2
+            ∙ form_size w (num_of (numbers_of plan)) d.0 first) (size d.0 d.1),
+        rw d.2 (good d.0 d.1),
       )
 
 pub if_some_all : (o : Option ℕ) (P Q : (ℕ → Object) → Type 0)
     → ((objects : ℕ → Object) → P objects → IfSome o (λ n. Q objects))
     → IfSome o (λ n. (objects : ℕ → Object) → P objects → Q objects)
 if_some_all None P Q h = tt
-if_some_all (Some n) P Q h = λ objects p. h objects p
+if_some_all (Some n) P Q h = λ objects p. h _ p

@@ -1,21 +1,20 @@
 -- What is appended form by form.
-use Rattle.std.proofs.Common.{◌≡◌, ℕ, zero, suc, ◌+◌, ◌-◌, ◌*◌, ◌/◌, ◌^◌, ◌<◌, ◌≤◌, ℤ, pos, negsuc, ◌≤ℤ◌, List, [], ◌∷◌, ◌++◌, take, drop, refl, ap, sym, ◌∙◌, arith}
+use Rattle.std.proofs.Common.{◌≡◌, ℕ, zero, suc, ◌+◌, ◌-◌, ◌*◌, ◌^◌, ◌<◌, ◌≤◌, ℤ, pos, negsuc, ◌≤ℤ◌, List, [], ◌∷◌, ◌++◌, take, drop, refl, arith}
 use Rattle.std.specs.Int.{byte_at}
 use Rattle.std.proofs.lemmas.Bool.{lt-ltb, le-ltb}
 use Rattle.std.proofs.lemmas.Int.{ints}
 use native.Mathlib.Nat.{div-eq_of_lt}
 use Rattle.plist_binwrite.specs.Forms.{big_endian, doublings, least_width, natural_form, integer_form, length_form}
 use Rattle.plist_binwrite.proofs.Widths.{tail_of_digits}
-use Rattle.plist_binwrite.specs.Written.{reference_width, offset_width, trailer_of}
 
 pub length_short : (high count : ℕ) → count < 15 → length_form high count ≡ (high * 16 + count) ∷ []
 unfolding length_form
-length_short high count h = rw (lt-ltb count 15 h) refl
+length_short high count h = rw (lt-ltb _ 15 h) refl
 
 pub length_long : (high count : ℕ) → 15 ≤ count
     → length_form high count ≡ (high * 16 + 15) ∷ natural_form count
 unfolding length_form
-length_long high count h = rw (le-ltb count 15 h) refl
+length_long high count h = rw (le-ltb _ 15 h) refl
 
 -- the marker, the width of the length, and its digits
 pub length_told : (high count width doubled : ℕ) (digits : List ℕ) → 15 ≤ count
@@ -25,12 +24,11 @@ pub length_told : (high count width doubled : ℕ) (digits : List ℕ) → 15 �
     ≡ length_form high count
 length_told high count width doubled digits long least h twice is =
     let told : (0x10 + doubled) ∷ big_endian width count ≡ natural_form count = cc in
-    ap (λ l. (high * 16 + 15) ∷ (0x10 + doubled) ∷ l) (tail_of_digits digits width count is h)
-    ∙ ap (λ l. (high * 16 + 15) ∷ l) told ∙ sym (length_long high count long)
+    cc (tail_of_digits digits width count is h, length_long high count long)
 
 high_zero : (k n : ℕ) → n < 256 ^ k → byte_at k n ≡ 0
 high_zero zero n h = omega arith
-high_zero (suc k) n h = let e : n / 256 ^ suc k ≡ 0 = div-eq_of_lt h in rw e refl
+high_zero (suc k) n h = let e = div-eq_of_lt h in rw e refl
 
 pub wide_is : (n : ℕ) → n < 2 ^ 64 → big_endian 16 n ≡ big_endian 8 0 ++ big_endian 8 n
 wide_is n h =
@@ -48,16 +46,7 @@ wide_is n h =
 pub integer_wide : (z : ℤ) (n : ℕ) → pos n ≡ z → pos (2 ^ 63) ≤ℤ z
     → 0x14 ∷ big_endian 16 n ≡ integer_form z
 integer_wide (pos m) n e h =
-    let same : n ≡ m = omega (arith, ints, e) in
+    let same : n ≡ m = omega (arith, ints) in
     let large : 2 ^ 63 ≤ m = omega (arith, ints) in
-    rw (same, le-ltb m (2 ^ 63) large) refl
-integer_wide (negsuc m) n e h = absurd (omega (arith, ints, e))
-
--- the trailer with the widths that were found
-pub trailer_is : (count table w r : ℕ) → w ≡ offset_width table → r ≡ reference_width count
-    → 0 ∷ 0 ∷ 0 ∷ 0 ∷ 0 ∷ 0 ∷ w ∷ r
-    ∷ (big_endian 8 count ++ (big_endian 8 0 ++ big_endian 8 table))
-    ≡ trailer_of count table
-trailer_is count table w r a b =
-    λ i. 0 ∷ 0 ∷ 0 ∷ 0 ∷ 0 ∷ 0 ∷ a i ∷ b i
-    ∷ (big_endian 8 count ++ (big_endian 8 0 ++ big_endian 8 table))
+    rw (same, le-ltb m _ large) refl
+integer_wide (negsuc m) n e h = absurd (omega (arith, ints))

@@ -1,108 +1,246 @@
--- A planned file is its tree's, and sending it sends the tree's file.
-use Rattle.std.proofs.Common.{◌≡◌, ℕ, ◌<◌, List, ◌++◌, ◌+◌, ◌^◌, ◌≤◌, length, get_or, Option, None, Some, Result, Ok, Err, OnOk, IfErr, IfSome, ap, sym, ◌∙◌, subst, arith, append_assoc}
-use Rattle.std.specs.Io.KnownBytes.{Appends}
-use Rattle.plist_base.specs.declared.error.Error.{Error}
-use Rattle.plist_binwrite.specs.declared.held.Held.{Held}
-use Rattle.plist_base.specs.Bracketing.{AreWhole, shape}
-use Rattle.plist_base.specs.Faults.{Io, fault_of, fault_nowhere}
-use Rattle.plist_base.specs.Writing.{Answer, answer_of}
-use Rattle.plist_base.proofs.Grammar.{complete_of_whole}
-use Rattle.plist_binread.specs.Container.{magic}
-use Rattle.plist_binread.specs.Object.{Object}
-use Rattle.plist_binwrite.specs.declared.completion.Ready.{Ready}
-use Rattle.plist_binwrite.specs.declared.plan.Plan.{Plan}
-use Rattle.plist_binwrite.specs.Classes.{IsFileBy, IsOversized, Fits, SendsBy, count_by, objects_by, size_by}
-use Rattle.plist_binwrite.specs.inner.Ending.{numbers_in, file_of, IsReady, IsReadyBy, SendsReady}
-use Rattle.plist_base.specs.Fronts.{AppendsFront}
-use Rattle.plist_binwrite.specs.Outlets.{IsOut}
-use Rattle.plist_binwrite.specs.Held.{plain_events, AllBelow, Describes}
-use Rattle.plist_binwrite.specs.inner.Laying.{IsOrder, HasAll, AllOnce, laid_out, closed}
-use Rattle.plist_binwrite.specs.inner.Sizing.{ExceedsWith, FitsWith}
-use Rattle.plist_binwrite.specs.Sizes.{TellsSize, size_with}
+-- A planned file is its tree's, with one object for each class, and sending it sends the tree's file.
+use Rattle.std.proofs.Common.{◌≡◌, ℕ, ◌+◌, ◌-◌, ◌*◌, ◌^◌, ◌<◌, List, [], ◌++◌, length, take, drop, get_or, map, Some, Ok, refl, ap, sym, ◌∙◌, arith, append_assoc, ◌≤◌, Option, None, Result, Err, OnOk, IfSome, subst}
+use Rattle.std.specs.List.{slice_get}
+use Rattle.std.specs.Prelude.{option_map}
+use Rattle.std.proofs.lemmas.List.Elements.{All-from_get_or, recursion_from_All}
+use Rattle.std.proofs.lemmas.Option.{slice_get-map, slice_get-get_or}
+use Rattle.plist_base.specs.Bracketing.{bracketing, shape, AreWhole}
 use Rattle.plist_base.specs.Events.{PlainEvent}
 use Rattle.plist_base.specs.Trees.{Tree}
-use Rattle.plist_binwrite.specs.inner.Planning.{IsPlanned, GoesBy, count_of, numbers_of}
+use Rattle.plist_binread.specs.Container.{magic, Head, head_of}
+use Rattle.plist_binread.specs.Object.{Object, object_in}
+use Rattle.plist_binread.specs.Unfolding.{Entry, table_of, unfolding_of, until_fault, items_with, items_of_file}
+use Rattle.plist_binread.specs.Visits.{visits_of, visits_with, visits}
+use Rattle.plist_binread.proofs.Steps.{length-table_of}
+use Rattle.plist_binwrite.specs.Classes.{IsFileBy, count_by, objects_by, size_by, IsOversized, Fits, SendsBy}
+use Rattle.plist_binwrite.specs.Counts.{collections_in}
+use Rattle.plist_binwrite.specs.Forms.{form, table_form, AllFit}
+use Rattle.plist_binwrite.specs.Held.{num_of, Describes, plain_events}
+use Rattle.plist_binwrite.specs.inner.Laying.{AllOnce, laid_out, closed, IsOrder, HasAll}
+use Rattle.plist_binwrite.specs.inner.Planning.{IsPlanned, GoesBy, numbers_of, count_of}
+use Rattle.plist_binwrite.specs.Standing.{met}
+use Rattle.plist_binwrite.specs.Written.{Laid, reference_width, offset_width, bodies, ending}
+use Rattle.plist_binwrite.specs.declared.plan.Plan.{Plan}
+use Rattle.plist_binwrite.proofs.ClassObjects.{Numbered, numbered, number_apart, number_below}
+use Rattle.plist_binwrite.proofs.Kept.{planned_count, planned_size}
+use Rattle.plist_binwrite.proofs.Placing.{length-magic, found_place, object_there, any_at}
+use Rattle.plist_binwrite.proofs.Reading.{form_read}
+use Rattle.plist_binwrite.proofs.ReadingNumbers.{drop_front, width_positive, last, length_closed, front_is, head_is}
+use Rattle.plist_binwrite.proofs.Sitting.{sits_whole}
+use Rattle.plist_binwrite.proofs.Unfold.{Shows, unfolds_whole, no_fault}
+use Rattle.plist_binwrite.proofs.Widths.{width_holds}
+use Rattle.plist_base.specs.Outcomes.{OnlyDevice}
+use Rattle.plist_base.specs.declared.error.Error.{Error}
+use Rattle.plist_binwrite.specs.declared.held.Held.{Held}
+use Rattle.plist_base.specs.Writing.{Answer, answer_of}
+use Rattle.plist_base.proofs.Grammar.{complete_of_whole}
+use Rattle.plist_binwrite.specs.declared.completion.Ready.{Ready}
+use Rattle.plist_binwrite.specs.inner.Ending.{numbers_in, file_of, IsReady, IsReadyBy, SendsReady}
+use Rattle.plist_binwrite.specs.Outlets.{IsOut, Empties, EmptiesInPart}
+use Rattle.plist_binwrite.specs.inner.Sizing.{ExceedsWith, FitsWith}
+use Rattle.plist_binwrite.specs.Sizes.{TellsSize, size_with}
 use Rattle.plist_binwrite.specs.SendingAs.{IsFileOfEvents}
-use Rattle.plist_binwrite.specs.Written.{Laid, reference_width, bodies, ending}
-use Rattle.plist_binwrite.proofs.Finished.{finished, laid_length}
-use Rattle.plist_binwrite.proofs.ClassObjects.{Numbered, numbered}
-use Rattle.plist_binwrite.proofs.Kept.{planned_count}
 use Rattle.plist_binwrite.proofs.Unhinted.{plain_shape}
-use Rattle.plist_binwrite.proofs.Placing.{any_at}
-use Rattle.plist_binwrite.proofs.Sends.{sends_io}
 
-module _ (es : List PlainEvent) (plan : Plan) (order marks : List ℕ) (told : Option ℕ)
-    (width count : ℕ) (wide : width ≡ reference_width count) (n : count ≡ count_of plan)
+module _ {es : List PlainEvent} {plan : Plan} (planned : IsPlanned es plan) {class : ℕ → ℕ}
+    (goes : GoesBy es class plan) (t : Tree) (e : es ≡ shape t) (objects : ℕ → Object)
+    (describes : Describes es (numbers_of plan) objects) (order : List ℕ)
+    (all : AllOnce (count_of plan) order) where
+  -- how long the magic and the objects are
+  pub laid_length : length (laid_out (reference_width (count_of plan)) objects order)
+      ≡ 8 + objects_by class (reference_width (count_by class t)) t
+  laid_length =
+      length-magic (bodies (reference_width (count_of plan)) objects order)
+      ∙ ap (λ k. 8 + k) (planned_size planned goes t e
+      (reference_width (count_of plan)) objects describes order all)
+      ∙ ap (λ c. 8 + objects_by class (reference_width c) t)
+      (planned_count planned goes t e)
+
+  module _ (places : List ℕ) (laid : Laid (reference_width (length places)) objects places order 8)
+      (long : length places ≡ count_of plan) (fits : size_by class t < 2 ^ 64) where
+    abbrev w : ℕ
+    w = reference_width (length places)
+
+    abbrev body : List ℕ
+    body = bodies w objects order
+
+    abbrev file : List ℕ
+    file = laid_out w objects order
+
+    abbrev num : ℕ → ℕ
+    num = num_of (numbers_of plan)
+
+    made : Numbered es (numbers_of plan)
+    made = numbered planned
+
+    count_is : length places ≡ count_by class t
+    count_is = long ∙ planned_count planned goes t e
+
+    place_is : length file ≡ 8 + objects_by class (reference_width (count_by class t)) t
+    place_is = ap (λ k. length (laid_out (reference_width k) objects order)) long ∙ laid_length
+
+    short : length file < 2 ^ 64
+    short = omega (arith, place_is, fits)
+
+    whole : AllOnce (length places) order
+    whole = rw long all
+
+    -- ---- what the file's own table holds
+
+    abbrev before : List ℕ
+    before = take (last body places) (closed file places)
+
+    abbrev entries : List Entry
+    entries = table_of before w places
+
+    entry_read : (k : ℕ) → k < length places
+        → slice_get entries k ≡ Some (record { place = get_or places k 0; object = objects k })
+    entry_read k h =
+        let o = object_there w objects order places k laid ((whole.numbered k).1 h)
+        (table_form (offset_width (length file)) places) in
+        slice_get-map _ places k ∙ ap (option_map _) (slice_get-get_or places k 0 h)
+        ∙ ap (λ object. Some (record { place = get_or places k 0; object = object }))
+        (ap (λ bytes. object_in w (drop (get_or places k 0) bytes)) (front_is body places ∙ o.is)
+        ∙ ap (object_in w) (drop_front o.before (form w (objects k) ++ o.after) _
+        (omega (arith, o.at_place)))
+        ∙ form_read w (width_positive (length places - 1)) (objects k) o.after o.good)
+
+    fit : AllFit (offset_width (length file)) places
+    fit =
+        let Fits : ℕ → Type 0 = λ n. n < 256 ^ offset_width (length file) in
+        recursion_from_All Fits places (All-from_get_or Fits places 0 (λ k h. omega (
+          arith,
+          found_place w objects order places k laid ((whole.numbered k).1 h),
+          width_holds (length file) short,
+        )))
+
+    head_found : head_of (closed file places) ≡ Ok
+        (record { trailer = last body places; reference_width = w; root = 0; places = places })
+    head_found = head_is body places (omega (arith, long, planned.numbered.small)) short fit
+
+    shows : Shows num (unfolding_of entries (length places) [] (last body places) 0)
+        (visits_of entries (length places) [] 0) (bracketing t) (met t 0)
+    shows =
+        let room : length entries - 0 ≡ length places = omega
+        (arith, length-table_of before places w)
+        in
+        let all = unfolds_whole entries es num made.rank made.ranked
+        (λ u p s. (
+          get_or places (num p) 0,
+          entry_read (num p) (omega (arith, number_below planned u p s))
+              ∙ ap (λ o. Some (record { place = get_or places (num p) 0; object = o }))
+              (describes u p s),
+        ))
+        t (last body places) (sits_whole e) in
+        rw (room, planned.root) at all
+
+    items_are : items_of_file (closed file places) ≡ map Ok (bracketing t)
+    unfolding items_of_file
+    items_are =
+        ap (items_with (closed file places)) head_found ∙ ap until_fault shows.items
+        ∙ no_fault (bracketing t)
+
+    visits_are : visits (closed file places) ≡ map (λ one. num one.0) (collections_in t)
+    unfolding visits
+    visits_are = ap (visits_with (closed file places)) head_found ∙ shows.visits
+
+    ok_same : (a b : Head) → Ok a ≡ head_of (closed file places)
+        → head_of (closed file places) ≡ Ok b → b ≡ a
+    ok_same a b p q = cc
+
+    pub finished : IsFileBy class t (closed file places)
+    finished = record {
+      written = record {
+        order = order;
+        objects = objects;
+        places = places;
+        distinct = all.distinct;
+        numbered = whole.numbered;
+        laid = laid;
+        is =
+            append_assoc magic body (ending places (length file))
+            ∙ ap (λ at. magic ++ (body ++ ending places at)) (length-magic body);
+        items = items_are;
+      };
+      numbered = record {
+        numbers = num;
+        apart = λ u v p q s r. number_apart planned goes u v p q (rw e s) (rw e r);
+        entered = visits_are;
+      };
+      count =
+          λ head is. ap (λ (h : Head). length h.places) (ok_same _ head (sym head_found) is)
+          ∙ count_is;
+      size =
+          length_closed body places
+          ∙ (λ i. place_is i + count_is i * offset_width (place_is i) + 32);
+      fits = fits;
+    }
+
+module _ {es : List PlainEvent} {plan : Plan} {order marks : List ℕ} (told : Option ℕ)
+    {width count : ℕ} (wide : width ≡ reference_width count) (many : count ≡ length marks)
     (p : IsPlanned es plan) (o : IsOrder (count_of plan) order marks)
     (all : HasAll (count_of plan) order)
     (size : (objects : ℕ → Object) → Describes es (numbers_of plan) objects
     → TellsSize told (length (laid_out width objects order))) where
-  pub ready_order : AllBelow (count_of plan) order
-  ready_order i h = o.below (get_or order i 0) (any_at order i h)
+  n : count ≡ count_of plan
+  n = cc
 
   once : AllOnce (count_of plan) order
   once = record { distinct = o.distinct; numbered = λ k. (o.below k, all k) }
 
-  -- where the offset table lies
-  table_told : (class : ℕ → ℕ) → GoesBy es class plan → (t : Tree) → es ≡ shape t
-      → TellsSize told (8 + objects_by class (reference_width (count_by class t)) t)
-  table_told class goes t e =
-      let of = numbered es plan p in
-      subst (TellsSize told)
-      (ap (λ v. length (laid_out v of.objects order)) (wide ∙ ap reference_width n)
-      ∙ laid_length es plan p class goes t e of.objects of.describes order once)
-      (size of.objects of.describes)
+  module _ {class : ℕ → ℕ} (goes : GoesBy es class plan) (t : Tree) (e : es ≡ shape t) where
+    abbrev size_of_all : ℕ
+    size_of_all = objects_by class (reference_width (count_by class t)) t
 
-  -- how many objects there are
-  count_told : (class : ℕ → ℕ) → GoesBy es class plan → (t : Tree) → es ≡ shape t
-      → count ≡ count_by class t
-  count_told class goes t e =
-      n ∙ planned_count es plan p class goes t e
+    -- where the offset table lies
+    table_told : TellsSize told (8 + size_of_all)
+    table_told =
+        let of = numbered p in
+        subst (TellsSize told)
+        (ap (λ v. length (laid_out v of.objects order)) (wide ∙ ap reference_width n)
+        ∙ laid_length p goes t e of.objects of.describes order once)
+        (size of.objects of.describes)
+
+    -- how many objects there are
+    count_told : count ≡ count_by class t
+    count_told = n ∙ planned_count p goes t e
+
+    too_large : (told : Option ℕ) → IfSome told (λ table. ExceedsWith table count)
+        → TellsSize told (8 + size_of_all) → 2 ^ 64 ≤ size_by class t
+    too_large None exceeds large = omega (arith, large)
+    too_large (Some table) exceeds is =
+        subst (λ k. 2 ^ 64 ≤ size_with k size_of_all) count_told (exceeds size_of_all is)
 
   -- where the file doesn't fit, by any classes
-  pub oversized : IfSome told (λ table. ExceedsWith table count) → (class : ℕ → ℕ)
+  pub oversized : IfSome told (λ table. ExceedsWith table count) → {class : ℕ → ℕ}
       → GoesBy es class plan → IsOversized class es
-  oversized exceeds class goes t e =
-      far told exceeds (table_told class goes t e)
-    where
-      objects : ℕ
-      objects = objects_by class (reference_width (count_by class t)) t
+  oversized exceeds {class} goes t e = too_large goes t e told exceeds (table_told goes t e)
 
-      far : (told : Option ℕ) → IfSome told (λ table. ExceedsWith table count)
-          → TellsSize told (8 + objects) → 2 ^ 64 ≤ size_by class t
-      far None exceeds large = omega (arith, large)
-      far (Some table) exceeds is =
-          subst (λ k. 2 ^ 64 ≤ size_with k objects) (count_told class goes t e) (exceeds objects is)
-
-  module _ (places : List ℕ) (table : ℕ) (at : told ≡ Some table) (fits : FitsWith table count)
+  module _ (places : List ℕ) {table : ℕ} (known : told ≡ Some table) (fits : FitsWith table count)
       (long : length places ≡ count_of plan)
       (laid : IfSome told (λ _. (objects : ℕ → Object) → Describes es (numbers_of plan) objects
       → Laid width objects places order 8)) where
     widths : width ≡ reference_width (length places)
     widths = wide ∙ ap reference_width (n ∙ sym long)
 
-    pub ready_table : (objects : ℕ → Object) → Describes es (numbers_of plan) objects
-        → table ≡ length (laid_out (reference_width (length places)) objects order)
-    ready_table objects d =
-        subst (λ t. TellsSize t (length (laid_out width objects order))) at (size objects d)
-        ∙ ap (λ w. length (laid_out w objects order)) widths
-
     all_fit : (class : ℕ → ℕ) → GoesBy es class plan → Fits class es
     all_fit class goes t e =
         let objects = objects_by class (reference_width (count_by class t)) t in
-        subst (λ k. size_with k objects < 2 ^ 64) (count_told class goes t e)
-        (fits objects (subst (λ k. TellsSize k (8 + objects)) at (table_told class goes t e)))
+        subst (λ k. size_with k objects < 2 ^ 64) (count_told goes t e)
+        (fits objects (rw known at (table_told goes t e)))
 
-    pub ready_file : (objects : ℕ → Object) → Describes es (numbers_of plan) objects
-        → (class : ℕ → ℕ) → GoesBy es class plan → (t : Tree) → es ≡ shape t
-        → IsFileBy class t
-        (closed (laid_out (reference_width (length places)) objects order) places)
-    ready_file objects d class goes t e =
-        finished es plan p class goes t e objects d order once places
-        (subst (λ w. Laid w objects places order 8) widths
-        (subst (λ k. IfSome k (λ _. (objects : ℕ → Object) → Describes es (numbers_of plan) objects
-        → Laid width objects places order 8)) at laid objects d))
-        long (all_fit class goes t e)
+    pub is_ready : IsReady es
+        (record { plan = plan; order = order; places = places; table = table })
+    is_ready = record {
+      planned = p;
+      order = λ i h. o.below (get_or order i 0) (any_at order i h);
+      long = long;
+      table = λ objects d. rw known at (size objects d)
+          ∙ ap (λ w. length (laid_out w objects order)) widths;
+      file = λ objects d class goes t e. finished p goes t e objects d order once places
+          (subst (λ w. Laid w objects places order 8) widths ((rw known at laid) objects d))
+          long (all_fit class goes t e);
+    }
 
 -- the parts that are put, one behind the other
 pub file_is : (objects : ℕ → Object) (order places : List ℕ) (table width : ℕ)
@@ -111,43 +249,31 @@ pub file_is : (objects : ℕ → Object) (order places : List ℕ) (table width 
     → magic ++ (bodies width objects order ++ ending places table)
     ≡ closed (laid_out (reference_width (length places)) objects order) places
 file_is objects order places table width wide e =
-    ap (λ w. magic ++ (bodies w objects order ++ ending places table)) wide
-    ∙ sym (append_assoc magic (bodies (reference_width (length places)) objects order)
-    (ending places table))
-    ∙ ap (λ n. laid_out (reference_width (length places)) objects order ++ ending places n) e
+    cc
 
 -- what waits goes out at the end
 pub sends_end : {W : Type 0} (contents : W → Option (List ℕ)) (es : List PlainEvent) (ready : Ready)
     (old middle new : W) (waiting : List ℕ) (answer : Result (Unit {0}) Error)
-    → OnOk answer ((first : Option (List ℕ)) (done : List ℕ)
-    → IsOut first (contents middle) waiting done → Appends first (contents new) done)
-    → ((first : Option (List ℕ)) (done : List ℕ) → IsOut first (contents middle) waiting done
-    → AppendsFront first (contents new) done)
-    → IfErr answer (λ error. fault_of error ≡ fault_nowhere Io)
+    → OnOk answer (Empties contents middle waiting new) → EmptiesInPart contents middle waiting new
+    → OnlyDevice answer
     → ((objects : ℕ → Object) → Describes es (numbers_in ready) objects
     → IsOut (contents old) (contents middle) waiting (file_of ready objects))
     → SendsReady contents es ready (answer_of answer) old new
 sends_end contents es ready old middle new waiting (Ok done) sent front failed out =
-    λ objects d. sent (contents old) (file_of ready objects) (out objects d)
+    λ objects d. sent _ _ (out objects d)
 sends_end contents es ready old middle new waiting (Err error) sent front failed out =
-    (failed, λ objects d. front (contents old) (file_of ready objects) (out objects d))
-
--- a plan has objects
-pub with_objects : (es : List PlainEvent) (ready : Ready) (P : Type 0) → IsReady es ready
-    → ((objects : ℕ → Object) → Describes es (numbers_in ready) objects → P) → P
-with_objects es ready P r h =
-    let o = numbered es ready.plan r.planned in h o.objects o.describes
+    (failed, λ objects d. front _ _ (out objects d))
 
 -- ---- what goes out
 
-module _ {W : Type 0} (contents : W → Option (List ℕ)) (events : Held) (class : ℕ
-    → ℕ) (ready : Ready) (old new : W) (whole : AreWhole (plain_events events))
+module _ {W : Type 0} (contents : W → Option (List ℕ)) (events : Held) (old new : W)
+    (whole : AreWhole (plain_events events)) {class : ℕ → ℕ} {ready : Ready}
     (b : IsReadyBy (plain_events events) class ready) where
   abbrev r : IsReady (plain_events events) ready
   r = b.all
 
-  of : Numbered (plain_events events) (numbers_in ready) (count_of ready.plan)
-  of = numbered (plain_events events) ready.plan r.planned
+  of : Numbered (plain_events events) (numbers_in ready)
+  of = numbered r.planned
 
   is_file : IsFileOfEvents (IsFileBy class) (size_by class) (plain_events events)
       (file_of ready of.objects)
@@ -162,5 +288,4 @@ module _ {W : Type 0} (contents : W → Option (List ℕ)) (events : Held) (clas
       → SendsBy class contents (plain_events events) answer old new
   ready_sends (Ok done) s = (file_of ready of.objects, is_file, s of.objects of.describes)
   ready_sends (Err fault) s =
-      sends_io (IsFileBy class) (size_by class) contents (plain_events events) fault old new
-      (file_of ready of.objects) s.0 is_file (s.1 of.objects of.describes)
+      rw s.0 (refl, (file_of ready of.objects, is_file, s.1 of.objects of.describes))

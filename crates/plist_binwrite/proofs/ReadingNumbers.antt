@@ -1,6 +1,6 @@
--- Numbers, and lengths, read back from their bytes.
-use Rattle.std.proofs.Common.{◌≡◌, inl, inr, ℕ, zero, suc, ◌+◌, ◌-◌, ◌*◌, ◌/◌, ◌%◌, ◌^◌, ◌<◌, ◌≤◌, ℤ, pos, negsuc, cond, nat_le, List, [], ◌∷◌, ◌++◌, length, take, drop, get_or, map, Option, None, Some, refl, ap, sym, ◌∙◌, arith, append_assoc, length-append, flat_map}
-use Rattle.std.specs.List.{range_with_len}
+-- Numbers, lengths and the head of a file, read back from their bytes.
+use Rattle.std.proofs.Common.{◌≡◌, inl, inr, ℕ, zero, suc, ◌+◌, ◌-◌, ◌*◌, ◌%◌, ◌^◌, ◌<◌, ◌≤◌, ℤ, pos, negsuc, cond, nat_le, List, [], ◌∷◌, ◌++◌, length, take, drop, get_or, Option, None, Some, refl, ap, sym, ◌∙◌, arith, append_assoc, length-append, flat_map, true, nat_eq, Ok}
+use Rattle.std.specs.List.{starts_with}
 use Rattle.std.proofs.lemmas.Bool.{lt-ltb, le-ltb, le-leb, cases_lt}
 use Rattle.std.proofs.lemmas.Int.{ints}
 use Rattle.std.proofs.lemmas.List.{drop-drop}
@@ -8,57 +8,59 @@ use Rattle.std.proofs.lemmas.List.FromFn.{fill_by_all}
 use Rattle.std.proofs.Math.Seq.{take-append_seam, drop-append_seam}
 use Rattle.std.proofs.Math.Nat.{mul-div_cancel}
 use Rattle.plist_base.specs.Trees as trees
-use Rattle.plist_binread.specs.Container.{number_of, number_at, numbers_of}
-use Rattle.plist_binread.specs.Object.{Object, Scalar, Counted, layout_of, length_in, length_that_follows, meaning_of_front, meaning_counted, object_behind, object_in, signed, unsigned_integer, signed_integer, wide_integer, integer_in_range}
-use Rattle.plist_binwrite.specs.Forms.{big_endian, doublings, natural_form, integer_form, uid_form, length_form, IsInteger, AllFit}
+use Rattle.plist_binread.specs.Container.{number_of, number_at, numbers_spelled, magic, trailer_in, is_width, head_with, head_of}
+use Rattle.plist_binread.specs.Object.{Object, Scalar, Counted, layout_of, length_that_follows, meaning_of_front, object_in, signed, integer_in_range}
+use Rattle.plist_binwrite.specs.Forms.{big_endian, doublings, natural_form, integer_form, uid_form, length_form, IsInteger, AllFit, least_width, table_form, trailer_form}
 use Rattle.plist_binwrite.proofs.Pushed.{length_short, length_long}
 use Rattle.plist_binwrite.proofs.Widths.{at_width, length-big_endian, number_back}
+use Rattle.plist_binwrite.specs.Written.{reference_width, offset_width}
+use Rattle.plist_binwrite.specs.inner.Laying.{closed}
 
--- ---- fixed sizes
+-- ---- the front of some bytes
+
+pub take_front : (xs rest : List ℕ) (n : ℕ) → length xs ≡ n → take n (xs ++ rest) ≡ xs
+take_front xs rest n e = rw (← e) (take-append_seam xs _)
+
+pub drop_front : (xs rest : List ℕ) (n : ℕ) → length xs ≡ n → drop n (xs ++ rest) ≡ rest
+drop_front xs rest n e = rw (← e) (drop-append_seam xs _)
+
+-- what is made of it and of the rest
+parted : {A : Type 0} (f : List ℕ → List ℕ → A) (none : A) (xs rest : List ℕ) (n : ℕ)
+    → length xs ≡ n → cond (nat_le n (length (xs ++ rest)))
+    (f (take n (xs ++ rest)) (drop n (xs ++ rest))) none ≡ f xs rest
+parted f none xs rest n e =
+    rw (
+      ← e,
+      le-leb (length xs) (length (xs ++ rest)) (omega (arith, length-append xs rest)),
+      take-append_seam xs _,
+      drop-append_seam xs _,
+    ) refl
 
 pub front : (size : ℕ) (meaning : List ℕ → Object) (content rest : List ℕ) → length content ≡ size
     → meaning_of_front size meaning (content ++ rest) ≡ meaning content
-front size meaning content rest e =
-    rw (
-      ← e,
-      le-leb (length content) (length (content ++ rest))
-          (omega (arith, length-append content rest)),
-      take-append_seam content rest,
-    ) refl
+front size meaning content rest e = parted (λ a b. meaning a) _ _ _ _ e
+
+number_front : (f : ℕ → Object) (w n : ℕ) (rest : List ℕ) → n < 256 ^ w
+    → meaning_of_front w (λ content. f (number_of content)) (big_endian w n ++ rest) ≡ f n
+number_front f w n rest h =
+    front w (λ content. f (number_of content)) (big_endian w n) rest (length-big_endian w n)
+    ∙ ap f (number_back w n h)
 
 -- ---- integers
-
-number_front : (w n : ℕ) (rest : List ℕ) → n < 256 ^ w
-    → meaning_of_front w unsigned_integer (big_endian w n ++ rest) ≡ Scalar (trees.Integer (pos n))
-number_front w n rest h =
-    front w unsigned_integer (big_endian w n) rest (length-big_endian w n)
-    ∙ ap (λ k. Scalar (trees.Integer (pos k))) (number_back w n h)
-
-signed_low : (n : ℕ) → n < 2 ^ 63 → signed 64 n ≡ pos n
-signed_low n h = rw (lt-ltb n (2 ^ 63) h) refl
 
 natural_read : (width n : ℕ) (rest : List ℕ) → n < 2 ^ 63
     → object_in width (natural_form n ++ rest) ≡ Scalar (trees.Integer (pos n))
 unfolding object_in
 natural_read width n rest h =
+    let low = number_front (λ k. Scalar (trees.Integer (pos k))) in
     at_width n (λ w. object_in width ((0x10 + doublings w) ∷ big_endian w n ++ rest)
     ≡ Scalar (trees.Integer (pos n)))
-    (number_front 1 n rest) (number_front 2 n rest) (number_front 4 n rest)
-    (front 8 signed_integer (big_endian 8 n) rest (length-big_endian 8 n)
-    ∙ ap (λ k. Scalar (trees.Integer (signed 64 k))) (number_back 8 n (omega (arith, h)))
-    ∙ ap (λ z. Scalar (trees.Integer z)) (signed_low n h))
+    (low 1 n rest) (low 2 n rest) (low 4 n rest)
+    (number_front (λ k. Scalar (trees.Integer (signed 64 k))) 8 n rest (omega (arith, h))
+    ∙ rw (lt-ltb n (2 ^ 63) h) refl)
 
 signed_negative : (m : ℕ) → m < 2 ^ 63 → signed 64 (2 ^ 64 - suc m) ≡ negsuc m
 signed_negative m h = rw (le-ltb (2 ^ 64 - suc m) (2 ^ 63) (omega arith)) (omega (arith, ints))
-
-signed_wide : (n : ℕ) → n < 2 ^ 64 → signed 128 n ≡ pos n
-signed_wide n h = rw (lt-ltb n (2 ^ 127) (omega arith)) refl
-
-wide_read : (n : ℕ) → n < 2 ^ 64 → wide_integer (big_endian 16 n) ≡ Scalar (trees.Integer (pos n))
-wide_read n h =
-    ap (λ k. integer_in_range (signed 128 k)) (number_back 16 n (omega arith))
-    ∙ ap integer_in_range (signed_wide n h)
-    ∙ rw (lt-ltb n (2 ^ 64) h) refl
 
 pub integer_read : (width : ℕ) (z : ℤ) (rest : List ℕ) → IsInteger z
     → object_in width (integer_form z ++ rest) ≡ Scalar (trees.Integer z)
@@ -67,30 +69,22 @@ integer_read width (pos n) rest range =
     elim (cases_lt n (2 ^ 63)) [
       | inl low ↦ rw (lt-ltb n (2 ^ 63) low) (natural_read width n rest low)
       | inr high ↦ let fits : n < 2 ^ 64 = omega (arith, ints, range.1) in
-          rw (le-ltb n (2 ^ 63) high) (front 16 wide_integer (big_endian 16 n) rest
-          (length-big_endian 16 n) ∙ wide_read n fits)
+          rw (le-ltb n (2 ^ 63) high)
+          (number_front (λ k. integer_in_range (signed 128 k)) 16 n rest (omega arith)
+          ∙ rw (lt-ltb n (2 ^ 127) (omega arith), lt-ltb n (2 ^ 64) fits) refl)
     ]
 integer_read width (negsuc m) rest range =
-    let small : m < 2 ^ 63 = omega (arith, ints, range.0) in
-    front 8 signed_integer (big_endian 8 (2 ^ 64 - suc m)) rest
-    (length-big_endian 8 (2 ^ 64 - suc m))
-    ∙ ap (λ k. Scalar (trees.Integer (signed 64 k))) (number_back 8 (2 ^ 64 - suc m) (omega arith))
-    ∙ ap (λ z. Scalar (trees.Integer z)) (signed_negative m small)
+    number_front (λ k. Scalar (trees.Integer (signed 64 k))) 8 (2 ^ 64 - suc m) rest (omega arith)
+    ∙ ap (λ z. Scalar (trees.Integer z)) (signed_negative m (omega (arith, ints, range.0)))
 
 pub uid_read : (width n : ℕ) (rest : List ℕ) → n < 2 ^ 64
     → object_in width (uid_form n ++ rest) ≡ Scalar (trees.Uid n)
 unfolding object_in
 uid_read width n rest h =
+    let back = number_front (λ k. Scalar (trees.Uid k)) in
     at_width n (λ w. object_in width ((0x7f + w) ∷ big_endian w n ++ rest)
     ≡ Scalar (trees.Uid n))
-    (uid_front 1) (uid_front 2) (uid_front 4) (uid_front 8 (omega (arith, h)))
-  where
-    uid_front : (w : ℕ) → n < 256 ^ w → meaning_of_front w
-        (λ content. Scalar (trees.Uid (number_of content))) (big_endian w n ++ rest)
-        ≡ Scalar (trees.Uid n)
-    uid_front w small =
-        front w (λ content. Scalar (trees.Uid (number_of content))) (big_endian w n) rest
-        (length-big_endian w n) ∙ ap (λ k. Scalar (trees.Uid k)) (number_back w n small)
+    (back 1 n rest) (back 2 n rest) (back 4 n rest) (back 8 n rest (omega (arith, h)))
 
 -- ---- lengths
 
@@ -107,96 +101,168 @@ follows n rest h =
         (Some (number_of (take w (big_endian w n ++ rest)), drop w (big_endian w n ++ rest))) None
         ≡ Some (n, rest)
     taken w small =
-        let len = length-big_endian w n in
-        let whole : w ≤ length (big_endian w n ++ rest) = omega
-        (arith, length-append (big_endian w n) rest) in
-        rw (le-leb w (length (big_endian w n ++ rest)) whole)
-        (ap (λ k. Some (
-          number_of (take k (big_endian w n ++ rest)),
-          drop k
-              (big_endian w n ++ rest),
-        )) (sym len)
-        ∙ (λ i. Some (
-          number_of (take-append_seam (big_endian w n) rest i),
-          drop-append_seam
-              (big_endian w n) rest i,
-        ))
-        ∙ ap (λ k. Some (k, rest)) (number_back w n small))
+        parted (λ a b. Some (number_of a, b)) _ (big_endian w n) rest w (length-big_endian w n)
+        ∙ ap (λ k. Some (k, rest)) (number_back w n small)
 
 -- an object of so many elements
-pub counted : (width high count size : ℕ) (meaning : ℕ → List ℕ → Object) (content rest : List ℕ)
+pub counted : {size : ℕ} {meaning : ℕ → List ℕ → Object} (width high count : ℕ)
+    (content rest : List ℕ)
     → ((m : ℕ) → high * 16 ≤ m → m ≤ high * 16 + 15 → layout_of width m ≡ Counted size meaning)
     → count < 2 ^ 64 → length content ≡ count * size
     → object_in width ((length_form high count ++ content) ++ rest) ≡ meaning count content
 unfolding object_in
-counted width high count size meaning content rest layout small len =
+counted {size} {meaning} width high count content rest layout small len =
+    let read = front (count * size) (meaning count) content rest len in
     elim (cases_lt count 15) [
       | inl short ↦
-          ap (λ l. object_in width ((l ++ content) ++ rest)) (length_short high count short)
-          ∙ ap (λ l. object_behind (high * 16 + count) l (content ++ rest))
-          (layout (high * 16 + count) (omega arith) (omega arith))
-          ∙ ap (meaning_counted size meaning) (low_half short)
-          ∙ front (count * size) (meaning count) content rest len
+          let m : (high * 16 + count) % 16 ≡ count = omega arith in
+          rw (
+            length_short high count short,
+            layout (high * 16 + count) (omega arith) (omega arith),
+            m,
+            lt-ltb count 15 short,
+          ) read
       | inr long ↦
-          ap (λ l. object_in width ((l ++ content) ++ rest)) (length_long high count long)
-          ∙ ap (λ l. object_behind (high * 16 + 15) l ((natural_form count ++ content) ++ rest))
-          (layout (high * 16 + 15) (omega arith) (omega arith))
-          ∙ ap (meaning_counted size meaning) (behind long)
-          ∙ front (count * size) (meaning count) content rest len
+          let m : (high * 16 + 15) % 16 ≡ 15 = omega arith in
+          let behind = ap length_that_follows (append_assoc (natural_form count) content rest)
+          ∙ follows count (content ++ rest) small in
+          rw (
+            length_long high count long,
+            layout (high * 16 + 15) (omega arith) (omega arith),
+            m,
+            behind,
+          ) read
     ]
-  where
-    low_half : count < 15 → length_in (high * 16 + count) (content ++ rest)
-        ≡ Some (count, content ++ rest)
-    low_half short =
-        let m : (high * 16 + count) % 16 ≡ count = omega arith in
-        rw (m, lt-ltb count 15 short) refl
-
-    behind : 15 ≤ count → length_in (high * 16 + 15) ((natural_form count ++ content) ++ rest)
-        ≡ Some (count, content ++ rest)
-    behind long =
-        let m : (high * 16 + 15) % 16 ≡ 15 = omega arith in
-        rw (m) (ap length_that_follows (append_assoc (natural_form count) content rest)
-        ∙ follows count (content ++ rest) small)
 
 -- ---- numbers one behind the other
 
 pub length-table : (w : ℕ) (xs : List ℕ) → length (flat_map (big_endian w) xs) ≡ length xs * w
 length-table w [] = omega arith
 length-table w (x ∷ xs) =
-    let rest = length-table w xs in
     let more : suc (length xs) * w ≡ w + length xs * w = grind arith in
-    length-append (big_endian w x) (flat_map (big_endian w) xs)
-    ∙ (let e : length (big_endian w x) + length (flat_map (big_endian w) xs)
-    ≡ suc (length xs) * w = omega (arith, rest, more, length-big_endian w x) in e)
+    omega (
+      arith,
+      length-table w xs,
+      length-big_endian w x,
+      length-append (big_endian w x) (flat_map (big_endian w) xs),
+    )
 
 number_there : (w : ℕ) (xs : List ℕ) (k : ℕ) → AllFit w xs → k < length xs
     → get_or xs k 0 ≡ number_of (take w (drop (k * w) (flat_map (big_endian w) xs)))
 number_there w [] k fit h = absurd (omega arith)
 number_there w (x ∷ xs) zero fit h =
     let none : zero * w ≡ 0 = omega arith in
-    let len = length-big_endian w x in
-    sym (number_back w x fit.0) ∙ ap number_of
-    (sym (take-append_seam (big_endian w x) (flat_map (big_endian w) xs)))
-    ∙ (λ i. number_of (take (len i) (big_endian w x ++ flat_map (big_endian w) xs)))
-    ∙ ap (λ k. number_of (take w (drop k (big_endian w x ++ flat_map (big_endian w) xs))))
-    (sym none)
+    rw (none, take_front (big_endian w x) (flat_map (big_endian w) xs) w (length-big_endian w x))
+    (sym (number_back w x fit.0))
 number_there w (x ∷ xs) (suc k) fit h =
-    let more : suc k * w ≡ length (big_endian w x) + k * w =
-    (let e : suc k * w ≡ w + k * w = grind arith in omega (arith, e, length-big_endian w x)) in
-    number_there w xs k fit.1 (omega arith)
-    ∙ ap (λ l. number_of (take w (drop (k * w) l)))
-    (sym (drop-append_seam (big_endian w x) (flat_map (big_endian w) xs)))
-    ∙ ap (λ l. number_of (take w l)) (drop-drop (k * w) (length (big_endian w x))
-    (big_endian w x ++ flat_map (big_endian w) xs))
-    ∙ ap (λ n. number_of (take w (drop n (big_endian w x ++ flat_map (big_endian w) xs))))
-    (sym more)
+    let more : suc k * w ≡ w + k * w = grind arith in
+    rw (
+      more,
+      ← drop-drop (k * w) w (big_endian w x ++ flat_map (big_endian w) xs),
+      drop_front (big_endian w x) (flat_map (big_endian w) xs) w (length-big_endian w x),
+    ) (number_there w xs k fit.1 (omega arith))
 
 pub numbers_back : (w : ℕ) (xs : List ℕ) → 0 < w → AllFit w xs
-    → numbers_of w (flat_map (big_endian w) xs) ≡ xs
+    → numbers_spelled w (flat_map (big_endian w) xs) ≡ xs
 numbers_back w xs positive fit =
-    let count : length (flat_map (big_endian w) xs) / w
-    ≡ length xs = ap (λ n. n / w) (length-table w xs)
-    ∙ mul-div_cancel (length xs) {n = w} positive in
-    ap (λ n. map (λ i. number_at (flat_map (big_endian w) xs) (i * w) w) (range_with_len 0 n)) count
-    ∙ sym (fill_by_all (λ i. number_at (flat_map (big_endian w) xs) (i * w) w) xs (length xs) 0 refl
-    (λ k h. number_there w xs k fit h))
+    rw (length-table w xs, mul-div_cancel (length xs) {n = w} positive)
+    (sym (fill_by_all (λ i. number_at (flat_map (big_endian w) xs) (i * w) w) xs (length xs) 0 refl
+    (λ k h. number_there w xs k fit h)))
+
+width_is : (n : ℕ) → is_width (least_width n) ≡ true
+width_is n = at_width n (λ w. is_width w ≡ true) (λ a. refl) (λ a. refl) (λ a. refl) refl
+
+pub width_positive : (n : ℕ) → 0 < least_width n
+width_positive n =
+    at_width n (λ w. 0 < w) (λ a. omega arith) (λ a. omega arith) (λ a. omega arith) (omega arith)
+
+trailer_back : (ow rf count at : ℕ) → count < 2 ^ 64 → at < 2 ^ 64
+    → trailer_in (trailer_form ow rf count at)
+    ≡ record { offset_width = ow; reference_width = rf; count = count; root = 0; table = at }
+trailer_back ow rf count at few short =
+    let a : number_of (ow ∷ []) ≡ ow = omega arith in
+    let b : number_of (rf ∷ []) ≡ rf = omega arith in
+    let c = number_back 8 _ (omega arith) in
+    let z = number_back 8 0 (omega arith) in
+    let t = number_back 8 at (omega arith) in
+    λ i. record { offset_width = a i; reference_width = b i; count = c i; root = z i; table = t i }
+
+head_with_is : (bytes places : List ℕ) (trailer ow rf count at : ℕ) → is_width ow ≡ true
+    → is_width rf ≡ true → at + count * ow ≤ trailer
+    → numbers_spelled ow (take (count * ow) (drop at bytes)) ≡ places
+    → head_with bytes trailer
+    (record { offset_width = ow; reference_width = rf; count = count; root = 0; table = at })
+    ≡ Ok (record { trailer = trailer; reference_width = rf; root = 0; places = places })
+head_with_is bytes places trailer ow rf count at a b h e =
+    rw (a, b, le-ltb _ _ h, e) refl
+
+head_whole : (bytes : List ℕ) → starts_with nat_eq bytes magic ≡ true → 32 ≤ length bytes
+    → head_of bytes ≡ head_with bytes (length bytes - 32)
+    (trailer_in (drop (length bytes - 32) bytes))
+unfolding head_of
+head_whole bytes e h =
+    let big : 8 ≤ length bytes = omega arith in
+    rw (le-ltb _ 8 big, e, le-ltb _ 32 h) refl
+
+module _ (body places : List ℕ) where
+  abbrev file : List ℕ
+  file = magic ++ body
+
+  abbrev wide : ℕ
+  wide = offset_width (length file)
+
+  abbrev table : List ℕ
+  table = table_form wide places
+
+  abbrev trailer : List ℕ
+  trailer =
+      trailer_form wide (reference_width (length places)) (length places)
+      (length file)
+
+  -- where the trailer begins
+  abbrev pub last : ℕ
+  last = length file + length places * wide
+
+  length_front : length (file ++ table) ≡ last
+  length_front =
+      omega (arith, length-append file table, length-table wide places)
+
+  regroup : closed file places ≡ (file ++ table) ++ trailer
+  regroup = sym (append_assoc file _ _)
+
+  pub length_closed : length (closed file places) ≡ last + 32
+  length_closed =
+      let n : length trailer ≡ 32 = refl in
+      omega (arith, n, ap length regroup, length-append (file ++ table) trailer, length_front)
+
+  pub front_is : take last (closed file places) ≡ file ++ table
+  front_is = ap (take _) regroup ∙ take_front _ trailer last length_front
+
+  pub head_is : length places < 2 ^ 64 → length file < 2 ^ 64 → AllFit wide places
+      → head_of (closed file places)
+      ≡ Ok (record {
+        trailer = last;
+        reference_width = reference_width
+            (length places);
+        root = 0;
+        places = places;
+      })
+  head_is few short fit =
+      let at : length (closed file places) - 32 ≡ last = omega (arith, length_closed) in
+      let back : numbers_spelled wide
+      (take (length places * wide) (drop (length file) (closed file places)))
+      ≡ places
+      = ap (λ l. numbers_spelled wide (take (length places * wide) l))
+      (drop-append_seam file (table ++ trailer))
+      ∙ ap (numbers_spelled wide) (take_front table trailer _ (length-table wide places))
+      ∙ numbers_back wide places (width_positive (length file)) fit in
+      head_whole (closed file places) refl (omega (arith, length_closed))
+      ∙ (λ i. head_with (closed file places) (at i) (trailer_in (drop (at i) (closed file places))))
+      ∙ ap (λ r. head_with (closed file places) last (trailer_in r))
+      (ap (drop last) regroup ∙ drop_front (file ++ table) trailer last length_front)
+      ∙ ap (head_with (closed file places) last)
+      (trailer_back wide (reference_width (length places)) (length places)
+      (length file) few short)
+      ∙ head_with_is (closed file places) places last wide
+      (reference_width (length places)) (length places) (length file) (width_is (length file))
+      (width_is (length places - 1)) (omega arith) back

@@ -1,25 +1,22 @@
 -- What sending a file does.
-use Rattle.std.proofs.Common.{◌≡◌, inl, inr, ℕ, ◌^◌, ◌≤◌, List, Option, Ok, Err, ◌∙◌, subst, refl}
+use Rattle.std.proofs.Common.{◌≡◌, inl, inr, ℕ, ◌^◌, ◌<◌, List, Option, Ok, Err, ◌∙◌, subst, refl}
 use Rattle.plist_binwrite.specs.declared.held.Held.{Held}
-use Rattle.plist_base.specs.Bracketing.{bracketing, AreAlike, AreWhole, AreComplete}
+use Rattle.plist_base.specs.Bracketing.{bracketing, shape, AreAlike, AreWhole, AreComplete}
 use Rattle.plist_base.specs.Events.{PlainEvent}
-use Rattle.plist_base.specs.Faults.{FaultKind, Fault, Io, OutOfMemory, PlistTooLarge, fault_nowhere}
-use Rattle.plist_base.specs.Fronts.{AppendsFront}
+use Rattle.plist_base.specs.Faults.{FaultKind, Fault, Io, OutOfMemory, PlistTooLarge}
 use Rattle.plist_base.specs.Trees.{Tree}
 use Rattle.plist_base.specs.Writing.{Answer}
 use Rattle.plist_base.proofs.Grammar.{complete_of_whole, whole_alike}
-use Rattle.plist_binwrite.specs.Classes.{IsUnplanned, SendsBy}
+use Rattle.plist_binwrite.specs.Classes.{IsFileBy, IsUnplanned, SendsBy, size_by}
+use Rattle.plist_binwrite.specs.Files.{IsFileOf}
 use Rattle.plist_binwrite.specs.Held.{plain_events}
 use Rattle.plist_binwrite.specs.SendingAs.{IsFileOfEvents, FailsWith, Sends}
+use Rattle.plist_binwrite.specs.Sizes.{file_size}
+use Rattle.plist_binwrite.specs.inner.Scalars.{AreOwners}
+use Rattle.plist_binwrite.proofs.Least.{least}
+use Rattle.plist_binwrite.proofs.Owned.{owned_count, owned_size, entered_once}
+use Rattle.plist_binwrite.proofs.Sitting.{sits_whole}
 use Rattle.plist_binwrite.proofs.Unhinted.{plain_shape}
-
--- a device failed, and a beginning went out
-pub sends_io : {W : Type 0} (IsFile : Tree → List ℕ → Type 0) (size : Tree → ℕ)
-    (contents : W → Option (List ℕ)) (events : List PlainEvent) (fault : Fault) (old new : W)
-    (file : List ℕ) → fault ≡ fault_nowhere Io → IsFileOfEvents IsFile size events file
-    → AppendsFront (contents old) (contents new) file
-    → Sends IsFile size contents events (Err fault) old new
-sends_io IsFile size contents events fault old new file is of front = rw is (refl, (file, of, front))
 
 -- a file of one kind is one of another, and has its size; and the events are alike
 module _ (One Other : Tree → List ℕ → Type 0) (size other : Tree → ℕ) (xs ys : List PlainEvent)
@@ -32,7 +29,7 @@ module _ (One Other : Tree → List ℕ → Type 0) (size other : Tree → ℕ) 
 
   file_as : (file : List ℕ) → IsFileOfEvents One size xs file
       → IsFileOfEvents Other other ys file
-  file_as file of = (complete_as of.0, λ t alike. to t alike file (of.1 t (p ∙ alike)))
+  file_as file of = (complete_as of.0, λ t alike. to t alike _ (of.1 t (cc)))
 
   module _ {W : Type 0} (contents : W → Option (List ℕ)) where
     fails_as : (kind : FaultKind) (old new : W) → FailsWith One size contents kind xs old new
@@ -41,7 +38,7 @@ module _ (One Other : Tree → List ℕ → Type 0) (size other : Tree → ℕ) 
     fails_as PlistTooLarge old new (large, kept) = (
       (
         complete_as large.0,
-        λ t alike. subst (λ n. 2 ^ 64 ≤ n) (same t alike) (large.1 t (p ∙ alike)),
+        λ t alike. rw (← (same t alike)) (large.1 t (p ∙ alike)),
       ),
       kept,
     )
@@ -51,7 +48,7 @@ module _ (One Other : Tree → List ℕ → Type 0) (size other : Tree → ℕ) 
     pub sends_as : (answer : Answer) (old new : W) → Sends One size contents xs answer old new
         → Sends Other other contents ys answer old new
     sends_as (Ok done) old new (file, of, all) = (file, file_as file of, all)
-    sends_as (Err fault) old new (nowhere, fails) = (nowhere, fails_as fault.kind old new fails)
+    sends_as (Err fault) old new (nowhere, fails) = (nowhere, fails_as _ old new fails)
 
 -- no file was planned, and nothing went out
 module _ {W : Type 0} (contents : W → Option (List ℕ)) (class : ℕ → ℕ) where
@@ -66,10 +63,39 @@ module _ {W : Type 0} (contents : W → Option (List ℕ)) (class : ℕ → ℕ)
         refl,
         (
           (
-            complete_of_whole (plain_events events) whole,
+            complete_of_whole _ whole,
             λ t alike. large.1 t
                 (plain_shape events t alike),
           ),
           same,
         ),
       )
+
+-- ---- a file by the plain writer's classes is the tree's file
+
+owned_file : {class : ℕ → ℕ} {count : ℕ} (tree : Tree) (file : List ℕ)
+    → AreOwners (shape tree) class count → IsFileBy class tree file → IsFileOf tree file
+owned_file tree file o f = record {
+  written = f.written;
+  once = record {
+    events = bracketing tree;
+    faultless = f.written.items;
+    distinct = rw f.numbered.entered
+        (entered_once o f.numbered.numbers f.numbered.apart tree (sits_whole refl));
+  };
+  count = λ head is. f.count head is ∙ owned_count tree o;
+  least = least tree;
+  size = f.size ∙ owned_size tree o;
+  fits = subst (λ n. n < 2 ^ 64) (owned_size tree o) f.fits;
+}
+
+pub sends_plainly : {W : Type 0} (contents : W → Option (List ℕ)) (events : Held) {class : ℕ → ℕ}
+    {count : ℕ} (answer : Answer) (old new : W) → AreOwners (plain_events events) class count
+    → SendsBy class contents (plain_events events) answer old new
+    → Sends IsFileOf file_size contents (plain_events events) answer old new
+sends_plainly contents events {class} {count} answer old new o s =
+    let own = λ (tree : Tree) (alike : AreAlike (plain_events events) (bracketing tree)). subst
+    (λ es. AreOwners es class count) (plain_shape events tree alike) o in
+    sends_as (IsFileBy class) IsFileOf (size_by class) file_size (plain_events events)
+    (plain_events events) refl (λ tree alike file f. owned_file tree file (own tree alike) f)
+    (λ tree alike. owned_size tree (own tree alike)) contents answer old new s

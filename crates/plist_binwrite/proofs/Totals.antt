@@ -49,11 +49,10 @@ module _ (w : ℕ → ℕ) where
       elim (eqb_tells x y) [
         | inl t ↦
             let all = subst (λ k. AllByRecursion (λ z. eqb k z ≡ false) ys) (sym t.1) d.0 in
-            rw t.0 (ap (λ k. w k + total w ys) (sym t.1)
-            ∙ ap (λ l. w x + total w l) (sym (none_out x ys all)))
+            rw t.0 (cc (none_out x ys all))
         | inr f ↦
-            let more = one_out x ys d.1 (sym (ap (λ b. b || is_member eqb ys x) f.0) ∙ h) in
-            rw f.0 (omega (arith, more))
+            let more = one_out x ys d.1 (cc) in
+            rw f.0 (omega arith)
       ]
 
   -- numbers that stand once, and are all those below a count, weigh what these do
@@ -64,16 +63,17 @@ module _ (w : ℕ → ℕ) where
   total_all zero (x ∷ xs) d low all =
       absurd (omega (arith, low x (or_left _ _ (eq-eqb x x refl))))
   total_all (suc n) xs d low all =
-      one_out n xs d (all n (omega arith))
-      ∙ ap (λ k. w n + k) (total_all n (others n xs) (distinct_out n xs d)
-      (λ q h. let p : (is_member eqb xs q ≡ true) × (not (eqb n q) ≡ true)
-      = and_parts _ _ (sym (left q) ∙ h) in
-      omega (arith, low q p.0, eqb-false n q (not-true _ p.1)))
-      (λ q h. left q ∙ and_from _ _ (all q (omega (arith, h)))
-      (not_from_false _ (ne_eqb n q (λ e. omega (arith, e, h))))))
+      cc (
+        one_out n xs d (all n (omega arith)),
+        total_all n (others n xs) (distinct_out n xs d)
+            (λ q h. let p : (is_member eqb xs q ≡ true) × (not (eqb n q) ≡ true) = and_parts _ _
+            (sym (left q) ∙ h) in omega (arith, low q p.0, eqb-false n q (not-true _ p.1)))
+            (λ q h. left q ∙ and_from _ _ (all q (omega (arith, h)))
+            (not_from_false _ (ne_eqb n q (λ e. omega (arith, e, h))))),
+      )
     where
       left : (q : ℕ) → is_member eqb (others n xs) q ≡ (is_member eqb xs q && not (eqb n q))
-      left q = is_member-filter nat_eq_equiv (λ y. not (eqb n y)) q
+      left q = is_member-filter nat_eq_equiv (λ y. not _) q
           (λ x e. ap (λ k. not (eqb n k)) (eqb-true q x e)) xs
 
 -- each key once
@@ -86,14 +86,14 @@ module _ {K : Type 0} (eq : K → K → Bool) (tells : (a b : K)
   member_one xs x q false e same = ap (λ b. eq q x || b) same
   member_one xs x q true e same =
       same ∙ elim (tells q x) [
-        | inl t ↦ subst (λ k. is_member eq xs k ≡ true) (sym t.1) e
+        | inl t ↦ rw t.1 e
             ∙ sym (ap (λ b. b || is_member eq xs q) t.0)
         | inr f ↦ sym (ap (λ b. b || is_member eq xs q) f.0)
       ]
 
   pub unique_member : (xs : List K) (q : K) → is_member eq (unique_keys eq xs) q ≡ is_member eq xs q
   unique_member [] q = refl
-  unique_member (x ∷ xs) q = member_one xs x q (is_member eq xs x) refl (unique_member xs q)
+  unique_member (x ∷ xs) q = member_one xs x q _ refl (unique_member xs q)
 
   all_apart : (x : K) (ys : List K) → is_member eq ys x ≡ false
       → AllByRecursion (λ y. eq x y ≡ false) ys
@@ -106,12 +106,12 @@ module _ {K : Type 0} (eq : K → K → Bool) (tells : (a b : K)
       (cond b (unique_keys eq xs) (x ∷ unique_keys eq xs))
   unfolding IsDistinct
   distinct_one xs x true e d = d
-  distinct_one xs x false e d = (all_apart x (unique_keys eq xs) (unique_member xs x ∙ e), d)
+  distinct_one xs x false e d = (all_apart x _ (unique_member xs x ∙ e), d)
 
   pub unique_distinct : (xs : List K) → IsDistinct eq (unique_keys eq xs)
   unfolding IsDistinct
   unique_distinct [] = tt
-  unique_distinct (x ∷ xs) = distinct_one xs x (is_member eq xs x) refl (unique_distinct xs)
+  unique_distinct (x ∷ xs) = distinct_one xs x _ refl (unique_distinct xs)
 
   -- keys below a count, and no number stands for two
   module _ (count : ℕ) (At : K → ℕ → Type 0)
@@ -150,7 +150,7 @@ module _ {K : Type 0} (eq : K → K → Bool) (tells : (a b : K)
         → IsDistinct eq xs → length xs ≤ count
     pigeons xs a d =
         let r = numbered xs a d in
-        omega (arith, r.long, few_below count r.numbers r.below r.distinct)
+        omega (arith, few_below _ _ r.below r.distinct)
 
 -- ---- lists that weigh the same
 

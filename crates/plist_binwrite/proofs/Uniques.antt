@@ -1,6 +1,6 @@
 -- Lists of which one of each kind is kept, seen through a function; and facts that hold all along a
 -- list.
-use Rattle.std.proofs.Common.{◌≡◌, inl, inr, ℕ, ◌<◌, ◌≤◌, Bool, true, false, cond, ◌||◌, eqb, List, [], ◌∷◌, ◌++◌, length, map, refl, ap, sym, ◌∙◌, subst}
+use Rattle.std.proofs.Common.{◌≡◌, inl, inr, ℕ, ◌<◌, ◌≤◌, Bool, true, false, cond, ◌||◌, eqb, List, [], ◌∷◌, ◌++◌, length, map, refl, ap}
 use Rattle.std.specs.List.{list_any, AllByRecursion, IsDistinct}
 use Rattle.std.specs.Set.{is_member, unique_keys}
 use Rattle.std.proofs.lemmas.Bool.Decides.{eqb_tells}
@@ -43,7 +43,7 @@ module _ {A : Type 0} (P : A → Type 0) where
       → AllByRecursion P (unique_keys eq xs)
   all_unique eq [] a = tt
   all_unique eq (x ∷ xs) a =
-      all_kept (is_member eq xs x) x (unique_keys eq xs) a.0 (all_unique eq xs a.1)
+      all_kept _ x _ a.0 (all_unique eq xs a.1)
 
 -- ---- numbers in a list
 
@@ -53,15 +53,15 @@ pub any_has : (P : ℕ → Type 0) (xs : List ℕ) (q : ℕ) → AllByRecursion 
 any_has P [] q a h = cc
 any_has P (x ∷ xs) q a h =
     elim (eqb_tells q x) [
-      | inl e ↦ subst P (sym e.1) a.0
-      | inr d ↦ any_has P xs q a.1 (sym (ap (λ b. b || list_any (eqb q) xs) d.0) ∙ h)
+      | inl e ↦ rw e.1 a.0
+      | inr d ↦ any_has P xs q a.1 (cc)
     ]
 
 -- there are no more different numbers below a count than it says
 pub few_below : (count : ℕ) (xs : List ℕ) → AllByRecursion (λ x. x < count) xs → IsDistinct eqb xs
     → length xs ≤ count
 few_below count xs a d =
-    length-le_from_distinct_below xs count d (λ q. any_has (λ x. x < count) xs q a)
+    length-le_from_distinct_below xs _ d (λ q. any_has (λ x. x < count) xs q a)
 
 module _ {A : Type 0} (f : A → ℕ) where
   self_later : (n : ℕ) (ns : List ℕ) (xs : List A)
@@ -69,7 +69,7 @@ module _ {A : Type 0} (f : A → ℕ) where
       → AllByRecursion (λ a. is_member eqb (n ∷ ns) (f a) ≡ true) xs
   self_later n ns [] a = tt
   self_later n ns (x ∷ xs) a =
-      (or_right (eqb (f x) n) (is_member eqb ns (f x)) a.0, self_later n ns xs a.1)
+      (or_right _ _ a.0, self_later n ns xs a.1)
 
   -- each number of a list is in it
   pub members_self : (xs : List A) → AllByRecursion (λ a. is_member eqb (map f xs) (f a) ≡ true) xs
@@ -85,7 +85,7 @@ module _ {A : Type 0} (f : A → ℕ) where
 
   pub member_has : (P : ℕ → Type 0) (xs : List A) (q : ℕ) → AllByRecursion (λ a. P (f a)) xs
       → is_member eqb (map f xs) q ≡ true → P q
-  member_has P xs q a h = any_has P (map f xs) q (all_map P f xs a) h
+  member_has P xs q a h = any_has P _ q (all_map P f xs a) h
 
 -- ---- one of each kind
 
@@ -107,6 +107,6 @@ module _ {A B : Type 0} (eqa : A → A → Bool) (eqb : B → B → Bool) (f : A
       → map f (unique_keys eqa xs) ≡ unique_keys eqb (map f xs)
   unique_seen [] a = refl
   unique_seen (x ∷ xs) a =
-      seen_cond (is_member eqa xs x) (is_member eqb (map f xs) (f x)) (unique_keys eqa xs) x
-      (unique_keys eqb (map f xs))
+      seen_cond _ _ _ x
+      _
       (member_seen xs x a.0 a.1) (unique_seen xs a.1)

@@ -8,11 +8,11 @@ use Rattle.plist_binwrite.specs.Standing.{Sits, SitsItems, SitsPairs}
 use Rattle.plist_binwrite.specs.declared.held.Held.{Held}
 
 -- the places are those of events, or stay so
-abbrev pub AreWithin : Held → (places : Vec ℕ Global) → Type 0
-AreWithin held places = AllBelow (length (plain_events held)) places.items
+abbrev pub AreEventPlaces : Held → (places : Vec ℕ Global) → Type 0
+AreEventPlaces held places = AllBelow (length (plain_events held)) places.items
 
 abbrev pub StayWithin : Held → (old new : Vec ℕ Global) → Type 0
-StayWithin held old new = AreWithin held old → AreWithin held new
+StayWithin held old new = AreEventPlaces held old → AreEventPlaces held new
 
 module _ (held : Held) (from : ℕ) (old new : Vec ℕ Global) where
   -- the places of an array's items from here on are added

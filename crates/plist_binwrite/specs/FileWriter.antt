@@ -9,7 +9,7 @@ use Rattle.plist_base.specs.Writing.{Answer, MatchKind}
 use Rattle.plist_binwrite.specs.declared.shared.Sharing.{Ghosts as SharingGhosts}
 use Rattle.plist_binwrite.specs.declared.writer.FileWriter.{FileWriter}
 use Rattle.plist_binwrite.specs.SendingAs.{SendsFile, FailsWith}
-use Rattle.plist_binwrite.specs.Pendings.{events_held, refusal_of}
+use Rattle.plist_binwrite.specs.Pendings.{events_held, misplaced_fault}
 
 -- the events taken of the open property list, without the lengths of starts
 abbrev pub held_by : {W S : Type 0} {g : Ghosts W} {h : SharingGhosts S} → FileWriter W S g h
@@ -51,7 +51,7 @@ module _ {W S : Type 0} {g : Ghosts W} {h : SharingGhosts S} (IsFile : Tree → 
       CanContinue (held_by before) event × (failed_of after ≡ false)
       × (Completes before event after ⊎ Holds before event after)
   TakesEvent before event (Err fault) after = (fault.offset ≡ None) × MatchKind fault.kind
-      ((CanContinue (held_by before) event → ⊥) × (fault ≡ refusal_of (held_by before) event)
+      ((CanContinue (held_by before) event → ⊥) × (fault ≡ misplaced_fault (held_by before) event)
       × (after ≡ before))
       (CanContinue (held_by before) event × (failed_of after ≡ true)
       × FailsWith IsFile size contents fault.kind (held_by before ++ event ∷ [])

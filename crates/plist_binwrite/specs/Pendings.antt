@@ -23,8 +23,8 @@ expected_instead [] = event_kind.ValueOrStartCollection
 expected_instead (event ∷ events) = event_kind.DictionaryKeyOrEndCollection
 
 -- the fault of an event that can't follow those held
-abbrev pub refusal_of : List PlainEvent → PlainEvent → Fault
-refusal_of held event =
+abbrev pub misplaced_fault : List PlainEvent → PlainEvent → Fault
+misplaced_fault held event =
     fault_nowhere (UnexpectedEventType (expected_instead held) (kind_of_event event))
 
 -- tells whether the events are those of a tree
@@ -32,24 +32,25 @@ abbrev pub TellsWhole : Bool → List PlainEvent → Type 0
 TellsWhole told events = MatchBool told (AreComplete events) (AreWhole events → ⊥)
 
 -- the event is taken
-abbrev pub Takes : (before : Pending) → PlainEvent → (after : Pending) → Type 0
-Takes before event after =
+abbrev pub HoldsNext : (before : Pending) → PlainEvent → (after : Pending) → Type 0
+HoldsNext before event after =
     (events_held after ≡ events_held before ++ unhinted event ∷ [])
     × TellsWhole (is_whole after) (events_held before ++ event ∷ [])
 
 -- the event can't follow those held, and this is its fault
-abbrev pub IsRefused : (held : List PlainEvent) → PlainEvent → Fault → Type 0
-IsRefused held event fault = (CanContinue held event → ⊥) × (fault ≡ refusal_of held event)
+abbrev pub IsMisplaced : (held : List PlainEvent) → PlainEvent → Fault → Type 0
+IsMisplaced held event fault = (CanContinue held event → ⊥) × (fault ≡ misplaced_fault held event)
 
 -- a refusal is that of an event that can't follow those held, and nothing changes
-abbrev pub Refuses : (before : Pending) → PlainEvent → (after : Pending) → Option Error → Type 0
-Refuses before event after refusal = IfSome refusal
-    (λ error. IsRefused (events_held before) event (fault_of error) × (after ≡ before))
+abbrev pub RefusesMisplaced : (before : Pending) → PlainEvent → (after : Pending) → Option Error
+    → Type 0
+RefusesMisplaced before event after refusal = IfSome refusal
+    (λ error. IsMisplaced (events_held before) event (fault_of error) × (after ≡ before))
 
 -- an event that isn't refused can follow those held, and is taken
 abbrev pub Accepts : (before : Pending) → PlainEvent → (after : Pending) → Option Error → Type 0
 Accepts before event after refusal =
-    refusal ≡ None → CanContinue (events_held before) event × Takes before event after
+    refusal ≡ None → CanContinue (events_held before) event × HoldsNext before event after
 
 -- the event can follow those held
 abbrev pub CanTake : Pending → PlainEvent → Type 0

@@ -1,5 +1,5 @@
 -- Where trees stand among events.
-use Rattle.std.specs.Prelude.{◌≡◌, ℕ, ◌+◌, ◌<◌, ◌≤◌, List, [], ◌∷◌, ◌++◌, length, drop}
+use Rattle.std.specs.Prelude.{◌≡◌, ℕ, ◌+◌, List, [], ◌∷◌, ◌++◌, length, drop}
 use Rattle.plist_base.specs.Bracketing.{shape, shape_of_items, shape_of_pairs}
 use Rattle.plist_base.specs.Events.{PlainEvent, EndCollection}
 use Rattle.plist_base.specs.Trees.{Tree, Leaf, Array, Dictionary, Trees, NoTrees, TreeAnd, Members, NoMembers, MemberAnd, String}
@@ -22,11 +22,6 @@ pub record SitsItems (es : List PlainEvent) (ts : Trees) (p : ℕ) : Type 0 wher
 pub record SitsPairs (es : List PlainEvent) (ms : Members) (p : ℕ) : Type 0 where
   pub rest : List PlainEvent
   pub is : drop p es ≡ shape_of_pairs ms ++ EndCollection ∷ rest
-
--- by place, where the tree that begins there ends; else a later place, or that behind them all
-pub record IsSkips (es : List PlainEvent) (skip : ℕ → ℕ) : Type 0 where
-  pub forward : (q : ℕ) → q < length es → (q < skip q) × (skip q ≤ length es)
-  pub ends : (t : Tree) (q : ℕ) → Sits es t q → skip q ≡ q + size t
 
 -- a tree and all that is in it, each with the place of its first event; a key is a text
 abbrev mutual

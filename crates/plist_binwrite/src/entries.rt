@@ -1,7 +1,7 @@
 //! The entries of held events: a kind of one byte for each, and a number, of four while they fit.
 
 ghost use Rattle.std.specs.Prelude.{◌≡◌, ◌-◌, ◌^◌, ◌<◌, ◌++◌, ◌∷◌, [], length, set, take, OnOk, OnErr};
-ghost use Rattle.plist_binwrite.specs.inner.Columns.{entry_of, kind_in, number_in, scalar_in, IsNumberAt};
+ghost use Rattle.plist_binwrite.specs.inner.Columns.{entry_of, kind_in, number_in, scalar_named, IsEntryNumber};
 ghost use Rattle.plist_binwrite.specs.inner.Entries.{behind_at, closed_at, ended_at, entry_at};
 
 use crate::kinds::Kind;
@@ -77,11 +77,11 @@ pub struct Entries {
 impl Model for Entries {
     ghost use Rattle.std.specs.Prelude.{◌≡◌, List, length};
     ghost use Rattle.plist_binwrite.specs.declared.entries.Entry.{Entry};
-    ghost use Rattle.plist_binwrite.specs.inner.Columns.{entries_of};
+    ghost use Rattle.plist_binwrite.specs.inner.Columns.{entries_from};
 
     ghost Value = { List Entry };
 
-    ghost view = { λ entries. entries_of entries.kinds.items entries.numbers };
+    ghost view = { λ entries. entries_from entries.kinds.items entries.numbers };
 
     ghost invariant = { λ entries. length entries.kinds.items ≡ length entries.numbers };
 }
@@ -115,7 +115,7 @@ impl Entries {
     // The number of the entry at a place. That of an end means nothing.
     fn number_at(&self, place: usize) -> usize
         requires { place < length self.now }
-        ensures { IsNumberAt self.now place result }
+        ensures { IsEntryNumber self.now place result }
     {
         self.numbers.get(place)
     }
@@ -146,7 +146,7 @@ impl Entries {
     /// names one.
     pub fn scalar(&self, place: usize) -> Option<usize>
         requires { place < length self.now }
-        ensures { result ≡ scalar_in (entry_at self.now place) }
+        ensures { result ≡ scalar_named (entry_at self.now place) }
     {
         match self.kind_at(place) {
             Kind::Array => None,

@@ -26,7 +26,7 @@ pub struct Held<'e> {
 
 impl<'e> Held<'e> {
     ghost use Rattle.std.specs.Prelude.{◌≤◌, [], None, false, IfSome, ◌+◌};
-    ghost use Rattle.plist_binwrite.specs.Held.{plain_event, plain_events, scalars_of, kind_of, EndsTree, GrowsBy, HasItem, IsScalarAt, LacksItem, held_at, shown_in};
+    ghost use Rattle.plist_binwrite.specs.Held.{plain_event, plain_events, scalars_of, held_kind, EndsTree, GrowsBy, HasItem, IsScalarAt, LacksItem, held_at, shown_in};
     ghost use Rattle.plist_binwrite.specs.inner.Entries.{is_start, IsUnclosed};
 
     /// No events. It takes no memory.
@@ -66,7 +66,7 @@ impl<'e> Held<'e> {
     /// The kind of the event at a place.
     pub fn kind_at(&self, place: usize) -> Kind
         requires { place < length (plain_events self.now) }
-        ensures { result ≡ kind_of (held_at self.now place) }
+        ensures { result ≡ held_kind (held_at self.now place) }
     {
         self.entries.kind_at(place)
     }

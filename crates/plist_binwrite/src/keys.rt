@@ -2,7 +2,7 @@
 
 ghost use Rattle.std.specs.Prelude.{◌≡◌, ◌≢◌, ◌+◌, ◌<◌, true, false, length, get_or, set, IfOk};
 ghost use Rattle.plist_base.specs.Outcomes.{OnlyMemory};
-ghost use Rattle.plist_binwrite.specs.Held.{plain_events, scalars_of, AllBelow, kind_of, held_at};
+ghost use Rattle.plist_binwrite.specs.Held.{plain_events, scalars_of, AllBelow, held_kind, held_at};
 ghost use Rattle.plist_binwrite.specs.declared.kinds.Kind.TheVariants.{Dictionary as KindDictionary};
 ghost use Rattle.plist_binwrite.specs.Keys.{TellsKeysOnce, TellsRepeats};
 
@@ -31,7 +31,7 @@ fn repeats_at(events: &Held<'_>, start: usize, stamps: &mut Vec<usize>) -> bool
     requires older { AllBelow (start + 1) stamps.old.items }
     ensures long { length stamps.new.items ≡ length (scalars_of events.now) }
     ensures newer { AllBelow (start + 2) stamps.new.items }
-    ensures begins { result ≡ true → kind_of (held_at events.now start) ≡ KindDictionary }
+    ensures begins { result ≡ true → held_kind (held_at events.now start) ≡ KindDictionary }
     ensures repeats { TellsRepeats events.now start result }
 {
     match events.kind_at(start) {

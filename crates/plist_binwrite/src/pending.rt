@@ -25,7 +25,7 @@ impl Pending {
     ghost use Rattle.plist_base.specs.Events.{event_of};
     ghost use Rattle.plist_base.specs.Faults.{fault_of};
     ghost use Rattle.plist_base.specs.Outcomes.{OnlyMemory};
-    ghost use Rattle.plist_binwrite.specs.Pendings.{events_held, is_whole, Takes, refusal_of, Accepts, CanTake, Refuses};
+    ghost use Rattle.plist_binwrite.specs.Pendings.{events_held, is_whole, HoldsNext, misplaced_fault, Accepts, CanTake, RefusesMisplaced};
     ghost use Rattle.plist_binwrite.specs.inner.Stacks.{IsChangeBy};
 
     /// No events. It takes no memory.
@@ -51,7 +51,7 @@ impl Pending {
 
     // The fault of an event that can't follow those held.
     fn fault_of_event(&self, event: &Event<'_>) -> Error
-        ensures { fault_of result ≡ refusal_of (events_held self.now) (event_of event.now) }
+        ensures { fault_of result ≡ misplaced_fault (events_held self.now) (event_of event.now) }
     {
         let expected = if self.held.len() == 0 {
             EventKind::ValueOrStartCollection
@@ -62,12 +62,12 @@ impl Pending {
         ErrorKind::UnexpectedEventType { expected, found }.without_position()
     }
 
-    // Takes an event that can follow those held, where this is what it does to the stack.
+    // HoldsNext an event that can follow those held, where this is what it does to the stack.
     fn hold(&mut self, alloc: Global, event: Event<'_>, change: Change) -> Result<(), Error>
         requires still { is_whole self.old ≡ false }
         requires accepted { CanTake self.old (event_of event) }
         requires change { IsChangeBy self.old.wants.items (event_of event) change }
-        ensures taken { OnOk result (Takes self.old (event_of event.entry) self.new) }
+        ensures taken { OnOk result (HoldsNext self.old (event_of event.entry) self.new) }
         ensures memory { OnlyMemory result }
     {
         self.wants.reserve(1)?;
@@ -77,14 +77,14 @@ impl Pending {
         Ok(())
     }
 
-    /// Takes an event, or refuses one that can't follow those held: then its fault,
+    /// HoldsNext an event, or refuses one that can't follow those held: then its fault,
     /// `UnexpectedEventType` without an offset, is told, and nothing changes.
     ///
     /// # Errors
     /// `OutOfMemory`, without an offset, for an event that can follow those held.
     pub fn offer(&mut self, alloc: Global, event: Event<'_>) -> Result<Option<Error>, Error>
         requires still { is_whole self.old ≡ false }
-        ensures refused { IfOk result (Refuses self.old (event_of event.entry) self.new) }
+        ensures refused { IfOk result (RefusesMisplaced self.old (event_of event.entry) self.new) }
         ensures taken { IfOk result (Accepts self.old (event_of event.entry) self.new) }
         ensures accepted { IfErr result (λ _. CanTake self.old (event_of event.entry)) }
         ensures memory { OnlyMemory result }

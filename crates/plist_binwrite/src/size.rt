@@ -7,7 +7,7 @@ ghost use Rattle.plist_base.specs.Faults.{PlistTooLarge, fault_nowhere};
 ghost use Rattle.plist_binwrite.specs.inner.Laying.{IsOrder};
 ghost use Rattle.plist_binwrite.specs.inner.Planning.{IsPlanned, count_of, events_in};
 ghost use Rattle.plist_binwrite.specs.Sizes.{TellsSize, size_with};
-ghost use Rattle.plist_binwrite.specs.inner.Sizing.{AreLaid, CountsItems, ExceedsWith, FitsWith, IsWritableAt, TellsEnd, TellsSizeAt};
+ghost use Rattle.plist_binwrite.specs.inner.Sizing.{AreLaid, CountsItems, ExceedsWith, FitsWith, IsWritableAt, TellsEndOfFile, TellsSizeAt};
 
 use crate::forms::offset_width;
 use crate::held::Held;
@@ -79,7 +79,7 @@ pub fn place_objects(
     requires fits { count_of file.now.plan.now ≤ 256 ^ file.now.width }
     requires order { IsOrder (count_of file.now.plan.now) order.now places.old }
     ensures long { OnOk result (length places.new ≡ count_of file.now.plan.now) }
-    ensures size { IfOk result (TellsEnd file.now order.now) }
+    ensures size { IfOk result (TellsEndOfFile file.now order.now) }
     ensures laid { IfOk result (AreLaid file.now order.now places.new) }
     ensures memory { OnlyMemory result }
 {

@@ -2,7 +2,7 @@
 
 ghost use Rattle.std.specs.Prelude.{◌≡◌, ◌<◌, vec_len, vec_capacity};
 ghost use Rattle.plist_base.specs.Events.{event_of};
-ghost use Rattle.plist_binwrite.specs.inner.Stacks.{change_seen, want_seen, change_on_top, Puts, stack_of};
+ghost use Rattle.plist_binwrite.specs.inner.Stacks.{change_seen, want_seen, change_on_top, ChangesTo, stack_of};
 ghost use Rattle.plist_base.specs.inner.Wants.{change_of};
 
 use plist_base::Event;
@@ -57,7 +57,7 @@ pub fn change_on(wants: &[Want], event: &Event<'_>) -> Change
 /// Changes the stack. One more want has room.
 pub fn put(wants: &mut Vec<Want>, change: Change)
     requires { vec_len wants.old < vec_capacity wants.old }
-    ensures { Puts (stack_of wants.old.items) (change_seen change) (stack_of wants.new.items) }
+    ensures { ChangesTo (stack_of wants.old.items) (change_seen change) (stack_of wants.new.items) }
 {
     match change {
         Change::Refused | Change::Kept => {}

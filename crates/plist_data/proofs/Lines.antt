@@ -19,7 +19,7 @@ use Rattle.std.proofs.lemmas.Bool.{and_parts}
 use Rattle.base64.specs.Rfc4648.{encode_symbols}
 use Rattle.base64.proofs.EngineFacts.{decode_of-encode_of, decode_of_iff, encode_of-append, encode_of-nil}
 use Rattle.base64.proofs.Streams.{decoded_of-ok}
-use Rattle.plist_data.specs.DataText.{bytes_of_line, first_lines, line_count, data_text, without_white, data_of_text, IsNoData, refusal_of}
+use Rattle.plist_data.specs.DataText.{bytes_of_line, first_lines, line_count, data_text, without_white, data_of_text, IsNoData, refusal_of_decoding}
 
 -- ---- no white space in base64
 
@@ -60,45 +60,35 @@ dark-base64 bytes =
 
 -- ---- the lines
 
+abbrev pub written : List ℕ → ℕ → List ℕ
+written bytes line = encode_of standard (bytes_of_line bytes line)
+
 -- without LF between them they stand one behind the other
 dark-lines : (bytes lines : List ℕ)
-    → without_white (join_with_byte 10
-    (map (λ line. encode_of standard (bytes_of_line bytes line)) lines))
-    ≡ concat (map (λ line. encode_of standard (bytes_of_line bytes line)) lines)
+    → without_white (join_with_byte 10 (map (written bytes) lines))
+    ≡ concat (map (written bytes) lines)
 dark-lines bytes [] = refl
-dark-lines bytes (line ∷ []) =
-    dark-base64 (bytes_of_line bytes line)
-    ∙ sym (append-nil (encode_of standard (bytes_of_line bytes line)))
+dark-lines bytes (line ∷ []) = dark-base64 (bytes_of_line bytes line) ∙ sym (append-nil _)
 dark-lines bytes (line ∷ next ∷ lines) =
-    filter-append is_dark (encode_of standard (bytes_of_line bytes line)) _
+    filter-append is_dark (written bytes line) _
     ∙ rw (dark-base64 (bytes_of_line bytes line), dark-lines bytes (next ∷ lines)) refl
-
-concat-more : (bytes : List ℕ) (n count : ℕ) → n ≡ count + 1
-    → concat (first_lines n bytes) ≡ concat (first_lines count bytes)
-    ++ encode_of standard (bytes_of_line bytes count)
-concat-more bytes n count is =
-    let line = encode_of standard (bytes_of_line bytes count) in
-    ap (λ k. concat (first_lines k bytes)) is
-    ∙ ap concat (map-range_with_len_more (λ k. encode_of standard _) 0 _
-    count (omega arith))
-    ∙ concat-append (first_lines _ _) (line ∷ [])
-    ∙ ap (λ t. concat (first_lines count bytes) ++ t) (append-nil _)
 
 concat-lines : (bytes : List ℕ) (count : ℕ) → count * 51 < length bytes + 51
     → concat (first_lines count bytes) ≡ encode_of standard (take (count * 51) bytes)
 concat-lines bytes zero fits = sym (encode_of-nil standard)
 concat-lines bytes (suc count) fits =
     let front = take (count * 51) bytes in
-    let line = bytes_of_line bytes count in
     let fills : length front ≡ count * 51 = length-take-le (count * 51) bytes (omega (arith, fits))
     in
     let whole : length front % 3 ≡ 0 = omega (arith, fills) in
-    let split : take (suc count * 51) bytes ≡ front ++ line = ap (λ n. take n bytes) (omega arith)
-    ∙ take-add (count * 51) 51 _ in
-    concat-more bytes (suc count) count (omega arith)
-    ∙ ap (λ t. t ++ encode_of standard line) (concat-lines bytes count (omega (arith, fits)))
-    ∙ sym (encode_of-append standard front line whole)
-    ∙ ap (encode_of standard) (sym split)
+    let split : take (suc count * 51) bytes ≡ front ++ bytes_of_line bytes count =
+    ap (λ n. take n bytes) (omega arith) ∙ take-add (count * 51) 51 _ in
+    let next : suc count ≡ count + 1 = omega arith in
+    ap (λ k. concat (first_lines k bytes)) next
+    ∙ ap concat (map-range_with_len_more (written bytes) 0 count count (omega arith))
+    ∙ concat-append (first_lines count bytes) (written bytes count ∷ [])
+    ∙ rw (append-nil, split, concat-lines bytes count (omega (arith, fits)))
+    (sym (encode_of-append standard front _ whole))
 
 -- ---- a further line
 
@@ -119,20 +109,24 @@ line-slice bytes start end is fits =
     ap (λ n. take n (drop start bytes)) short ∙ take_min 51 _
 
 -- the first line
-pub lines-first : (bytes : List ℕ) (line : ℕ) → line ≡ 0
-    → join_with_byte 10 (first_lines (line + 1) bytes) ≡ join_with_byte 10 (first_lines line bytes)
-    ++ encode_of standard (bytes_of_line bytes line)
-lines-first bytes line none = rw none refl
+pub lines-first : (bytes : List ℕ) (line : ℕ) {old mid new : List ℕ}
+    → new ≡ mid ++ written bytes line → mid ≡ old
+    → old ≡ join_with_byte 10 (first_lines line bytes) → line ≡ 0
+    → new ≡ join_with_byte 10 (first_lines (line + 1) bytes)
+lines-first bytes line grows same lines none = rw (grows, same, lines, none) refl
 
 -- a further line
-pub lines-next : (bytes : List ℕ) (line before : ℕ) → line ≡ suc before
-    → join_with_byte 10 (first_lines (line + 1) bytes) ≡ join_with_byte 10 (first_lines line bytes)
-    ++ 10 ∷ encode_of standard (bytes_of_line bytes line)
-lines-next bytes line before is =
-    let f = λ (k : ℕ). encode_of standard (bytes_of_line bytes k) in
-    let more : first_lines (line + 1) bytes ≡ first_lines line bytes ++ f line
-    ∷ [] = map-range_with_len_more f 0 line line (omega arith) in
-    rw (more, is) (join-next (f 0) (map f (range_with_len 1 before)) (f (suc before)))
+pub lines-next : (bytes : List ℕ) (line : ℕ) {old mid end new : List ℕ}
+    → new ≡ mid ++ written bytes line → mid ≡ old ++ end → end ≡ 10 ∷ []
+    → old ≡ join_with_byte 10 (first_lines line bytes) → 0 < line
+    → new ≡ join_with_byte 10 (first_lines (line + 1) bytes)
+lines-next bytes zero grows ends lf lines some = absurd (omega arith)
+lines-next bytes (suc line) grows ends lf lines some =
+    let f = written bytes in
+    let more : first_lines (suc line + 1) bytes ≡ first_lines (suc line) bytes
+    ++ f (suc line) ∷ [] = map-range_with_len_more f 0 (suc line) (suc line) (omega arith) in
+    rw (grows, ends, lf, lines, append_assoc, more)
+    (sym (join-next (f 0) (map f (range_with_len 1 line)) (f (suc line))))
 
 -- what is written is read back
 pub written-reads : (bytes : List ℕ) → IsBytes bytes → data_of_text (data_text bytes) ≡ Some bytes
@@ -175,22 +169,22 @@ spelled text bytes are_bytes bytes_are =
     )
 
 -- what the bytes of a text decode to
-pub data-decoded : (text dark bytes : List ℕ) → dark ≡ without_white text
+pub data_decoded : (text dark bytes : List ℕ) → dark ≡ without_white text
     → decode_of standard dark ≡ Ok bytes → data_of_text text ≡ Some bytes
 unfolding data_of_text
-data-decoded text dark bytes is decoded =
+data_decoded text dark bytes is decoded =
     decoded_of-ok _ _ _ (rw is at decoded)
 
 -- all lines are the text
-pub text-of-lines : (bytes : List ℕ) (count : ℕ) (text : List ℕ)
+pub text_of_lines : (bytes : List ℕ) (count : ℕ) (text : List ℕ)
     → text ≡ join_with_byte 10 (first_lines count bytes) → count ≡ line_count bytes
     → text ≡ data_text bytes
 unfolding data_text
-text-of-lines bytes count text is all = is ∙ ap (λ n. join_with_byte 10 (first_lines n bytes)) all
+text_of_lines bytes count text is all = is ∙ ap (λ n. join_with_byte 10 (first_lines n bytes)) all
 
 -- no bytes have a text that doesn't decode
-pub no-data : (text dark : List ℕ) (error : DecodeAllocError) → dark ≡ without_white text
-    → IsDecodeFailure standard dark error → IsNoData text (refusal_of error)
+pub no_data : (text dark : List ℕ) (error : DecodeAllocError) → dark ≡ without_white text
+    → IsDecodeFailure standard dark error → IsNoData text (refusal_of_decoding error)
 unfolding data_of_text decoded_of
-no-data text dark (decoding.DecodeError fault) is refused = ap result_ok (rw is at refused)
-no-data text dark decoding.OutOfMemory is refused = tt
+no_data text dark (decoding.DecodeError fault) is refused = ap result_ok (rw is at refused)
+no_data text dark decoding.OutOfMemory is refused = tt

@@ -61,14 +61,14 @@ IsReadWhereSpelled text bytes =
     (data_of_text text ≡ Some bytes) ↔ (without_white text ≡ encode_of standard bytes)
 
 -- these bytes stand behind the text
-abbrev pub GrowsBy : List ℕ → (old new : String Global) → Type 0
-GrowsBy bytes old new = string_bytes new ≡ string_bytes old ++ bytes
+abbrev pub GrowsByBytes : List ℕ → (old new : String Global) → Type 0
+GrowsByBytes bytes old new = string_bytes new ≡ string_bytes old ++ bytes
 
 -- the refusal of a text: the fault of decoding it, whose places count what is left without white
 -- space
-abbrev pub IsFaultOf : List ℕ → InvalidXmlData → Type 0
-IsFaultOf text (Decode fault) = decode_of standard (without_white text) ≡ Err fault
-IsFaultOf text OutOfMemory = ⊤
+abbrev pub IsFaultOfText : List ℕ → InvalidXmlData → Type 0
+IsFaultOfText text (Decode fault) = decode_of standard (without_white text) ≡ Err fault
+IsFaultOfText text OutOfMemory = ⊤
 
 -- a text is refused by such a fault only where no bytes have it
 abbrev pub IsNoData : List ℕ → InvalidXmlData → Type 0
@@ -76,9 +76,9 @@ IsNoData text (Decode fault) = data_of_text text ≡ None
 IsNoData text OutOfMemory = ⊤
 
 -- the refusal that an error of the decoder is
-abbrev pub refusal_of : DecodeAllocError → InvalidXmlData
-refusal_of (decoding.DecodeError fault) = Decode fault
-refusal_of decoding.OutOfMemory = OutOfMemory
+abbrev pub refusal_of_decoding : DecodeAllocError → InvalidXmlData
+refusal_of_decoding (decoding.DecodeError fault) = Decode fault
+refusal_of_decoding decoding.OutOfMemory = OutOfMemory
 
 -- the text of a refusal
 abbrev pub refusal_text : InvalidXmlData → List ℕ
@@ -87,26 +87,13 @@ refusal_text OutOfMemory = codes "OutOfMemory"
 
 -- ---- worked examples
 
-no_bytes : data_text [] ≡ []
+written : (data_text [] ≡ []) × (data_text (replicate 51 0) ≡ replicate 68 65)
+    × (data_text (replicate 52 0) ≡ replicate 68 65 ++ 10 ∷ codes "AA==")
 unfolding base64_on_literals data_text
-no_bytes = refl
+written = (refl, refl, refl)
 
-full_line : data_text (replicate 51 0) ≡ replicate 68 65
-unfolding base64_on_literals data_text
-full_line = refl
-
-second_line : data_text (replicate 52 0) ≡ replicate 68 65 ++ 10 ∷ codes "AA=="
-unfolding base64_on_literals data_text
-second_line = refl
-
-white_space : data_of_text (codes "A A\n==") ≡ Some (0 ∷ [])
+-- white space, short padding, and bits that are left
+read : (data_of_text (codes "A A\n==") ≡ Some (0 ∷ [])) × (data_of_text (codes "AA=") ≡ None)
+    × (data_of_text (codes "AB==") ≡ None)
 unfolding base64_on_literals data_of_text
-white_space = refl
-
-short_padding : data_of_text (codes "AA=") ≡ None
-unfolding base64_on_literals data_of_text
-short_padding = refl
-
-bits_left : data_of_text (codes "AB==") ≡ None
-unfolding base64_on_literals data_of_text
-bits_left = refl
+read = (refl, refl, refl)

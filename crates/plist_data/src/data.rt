@@ -6,7 +6,7 @@ ghost use Rattle.base64.specs.Engines.{standard};
 ghost use Rattle.base64.specs.GeneralPurpose.{IsBytes, IsDecodeFailure, decode_of, encode_of};
 ghost use Rattle.plist_base.specs.Faults.{OutOfMemory};
 ghost use Rattle.plist_base.specs.Outcomes.{OnlyMemory};
-ghost use Rattle.plist_data.specs.DataText.{IsFaultOf, IsNoData, data_of_text, data_text, without_white, IsReadWhereSpelled, IsAllNew, GrowsBy, LendsBytes};
+ghost use Rattle.plist_data.specs.DataText.{IsFaultOfText, IsNoData, data_of_text, data_text, without_white, IsReadWhereSpelled, IsAllNew, GrowsByBytes, LendsBytes};
 
 use base64::engine::general_purpose::STANDARD;
 use base64::{DecodeAllocError, DecodeError};
@@ -59,9 +59,10 @@ impl Data {
     ///
     /// [`InvalidXmlData::Decode`] if, without these bytes, it isn't the base64 of any bytes, and
     /// [`InvalidXmlData::OutOfMemory`] if memory runs out.
+    #[tactic(auto, using(crate::proofs::Lines::data_decoded, crate::proofs::Lines::no_data))]
     pub fn from_xml_format(alloc: Global, text: &str) -> Result<Data, InvalidXmlData>
         ensures data { IfOk result (λ found. data_of_text text.now ≡ Some found) }
-        ensures fault { IfErr result (λ refusal. IsFaultOf text.now refusal) }
+        ensures fault { IfErr result (λ refusal. IsFaultOfText text.now refusal) }
         ensures no_data { IfErr result (λ refusal. IsNoData text.now refusal) }
         ensures spelled { (bytes : List ℕ) → IsBytes bytes → IsReadWhereSpelled text.now bytes }
     {
@@ -115,6 +116,7 @@ impl Data {
 }
 
 // A text without its white space.
+#[tactic(auto, using(crate::proofs::Lines::spelled))]
 fn dark_bytes(alloc: Global, text: &str) -> Result<Vec<u8>, AllocError>
     ensures bytes { IfOk result (λ dark. dark.items ≡ without_white text.now) }
     ensures spelled { (bytes : List ℕ) → IsBytes bytes → IsReadWhereSpelled text.now bytes }
@@ -135,7 +137,7 @@ fn decoded(alloc: Global, symbols: &[u8]) -> Result<Vec<u8>, DecodeAllocError>
 
 // Puts the base64 of some bytes behind a text.
 fn push_base64(text: &mut String, bytes: &[u8]) -> Result<(), AllocError>
-    ensures { OnOk result (GrowsBy (encode_of standard bytes.now) text.old text.new) }
+    ensures { OnOk result (GrowsByBytes (encode_of standard bytes.now) text.old text.new) }
 {
     STANDARD.encode_string(bytes, text)
 }
@@ -223,9 +225,9 @@ impl std::error::Error for InvalidXmlData {}
 
 impl From<AllocError> for InvalidXmlData {
     ghost use Rattle.base64.specs.declared.decode.DecodeAllocError.TheVariants.{OutOfMemory as NoMemory};
-    ghost use Rattle.plist_data.specs.DataText.{refusal_of};
+    ghost use Rattle.plist_data.specs.DataText.{refusal_of_decoding};
 
-    ghost from_gives = { λ _ refusal. refusal ≡ refusal_of NoMemory };
+    ghost from_gives = { λ _ refusal. refusal ≡ refusal_of_decoding NoMemory };
 
     fn from(_error: AllocError) -> InvalidXmlData {
         InvalidXmlData::OutOfMemory
@@ -233,9 +235,9 @@ impl From<AllocError> for InvalidXmlData {
 }
 
 impl From<DecodeAllocError> for InvalidXmlData {
-    ghost use Rattle.plist_data.specs.DataText.{refusal_of};
+    ghost use Rattle.plist_data.specs.DataText.{refusal_of_decoding};
 
-    ghost from_gives = { λ error refusal. refusal ≡ refusal_of error };
+    ghost from_gives = { λ error refusal. refusal ≡ refusal_of_decoding error };
 
     fn from(error: DecodeAllocError) -> InvalidXmlData {
         match error {

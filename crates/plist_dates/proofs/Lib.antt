@@ -1,3 +1,2 @@
 pub mod Printing
-pub mod Years
 pub mod OneText

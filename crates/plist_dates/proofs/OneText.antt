@@ -9,8 +9,7 @@ use Rattle.jiff_core.specs.declared.civil.date.Date.{Date}
 use Rattle.jiff_core.proofs.DateLemmas.{epoch_day_injective}
 use Rattle.jiff_core.proofs.SignedLemmas.{signed_arith}
 use Rattle.plist_dates.specs.DateText.{day_number, has_marks, moment, of_both, of_three, second_of_day, two_at, two_digits, unix_second_of_text, zone_in, HasFourDigitYear, IsTextOfSecond}
-use Rattle.plist_dates.proofs.Years.{second_in_years}
-use Rattle.plist_dates.proofs.Printing.{two_text, text_from}
+use Rattle.plist_dates.proofs.Printing.{second_in_years, two_text, text_from}
 
 -- ---- what an answer was made of
 
@@ -214,11 +213,7 @@ date_of second text n = record {
   year = pos (n.century * 100 + n.year);
   month = n.month;
   day = n.day;
-  year_in = (
-    let c = n.century_small in let y = n.year_small in omega (arith, signed_arith),
-    let c =
-        n.century_small in let y = n.year_small in omega (arith, signed_arith),
-  );
+  year_in = (omega (arith, signed_arith), omega (arith, signed_arith));
   month_in = n.date.in_year;
   day_in = n.date.in_month;
 }
@@ -229,7 +224,6 @@ pub year_of_text : (second : ℤ) (text : List ℕ) → IsTextOfSecond second te
 unfolding date_of
 year_of_text second text is =
     let n = numbers _ _ is in
-    let h = n.time.hours in let m = n.time.minutes in let s = n.time.seconds in
     second_in_years _ (date_of _ _ n) _ n.is
     (omega arith) (omega (arith, signed_arith))
 
@@ -245,8 +239,6 @@ unfolding date_of
 one_text second text other is is_other =
     let n = numbers _ _ is in
     let k = numbers _ _ is_other in
-    let th = n.time.hours in let tm = n.time.minutes in let ts = n.time.seconds in
-    let uh = k.time.hours in let um = k.time.minutes in let us = k.time.seconds in
     let day_time = apart _ (epoch_day (date_of _ _ k))
     (n.hour * 3600 + n.minute * 60 + n.seconds) (k.hour * 3600 + k.minute * 60 + k.seconds)
     second (omega arith) (omega arith) n.is k.is in
@@ -254,8 +246,6 @@ one_text second text other is is_other =
     let times = day_time.1 in
     let years : n.century * 100 + n.year ≡ k.century * 100
     + k.year = omega (arith, signed_arith, dates.0) in
-    let cs = n.century_small in let ys = n.year_small in let cs_other = k.century_small in
-    let ys_other = k.year_small in
     let century : k.century ≡ n.century = omega arith in
     let year : k.year ≡ n.year = omega arith in
     let hour : k.hour ≡ n.hour = omega arith in

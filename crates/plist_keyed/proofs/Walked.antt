@@ -1,14 +1,18 @@
 -- What a walk owes, and that its path stays one, as objects are entered and left and events taken.
-use Rattle.std.proofs.Common.{◌≡◌, ℕ, suc, ◌-◌, ◌<◌, true, false, nat_eq, List, [], ◌∷◌, ◌++◌, length, reverse, Option, Some, None, Result, Ok, Err, OnOk, OnErr, refl, ap, sym, ◌∙◌, append_assoc, append-nil, arith, subst, true≢false}
-use Rattle.std.specs.Prelude.{slice_get, option_to_list, IsSome, ◌↔◌, ⊤, if◌then◌else◌}
+use Rattle.std.proofs.Common.{◌≡◌, ℕ, zero, suc, ◌-◌, ◌<◌, Bool, true, false, ◌||◌, nat_eq, List, [], ◌∷◌, ◌++◌, length, map, reverse, Option, Some, None, Result, Ok, Err, OnOk, OnErr, refl, ap, sym, ◌∙◌, append_assoc, append-nil, arith, true≢false}
+use Rattle.std.specs.Prelude.{slice_get, option_map, option_to_list, IsSome, ◌↔◌, ⊤, if◌then◌else◌}
 use Rattle.std.specs.List.{list_any}
 use Rattle.std.specs.Option.{option_map_or}
 use Rattle.indexmap.specs.IndexSet.{insert_key}
-use Rattle.std.proofs.lemmas.List.{length-append, length-reverse}
+use Rattle.std.proofs.lemmas.List.{length-append, length-reverse, reverse-append}
+use Rattle.std.proofs.lemmas.List.Folds.{list_any-append}
+use Rattle.std.proofs.lemmas.Option.{slice_get-map, slice_get_within}
 use Rattle.plist_base.specs.declared.error.Error.{Error}
 use Rattle.plist_base.specs.Bracketing.{bracketing}
-use Rattle.plist_base.specs.Events.{PlainEvent, StartArray, StartDictionary, EndCollection, Single}
+use Rattle.plist_base.specs.Events.{PlainEvent, Single}
 use Rattle.plist_base.specs.Faults.{Fault, MatchFault}
+use Rattle.plist_base.specs.inner.Paths.{IsPath}
+use Rattle.plist_base.proofs.Paths.{path_push, path_pop, path_rises}
 use Rattle.plist_base.proofs.Refusals.{MatchFault-weaker}
 use Rattle.plist.specs.declared.stream.events.Events.{Events}
 use Rattle.plist.specs.declared.value.Value.{Value}
@@ -16,38 +20,117 @@ use Rattle.plist.specs.Events.{remaining_events}
 use Rattle.plist.specs.Views.{tree_of}
 use Rattle.plist_keyed.specs.declared.walk.Walk.{Walk}
 use Rattle.plist_keyed.specs.Archives.{UidOutOfRange, RecursiveUid}
-use Rattle.plist_keyed.specs.inner.Walks.{Step, told, items_of, steps_of_event, steps_of, steps_at}
-use Rattle.plist_keyed.specs.inner.Owing.{FailsAt, IsKept, IsOpened, IsWalk, follow, follow_in, items_at, levels_of, objects_seen, owed, owed_by, path_of, uid_in}
-use Rattle.plist_base.proofs.Paths.{path_push, path_pop}
-use Rattle.plist_keyed.proofs.Entered.{any_reversed, opened, out_of_range, recursive, reverse-snoc, some_step}
+use Rattle.plist_keyed.specs.inner.Walks.{Step, told, items_of_steps, steps_of_event, steps_of_events, steps_found, steps_at}
+use Rattle.plist_keyed.specs.inner.Owing.{FailsAt, WalkIsKept, IsOpened, IsWalk, follow, follow_in, items_at, levels_of, objects_seen, owed, owed_by, path_of, uid_of_event}
 
 -- a key that isn't there goes last
 pub added : (keys new : List ℕ) (uid : ℕ) → new ≡ insert_key nat_eq keys uid
     → list_any (nat_eq uid) keys ≡ false → new ≡ keys ++ uid ∷ []
 added keys new uid is absent = is ∙ ap (λ b. if b then keys else keys ++ uid ∷ []) absent
 
+or_comm : (a b : Bool) → a || (b || false) ≡ b || a
+or_comm true true = refl
+or_comm true false = refl
+or_comm false true = refl
+or_comm false false = refl
+
+-- the test of the code, over the Uids as they are kept
+any_reversed : (p : ℕ → Bool) (xs : List ℕ) → list_any p (reverse xs) ≡ list_any p xs
+any_reversed p [] = refl
+any_reversed p (x ∷ xs) =
+    rw (reverse-append (x ∷ []) xs, list_any-append p (reverse xs) (x ∷ []), any_reversed p xs)
+    (or_comm (list_any p xs) (p x))
+
+reverse-snoc : {A : Type 0} → (xs : List A) (x : A) → reverse (xs ++ x ∷ []) ≡ x ∷ reverse xs
+reverse-snoc xs x = reverse-append xs (x ∷ [])
+
+-- an object as it is seen
+pub seen_at : (objects : List Value) (uid : ℕ) (answer found : Option Value)
+    → answer ≡ slice_get objects uid → answer ≡ found
+    → slice_get (objects_seen objects) uid ≡ option_map (λ v. bracketing (tree_of v)) found
+seen_at objects uid answer found is same =
+    rw (
+      slice_get-map bracketing (map tree_of objects) uid,
+      slice_get-map tree_of objects uid,
+      ← is,
+      same,
+    ) (twice found)
+  where
+    twice : (o : Option Value) → option_map bracketing (option_map tree_of o)
+        ≡ option_map (λ v. bracketing (tree_of v)) o
+    twice None = refl
+    twice (Some v) = refl
+
 -- ---- entering an object
 
-fails : (steps : List Step) (fault told : Fault) → fault ≡ told → FailsAt steps told
-    → FailsAt steps fault
-fails steps fault other e h = subst (FailsAt steps) (sym e) h
+module _ (objects : List (List PlainEvent)) where
+  out_of_range : (room : ℕ) (path : List ℕ) (uid : ℕ) → slice_get objects uid ≡ None
+      → steps_at objects room path uid ≡ Some (Err (told (UidOutOfRange uid))) ∷ []
+  unfolding steps_at
+  out_of_range zero path uid h = rw h refl
+  out_of_range (suc room) path uid h = rw h refl
+
+  recursive : (room : ℕ) (path : List ℕ) (uid : ℕ) (es : List PlainEvent)
+      → slice_get objects uid ≡ Some es → list_any (nat_eq uid) path ≡ true
+      → steps_at objects room path uid ≡ Some (Err (told (RecursiveUid uid))) ∷ []
+  unfolding steps_at
+  recursive zero path uid es h o = rw h refl
+  recursive (suc room) path uid es h o = rw (h, o) refl
+
+  opened_at : (room : ℕ) (path : List ℕ) (uid : ℕ) (es : List PlainEvent)
+      → slice_get objects uid ≡ Some es → list_any (nat_eq uid) path ≡ false
+      → steps_at objects (suc room) path uid ≡ None
+      ∷ (steps_of_events (steps_at objects room (uid ∷ path)) es ++ None ∷ [])
+  unfolding steps_at
+  opened_at room path uid es h o = rw (h, o) refl
+
+  opened : (levels : List Events) (path : List ℕ) (uid : ℕ) (level : Events)
+      (es : List PlainEvent) → IsPath (length objects) path → slice_get objects uid ≡ Some es
+      → list_any (nat_eq uid) path ≡ false → remaining_events level ≡ es
+      → follow_in objects path uid ++ owed_by objects levels path ≡ None
+      ∷ owed_by objects (level ∷ levels) (uid ∷ path)
+  opened levels path uid level es o at new left =
+      let room = length objects - suc (length path) in
+      let fits = path_rises uid o (slice_get_within objects uid es at) new in
+      let e : length objects - length path ≡ suc room = omega (arith, fits) in
+      rw (e, opened_at room path uid es at new, left) (ap (λ l. None ∷ l)
+      (append_assoc (steps_of_events (steps_at objects room (uid ∷ path)) es) (None ∷ [])
+      (owed_by objects levels path)))
+
+  -- a step is there, whatever a Uid finds
+  found_some : (found : Option (List PlainEvent)) (is_open : Bool) (uid : ℕ)
+      (steps : List PlainEvent → List Step) → 0 < length (steps_found found is_open uid steps)
+  found_some None o uid steps = omega arith
+  found_some (Some es) true uid steps = omega arith
+  found_some (Some es) false uid steps = omega arith
+
+  some_step : (room : ℕ) (path : List ℕ) (uid : ℕ) → 0 < length (steps_at objects room path uid)
+  unfolding steps_at
+  some_step zero path uid = found_some (slice_get objects uid) true uid _
+  some_step (suc room) path uid =
+      found_some (slice_get objects uid) (list_any (nat_eq uid) path) uid _
+
+  -- the next event of an open place is taken
+  takes : (left after : Events) (below : List Events) (path : List ℕ) (e : PlainEvent)
+      → length (left ∷ below) ≡ length path → remaining_events left ≡ e ∷ remaining_events after
+      → owed_by objects (left ∷ below) path ≡ steps_of_event (follow_in objects path) e
+      ++ owed_by objects (after ∷ below) path
+  takes left after below [] e n is = absurd (omega (arith, n))
+  takes left after below (uid ∷ path) e n is =
+      rw is (append_assoc (steps_of_event (follow_in objects (uid ∷ path)) e) _ _)
 
 -- no object has the number
 pub missing : (walk : Walk) (uid : ℕ) (fault : Fault) → fault ≡ told (UidOutOfRange uid)
     → slice_get (objects_seen walk.objects.now) uid ≡ None → FailsAt (follow walk uid) fault
 missing walk uid fault e none =
-    let seen = objects_seen walk.objects.now in
-    fails (follow walk uid) fault (told (UidOutOfRange uid)) e
-    (out_of_range seen (length seen - length (path_of walk)) (path_of walk) uid none)
+    rw e (out_of_range (objects_seen walk.objects.now) _ (path_of walk) uid none)
 
 -- the object is open
 pub open_already : (walk : Walk) (uid : ℕ) (es : List PlainEvent) (fault : Fault)
     → fault ≡ told (RecursiveUid uid) → slice_get (objects_seen walk.objects.now) uid ≡ Some es
     → list_any (nat_eq uid) walk.path.keys ≡ true → FailsAt (follow walk uid) fault
 open_already walk uid es fault e at on =
-    let seen = objects_seen walk.objects.now in
-    fails (follow walk uid) fault (told (RecursiveUid uid)) e
-    (recursive seen (length seen - length (path_of walk)) (path_of walk) uid es at
+    rw e (recursive (objects_seen walk.objects.now) _ (path_of walk) uid es at
     (any_reversed (nat_eq uid) walk.path.keys ∙ on))
 
 module _ (old new : Walk) (uid : ℕ) (object : Value) (o : IsWalk old)
@@ -56,155 +139,90 @@ module _ (old new : Walk) (uid : ℕ) (object : Value) (o : IsWalk old)
   off_path : list_any (nat_eq uid) (path_of old) ≡ false
   off_path = any_reversed (nat_eq uid) old.path.keys ∙ off
 
-  opened-walk : (n : ℕ) → n ≡ length (objects_seen old.objects.now) → uid < n
-      → IsOpened old uid object new → IsWalk new
-  opened-walk n e lt (same, keys, (level, items, is)) =
-      rw (same, keys, reverse-snoc old.path.keys uid, items, reverse-snoc old.levels.items level) (
-        path_push uid o.0
-            (subst (λ k. uid < k) e lt) off_path,
-        ap suc o.1,
-      )
-
-  opened-owes : IsOpened old uid object new → follow old uid ++ owed old ≡ None ∷ owed new
-  opened-owes (same, keys, (level, items, is)) =
+  pub entered-walk : {A : Type 0} (r : Result A Error) → OnOk r (IsOpened old uid object new)
+      → OnErr r (WalkIsKept old new) → IsWalk new
+  entered-walk (Ok a) (same, keys, (level, items, is)) k =
       rw (same, keys, reverse-snoc old.path.keys uid, items, reverse-snoc old.levels.items level)
-      (opened (objects_seen old.objects.now) (levels_of old) (path_of old) uid level
-      (bracketing (tree_of object)) o.0 at off_path is)
-
-  pub entered-walk : {A : Type 0} (r : Result A Error) → uid < length (objects_seen old.objects.now)
-      → OnOk r (IsOpened old uid object new) → OnErr r (IsKept old new) → IsWalk new
-  entered-walk (Ok a) lt h k = opened-walk (length (objects_seen old.objects.now)) refl lt h
-  entered-walk (Err e) lt h (same, keys, items) = rw (same, keys, items) o
+      (path_push uid o.0 (slice_get_within _ uid _ at) off_path, ap suc o.1)
+  entered-walk (Err e) h (same, keys, items) = rw (same, keys, items) o
 
   pub entered-owes : {A : Type 0} (r : Result A Error) → OnOk r (IsOpened old uid object new)
       → OnOk r (follow old uid ++ owed old ≡ None ∷ owed new)
-  entered-owes (Ok a) h = opened-owes h
+  entered-owes (Ok a) (same, keys, (level, items, is)) =
+      rw (same, keys, reverse-snoc old.path.keys uid, items, reverse-snoc old.levels.items level)
+      (opened (objects_seen old.objects.now) (levels_of old) (path_of old) uid level _ o.0 at
+      off_path is)
   entered-owes (Err e) h = tt
 
 -- ---- an event
 
-pub uid_steps : (f : ℕ → List Step) (e : PlainEvent) (uid : ℕ) → uid_in e ≡ Some uid
+uid_steps : (f : ℕ → List Step) (e : PlainEvent) (uid : ℕ) → uid_of_event e ≡ Some uid
     → steps_of_event f e ≡ f uid
-uid_steps f (StartArray n) uid h = cc
-uid_steps f (StartDictionary n) uid h = cc
-uid_steps f EndCollection uid h = cc
 uid_steps f (Single x) uid h = ap (λ found. option_map_or f found (Some (Ok (Single x)) ∷ [])) h
+uid_steps f e uid h = cc
 
 -- a Uid's object isn't entered
-pub refuses : (old new : Walk) (e : PlainEvent) (uid : ℕ) (fault : Fault) → uid_in e ≡ Some uid
+pub refuses : (old new : Walk) (e : PlainEvent) (uid : ℕ) (fault : Fault) → uid_of_event e
+    ≡ Some uid
     → owed new ≡ owed old → FailsAt (follow old uid) fault
     → (length (owed new) < length (steps_of_event (follow old) e ++ owed old))
     × MatchFault fault.kind ⊤ ⊤ (steps_of_event (follow old) e ++ owed old ≡ Some (Err fault)
     ∷ owed new)
 refuses old new e uid fault is same h =
-    let seen = objects_seen old.objects.now in
-    let steps : steps_of_event (follow old) e ≡ follow old uid = uid_steps (follow old) e uid is in
-    let some : 0 < length (follow old uid) = some_step seen (length seen - length (path_of old))
+    let some : 0 < length (follow old uid) = some_step (objects_seen old.objects.now) _
     (path_of old) uid in
-    rw (steps, same) (
+    rw (uid_steps (follow old) e uid is, same) (
       rw (length-append (follow old uid) (owed old)) (omega (arith, some)),
-      MatchFault-weaker
-          fault.kind (λ a. a) (λ a. a) (λ p. ap (λ l. l ++ owed old) p) h,
+      MatchFault-weaker fault.kind (λ a. a) (λ a. a) (λ p. ap (λ l. l ++ owed old) p) h,
     )
 
--- ---- an open place
+-- the innermost place has one event less
+pub taken-owes : (walk : Walk) (items below : List Events) (left after : Events) (e : PlainEvent)
+    → IsWalk walk → walk.levels.items ≡ below ++ left ∷ [] → items ≡ below ++ after ∷ []
+    → remaining_events left ≡ e ∷ remaining_events after
+    → owed walk ≡ steps_of_event (follow walk) e
+    ++ owed_by (objects_seen walk.objects.now) (reverse items) (path_of walk)
+taken-owes walk items below left after e o had has is =
+    let owes = λ (l : List Events). owed_by (objects_seen walk.objects.now) l (path_of walk) in
+    let first : levels_of walk ≡ left ∷ reverse below = ap reverse had ∙ reverse-snoc below left in
+    ap owes first
+    ∙ takes (objects_seen walk.objects.now) left after (reverse below) (path_of walk) e
+    (sym (ap length first) ∙ o.1) is
+    ∙ ap (λ l. steps_of_event (follow walk) e ++ owes l)
+    (sym (ap reverse has ∙ reverse-snoc below after))
 
-module _ (objects : List (List PlainEvent)) where
-  -- its next event is taken
-  takes : (left after : Events) (below : List Events) (path : List ℕ) (e : PlainEvent)
-      → length (left ∷ below) ≡ length path → remaining_events left ≡ e ∷ remaining_events after
-      → owed_by objects (left ∷ below) path ≡ steps_of_event (follow_in objects path) e
-      ++ owed_by objects (after ∷ below) path
-  takes left after below [] e n is = absurd (omega (arith, n))
-  takes left after below (uid ∷ path) e n is =
-      let f = follow_in objects (uid ∷ path) in
-      ap (λ l. steps_of f l ++ None ∷ owed_by objects below path) is
-      ∙ append_assoc (steps_of_event f e) (steps_of f (remaining_events after))
-      (None ∷ owed_by objects below path)
-
--- the innermost place is another one, on the same path
-module _ (old new : Walk) (left after : Events) (below : List Events) (o : IsWalk old)
-    (same : new.objects ≡ old.objects) (keys : new.path.keys ≡ old.path.keys)
-    (had : old.levels.items ≡ below ++ left ∷ []) (has : new.levels.items ≡ below ++ after ∷ [])
-  where
-    had_first : levels_of old ≡ left ∷ reverse below
-    had_first = ap reverse had ∙ reverse-snoc below left
-
-    as_many : length (left ∷ reverse below) ≡ length (path_of old)
-    as_many = sym (ap length had_first) ∙ o.1
-
-    same_follow : follow new ≡ follow old
-    same_follow = λ i. follow_in (objects_seen (same i).now) (reverse (keys i))
-
-    new_owed : owed new ≡ owed_by (objects_seen old.objects.now) (after ∷ reverse below)
-        (path_of old)
-    new_owed =
-        let levels : levels_of new ≡ after ∷ reverse below = ap reverse has
-        ∙ reverse-snoc below after in
-        λ i. owed_by (objects_seen (same i).now) (levels i) (reverse (keys i))
-
-    pub taken-owes : (e : PlainEvent) → remaining_events left ≡ e ∷ remaining_events after
-        → owed old ≡ steps_of_event (follow new) e ++ owed new
-    taken-owes e is =
-        ap (λ l. owed_by (objects_seen old.objects.now) l (path_of old)) had_first
-        ∙ takes (objects_seen old.objects.now) left after (reverse below) (path_of old) e as_many is
-        ∙ (λ i. steps_of_event (sym same_follow i) e ++ sym new_owed i)
-
--- ---- leaving an object
-
-last_key : (keys new : List ℕ) (r : Option ℕ) → keys ≡ new ++ option_to_list r
-    → (IsSome r ↔ (0 < length keys)) → 0 < length keys → (uid : ℕ)
-    × (reverse keys ≡ uid ∷ reverse new)
-last_key keys new None is found some = absurd (true≢false (sym (found.1 some)))
-last_key keys new (Some uid) is found some = (uid, ap reverse is ∙ reverse-snoc new uid)
-
-module _ (old new : Walk) (left : Events) (r : Option ℕ) (o : IsWalk old)
-    (same : new.objects ≡ old.objects) (had : old.levels.items ≡ new.levels.items ++ left ∷ [])
-    (keys : old.path.keys ≡ new.path.keys ++ option_to_list r)
-    (found : IsSome r ↔ (0 < length old.path.keys)) where
-  had_left : levels_of old ≡ left ∷ levels_of new
-  had_left = ap reverse had ∙ reverse-snoc new.levels.items left
-
-  some_open : 0 < length old.path.keys
-  some_open =
-      let n : length (left ∷ levels_of new) ≡ length (path_of old) = sym (ap length had_left)
-      ∙ o.1 in
-      let m : length (path_of old) ≡ length old.path.keys = length-reverse old.path.keys in
-      omega (arith, n, m)
-
-  was : (uid : ℕ) × (path_of old ≡ uid ∷ path_of new)
-  was = last_key old.path.keys new.path.keys r keys found some_open
-
-  pub left-walk : IsWalk new
-  left-walk =
-      let n : suc (length (levels_of new)) ≡ suc (length (path_of new)) = sym (ap length had_left)
-      ∙ o.1 ∙ ap length was.1 in
-      rw same (
-        path_pop was.0 (path_of new)
-            (rw was.1 at o.0),
-        omega (arith, n),
-      )
+-- the innermost object is left
+pub left-walk : (walk : Walk) (keys : List ℕ) (levels : List Events) (left : Events) (r : Option ℕ)
+    → IsWalk walk → walk.levels.items ≡ levels ++ left ∷ []
+    → walk.path.keys ≡ keys ++ option_to_list r → (IsSome r ↔ (0 < length walk.path.keys))
+    → IsPath (length (objects_seen walk.objects.now)) (reverse keys)
+    × (length (reverse levels) ≡ length (reverse keys))
+left-walk walk keys levels left None o had is found =
+    let n : length (left ∷ reverse levels) ≡ length walk.path.keys =
+    sym (ap length (ap reverse had ∙ reverse-snoc levels left)) ∙ o.1
+    ∙ length-reverse walk.path.keys in
+    absurd (true≢false (sym (found.1 (omega (arith, n)))))
+left-walk walk keys levels left (Some uid) o had is found =
+    let w = rw (had, is, reverse-snoc levels left, reverse-snoc keys uid) at o in
+    (path_pop uid (reverse keys) w.0, omega (arith, w.1))
 
 -- ---- the beginning
 
 module _ (start : Walk) (objects : List Value) (seen : start.objects.now ≡ objects)
-    (keys : start.path.keys ≡ []) (items : start.levels.items ≡ []) where
-  start-owed : owed start ≡ []
-  start-owed = rw items refl
-
+    (keys : start.path.keys ≡ []) where
   start-follow : (uid : ℕ) → follow start uid
       ≡ steps_at (objects_seen objects) (length (objects_seen objects)) [] uid
   start-follow uid =
       let n : length (objects_seen objects) - 0 ≡ length (objects_seen objects) = omega arith in
-      (λ i. follow_in (objects_seen (seen i)) (reverse (keys i)) uid)
-      ∙ ap (λ k. steps_at (objects_seen objects) k [] uid) n
+      rw (seen, keys, n) refl
 
   -- the first object is entered
-  pub begun : (walk : Walk) (n uid : ℕ) → n ≡ uid → follow start n ++ owed start ≡ None ∷ owed walk
-      → items_of (owed walk) ≡ items_at objects uid
-  begun walk n uid e h =
-      ap items_of (sym h) ∙ ap (λ l. items_of (follow start n ++ l)) start-owed
-      ∙ ap items_of (append-nil (follow start n)) ∙ ap items_of (start-follow n)
+  pub begun : start.levels.items ≡ [] → (walk : Walk) (n uid : ℕ) → n ≡ uid
+      → follow start n ++ owed start ≡ None ∷ owed walk
+      → items_of_steps (owed walk) ≡ items_at objects uid
+  begun items walk n uid e h =
+      ap items_of_steps (sym h) ∙ (rw (items, append-nil (follow start n))
+      (ap items_of_steps (start-follow n)))
       ∙ ap (items_at objects) e
 
   -- there is no first object, or it can't be entered
@@ -212,4 +230,4 @@ module _ (start : Walk) (objects : List Value) (seen : start.objects.now ≡ obj
       → MatchFault fault.kind ⊤ ⊤ (items_at objects uid ≡ Err fault ∷ [])
   not-begun n uid fault e h =
       MatchFault-weaker fault.kind (λ a. a) (λ a. a)
-      (λ p. ap (items_at objects) (sym e) ∙ ap items_of (sym (start-follow n)) ∙ ap items_of p) h
+      (λ p. ap (items_at objects) (sym e) ∙ ap items_of_steps (sym (start-follow n) ∙ p)) h

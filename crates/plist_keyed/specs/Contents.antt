@@ -17,8 +17,8 @@ abbrev pub objects_of : Archive → List Value
 objects_of archive = archive.objects.now.items
 
 -- the tree of each
-abbrev pub trees_of : Archive → List Tree
-trees_of archive = map tree_of (objects_of archive)
+abbrev pub trees_in : Archive → List Tree
+trees_in archive = map tree_of (objects_of archive)
 
 -- the pairs of a name and what it stands for
 abbrev pub names_of : Archive → List (List ℕ × Value)

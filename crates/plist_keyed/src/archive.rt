@@ -4,7 +4,7 @@ ghost use Rattle.std.specs.Prelude.{◌≡◌, ℕ, Ok, IfErr, IfOk, IfSome, IsN
 ghost use Rattle.std.specs.declared.alloc.Global.{Global};
 ghost use Rattle.std.specs.declared.vec.Vec.{Vec};
 ghost use Rattle.std.specs.Option.{option_copied};
-ghost use Rattle.plist_keyed.specs.Contents.{IsArrayAt, IsDictionaryAt, IsUidAt, names_of, objects_of, trees_of, HasNoArrayAt, HasNoDictionaryAt, IsOpenedOf, IsNoArchive};
+ghost use Rattle.plist_keyed.specs.Contents.{IsArrayAt, IsDictionaryAt, IsUidAt, names_of, objects_of, trees_in, HasNoArrayAt, HasNoDictionaryAt, IsOpenedOf, IsNoArchive};
 ghost use Rattle.plist.specs.Views.{tree_of};
 ghost use Rattle.plist_keyed.specs.Archives.{resolved_tree};
 ghost use Rattle.plist_keyed.specs.Errors.{IsFaultOf};
@@ -107,8 +107,8 @@ impl<'a> Archive<'a> {
     /// - `RecursiveUid` for a Uid that is met while its own object is open.
     /// - `OutOfMemory`, wherever a growth was refused.
     pub fn tree(&self, alloc: Global, uid: Uid) -> Result<Value, KeyedError>
-        ensures value { IfOk result (λ v. resolved_tree (trees_of self.now) uid ≡ Ok (tree_of v)) }
-        ensures fault { IfErr result (IsFaultOf (resolved_tree (trees_of self.now) uid)) }
+        ensures value { IfOk result (λ v. resolved_tree (trees_in self.now) uid ≡ Ok (tree_of v)) }
+        ensures fault { IfErr result (IsFaultOf (resolved_tree (trees_in self.now) uid)) }
     {
         match value_at(alloc, self.objects.as_slice(), uid) {
             Ok(value) => Ok(value),

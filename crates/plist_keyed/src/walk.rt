@@ -10,7 +10,7 @@ ghost use Rattle.plist.specs.Collecting.{built_tree};
 ghost use Rattle.plist.specs.Inputs.{IsReadFrom};
 ghost use Rattle.plist.specs.LastWins.{last_wins};
 ghost use Rattle.plist.specs.Views.{tree_of};
-ghost use Rattle.plist_keyed.specs.inner.Owing.{items_at, uid_in, Enters, PaysFor};
+ghost use Rattle.plist_keyed.specs.inner.Owing.{items_at, uid_of_event, Enters, PaysFor};
 
 use indexmap::IndexSet;
 use plist::stream::{Event, Events};
@@ -30,7 +30,7 @@ enum Move<'a> {
 
 // The number of a Uid's event.
 fn uid_of(event: &Event<'_>) -> Option<u64>
-    ensures { result ≡ uid_in (event_of event.now) }
+    ensures { result ≡ uid_of_event (event_of event.now) }
 {
     match event {
         Event::Uid(uid) => Some(uid.get()),
@@ -52,7 +52,7 @@ struct Walk<'a> {
 }
 
 impl<'a> Walk<'a> {
-    ghost use Rattle.plist_keyed.specs.inner.Owing.{FailsAt, Gives, IsKept, IsOpened, IsWalk, Pays, follow, owed};
+    ghost use Rattle.plist_keyed.specs.inner.Owing.{FailsAt, Gives, WalkIsKept, IsOpened, IsWalk, Pays, follow, owed};
 
     fn new(alloc: Global, objects: &'a [Value]) -> Walk<'a>
         ensures objects { result.objects ≡ objects.entry }
@@ -72,7 +72,7 @@ impl<'a> Walk<'a> {
         requires { contains nat_eq self.old.path uid ≡ false }
         ensures opened { OnOk result (IsOpened self.old uid object.now self.new) }
         ensures memory { OnlyMemory result }
-        ensures unchanged { OnErr result (IsKept self.old self.new) }
+        ensures unchanged { OnErr result (WalkIsKept self.old self.new) }
     {
         self.levels.reserve(1)?;
         self.path.insert(uid)?;

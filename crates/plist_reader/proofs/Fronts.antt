@@ -1,5 +1,5 @@
 -- The first bytes of a source.
-use Rattle.std.proofs.Common.{◌≡◌, inl, inr, ℕ, ◌+◌, ◌-◌, ◌^◌, ◌<◌, ◌≤◌, Bool, true, false, cond, ◌==◌, nat_eq, List, [], ◌∷◌, length, take, get_or, Option, None, Some, IfSome, IsTrue, ◌↔◌, refl, ap, sym, ◌∙◌, arith}
+use Rattle.std.proofs.Common.{◌≡◌, inl, inr, ℕ, ◌+◌, ◌-◌, ◌<◌, ◌≤◌, Bool, true, false, cond, ◌==◌, nat_eq, List, [], ◌∷◌, length, take, get_or, Option, None, Some, IfSome, IsTrue, ◌↔◌, refl, ap, sym, ◌∙◌, arith}
 use Rattle.std.specs.Bool.{then_some}
 use Rattle.std.specs.List.{starts_with, slice_get}
 use Rattle.std.proofs.lemmas.Bool.{cases_lt, and_right}
@@ -11,7 +11,13 @@ use Rattle.plist_base.specs.Sources.{IsPlaceWithin}
 use Rattle.plist_binread.specs.Container.{magic}
 use Rattle.plist_binread.specs.Failures.{HasPlace}
 use Rattle.plist_reader.specs.declared.format.Format.TheVariants.{Binary}
-use Rattle.plist_reader.specs.Formats.{front, is_white, mark_length, past_white, xml_place, text_format, format_of}
+use Rattle.plist_reader.specs.Formats.{input_front, is_white, mark_length, past_white, xml_place, text_format, format_of}
+
+-- two facts of known bytes together
+pub both_known : {A : Type 0} (o : Option A) {P Q R : A → Type 0} → IfSome o P → IfSome o Q
+    → ((x : A) → P x → Q x → R x) → IfSome o R
+both_known None p q f = tt
+both_known (Some x) p q f = f x p q
 
 -- a place within bounds is one
 pub within-placed : (start end : ℕ) (offset : Option ℕ) → IsPlaceWithin start end offset
@@ -36,12 +42,10 @@ never_true : {A : Type 0} (b : Bool) → b ≡ false → IsTrue b → A
 never_true b e h = cc
 
 -- bytes that couldn't be read for another reason than a device's are too few
-pub short-front : (k : Option (List ℕ)) (kind : FaultKind) (is : Bool) (n : ℕ) (needle : List ℕ)
+pub short-front : (bytes : List ℕ) (kind : FaultKind) (is : Bool) (n : ℕ) (needle : List ℕ)
     → n ≡ length needle → is ≡ false → (IsTrue is ↔ (kind ≡ Io))
-    → IfSome k (λ bytes. 0 + n ≤ length bytes → IsIo kind)
-    → IfSome k (λ bytes. false ≡ starts_with nat_eq bytes needle)
-short-front None kind is n needle e f t h = tt
-short-front (Some bytes) kind is n needle e f t h =
+    → (0 + n ≤ length bytes → IsIo kind) → false ≡ starts_with nat_eq bytes needle
+short-front bytes kind is n needle e f t h =
     elim (cases_lt (length bytes) n) [
       | inl l ↦ sym (short-starts bytes needle (omega (arith, e)))
       | inr l ↦ never_true is f (t.1 (io-is _ (h (omega arith))))
@@ -101,73 +105,29 @@ module _ (m : ℕ) (bytes : List ℕ) where
   pub xml-end : (place : ℕ) → m ≤ place → xml_place place cut ≡ None
   xml-end place h = xml-past _ (omega (arith, length-take {A = ℕ}))
 
--- ---- the same, where the bytes may not be known
-
-pub known-on : (k now : Option (List ℕ)) (place b : ℕ) → now ≡ k → place < 2 ^ 64 - 1
-    → IfSome now (λ bytes. Some b ≡ slice_get bytes place) → is_white b ≡ true → (f : List ℕ → ℕ)
-    → IfSome k (λ bytes. f bytes ≡ past_white place (front bytes))
-    → IfSome k (λ bytes. f bytes ≡ past_white (place + 1) (front bytes))
-known-on None now place b same h e w f i = tt
-known-on (Some bytes) now place b same h e w f i =
-    let at : Some b ≡ slice_get bytes place = rw same at e in i
-    ∙ white-on _ _ _ b h (sym at) w
-
 -- what stands at the place found, by where the search began
-moved : (start place : ℕ) (bytes : List ℕ) → past_white start bytes ≡ past_white place bytes
+pub moved : (start place : ℕ) (bytes : List ℕ) → past_white start bytes ≡ past_white place bytes
     → xml_place start bytes ≡ xml_place place bytes
 moved start place bytes e = ap (λ q. cond (get_or bytes q 0 == 60) (Some q) None) e
 
-then_some-cond : (test : Bool) (place : ℕ) → then_some test place ≡ cond test (Some place) None
+pub then_some-cond : (test : Bool) (place : ℕ) → then_some test place ≡ cond test (Some place) None
 then_some-cond true place = refl
 then_some-cond false place = refl
 
--- at a byte that is no white space the place is found, where the byte is `<`
-pub known-here : (k now : Option (List ℕ)) (start place b : ℕ) (found : Option ℕ) → now ≡ k
-    → place < 2 ^ 64 - 1 → IfSome now (λ bytes. Some b ≡ slice_get bytes place)
-    → is_white b ≡ false → found ≡ then_some (b == 60) place
-    → IfSome k (λ bytes. past_white start (front bytes) ≡ past_white place (front bytes))
-    → IfSome k (λ bytes. found ≡ xml_place start (front bytes))
-known-here None now start place b found same h e w is i = tt
-known-here (Some bytes) now start place b found same h e w is i =
-    let at : Some b ≡ slice_get bytes place = rw same at e in
-    is ∙ then_some-cond _ _ ∙ sym (moved _ _ _ i ∙ xml-here _ _ _ b h (sym at) w)
-
-pub known-none : (k now : Option (List ℕ)) (start place : ℕ) → now ≡ k
-    → IfSome now (λ bytes. None ≡ slice_get bytes place)
-    → IfSome k (λ bytes. past_white start (front bytes) ≡ past_white place (front bytes))
-    → IfSome k (λ bytes. None ≡ xml_place start (front bytes))
-known-none None now start place same e i = tt
-known-none (Some bytes) now start place same e i =
-    let at : None ≡ slice_get bytes place = rw same at e in sym
-    (moved _ _ _ i ∙ xml-none (2 ^ 64 - 1) bytes place at)
-
-pub known-end : (k : Option (List ℕ)) (start place : ℕ) → 2 ^ 64 - 1 ≤ place
-    → IfSome k (λ bytes. past_white start (front bytes) ≡ past_white place (front bytes))
-    → IfSome k (λ bytes. None ≡ xml_place start (front bytes))
-known-end None start place e i = tt
-known-end (Some bytes) start place e i =
-    sym (moved _ _ _ i ∙ xml-end _ _ _ e)
-
 -- ---- the format
 
-pub is-binary : (k : Option (List ℕ)) (found : Bool) → found ≡ true
-    → IfSome k (λ bytes. found ≡ starts_with nat_eq bytes magic)
-    → IfSome k (λ bytes. Binary ≡ format_of bytes)
+pub binary-is : (bytes : List ℕ) → true ≡ starts_with nat_eq bytes magic → Binary ≡ format_of bytes
 unfolding format_of
-is-binary None found t h = tt
-is-binary (Some bytes) found t h =
-    ap (λ b. cond b Binary (text_format (xml_place (mark_length bytes) (front bytes)))) (sym t ∙ h)
+binary-is bytes h =
+    ap (λ b. cond b Binary (text_format (xml_place (mark_length bytes) (input_front bytes)))) h
 
-pub is-text : (k a b : Option (List ℕ)) (found : Bool) (start : ℕ) (place : Option ℕ) → a ≡ k
-    → b ≡ a → found ≡ false → IfSome k (λ bytes. found ≡ starts_with nat_eq bytes magic)
+pub text-is : (k a b : Option (List ℕ)) (start : ℕ) (place : Option ℕ) → a ≡ k → b ≡ a
+    → IfSome k (λ bytes. false ≡ starts_with nat_eq bytes magic)
     → IfSome a (λ bytes. start ≡ mark_length bytes)
-    → IfSome b (λ bytes. place ≡ xml_place start (front bytes))
+    → IfSome b (λ bytes. place ≡ xml_place start (input_front bytes))
     → IfSome k (λ bytes. text_format place ≡ format_of bytes)
 unfolding format_of
-is-text None a b found start place p q f h m x = tt
-is-text (Some bytes) a b found start place p q f h m x =
-    let m' : start ≡ mark_length bytes = rw p at m in
-    let x' : place ≡ xml_place start (front bytes) = rw (q ∙ p) at x in
-    ap text_format x' ∙ ap (λ s. text_format (xml_place s (front bytes))) m'
-    ∙ ap (λ b. cond b Binary (text_format (xml_place (mark_length bytes) (front bytes))))
-    (sym f ∙ h)
+text-is k a b start place p q h m x =
+    both_known k (both_known k (rw p at m) (rw (q ∙ p) at x)
+    (λ bytes m x. x ∙ ap (λ s. xml_place s (input_front bytes)) m)) h (λ bytes x h. ap text_format x
+    ∙ ap (λ b. cond b Binary (text_format (xml_place (mark_length bytes) (input_front bytes)))) h)

@@ -29,9 +29,9 @@ use Rattle.plist_ascii.specs.declared.dialect.Dialect.TheVariants.{Lax}
 use Rattle.plist_ascii.specs.Texts.{lax, ends_bare}
 use Rattle.plist_reader.specs.declared.reader.State.{State}
 use Rattle.plist_reader.specs.declared.reader.State.TheVariants as state
-use Rattle.plist_reader.specs.Reader.{coming, items_by, items_of_input, GivesItem, GoesOn, EndsAfter, StateGives, HoldsSource, HasItsPlace, source_in}
+use Rattle.plist_reader.specs.Reader.{coming, items_by, items_of_input, GivesItem, GivesIfKnown, EndsAfter, StateGives, HoldsSource, HasItsPlace, source_in}
 use Rattle.plist_reader.specs.declared.format.Format.TheVariants as format
-use Rattle.plist_reader.specs.Formats.{format_of, front}
+use Rattle.plist_reader.specs.Formats.{format_of, input_front}
 use Rattle.plist_reader.proofs.Fronts.{within-placed}
 
 abbrev pub Given : Type 0
@@ -87,7 +87,7 @@ ascii-item stops bytes rest p q (Some (Err error)) h =
 
 binary-goes : (k l : Option (List ℕ)) (f g : List ℕ → List Item) (new : Bool) (item : Given) → l ≡ k
     → IfSome k (λ bytes. binary.GivesItem new (f bytes) item (g bytes))
-    → GoesOn (option_map f k) item (option_map g l)
+    → GivesIfKnown (option_map f k) item (option_map g l)
 binary-goes None l f g new item e h = tt
 binary-goes (Some bytes) l f g new item e h =
     (g _, ap (option_map g) e, binary-item _ _ _ _ h)
@@ -95,7 +95,7 @@ binary-goes (Some bytes) l f g new item e h =
 pub ascii-goes : (stops : ℕ → Bool) (k l : Option (List ℕ)) (p q : ℕ) (item : Given)
     → ((bytes : List ℕ) → k ≡ Some bytes → (rest : List ℕ) × (l ≡ Some rest)
     × ascii.GivesItem stops bytes p item rest q)
-    → GoesOn (option_map (λ bytes. items_of_ascii stops bytes p) k) item
+    → GivesIfKnown (option_map (λ bytes. items_of_ascii stops bytes p) k) item
     (option_map (λ bytes. items_of_ascii stops bytes q) l)
 ascii-goes stops None l p q item h = tt
 ascii-goes stops (Some bytes) l p q item h =
@@ -138,7 +138,7 @@ ascii-placed place (Some (Err error)) h =
     (λ e. e) (λ _. tt) h
 
 -- a count that is told
-told-failures : (a b : ℕ) (item : Given) → incoming.ItemCountsIo item (Some a) (Some b)
+told-failures : (a b : ℕ) (item : Given) → incoming.ItemCountsIoIfTold item (Some a) (Some b)
     → ItemCountsIo item a b
 told-failures a b None h = same-count a b h
 told-failures a b (Some (Ok event)) h = same-count a b h
@@ -149,24 +149,19 @@ told-failures a b (Some (Err error)) h =
 same-items : (k l : Option (List ℕ)) (f : List ℕ → List Item) → l ≡ k
     → IfSome k (λ bytes. f bytes ≡ items_of_input bytes)
     → option_map f l ≡ option_map items_of_input k
-same-items None l f e h = ap (option_map f) e
-same-items (Some bytes) l f e h = ap (option_map f) e ∙ ap Some h
+same-items None l f e h = rw e refl
+same-items (Some bytes) l f e h = rw e (ap Some h)
 
-take-twice : (bytes : List ℕ) → front (front bytes) ≡ front bytes
+take-twice : (bytes : List ℕ) → input_front (input_front bytes) ≡ input_front bytes
 take-twice bytes = take-take (2 ^ 64 - 1) (2 ^ 64 - 1) bytes (omega arith)
 
 ascii-items : (k l : Option (List ℕ)) → l ≡ k → IfSome k (λ bytes. format.Ascii ≡ format_of bytes)
     → option_map (λ bytes. items_of_ascii lax bytes 0)
-    (option_map front (option_map (λ bytes. [] ++ from_place 0 bytes) l))
+    (option_map input_front (option_map (λ bytes. [] ++ from_place 0 bytes) l))
     ≡ option_map items_of_input k
-ascii-items None l e is =
-    ap (λ o. option_map (λ bytes. items_of_ascii lax bytes 0)
-    (option_map front (option_map (λ bytes. [] ++ from_place 0 bytes) o))) e
+ascii-items None l e is = rw e refl
 ascii-items (Some bytes) l e is =
-    ap (λ o. option_map (λ bytes. items_of_ascii lax bytes 0)
-    (option_map front (option_map (λ bytes. [] ++ from_place 0 bytes) o))) e
-    ∙ ap (λ b. Some (items_of_ascii lax b 0)) (take-twice bytes)
-    ∙ ap (λ f. Some (items_by f bytes)) is
+    rw (e, take-twice bytes) (ap (λ f. Some (items_by f bytes)) is)
 
 module _ {R : Type 0} {g : Ghosts R} (known : R → Option (List ℕ)) (failed : R → ℕ) where
   pub binary-gives : {counts : Type 0} {count : Uncounted → ℕ} (old new : PlainReader R g)
@@ -186,7 +181,8 @@ module _ {R : Type 0} {g : Ghosts R} (known : R → Option (List ℕ)) (failed :
       → ascii.Gives (bytes_left known) (λ s. Some (failed (source_of s))) old item new
       → StateGives {R = R} {g = g} known failed (state.Ascii old) item (state.Ascii new)
   ascii-gives old new item h = record {
-    items = subst (λ d. GoesOn ((let before : State R g = state.Ascii old in coming known before))
+    items = subst (λ d. GivesIfKnown ((let before : State R g = state.Ascii old in coming known
+        before))
         item (option_map (λ bytes. items_of_ascii (ends_bare d) bytes (ascii.place_of new))
         (ascii.bytes_left (bytes_left known) new))) (sym h.dialect)
         (ascii-goes (ascii.stops_of old) (ascii.bytes_left (bytes_left known) old)
@@ -208,7 +204,7 @@ module _ {R : Type 0} {g : Ghosts R} (known : R → Option (List ℕ)) (failed :
       → StateGives known failed old item new
       → StateGives known failed (state.Unread source) item new
   chosen-gives source old new item same count h = record {
-    items = subst (λ o. GoesOn o item (coming known new)) same h.items;
+    items = subst (λ o. GivesIfKnown o item (coming known new)) same h.items;
     failures = count;
     offset = h.offset;
     ended = λ e. absurd e;
@@ -221,9 +217,7 @@ module _ {R : Type 0} {g : Ghosts R} (known : R → Option (List ℕ)) (failed :
       → IfSome k (λ bytes. binary.to_come bytes reader ≡ items_of_input bytes)
   binary-items None l reader e is h = tt
   binary-items (Some bytes) l reader e is h =
-      let fresh : IfSome (Some bytes) (λ bytes. binary.to_come bytes reader ≡ items_of_file bytes) =
-      subst (λ o. IfSome o (λ bytes. binary.to_come bytes reader ≡ items_of_file bytes)) e h in
-      fresh ∙ ap (λ f. items_by f bytes) is
+      (rw e at h) ∙ ap (λ f. items_by f bytes) is
 
   pub begun-binary : {counts : Type 0} {count : Uncounted → ℕ} (source inner : R)
       (old new : PlainReader R g) (item : Given) → binary.source_of old ≡ inner
@@ -244,7 +238,7 @@ module _ {R : Type 0} {g : Ghosts R} (known : R → Option (List ℕ)) (failed :
       → known inner ≡ known source → failed inner ≡ failed source → ascii.inner_of old ≡ sequence
       → place_of sequence ≡ 0 → held sequence ≡ []
       → IfSome (known source) (λ bytes. format.Ascii ≡ format_of bytes)
-      → ascii.bytes_left (bytes_left known) old ≡ option_map front (bytes_left known sequence)
+      → ascii.bytes_left (bytes_left known) old ≡ option_map input_front (bytes_left known sequence)
       → ascii.place_of old ≡ 0 → ascii.dialect_of old ≡ Lax
       → ascii.Gives (bytes_left known) (λ s. Some (failed (source_of s))) old item new
       → StateGives {R = R} {g = g} known failed (state.Unread source) item (state.Ascii new)
@@ -254,13 +248,12 @@ module _ {R : Type 0} {g : Ghosts R} (known : R → Option (List ℕ)) (failed :
       (ascii.bytes_left (bytes_left known) old)) dialect
       ∙ (λ i. option_map (λ b. items_of_ascii lax b (place i)) (bytes i))
       ∙ ap (λ p. option_map (λ b. items_of_ascii lax b 0)
-      (option_map front (option_map (λ bytes. held sequence ++ from_place p bytes)
+      (option_map input_front (option_map (λ bytes. held sequence ++ from_place p bytes)
       (known (source_of sequence))))) at
       ∙ ap (λ w. option_map (λ b. items_of_ascii lax b 0)
-      (option_map front (option_map (λ bytes. w ++ from_place 0 bytes)
+      (option_map input_front (option_map (λ bytes. w ++ from_place 0 bytes)
       (known (source_of sequence))))) none
       ∙ ascii-items _ (known (source_of sequence)) (ap known from ∙ e) is)
       (subst (λ n. ItemCountsIo item n (failed (source_of (ascii.inner_of new))))
       (ap (λ s. failed (source_of s)) inside ∙ ap failed from ∙ f)
-      (let g : StateGives known failed (state.Ascii old) item (state.Ascii new) = ascii-gives
-      _ new item h in g.failures)) (ascii-gives old _ item h)
+      (told-failures _ _ item h.failures)) (ascii-gives old _ item h)

@@ -6,8 +6,8 @@ use Rattle.plist_reader.specs.declared.format.Format.{Format}
 use Rattle.plist_reader.specs.declared.format.Format.TheVariants.{Binary, Xml, Ascii}
 
 -- the bytes that are read from the front on: no input is longer than 2^64 - 1 bytes
-abbrev pub front : List ℕ → List ℕ
-front bytes = take (2 ^ 64 - 1) bytes
+abbrev pub input_front : List ℕ → List ℕ
+input_front bytes = take (2 ^ 64 - 1) bytes
 
 -- tab, LF, form feed, CR, space
 abbrev pub is_white : ℕ → Bool
@@ -37,7 +37,7 @@ text_format (Some place) = Xml place
 unfoldable pub format_of : List ℕ → Format
 format_of bytes =
     cond (starts_with nat_eq bytes magic) Binary
-    (text_format (xml_place (mark_length bytes) (front bytes)))
+    (text_format (xml_place (mark_length bytes) (input_front bytes)))
 
 -- ---- worked examples
 

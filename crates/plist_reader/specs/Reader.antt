@@ -9,7 +9,7 @@ use Rattle.plist_base.specs.Events.{Item, event_of}
 use Rattle.plist_base.specs.Sources.{ItemCountsIo}
 use Rattle.plist_binread.specs.BinaryReader as binary
 use Rattle.plist_binread.specs.Failures.{HasPlace}
-use Rattle.plist_binread.specs.Debt.{IsOwed, steps}
+use Rattle.plist_binread.specs.Debt.{IsOwed, walk_steps}
 use Rattle.plist_binread.specs.Unfolding.{items_of_file}
 use Rattle.plist_ascii.specs.Ascii.{items_of_ascii}
 use Rattle.plist_ascii.specs.AsciiReader as ascii
@@ -19,7 +19,7 @@ use Rattle.plist_reader.specs.declared.format.Format.TheVariants as format
 use Rattle.plist_reader.specs.declared.reader.Reader.{Reader}
 use Rattle.plist_reader.specs.declared.reader.State.{State}
 use Rattle.plist_reader.specs.declared.reader.State.TheVariants as state
-use Rattle.plist_reader.specs.Formats.{front, format_of}
+use Rattle.plist_reader.specs.Formats.{input_front, format_of}
 use Rattle.plist_reader.specs.Streams as stream
 use Rattle.plist_reader.specs.Streams.{bytes_left}
 
@@ -27,7 +27,7 @@ use Rattle.plist_reader.specs.Streams.{bytes_left}
 abbrev pub items_by : Format → List ℕ → List Item
 items_by format.Binary bytes = items_of_file bytes
 items_by (format.Xml place) bytes = Err (fault_at XmlUnsupported place) ∷ []
-items_by format.Ascii bytes = items_of_ascii lax (front bytes) 0
+items_by format.Ascii bytes = items_of_ascii lax (input_front bytes) 0
 
 -- the items of some bytes, by the format that their first bytes tell
 abbrev pub items_of_input : List ℕ → List Item
@@ -84,9 +84,9 @@ GivesItem before item after =
     (before ≡ Err (fault_of error) ∷ after)))
 
 -- the same, where the items to come are known
-abbrev pub GoesOn : (before : Option (List Item)) → Option (Result Event Error)
+abbrev pub GivesIfKnown : (before : Option (List Item)) → Option (Result Event Error)
     → (after : Option (List Item)) → Type 0
-GoesOn before item after =
+GivesIfKnown before item after =
     IfSome before (λ all. (left : List Item) × (after ≡ Some left) × GivesItem all item left)
 
 -- where nothing comes, and after a fault from outside, nothing comes for good
@@ -112,7 +112,7 @@ HasItsPlace item =
 -- one call of `next`
 pub record StateGives {R : Type 0} {g : Ghosts R} (known : R → Option (List ℕ)) (failed : R → ℕ)
     (old : State R g) (item : Option (Result Event Error)) (new : State R g) : Type 0 where
-  pub items : GoesOn (coming known old) item (coming known new)
+  pub items : GivesIfKnown (coming known old) item (coming known new)
   pub failures : HoldsSource failed (source_in old) item (source_in new)
   pub offset : HasItsPlace item
   pub ended : IsOver old → item ≡ None
@@ -124,15 +124,15 @@ Gives known failed old item new = StateGives known failed old.state item new.sta
 
 -- more than the items of any input
 abbrev pub all_steps : ℕ
-all_steps = steps (2 ^ 64) + 1 + 2 ^ 64
+all_steps = walk_steps (2 ^ 64) + 1 + 2 ^ 64
 
 -- more than the items that are still to come
-abbrev pub steps_of : {R : Type 0} {g : Ghosts R} → State R g → ℕ
-steps_of (state.Unread source) = all_steps
-steps_of (state.Binary reader) = binary.steps_to_come reader
-steps_of (state.Ascii reader) = ascii.steps_to_come reader
-steps_of (state.Refused source) = 0
-steps_of state.Moved = 0
+abbrev pub steps_in_state : {R : Type 0} {g : Ghosts R} → State R g → ℕ
+steps_in_state (state.Unread source) = all_steps
+steps_in_state (state.Binary reader) = binary.steps_to_come reader
+steps_in_state (state.Ascii reader) = ascii.steps_to_come reader
+steps_in_state (state.Refused source) = 0
+steps_in_state state.Moved = 0
 
 -- where nothing was asked for yet, this is the first item, and the state behind it
 abbrev pub GivesFirst : {R : Type 0} {g : Ghosts R} (known : R → Option (List ℕ)) (failed : R → ℕ)
@@ -143,4 +143,4 @@ GivesFirst {R} known failed old item new = (source : R) → old ≡ state.Unread
 -- where nothing was asked for yet and an item comes, fewer steps are left
 abbrev pub FirstFalls : {R A : Type 0} {g : Ghosts R} → State R g → Option A → State R g → Type 0
 FirstFalls {R} old item new = (source : R) → old ≡ state.Unread source
-    → IfSome item (λ _. steps_of new < all_steps)
+    → IfSome item (λ _. steps_in_state new < all_steps)

@@ -6,7 +6,7 @@ ghost use Rattle.plist_base.specs.Faults.{IsIo, Io, fault_at, kind_of, error_kin
 ghost use Rattle.plist_base.specs.Outcomes.{OnlyFault, DecodesBy};
 ghost use Rattle.plist_base.specs.Sources.{AnswersIo};
 ghost use Rattle.plist_binread.specs.Failures.{HasPlace};
-ghost use Rattle.plist_reader.specs.Formats.{is_white, mark_length, front, xml_place, format_of};
+ghost use Rattle.plist_reader.specs.Formats.{is_white, mark_length, input_front, xml_place, format_of};
 
 use crate::bytes::read_byte;
 use plist_base::{Error, ErrorKind, Source, read_exact_at};
@@ -84,7 +84,7 @@ fn is_white(byte: u8) -> bool
 
 // Where the first byte past white space is `<`, its place.
 fn xml_place<S: Source>(source: &mut S, start: u64) -> Result<Option<u64>, Error>
-    ensures place { DecodesBy result (S.known source.old) (λ b. xml_place start (front b)) }
+    ensures place { DecodesBy result (S.known source.old) (λ b. xml_place start (input_front b)) }
     ensures refused { IfErr result (λ error. IsIo (kind_of (error_kind_of error))) }
     ensures offset { IfErr result (λ error. HasPlace (offset_of error)) }
     ensures unchanged { S.known source.new ≡ S.known source.old }

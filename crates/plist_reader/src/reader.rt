@@ -1,7 +1,7 @@
 //! The reader of property lists of either format.
 
 ghost use Rattle.std.specs.Prelude.{◌≡◌, ◌<◌, IfSome, Some};
-ghost use Rattle.plist_reader.specs.Reader.{StateGives, all_steps, steps_of};
+ghost use Rattle.plist_reader.specs.Reader.{StateGives, all_steps, steps_in_state};
 
 use crate::bytes::SourceBytes;
 use crate::format::{Format, format_of};
@@ -27,7 +27,7 @@ pub(crate) enum State<R: Source> {
 // Chooses the reader, and asks it for its first item.
 fn begin<R: Source>(alloc: Global, mut source: R) -> (State<R>, Option<Result<OwnedEvent, Error>>)
     ensures gives { StateGives R.known R.failures (State.Unread source) result.1 result.0 }
-    ensures falls { IfSome result.1 (λ _. steps_of result.0 < all_steps) }
+    ensures falls { IfSome result.1 (λ _. steps_in_state result.0 < all_steps) }
 {
     match format_of(&mut source) {
         Ok(Format::Binary) => {
@@ -105,11 +105,11 @@ impl<R: Source> Iterator for Reader<R> {
     type Item = Result<OwnedEvent, Error>;
 
     ghost use Rattle.std.specs.Iterator.{at_most};
-    ghost use Rattle.plist_reader.specs.Reader.{Gives, steps_of};
+    ghost use Rattle.plist_reader.specs.Reader.{Gives, steps_in_state};
 
     ghost next_gives = { Gives R.known R.failures };
 
-    ghost remaining = { λ s. at_most (steps_of s.state) };
+    ghost remaining = { λ s. at_most (steps_in_state s.state) };
 
     fn next(&mut self) -> Option<Result<OwnedEvent, Error>> {
         match &mut self.state {

@@ -1,7 +1,7 @@
 -- Where equal collections of classes are one class, equal trees are.
 use Rattle.std.proofs.Common.{◌≡◌, ℕ, ◌+◌, List, ◌∷◌, refl, ap}
 use Rattle.plist_base.specs.Events.{PlainEvent}
-use Rattle.plist_base.specs.Trees.{String, Tree, Leaf, Array, Dictionary, Trees, NoTrees, TreeAnd, Members, NoMembers, MemberAnd}
+use Rattle.plist_base.specs.Trees.{Tree, Leaf, Array, Dictionary, Trees, NoTrees, TreeAnd, Members, NoMembers, MemberAnd}
 use Rattle.plist_binread.specs.Object as obj
 use Rattle.plist_binwrite.specs.Numberings.{refs, pairs, obj_of}
 use Rattle.plist_binwrite.specs.Standing.{size, Sits, SitsItems, SitsPairs}
@@ -15,26 +15,26 @@ module _ (es : List PlainEvent) (class : ℕ → ℕ)
     pub complete : (t : Tree) (p q : ℕ) → Sits es t p → Sits es t q → class p ≡ class q
     complete (Leaf x) p q s r = told (Leaf x) p q s r refl
     complete (Array ts) p q s r =
-        told (Array ts) p q s r (ap obj.Array
-        (complete_items ts (p + 1) (q + 1) (sits_items s) (sits_items r)))
+        told _ p q s r (ap obj.Array
+        (complete_items ts _ _ (sits_items s) (sits_items r)))
     complete (Dictionary ms) p q s r =
-        told (Dictionary ms) p q s r (ap obj.Dictionary
-        (complete_pairs ms (p + 1) (q + 1) (sits_pairs s) (sits_pairs r)))
+        told _ p q s r (ap obj.Dictionary
+        (complete_pairs ms _ _ (sits_pairs s) (sits_pairs r)))
 
     complete_items : (ts : Trees) (p q : ℕ) → SitsItems es ts p → SitsItems es ts q
         → refs class ts p ≡ refs class ts q
     complete_items NoTrees p q s r = refl
     complete_items (TreeAnd t ts) p q s r =
         let first = complete t p q (sits_item s) (sits_item r) in
-        let more = complete_items ts (p + size t) (q + size t) (sits_next s) (sits_next r) in
+        let more = complete_items ts (p + size t) _ (sits_next s) (sits_next r) in
         λ i. first i ∷ more i
 
     complete_pairs : (ms : Members) (p q : ℕ) → SitsPairs es ms p → SitsPairs es ms q
         → pairs class ms p ≡ pairs class ms q
     complete_pairs NoMembers p q s r = refl
     complete_pairs (MemberAnd k t ms) p q s r =
-        let key = told (Leaf (String k)) p q (sits_key s) (sits_key r) refl in
-        let first = complete t (p + 1) (q + 1) (sits_value s) (sits_value r) in
-        let more = complete_pairs ms (p + 1 + size t) (q + 1 + size t) (sits_next_pair s)
+        let key = told _ p q (sits_key s) (sits_key r) refl in
+        let first = complete t _ _ (sits_value s) (sits_value r) in
+        let more = complete_pairs ms _ _ (sits_next_pair s)
         (sits_next_pair r) in
         λ i. (key i, first i) ∷ more i

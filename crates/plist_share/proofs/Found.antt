@@ -10,14 +10,14 @@ use Rattle.plist_binread.specs.Object as obj
 use Rattle.plist_binread.specs.Object.{dictionary}
 use Rattle.plist_binwrite.specs.Classes.{AreClasses}
 use Rattle.plist_binwrite.specs.Forms.{keys_of, values_of}
-use Rattle.plist_binwrite.specs.Held.{item_places, key_places, value_places, keys_in, values_in, kind_of, event_at, num_of}
+use Rattle.plist_binwrite.specs.Held.{item_places, key_places, value_places, keys_in, values_in, held_kind, event_at, num_of}
 use Rattle.plist_binwrite.specs.Numberings.{pairs, obj_of}
-use Rattle.plist_binwrite.specs.Standing.{size, Sits}
+use Rattle.plist_binwrite.specs.Standing.{Sits}
 use Rattle.plist_binwrite.specs.declared.kinds.Kind.TheVariants as kind
 use Rattle.plist_binwrite.specs.inner.Scalars.{AreOwners, AreApart}
 use Rattle.plist_binwrite.proofs.Changes.{at_set}
 use Rattle.plist_binwrite.proofs.ClassObjects.{sound, the_items, the_pairs}
-use Rattle.plist_binwrite.proofs.OwnedApart.{class_owner, owner_class}
+use Rattle.plist_binwrite.proofs.Owned.{class_owner, owner_class}
 use Rattle.plist_binwrite.proofs.Placed.{refs_are, keys_are, values_are}
 use Rattle.plist_binwrite.proofs.Reading.{dictionary_is, length-keys_of, length-values_of}
 use Rattle.plist_binwrite.proofs.Skipping.{stands_single, starts_array, starts_dictionary, sits_in}
@@ -31,8 +31,8 @@ same_pairs : (class : ℕ → ℕ) (ms ns : Members) (p q : ℕ)
     ≡ map class (key_places ns q) ++ map class (value_places ns q)
     → obj.Dictionary (pairs class ms p) ≡ obj.Dictionary (pairs class ns q)
 same_pairs class ms ns p q e =
-    let a = pairs class ms p in
-    let b = pairs class ns q in
+    let a = pairs _ ms p in
+    let b = pairs _ ns q in
     let all : keys_of a ++ values_of a ≡ keys_of b ++ values_of b =
     (λ i. keys_are class ms p i ++ values_are class ms p i) ∙ e
     ∙ (λ i. sym (keys_are class ns q) i ++ sym (values_are class ns q) i) in
@@ -61,57 +61,48 @@ module _ {es : List PlainEvent} {scalar class : ℕ → ℕ} {count : ℕ} {keys
     (owners : AreOwners es scalar count) (have : HaveClasses class count scalar es keys from)
     (none : from ≡ 0) where
   all : (t : Tree) (p : ℕ) → Sits es t p → IsClass class count scalar keys t p (class p)
-  all t p s = have.behind t p (omega (arith, none)) s
-
-  of_scalar : (x : Scalar) (p : ℕ) → Sits es (Leaf x) p → class p < count
-  of_scalar x p s = omega (arith, owners.below p (sits_in s), all (Leaf x) p s)
+  all t p s = have.behind t p (omega arith) s
 
   one_scalar : (x y : Scalar) (p q : ℕ) → Sits es (Leaf x) p → Sits es (Leaf y) q
       → class p ≡ class q → x ≡ y
   one_scalar x y p q s r e =
-      let h = class_owner es scalar count owners (Leaf x) (Leaf y) p q s r
-      (sym (all (Leaf x) p s) ∙ e ∙ all (Leaf y) q r) in
+      let h = class_owner owners _ _ p q s r (sym (all _ p s) ∙ e ∙ all _ q r) in
       cc
 
   -- the place has this key's class
   abbrev At : Key → ℕ → Type 0
   At k p = (i : ℕ) × (class p ≡ count + i) × (slice_get keys i ≡ Some k)
 
-  no_scalar : {A : Type 0} (x : Scalar) (k : Key) (p q : ℕ) → Sits es (Leaf x) p → At k q
-      → class p ≡ class q → A
-  no_scalar x k p q s h e = absurd (omega (arith, h.1, of_scalar x p s, e))
-
   -- two collections of one class have one key
   one_key : (k l : Key) (p q : ℕ) → At k p → At l q → class p ≡ class q → k ≡ l
   one_key k l p q a b e =
-      let same : a.0 ≡ b.0 = omega (arith, a.1, b.1, e) in
-      same_Some k l (sym a.2 ∙ ap (slice_get keys) same ∙ b.2)
+      let same : a.0 ≡ b.0 = omega arith in
+      same_Some k l (cc)
 
   apart_kinds : {A : Type 0} (a b : List ℕ) (p q : ℕ) → At (false, a) p → At (true, b) q
       → class p ≡ class q → A
   apart_kinds a b p q s r e =
-      let no : false ≡ true = ap (λ (k : Key). k.0) (one_key _ _ p q s r e) in cc
+      let no = ap (λ (k : Key). k.0) (one_key _ _ p q s r e) in cc
 
   -- one class, one object
   pub one_object : (t u : Tree) (p q : ℕ) → Sits es t p → Sits es u q → class p ≡ class q
       → obj_of class t p ≡ obj_of class u q
   one_object (Leaf x) (Leaf y) p q s r e = ap obj.Scalar (one_scalar x y p q s r e)
-  one_object (Leaf x) (Array us) p q s r e = no_scalar x _ p q s (all (Array us) q r) e
-  one_object (Leaf x) (Dictionary ns) p q s r e = no_scalar x _ p q s (all (Dictionary ns) q r) e
-  one_object (Array ts) (Leaf y) p q s r e = no_scalar y _ q p r (all (Array ts) p s) (sym e)
   one_object (Array ts) (Array us) p q s r e =
       let k = one_key _ _ p q (all (Array ts) p s) (all (Array us) q r) e in
       ap obj.Array (refs_are class ts (p + 1) ∙ ap (λ (k : Key). k.1) k
       ∙ sym (refs_are class us (q + 1)))
   one_object (Array ts) (Dictionary ns) p q s r e =
-      apart_kinds _ _ p q (all (Array ts) p s) (all (Dictionary ns) q r) e
-  one_object (Dictionary ms) (Leaf y) p q s r e =
-      no_scalar y _ q p r (all (Dictionary ms) p s) (sym e)
+      apart_kinds _ _ p q (all (Array ts) p s) (all _ q r) e
   one_object (Dictionary ms) (Array us) p q s r e =
-      apart_kinds _ _ q p (all (Array us) q r) (all (Dictionary ms) p s) (sym e)
+      apart_kinds _ _ q p (all (Array us) q r) (all _ p s) (sym e)
   one_object (Dictionary ms) (Dictionary ns) p q s r e =
       let k = one_key _ _ p q (all (Dictionary ms) p s) (all (Dictionary ns) q r) e in
-      same_pairs class ms ns (p + 1) (q + 1) (ap (λ (k : Key). k.1) k)
+      same_pairs _ ms ns _ _ (ap (λ (k : Key). k.1) k)
+  one_object t u p q s r e =
+      let a = all t p s in
+      let b = all u q r in
+      absurd (omega (arith, owners.below p (sits_in s), owners.below q (sits_in r)))
 
   -- so they are classes
   pub found_classes : AreClasses es class
@@ -120,27 +111,26 @@ module _ {es : List PlainEvent} {scalar class : ℕ → ℕ} {count : ℕ} {keys
   module _ (apart : AreApart keys) where
     one_class : (p q : ℕ) (k l : Key) → k ≡ l → At k p → At l q → class p ≡ class q
     one_class p q k l e a b =
-        let same : a.0 ≡ b.0 = apart a.0 b.0 k a.2 (b.2 ∙ ap Some (sym e)) in
-        omega (arith, same, a.1, b.1)
+        let same = apart a.0 b.0 k a.2 (cc) in
+        omega arith
 
     told : (t : Tree) (p q : ℕ) → Sits es t p → Sits es t q → obj_of class t p ≡ obj_of class t q
         → class p ≡ class q
     told (Leaf x) p q s r e =
-        all (Leaf x) p s ∙ owner_class es scalar count owners (Leaf x) (Leaf x) p q s r refl
-        ∙ sym (all (Leaf x) q r)
+        all (Leaf x) p s ∙ owner_class owners _ _ p q s r refl ∙ sym (all _ q r)
     told (Array ts) p q s r e =
         let k = sym (refs_are class ts (p + 1)) ∙ the_items _ _ e ∙ refs_are class ts (q + 1) in
         one_class p q _ _ (ap (λ l. (false, l)) k) (all (Array ts) p s) (all (Array ts) q r)
     told (Dictionary ms) p q s r e =
-        let k = same_halves class class ms (p + 1) (q + 1) (the_pairs _ _ e) in
+        let k = same_halves _ _ ms _ _ (the_pairs _ _ e) in
         one_class p q _ _ (ap (λ l. (true, l)) k) (all (Dictionary ms) p s)
         (all (Dictionary ms) q r)
 
     -- so one class is one tree
     pub told_trees : TellTrees es class
     told_trees t u p q s r = (
-      sound es class found_classes t u p q s r,
-      λ e. complete es class told t p q s (subst (λ v. Sits es v q) (sym e) r),
+      sound found_classes t u p q s r,
+      λ e. complete es class told t p q s (rw e r),
     )
 
 -- ---- one more place
@@ -150,14 +140,14 @@ module _ (class after : ℕ → ℕ) (lo : ℕ) (agree : (q : ℕ) → lo ≤ q 
       → map after (item_places ts q) ≡ map class (item_places ts q)
   items_agree NoTrees q h = refl
   items_agree (TreeAnd t ts) q h =
-      let a = agree q h in let r = items_agree ts (q + size t) (omega arith) in λ i. a i ∷ r i
+      let a = agree q h in let r = items_agree ts _ (omega arith) in λ i. a i ∷ r i
 
   pairs_agree : (ms : Members) (q : ℕ) → lo ≤ q → pairs after ms q ≡ pairs class ms q
   pairs_agree NoMembers q h = refl
   pairs_agree (MemberAnd k t ms) q h =
       let a = agree q h in
-      let b = agree (q + 1) (omega arith) in
-      let r = pairs_agree ms (q + 1 + size t) (omega arith) in
+      let b = agree _ (omega arith) in
+      let r = pairs_agree ms _ (omega arith) in
       λ i. (a i, b i) ∷ r i
 
   children_agree : (t : Tree) (p : ℕ) → lo ≤ p + 1
@@ -166,7 +156,7 @@ module _ (class after : ℕ → ℕ) (lo : ℕ) (agree : (q : ℕ) → lo ≤ q 
   children_agree (Leaf x) p h = refl
   children_agree (Array ts) p h = items_agree ts (p + 1) h
   children_agree (Dictionary ms) p h =
-      same_halves after class ms (p + 1) (p + 1) (pairs_agree ms (p + 1) h)
+      same_halves _ _ ms _ _ (pairs_agree ms (p + 1) h)
 
   -- a class stays one where the keys and the classes behind it stay
   module _ (scalar : ℕ → ℕ) (count : ℕ) (keys new : List Key)
@@ -176,8 +166,7 @@ module _ (class after : ℕ → ℕ) (lo : ℕ) (agree : (q : ℕ) → lo ≤ q 
     indexed_stays b t p c h k = (
       k.0,
       k.1,
-      kept k.0 (slice_get_within keys k.0 _ k.2) ∙ k.2
-          ∙ ap (λ l. Some (b, l)) (sym (children_agree t p h)),
+      cc (kept k.0 (slice_get_within keys k.0 _ k.2), children_agree t p h),
     )
 
     class_stays : (t : Tree) (p c : ℕ) → lo ≤ p + 1 → IsClass class count scalar keys t p c
@@ -188,23 +177,23 @@ module _ (class after : ℕ → ℕ) (lo : ℕ) (agree : (q : ℕ) → lo ≤ q 
 
 module _ (es : List PlainEvent) (scalar class : ℕ → ℕ) (count : ℕ) (keys : List Key) where
   -- where a collection begins, the class is one of a collection
-  by_collection : (t : Tree) (p c : ℕ) → Sits es t p → kind_of (event_at es p) ≢ kind.Scalar
-      → IsIndexed class count keys (is_dictionary (kind_of (event_at es p))) t p c
+  by_collection : (t : Tree) (p c : ℕ) → Sits es t p → held_kind (event_at es p) ≢ kind.Scalar
+      → IsIndexed class count keys (is_dictionary (held_kind (event_at es p))) t p c
       → IsClass class count scalar keys t p c
-  by_collection (Leaf x) p c s k h = absurd (k (ap kind_of (stands_single s)))
+  by_collection (Leaf x) p c s k h = absurd (k (ap held_kind (stands_single s)))
   by_collection (Array ts) p c s k h =
-      subst (λ e. IsIndexed class count keys (is_dictionary (kind_of e)) (Array ts) p c)
+      subst (λ e. IsIndexed class count keys (is_dictionary (held_kind e)) (Array ts) p c)
       (starts_array s) h
   by_collection (Dictionary ms) p c s k h =
-      subst (λ e. IsIndexed class count keys (is_dictionary (kind_of e)) (Dictionary ms) p c)
+      subst (λ e. IsIndexed class count keys (is_dictionary (held_kind e)) (Dictionary ms) p c)
       (starts_dictionary s) h
 
-  by_scalar : (t : Tree) (p c : ℕ) → Sits es t p → kind_of (event_at es p) ≢ kind.Array
-      → kind_of (event_at es p) ≢ kind.Dictionary → c ≡ scalar p
+  by_scalar : (t : Tree) (p c : ℕ) → Sits es t p → held_kind (event_at es p) ≢ kind.Array
+      → held_kind (event_at es p) ≢ kind.Dictionary → c ≡ scalar p
       → IsClass class count scalar keys t p c
   by_scalar (Leaf x) p c s a d h = h
-  by_scalar (Array ts) p c s a d h = absurd (a (ap kind_of (starts_array s)))
-  by_scalar (Dictionary ms) p c s a d h = absurd (d (ap kind_of (starts_dictionary s)))
+  by_scalar (Array ts) p c s a d h = absurd (a (ap held_kind (starts_array s)))
+  by_scalar (Dictionary ms) p c s a d h = absurd (d (ap held_kind (starts_dictionary s)))
 
 -- where a collection's class was written
 module _ (classes : List ℕ) (p c : ℕ) where
@@ -212,14 +201,14 @@ module _ (classes : List ℕ) (p c : ℕ) where
   after = num_of (set classes p c)
 
   other : (q : ℕ) → q ≢ p → after q ≡ num_of classes q
-  other q h = get_or-set_other classes p q c 0 h
+  other q h = get_or-set_other _ p q c 0 h
 
   pub collection_written : {es : List PlainEvent} {scalar : ℕ → ℕ} {count : ℕ} {keys new : List Key}
       → HaveClasses (num_of classes) count scalar es keys (p + 1)
       → Extends keys new → p < length classes → c < count + length new
-      → kind_of (event_at es p) ≢ kind.Scalar
+      → held_kind (event_at es p) ≢ kind.Scalar
       → ((t : Tree) → Sits es t p
-      → IsIndexed (num_of classes) count new (is_dictionary (kind_of (event_at es p))) t p c)
+      → IsIndexed (num_of classes) count new (is_dictionary (held_kind (event_at es p))) t p c)
       → HaveClasses after count scalar es new p
   collection_written {es} {scalar} {count} {keys} {new} old more lt low k this = record {
     behind = λ t q le s. at_set classes p c 0 q (IsClass after count scalar new t q) lt
@@ -243,7 +232,7 @@ module _ (classes : List ℕ) (p c : ℕ) where
 
 -- where no collection begins, the classes are there
 pub none_written : {es : List PlainEvent} {scalar class : ℕ → ℕ} {count : ℕ} {keys : List Key}
-    (p : ℕ) → kind_of (event_at es p) ≢ kind.Array → kind_of (event_at es p) ≢ kind.Dictionary
+    (p : ℕ) → held_kind (event_at es p) ≢ kind.Array → held_kind (event_at es p) ≢ kind.Dictionary
     → HaveClasses class count scalar es keys (p + 1) → HaveClasses class count scalar es keys p
 none_written {es} {scalar} {class} {count} {keys} p a d old = record {
   behind = λ t q le s. elim (eqb_tells q p) [

@@ -11,7 +11,7 @@ use Rattle.plist_binread.specs.Unfolding.{table_of, unfolding_of, items_with, it
 use Rattle.plist_binwrite.proofs.Least.{no_fault, all_items}
 use Rattle.plist_binwrite.proofs.Totals.{unique_distinct, pigeons}
 use Rattle.plist_binwrite.proofs.Uniques.{all_unique}
-use Rattle.plist_share.specs.Distinct.{tree_eq, subtrees, distinct_subtrees, HasAtLeast, IsLeast}
+use Rattle.plist_share.specs.Distinct.{tree_eq, subtrees, distinct_subtrees, HasAtLeast, IsLeastOfAll}
 use Rattle.plist_share.proofs.Meaning.{Means, Numbered, one_tree, all_numbered}
 use Rattle.plist_share.proofs.Parsing.{unfolding_parses}
 use Rattle.plist_share.proofs.Telling.{tree_tells}
@@ -37,6 +37,6 @@ least_with file t (Ok head) h p =
     )
 
 -- no file with a tree's items has fewer objects than the tree has different subtrees
-pub least : (tree : Tree) → IsLeast tree
+pub least : (tree : Tree) → IsLeastOfAll tree
 unfolding items_of_file
 least tree file p = least_with file tree (head_of file) refl p

@@ -1,8 +1,8 @@
 -- The one tree that a number stands for in a table of objects.
-use Rattle.std.proofs.Common.{◌≡◌, ℕ, ◌<◌, List, [], ◌∷◌, length, Some, refl, sym, ap, ◌∙◌, subst}
+use Rattle.std.proofs.Common.{◌≡◌, ℕ, ◌<◌, List, [], ◌∷◌, length, Some, refl, ap}
 use Rattle.std.specs.Prelude.{slice_get, ⊤}
 use Rattle.std.specs.List.{AllByRecursion}
-use Rattle.std.proofs.lemmas.Option.{slice_get_within, same_Some}
+use Rattle.std.proofs.lemmas.Option.{slice_get_within}
 use Rattle.plist_base.specs.Trees as trees
 use Rattle.plist_base.specs.Trees.{Tree, Leaf, Array, Dictionary, Trees, NoTrees, TreeAnd, Members, NoMembers, MemberAnd}
 use Rattle.plist_binread.specs.Object as obj
@@ -25,7 +25,7 @@ module _ (table : List Entry) where
     Means (Leaf x) i = Stands i (obj.Scalar x)
     Means (Array ts) i = (refs : List ℕ) × Stands i (obj.Array refs) × MeansItems ts refs
     Means (Dictionary ms) i =
-        (pairs : List (ℕ × ℕ)) × Stands i (obj.Dictionary pairs) × MeansPairs ms pairs
+        (pairs : List _) × Stands i (obj.Dictionary pairs) × MeansPairs ms pairs
 
     pub MeansItems : Trees → List ℕ → Type 0
     MeansItems NoTrees [] = ⊤
@@ -42,8 +42,7 @@ module _ (table : List Entry) where
 
   pub one_object : {i : ℕ} {a b : Object} → Stands i a → Stands i b → a ≡ b
   one_object s t =
-      sym s.is ∙ ap (λ (e : Entry). e.object) (same_Some s.entry t.entry (sym s.found ∙ t.found))
-      ∙ t.is
+      cc
 
   mutual
     -- no number stands for two trees
@@ -54,13 +53,13 @@ module _ (table : List Entry) where
     one_tree (Array ts) (Leaf y) i m n = let p = one_object m.1 n in cc
     one_tree (Array ts) (Array us) i m n =
         ap Array (one_items ts us m.0 m.2
-        (subst (MeansItems us) (the_items _ _ (one_object n.1 m.1)) n.2))
+        (rw (← (the_items _ _ (one_object n.1 m.1))) n.2))
     one_tree (Array ts) (Dictionary ns) i m n = let p = one_object m.1 n.1 in cc
     one_tree (Dictionary ms) (Leaf y) i m n = let p = one_object m.1 n in cc
     one_tree (Dictionary ms) (Array us) i m n = let p = one_object m.1 n.1 in cc
     one_tree (Dictionary ms) (Dictionary ns) i m n =
         ap Dictionary (one_pairs ms ns m.0 m.2
-        (subst (MeansPairs ns) (the_pairs _ _ (one_object n.1 m.1)) n.2))
+        (rw (← (the_pairs _ _ (one_object n.1 m.1))) n.2))
 
     one_items : (ts us : Trees) (refs : List ℕ) → MeansItems ts refs → MeansItems us refs → ts ≡ us
     one_items NoTrees NoTrees refs m n = refl
@@ -89,7 +88,7 @@ module _ (table : List Entry) where
   Numbered tree = (number : ℕ) × (number < length table) × Means tree number
 
   stands_below : (i : ℕ) (o : Object) → Stands i o → i < length table
-  stands_below i o s = slice_get_within table i s.entry s.found
+  stands_below i o s = slice_get_within _ i s.entry s.found
 
   means_below : (t : Tree) (i : ℕ) → Means t i → i < length table
   means_below (Leaf x) i m = stands_below i _ m

@@ -1,11 +1,10 @@
 -- An object whose items are a tree's events stands for the tree.
-use Rattle.std.proofs.Common.{◌≡◌, ℕ, zero, suc, Bool, true, false, nat_eq, List, [], ◌∷◌, ◌++◌, length, map, Option, Some, None, Ok, Err, refl, sym, ap, ◌∙◌, append_assoc}
+use Rattle.std.proofs.Common.{◌≡◌, ℕ, zero, suc, ◌+◌, Bool, true, false, nat_eq, List, [], ◌∷◌, ◌++◌, length, map, Option, Some, None, Ok, Err, refl, ap, ◌∙◌, append_assoc, arith}
 use Rattle.std.specs.Prelude.{slice_get}
 use Rattle.std.specs.List.{list_any, flat_map}
-use Rattle.std.proofs.Common.{◌+◌, ◌≤◌, arith}
 use Rattle.std.proofs.lemmas.Option.{slice_get_within}
 use Rattle.plist_base.specs.inner.Paths.{IsPath}
-use Rattle.plist_base.proofs.Paths.{path_push, path_room}
+use Rattle.plist_base.proofs.Paths.{path_push, path_rises}
 use Rattle.plist_base.specs.Faults.{Fault}
 use Rattle.plist_base.specs.Events.{PlainEvent, EndCollection, Single, Item}
 use Rattle.plist_base.specs.Trees as trees
@@ -51,18 +50,11 @@ module _ (table : List Entry) (child : ℕ → List Item)
       ≡ map Ok (bracketing_of_items ts ++ EndCollection ∷ es) → MeansItems table ts refs
       × (xs ≡ map Ok es)
   items_parse [] NoTrees es xs p = (tt, tail_is _ _ xs (map Ok es) p)
-  items_parse [] (TreeAnd t ts) es xs p =
-      absurd (not_end t (bracketing_of_items ts ++ EndCollection ∷ es) xs
-      (p ∙ ap (map Ok) (append_assoc (bracketing t) (bracketing_of_items ts)
-      (EndCollection ∷ es))))
-  items_parse (c ∷ cs) NoTrees es xs p =
-      absurd ((good c).1 _ (map Ok es)
-      (sym (append_assoc (child c) (flat_map child cs) (Ok EndCollection ∷ xs)) ∙ p))
+  items_parse [] (TreeAnd t ts) es xs p = absurd (not_end t _ xs (simp append_assoc at p))
+  items_parse (c ∷ cs) NoTrees es xs p = absurd ((good c).1 _ _ (simp append_assoc at p))
   items_parse (c ∷ cs) (TreeAnd t ts) es xs p =
-      let first = (good c).0 t (bracketing_of_items ts ++ EndCollection ∷ es) _
-      (sym (append_assoc (child c) (flat_map child cs) (Ok EndCollection ∷ xs)) ∙ p
-      ∙ ap (map Ok) (append_assoc (bracketing t) (bracketing_of_items ts)
-      (EndCollection ∷ es))) in
+      let first = (good c).0 t _ _
+      (simp append_assoc at p) in
       let more = items_parse cs ts es xs first.1 in
       ((first.0, more.0), more.1)
 
@@ -73,27 +65,14 @@ module _ (table : List Entry) (child : ℕ → List Item)
   pairs_parse [] NoMembers es xs p = (tt, tail_is _ _ xs (map Ok es) p)
   pairs_parse [] (MemberAnd k t ms) es xs p = cc
   pairs_parse (q ∷ qs) NoMembers es xs p =
-      absurd ((good q.0).1 _ (map Ok es) (sym (append_assoc (child q.0)
-      (child q.1 ++ flat_map child (children_of qs)) (Ok EndCollection ∷ xs)) ∙ p))
+      absurd ((good q.0).1 _ (map Ok es) (simp append_assoc at p))
   pairs_parse (q ∷ qs) (MemberAnd k t ms) es xs p =
       let key = (good q.0).0 (Leaf (trees.String k))
-      ((bracketing t ++ bracketing_of_pairs ms) ++ EndCollection ∷ es) _
-      (sym (append_assoc (child q.0) (child q.1 ++ flat_map child (children_of qs))
-      (Ok EndCollection ∷ xs)) ∙ p) in
-      let first = (good q.1).0 t (bracketing_of_pairs ms ++ EndCollection ∷ es) _
-      (sym (append_assoc (child q.1) (flat_map child (children_of qs))
-      (Ok EndCollection ∷ xs)) ∙ key.1
-      ∙ ap (map Ok) (append_assoc (bracketing t) (bracketing_of_pairs ms)
-      (EndCollection ∷ es))) in
+      (bracketing t ++ (bracketing_of_pairs ms ++ EndCollection ∷ es)) _
+      (simp append_assoc at p) in
+      let first = (good q.1).0 t (bracketing_of_pairs ms ++ EndCollection ∷ es) _ key.1 in
       let more = pairs_parse qs ms es xs first.1 in
       ((key.0, first.0, more.0), more.1)
-
-  closed : (xs : List Item) (ys : List PlainEvent) (zs : List Item) (es : List PlainEvent)
-      → (xs ++ Ok EndCollection ∷ []) ++ zs ≡ map Ok ((ys ++ EndCollection ∷ []) ++ es)
-      → xs ++ Ok EndCollection ∷ zs ≡ map Ok (ys ++ EndCollection ∷ es)
-  closed xs ys zs es p =
-      sym (append_assoc xs (Ok EndCollection ∷ []) zs) ∙ p
-      ∙ ap (map Ok) (append_assoc ys (EndCollection ∷ []) es)
 
   -- an object by its children
   object_parses : (i place : ℕ) (o : Object) → Stands table i o
@@ -109,13 +88,10 @@ module _ (table : List Entry) (child : ℕ → List Item)
     tail_is _ _ xs (map Ok es) p,
   )
   object_parses i place (obj.Array refs) is (Array ts) es xs p =
-      let inner = items_parse refs ts es xs
-      (closed (flat_map child refs) (bracketing_of_items ts) xs es (tail_is _ _ _ _ p)) in
+      let inner = items_parse refs ts es xs (simp append_assoc at (tail_is _ _ _ _ p)) in
       ((refs, is, inner.0), inner.1)
   object_parses i place (obj.Dictionary pairs) is (Dictionary ms) es xs p =
-      let inner = pairs_parse pairs ms es xs
-      (closed (flat_map child (children_of pairs)) (bracketing_of_pairs ms) xs es
-      (tail_is _ _ _ _ p)) in
+      let inner = pairs_parse pairs ms es xs (simp append_assoc at (tail_is _ _ _ _ p)) in
       ((pairs, is, inner.0), inner.1)
   object_parses i place (obj.Faulty kind) is t es xs p = absurd (not_fault t es _ xs p)
   object_parses i place o is t es xs p = cc
@@ -140,15 +116,6 @@ module _ (table : List Entry) where
       ((λ t es xs p. absurd (not_fault t es _ xs p)), λ xs ys p. cc)
   found_parses i at (Some entry) false items f good = good entry f refl
 
-  -- where each object is open, none is found that isn't
-  all_open : (path : List ℕ) (i : ℕ) (entry : Entry) → IsPath (length table) path
-      → length path ≡ length table → slice_get table i ≡ Some entry
-      → list_any (nat_eq i) path ≡ false → ⊥
-  all_open path i entry o full f new =
-      let fits : length (i ∷ path) ≤ length table = path_room
-      (path_push i o (slice_get_within table i entry f) new) in
-      omega arith
-
   -- where an object's items are a tree's events, its number stands for the tree
   pub unfolding_parses : (room : ℕ) (path : List ℕ) (at : ℕ) → IsPath (length table) path
       → room + length path ≡ length table
@@ -156,7 +123,8 @@ module _ (table : List Entry) where
   unfolding unfolding_of
   unfolding_parses zero path at o full c =
       found_parses c at (slice_get table c) (list_any (nat_eq c) path) (λ entry. []) refl
-      (λ entry f new. absurd (all_open path c entry o (omega arith) f new))
+      (λ entry f new. let fits = path_rises c o (slice_get_within table c entry f) new in
+      absurd (omega arith))
   unfolding_parses (suc room) path at o full c =
       found_parses c at (slice_get table c) (list_any (nat_eq c) path) _ refl (λ entry f new.
       let child = λ (k : ℕ). unfolding_of table room (c ∷ path) entry.place k in

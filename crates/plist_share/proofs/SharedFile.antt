@@ -1,5 +1,5 @@
 -- Sending a file by classes of trees sends the shared file.
-use Rattle.std.proofs.Common.{◌≡◌, ℕ, List, Option, Err, refl, sym, subst}
+use Rattle.std.proofs.Common.{◌≡◌, ℕ, List, Option, Err, refl}
 use Rattle.plist_base.specs.Bracketing.{AreAlike, bracketing}
 use Rattle.plist_base.specs.Faults.{Fault, OutOfMemory, fault_nowhere}
 use Rattle.plist_base.specs.Trees.{Tree}
@@ -37,4 +37,4 @@ pub sends_nothing : {W : Type 0} (contents : W → Option (List ℕ)) (events : 
     (fault : Fault) (old new : W) → fault ≡ fault_nowhere OutOfMemory → new ≡ old
     → Sends contents (plain_events events) (Err fault) old new
 sends_nothing contents events fault old new is same =
-    subst (λ f. Sends contents (plain_events events) (Err f) old new) (sym is) (refl, same)
+    rw is (refl, same)

@@ -6,7 +6,7 @@ use Rattle.std.proofs.lemmas.List.{length-map, map-append}
 use Rattle.plist_base.specs.Events.{PlainEvent}
 use Rattle.plist_base.specs.Trees.{Tree, Leaf, Array, Dictionary, Trees, NoTrees, TreeAnd, Members, NoMembers, MemberAnd, String}
 use Rattle.plist_binwrite.specs.Classes.{same_class, kept, count_by, objects_by, size_by, IsFileBy}
-use Rattle.plist_binwrite.specs.Sizes.{total, object_size, size_with}
+use Rattle.plist_binwrite.specs.Sizes.{total, size_with}
 use Rattle.plist_binwrite.specs.Standing.{size, Sits, met, met_in_items, met_in_pairs}
 use Rattle.plist_binwrite.specs.Written.{reference_width}
 use Rattle.plist_binwrite.proofs.Inside.{Stands, met_stand}
@@ -25,30 +25,30 @@ tree_met a = a.1
 mutual
   trees_met : (t : Tree) (p : ℕ) → map tree_met (met t p) ≡ subtrees t
   trees_met (Leaf x) p = refl
-  trees_met (Array ts) p = ap (λ l. Array ts ∷ l) (trees_met_in_items ts (p + 1))
-  trees_met (Dictionary ms) p = ap (λ l. Dictionary ms ∷ l) (trees_met_in_pairs ms (p + 1))
+  trees_met (Array ts) p = ap (λ l. Array ts ∷ l) (trees_met_in_items ts _)
+  trees_met (Dictionary ms) p = ap (λ l. Dictionary ms ∷ l) (trees_met_in_pairs ms _)
 
   trees_met_in_items : (ts : Trees) (p : ℕ)
       → map tree_met (met_in_items ts p) ≡ subtrees_of_items ts
   trees_met_in_items NoTrees p = refl
   trees_met_in_items (TreeAnd t ts) p =
       let first = trees_met t p in
-      let more = trees_met_in_items ts (p + size t) in
-      map-append tree_met (met t p) (met_in_items ts (p + size t)) ∙ (λ i. first i ++ more i)
+      let more = trees_met_in_items ts _ in
+      map-append tree_met _ _ ∙ (λ i. first i ++ more i)
 
   trees_met_in_pairs : (ms : Members) (p : ℕ)
       → map tree_met (met_in_pairs ms p) ≡ subtrees_of_pairs ms
   trees_met_in_pairs NoMembers p = refl
   trees_met_in_pairs (MemberAnd k t ms) p =
-      let first = trees_met t (p + 1) in
-      let more = trees_met_in_pairs ms (p + 1 + size t) in
-      ap (λ l. Leaf (String k) ∷ l) (map-append tree_met (met t (p + 1))
-      (met_in_pairs ms (p + 1 + size t)) ∙ (λ i. first i ++ more i))
+      let first = trees_met t _ in
+      let more = trees_met_in_pairs ms _ in
+      ap (λ l. Leaf (String k) ∷ l) (map-append _ _
+      _ ∙ (λ i. first i ++ more i))
 
 total_trees : (weight : Tree → ℕ) (xs : List (ℕ × Tree))
     → total (λ a. weight a.1) xs ≡ total weight (map tree_met xs)
 total_trees weight [] = refl
-total_trees weight (x ∷ xs) = ap (λ n. weight x.1 + n) (total_trees weight xs)
+total_trees weight (x ∷ xs) = ap (λ n. weight x.1 + n) (total_trees _ xs)
 
 module _ (es : List PlainEvent) (class : ℕ → ℕ) (told : TellTrees es class) where
   told_alike : (a b : ℕ × Tree) → Sits es a.1 a.0 → Sits es b.1 b.0
@@ -71,7 +71,7 @@ module _ (es : List PlainEvent) (class : ℕ → ℕ) (told : TellTrees es class
 
     objects_are : (width : ℕ) → objects_by class width t ≡ shared_objects_size width t
     objects_are width =
-        total_trees (object_size width) (kept class t) ∙ ap (total (object_size width)) trees_kept
+        total_trees _ _ ∙ ap (total _) trees_kept
 
     pub size_is : size_by class t ≡ shared_file_size t
     size_is =

@@ -1,6 +1,5 @@
 -- The test of trees tells.
 use Rattle.std.proofs.Common.{◌≡◌, inl, inr, Bool, true, false, ◌&&◌, refl, ap, ◌∙◌}
-use Rattle.std.proofs.lemmas.Bool.{and_left}
 use Rattle.std.specs.Str.{bytes_eq}
 use Rattle.plist_base.specs.Trees.{Tree, Leaf, Array, Dictionary, Trees, NoTrees, TreeAnd, Members, NoMembers, MemberAnd}
 use Rattle.plist_binwrite.specs.Counts.{scalar_eq}
@@ -18,7 +17,7 @@ tells_both one other test make a x b y is back (inl p) (inl q) =
 tells_both one other test make a x b y is back (inl p) (inr q) =
     inr (is ∙ (λ i. p.0 i && q.0 i), λ e. q.1 (back e).1)
 tells_both one other test make a x b y is back (inr p) told =
-    inr (is ∙ and_left _ _ p.0, λ e. p.1 (back e).0)
+    inr (cc, λ e. p.1 (back e).0)
 
 abbrev rest_eq : Tree × Members → Tree × Members → Bool
 rest_eq p q = tree_eq p.0 q.0 && members_eq p.1 q.1

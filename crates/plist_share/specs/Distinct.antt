@@ -54,7 +54,7 @@ abbrev pub HasAtLeast : (file : List ℕ) → ℕ → Type 0
 HasAtLeast file count = (head : Head) × (head_of file ≡ Ok head) × (count ≤ length head.places)
 
 -- no file with these items has fewer objects than the tree has different subtrees
-abbrev pub IsLeast : Tree → Type 0
-IsLeast tree =
+abbrev pub IsLeastOfAll : Tree → Type 0
+IsLeastOfAll tree =
     (file : List ℕ) → items_of_file file ≡ map Ok (bracketing tree)
     → HasAtLeast file (distinct_subtrees tree)

@@ -4,13 +4,13 @@ use Rattle.std.specs.Prelude.{◌≡◌, ℕ, ◌^◌, ◌<◌, List, length}
 use Rattle.plist_base.specs.Trees.{Tree}
 use Rattle.plist_binwrite.specs.Counts.{HasObjects}
 use Rattle.plist_binwrite.specs.Written.{IsWrittenAs}
-use Rattle.plist_share.specs.Distinct.{distinct_subtrees, IsLeast}
+use Rattle.plist_share.specs.Distinct.{distinct_subtrees, IsLeastOfAll}
 use Rattle.plist_share.specs.SharedSizes.{shared_file_size}
 
 -- what is sent of a tree
 pub record IsSharedFileOf (tree : Tree) (file : List ℕ) : Type 0 where
   pub written : IsWrittenAs tree file
   pub count : HasObjects file (distinct_subtrees tree)
-  pub least : IsLeast tree
+  pub least : IsLeastOfAll tree
   pub size : length file ≡ shared_file_size tree
   pub fits : shared_file_size tree < 2 ^ 64

@@ -3,7 +3,7 @@
 ghost use Rattle.std.specs.Prelude.{◌≡◌, ◌+◌, ◌<◌, length, IfOk, OnOk};
 ghost use Rattle.plist_base.specs.Outcomes.{OnlyMemory};
 ghost use Rattle.plist_binwrite.specs.Classes.{AreClasses};
-ghost use Rattle.plist_binwrite.specs.Held.{plain_events, AllBelow, num_of, held_at, kind_of};
+ghost use Rattle.plist_binwrite.specs.Held.{plain_events, AllBelow, num_of, held_at, held_kind};
 ghost use Rattle.plist_binwrite.specs.inner.Scalars.{AreApart};
 ghost use Rattle.plist_share.specs.inner.Keys.{TellTrees, Extends, keys_seen, AddsClasses, AreClassesWithin, HaveFrom, IsClassAt, IsKeyAt, is_dictionary};
 
@@ -79,7 +79,7 @@ fn classes_within(
 // Whether a dictionary begins here.
 fn begins_dictionary(events: &Held<'_>, place: usize) -> bool
     requires { place < length (plain_events events.now) }
-    ensures { result ≡ is_dictionary (kind_of (held_at events.now place)) }
+    ensures { result ≡ is_dictionary (held_kind (held_at events.now place)) }
 {
     match events.kind_at(place) {
         Kind::Dictionary => true,

@@ -1,8 +1,4 @@
-pub mod Dates
-pub mod Digits
 pub mod HeldBack
-pub mod Steps
+pub mod Printed
 pub mod Streaming
-pub mod Plain
-pub mod ValueLines
 pub mod Trees

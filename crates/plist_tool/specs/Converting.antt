@@ -16,7 +16,7 @@ use Rattle.plist_binwrite.specs.Pendings.{CanTake, events_held}
 use Rattle.plist_reader.specs.declared.format.Format.TheVariants.{Binary}
 use Rattle.plist_reader.specs.Formats.{format_of}
 use Rattle.plist_reader.specs.Reader.{items_of_input}
-use Rattle.plist.specs.Inputs.{AreOf, Answers}
+use Rattle.plist.specs.Inputs.{AreOf, IsReadIfKnown}
 use Rattle.plist.specs.LastWins.{last_wins}
 use Rattle.plist.specs.Sent.{SendsTree}
 
@@ -27,12 +27,12 @@ IsDirect bytes =
     × ((tree : Tree) × AreOf (items_of_input bytes) tree × (last_wins tree ≡ tree))
 
 -- the items of known bytes
-abbrev pub items_of : (known : Option (List ℕ)) → Option (List Item)
-items_of known = option_map items_of_input known
+abbrev pub items_of_known : (known : Option (List ℕ)) → Option (List Item)
+items_of_known known = option_map items_of_input known
 
 -- known bytes are read so, by the rules of values
 abbrev pub IsReadAs : (known : Option (List ℕ)) → Result Tree Fault → Type 0
-IsReadAs known answer = Answers (items_of known) answer
+IsReadAs known answer = IsReadIfKnown (items_of_known known) answer
 
 -- nothing went out, and known bytes are no such file
 abbrev pub LeavesToValue : {W : Type 0} → (known : Option (List ℕ)) → (old new : W) → Type 0
@@ -81,7 +81,7 @@ FindsTree items answer =
 
 -- the only refusal is what a value of the items is refused for
 abbrev pub IsRefusedFor : {A : Type 0} → (items : Option (List Item)) → Result A Error → Type 0
-IsRefusedFor items answer = IfErr answer (λ error. Answers items (Err (fault_of error)))
+IsRefusedFor items answer = IfErr answer (λ error. IsReadIfKnown items (Err (fault_of error)))
 
 -- an event that is refused can't follow those held
 abbrev pub IsNoNext : Pending → PlainEvent → Option Error → Type 0

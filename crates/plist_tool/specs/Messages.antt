@@ -21,13 +21,13 @@ abbrev pub usage : List ℕ
 usage = codes "Usage: plist_tool print FILE | convert IN OUT | keyed FILE KEY\n"
 
 -- the text of a message
-abbrev pub text_of : Said → List ℕ
-text_of Usage = usage
-text_of (Fault complaint) = codes "Error: " ++ text_of_complaint complaint ++ codes "\n"
+abbrev pub message_text : Said → List ℕ
+message_text Usage = usage
+message_text (Fault complaint) = codes "Error: " ++ text_of_complaint complaint ++ codes "\n"
 
 -- what a writer took of a message: all of it where no write failed, and else of the usage a
 -- beginning
 abbrev pub TakesMessage : Said → (told : Bool) → (old new : Option (List ℕ)) → Type 0
-TakesMessage said true old new = Appends old new (text_of said)
+TakesMessage said true old new = Appends old new (message_text said)
 TakesMessage Usage false old new = AppendsFront old new usage
 TakesMessage (Fault complaint) false old new = Unit {0}

@@ -5,7 +5,7 @@ ghost use Rattle.plist_base.specs.Outcomes.{OnlyMemory};
 ghost use Rattle.plist_binread.specs.BinaryReader.{source_of};
 ghost use Rattle.plist_binread.specs.Telling.{event_told};
 ghost use Rattle.plist_binwrite.specs.Pendings.{Accepts, CanTake, events_held, is_whole};
-ghost use Rattle.plist_tool.specs.Converting.{AreNoTree, FindsTree, IfOkIs, IsNoBinaryTree, IsNoNext, IsRefusedFor, IsStoppedFor, LeavesToValue, SendsAll, items_left, items_of};
+ghost use Rattle.plist_tool.specs.Converting.{AreNoTree, FindsTree, IfOkIs, IsNoBinaryTree, IsNoNext, IsRefusedFor, IsStoppedFor, LeavesToValue, SendsAll, items_left, items_of_known};
 ghost use Rattle.plist_tool.specs.Printing.{CountsReadsOf, LeavesSource};
 ghost use Rattle.plist_tool.specs.declared.convert.Streamed.TheVariants.{NeedsValue, Sent};
 
@@ -92,9 +92,9 @@ fn hold_events<S: Source>(
 
 // Holds the events of a binary file, where they are those of a tree. The source isn't needed then.
 fn hold_file<S: Source>(alloc: Global, source: S) -> Result<Option<Pending>, Error>
-    ensures held { FindsTree (items_of (S.known source)) result }
+    ensures held { FindsTree (items_of_known (S.known source)) result }
     ensures none { IfOkIs result None (IsNoBinaryTree (S.known source)) }
-    ensures refused { IsRefusedFor (items_of (S.known source)) result }
+    ensures refused { IsRefusedFor (items_of_known (S.known source)) result }
     ensures failures { (left : S) × LeavesSource S.known S.failures source result left }
 {
     let mut source = source;

@@ -126,6 +126,7 @@ fn push_integer(line: &mut Vec<u8>, integer: Integer) -> Result<(), AllocError>
 }
 
 // How many digits a number has.
+#[tactic(auto, using(crate::proofs::Printed::digits))]
 fn digits_of(number: u64) -> usize
     ensures { result ≡ length (decimal number) }
 {

@@ -1,28 +1,24 @@
 -- The events that were counted, and the items that are still to come.
-use Rattle.std.proofs.Common.{◌≡◌, ℕ, ◌+◌, ◌-◌, ◌^◌, min, Bool, true, false, cond, List, [], ◌∷◌, ◌++◌, Option, None, Some, Result, Ok, Err, IfSome, length, map, filter, refl, ap, sym, ◌∙◌, subst, append_assoc, append-nil, arith}
+use Rattle.std.proofs.Common.{◌≡◌, ℕ, ◌+◌, ◌-◌, ◌^◌, min, Bool, true, false, cond, List, [], ◌∷◌, ◌++◌, Option, None, Some, Result, Ok, Err, IfSome, length, map, filter, refl, ap, sym, ◌∙◌, append-nil, arith}
 use Rattle.std.specs.Option.{option_map}
-use Rattle.std.proofs.lemmas.List.{length-append, map-append}
+use Rattle.std.proofs.lemmas.List.{length-append}
 use Rattle.std.proofs.lemmas.List.Elements.{filter-append}
 use Rattle.plist_base.specs.declared.error.Error.{Error}
 use Rattle.plist_base.specs.declared.event.Event.{Event}
 use Rattle.plist_base.specs.Events.{PlainEvent, Item, event_of, item_of}
-use Rattle.plist_reader.specs.Reader.{GoesOn, items_of_input}
+use Rattle.plist.proofs.Inputs.{event-more}
+use Rattle.plist_reader.specs.Reader.{GivesIfKnown, items_of_input}
 use Rattle.plist_uses.specs.declared.counting.Counts.{Counts}
-use Rattle.plist_uses.specs.Counting.{number_of, one_more, Tell, AreCountsOf, CountsItem, CountsOne, nothing}
+use Rattle.plist_uses.specs.Counting.{count_passing, one_more, Tell, AreCountsOf, CountsItem, CountsOne, nothing}
 
 stopped-more : (n old new : ℕ) → old ≡ min n (2 ^ 64 - 1) → new ≡ min (old + 1) (2 ^ 64 - 1)
     → new ≡ min (n + 1) (2 ^ 64 - 1)
 stopped-more n old new is more = omega arith
 
-passed : (passes : PlainEvent → Bool) (taken : List PlainEvent) (event : PlainEvent)
-    → filter passes (taken ++ event ∷ [])
-    ≡ filter passes taken ++ cond (passes event) (event ∷ []) []
-passed passes taken event = filter-append passes taken (event ∷ [])
-
 -- a count of one event more
 number-more : (passes : PlainEvent → Bool) (taken : List PlainEvent) (event : PlainEvent)
-    (old new : ℕ) → old ≡ number_of passes taken → new ≡ one_more (passes event) old
-    → new ≡ number_of passes (taken ++ event ∷ [])
+    (old new : ℕ) → old ≡ count_passing passes taken → new ≡ one_more (passes event) old
+    → new ≡ count_passing passes (taken ++ event ∷ [])
 number-more passes taken event old new is more =
     elim (passes event) as (λ b. new ≡ one_more b old → new ≡ min (length (filter passes taken
     ++ cond b (event ∷ []) [])) (2 ^ 64 - 1)) [
@@ -31,7 +27,7 @@ number-more passes taken event old new is more =
       | false ↦ λ m. m ∙ is ∙ ap (λ xs. min (length xs) (2 ^ 64 - 1))
           (sym (append-nil (filter passes taken)))
     ] more
-    ∙ ap (λ xs. min (length xs) (2 ^ 64 - 1)) (sym (passed passes taken event))
+    ∙ ap (λ xs. min (length xs) (2 ^ 64 - 1)) (sym (filter-append passes taken (event ∷ [])))
 
 -- the events taken so far were counted, and these items are still to come
 abbrev pub CountedSoFar : (all coming : Option (List Item)) → Counts → Type 0
@@ -40,12 +36,8 @@ CountedSoFar all coming counts =
     × (items ≡ map Ok taken ++ left) × Tell taken counts)
 
 tells-none : (counts : Counts) → counts ≡ nothing → Tell [] counts
-tells-none counts is = record {
-  arrays = ap (λ c. c.arrays) is;
-  dictionaries = ap (λ c. c.dictionaries) is;
-  texts = ap (λ c. c.texts) is;
-  others = ap (λ c. c.others) is;
-}
+tells-none counts is =
+    rw is (record { arrays = refl; dictionaries = refl; texts = refl; others = refl })
 
 pub begun : (all : Option (List Item)) (counts : Counts) → counts ≡ nothing
     → CountedSoFar all all counts
@@ -65,30 +57,29 @@ tells-more taken event old new tell one = record {
 
 -- an item came and was counted
 pub counted : (all before after : Option (List Item)) (item : Result Event Error)
-    (old new : Counts) → CountedSoFar all before old → GoesOn before (Some item) after
+    (old new : Counts) → CountedSoFar all before old → GivesIfKnown before (Some item) after
     → CountsItem (item_of item) old new → CountedSoFar all after new
 counted None before after item old new so_far gives one = tt
 counted (Some items) before after (Err error) old new so_far gives one = absurd one
 counted (Some items) before after (Ok event) old new (taken, left, is, split, tell) gives one =
-    let goes = subst (λ coming. GoesOn coming (Some (Ok event)) after) is gives in (
+    let goes = rw is at gives in (
       taken ++ event_of event ∷ [],
       goes.0,
       goes.1,
       split ∙ ap (λ xs. map Ok taken ++ xs) goes.2
-          ∙ sym (append_assoc (map Ok taken) (Ok (event_of event) ∷ []) goes.0)
-          ∙ ap (λ xs. xs ++ goes.0) (sym (map-append Ok taken (event_of event ∷ []))),
+          ∙ event-more taken (event_of event) goes.0,
       tells-more taken (event_of event) old new tell one,
     )
 
 -- nothing more came
 pub all-counted : (known : Option (List ℕ)) (all before after : Option (List Item))
     (counts : Counts) → all ≡ option_map items_of_input known → CountedSoFar all before counts
-    → GoesOn before None after → IfSome known (λ bytes. AreCountsOf (items_of_input bytes) counts)
+    → GivesIfKnown before None after → IfSome known
+    (λ bytes. AreCountsOf (items_of_input bytes) counts)
 all-counted None all before after counts from so_far gives = tt
 all-counted (Some bytes) all before after counts from so_far gives =
-    let (taken, left, is, split, tell) =
-    subst (λ coming. CountedSoFar coming before counts) from so_far in
-    let goes = subst (λ coming. GoesOn coming None after) is gives in (
+    let (taken, left, is, split, tell) = rw from at so_far in
+    let goes = rw is at gives in (
       taken,
       split ∙ ap (λ xs. map Ok taken ++ xs) goes.2.0 ∙ append-nil (map Ok taken),
       tell,

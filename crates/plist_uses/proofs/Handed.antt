@@ -1,5 +1,5 @@
 -- A writer that is handed one list of events behind another.
-use Rattle.std.proofs.Common.{◌≡◌, List, [], ◌∷◌, ◌++◌, length, map, refl, sym, subst, append_assoc, arith}
+use Rattle.std.proofs.Common.{◌≡◌, List, [], ◌∷◌, ◌++◌, length, map, refl, append_assoc, arith}
 use Rattle.plist_base.specs.Bracketing.{bracketing, bracketing_of_items}
 use Rattle.plist_base.specs.Events.{PlainEvent, EndCollection}
 use Rattle.plist_base.specs.Trees.{Tree, trees_of, number_of_trees}
@@ -25,8 +25,7 @@ module _ {S : Type 0} (Step : S → PlainEvent → Answer → S → Type 0) wher
   took-more : (first second : List PlainEvent) (before between after : S)
       → Took Step before first between → Took Step between second after
       → Took Step before (first ++ second) after
-  took-more [] second before between after is more =
-      subst (λ state. Took Step state second after) (sym is) more
+  took-more [] second before between after is more = rw is more
   took-more (event ∷ first) second before between after (next, step, took) more =
       (next, step, took-more first second next between after took more)
 
@@ -35,7 +34,6 @@ module _ {S : Type 0} (Step : S → PlainEvent → Answer → S → Type 0) wher
       → Took Step before (bracketing tree) between → Took Step between (events_left trees) after
       → Took Step before (events_left (tree ∷ trees)) after
   item-more tree trees before between after took more =
-      subst (λ events. Took Step before events after)
-      (sym (append_assoc (bracketing tree) (bracketing_of_items (trees_of trees))
-      (EndCollection ∷ [])))
+      rw (append_assoc (bracketing tree) (bracketing_of_items (trees_of trees))
+      (EndCollection ∷ []))
       (took-more (bracketing tree) (events_left trees) before between after took more)

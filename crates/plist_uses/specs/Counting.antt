@@ -24,15 +24,15 @@ is_other (Single scalar) = true
 is_other event = false
 
 -- how many of the events pass, or the largest number of 64 bits where there are more
-abbrev pub number_of : (PlainEvent → Bool) → List PlainEvent → ℕ
-number_of passes events = min (length (filter passes events)) (2 ^ 64 - 1)
+abbrev pub count_passing : (PlainEvent → Bool) → List PlainEvent → ℕ
+count_passing passes events = min (length (filter passes events)) (2 ^ 64 - 1)
 
 -- the counts tell how many arrays, dictionaries, texts and others these events have
 pub record Tell (events : List PlainEvent) (counts : Counts) : Type 0 where
-  pub arrays : counts.arrays ≡ number_of is_array events
-  pub dictionaries : counts.dictionaries ≡ number_of is_dictionary events
-  pub texts : counts.texts ≡ number_of is_text events
-  pub others : counts.others ≡ number_of is_other events
+  pub arrays : counts.arrays ≡ count_passing is_array events
+  pub dictionaries : counts.dictionaries ≡ count_passing is_dictionary events
+  pub texts : counts.texts ≡ count_passing is_text events
+  pub others : counts.others ≡ count_passing is_other events
 
 -- the items are events without a fault, and these are their counts
 abbrev pub AreCountsOf : List Item → Counts → Type 0

@@ -1,18 +1,134 @@
--- Which events can follow those that a builder holds, and what they say of it.
-use Rattle.std.proofs.Common.{◌≡◌, List, [], ◌∷◌, ◌++◌, Option, Some, None, map, option_and_then, refl, sym, ap, ◌∙◌, append_assoc, append-nil}
+-- Which events can follow those that a builder holds, and how they carry it on.
+use Rattle.std.proofs.Common.{◌≡◌, ℕ, List, [], ◌∷◌, ◌++◌, Option, Some, None, MatchOption, map, refl, sym, ap, ◌∙◌, append_assoc, append-nil, subst, option_and_then}
 use Rattle.std.proofs.lemmas.Option.{none-some}
 use Rattle.plist_base.specs.Events.{PlainEvent, StartArray, StartDictionary, EndCollection, Single}
 use Rattle.plist_base.specs.Faults.{FaultKind}
-use Rattle.plist_base.specs.Trees.{Tree, String, trees_of, members_of}
-use Rattle.plist_base.specs.Bracketing.{bracketing, bracketing_of_items, bracketing_of_pairs, AreAlike, CanContinue, ContinueAlike}
+use Rattle.plist_base.specs.Trees.{Tree, Leaf, Array, Dictionary, trees_of, members_of, String}
+use Rattle.plist_base.specs.Bracketing.{bracketing, bracketing_of_items, bracketing_of_pairs, unhinted, AreAlike, CanContinue, ContinueAlike}
+use Rattle.plist_base.proofs.Grammar.{alike_behind, all_taken, can_continue, continue_alike, continues, none_is, steps_snoc, wanted_alike}
+use Rattle.plist.specs.LastWins.{Rows}
+use Rattle.plist.specs.Building.{OpenCollection, InArray, InDictionary, AfterKey, Unfinished, NotBegun, Within, Complete, events_within, events_round, events_so_far, refusal_of_value, refusal_of_key, refusal_at, AllTakeValue, IsNested, TakesValue, last_wins_within, last_wins_so_far, complete_tree}
+use Rattle.plist.specs.inner.Steps.{and_pair, and_tree, begun, in_array, in_dictionary, carried_on}
 use Rattle.plist_base.specs.inner.Wants.{Want, OneValue, Items, Pairs, step, steps, wanted_after}
-use Rattle.plist_base.proofs.Grammar.{all_taken, can_continue, continue_alike, continues, none_is, steps_snoc, wanted_alike}
 use Rattle.plist_base.proofs.OneTree.{one_tree}
 use Rattle.plist_base.proofs.Stacks.{Stack, steps_items, steps_pairs}
-use Rattle.plist.specs.LastWins.{Rows}
-use Rattle.plist.specs.Building.{OpenCollection, InArray, InDictionary, AfterKey, Unfinished, NotBegun, Within, Complete, TakesValue, AllTakeValue, IsNested, events_within, events_round, events_so_far, last_wins_within, last_wins_so_far, complete_tree, refusal_of_value, refusal_of_key, refusal_of}
-use Rattle.plist.specs.inner.Steps.{and_pair}
-use Rattle.plist.specs.inner.Carried.{carried-events, carried-nested, carried-taken}
+
+items-append : (ts : List Tree) (t : Tree)
+    → bracketing_of_items (trees_of (ts ++ t ∷ [])) ≡ bracketing_of_items (trees_of ts)
+    ++ bracketing t
+items-append [] t = append-nil (bracketing t)
+items-append (u ∷ ts) t =
+    ap (λ l. bracketing u ++ l) (items-append ts t)
+    ∙ sym (append_assoc (bracketing u) (bracketing_of_items (trees_of ts)) (bracketing t))
+
+pairs-append : (ps : Rows) (k : List ℕ) (t : Tree)
+    → bracketing_of_pairs (members_of (ps ++ (k, t) ∷ [])) ≡ bracketing_of_pairs (members_of ps)
+    ++ Single (String k) ∷ bracketing t
+pairs-append [] k t = ap (λ l. Single (String k) ∷ l) (append-nil (bracketing t))
+pairs-append (p ∷ ps) k t =
+    ap (λ l. Single (String p.0) ∷ (bracketing p.1 ++ l)) (pairs-append ps k t)
+    ∙ ap (λ l. Single (String p.0) ∷ l)
+    (sym (append_assoc (bracketing p.1) (bracketing_of_pairs (members_of ps))
+    (Single (String k) ∷ bracketing t)))
+
+-- a tree that is complete inside collections that take values adds its events
+tree-goes : (t : Tree) (outer : List OpenCollection) → AllTakeValue outer
+    → IsNested (and_tree and_pair t outer)
+    × (events_so_far (and_tree and_pair t outer) ≡ events_round outer ++ bracketing t)
+tree-goes t [] ok = (tt, refl)
+tree-goes t (InArray ts ∷ outer) ok = (
+  ok.1,
+  ap (λ l. events_round outer ++ StartArray None ∷ l) (items-append ts t)
+      ∙ sym (append_assoc (events_round outer) (StartArray None ∷ bracketing_of_items (trees_of ts))
+      (bracketing t)),
+)
+tree-goes t (InDictionary ps ∷ outer) ok = absurd ok.0
+tree-goes t (AfterKey ps k ∷ outer) ok =
+    let before = bracketing_of_pairs (members_of ps) in (
+      ok.1,
+      ap (λ l. events_round outer ++ StartDictionary None ∷ l) (pairs-append ps k t
+          ∙ sym (append_assoc before (Single (String k) ∷ []) (bracketing t)))
+          ∙ sym (append_assoc (events_round outer)
+          (StartDictionary None ∷ (before ++ Single (String k) ∷ [])) (bracketing t)),
+    )
+
+-- behind the events so far the event is refused, or what is held then has them and it, up to
+-- lengths
+abbrev Goes : Option FaultKind → List PlainEvent → PlainEvent → Option Unfinished → Type 0
+Goes refusal before e held = MatchOption held (refusal ≡ None → ⊥)
+    (λ w. IsNested w × AreAlike (events_so_far w) (before ++ e ∷ []))
+
+begun-goes : (outer : List OpenCollection) (e : PlainEvent) → AllTakeValue outer
+    → Goes (refusal_of_value e) (events_round outer) e (begun and_pair outer e)
+begun-goes outer (StartArray n) ok =
+    (ok, alike_behind (events_round outer) (StartArray None ∷ []) (StartArray n ∷ []) refl)
+begun-goes outer (StartDictionary n) ok = (
+  ok,
+  alike_behind (events_round outer) (StartDictionary None ∷ [])
+      (StartDictionary n ∷ []) refl,
+)
+begun-goes outer EndCollection ok = λ p. none-some _ (sym p)
+begun-goes outer (Single x) ok =
+    let t = tree-goes (Leaf x) outer ok in (t.0, ap (map unhinted) t.1)
+
+-- an end makes a tree of its collection, which has the events from its start on
+closed-goes : (t : Tree) (start : PlainEvent) (inside : List PlainEvent)
+    (outer : List OpenCollection) → AllTakeValue outer
+    → AreAlike (bracketing t) (start ∷ (inside ++ EndCollection ∷ []))
+    → Goes None (events_round outer ++ start ∷ inside) EndCollection
+    (Some (and_tree and_pair t outer))
+closed-goes t start inside outer ok alike =
+    let g = tree-goes t outer ok in (
+      g.0,
+      ap (map unhinted) g.1 ∙ alike_behind (events_round outer) _ _ alike
+          ∙ sym (ap (map unhinted)
+          (append_assoc (events_round outer) (start ∷ inside) (EndCollection ∷ []))),
+    )
+
+array-goes : (ts : List Tree) (outer : List OpenCollection) (e : PlainEvent) → AllTakeValue outer
+    → Goes None (events_round outer ++ events_within (InArray ts)) e (in_array and_pair ts outer e)
+array-goes ts outer EndCollection ok =
+    closed-goes (Array (trees_of ts)) (StartArray None) _ outer ok refl
+array-goes ts outer e ok = begun-goes (InArray ts ∷ outer) e (tt, ok)
+
+dictionary-goes : (ps : Rows) (outer : List OpenCollection) (e : PlainEvent) → AllTakeValue outer
+    → Goes (refusal_of_key e) (events_round outer ++ events_within (InDictionary ps)) e
+    (in_dictionary and_pair ps outer e)
+dictionary-goes ps outer EndCollection ok =
+    closed-goes (Dictionary (members_of ps)) (StartDictionary None) _ outer ok refl
+dictionary-goes ps outer (Single (String s)) ok = (
+  ok,
+  sym (ap (map unhinted) (append_assoc (events_round outer)
+      (StartDictionary None ∷ bracketing_of_pairs (members_of ps)) (Single (String s) ∷ []))),
+)
+dictionary-goes ps outer e ok = λ p. none-some _ (sym p)
+
+goes : (u : Unfinished) (e : PlainEvent) → IsNested u
+    → Goes (refusal_at u e) (events_so_far u) e (carried_on and_pair u e)
+goes NotBegun e ok = begun-goes [] e tt
+goes (Within (InArray ts) outer) e ok = array-goes ts outer e ok
+goes (Within (InDictionary ps) outer) e ok = dictionary-goes ps outer e ok
+goes (Within (AfterKey ps k) outer) e ok = begun-goes (AfterKey ps k ∷ outer) e (tt, ok)
+goes (Complete t) e ok = λ p. none-some _ (sym p)
+
+-- what is held after an event has the events before it, and it, up to lengths
+pub carried : (u : Unfinished) (e : PlainEvent) (w : Unfinished) → IsNested u
+    → carried_on and_pair u e ≡ Some w
+    → IsNested w × AreAlike (events_so_far w) (events_so_far u ++ e ∷ [])
+carried u e w ok p = subst (Goes (refusal_at u e) (events_so_far u) e) p (goes u e ok)
+
+-- what isn't refused is carried on
+pub taken : (u : Unfinished) (e : PlainEvent) → IsNested u → refusal_at u e ≡ None
+    → (w : Unfinished) × (carried_on and_pair u e ≡ Some w) × IsNested w
+    × AreAlike (events_so_far w) (events_so_far u ++ e ∷ [])
+taken u e ok r = by (carried_on and_pair u e) refl (goes u e ok)
+  where
+    by : (o : Option Unfinished) → carried_on and_pair u e ≡ o
+        → Goes (refusal_at u e) (events_so_far u) e o
+        → (w : Unfinished) × (carried_on and_pair u e ≡ Some w) × IsNested w
+        × AreAlike (events_so_far w) (events_so_far u ++ e ∷ [])
+    by None q g = absurd (g r)
+    by (Some w) q g = (w, q, g.0, g.1)
 
 -- ---- what is wanted behind what is held
 
@@ -36,32 +152,26 @@ want_of NotBegun = want_in []
 want_of (Within collection outer) = want_in (collection ∷ outer)
 want_of (Complete tree) = []
 
-array-starts : (outer : List OpenCollection) (es : List PlainEvent) → AllTakeValue outer
-    → steps (want_in outer) (StartArray None ∷ es) ≡ steps (Items ∷ map want_round outer) es
-array-starts [] es ok = refl
-array-starts (InArray ts ∷ outer) es ok = refl
-array-starts (InDictionary ps ∷ outer) es ok = absurd ok.0
-array-starts (AfterKey ps k ∷ outer) es ok = refl
-
-dictionary-starts : (outer : List OpenCollection) (es : List PlainEvent) → AllTakeValue outer
-    → steps (want_in outer) (StartDictionary None ∷ es) ≡ steps (Pairs ∷ map want_round outer) es
-dictionary-starts [] es ok = refl
-dictionary-starts (InArray ts ∷ outer) es ok = refl
-dictionary-starts (InDictionary ps ∷ outer) es ok = absurd ok.0
-dictionary-starts (AfterKey ps k ∷ outer) es ok = refl
+starts : (outer : List OpenCollection) (es : List PlainEvent) → AllTakeValue outer
+    → (steps (want_in outer) (StartArray None ∷ es) ≡ steps (Items ∷ map want_round outer) es)
+    × (steps (want_in outer) (StartDictionary None ∷ es) ≡ steps (Pairs ∷ map want_round outer) es)
+starts [] es ok = (refl, refl)
+starts (InArray ts ∷ outer) es ok = (refl, refl)
+starts (InDictionary ps ∷ outer) es ok = absurd ok.0
+starts (AfterKey ps k ∷ outer) es ok = (refl, refl)
 
 pairs-within : (ps : Rows) (outer : List OpenCollection) (es : List PlainEvent) → AllTakeValue outer
     → steps (want_in outer) (events_within (InDictionary ps) ++ es) ≡ steps
     (Pairs ∷ map want_round outer) es
 pairs-within ps outer es ok =
-    dictionary-starts outer (bracketing_of_pairs (members_of ps) ++ es) ok
+    (starts outer (bracketing_of_pairs (members_of ps) ++ es) ok).1
     ∙ steps_pairs (members_of ps) (map want_round outer) es
 
 steps-within : (c : OpenCollection) (outer : List OpenCollection) (es : List PlainEvent)
     → AllTakeValue outer → steps (want_in outer) (events_within c ++ es) ≡ steps
     (want_in (c ∷ outer)) es
 steps-within (InArray ts) outer es ok =
-    array-starts outer (bracketing_of_items (trees_of ts) ++ es) ok
+    (starts outer (bracketing_of_items (trees_of ts) ++ es) ok).0
     ∙ steps_items (trees_of ts) (map want_round outer) es
 steps-within (InDictionary ps) outer es ok = pairs-within ps outer es ok
 steps-within (AfterKey ps k) outer es ok =
@@ -97,14 +207,14 @@ key-stops s EndCollection no_ = absurd (no_ refl)
 key-stops s (Single (String k)) no_ = absurd (no_ refl)
 key-stops s e no_ = refl
 
-stops : (u : Unfinished) (e : PlainEvent) → (refusal_of u e ≡ None → ⊥) → step (want_of u) e ≡ None
+stops : (u : Unfinished) (e : PlainEvent) → (refusal_at u e ≡ None → ⊥) → step (want_of u) e ≡ None
 stops NotBegun e no_ = value-stops [] e no_
 stops (Within (InArray ts) outer) e no_ = absurd (no_ refl)
 stops (Within (InDictionary ps) outer) e no_ = key-stops (map want_round outer) e no_
 stops (Within (AfterKey ps k) outer) e no_ = value-stops (Pairs ∷ map want_round outer) e no_
 stops (Complete t) e no_ = refl
 
-pub refused-ends : (u : Unfinished) (e : PlainEvent) → IsNested u → (refusal_of u e ≡ None → ⊥)
+pub refused-ends : (u : Unfinished) (e : PlainEvent) → IsNested u → (refusal_at u e ≡ None → ⊥)
     → CanContinue (events_so_far u) e → ⊥
 refused-ends u e ok no_ can =
     let g = continues (events_so_far u) e can in
@@ -122,23 +232,22 @@ taken-continues u w e ok a =
     (sym (wanted_alike (events_so_far w) (events_so_far u ++ e ∷ []) a) ∙ wanted w ok)
 
 -- an event that isn't refused can come next
-pub accepted-continues : (u : Unfinished) (e : PlainEvent) → IsNested u → refusal_of u e ≡ None
+pub accepted-continues : (u : Unfinished) (e : PlainEvent) → IsNested u → refusal_at u e ≡ None
     → CanContinue (events_so_far u) e
 accepted-continues u e ok r =
-    let w = carried-taken and_pair u e r in
-    taken-continues u w.0 e (carried-nested and_pair u e w.0 ok w.1) (carried-events u e w.0 ok w.1)
+    let w = taken u e ok r in taken-continues u w.0 e w.2 w.3
 
 pub continues-accepted : (u : Unfinished) (e : PlainEvent) → IsNested u
-    → CanContinue (events_so_far u) e → refusal_of u e ≡ None
+    → CanContinue (events_so_far u) e → refusal_at u e ≡ None
 continues-accepted u e ok c = by _ refl
   where
-    by : (o : Option FaultKind) → refusal_of u e ≡ o → refusal_of u e ≡ None
+    by : (o : Option FaultKind) → refusal_at u e ≡ o → refusal_at u e ≡ None
     by None q = q
     by (Some kind) q = absurd (refused-ends u e ok (λ r. none-some _ (sym r ∙ q)) c)
 
 -- the last values change nothing in what can come next
 pub refusal-last : (u : Unfinished) (e : PlainEvent)
-    → refusal_of (last_wins_so_far u) e ≡ refusal_of u e
+    → refusal_at (last_wins_so_far u) e ≡ refusal_at u e
 refusal-last NotBegun e = refl
 refusal-last (Within (InArray ts) outer) e = refl
 refusal-last (Within (InDictionary ps) outer) e = refl

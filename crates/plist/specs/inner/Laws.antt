@@ -10,7 +10,7 @@ use Rattle.plist_base.specs.Trees as trees
 use Rattle.plist_base.specs.Bracketing.{CanContinue, ContinueAlike}
 use Rattle.plist_base.specs.Writing.{Answer, MatchKind, AnswersByPlace}
 use Rattle.plist.specs.declared.stream.builder.Builder.{Builder}
-use Rattle.plist.specs.Building.{Unfinished, NotBegun, Within, InArray, InDictionary, AfterKey, Complete, Built, IsNested, events_so_far, refusal_of_value, refusal_of_key, refusal_of, IsRefused}
+use Rattle.plist.specs.Building.{Unfinished, NotBegun, Within, InArray, InDictionary, AfterKey, Complete, Built, IsNested, events_so_far, refusal_of_value, refusal_of_key, refusal_at, IsRefusedStep}
 use Rattle.plist.specs.Builder.{built_of, IsBuildingStep}
 use Rattle.plist.specs.inner.Following.{refused-ends, taken-continues, accepted-continues, last-continues}
 
@@ -32,7 +32,7 @@ key-place e kind p = of_place _ _ p tt
 
 -- what is refused is refused for its place
 pub refusal-place : (u : Unfinished) (e : PlainEvent) (kind : FaultKind)
-    → refusal_of u e ≡ Some kind → IsOfPlace kind
+    → refusal_at u e ≡ Some kind → IsOfPlace kind
 refusal-place NotBegun e kind p = value-place e _ p
 refusal-place (Within (InArray items) outer) e kind p = absurd (none-some _ p)
 refusal-place (Within (InDictionary pairs) outer) e kind p = key-place e _ p
@@ -46,7 +46,7 @@ module _ (before after : Built) (event : PlainEvent) (unchanged : Type 0)
   abbrev Refused : Type 0
   Refused = (CanContinue (events_so_far before.unfinished) event → ⊥) × unchanged
 
-  in_place : (kind : FaultKind) → refusal_of before.unfinished event ≡ Some kind → unchanged
+  in_place : (kind : FaultKind) → refusal_at before.unfinished event ≡ Some kind → unchanged
       → Refused
   in_place kind r s = (
     refused-ends before.unfinished event ok
@@ -54,14 +54,14 @@ module _ (before after : Built) (event : PlainEvent) (unchanged : Type 0)
     s,
   )
 
-  wanting : refusal_of before.unfinished event ≡ None → after.failed ≡ true
+  wanting : refusal_at before.unfinished event ≡ None → after.failed ≡ true
       → CanContinue (events_so_far before.unfinished) event × (after.failed ≡ true)
   wanting r failed = (accepted-continues _ _ ok r, failed)
 
-  never : (kind : FaultKind) → refusal_of before.unfinished event ≡ Some kind → IsOfPlace kind
+  never : (kind : FaultKind) → refusal_at before.unfinished event ≡ Some kind → IsOfPlace kind
   never kind r = refusal-place _ _ _ r
 
-  refusal_law : (kind : FaultKind) → IsRefused before event kind after unchanged
+  refusal_law : (kind : FaultKind) → IsRefusedStep before event kind after unchanged
       → MatchKind kind Refused (CanContinue (events_so_far before.unfinished) event
       × (after.failed ≡ true)) ⊥
   refusal_law (faults.UnexpectedEventType expected found) r = in_place _ r.1 r.2
@@ -90,7 +90,7 @@ building_law before event (Err fault) after s f = (
 
 -- a failed builder's refusal
 failed_kind : (before after : Built) (event : PlainEvent) (unchanged : Type 0) (kind : FaultKind)
-    → IsRefused before event kind after unchanged → before.failed ≡ true → (kind ≡ WriterFailed)
+    → IsRefusedStep before event kind after unchanged → before.failed ≡ true → (kind ≡ WriterFailed)
     × unchanged
 failed_kind before after event unchanged faults.WriterFailed r f = (refl, r.1)
 failed_kind before after event unchanged kind r f = absurd (true≢false (sym f ∙ r.0))

@@ -56,13 +56,10 @@ scalar_refl (Real a) = real_refl a
 scalar_refl (String a) = key_self a
 scalar_refl (Uid a) = (Decides-eqb a a).1 refl
 
-found_at : (o : Option Tree) (t : Tree) → if_found o (λ u. same t u) ≡ true → AreSameAt (Some t) o
-found_at None t h = absurd (cc)
-found_at (Some u) t h = h
-
-at_found : (o : Option Tree) (t : Tree) → AreSameAt (Some t) o → if_found o (λ u. same t u) ≡ true
-at_found None t h = absurd h
-at_found (Some u) t h = h
+found_at : (o : Option Tree) (t : Tree)
+    → (if_found o (λ u. same t u) ≡ true) ↔ AreSameAt (Some t) o
+found_at None t = (λ h. absurd (cc), λ h. absurd h)
+found_at (Some u) t = (λ h. h, λ h. h)
 
 -- what is found in the first is found in the second
 covered_key : (b : Bool) (seen : List (List ℕ)) (l : List ℕ) (u : Tree) (ms ns : Members)
@@ -75,19 +72,34 @@ covered_key true seen l u ms ns k t is h fresh e later =
     let k_is : k ≡ l = key_eq k l is in
     let t_is : u ≡ t = same_Some u t (rw is at e) in
     let unseen = rw k_is at fresh in
-    rw (k_is, ← t_is) (found_at (first_value l ns) u (rw unseen at h))
+    rw (k_is, ← t_is) ((found_at (first_value l ns) u).0 (rw unseen at h))
 covered_key false seen l u ms ns k t is h fresh e later =
     later (rw (is, fresh) refl) (rw is at e)
 
-covered_at : (seen : List (List ℕ)) (ms ns : Members) (k : List ℕ) (t : Tree)
-    → is_covered seen ms ns ≡ true → is_among k seen ≡ false → first_value k ms ≡ Some t
-    → AreSameAt (Some t) (first_value k ns)
-covered_at seen NoMembers ns k t h fresh e = absurd (cc)
-covered_at seen (MemberAnd l u ms) ns k t h fresh e =
-    let parts = and_parts (is_among l seen || if_found (first_value l ns) (λ v. same u v))
-    (is_covered (l ∷ seen) ms ns) h in
-    covered_key (bytes_eq k l) seen l u ms ns k t refl parts.0 fresh e
-    (λ new rest. covered_at (l ∷ seen) ms ns k t parts.1 new rest)
+-- and back
+covered_here : (b : Bool) (seen : List (List ℕ)) (l : List ℕ) (u : Tree) (ns : Members)
+    → is_among l seen ≡ b → (is_among l seen ≡ false → AreSameAt (Some u) (first_value l ns))
+    → is_among l seen || if_found (first_value l ns) (λ v. same u v) ≡ true
+covered_here true seen l u ns is f = rw is refl
+covered_here false seen l u ns is f = rw is ((found_at (first_value l ns) u).1 (f is))
+
+covered : (seen : List (List ℕ)) (ms ns : Members) → (is_covered seen ms ns ≡ true)
+    ↔ ((k : List ℕ) (t : Tree) → is_among k seen ≡ false → first_value k ms ≡ Some t
+    → AreSameAt (Some t) (first_value k ns))
+covered seen NoMembers ns = (λ h k t fresh e. absurd (cc), λ f. refl)
+covered seen (MemberAnd l u ms) ns =
+    let rest = covered (l ∷ seen) ms ns in (
+      λ h k t fresh e.
+          let parts = and_parts
+          (is_among l seen || if_found (first_value l ns) (λ v. same u v)) _ h in
+          covered_key (bytes_eq k l) seen l u ms ns k t refl parts.0 fresh e
+          (λ new more. rest.0 parts.1 k t new more),
+      λ f. both_true
+          (covered_here (is_among l seen) seen l u ns refl
+          (λ fresh. f l u fresh (rw (key_self l) refl)))
+          (rest.1 (λ k t fresh e.
+          let n = or_parts (bytes_eq k l) (is_among k seen) fresh in f k t n.1 (rw n.0 e))),
+    )
 
 key_there : (b : Bool) (ms : Members) (l : List ℕ) (u : Tree) (ns : Members) (k : List ℕ)
     → bytes_eq k l ≡ b → is_some (first_value l ms) ≡ true
@@ -97,80 +109,51 @@ key_there : (b : Bool) (ms : Members) (l : List ℕ) (u : Tree) (ns : Members) (
 key_there true ms l u ns k is h e later = rw (key_eq k l is) h
 key_there false ms l u ns k is h e later = later (rw is at e)
 
-keys_there : (ms ns : Members) (k : List ℕ) → has_keys ns ms ≡ true
-    → is_some (first_value k ns) ≡ true → is_some (first_value k ms) ≡ true
-keys_there ms NoMembers k h e = absurd (cc)
-keys_there ms (MemberAnd l u ns) k h e =
-    let parts = and_parts (is_some (first_value l ms)) (has_keys ns ms) h in
-    key_there (bytes_eq k l) ms l u ns k refl parts.0 e (λ rest. keys_there ms ns k parts.1 rest)
-
-at_each : (a b : Option Tree) → ((t : Tree) → a ≡ Some t → AreSameAt (Some t) b)
-    → (is_some b ≡ true → is_some a ≡ true) → AreSameAt a b
-at_each None None f g = tt
-at_each None (Some u) f g = let h = g refl in absurd (cc)
-at_each (Some t) b f g = f t refl
-
--- the same at every key
-pub dict_to : (ms ns : Members) → same (Dictionary ms) (Dictionary ns) ≡ true → (k : List ℕ)
-    → AreSameAt (first_value k ms) (first_value k ns)
-dict_to ms ns h k =
-    let parts = and_parts (is_covered [] ms ns) (has_keys ns ms) h in
-    at_each (first_value k ms) (first_value k ns) (λ t e. covered_at [] ms ns k t parts.0 refl e)
-    (λ e. keys_there ms ns k parts.1 e)
-
--- and back
-covered_here : (b : Bool) (seen : List (List ℕ)) (l : List ℕ) (u : Tree) (ns : Members)
-    → is_among l seen ≡ b → (is_among l seen ≡ false → AreSameAt (Some u) (first_value l ns))
-    → is_among l seen || if_found (first_value l ns) (λ v. same u v) ≡ true
-covered_here true seen l u ns is f = rw is refl
-covered_here false seen l u ns is f = rw is (at_found (first_value l ns) u (f is))
-
-covered_from : (seen : List (List ℕ)) (ms ns : Members)
-    → ((k : List ℕ) (t : Tree) → is_among k seen ≡ false → first_value k ms ≡ Some t
-    → AreSameAt (Some t) (first_value k ns)) → is_covered seen ms ns ≡ true
-covered_from seen NoMembers ns f = refl
-covered_from seen (MemberAnd l u ms) ns f =
-    both_true
-    (covered_here (is_among l seen) seen l u ns refl (λ fresh. f l u fresh (rw (key_self l) refl)))
-    (covered_from (l ∷ seen) ms ns
-    (λ k t fresh e.
-    let n = or_parts (bytes_eq k l) (is_among k seen) fresh in f k t n.1 (rw n.0 e)))
-
 key_more : (b : Bool) (u : Tree) (o : Option Tree) → is_some o ≡ true
     → is_some (cond b (Some u) o) ≡ true
 key_more true u o e = refl
 key_more false u o e = e
 
-keys_from : (ms ns : Members)
-    → ((k : List ℕ) → is_some (first_value k ns) ≡ true → is_some (first_value k ms) ≡ true)
-    → has_keys ns ms ≡ true
-keys_from ms NoMembers f = refl
-keys_from ms (MemberAnd l u ns) f =
-    both_true (f l (rw (key_self l) refl))
-    (keys_from ms ns (λ k e. f k (key_more (bytes_eq k l) u (first_value k ns) e)))
+keys_there : (ms ns : Members) → (has_keys ns ms ≡ true)
+    ↔ ((k : List ℕ) → is_some (first_value k ns) ≡ true → is_some (first_value k ms) ≡ true)
+keys_there ms NoMembers = (λ h k e. absurd (cc), λ f. refl)
+keys_there ms (MemberAnd l u ns) =
+    let rest = keys_there ms ns in (
+      λ h k e.
+          let parts = and_parts (is_some (first_value l ms)) _ h in
+          key_there (bytes_eq k l) ms l u ns k refl parts.0 e (λ more. rest.0 parts.1 k more),
+      λ f. both_true (f l (rw (key_self l) refl))
+          (rest.1 (λ k e. f k (key_more (bytes_eq k l) u (first_value k ns) e))),
+    )
 
-at_some : (a b : Option Tree) (t : Tree) → AreSameAt a b → a ≡ Some t → AreSameAt (Some t) b
-at_some None b t h e = absurd (cc)
-at_some (Some u) None t h e = h
-at_some (Some u) (Some v) t h e = rw (← same_Some u t e) h
+at_each : (a b : Option Tree) → AreSameAt a b
+    ↔ (((t : Tree) → a ≡ Some t → AreSameAt (Some t) b) × (is_some b ≡ true → is_some a ≡ true))
+at_each None None = (λ h. (λ t e. absurd (cc), λ e. e), λ f. tt)
+at_each None (Some u) = (λ h. absurd h, λ f. let h = f.1 refl in absurd (cc))
+at_each (Some t) b = (λ h. (λ s e. rw (← same_Some t s e) h, λ e. refl), λ f. f.0 t refl)
 
-at_is_some : (a b : Option Tree) → AreSameAt a b → is_some b ≡ true → is_some a ≡ true
-at_is_some None None h e = e
-at_is_some None (Some u) h e = absurd h
-at_is_some (Some t) b h e = refl
-
-pub dict_from : (ms ns : Members) → ((k : List ℕ) → AreSameAt (first_value k ms) (first_value k ns))
-    → same (Dictionary ms) (Dictionary ns) ≡ true
-dict_from ms ns f =
-    both_true
-    (covered_from [] ms ns (λ k t fresh e. at_some (first_value k ms) (first_value k ns) t (f k) e))
-    (keys_from ms ns (λ k e. at_is_some (first_value k ms) (first_value k ns) (f k) e))
+-- the same at every key
+pub dictionaries_alike : (ms ns : Members) → (same (Dictionary ms) (Dictionary ns) ≡ true)
+    ↔ ((k : List ℕ) → AreSameAt (first_value k ms) (first_value k ns))
+dictionaries_alike ms ns = (
+  λ h k.
+      let parts = and_parts (is_covered [] ms ns) (has_keys ns ms) h in
+      (at_each (first_value k ms) (first_value k ns)).1 (
+        λ t e. (covered [] ms ns).0 parts.0 k t refl e,
+        λ e. (keys_there ms ns).0 parts.1 k e,
+      ),
+  λ f. both_true
+      ((covered [] ms ns).1
+      (λ k t fresh e. ((at_each (first_value k ms) (first_value k ns)).0 (f k)).0 t e))
+      ((keys_there ms ns).1
+      (λ k e. ((at_each (first_value k ms) (first_value k ns)).0 (f k)).1 e)),
+)
 
 -- a first value found is one of the values
-found_go : (b : Bool) (l : List ℕ) (u : Tree) (o : Option Tree) (t : Tree) (P : Tree → Type 0)
+found_go : (b : Bool) (u : Tree) (o : Option Tree) (t : Tree) (P : Tree → Type 0)
     → cond b (Some u) o ≡ Some t → P u → (o ≡ Some t → P t) → P t
-found_go true l u o t P e here later = rw (← same_Some u t e) here
-found_go false l u o t P e here later = later e
+found_go true u o t P e here later = rw (← same_Some u t e) here
+found_go false u o t P e here later = later e
 
 refl_at : (o : Option Tree) → ((t : Tree) → o ≡ Some t → same t t ≡ true) → AreSameAt o o
 refl_at None f = tt
@@ -181,7 +164,7 @@ mutual
   refl_tree (Leaf x) = scalar_refl x
   refl_tree (Array ts) = refl_items ts
   refl_tree (Dictionary ms) =
-      dict_from ms ms (λ k. refl_at _ (λ t e. refl_found ms k t e))
+      (dictionaries_alike ms ms).1 (λ k. refl_at _ (λ t e. refl_found ms k t e))
 
   refl_items : (ts : Trees) → same_items ts ts ≡ true
   refl_items NoTrees = refl
@@ -190,73 +173,52 @@ mutual
   refl_found : (ms : Members) (k : List ℕ) (t : Tree) → first_value k ms ≡ Some t → same t t ≡ true
   refl_found NoMembers k t e = absurd (cc)
   refl_found (MemberAnd l u ms) k t e =
-      found_go (bytes_eq k l) l u (first_value k ms) t (λ v. same v v ≡ true) e (refl_tree u)
+      found_go (bytes_eq k l) u (first_value k ms) t (λ v. same v v ≡ true) e (refl_tree u)
       (λ rest. refl_found ms k t rest)
 
-sym_at : (a b : Option Tree) → AreSameAt a b
-    → ((t u : Tree) → a ≡ Some t → same t u ≡ true → same u t ≡ true) → AreSameAt b a
-sym_at None None h f = tt
-sym_at None (Some u) h f = absurd h
-sym_at (Some t) None h f = absurd h
-sym_at (Some t) (Some u) h f = f t u refl h
+both_at : (a b c : Option Tree) → AreSameAt a b → AreSameAt a c
+    → ((t u v : Tree) → a ≡ Some t → same t u ≡ true → same t v ≡ true → same u v ≡ true)
+    → AreSameAt b c
+both_at None None c h g f = g
+both_at None (Some u) c h g f = absurd h
+both_at (Some t) None c h g f = absurd h
+both_at (Some t) (Some u) None h g f = absurd g
+both_at (Some t) (Some u) (Some v) h g f = f t u v refl h g
 
+-- trees that are the same as one are the same
 mutual
-  pub sym_tree : (t u : Tree) → same t u ≡ true → same u t ≡ true
-  sym_tree (Leaf x) (Leaf y) h = rw (scalar_is x y h) (scalar_refl y)
-  sym_tree (Array ts) (Array us) h = sym_items ts us h
-  sym_tree (Dictionary ms) (Dictionary ns) h =
-      dict_from ns ms (λ k. sym_at (first_value k ms) (first_value k ns) (dict_to ms ns h k)
-      (λ t u e. sym_found ms k t u e))
-  sym_tree t u h = absurd (cc)
+  both : (t u v : Tree) → same t u ≡ true → same t v ≡ true → same u v ≡ true
+  both (Leaf x) (Leaf y) (Leaf z) h g = rw (← scalar_is x y h) g
+  both (Array ts) (Array us) (Array vs) h g = both_items ts us vs h g
+  both (Dictionary ms) (Dictionary ns) (Dictionary os) h g =
+      (dictionaries_alike ns os).1 (λ k. both_at (first_value k ms) (first_value k ns)
+      (first_value k os)
+      ((dictionaries_alike ms ns).0 h k) ((dictionaries_alike ms os).0 g k)
+      (λ t u v e. both_found ms k t u v e))
+  both t u v h g = absurd (cc)
 
-  sym_items : (ts us : Trees) → same_items ts us ≡ true → same_items us ts ≡ true
-  sym_items NoTrees NoTrees h = refl
-  sym_items (TreeAnd t ts) (TreeAnd u us) h =
+  both_items : (ts us vs : Trees) → same_items ts us ≡ true → same_items ts vs ≡ true
+      → same_items us vs ≡ true
+  both_items NoTrees NoTrees vs h g = g
+  both_items (TreeAnd t ts) (TreeAnd u us) (TreeAnd v vs) h g =
       let p = and_parts (same t u) (same_items ts us) h in
-      both_true (sym_tree t u p.0) (sym_items ts us p.1)
-  sym_items ts us h = absurd (cc)
+      let q = and_parts (same t v) (same_items ts vs) g in
+      both_true (both t u v p.0 q.0) (both_items ts us vs p.1 q.1)
+  both_items ts us vs h g = absurd (cc)
 
-  sym_found : (ms : Members) (k : List ℕ) (t u : Tree) → first_value k ms ≡ Some t → same t u ≡ true
-      → same u t ≡ true
-  sym_found NoMembers k t u e h = absurd (cc)
-  sym_found (MemberAnd l v ms) k t u e h =
-      found_go (bytes_eq k l) l v (first_value k ms) t (λ w. same w u ≡ true → same u w ≡ true) e
-      (λ g. sym_tree v u g) (λ rest g. sym_found ms k t u rest g) h
+  both_found : (ms : Members) (k : List ℕ) (t u v : Tree) → first_value k ms ≡ Some t
+      → same t u ≡ true → same t v ≡ true → same u v ≡ true
+  both_found NoMembers k t u v e h g = absurd (cc)
+  both_found (MemberAnd l w ms) k t u v e h g =
+      found_go (bytes_eq k l) w (first_value k ms) t
+      (λ x. same x u ≡ true → same x v ≡ true → same u v ≡ true) e (λ p q. both w u v p q)
+      (λ rest p q. both_found ms k t u v rest p q) h g
 
-trans_at : (a b c : Option Tree) → AreSameAt a b → AreSameAt b c
-    → ((t u v : Tree) → a ≡ Some t → same t u ≡ true → same u v ≡ true → same t v ≡ true)
-    → AreSameAt a c
-trans_at None None c h g f = g
-trans_at None (Some u) c h g f = absurd h
-trans_at (Some t) None c h g f = absurd h
-trans_at (Some t) (Some u) None h g f = absurd g
-trans_at (Some t) (Some u) (Some v) h g f = f t u v refl h g
+pub sym_tree : (t u : Tree) → same t u ≡ true → same u t ≡ true
+sym_tree t u h = both t u t h (refl_tree t)
 
-mutual
-  pub trans_tree : (t u v : Tree) → same t u ≡ true → same u v ≡ true → same t v ≡ true
-  trans_tree (Leaf x) (Leaf y) (Leaf z) h g = rw (scalar_is x y h) g
-  trans_tree (Array ts) (Array us) (Array vs) h g = trans_items ts us vs h g
-  trans_tree (Dictionary ms) (Dictionary ns) (Dictionary os) h g =
-      dict_from ms os (λ k. trans_at (first_value k ms) (first_value k ns) (first_value k os)
-      (dict_to ms ns h k) (dict_to ns os g k) (λ t u v e. trans_found ms k t u v e))
-  trans_tree t u v h g = absurd (cc)
-
-  trans_items : (ts us vs : Trees) → same_items ts us ≡ true → same_items us vs ≡ true
-      → same_items ts vs ≡ true
-  trans_items NoTrees NoTrees vs h g = g
-  trans_items (TreeAnd t ts) (TreeAnd u us) (TreeAnd v vs) h g =
-      let p = and_parts (same t u) (same_items ts us) h in
-      let q = and_parts (same u v) (same_items us vs) g in
-      both_true (trans_tree t u v p.0 q.0)
-      (trans_items ts us vs p.1 q.1)
-  trans_items ts us vs h g = absurd (cc)
-
-  trans_found : (ms : Members) (k : List ℕ) (t u v : Tree) → first_value k ms ≡ Some t
-      → same t u ≡ true → same u v ≡ true → same t v ≡ true
-  trans_found NoMembers k t u v e h g = absurd (cc)
-  trans_found (MemberAnd l w ms) k t u v e h g =
-      found_go (bytes_eq k l) l w (first_value k ms) t (λ x. same x u ≡ true → same x v ≡ true) e
-      (λ p. trans_tree w u v p g) (λ rest p. trans_found ms k t u v rest p g) h
+pub trans_tree : (t u v : Tree) → same t u ≡ true → same u v ≡ true → same t v ≡ true
+trans_tree t u v h g = both u t v (sym_tree t u h) g
 
 -- the laws of `==`, through a view
 module _ {V : Type 0} (tree : V → Tree) where
@@ -281,7 +243,3 @@ symmetric t u = both_ways (same t u) (same u t) (sym_tree t u) (sym_tree u t)
 
 pub scalars_alike : (x y : Scalar) → (same (Leaf x) (Leaf y) ≡ true) ↔ (x ≡ y)
 scalars_alike x y = (scalar_is x y, λ e. rw (sym e) (scalar_refl x))
-
-pub dictionaries_alike : (ms ns : Members) → (same (Dictionary ms) (Dictionary ns) ≡ true)
-    ↔ ((k : List ℕ) → AreSameAt (first_value k ms) (first_value k ns))
-dictionaries_alike ms ns = (dict_to ms ns, dict_from ms ns)

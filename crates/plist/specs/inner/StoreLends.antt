@@ -1,11 +1,19 @@
--- What is lent of a store of pairs by `&mut`.
-use Rattle.std.specs.Prelude.{ℕ, List, Option}
+-- Where a key stands among pairs, and what is lent of a store of pairs by `&mut`.
+use Rattle.std.specs.Prelude.{◌≡◌, ◌<◌, ℕ, List, None, Some, length, position, bytes_eq, Option}
+use Rattle.std.specs.Map.{keys_of, lookup, set_value}
 use Rattle.std.specs.Borrow.{Lends, LendsIf, MutBor, Fml}
-use Rattle.std.specs.Map.{set_value}
-use Rattle.std.specs.Str.{bytes_eq}
 use Rattle.indexmap.specs.IndexMap.{set_value_at}
 use denote.RattleType.{RattleType}
 use Rattle.plist.specs.contracts.dictionary.store.Store.{the_row}
+
+module _ {V : Type 0} (key : List ℕ) (pairs : List (List ℕ × V)) where
+  -- the key has no value
+  abbrev pub HasNone : Type 0
+  HasNone = lookup (bytes_eq key) pairs ≡ None
+
+  -- the key's place
+  abbrev pub IsPlaceOf : ℕ → Type 0
+  IsPlaceOf place = (place < length pairs) × (Some place ≡ position (bytes_eq key) (keys_of pairs))
 
 -- the pairs end with the last value behind the reference at the key, and as they are where there is
 -- no reference

@@ -67,6 +67,7 @@ impl<'a, V> OccupiedEntry<'a, V> {
     }
 
     /// The key's value.
+    #[tactic(auto, using(crate::proofs::EntrySteps::places))]
     pub fn get(&self) -> &V
         ensures { entry_value (Occupied self.now) ≡ Some result.now }
     {
@@ -92,6 +93,7 @@ impl<'a, V> OccupiedEntry<'a, V> {
     }
 
     /// Sets the key's value, and returns the one that it had.
+    #[tactic(auto, using(crate::proofs::EntrySteps::places))]
     pub fn insert(&mut self, value: V) -> V
         ensures old { entry_value (Occupied self.old) ≡ Some result }
         ensures place { IsSamePlace self.old self.new }

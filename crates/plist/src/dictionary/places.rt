@@ -4,7 +4,7 @@ ghost use Rattle.std.specs.Prelude.{◌≡◌, ◌<◌, ◌++◌, ◌∷◌, Som
 ghost use Rattle.std.specs.Str.{bytes_eq};
 ghost use Rattle.std.specs.Map.{keys_of, values_of};
 ghost use Rattle.plist.specs.Keys.{IsAbsent};
-ghost use Rattle.plist.specs.inner.Places.{HasNone, IsPlaceOf};
+ghost use Rattle.plist.specs.inner.StoreLends.{HasNone, IsPlaceOf};
 
 use crate::dictionary::{Pairs, empty_store, put};
 use std::alloc::Global;
@@ -84,6 +84,7 @@ impl<V> Pairs<V> {
     }
 
     // The number of pairs, whose keys are distinct.
+    #[tactic(auto, using(crate::proofs::Columns::no_keys))]
     pub(crate) fn pair_count(&self) -> usize
         ensures count { result ≡ length self.now }
         ensures distinct { IsDistinct bytes_eq (keys_of self.now) }

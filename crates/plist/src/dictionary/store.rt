@@ -37,12 +37,12 @@ impl<V> Model for Store<V> {
         × IsDistinct bytes_eq (map string_bytes a.keys.keys) };
 }
 
+#[tactic(auto, using(crate::proofs::Columns::columns))]
 impl<V> Store<V> {
     ghost use Rattle.std.specs.Borrow.{sem};
     ghost use Rattle.std.specs.List.{IsDistinct};
     ghost use Rattle.plist.specs.EntryLends.{IsRemovedAt};
-    ghost use Rattle.plist.specs.inner.Places.{HasNone, IsPlaceOf};
-    ghost use Rattle.plist.specs.inner.StoreLends.{LendsAtKey, LendsPlace};
+    ghost use Rattle.plist.specs.inner.StoreLends.{HasNone, IsPlaceOf, LendsAtKey, LendsPlace};
 
     // No pairs. It takes no memory.
     pub(crate) fn new(alloc: Global) -> Store<V>
@@ -97,6 +97,7 @@ impl<V> Store<V> {
     }
 
     // Sets the key's value, and returns the one that it had.
+    #[tactic(auto, using(crate::proofs::Rebuilt::inserting))]
     pub(crate) fn insert(&mut self, key: String, value: V) -> Result<Option<V>, (String, V)>
         ensures old { IfOk result (λ old. old ≡ lookup (bytes_eq (string_bytes key)) self.old) }
         ensures pairs { OnOk result (IsSetAt self.old (string_bytes key) value self.new) }
@@ -115,6 +116,7 @@ impl<V> Store<V> {
     }
 
     // Adds a pair whose key isn't there.
+    #[tactic(auto, using(crate::proofs::Rebuilt::inserting))]
     pub(crate) fn push(&mut self, key: String, value: V) -> Result<(), (String, V)>
         requires { IsAbsent (string_bytes key) self.old }
         ensures pairs { OnOk result (self.new ≡ self.old ++ (string_bytes key, value) ∷ []) }

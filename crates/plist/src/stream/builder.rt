@@ -28,7 +28,7 @@ pub struct Builder {
 }
 
 impl Builder {
-    ghost use Rattle.plist.specs.Builder.{Carries, IsBuilt, IsBuildingStep, IsWhole, RefusesWith, RefusesWorking, TakesItem, built_of};
+    ghost use Rattle.plist.specs.Builder.{Carries, IsBuilt, IsBuildingStep, IsWholeOf, RefusesWith, RefusesWorking, TakesItem, built_of};
     ghost use Rattle.plist.specs.Collecting.{item_by};
 
     /// A builder that holds no events.
@@ -84,7 +84,7 @@ impl Builder {
     /// - `WriterFailed` if it has failed.
     /// - `UnexpectedEndOfEventStream` if the events aren't those of a value yet.
     pub fn finish(&mut self) -> Result<Value, Error>
-        ensures value { IfOk result (IsWhole (built_of self.old)) }
+        ensures value { IfOk result (IsWholeOf (built_of self.old)) }
         ensures complete { IfOk result (IsBuilt (built_of self.old)) }
         ensures working { OnOk result ((built_of self.old).failed ≡ false) }
         ensures emptied { OnOk result (built_of self.new ≡ nothing_built) }

@@ -54,10 +54,10 @@ PartFails quote bytes kind n =
     (more : List ℕ → Taken (List ℕ)) → quoted_by quote more bytes ≡ taken n (Err kind)
 
 -- behind a run stands the closing quote, or an escape that stands for a piece
-abbrev pub Ends : (quote : ℕ) → List ℕ → Option Piece → ℕ → Type 0
-Ends quote bytes None n =
+abbrev pub EndsRun : (quote : ℕ) → List ℕ → Option Piece → ℕ → Type 0
+EndsRun quote bytes None n =
     (more : List ℕ → Taken (List ℕ)) → run_end quote more bytes ≡ taken n (Ok [])
-Ends quote bytes (Some piece) n =
+EndsRun quote bytes (Some piece) n =
     (more : List ℕ → Taken (List ℕ)) → run_end quote more bytes
     ≡ behind n (piece_bytes piece) (more (drop n bytes))
 

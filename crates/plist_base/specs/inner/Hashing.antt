@@ -26,14 +26,14 @@ writes_of (Single (String text)) = text ∷ []
 writes_of (Single (Uid n)) = fed.u64 n
 writes_of _ = []
 
-abbrev pub same : Event → Event → Bool
-same x y = (impl.ghosts).eq x y
+abbrev pub eq_of_events : Event → Event → Bool
+eq_of_events x y = (impl.ghosts).eq x y
 
 pub same_list : (a b : List ℕ) → Decides (pointwise (λ x y. x == y) a b) (a ≡ b)
 same_list a b = slice_eq-Decides Decides-eqb a b _ refl
 
 -- events that are equal show the same
-pub same_event : (x y : Event) → same x y ≡ true → event_of x ≡ event_of y
+pub same_event : (x y : Event) → eq_of_events x y ≡ true → event_of x ≡ event_of y
 same_event (event.Data a) (event.Data b) h =
     ap (λ l. Single (Data l)) ((same_list (cow_slice_items a) (cow_slice_items b)).0 h)
 same_event (event.String a) (event.String b) h =
@@ -45,5 +45,6 @@ same_event (event.Real (real.Eight a)) (event.Real (real.Eight b)) h =
     ap (λ l. Single (Real (real.Eight l))) ((same_list a b).0 h)
 same_event x y h = search (comparing, rules, bytes_eq-Decides, h)
 
-pub same_writes : (x y : Event) → same x y ≡ true → writes_of (event_of x) ≡ writes_of (event_of y)
+pub same_writes : (x y : Event) → eq_of_events x y ≡ true → writes_of (event_of x) ≡ writes_of
+    (event_of y)
 same_writes x y h = ap writes_of (same_event x y h)

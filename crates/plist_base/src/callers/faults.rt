@@ -49,6 +49,7 @@ pub fn fault_again(place: u64) -> Result<io::Error, Error>
 }
 
 /// Why an infinite real is no date.
+#[tactic(auto, unfolding(crate::specs::Date::second_of_bits, crate::specs::Date::real_exponent))]
 pub fn infinite_date() -> Option<ErrorKind>
     ensures { result ≡ Some ErrorKind.OverflowOrNanDate }
 {

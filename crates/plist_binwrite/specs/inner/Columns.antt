@@ -21,9 +21,9 @@ number_in (entry.Scalar place) = place
 number_in entry.End = 0
 
 -- the scalar that an entry names
-abbrev pub scalar_in : Entry → Option ℕ
-scalar_in (entry.Scalar place) = Some place
-scalar_in other = None
+abbrev pub scalar_named : Entry → Option ℕ
+scalar_named (entry.Scalar place) = Some place
+scalar_named other = None
 
 -- the entry of a kind and a number
 abbrev pub entry_of : Kind → ℕ → Entry
@@ -33,11 +33,11 @@ entry_of kind.Scalar number = entry.Scalar number
 entry_of kind.End number = entry.End
 
 -- with this number an entry is that of its kind
-abbrev pub IsNumberAt : List Entry → (place number : ℕ) → Type 0
-IsNumberAt entries place number =
+abbrev pub IsEntryNumber : List Entry → (place number : ℕ) → Type 0
+IsEntryNumber entries place number =
     entry_of (kind_in (entry_at entries place)) number ≡ entry_at entries place
 
 -- the entries, place by place
-abbrev pub entries_of : List Kind → List ℕ → List Entry
-entries_of (k ∷ kinds) (n ∷ numbers) = entry_of k n ∷ entries_of kinds numbers
-entries_of kinds numbers = []
+abbrev pub entries_from : List Kind → List ℕ → List Entry
+entries_from (k ∷ kinds) (n ∷ numbers) = entry_of k n ∷ entries_from kinds numbers
+entries_from kinds numbers = []

@@ -4,8 +4,7 @@ use Rattle.std.specs.List.{list_any}
 use Rattle.plist_base.specs.Bracketing.{unhinted}
 use Rattle.plist_base.specs.declared.event.Event.{Event}
 use Rattle.plist_base.specs.Events.{PlainEvent, event_of, StartArray, StartDictionary, EndCollection, Single}
-use Rattle.plist_binwrite.specs.Standing.{IsSkips}
-use Rattle.plist_binwrite.specs.inner.Opening.{open_after}
+use Rattle.plist_binwrite.specs.inner.Opening.{open_after, skip_after}
 use Rattle.plist_binwrite.specs.declared.entries.Entry.{Entry}
 use Rattle.plist_binwrite.specs.declared.entries.Entry.TheVariants as entry
 
@@ -73,15 +72,19 @@ ended_at entries start =
     set (entries ++ entry.End ∷ []) start
     (closed_at (entry_at (entries ++ entry.End ∷ []) start) (length entries + 1))
 
--- what always holds: the scalars are different ones, each entry of a scalar names one, and each of
--- them is named; these are the starts that have no end, the innermost last; and the entries tell
--- where trees end
+-- each entry of a scalar names one; these are the starts that have no end, the innermost last; and
+-- the entries tell where trees end
+pub record IsTold (scalars : List PlainEvent) (entries : List Entry) (begun : List ℕ) : Type 0 where
+  pub sound : (p : ℕ) → p < length entries → is_sound scalars (entry_at entries p) ≡ true
+  pub starts : reverse begun ≡ open_after (all_shown scalars entries)
+  pub skips : (p : ℕ) → p < length entries
+      → behind_at entries p ≡ skip_after (all_shown scalars entries) p
+
+-- what always holds: the scalars are different ones, and each of them is named
 pub record IsKept (scalars : List PlainEvent) (entries : List Entry) (begun : List ℕ) : Type 0 where
   pub apart : AreApart scalars
-  pub sound : (p : ℕ) → p < length entries → is_sound scalars (entry_at entries p) ≡ true
   pub used : (i : ℕ) → i < length scalars → list_any (names i) entries ≡ true
-  pub starts : reverse begun ≡ open_after (all_shown scalars entries)
-  pub skips : IsSkips (all_shown scalars entries) (behind_at entries)
+  pub told : IsTold scalars entries begun
 
 -- the same of events, which are the different scalars
 abbrev pub KeepsScalars : List Event → List Entry → (begun : List ℕ) → Type 0

@@ -1,5 +1,5 @@
--- Which starts among events have no end yet.
-use Rattle.std.specs.Prelude.{ℕ, ◌+◌, List, [], ◌∷◌}
+-- Which starts among events have no end yet, and where the others have theirs.
+use Rattle.std.specs.Prelude.{ℕ, ◌+◌, ◌==◌, if◌then◌else◌, List, [], ◌∷◌}
 use Rattle.plist_base.specs.Events.{PlainEvent, EndCollection, Single}
 
 -- the places without the innermost one
@@ -23,3 +23,20 @@ open_from (event ∷ events) place begun =
 -- the starts among these events that have no end yet
 abbrev pub open_after : List PlainEvent → List ℕ
 open_after events = open_from events 0 []
+
+-- the place behind the tree that begins at q, where this was told before the event at a place came
+abbrev pub skip_behind : PlainEvent → (place : ℕ) → (begun : List ℕ) → (q told : ℕ) → ℕ
+skip_behind EndCollection place (innermost ∷ outer) q told =
+    if q == innermost then place + 1 else told
+skip_behind event place begun q told = told
+
+-- the same, once these events have come from a place on
+abbrev pub skip_from : List PlainEvent → (place : ℕ) → (begun : List ℕ) → (q told : ℕ) → ℕ
+skip_from [] place begun q told = told
+skip_from (event ∷ events) place begun q told =
+    skip_from events (place + 1) (open_behind event place begun) q
+    (skip_behind event place begun q told)
+
+-- the place behind it among these events, or behind its first one as long as it has no end
+abbrev pub skip_after : List PlainEvent → (q : ℕ) → ℕ
+skip_after events q = skip_from events 0 [] q (q + 1)

@@ -46,8 +46,8 @@ module _ (file : Planned) where
       → IsWritable file.width (obj_of (numbers_by file) t place)
 
   -- the objects of the plan end here, in this order
-  abbrev pub TellsEnd : (order : List ℕ) → Option ℕ → Type 0
-  TellsEnd order told = (objects : ℕ → Object)
+  abbrev pub TellsEndOfFile : (order : List ℕ) → Option ℕ → Type 0
+  TellsEndOfFile order told = (objects : ℕ → Object)
       → Describes (events_in file) (numbers_of file.plan.now) objects
       → TellsSize told (length (laid_out file.width objects order))
 

@@ -1,7 +1,6 @@
--- The stack of what has to come, xs the code holds it: without the value that is wanted where
--- nothing
+-- The stack of what has to come, as the code holds it: without the value that is wanted where nothing
 -- is held. In these lists the topmost want comes first.
-use Rattle.std.specs.Prelude.{◌≡◌, Bool, true, false, ◌&&◌, List, [], ◌∷◌, Option, None, Some, map, reverse, ⊤}
+use Rattle.std.specs.Prelude.{◌≡◌, Bool, true, false, List, [], ◌∷◌, Some, map, reverse, ⊤}
 use Rattle.plist_base.specs.Events.{PlainEvent}
 use Rattle.plist_base.specs.inner.Wants.{Want, OneValue, Items, Pairs, Change, Refused, Gone, Kept, Pushed, Became, change_of, wanted_after}
 use Rattle.plist_binwrite.specs.declared.wants.Want as code_want
@@ -40,45 +39,28 @@ abbrev pub IsChangeBy : List code_want.Want → PlainEvent → code_change.Chang
 IsChangeBy wants event change = change_seen change ≡ change_on_top (stack_of wants) event
 
 -- the stack after a change that isn't refused
-abbrev pub Puts : (old : List Want) → Change → (new : List Want) → Type 0
-Puts old Refused new = ⊤
-Puts [] Gone new = new ≡ []
-Puts (top ∷ rest) Gone new = new ≡ rest
-Puts [] Kept new = ⊤
-Puts (top ∷ rest) Kept new = new ≡ top ∷ rest
-Puts [] (Pushed want) new = ⊤
-Puts (top ∷ rest) (Pushed want) new = new ≡ want ∷ top ∷ rest
-Puts [] (Became want) new = new ≡ want ∷ []
-Puts (top ∷ rest) (Became want) new = new ≡ want ∷ rest
+abbrev pub ChangesTo : (old : List Want) → Change → (new : List Want) → Type 0
+ChangesTo old Refused new = ⊤
+ChangesTo [] Gone new = new ≡ []
+ChangesTo (top ∷ rest) Gone new = new ≡ rest
+ChangesTo [] Kept new = ⊤
+ChangesTo (top ∷ rest) Kept new = new ≡ top ∷ rest
+ChangesTo [] (Pushed want) new = ⊤
+ChangesTo (top ∷ rest) (Pushed want) new = new ≡ want ∷ top ∷ rest
+ChangesTo [] (Became want) new = new ≡ want ∷ []
+ChangesTo (top ∷ rest) (Became want) new = new ≡ want ∷ rest
 
 -- nothing more is wanted
 abbrev pub is_nothing : List Want → Bool
 is_nothing [] = true
 is_nothing (want ∷ wants) = false
 
--- ---- whether a stack is another
-
-abbrev pub want_eq : Want → Want → Bool
-want_eq OneValue OneValue = true
-want_eq Items Items = true
-want_eq Pairs Pairs = true
-want_eq a b = false
-
-abbrev pub stack_eq : List Want → List Want → Bool
-stack_eq [] [] = true
-stack_eq (a ∷ xs) (b ∷ ys) = want_eq a b && stack_eq xs ys
-stack_eq xs ys = false
-
-abbrev pub is_stack : Option (List Want) → List Want → Bool
-is_stack None stack = false
-is_stack (Some wants) stack = stack_eq wants stack
-
--- what is wanted, where the code holds these wants, and whether a root is complete
-abbrev pub wanted_now : (complete : Bool) → List code_want.Want → List Want
-wanted_now true wants = []
-wanted_now false wants = with_root (stack_of wants)
+-- what is wanted, where the code holds this stack, and whether a root is complete
+abbrev pub wanted_now : (complete : Bool) → List Want → List Want
+wanted_now true stack = []
+wanted_now false stack = with_root stack
 
 -- the code holds what is wanted behind these events
 abbrev pub AreWanted : List PlainEvent → (complete : Bool) → List code_want.Want → Type 0
 AreWanted events complete wants =
-    is_stack (wanted_after events) (wanted_now complete wants) ≡ true
+    wanted_after events ≡ Some (wanted_now complete (stack_of wants))

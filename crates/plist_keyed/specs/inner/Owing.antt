@@ -17,7 +17,7 @@ use Rattle.plist_keyed.specs.declared.walk.Move.{Move}
 use Rattle.plist_keyed.specs.declared.walk.Move.TheVariants as move
 use Rattle.plist_keyed.specs.declared.walk.Walk.{Walk}
 use Rattle.plist_keyed.specs.Archives.{number_of_uid}
-use Rattle.plist_keyed.specs.inner.Walks.{Step, items_of, steps_of, steps_of_event, steps_at}
+use Rattle.plist_keyed.specs.inner.Walks.{Step, items_of_steps, steps_of_events, steps_of_event, steps_at}
 
 -- the events of each object
 abbrev pub objects_seen : List Value → List (List PlainEvent)
@@ -26,12 +26,12 @@ objects_seen objects = map bracketing (map tree_of objects)
 -- the items of a Uid's walk
 abbrev pub items_at : List Value → (uid : ℕ) → List Item
 items_at objects uid =
-    items_of (steps_at (objects_seen objects) (length (objects_seen objects)) [] uid)
+    items_of_steps (steps_at (objects_seen objects) (length (objects_seen objects)) [] uid)
 
 -- the number of a Uid's event
-abbrev pub uid_in : PlainEvent → Option ℕ
-uid_in (Single scalar) = number_of_uid scalar
-uid_in event = None
+abbrev pub uid_of_event : PlainEvent → Option ℕ
+uid_of_event (Single scalar) = number_of_uid scalar
+uid_of_event event = None
 
 module _ (objects : List (List PlainEvent)) where
   -- the steps of a Uid behind the path
@@ -44,7 +44,7 @@ module _ (objects : List (List PlainEvent)) where
   owed_by [] path = []
   owed_by (level ∷ below) [] = []
   owed_by (level ∷ below) (uid ∷ path) =
-      steps_of (follow_in (uid ∷ path)) (remaining_events level) ++ None ∷ owed_by below path
+      steps_of_events (follow_in (uid ∷ path)) (remaining_events level) ++ None ∷ owed_by below path
 
 -- the open Uids
 abbrev pub path_of : Walk → List ℕ
@@ -69,8 +69,8 @@ abbrev pub follow : Walk → ℕ → List Step
 follow walk uid = follow_in (objects_seen walk.objects.now) (path_of walk) uid
 
 -- the walk is as it was
-abbrev pub IsKept : Walk → Walk → Type 0
-IsKept old new =
+abbrev pub WalkIsKept : Walk → Walk → Type 0
+WalkIsKept old new =
     (new.objects ≡ old.objects) × (new.path.keys ≡ old.path.keys)
     × (new.levels.items ≡ old.levels.items)
 
@@ -110,4 +110,5 @@ PaysFor old event answer new =
 -- the items that are to come begin with this one
 abbrev pub Gives : Walk → Option (Result Event Error) → Walk → Type 0
 Gives old item new =
-    BeginsWith (items_of (owed old)) (option_map (item_by event_of) item) (items_of (owed new))
+    BeginsWith (items_of_steps (owed old)) (option_map (item_by event_of) item)
+    (items_of_steps (owed new))

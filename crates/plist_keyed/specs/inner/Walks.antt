@@ -18,10 +18,10 @@ abbrev pub Step : Type 0
 Step = Option Item
 
 -- the items of some steps
-abbrev pub items_of : List Step → List Item
-items_of [] = []
-items_of (Some item ∷ steps) = item ∷ items_of steps
-items_of (None ∷ steps) = items_of steps
+abbrev pub items_of_steps : List Step → List Item
+items_of_steps [] = []
+items_of_steps (Some item ∷ steps) = item ∷ items_of_steps steps
+items_of_steps (None ∷ steps) = items_of_steps steps
 
 -- the steps of an event, where a Uid is followed
 abbrev pub steps_of_event : (follow : ℕ → List Step) → PlainEvent → List Step
@@ -29,8 +29,8 @@ steps_of_event follow (Single scalar) =
     option_map_or follow (number_of_uid scalar) (Some (Ok (Single scalar)) ∷ [])
 steps_of_event follow event = Some (Ok event) ∷ []
 
-abbrev pub steps_of : (follow : ℕ → List Step) → List PlainEvent → List Step
-steps_of follow es = flat_map (steps_of_event follow) es
+abbrev pub steps_of_events : (follow : ℕ → List Step) → List PlainEvent → List Step
+steps_of_events follow es = flat_map (steps_of_event follow) es
 
 -- the steps of what a Uid finds
 abbrev pub steps_found : (found : Option (List PlainEvent)) (is_open : Bool) (uid : ℕ)
@@ -45,4 +45,4 @@ module _ (objects : List (List PlainEvent)) where
   steps_at zero path uid = steps_found (slice_get objects uid) true uid (λ object. [])
   steps_at (suc room) path uid =
       steps_found (slice_get objects uid) (list_any (nat_eq uid) path) uid
-      (λ object. steps_of (steps_at room (uid ∷ path)) object)
+      (λ object. steps_of_events (steps_at room (uid ∷ path)) object)

@@ -4,7 +4,7 @@ use Rattle.plist_base.specs.Events.{PlainEvent}
 use Rattle.plist_base.specs.Trees.{Tree, Leaf, Array, Dictionary}
 use Rattle.std.specs.declared.alloc.Global.{Global}
 use Rattle.std.specs.declared.vec.Vec.{Vec}
-use Rattle.plist_binwrite.specs.Held.{held_at, keys_in, kind_of, num_of, plain_events, values_in}
+use Rattle.plist_binwrite.specs.Held.{held_at, keys_in, held_kind, num_of, plain_events, values_in}
 use Rattle.plist_binwrite.specs.declared.held.Held.{Held}
 use Rattle.plist_binwrite.specs.declared.kinds.Kind.{Kind}
 use Rattle.plist_binwrite.specs.declared.kinds.Kind.TheVariants as kind
@@ -86,7 +86,7 @@ abbrev pub IsClassAt : Held → (classes : List ℕ) → (base : ℕ) → (seen 
     → (place class : ℕ) → Type 0
 IsClassAt held classes base seen place class = (t : Tree) → Sits (plain_events held) t place
     → IsIndexed (num_of classes) base (keys_seen seen)
-    (is_dictionary (kind_of (held_at held place)))
+    (is_dictionary (held_kind (held_at held place)))
     t place class
 
 -- from this place on each tree has its class, and before it the scalars have theirs

@@ -1,13 +1,11 @@
-use Rattle.std.proofs.Common.{◌≡◌, ◌+◌, ℕ, suc, List, take, string_bytes, ap, ◌∙◌, arith}
-use Rattle.std.specs.Str.{bytes_eq}
-use Rattle.std.proofs.lemmas.List.{length-map, take_all}
+use Rattle.std.proofs.Common.{◌≡◌, ◌+◌, ℕ, suc, List, take, string_bytes, ap, ◌∙◌, arith, bytes_eq, take_all}
+use Rattle.std.proofs.lemmas.List.{length-map}
 use Rattle.indexmap.specs.IndexMap.{insert_entry}
 use Rattle.plist_base.specs.Trees.{Tree}
 use Rattle.plist.specs.Views.{tree_of, tree_pairs}
-use Rattle.plist.proofs.Keeping.{values-insert}
+use Rattle.plist.proofs.Keeping.{values-insert, next-last}
 use Rattle.plist.proofs.Tops.{once_trees}
 use Rattle.plist.proofs.Columns.{get-map}
-use Rattle.plist.proofs.Copies.{next-last}
 use Rattle.plist.proofs.copy.copy_pairs.Goals as goal
 
 pub loop-i-preserved : goal.loop-i-preserved

@@ -1,4 +1,4 @@
-use Rattle.std.proofs.Common.{◌≡◌, true, false, refl, ap, string_bytes, vec_items}
+use Rattle.std.proofs.Common.{◌≡◌, true, false, refl, ap, vec_items}
 use Rattle.std.proofs.lemmas.Str.{IsUtf8-string_bytes, is_utf8-from_IsUtf8, IsUtf8-from_is_utf8}
 use Rattle.std.proofs.lemmas.Bool.{false_from_ne_true}
 use Rattle.plist_ascii.proofs.text.text_of.Goals as goal
@@ -8,7 +8,7 @@ false_true e = cc
 
 pub returns-in-Ok-clause-value : goal.returns-in-Ok-clause-value
 returns-in-Ok-clause-value c =
-    let same : string_bytes c.in-Ok.text ≡ c.args.bytes.items = ap vec_items c.in-Ok.ensures.ok in
+    let same = ap vec_items c.in-Ok.ensures.ok in
     let text = is_utf8-from_IsUtf8 _ (IsUtf8-string_bytes c.in-Ok.text) in
     (rw same at text, same)
 

@@ -10,7 +10,7 @@ returns-then-second-lt0 c =
     let w = below_zero c.args.second _ _ (simp to_z-of_z at c.in-Some.ensures)
     (simp to_z-of_z at c.if-second-lt0.true) (c.bits_of_whole-bits.ensures.is
     ∙ ap whole_bits (simp to_z-of_z at c.unsigned_abs.ensures.value)) in
-    record { is = (w.ranged, w.is); back = (w.back, w.whole); exact = w.exact }
+    record { is = w.is; back = w.back; exact = w.exact }
 
 pub returns-else-second-lt0 : goal.returns-else-second-lt0
 returns-else-second-lt0 c =
@@ -18,4 +18,4 @@ returns-else-second-lt0 c =
     let w = from_zero c.args.second _ _ (simp to_z-of_z at c.in-Some.ensures)
     (simp to_z-of_z at c.if-second-lt0.false) (c.bits_of_whole-bits.ensures.is
     ∙ ap whole_bits (simp to_z-of_z at c.unsigned_abs.ensures.value)) in
-    record { is = (w.ranged, w.is); back = (w.back, w.whole); exact = w.exact }
+    record { is = w.is; back = w.back; exact = w.exact }

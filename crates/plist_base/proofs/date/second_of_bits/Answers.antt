@@ -1,11 +1,8 @@
 use Rattle.std.proofs.Common.{rules, ◌∙◌, FitsSigned, w64, ap}
 use Rattle.std.proofs.lemmas.Int.{to_z-of_z}
 use Rattle.plist_base.specs.Date.{if_second_of_date, parts_left}
-use Rattle.plist_base.proofs.DateShifts.{second_far, second_is}
+use Rattle.plist_base.proofs.DateShifts.{second_is}
 use Rattle.plist_base.proofs.date.second_of_bits.Goals as goal
-
-pub returns-in-None : goal.returns-in-None
-returns-in-None c = second_far c.args.bits c.in-None.ensures.range
 
 pub returns-in-Some : goal.returns-in-Some
 returns-in-Some c =

@@ -1,11 +1,8 @@
 use Rattle.std.proofs.Common.{ap, ◌∙◌, Some}
-use Rattle.plist_base.proofs.Numerals.{signed_back, signed_ok, signed_err}
+use Rattle.plist_base.proofs.Numerals.{signed_back, signed_ok}
 use Rattle.plist_base.proofs.integer.signed.Goals as goal
 
 pub returns-in-Ok : goal.returns-in-Ok
 returns-in-Ok c =
     let v = c.in-Ok.ensures.value.0 in ap Some
     (signed_back _ _ c.args.text.now c.from.ensures v.0.1 v.1) ∙ signed_ok _ c.args.text.now v
-
-pub returns-in-Err : goal.returns-in-Err
-returns-in-Err c = signed_err c.args.text.now c.in-Err.ensures.value.0

@@ -1,5 +1,5 @@
 use Rattle.std.proofs.Common.{rules}
-use Rattle.plist_base.proofs.Fill.{fill_more_known}
+use Rattle.plist_base.proofs.Places.{fill_more_known}
 use Rattle.plist_base.proofs.source.read_exact_at.Goals as goal
 
 pub loop-done-preserved : goal.loop-done-preserved

@@ -2,7 +2,7 @@ use Rattle.std.proofs.Common.{Ok, ◌≡◌, arith, sym, ◌<◌, get_or, length
 use Rattle.std.proofs.lemmas.List.{length-reverse, get_or_read_under}
 use Rattle.std.proofs.lemmas.Result.{on_ok_weaker}
 use Rattle.plist_binread.specs.declared.walk.Turn.TheVariants.{Done, Closed, Child}
-use Rattle.plist_binread.specs.Debt.{entries_of, next_number}
+use Rattle.plist_binread.specs.Debt.{next_number}
 use Rattle.plist_binread.proofs.Steps.{steps_positive}
 use Rattle.plist_binread.proofs.KnownTurns.{Turned, known_turned, known_after, known_done, known_closed, known_child_failed}
 use Rattle.plist_binread.proofs.Entering.{known_child_goes, known_goes}
@@ -28,7 +28,7 @@ child : (g : _) (c : In-Child g) → IfSome (g.S.Source.known c.args.source.now)
     (reverse c.args.walk.now.frames) (Child c.in-Child.object c.in-Child.index)
     (reverse c.turn.new.self.frames))
 child g c =
-    known_turned _ _ _ _ _ _ _ _ (Child c.in-Child.object c.in-Child.index) c.requires.known
+    known_turned _ _ _ _ _ _ _ _ (Child _ _) c.requires.known
     c.in-Child.ensures.owed
 
 -- the place of the collection
@@ -36,8 +36,8 @@ place : (g : _) (c : After-go_near g)
     → c.index-at.result.now ≡ get_or c.turn.new.self.contents.items c.in-Child.object 0
 place g c =
     let h : c.in-Child.object < length c.turn.new.self.contents.items = omega
-    (arith, c.in-Child.ensures.within.0, c.turn.new.self.same) in
-    get_or_read_under _ c.in-Child.object _ _ 0 c.index-at.ensures h refl
+    (arith, c.in-Child.ensures.within.0) in
+    get_or_read_under _ _ _ _ 0 c.index-at.ensures h refl
 
 -- ---- nothing is owed, or an end
 
@@ -63,13 +63,13 @@ returns-in-Closed-clause-pays g c =
 
 pub go_near-requires-clause-known : goal.go_near-requires-clause-known
 go_near-requires-clause-known g c =
-    known_after _ _ _ _ _ _ (Child c.in-Child.object c.in-Child.index)
+    known_after _ _ _ _ _ _ (Child _ _)
     (child g (goal.at.go_near-requires-clause-known g c).In-Child)
 
 pub returns-then-go_near-clause-kept : goal.returns-then-go_near-clause-kept
 returns-then-go_near-clause-kept g c =
     let t = goal.at.returns-then-go_near-clause-kept g c in
-    second _ _ _ (known_child_goes _ _ _ _ _ _ _ _ _ _ (Ok tt) _ c.in-Child.ensures.within.0
+    second _ _ _ (known_child_goes _ _ _ _ _ _ _ _ _ _ _ _ c.in-Child.ensures.within.0
     c.in-Child.ensures.within.1 (child g t.In-Child)
     (rw (place g t.After-go_near) at (c.go_near.ensures.enters c.if-go_near.true)))
 
@@ -86,12 +86,11 @@ returns-then-go_near-clause-falls g c =
     let f = rw c.turn.ensures.size at (c.go_near.ensures.falls c.if-go_near.true) in (
       omega (
         arith,
-        e,
         steps_positive
             (length c.args.walk.now.tags.items - length c.turn.new.self.frames),
       ),
       omega
-          (arith, e, f),
+          (arith),
     )
 
 -- ---- a child that is read
@@ -112,9 +111,9 @@ returns-in-Err-clause-known g c =
 
 pub returns-in-Err-clause-kept : goal.returns-in-Err-clause-kept
 returns-in-Err-clause-kept g c =
-    kept_fault (g.S.Source.known c.args.source.now)
-    (λ bytes. next_number (entries_of bytes c.args.bounds.now)
-    (reverse c.args.walk.now.frames)) c.go_near.new.walk.tags.items c.in-Err.error _
+    kept_fault _
+    (λ bytes. next_number _
+    (reverse c.args.walk.now.frames)) _ _ _
 
 pub returns-in-Err-clause-falls : goal.returns-in-Err-clause-falls
 returns-in-Err-clause-falls g c =
@@ -122,7 +121,6 @@ returns-in-Err-clause-falls g c =
     let e = rw length-reverse at (c.in-Child.ensures.weight n) in (
       omega (
         arith,
-        e,
         steps_positive
             (n - length c.turn.new.self.frames),
       ),
@@ -132,7 +130,7 @@ returns-in-Err-clause-falls g c =
 pub returns-in-Err-clause-pays : goal.returns-in-Err-clause-pays
 returns-in-Err-clause-pays g c =
     let t = goal.at.returns-in-Err-clause-pays g c in
-    known_child_failed _ _ _ _ _ _ _ _ c.in-Err.error c.in-Child.ensures.within.0
+    known_child_failed _ _ _ _ _ _ _ _ _ c.in-Child.ensures.within.0
     c.in-Child.ensures.within.1 (child g t.In-Child)
     (rw (place g t.After-go_near) at c.in-Err.ensures.child)
 
@@ -143,7 +141,6 @@ returns-in-Ok-clause-falls g c =
     let e = rw length-reverse at (c.in-Child.ensures.weight n) in (
       omega (
         arith,
-        e,
         steps_positive
             (n - length c.turn.new.self.frames),
       ),
@@ -158,8 +155,8 @@ returns-in-Ok-clause-pays g c =
     let same = c.go_near.ensures.unchanged c.if-go_near.false in
     first _ _ _ (known_child_goes _ _ _ _ _ _ _ _ _ _ c.enter.result _
     c.in-Child.ensures.within.0 c.in-Child.ensures.within.1 (child g t.In-Child)
-    (known_goes _ _ _ _ _ _ _ _ (length c.turn.new.self.frames) _ _ c.in-Ok.number c.enter.result
-    _ c.in-Ok.ensures.unchanged (sym (length-reverse c.turn.new.self.frames))
+    (known_goes _ _ _ _ _ _ _ _ _ _ _ _ _
+    _ c.in-Ok.ensures.unchanged (sym (length-reverse _))
     (known_after _ _ _ _ _ _ (Child c.in-Child.object c.in-Child.index) (child g t.In-Child))
     (rw read at c.in-Ok.ensures.child) c.enter.ensures.kept
     (rw (read, same.0, same.2) at c.enter.ensures.pays)))

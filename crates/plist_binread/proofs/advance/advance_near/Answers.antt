@@ -20,11 +20,11 @@ goes : (g : _) (c : After-go_near g) → c.go_near.result ≡ true
     (event_in c.go_near.new.last) c.go_near.new.walk.tags.items)
 goes g c went =
     let h : c.in-Child.object < length c.turn.new.self.contents.items = omega
-    (arith, c.in-Child.ensures.within.0, c.turn.new.self.same) in
-    let read = get_or_read_under _ c.in-Child.object _ _ 0 c.index-at.ensures h refl in
+    (arith, c.in-Child.ensures.within.0) in
+    let read = get_or_read_under _ _ _ _ 0 c.index-at.ensures h refl in
     known_child_goes _ _ _ _ _ _ _ _ _ _ (Ok tt) _ c.in-Child.ensures.within.0
     c.in-Child.ensures.within.1 (known_turned _ _ _ _ _ _ _ _
-    (Child c.in-Child.object c.in-Child.index) c.requires.known c.in-Child.ensures.owed)
+    (Child _ _) c.requires.known c.in-Child.ensures.owed)
     (rw read at (c.go_near.ensures.enters went))
 
 pub returns-then-go_near-clause-kept : goal.returns-then-go_near-clause-kept

@@ -4,6 +4,6 @@ use Rattle.plist_binread.proofs.child.ask.Goals as goal
 
 pub returns-clause-slots : goal.returns-clause-slots
 returns-clause-slots c = λ more.
-    lent_slots _ _ _ _ _ c.args.seen.now _ _ more c.in_ok-pairs.ensures.slots c.requires
+    lent_slots _ _ _ _ _ _ _ _ _ c.in_ok-pairs.ensures.slots c.requires
     c.in_ok-marker.ensures.cases.0 c.in_ok-count.ensures.short refl
-    (c.in_ok-count.ensures.length more) c.in_ok-count.ensures.behind
+    (c.in_ok-count.ensures.length _) c.in_ok-count.ensures.behind

@@ -5,8 +5,8 @@ use Rattle.plist_binread.proofs.child.near_child.Goals.{then-asked-place+else-pl
 pub near_number-requires : goal.near_number-requires
 near_number-requires g c = elim c.if-asked-place.branch [
   | then-asked-place+else-place-bounds+in_ok-asked w ↦ rw w.asked-is
-      (known_asks (g.S.Source.known c.args.source.now) c.args.bounds.now w.in_ok-asked.field-0
-      c.args.place w.lent_before-seen.result.now w.in_ok-asked.ensures.place
+      (known_asks _ c.args.bounds.now _
+      _ _ w.in_ok-asked.ensures.place
       w.lent_before-seen.ensures.bytes w.in_ok-asked.ensures.slots)
   | else-asked-place w ↦ rw w.asked-is c.requires.asked
 ]
@@ -14,8 +14,8 @@ near_number-requires g c = elim c.if-asked-place.branch [
 pub returns-clause-asked : goal.returns-clause-asked
 returns-clause-asked g c = elim c.if-asked-place.branch [
   | then-asked-place+else-place-bounds+in_ok-asked w ↦ rw w.asked-is
-      (known_asks (g.S.Source.known c.args.source.now) c.args.bounds.now w.in_ok-asked.field-0
-      c.args.place w.lent_before-seen.result.now w.in_ok-asked.ensures.place
+      (known_asks _ c.args.bounds.now _
+      _ _ w.in_ok-asked.ensures.place
       w.lent_before-seen.ensures.bytes w.in_ok-asked.ensures.slots)
   | else-asked-place w ↦ rw w.asked-is c.requires.asked
 ]

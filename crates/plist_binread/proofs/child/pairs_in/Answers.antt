@@ -4,8 +4,8 @@ use Rattle.plist_binread.proofs.child.pairs_in.Goals as goal
 
 pub returns-in-160-to-175-clause-slots : goal.returns-in-160-to-175-clause-slots
 returns-in-160-to-175-clause-slots c =
-    array_pairs c.args.marker c.args.count (omega arith) (omega arith)
+    array_pairs _ _ (omega arith) (omega arith)
 
 pub returns-in-208-to-223-clause-slots : goal.returns-in-208-to-223-clause-slots
 returns-in-208-to-223-clause-slots c =
-    dictionary_pairs c.args.marker c.args.count (omega arith) (omega arith)
+    dictionary_pairs _ _ (omega arith) (omega arith)

@@ -5,28 +5,28 @@ use Rattle.plist_binread.proofs.child.read_asked.Goals as goal
 
 pub returns-then-place-bounds-clause-slots : goal.returns-then-place-bounds-clause-slots
 returns-then-place-bounds-clause-slots g c = λ index.
-    known_beyond _ c.args.bounds.now c.args.place index (Err c.with_byte_offset.result)
+    known_beyond _ c.args.bounds.now _ _ (Err c.with_byte_offset.result)
     c.if-place-bounds.true
 
 pub returns-in_err-content-clause-slots : goal.returns-in_err-content-clause-slots
 returns-in_err-content-clause-slots g c =
     let p = err_from_is_err_and c.from_residual-in_err-content.result
     c.from_residual-in_err-content.ensures.1 in
-    rw (p.1, p.2) (λ index. known_uncounted _ c.args.bounds.now c.args.place
-    c.in_ok-marker.field-0 index c.in_err-content.field-0.0 c.if-place-bounds.false
+    rw (p.1, p.2) (λ index. known_uncounted _ c.args.bounds.now _
+    _ _ c.in_err-content.field-0.0 c.if-place-bounds.false
     c.in_ok-marker.ensures.value
     (rw c.in_ok-marker.ensures.unchanged at c.in_err-content.ensures.value))
 
 pub returns-in-Some-clause-slots : goal.returns-in-Some-clause-slots
 returns-in-Some-clause-slots g c =
-    known_reads _ c.args.bounds.now c.args.place c.in_ok-marker.field-0
-    c.in_ok-content.content.count c.in_ok-content.content.start c.in-Some.pairs
+    known_reads _ c.args.bounds.now _ _
+    _ _ _
     c.if-place-bounds.false c.in_ok-content.ensures.behind c.in_ok-content.ensures.within
     c.in-Some.ensures.slots c.in_ok-marker.ensures.value
     (rw c.in_ok-marker.ensures.unchanged at c.in_ok-content.ensures.value)
 
 pub returns-in-None-clause-slots : goal.returns-in-None-clause-slots
 returns-in-None-clause-slots g c = λ index.
-    known_childless _ c.args.bounds.now c.args.place c.in_ok-marker.field-0 index
+    known_childless _ c.args.bounds.now _ _ _
     (Err c.with_byte_offset-in-None.result) c.if-place-bounds.false c.in_ok-marker.ensures.value
     c.in-None.ensures.none

@@ -21,8 +21,8 @@ pub returns-in-None-clause-pays : goal.returns-in-None-clause-pays
 returns-in-None-clause-pays g c =
     let found = rw (c.in-None.is, c.as_slice.ensures.value, c.as_slice-2.ensures.value) at
     c.in_ok-found.ensures.found in
-    from_any _ _ c.args.at (known_recalled _ _ _ _ _ _ c.args.number _
-    (sym (length-reverse c.args.walk.now.frames)) c.args.walk.now.path c.requires.known
+    from_any _ _ _ (known_recalled _ _ _ _ _ _ _ _
+    (sym (length-reverse _)) c.args.walk.now.path c.requires.known
     (rw c.as_slice.ensures.value at c.in_ok-found.ensures.below)
     (rw c.as_slice.ensures.value at c.in_ok-found.ensures.new) found.0 found.1)
 
@@ -42,20 +42,20 @@ there : (g : _) (c : After-open_lent g)
     → IfSome (g.S.Source.known c.args.source.now) (λ bytes. LentAt bytes c.args.bounds.now
     c.args.number (event_in c.decode.new.last) c.in_ok-lent-in-Some.lent)
 there g c =
-    known_decoded _ _ _ _ _ c.args.number c.in-Some.place _ _ c.requires.known
+    known_decoded _ _ _ _ _ _ _ _ _ c.requires.known
     (rw c.as_slice.ensures.value at c.in_ok-found.ensures.below)
     (rw (c.in-Some.is, c.as_slice.ensures.value, c.as_slice-2.ensures.value) at
     c.in_ok-found.ensures.found) c.in_ok-lent-in-Some.ensures.decoded
 
 pub returns-then-open_lent-clause-known : goal.returns-then-open_lent-clause-known
 returns-then-open_lent-clause-known g c =
-    second _ _ _ (known_gains _ _ _ _ _ c.args.number _ _ _ _
+    second _ _ _ (known_gains _ _ _ _ _ _ _ _ _ _
     c.requires.known (there g (goal.at.returns-then-open_lent-clause-known g c).After-open_lent)
     (c.open_lent.ensures.pays c.if-open_lent.true))
 
 pub returns-then-open_lent-clause-pays : goal.returns-then-open_lent-clause-pays
 returns-then-open_lent-clause-pays g c =
-    from_any _ _ c.args.at (first _ _ _ (known_gains _ _ _ _ _ c.args.number _ _ _ _
+    from_any _ _ _ (first _ _ _ (known_gains _ _ _ _ _ _ _ _ _ _
     c.requires.known
     (there g (goal.at.returns-then-open_lent-clause-pays g c).After-open_lent)
     (c.open_lent.ensures.pays c.if-open_lent.true)))

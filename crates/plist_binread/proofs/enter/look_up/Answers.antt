@@ -6,12 +6,12 @@ use Rattle.plist_binread.proofs.enter.look_up.Goals as goal
 
 pub returns-then-number-tags-clause-refused : goal.returns-then-number-tags-clause-refused
 returns-then-number-tags-clause-refused c = λ bytes bounds fs o k.
-    unfound_beyond bytes bounds c.args.tags.now c.args.contents.now fs k o c.args.at c.args.number _
+    unfound_beyond _ _ _ _ fs k o _ _ _
     (omega arith) c.with_byte_offset.ensures.fault
 
 pub returns-then-tag-ge128-clause-refused : goal.returns-then-tag-ge128-clause-refused
 returns-then-tag-ge128-clause-refused c = λ bytes bounds fs o k.
-    unfound_open bytes bounds c.args.tags.now c.args.contents.now fs k o c.args.at c.args.number _
+    unfound_open _ _ _ _ fs k o _ _ _
     (omega arith) (le-leb 128 _ c.if-tag-ge128.true)
     c.with_byte_offset-then-tag-ge128.ensures.fault
 

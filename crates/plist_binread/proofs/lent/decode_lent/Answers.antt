@@ -13,7 +13,7 @@ whole : (g : _) (c : After-lent_behind-lent g) → LendsWhole c.args.room (objec
 whole g c = λ more fits.
     let first = c.in-Some.ensures.cases in
     rw (object_lent _ _ _ _ (ap (λ xs. xs ++ more) first.0))
-    (c.lent_behind-lent.ensures.lent more (omega (arith, first.1, length-append {A = ℕ}, fits)))
+    (c.lent_behind-lent.ensures.lent _ (omega (arith, length-append {A = ℕ})))
 
 pub returns-then-is_small_lent-clause-lent : goal.returns-then-is_small_lent-clause-lent
 returns-then-is_small_lent-clause-lent g c =

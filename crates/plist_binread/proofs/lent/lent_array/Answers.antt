@@ -1,10 +1,8 @@
-use Rattle.std.proofs.Common.{◌++◌}
-use Rattle.plist_binread.specs.Object.{length_in}
 use Rattle.plist_binread.proofs.Children.{array_lent}
 use Rattle.plist_binread.proofs.lent.lent_array.Goals as goal
 
 pub returns-in-Ok-clause-lent : goal.returns-in-Ok-clause-lent
 returns-in-Ok-clause-lent c = λ more whole.
     let found = c.in-Ok.ensures.count more whole in
-    rw c.tell.ensures (array_lent c.args.width c.in-Ok.count found.0
-    (length_in c.args.marker (c.args.rest.now ++ more)) c.requires.width found.1 found.2)
+    rw c.tell.ensures (array_lent _ _ found.0
+    _ c.requires.width found.1 found.2)

@@ -5,9 +5,9 @@ use Rattle.plist_binread.proofs.lent.lent_date.Goals as goal
 
 pub returns-in-Ok-clause-lent : goal.returns-in-Ok-clause-lent
 returns-in-Ok-clause-lent c = λ more whole. ap single_in
-    (c.in-Some.ensures.content more date ∙ ap date_if_any c.in-Ok.ensures.date)
+    (c.in-Some.ensures.content _ date ∙ ap date_if_any c.in-Ok.ensures.date)
     ∙ ap Some (sym c.hold.ensures)
 
 pub returns-in-Err-clause-lent : goal.returns-in-Err-clause-lent
 returns-in-Err-clause-lent c = λ more whole.
-    c.in-Some.ensures.content more date ∙ ap date_if_any (c.in-Err.ensures.refused.0 refl)
+    c.in-Some.ensures.content _ date ∙ ap date_if_any (c.in-Err.ensures.refused.0 refl)

@@ -7,5 +7,5 @@ use Rattle.plist_binread.proofs.lent.lent_real.Goals as goal
 
 pub returns-in-Some-clause-lent : goal.returns-in-Some-clause-lent
 returns-in-Some-clause-lent c = λ more whole. ap single_in
-    (c.in-Some.ensures.content more (λ content. Scalar (Real (Eight content))))
+    (c.in-Some.ensures.content _ (λ content. Scalar (Real (Eight content))))
     ∙ ap Some (sym c.hold.ensures)

@@ -6,5 +6,5 @@ use Rattle.plist_binread.proofs.lent.lent_signed.Goals as goal
 
 pub returns-in-Some-clause-lent : goal.returns-in-Some-clause-lent
 returns-in-Some-clause-lent c = λ more. rw c.tell_signed.ensures.scalar (λ whole. ap single_in
-    (c.in-Some.ensures.value more (λ n. Scalar (Integer (signed 64 n))))
+    (c.in-Some.ensures.value _ (λ n. Scalar (Integer (signed 64 n))))
     ∙ ap Some (sym c.tell_signed.ensures.told))

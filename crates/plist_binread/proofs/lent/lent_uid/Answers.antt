@@ -6,5 +6,5 @@ use Rattle.plist_binread.proofs.lent.lent_uid.Goals as goal
 
 pub returns-in-Some-clause-lent : goal.returns-in-Some-clause-lent
 returns-in-Some-clause-lent c = λ more whole. ap single_in
-    (c.in-Some.ensures.value more (λ n. Scalar (Uid n)))
+    (c.in-Some.ensures.value _ (λ n. Scalar (Uid n)))
     ∙ ap Some (sym c.tell.ensures)

@@ -8,14 +8,14 @@ use Rattle.plist_binread.proofs.lent.lent_wide.Goals as goal
 pub returns-then-high-ne0-clause-lent : goal.returns-then-high-ne0-clause-lent
 returns-then-high-ne0-clause-lent c = λ more whole.
     let some : 0 < c.number_from-high.result = omega arith in
-    wide_front c.args.rest.now more c.if-rest-lt16.false
+    wide_front _ _ c.if-rest-lt16.false
     ∙ rw (← c.number_from-high.ensures.value, ← c.number_from-low.ensures.value)
-    (wide_high c.number_from-high.result c.number_from-low.result some (omega arith) (omega arith))
+    (wide_high _ _ some (omega arith) (omega arith))
 
 pub returns-clause-lent : goal.returns-clause-lent
 returns-clause-lent c = λ more whole.
     let is : meaning_of_front 16 wide_integer (c.args.rest.now ++ more)
-    ≡ Scalar (Integer (pos c.number_from-low.result)) = wide_front c.args.rest.now more
+    ≡ Scalar (Integer (pos c.number_from-low.result)) = wide_front _ _
     c.if-rest-lt16.false
     ∙ rw (
       ← c.number_from-high.ensures.value,

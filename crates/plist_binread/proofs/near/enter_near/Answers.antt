@@ -17,12 +17,12 @@ held : (g : _) (c : After-index-content g) → Held c.args.walk.now.tags.items
     c.args.walk.now.contents.items c.args.number c.index-held.result.now c.index-content.result.now
 held g c =
     let h : c.args.number < length c.args.walk.now.tags.items = omega
-    (arith, c.if-number-len.false, c.len.ensures, c.args.walk.now.tags.ok.0) in
+    (arith) in
     let h' : c.args.number < length c.args.walk.now.contents.items = omega
-    (arith, h, c.args.walk.now.same) in (
+    (arith) in (
       h,
-      get_or_read_under _ c.args.number _ _ 0 c.index-held.ensures h refl,
-      get_or_read_under _ c.args.number _ _ 0 c.index-content.ensures h' refl,
+      get_or_read_under _ _ _ _ 0 c.index-held.ensures h refl,
+      get_or_read_under _ _ _ _ 0 c.index-content.ensures h' refl,
     )
 
 pub returns-then-held-ne0-clause-pays : goal.returns-then-held-ne0-clause-pays
@@ -49,15 +49,15 @@ there : (g : _) (c : After-open_lent g) → Held c.args.walk.now.tags.items
     → IfSome (g.S.Source.known c.args.source.now) (λ bytes. LentAt bytes c.args.bounds.now
     c.args.number (event_in c.decode_lent-lent.new.last) c.decode_lent-lent.result)
 there g c k =
-    let none : c.index-held.result.now % 128 ≡ 0 = omega (arith, c.if-held-ne0.false) in
-    known_lent _ _ _ _ _ c.args.number c.index-content.result.now
-    c.lent_before-seen.result.now _ _ c.requires.known k.0 (rw k.1 at none, k.2)
+    let none : c.index-held.result.now % 128 ≡ 0 = omega arith in
+    known_lent _ _ _ _ _ _ _
+    _ _ _ c.requires.known k.0 (rw k.1 at none, k.2)
     c.lent_before-seen.ensures.bytes c.decode_lent-lent.ensures.lent
 
 pub returns-clause-known : goal.returns-clause-known
 returns-clause-known g c = λ yes.
     let t = goal.at.returns-clause-known g c in
-    second _ _ _ (known_gains _ _ _ _ _ c.args.number _ _ _ _
+    second _ _ _ (known_gains _ _ _ _ _ _ _ _ _ _
     c.requires.known (there g t.After-open_lent (held g t.After-index-content))
     (c.open_lent.ensures.pays yes))
 

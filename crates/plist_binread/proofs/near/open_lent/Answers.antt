@@ -1,4 +1,4 @@
-use Rattle.std.proofs.Common.{arith, sym, refl, ap, ◌∙◌, ◌+◌, ℕ, cond}
+use Rattle.std.proofs.Common.{arith, sym, refl, ap, ◌∙◌, ◌+◌, cond}
 use Rattle.std.proofs.lemmas.Bool.{false≢true}
 use Rattle.std.proofs.lemmas.List.{length-reverse}
 use Rattle.plist_binread.specs.Debt.{cached_count, scalar_at}
@@ -11,9 +11,9 @@ use Rattle.plist_binread.proofs.near.open_lent.Goals as goal
 
 pub returns-in-Some-clause-counted : goal.returns-in-Some-clause-counted
 returns-in-Some-clause-counted c =
-    rw c.in-Scalar.is (cached_count-keep _ c.in-Some.tag _ _ c.requires.below
+    rw c.in-Scalar.is (cached_count-keep _ _ _ _ c.requires.below
     (ap unmarked c.requires.new) c.in-Some.ensures.tag.0 c.keep.ensures.tags
-    ∙ ap (λ b. cached_count c.args.walk.now.tags.items + cond {A = ℕ} b 1 0)
+    ∙ ap (λ b. cached_count c.args.walk.now.tags.items + cond b 1 0)
     (sym c.in-Some.ensures.small))
 
 pub returns-in-Some-clause-falls : goal.returns-in-Some-clause-falls
@@ -36,7 +36,7 @@ returns-in-None-clause-falls c = λ _. omega (arith, steps_positive)
 
 pub returns-in-None-clause-pays : goal.returns-in-None-clause-pays
 returns-in-None-clause-pays c = λ _ bytes bounds entry k is decoded. (
-  (λ at. pays_scalar _ _ (as_many bytes bounds _ _ _ k) _ _ at _ entry (sym (length-reverse _))
+  (λ at. pays_scalar _ _ (as_many _ _ _ _ _ k) _ _ at _ _ (sym (length-reverse _))
       c.args.walk.now.path c.requires.below is
       (not_open c.args.walk.now.path c.requires.below c.requires.new) _
       (rw c.in-Scalar.is at decoded)),
@@ -55,24 +55,24 @@ invariant_of-walk-then-push_near c = record {
 pub returns-then-push_near-clause-counted : goal.returns-then-push_near-clause-counted
 returns-then-push_near-clause-counted c =
     let same = cached_count-mark _ _ _ _ c.mark.ensures in
-    rw c.in-Collection.is (omega (arith, same))
+    rw c.in-Collection.is (omega arith)
 
 pub returns-then-push_near-clause-kept : goal.returns-then-push_near-clause-kept
 returns-then-push_near-clause-kept c = λ _ object lent small.
-    absurd (false≢true (sym (collection_large object (event_in c.args.last.now)
-    c.in-Collection.count (rw c.in-Collection.is at lent)) ∙ small))
+    absurd (false≢true (cc (collection_large object (event_in c.args.last.now) c.in-Collection.count
+    (rw c.in-Collection.is at lent))))
 
 pub returns-then-push_near-clause-falls : goal.returns-then-push_near-clause-falls
 returns-then-push_near-clause-falls c = λ _.
     rw (reverse-push _ _ _ (c.push_near.ensures.pushed c.if-push_near.true))
     (start_falls _ _ _ _ (sym (length-reverse _)) (has_room _ _ _ c.args.walk.now.path
     c.requires.below (not_open c.args.walk.now.path c.requires.below c.requires.new))
-    (omega (arith, c.push_near.ensures.small)))
+    (omega arith))
 
 pub returns-then-push_near-clause-pays : goal.returns-then-push_near-clause-pays
 returns-then-push_near-clause-pays c = λ _ bytes bounds entry k is lent.
     let collection = rw c.in-Collection.is at lent in (
-      (λ at. pays_collection _ _ (as_many bytes bounds _ _ _ k) _ _ at _ entry
+      (λ at. pays_collection _ _ (as_many _ _ _ _ _ k) _ _ at _ _
           (sym (length-reverse _)) c.args.walk.now.path c.requires.below is
           (not_open c.args.walk.now.path c.requires.below c.requires.new) _ _ _
           (reverse-push _ _ _ (c.push_near.ensures.pushed c.if-push_near.true)) refl refl

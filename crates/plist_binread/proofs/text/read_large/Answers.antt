@@ -1,7 +1,7 @@
 use Rattle.std.proofs.Common.{Err, inl, inr, refl, arith}
 use Rattle.std.proofs.lemmas.Bool.{cases_lt}
 use Rattle.std.proofs.lemmas.Result.{err_from_is_err_and}
-use Rattle.plist_binread.specs.Behind.{data_in}
+use Rattle.plist_binread.specs.Behind.{data_of_content}
 use Rattle.plist_binread.specs.Object.{text}
 use Rattle.plist_binread.proofs.Contents.{grows_text}
 use Rattle.plist_binread.proofs.Markers.{known_counted, known_layout, layout-data, layout-text, layout-wide_text}
@@ -9,8 +9,8 @@ use Rattle.plist_binread.proofs.text.read_large.Goals as goal
 
 pub returns-then-marker-ge96-clause-decoded : goal.returns-then-marker-ge96-clause-decoded
 returns-then-marker-ge96-clause-decoded g c =
-    known_layout _ _ c.args.bounds.now.trailer c.args.place c.args.marker _ _
-    (layout-wide_text c.args.bounds.now.reference_width c.args.marker (omega arith) (omega arith))
+    known_layout _ _ _ _ c.args.marker _ _
+    (layout-wide_text _ c.args.marker (omega arith) (omega arith))
     c.read_wide_text.ensures.decoded
 
 pub returns-in_err-bytes-clause-decoded : goal.returns-in_err-bytes-clause-decoded
@@ -20,7 +20,7 @@ returns-in_err-bytes-clause-decoded g c =
       | inl below ↦ known_layout _ _ c.args.bounds.now.trailer c.args.place c.args.marker _
           (Err c.in_err-bytes.field-0.0)
           (layout-data c.args.bounds.now.reference_width c.args.marker (omega arith) (omega arith))
-          (c.in_err-bytes.ensures.content data_in (λ _. tt))
+          (c.in_err-bytes.ensures.content data_of_content (λ _. tt))
       | inr above ↦ known_layout _ _ c.args.bounds.now.trailer c.args.place c.args.marker _
           (Err c.in_err-bytes.field-0.0)
           (layout-text c.args.bounds.now.reference_width c.args.marker (omega arith) (omega arith))
@@ -29,15 +29,15 @@ returns-in_err-bytes-clause-decoded g c =
 
 pub returns-then-marker-ge80-clause-decoded : goal.returns-then-marker-ge80-clause-decoded
 returns-then-marker-ge80-clause-decoded g c =
-    known_counted _ c.args.bounds.now.reference_width c.args.bounds.now.trailer c.args.place
-    c.args.marker text c.in_ok-bytes.bytes.items c.text_event.result
-    (layout-text c.args.bounds.now.reference_width c.args.marker (omega arith) (omega arith))
-    (c.in_ok-bytes.ensures.content text grows_text) c.text_event.ensures.decoded
+    known_counted _ _ _ _
+    _ _ _ _
+    (layout-text _ c.args.marker (omega arith) (omega arith))
+    (c.in_ok-bytes.ensures.content _ grows_text) c.text_event.ensures.decoded
 
 pub returns-clause-decoded : goal.returns-clause-decoded
 returns-clause-decoded g c =
-    known_counted _ c.args.bounds.now.reference_width c.args.bounds.now.trailer c.args.place
-    c.args.marker data_in c.in_ok-bytes.bytes.items c.large.result
-    (layout-data c.args.bounds.now.reference_width c.args.marker (omega arith) (omega arith))
-    (c.in_ok-bytes.ensures.content data_in (λ _. tt))
-    (c.large.ensures.decoded (data_in c.in_ok-bytes.bytes.items) c.args.place tt refl)
+    known_counted _ c.args.bounds.now.reference_width _ c.args.place
+    c.args.marker _ c.in_ok-bytes.bytes.items _
+    (layout-data _ c.args.marker (omega arith) (omega arith))
+    (c.in_ok-bytes.ensures.content data_of_content (λ _. tt))
+    (c.large.ensures.decoded (data_of_content _) c.args.place tt refl)

@@ -1,20 +1,19 @@
-use Rattle.std.proofs.Common.{arith, refl}
-use Rattle.plist_binwrite.specs.Held.{plain_events, scalars_of}
-use Rattle.plist_binwrite.proofs.ClassSteps.{scalar_class, other_class}
+use Rattle.std.proofs.Common.{◌+◌, Some, ap, ◌∙◌, arith, refl}
+use Rattle.plist_binwrite.specs.inner.Scalars.{is_leaf}
+use Rattle.plist_binwrite.proofs.Owners.{one_more}
 use Rattle.plist_binwrite.proofs.classes.give_class.Goals as goal
 
 pub returns-in_ok-set-in-Some-clause-before : goal.returns-in_ok-set-in-Some-clause-before
 returns-in_ok-set-in-Some-clause-before c =
-    let events = c.args.events.now in
     rw c.in_ok-set-in-Some.ensures.set
-    (scalar_class (plain_events events) c.args.classes.now (scalars_of events) c.args.top
-    c.args.place c.in-Some.scalar (omega (arith, c.requires.place, c.requires.long))
-    c.requires.before c.in-Some.ensures.leaf c.in-Some.ensures.some)
+    (one_more _ _
+    (omega arith) c.requires.before _ (omega arith)
+    (λ x s. c.in-Some.ensures.some ∙ ap Some s) (λ n. cc c.in-Some.ensures.leaf))
 
 pub returns-in_ok-set-in-None-clause-before : goal.returns-in_ok-set-in-None-clause-before
 returns-in_ok-set-in-None-clause-before c =
-    let events = c.args.events.now in
     rw c.in_ok-set-in-None.ensures.set
-    (other_class (plain_events events) c.args.classes.now (scalars_of events) c.args.top
-    c.args.place c.args.top (omega (arith, c.requires.place, c.requires.long)) c.requires.before
-    (c.in-None.ensures.none refl) refl c.requires.low)
+    (one_more c.args.classes.now c.args.top (omega (arith, c.requires.place, c.requires.long))
+    c.requires.before (c.args.top + 1) (omega arith)
+    (λ x s. cc (ap is_leaf s, c.in-None.ensures.none refl))
+    (λ n. (omega arith, omega arith, c.requires.low)))

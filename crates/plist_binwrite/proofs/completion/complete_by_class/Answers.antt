@@ -1,7 +1,6 @@
 use Rattle.std.proofs.Common.{inl, Ok, Err, rules}
 use Rattle.std.proofs.lemmas.Result.{err_from_is_err_and}
 use Rattle.plist_base.specs.Faults.{fault_of}
-use Rattle.plist_binwrite.specs.Held.{num_of}
 use Rattle.plist_binwrite.proofs.Unhinted.{whole_bracketed}
 use Rattle.plist_binwrite.proofs.Readied.{ready_sends}
 use Rattle.plist_binwrite.proofs.Sends.{sends_unplanned}
@@ -17,20 +16,18 @@ make_ready-requires g c = record {
 
 pub returns-in-Ok : goal.returns-in-Ok
 returns-in-Ok g c =
-    ready_sends g.W.Write.contents c.args.events.now
-    (num_of c.args.classes.of) c.in_ok-ready.ready c.args.writer.now c.send_file.new.out
-    c.requires.whole c.in_ok-ready.ensures.ready (Ok tt) c.in-Ok.ensures
+    ready_sends g.W.Write.contents c.args.events.now _ _ c.requires.whole
+    c.in_ok-ready.ensures.ready (Ok tt) c.in-Ok.ensures
 
 pub returns : goal.returns
 returns g c =
-    ready_sends g.W.Write.contents c.args.events.now
-    (num_of c.args.classes.of) c.in_ok-ready.ready c.args.writer.now c.send_file.new.out
-    c.requires.whole c.in_ok-ready.ensures.ready (Err (fault_of c.in-Err.error)) c.in-Err.ensures
+    ready_sends g.W.Write.contents c.args.events.now _ _ c.requires.whole
+    c.in_ok-ready.ensures.ready (Err (fault_of c.in-Err.error)) c.in-Err.ensures
 
 pub returns-in_err-room : goal.returns-in_err-room
 returns-in_err-room g c =
     let p = err_from_is_err_and c.from_residual.result c.from_residual.ensures.1 in
-    rw (p.1, p.2) (sends_unplanned _ (num_of c.args.classes.of) c.args.events.now _ _ _
+    rw (p.1, p.2) (sends_unplanned _ _ c.args.events.now _ _ _
     (inl c.in_err-room.ensures.memory) c.requires.whole (search rules))
 
 pub returns-in_err-ready : goal.returns-in_err-ready
@@ -38,5 +35,5 @@ returns-in_err-ready g c =
     let p = err_from_is_err_and c.from_residual-in_err-ready.result
     c.from_residual-in_err-ready.ensures.1 in
     rw (p.1, p.2)
-    (sends_unplanned _ (num_of c.args.classes.of) c.args.events.now _ _ _
+    (sends_unplanned _ _ c.args.events.now _ _ _
     c.in_err-ready.ensures.refused c.requires.whole (search rules))

@@ -1,8 +1,7 @@
-use Rattle.std.proofs.Common.{◌≡◌}
-use Rattle.plist_base.specs.Faults.{Io, fault_of, fault_nowhere}
 use Rattle.plist_binwrite.specs.Held.{plain_events}
+use Rattle.plist_binwrite.proofs.ClassObjects.{numbered}
 use Rattle.plist_binwrite.proofs.Outgoing.{from_empty, from_empty_front}
-use Rattle.plist_binwrite.proofs.Readied.{sends_end, with_objects}
+use Rattle.plist_binwrite.proofs.Readied.{sends_end}
 use Rattle.plist_binwrite.proofs.completion.send_file.Goals as goal
 
 pub returns-in-Ok : goal.returns-in-Ok
@@ -14,9 +13,8 @@ returns-in-Ok g c =
     (from_empty c.requires.empty (c.in-Ok.ensures objects d)))
 
 pub returns-in-Err : goal.returns-in-Err
-returns-in-Err g c = (
-  with_objects (plain_events c.args.events.now) c.args.ready.now
-      (fault_of c.in-Err.error ≡ fault_nowhere Io) c.requires.ready
-      (λ objects d. (c.in-Err.ensures objects d).follow.0),
-  λ objects d. from_empty_front c.requires.empty (c.in-Err.ensures objects d),
-)
+returns-in-Err g c =
+    let o = numbered c.requires.ready.planned in (
+      (c.in-Err.ensures o.objects o.describes).follow.0,
+      λ objects d. from_empty_front c.requires.empty (c.in-Err.ensures objects d),
+    )

@@ -5,4 +5,4 @@ pub returns-in-Ok : goal.returns-in-Ok
 returns-in-Ok g c = puts_then c.in-Ok.ensures c.put.ensures
 
 pub returns-in-Err : goal.returns-in-Err
-returns-in-Err g c = puts_front c.args.content.now c.in-Err.ensures
+returns-in-Err g c = puts_front _ c.in-Err.ensures

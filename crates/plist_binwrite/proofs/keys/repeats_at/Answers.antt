@@ -1,7 +1,7 @@
 use Rattle.std.proofs.Common.{rules, ◌+◌, ◌<◌, length, arith, refl, ap, ◌∙◌}
 use Rattle.std.proofs.lemmas.List.{length-set}
 use Rattle.std.proofs.lemmas.Option.{slice_get_within}
-use Rattle.plist_binwrite.specs.Held.{scalars_of, kind_of}
+use Rattle.plist_binwrite.specs.Held.{scalars_of, held_kind}
 use Rattle.plist_binwrite.proofs.KeyStamps.{walked_start, walked_end, walked_leaf, walked_repeats, walked_next, below_set}
 use Rattle.plist_binwrite.proofs.Skipping.{starts_dictionary}
 use Rattle.plist_binwrite.proofs.keys.repeats_at.Goals as goal
@@ -19,7 +19,7 @@ stamp-requires c =
       arith,
       c.walk.invariant.long,
       slice_get_within (scalars_of c.args.events.now)
-          c.in-Some.scalar _ c.in-Some.ensures.some,
+          _ _ c.in-Some.ensures.some,
     )
 
 pub returns-in_default-scalar_place-clause-repeats
@@ -63,7 +63,7 @@ returns-clause-repeats c = λ ms s.
 
 pub returns-in_default-clause-repeats : goal.returns-in_default-clause-repeats
 returns-in_default-clause-repeats c = λ ms s.
-    absurd (c.in_default.not-Dictionary (c.kind_at.ensures ∙ ap kind_of (starts_dictionary s)))
+    absurd (c.in_default.not-Dictionary (c.kind_at.ensures ∙ ap held_kind (starts_dictionary s)))
 
 pub returns-in_default-clause-newer : goal.returns-in_default-clause-newer
 returns-in_default-clause-newer c = λ i h. omega (arith, c.requires.older i h)

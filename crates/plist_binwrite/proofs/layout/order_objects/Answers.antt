@@ -1,17 +1,17 @@
-use Rattle.std.proofs.Common.{◌≡◌, ◌≢◌, inl, inr, ℕ, ◌<◌, List, length, get_or, arith, below_more, ap, ◌∙◌, subst}
+use Rattle.std.proofs.Common.{◌≡◌, inl, inr, ℕ, ◌<◌, List, length, get_or, arith, below_more, ap, ◌∙◌}
 use Rattle.std.proofs.lemmas.Bool.Decides.{leb_tells}
 use Rattle.std.proofs.lemmas.List.{length-replicate, get_or-replicate}
 use Rattle.std.proofs.Math.ListN.{get_or-eq_default}
 use Rattle.plist_binwrite.specs.inner.Planning.{count_of}
-use Rattle.plist_binwrite.proofs.Layouts.{order_none, in_order}
+use Rattle.plist_binwrite.proofs.Placing.{order_none, in_order}
 use Rattle.plist_binwrite.proofs.layout.order_objects.Goals as goal
 
 all_zero : (xs : List ℕ) (n : ℕ) → length xs ≡ n → ((k : ℕ) → k < n → get_or xs k 0 ≡ 0) → (k : ℕ)
     → get_or xs k 0 ≡ 0
 all_zero xs n e h k =
     elim (leb_tells n k) [
-      | inl a ↦ get_or-eq_default xs 0 {n = k}
-          (omega (arith, a.1))
+      | inl a ↦ get_or-eq_default xs 0
+          (omega arith)
       | inr b ↦ h k b.1
     ]
 
@@ -21,25 +21,23 @@ loop-place-init c =
     let places = c.in_ok-places.places in
     let zeros = c.in_ok-places.ensures.zeros in
     let n : c.len-count.result ≡ count_of c.args.plan.now = omega
-    (arith, c.len-count.ensures) in
-    let long : length places ≡ count = ap length zeros ∙ length-replicate count 0 in (
+    (arith) in
+    let long = ap length zeros ∙ length-replicate count 0 in (
       rw c.new-order.ensures
-          (order_none (count_of c.args.plan.now) places (long ∙ n) (all_zero places count long
+          (order_none _ _ (long ∙ n) (all_zero _ _ long
           (λ k h. ap (λ l. get_or l k 0) zeros ∙ get_or-replicate count k 0 0 h))),
-      λ p h s. absurd (omega (arith, h)),
+      λ p h s. absurd (omega arith),
     )
 
 pub loop-place-preserved : goal.loop-place-preserved
 loop-place-preserved c = (
   c.in_ok-order_here.ensures.order,
   below_more _ _ (λ p lt s. c.in_ok-order_here.ensures.keeps _ (c.loop-place.invariant.1 p lt s))
-      (c.in_ok-order_here.ensures.marked (omega (arith, c.loop-place-test.true))),
+      (c.in_ok-order_here.ensures.marked (omega arith)),
 )
 
 pub returns-clause-all : goal.returns-clause-all
 returns-clause-all c = λ k h.
     let known = c.requires.planned.numbered.known k h in
-    in_order (count_of c.args.plan.now) c.loop-place.layout.order c.loop-place.layout.places k
-    c.loop-place.invariant.0
-    (subst (λ j. get_or c.loop-place.layout.places j 0 ≢ 0) known.1
+    in_order k c.loop-place.invariant.0 (rw (← known.1)
     (c.loop-place.invariant.1 _ (omega (arith, known.0, c.loop-place-test.false)) known.2))

@@ -1,20 +1,17 @@
 use Rattle.std.proofs.Common.{◌≡◌, ◌<◌, get_or, arith, refl}
 use Rattle.plist_binwrite.specs.inner.Planning.{count_of}
-use Rattle.plist_binwrite.proofs.Layouts.{order_more}
+use Rattle.plist_binwrite.proofs.Placing.{order_more}
 use Rattle.plist_binwrite.proofs.layout.order_one.Goals as goal
 
 pub returns-clause-order : goal.returns-clause-order
 returns-clause-order c =
-    let count = count_of c.args.plan.now in
-    let k = c.number-number.result in
     let y = c.if-not-has_item.ensures.yes refl in
     let low : c.number-number.result < count_of c.args.plan.now = omega (
       arith,
-      c.number-number.ensures,
-      c.requires.planned.all c.args.place
-          (omega (arith, y.0)) y.1,
+      c.requires.planned.all _
+          (omega arith) y.1,
     ) in
     let zero : get_or c.args.layout.now.places c.number-number.result 0 ≡ 0 = omega
-    (arith, c.get.ensures, c.if-get-ne0.false) in
+    (arith) in
     rw c.in_ok-set.ensures.set (rw c.in_ok-push.ensures.pushed
-    (order_more count c.args.layout.now.order c.args.layout.now.places k c.requires.order low zero))
+    (order_more _ c.requires.order low zero))

@@ -4,7 +4,7 @@ use Rattle.plist_binwrite.proofs.lengths.length_of_count.Goals as goal
 
 pub returns-then-count-lt15-clause-value : goal.returns-then-count-lt15-clause-value
 returns-then-count-lt15-clause-value c =
-    λ high. sym (ap length (length_short high c.args.count c.if-count-lt15.true))
+    λ high. sym (ap length (length_short high _ c.if-count-lt15.true))
 
 pub returns-else-count-lt15-clause-value : goal.returns-else-count-lt15-clause-value
 returns-else-count-lt15-clause-value c =

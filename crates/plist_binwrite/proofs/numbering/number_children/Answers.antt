@@ -1,6 +1,6 @@
 use Rattle.std.proofs.Common.{◌∙◌, sym}
 use Rattle.plist_binwrite.specs.Held.{IsNumbered}
-use Rattle.plist_binwrite.proofs.Numbered.{dictionary_whole}
+use Rattle.plist_binwrite.proofs.PlannedBy.{dictionary_whole}
 use Rattle.plist_binwrite.proofs.numbering.number_children.Goals as goal
 
 pub returns-in_ok-number_halves-in-Dictionary-2-clause-numbered :

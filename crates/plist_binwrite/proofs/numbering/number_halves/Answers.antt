@@ -1,8 +1,7 @@
 use Rattle.std.proofs.Common.{◌≡◌, refl, subst, false}
 use Rattle.plist_binwrite.specs.Held.{plain_events, is_stop, event_at, IsNumbered}
-use Rattle.plist_binwrite.proofs.Numbered.{keeps_self}
 use Rattle.plist_binwrite.proofs.Passing.{stands, pairs_next, pairs_stop}
-use Rattle.plist_binwrite.proofs.PlannedBy.{keeps_then}
+use Rattle.plist_binwrite.proofs.PlannedBy.{keeps_self, keeps_then}
 use Rattle.plist_binwrite.proofs.numbering.number_halves.Goals as goal
 
 pub walk-preserved : goal.walk-preserved
@@ -14,7 +13,8 @@ walk-preserved c =
       keeps_then c.walk.invariant.1 one.keeps,
       λ ms s. pairs_next (c.walk.invariant.2 ms s) y.1 c.skip_pair-key.ensures.ends
           (λ f ns fs k all. f.goes ns fs (keeps_then one.keeps k) (
-            k.numbered _ (subst (λ p. is_stop (event_at (plain_events c.args.given.now.events.now) p)
+            k.numbered _ (subst (λ p. is_stop (event_at
+                (plain_events c.args.given.now.events.now) p)
                 ≡ false → IsNumbered found.numbers found.firsts p) c.half_of-place.ensures.half
                 one.numbered (stands c.args.values f)),
             all,

@@ -3,7 +3,7 @@ use Rattle.plist_base.specs.Trees.{Members}
 use Rattle.plist_binwrite.specs.Standing.{SitsPairs}
 use Rattle.plist_binwrite.specs.Held.{plain_events, half_places}
 use Rattle.plist_binwrite.specs.inner.Numbering.{GoesSoFar, KeepsNumbers}
-use Rattle.plist_binwrite.proofs.Numbered.{NumbersRest}
+use Rattle.plist_binwrite.proofs.PlannedBy.{NumbersRest}
 use Rattle.plist_binwrite.proofs.Passing.{Pairs}
 use Rattle.plist_binwrite.proofs.numbering.number_halves.Given as goal
 

@@ -3,7 +3,7 @@ use Rattle.plist_base.specs.Trees.{Trees}
 use Rattle.plist_binwrite.specs.Standing.{SitsItems}
 use Rattle.plist_binwrite.specs.Held.{plain_events, item_places}
 use Rattle.plist_binwrite.specs.inner.Numbering.{GoesSoFar, KeepsNumbers}
-use Rattle.plist_binwrite.proofs.Numbered.{NumbersRest}
+use Rattle.plist_binwrite.proofs.PlannedBy.{NumbersRest}
 use Rattle.plist_binwrite.proofs.Passing.{Items}
 use Rattle.plist_binwrite.proofs.numbering.number_items.Given as goal
 

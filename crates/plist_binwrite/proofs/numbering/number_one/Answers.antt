@@ -1,7 +1,6 @@
 use Rattle.std.proofs.Common.{◌≡◌, ◌+◌, ◌<◌, ◌^◌, ◌∷◌, [], length, set, arith, get_or, ◌≤◌, refl, length-append, ap, ◌∙◌}
 use Rattle.plist_binwrite.specs.Held.{plain_events, num_of}
-use Rattle.plist_binwrite.proofs.PlannedBy.{plan_new}
-use Rattle.plist_binwrite.proofs.Ids.{ids_new, none_yet}
+use Rattle.plist_binwrite.proofs.PlannedBy.{plan_new, ids_new, none_yet}
 use Rattle.plist_binwrite.proofs.numbering.number_one.Goals as goal
 use Rattle.plist_binwrite.proofs.numbering.number_one.Goals.{In_ok-set-3 as AllStored}
 
@@ -11,7 +10,6 @@ small c =
       arith,
       ap length c.in_ok-push.ensures.pushed,
       length-append c.args.found.now.firsts (c.args.place ∷ []),
-      c.in_ok-push.ensures.small,
     )
 
 within : (c : AllStored) → c.args.place < length (plain_events c.args.given.now.events.now)
@@ -22,7 +20,7 @@ without : (c : AllStored)
     ≤ get_or c.args.found.now.ids (num_of c.args.given.now.classes.now c.args.place) 0
 without c =
     let here = ap (λ k. get_or c.args.found.now.ids k 0) c.get-class.ensures in
-    omega (arith, c.if-number-len.false, c.get-number.ensures, here, c.len-2.ensures)
+    omega arith
 
 ids_are : (c : AllStored) → c.set-2.new.self
     ≡ set c.args.found.now.ids (num_of c.args.given.now.classes.now c.args.place)
@@ -30,30 +28,24 @@ ids_are : (c : AllStored) → c.set-2.new.self
 ids_are c =
     c.in_ok-set-2.ensures.set
     ∙ ap (λ k. set c.args.found.now.ids k c.len-count.result) c.get-class.ensures
-    ∙ ap (set c.args.found.now.ids (num_of c.args.given.now.classes.now c.args.place))
+    ∙ ap (set _ _)
     c.len-count.ensures
 
 numbers_are : (c : AllStored) → c.set-3.new.self
     ≡ set c.args.found.now.numbers c.args.place (length c.args.found.now.firsts)
 numbers_are c =
-    c.in_ok-set-3.ensures.set ∙ ap (set c.args.found.now.numbers c.args.place) c.len-count.ensures
+    c.in_ok-set-3.ensures.set ∙ ap (set _ _) c.len-count.ensures
 
 pub returns-clause-ids : goal.returns-clause-ids
 returns-clause-ids c =
-    let classes = c.args.given.now.classes.now in
-    rw (ids_are c, c.in_ok-push.ensures.pushed) (ids_new classes c.args.found.now.ids
-    c.args.found.now.firsts c.requires.so_far.ids c.args.place
-    (omega (arith, within c, c.requires.so_far.long)) (small c) (without c))
+    rw (ids_are c, c.in_ok-push.ensures.pushed) (ids_new c.requires.so_far.ids c.args.place
+    (omega (arith, within c, c.requires.so_far.long)) (without c) (small c))
 
 pub returns-clause-plan : goal.returns-clause-plan
 returns-clause-plan c =
-    let es = plain_events c.args.given.now.events.now in
-    let class = num_of c.args.given.now.classes.now in
-    rw (numbers_are c, c.in_ok-push.ensures.pushed) (plan_new es class
-    c.args.found.now.numbers c.args.found.now.firsts c.args.place
+    rw (numbers_are c, c.in_ok-push.ensures.pushed) (plan_new _
     c.requires.so_far.plan (within c)
-    (omega (arith, c.if-get-len.false, c.get.ensures, c.len.ensures))
+    (omega arith)
     (small c) (c.if-not-has_item.ensures.yes refl).1
-    (none_yet c.args.given.now.classes.now c.args.found.now.ids c.args.found.now.firsts
-    c.requires.so_far.ids c.args.place
-    (omega (arith, within c, c.requires.so_far.long)) (small c) (without c)))
+    (none_yet c.requires.so_far.ids _
+    (omega (arith, within c)) (without c)))

@@ -1,29 +1,24 @@
-use Rattle.std.proofs.Common.{arith, refl, ap, ◌∙◌}
-use Rattle.plist_binwrite.specs.Forms.{big_endian}
-use Rattle.plist_binwrite.specs.inner.Putting.{numbers_by}
-use Rattle.plist_binwrite.proofs.Outgoing.{puts_none, puts_then, puts_front, puts_as}
+use Rattle.std.proofs.Common.{arith, refl}
+use Rattle.plist_binwrite.proofs.Outgoing.{puts_none, puts_then, puts_front}
 use Rattle.plist_binwrite.proofs.Passing.{pairs_first, pairs_within, pairs_next, pairs_stop}
 use Rattle.plist_binwrite.proofs.objects.put_halves.Goals as goal
 
 pub walk-preserved : goal.walk-preserved
 walk-preserved g c = λ ms s.
     pairs_next (c.walk.invariant ms s) (c.walk-test.ensures.yes refl).1 c.skip-key.ensures.ends
-    (λ f answer d k p. f.goes answer d k (puts_then
-    (puts_as (ap (big_endian c.args.file.now.width)
-    (c.number-number.ensures ∙ ap (numbers_by c.args.file.now) c.half_of.ensures.half))
-    c.in-Ok.ensures) p))
+    (λ f answer d k p. f.goes _ d k
+    (puts_then (rw (c.number-number.ensures, c.half_of.ensures.half) at c.in-Ok.ensures) p))
 
 pub returns-in-Err : goal.returns-in-Err
 returns-in-Err g c = λ ms s.
-    (pairs_first (c.walk.invariant ms s) (c.walk-test.ensures.yes refl).1).goes _ _ _ (puts_front _
-    (puts_as (ap (big_endian c.args.file.now.width)
-    (c.number-number.ensures ∙ ap (numbers_by c.args.file.now) c.half_of.ensures.half))
-    c.in-Err.ensures))
+    (pairs_first (c.walk.invariant ms s) (c.walk-test.ensures.yes refl).1).goes _ _ _
+    (puts_front _ (rw (c.number-number.ensures, c.half_of.ensures.half) at c.in-Err.ensures))
 
 pub returns : goal.returns
-returns g c = λ ms s. pairs_stop (c.walk.invariant ms s) (c.walk-test.ensures.no refl) _ _ _ puts_none
+returns g c = λ ms s. pairs_stop (c.walk.invariant ms s)
+    (c.walk-test.ensures.no refl) _ _ _ puts_none
 
 pub returns-then-value-len : goal.returns-then-value-len
 returns-then-value-len g c = λ ms s.
     pairs_within (c.walk.invariant ms s) (c.walk-test.ensures.yes refl).1
-    (omega (arith, c.if-value-len.true, c.len.ensures))
+    (omega arith)

@@ -1,19 +1,19 @@
-use Rattle.std.proofs.Common.{refl, ap}
-use Rattle.plist_binwrite.specs.Forms.{big_endian}
-use Rattle.plist_binwrite.proofs.Outgoing.{puts_none, puts_then, puts_front, puts_as}
+use Rattle.std.proofs.Common.{refl}
+use Rattle.plist_binwrite.proofs.Outgoing.{puts_none, puts_then, puts_front}
 use Rattle.plist_binwrite.proofs.Passing.{items_first, items_next, items_stop}
 use Rattle.plist_binwrite.proofs.objects.put_items.Goals as goal
 
 pub walk-preserved : goal.walk-preserved
 walk-preserved g c = λ ts s.
     items_next (c.walk.invariant ts s) (c.walk-test.ensures.yes refl).1 c.skip-place.ensures.ends
-    (λ f answer d k p. f.goes answer d k (puts_then
-    (puts_as (ap (big_endian c.args.file.now.width) c.number-number.ensures) c.in-Ok.ensures) p))
+    (λ f answer d k p. f.goes _ d k
+    (puts_then (rw c.number-number.ensures at c.in-Ok.ensures) p))
 
 pub returns-in-Err : goal.returns-in-Err
 returns-in-Err g c = λ ts s.
-    (items_first (c.walk.invariant ts s) (c.walk-test.ensures.yes refl).1).goes _ _ _ (puts_front _
-    (puts_as (ap (big_endian c.args.file.now.width) c.number-number.ensures) c.in-Err.ensures))
+    (items_first (c.walk.invariant ts s) (c.walk-test.ensures.yes refl).1).goes _ _ _
+    (puts_front _ (rw c.number-number.ensures at c.in-Err.ensures))
 
 pub returns : goal.returns
-returns g c = λ ts s. items_stop (c.walk.invariant ts s) (c.walk-test.ensures.no refl) _ _ _ puts_none
+returns g c = λ ts s. items_stop (c.walk.invariant ts s)
+    (c.walk-test.ensures.no refl) _ _ _ puts_none

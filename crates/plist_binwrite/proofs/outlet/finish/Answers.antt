@@ -3,8 +3,8 @@ use Rattle.plist_binwrite.proofs.outlet.finish.Goals as goal
 
 pub returns-in-Ok-clause-front : goal.returns-in-Ok-clause-front
 returns-in-Ok-clause-front g c =
-    λ first done out. out_front first _ _ c.args.room.now done c.send_whole.ensures.front out
+    λ first done out. out_front _ _ _ _ _ c.send_whole.ensures.front out
 
 pub returns-in-Err-clause-front : goal.returns-in-Err-clause-front
 returns-in-Err-clause-front g c =
-    λ first done out. out_front first _ _ c.args.room.now done c.send_whole.ensures.front out
+    λ first done out. out_front _ _ _ _ _ c.send_whole.ensures.front out

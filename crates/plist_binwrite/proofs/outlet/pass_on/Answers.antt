@@ -1,21 +1,24 @@
-use Rattle.plist_base.specs.Faults.{fault_of}
-use Rattle.plist_binwrite.proofs.Outgoing.{put_all, put_half, put_stuck}
+use Rattle.std.proofs.Common.{refl}
+use Rattle.std.proofs.KnownBytes.{Appends-trans}
+use Rattle.plist_binwrite.proofs.Outgoing.{front_more, out_front, puts_broken, puts_out}
 use Rattle.plist_binwrite.proofs.outlet.pass_on.Goals as goal
 
 pub returns-in-Err : goal.returns-in-Err
 returns-in-Err g c =
-    put_stuck _ _ c.args.room.now.items c.as_slice.result.now c.args.bytes.now c.args.room.now.items
-    (fault_of c.in-Err.error) c.as_slice.ensures.value c.in-Err.ensures.fault c.in-Err.ensures.front
+    puts_broken _ _ _ _ _ _ c.in-Err.ensures.fault (front_more _ _ _ _
+    (rw c.as_slice.ensures.value at c.in-Err.ensures.front))
 
 pub returns-in-Ok-send : goal.returns-in-Ok-send
 returns-in-Ok-send g c =
-    put_all _ _ _ c.args.room.now.items c.as_slice.result.now c.args.bytes.now
-    c.clear.new.self.items c.as_slice.ensures.value c.clear.ensures.items c.in-Ok.ensures.sent
-    c.in-Ok-send.ensures.sent
+    rw c.clear.ensures.items (puts_out _ _ _ _ (Appends-trans _ _ _ _ _
+    (rw c.as_slice.ensures.value at c.in-Ok.ensures.sent) c.in-Ok-send.ensures.sent))
 
 pub returns-in-Err-send : goal.returns-in-Err-send
 returns-in-Err-send g c =
-    put_half _ _ _ c.args.room.now.items c.as_slice.result.now c.args.bytes.now
-    c.clear.new.self.items (fault_of c.in-Err-send.error) c.as_slice.ensures.value
-    c.clear.ensures.items c.in-Ok.ensures.sent
-    c.in-Err-send.ensures.fault c.in-Err-send.ensures.front
+    puts_broken _ _ _ _ _ _ c.in-Err-send.ensures.fault
+    (out_front _ _ _ _ _ c.in-Err-send.ensures.front
+    (record {
+      sent = c.args.room.now.items;
+      went = rw c.as_slice.ensures.value at c.in-Ok.ensures.sent;
+      is = refl;
+    }))

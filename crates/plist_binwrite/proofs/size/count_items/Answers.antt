@@ -9,9 +9,9 @@ walk-init c =
 pub walk-preserved : goal.walk-preserved
 walk-preserved c =
     let y = c.walk-test.ensures.yes refl in (
-      omega (arith, c.skip-place.ensures.forward.0, c.walk.invariant.0),
+      omega arith,
       λ ts s. items_next (c.walk.invariant.1 ts s) y.1 c.skip-place.ensures.ends
-          (λ f. omega (arith, f.goes)),
+          (λ f. omega arith),
     )
 
 pub returns-clause-value : goal.returns-clause-value

@@ -1,4 +1,4 @@
-use Rattle.std.proofs.Common.{◌∙◌, ◌&&◌, ap, get_or, nat_lt, refl, sym}
+use Rattle.std.proofs.Common.{◌∙◌, ap, nat_lt, refl}
 use Rattle.std.proofs.lemmas.List.{take_all}
 use Rattle.std.proofs.lemmas.List.Folds.{list_all_more}
 use Rattle.plist_binwrite.specs.Forms.{is_ascii_text}
@@ -9,10 +9,7 @@ loop-byte-init c = refl
 
 pub loop-byte-preserved : goal.loop-byte-preserved
 loop-byte-preserved c =
-    ap (λ so_far. so_far && nat_lt
-    (get_or c.as_bytes-byte-items.result.now c.loop-byte.byte-index 0) 128)
-    c.loop-byte.invariant
-    ∙ sym (list_all_more (λ byte. nat_lt byte 128) _ c.loop-byte.byte-index 0 c.loop-byte-test.true)
+    cc (list_all_more (λ byte. nat_lt byte 128) _ c.loop-byte.byte-index 0 c.loop-byte-test.true)
 
 pub returns : goal.returns
 returns c = record {

@@ -1,7 +1,7 @@
 use Rattle.std.proofs.Common.{◌-◌, ◌+◌, ◌%◌, ap, ◌∙◌, arith}
 use Rattle.plist_binwrite.specs.Forms.{big_endian, char_units}
 use Rattle.plist_binwrite.proofs.Outgoing.{puts_then, puts_front, puts_as}
-use Rattle.plist_binwrite.proofs.Texts.{pair_units}
+use Rattle.plist_binwrite.proofs.Reading.{pair_units}
 use Rattle.plist_binwrite.proofs.text.put_char.Goals as goal
 
 pub returns-in-Ok : goal.returns-in-Ok

@@ -1,9 +1,10 @@
 use Rattle.std.proofs.Common.{[], ◌++◌, rules, flat_map, ap, sym, ◌∙◌, append_assoc, append-nil}
 use Rattle.std.specs.Char.Escape.{encode_utf16}
+use Rattle.std.proofs.lemmas.Grind.{flat_map-append}
 use Rattle.std.proofs.lemmas.Str.{IsUtf8-past_char}
 use Rattle.plist_binwrite.specs.Forms.{big_endian}
 use Rattle.plist_binwrite.proofs.Outgoing.{puts_none, puts_then, puts_front, puts_as}
-use Rattle.plist_binwrite.proofs.Texts.{units_empty, unit_bytes_step}
+use Rattle.plist_binwrite.proofs.Reading.{units_empty, units_step}
 use Rattle.plist_binwrite.proofs.text.put_units.Goals as goal
 
 pub loop-c-init : goal.loop-c-init
@@ -12,24 +13,27 @@ loop-c-init g c = (search rules, ([], puts_none, search rules))
 pub loop-c-preserved : goal.loop-c-preserved
 loop-c-preserved g c =
     let held = c.loop-c.invariant in
-    let parts = c.in-Some.ensures.steps.0 in
-    let step = unit_bytes_step _ _ c.in-Some.c held.0 parts in (
+    let parts = c.in-Some.ensures.steps.0 in (
       IsUtf8-past_char _ _ c.in-Some.c held.0 parts,
       (
         held.1.0 ++ flat_map (big_endian 2) (encode_utf16 c.in-Some.c),
         puts_then held.1.1 c.in-Ok.ensures,
-        append_assoc held.1.0 (flat_map (big_endian 2) (encode_utf16 c.in-Some.c)) _
-            ∙ ap (λ l. held.1.0 ++ l) (sym step) ∙ held.1.2,
+        rw (
+          append_assoc held.1.0 (flat_map (big_endian 2) (encode_utf16 c.in-Some.c)) _,
+          ← flat_map-append (big_endian 2) (encode_utf16 c.in-Some.c) _,
+          ← units_step _ _ c.in-Some.c held.0 parts,
+        ) held.1.2,
       ),
     )
 
 pub returns-in-Err : goal.returns-in-Err
 returns-in-Err g c =
     let held = c.loop-c.invariant in
-    let parts = c.in-Some.ensures.steps.0 in
-    let step = unit_bytes_step _ _ c.in-Some.c held.0 parts in
-    puts_as (ap (λ l. held.1.0 ++ l) (sym step)
-    ∙ held.1.2) (puts_then held.1.1 (puts_front _ c.in-Err.ensures))
+    rw (
+      ← held.1.2,
+      units_step _ _ c.in-Some.c held.0 c.in-Some.ensures.steps.0,
+      flat_map-append (big_endian 2) (encode_utf16 c.in-Some.c) _,
+    ) (puts_then held.1.1 (puts_front _ c.in-Err.ensures))
 
 pub returns : goal.returns
 returns g c =

@@ -1,30 +1,42 @@
-use Rattle.std.proofs.Common.{sym, ◌∙◌}
-use Rattle.plist_reader.specs.Formats.{past_white, front}
-use Rattle.plist_reader.proofs.Fronts.{known-on, known-here, known-none, known-end}
+use Rattle.std.proofs.Common.{◌^◌, ◌-◌, sym, ◌∙◌}
+use Rattle.std.proofs.lemmas.Option.{IfSome_then}
+use Rattle.plist_reader.specs.Formats.{input_front}
+use Rattle.plist_reader.proofs.Fronts.{both_known, white-on, xml-here, xml-none, xml-end, moved, then_some-cond}
 use Rattle.plist_reader.proofs.format.xml_place.Goals as goal
 
 pub returns-then-not-is_white-clause-place : goal.returns-then-not-is_white-clause-place
 returns-then-not-is_white-clause-place g c =
-    known-here _ _ c.args.start c.white.place c.in-Ok-Some.byte _ c.white.invariant.same
-    c.white-test.true (rw c.in-Ok-Some.field-0-is at c.in-Ok-Some.ensures.byte)
-    (sym c.is_white.ensures ∙ c.if-not-is_white.true) c.then_some.ensures c.white.invariant.passed
+    let byte = rw c.in-Ok-Some.field-0-is at c.in-Ok-Some.ensures.byte in
+    both_known (g.S.Source.known c.args.source.now) c.white.invariant.passed
+    (rw c.white.invariant.same at byte)
+    (λ bytes i at. c.then_some.ensures ∙ then_some-cond _ c.white.place ∙ sym
+    (moved c.args.start c.white.place (input_front bytes) i
+    ∙ xml-here (2 ^ 64 - 1) bytes c.white.place c.in-Ok-Some.byte c.white-test.true (sym at)
+    (sym c.is_white.ensures ∙ c.if-not-is_white.true)))
 
 pub white-preserved : goal.white-preserved
-white-preserved g c = record {
-  same = c.byte_at.ensures.unchanged ∙ c.white.invariant.same;
-  counts = c.in-Ok-Some.ensures.failures ∙ c.white.invariant.counts;
-  passed =
-      known-on _ _ c.white.place c.in-Ok-Some.byte c.white.invariant.same c.white-test.true
-      (rw c.in-Ok-Some.field-0-is at c.in-Ok-Some.ensures.byte)
-      (sym c.is_white.ensures ∙ c.if-not-is_white.false)
-      (λ bytes. past_white c.args.start (front bytes)) c.white.invariant.passed;
-}
+white-preserved g c =
+    let byte = rw c.in-Ok-Some.field-0-is at c.in-Ok-Some.ensures.byte in
+    record {
+      same = c.byte_at.ensures.unchanged ∙ c.white.invariant.same;
+      counts = c.in-Ok-Some.ensures.failures ∙ c.white.invariant.counts;
+      passed = both_known (g.S.Source.known c.args.source.now) c.white.invariant.passed
+          (rw c.white.invariant.same at byte)
+          (λ bytes i at. i ∙ white-on (2 ^ 64 - 1) bytes c.white.place c.in-Ok-Some.byte
+          c.white-test.true (sym at)
+          (sym c.is_white.ensures ∙ c.if-not-is_white.false));
+    }
 
 pub returns-in-Ok-None-clause-place : goal.returns-in-Ok-None-clause-place
 returns-in-Ok-None-clause-place g c =
-    known-none _ _ c.args.start c.white.place c.white.invariant.same
-    (rw c.in-Ok-None.field-0-is at c.in-Ok-None.ensures.byte) c.white.invariant.passed
+    let none = rw c.in-Ok-None.field-0-is at c.in-Ok-None.ensures.byte in
+    both_known (g.S.Source.known c.args.source.now) c.white.invariant.passed
+    (rw c.white.invariant.same at none)
+    (λ bytes i at. sym (moved c.args.start c.white.place (input_front bytes) i
+    ∙ xml-none (2 ^ 64 - 1) bytes c.white.place at))
 
 pub returns-clause-place : goal.returns-clause-place
 returns-clause-place g c =
-    known-end _ c.args.start c.white.place c.white-test.false c.white.invariant.passed
+    IfSome_then (g.S.Source.known c.args.source.now) c.white.invariant.passed
+    (λ bytes i. sym (moved c.args.start c.white.place (input_front bytes) i
+    ∙ xml-end (2 ^ 64 - 1) bytes c.white.place c.white-test.false))

@@ -20,10 +20,10 @@ pub returns-in-Scalar-clause-classes : goal.returns-in-Scalar-clause-classes
 returns-in-Scalar-clause-classes c =
     let have = c.requires.classes in
     let is = sym c.kind_at.ensures ∙ c.in-Scalar.is in
-    (have.0, have.1, none_written c.args.place (λ e. cc) (λ e. cc) have.2)
+    (have.0, have.1, none_written _ (λ e. cc) (λ e. cc) have.2)
 
 pub returns-in-End-clause-classes : goal.returns-in-End-clause-classes
 returns-in-End-clause-classes c =
     let have = c.requires.classes in
     let is = sym c.kind_at.ensures ∙ c.in-End.is in
-    (have.0, have.1, none_written c.args.place (λ e. cc) (λ e. cc) have.2)
+    (have.0, have.1, none_written _ (λ e. cc) (λ e. cc) have.2)

@@ -7,13 +7,13 @@ use Rattle.plist_share.proofs.classes.index_of.Goals as goal
 pub returns-in-Ok-clause-stored : goal.returns-in-Ok-clause-stored
 returns-in-Ok-clause-stored c =
     let h = c.in-Ok.ensures.stored in
-    key_at same key_of c.insert_full.new.self.keys c.in-Ok.index c.args.collection h.0
+    key_at same _ _ c.in-Ok.index c.args.collection h.0
     (same_key c.args.collection h.0) h.1 h.2
 
 pub returns-in-Ok-clause-below : goal.returns-in-Ok-clause-below
 returns-in-Ok-clause-below c =
     let h = c.in-Ok.ensures.stored in
-    slice_get_within _ _ _ (key_at same key_of c.insert_full.new.self.keys c.in-Ok.index
+    slice_get_within _ _ _ (key_at same _ _ c.in-Ok.index
     c.args.collection h.0 (same_key c.args.collection h.0) h.1 h.2)
 
 pub returns-in-Ok-clause-extends : goal.returns-in-Ok-clause-extends
@@ -23,4 +23,4 @@ returns-in-Ok-clause-extends c = record {
 }
 
 pub returns-in-Ok-clause-apart : goal.returns-in-Ok-clause-apart
-returns-in-Ok-clause-apart c = keys_apart same key_of key_same _ c.in-Ok.ensures.unique
+returns-in-Ok-clause-apart c = keys_apart same _ key_same _ c.in-Ok.ensures.unique

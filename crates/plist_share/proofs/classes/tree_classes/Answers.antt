@@ -1,4 +1,4 @@
-use Rattle.std.proofs.Common.{◌≡◌, length, arith, refl, sym, subst}
+use Rattle.std.proofs.Common.{arith, refl, sym, subst}
 use Rattle.plist_binwrite.specs.Held.{plain_events, num_of}
 use Rattle.plist_binwrite.specs.inner.Scalars.{AreApart}
 use Rattle.plist_binwrite.proofs.Skipping.{sits_in}
@@ -10,7 +10,7 @@ pub back-init : goal.back-init
 back-init c =
     let es = plain_events c.args.events.now in
     let owners = c.in_ok-scalars.ensures.classes in
-    let place : c.len-place.result ≡ length es = c.len-place.ensures in
+    let place = c.len-place.ensures in
     record {
       have = (
         num_of c.in_ok-scalars.scalars.of,

@@ -1,19 +1,21 @@
-use Rattle.std.proofs.Common.{rules, ap, ◌∙◌, subst}
+use Rattle.std.proofs.Common.{◌≡◌, None, rules, ap, ◌∙◌, subst}
+use Rattle.std.proofs.lemmas.Result.{IfOk-weaker}
 use Rattle.plist_binread.specs.BinaryReader.{source_of, to_come}
-use Rattle.plist_tool.specs.Converting.{items_left}
+use Rattle.plist_tool.specs.Converting.{AreNoTree, items_left}
 use Rattle.plist_tool.specs.Printing.{CountsReads}
-use Rattle.plist_tool.proofs.Streaming.{binary_items, none_of}
+use Rattle.plist_tool.proofs.Streaming.{binary_items, no_binary_tree}
 use Rattle.plist_tool.proofs.convert.hold_file.Goals as goal
 
 pub returns-clause-none : goal.returns-clause-none
 returns-clause-none g c =
-    none_of c.hold_events.result (items_left g.S.Source.known c.new-reader.result)
-    (g.S.Source.known c.args.source)
-    (binary_items (g.S.Source.known c.args.source) (g.S.Source.known c.format_of.new.source)
-    (g.S.Source.known (source_of c.new-reader.result)) c.in-Ok-Binary.field-0
+    IfOk-weaker c.hold_events.result
+    (λ found. found ≡ None → AreNoTree (items_left g.S.Source.known c.new-reader.result)) _
+    (λ found none is. no_binary_tree (g.S.Source.known c.args.source) (subst AreNoTree
+    (binary_items (g.S.Source.known c.args.source) (g.S.Source.known c.format_of.new.source) _
+    c.in-Ok-Binary.field-0
     (λ bytes. to_come bytes c.new-reader.result)
     (ap g.S.Source.known c.new-reader.ensures.source) c.format_of.ensures.unchanged
-    c.in-Ok-Binary.ensures.format (search rules) c.new-reader.ensures.items)
+    c.in-Ok-Binary.ensures.format (search rules) c.new-reader.ensures.items) (none is)))
     c.hold_events.ensures.none
 
 pub returns-clause-failures : goal.returns-clause-failures

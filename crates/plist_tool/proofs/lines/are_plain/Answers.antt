@@ -1,4 +1,4 @@
-use Rattle.plist_tool.proofs.Plain.{plain_more}
+use Rattle.plist_tool.proofs.Printed.{plain_more}
 use Rattle.plist_tool.proofs.lines.are_plain.Goals as goal
 
 pub loop-byte-preserved : goal.loop-byte-preserved

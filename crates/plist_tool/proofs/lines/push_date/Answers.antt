@@ -1,6 +1,6 @@
 use Rattle.std.proofs.Common.{rules, ◌∙◌, sym}
 use Rattle.std.proofs.lemmas.Result.{on_ok_weaker}
-use Rattle.plist_tool.proofs.Dates.{fraction_sent}
+use Rattle.plist_tool.proofs.Printed.{fraction_sent}
 use Rattle.plist_tool.proofs.lines.push_date.Goals as goal
 
 pub returns : goal.returns

@@ -1,7 +1,7 @@
 use Rattle.std.proofs.Common.{rules, ◌≡◌, ◌+◌, ◌++◌, ◌-◌, ◌≤◌, length, arith, ◌∙◌, ap, take}
 use Rattle.std.specs.Fmt.{decimal}
 use Rattle.std.proofs.lemmas.List.{take-take, take-append-le}
-use Rattle.plist_tool.proofs.Digits.{at_most_twenty, written_behind}
+use Rattle.plist_tool.proofs.Printed.{at_most_twenty, written_behind}
 use Rattle.plist_tool.proofs.lines.push_number.Goals as goal
 
 pub overflow_sub-end : goal.overflow_sub-end

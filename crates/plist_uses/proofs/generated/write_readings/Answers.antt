@@ -1,17 +1,13 @@
-use Rattle.std.proofs.Common.{◌+◌, Ok, Some, drop, get_or, map, refl, sym, subst, arith}
+use Rattle.std.proofs.Common.{◌+◌, drop, get_or, map, refl, arith}
 use Rattle.std.proofs.lemmas.List.{drop_all, drop_more}
-use Rattle.plist_base.specs.Events.{StartArray}
-use Rattle.plist.specs.Handing.{Took}
 use Rattle.plist_uses.specs.Generated.{reading_tree}
-use Rattle.plist_uses.proofs.Handed.{none, events_left, number, item-more}
+use Rattle.plist_uses.proofs.Handed.{none, number, item-more}
 use Rattle.plist_uses.proofs.generated.write_readings.Goals as goal
 
 pub loop-reading-init : goal.loop-reading-init
 loop-reading-init g c = λ last took. (
   c.write_start_array.new.self,
-  subst (λ n. g.W.Writer.Step c.args.writer.now (StartArray (Some n)) (Ok tt)
-      c.write_start_array.new.self) (number c.args.readings.now)
-      c.in_ok-write_start_array.ensures,
+  rw (number c.args.readings.now) at c.in_ok-write_start_array.ensures,
   took,
 )
 
@@ -20,18 +16,14 @@ loop-reading-preserved g c = λ last took.
     let reading = get_or c.args.readings.now c.loop-reading.reading-index none in
     let rest = drop (c.loop-reading.reading-index + 1) c.args.readings.now in
     c.loop-reading.invariant last
-    (subst (λ readings. Took g.W.Writer.Step c.loop-reading.writer
-    (events_left (map reading_tree readings)) last)
-    (sym (drop_more c.args.readings.now c.loop-reading.reading-index none
-    c.loop-reading-test.true))
-    (item-more g.W.Writer.Step (reading_tree reading) (map reading_tree rest) c.loop-reading.writer
+    (rw (drop_more c.args.readings.now c.loop-reading.reading-index none
+    c.loop-reading-test.true) (item-more g.W.Writer.Step (reading_tree reading)
+    (map reading_tree rest) c.loop-reading.writer
     c.write_reading.new.writer last c.in_ok-write_reading.ensures.handed took))
 
 pub returns : goal.returns
 returns g c = record {
   handed = c.loop-reading.invariant c.write_end_collection.new.self
-      (subst (λ readings. Took g.W.Writer.Step c.loop-reading.writer
-      (events_left (map reading_tree readings)) c.write_end_collection.new.self)
-      (sym (drop_all c.loop-reading.reading-index c.args.readings.now (omega arith)))
+      (rw (drop_all c.loop-reading.reading-index c.args.readings.now (omega arith))
       (c.write_end_collection.new.self, c.in_ok-write_end_collection.ensures, refl));
 }

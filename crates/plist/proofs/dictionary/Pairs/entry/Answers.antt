@@ -1,5 +1,4 @@
-use Rattle.std.proofs.Common.{None, Some, position, refl, sym, ap, ◌∙◌, cond, is_some}
-use Rattle.std.specs.Str.{bytes_eq}
+use Rattle.std.proofs.Common.{None, Some, position, refl, sym, ap, ◌∙◌, cond, is_some, bytes_eq}
 use Rattle.std.specs.Map.{lookup, keys_of}
 use Rattle.plist.proofs.EntrySteps.{comes_last, keeps_place, key-there, value-there, kept-there, taken-there, none-taken}
 use Rattle.plist.proofs.dictionary.Pairs.entry.Goals as goal

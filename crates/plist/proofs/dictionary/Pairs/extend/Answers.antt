@@ -1,13 +1,11 @@
-use Rattle.std.proofs.Common.{refl, ◌∙◌}
-use Rattle.std.specs.Prelude.{String}
-use Rattle.std.specs.declared.alloc.Global.{Global}
+use Rattle.std.proofs.Common.{refl, ◌∙◌, String, Global}
 use Rattle.std.proofs.iter.Next as it
 use Rattle.plist.proofs.Extended.{inserted-more}
 use Rattle.plist.proofs.dictionary.Pairs.extend.Goals as goal
 
 pub loop-key-init : goal.loop-key-init
 loop-key-init g c =
-    let asked = c.requires.asked c.into_iter-rest.result c.into_iter-rest.ensures.into_iter_gives in
+    let asked = c.requires.asked _ c.into_iter-rest.ensures.into_iter_gives in
     it.begun asked.0 asked.1 refl
 
 pub loop-key-preserved-in-Ok : goal.loop-key-preserved-in-Ok

@@ -1,6 +1,5 @@
-use Rattle.std.proofs.Common.{◌≡◌, map}
+use Rattle.std.proofs.Common.{◌≡◌, map, bytes_eq}
 use Rattle.std.specs.Iterator.{EndsFrom, items_left}
-use Rattle.std.specs.Str.{bytes_eq}
 use Rattle.std.proofs.iter.Next as it
 use Rattle.indexmap.specs.IndexMap.{insert_all}
 use Rattle.plist.specs.Shown.{shown_owned_pair}

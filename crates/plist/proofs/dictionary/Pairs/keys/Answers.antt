@@ -1,13 +1,8 @@
 use Rattle.std_collections.proofs.IterRuns.{shows_in_order}
-use Rattle.plist.proofs.Columns.{distinct-none}
 use Rattle.plist.proofs.dictionary.Pairs.keys.Goals as goal
 
 pub returns-in-None-clause-runs : goal.returns-in-None-clause-runs
 returns-in-None-clause-runs g c = shows_in_order _
-
-pub returns-in-None-clause-distinct : goal.returns-in-None-clause-distinct
-returns-in-None-clause-distinct g c =
-    distinct-none c.self.inside.store c.args.self.now c.self.view_is c.in-None.is
 
 pub returns-in-Some-clause-runs : goal.returns-in-Some-clause-runs
 returns-in-Some-clause-runs g c = shows_in_order _

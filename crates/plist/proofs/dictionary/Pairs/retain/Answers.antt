@@ -1,5 +1,5 @@
 use Rattle.std.proofs.Common.{◌≡◌, List, ℕ, string_bytes, refl, subst, ◌∙◌, arith}
-use Rattle.plist.specs.Bulk.{Answers}
+use Rattle.plist.specs.Bulk.{AnswersAtPair}
 use Rattle.plist.proofs.Retained.{kept-none, kept-all, step-one, step-other, key-of}
 use Rattle.plist.proofs.dictionary.Pairs.retain.Goals.{then-keep, else-keep}
 use Rattle.plist.proofs.dictionary.Pairs.retain.Goals as goal
@@ -9,7 +9,7 @@ loop-i-init g c = kept-none _ _
 
 pub loop-i-preserved : goal.loop-i-preserved
 loop-i-preserved g c =
-    let A = Answers g.F.Fn c.args.keep in
+    let A = AnswersAtPair g.F.Fn c.args.keep in
     let l = c.loop-i in
     let x : List ℕ × _ = (c.pair_at.result.0.now, c.pair_at.result.1.now) in
     let named : string_bytes c.key_at.result.now
@@ -33,7 +33,7 @@ pub returns : goal.returns
 returns g c =
     let l = c.loop-i in
     record {
-      kept = kept-all (Answers g.F.Fn c.args.keep) c.args.self.now l.self c.truncate.new.self
+      kept = kept-all (AnswersAtPair g.F.Fn c.args.keep) c.args.self.now l.self c.truncate.new.self
           l.i l.kept l.invariant (omega arith)
           c.truncate.ensures;
     }

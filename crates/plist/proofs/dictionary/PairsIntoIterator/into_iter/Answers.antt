@@ -1,7 +1,6 @@
-use Rattle.std.proofs.Common.{◌∙◌, subst}
+use Rattle.std.proofs.Common.{◌∙◌, subst, bytes_eq}
 use Rattle.std.specs.List.{IsDistinct}
 use Rattle.std.specs.Map.{keys_of}
-use Rattle.std.specs.Str.{bytes_eq}
 use Rattle.std_collections.proofs.IterRuns.{shows_in_order}
 use Rattle.plist.specs.Shown.{shown_owned_pair}
 use Rattle.plist.proofs.dictionary.PairsIntoIterator.into_iter.Goals as goal

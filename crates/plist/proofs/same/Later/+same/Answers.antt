@@ -1,5 +1,4 @@
-use Rattle.std.proofs.Common.{◌≡◌, ◌<◌, ◌≤◌, ◌&&◌, false, length, sym, ap, ◌∙◌, arith}
-use Rattle.std.specs.Str.{bytes_eq}
+use Rattle.std.proofs.Common.{◌≡◌, ◌<◌, ◌≤◌, ◌&&◌, false, length, sym, ap, ◌∙◌, arith, bytes_eq}
 use Rattle.std.specs.Map.{values_of}
 use Rattle.std.specs.Cmp.Lexicographic.{nat_list_eq_equiv}
 use Rattle.std.proofs.lemmas.List.{drop_all}
@@ -11,9 +10,8 @@ use Rattle.plist.specs.inner.PutOff.{are_covered, are_same, same_values, waiting
 use Rattle.plist.specs.Same.{same, same_items}
 use Rattle.plist.specs.Views.{item_trees, pair_trees}
 use Rattle.plist.specs.inner.Weights.{weights}
-use Rattle.plist.proofs.Comparing.{at-once, covered-answers, covered-is-same, items-go, items-stop, pairs-go, pairs-lack, pairs-stop}
-use Rattle.plist.proofs.Depths.{no-deeper}
-use Rattle.plist.proofs.SameTrees.{same-dictionaries, unequal-lengths}
+use Rattle.plist.proofs.Comparing.{at-once, covered-is-same, items-next, pairs-lack, pairs-next, no-deeper}
+use Rattle.plist.proofs.SameTrees.{same_dictionaries, unequal-lengths}
 use Rattle.plist.proofs.same.Later.+same.Goals as goal
 
 pub compare_items-returns-then-len : goal.compare_items-returns-then-len
@@ -29,17 +27,17 @@ pub compare_items-returns-then-not-compare : goal.compare_items-returns-then-not
 compare_items-returns-then-not-compare t c =
     let first : c.loop-i.i < length c.args.items.now.items = omega arith in
     let second : c.loop-i.i < length c.args.others.now.items = omega arith in
-    items-stop _ _ _ _ _ c.args.self.now c.loop-i.self _
-    c.compare.new.self first second c.index.ensures c.index-in-loop-i.ensures
-    c.loop-i.invariant c.compare.ensures c.if-not-compare.true
+    (items-next _ _ _ _ _ c.args.self.now c.loop-i.self _ c.compare.new.self first second
+    c.index.ensures c.index-in-loop-i.ensures c.loop-i.invariant c.compare.ensures).0
+    c.if-not-compare.true
 
 pub compare_items-loop-i-preserved : goal.compare_items-loop-i-preserved
 compare_items-loop-i-preserved t c =
     let first : c.loop-i.i < length c.args.items.now.items = omega arith in
     let second : c.loop-i.i < length c.args.others.now.items = omega arith in
-    items-go _ _ _ _ _ c.args.self.now c.loop-i.self _
-    c.compare.new.self first second c.index.ensures c.index-in-loop-i.ensures
-    c.loop-i.invariant c.compare.ensures c.if-not-compare.false
+    (items-next _ _ _ _ _ c.args.self.now c.loop-i.self _ c.compare.new.self first second
+    c.index.ensures c.index-in-loop-i.ensures c.loop-i.invariant c.compare.ensures).1
+    c.if-not-compare.false
 
 pub compare_items-returns : goal.compare_items-returns
 compare_items-returns t c =
@@ -66,7 +64,7 @@ compare_pairs-returns-then-count-pair_count t c =
     (weights (values_of ps))
     (unequal_len bytes_eq nat_list_eq_equiv same_values (as_map ps) (as_map qs) a.distinct
     b.distinct (λ e. c.if-count-pair_count.true (a.count ∙ e ∙ sym b.count))
-    ∙ same-dictionaries ps qs a.distinct b.distinct)
+    ∙ same_dictionaries ps qs a.distinct b.distinct)
 
 pub compare_pairs-compare-requires : goal.compare_pairs-compare-requires
 compare_pairs-compare-requires t c = (
@@ -77,30 +75,20 @@ compare_pairs-compare-requires t c = (
 
 pub compare_pairs-returns-in-None : goal.compare_pairs-returns-in-None
 compare_pairs-returns-in-None t c =
-    let a = c.pair_count-count.ensures in
-    let b = c.pair_count.ensures in
-    covered-answers _ _ a.distinct b.distinct
-    (omega arith) c.args.self.now
-    false c.loop-i.self
-    (pairs-lack _ _ _ _ _ c.args.self.now c.loop-i.self c.pair_at.ensures
-    c.in-None.ensures.value c.loop-i.invariant)
+    pairs-lack _ _ c.pair_count-count.ensures.distinct c.pair_count.ensures.distinct (omega arith)
+    _ _ _ c.args.self.now c.loop-i.self c.pair_at.ensures c.loop-i.invariant c.in-None.ensures.value
 
 pub compare_pairs-returns-then-not-compare : goal.compare_pairs-returns-then-not-compare
 compare_pairs-returns-then-not-compare t c =
-    let a = c.pair_count-count.ensures in
-    let b = c.pair_count.ensures in
-    covered-answers _ _ a.distinct b.distinct
-    (omega arith) c.args.self.now
-    false c.compare.new.self
-    (pairs-stop _ _ _ _ _ _ c.args.self.now c.loop-i.self _ c.compare.new.self
-    c.pair_at.ensures c.in-Some.ensures.value c.loop-i.invariant
-    c.compare.ensures c.if-not-compare.true)
+    (pairs-next _ _ c.pair_count-count.ensures.distinct c.pair_count.ensures.distinct (omega arith)
+    _ _ _ c.args.self.now c.loop-i.self c.pair_at.ensures c.loop-i.invariant _ _ c.compare.new.self
+    c.in-Some.ensures.value c.compare.ensures).0 c.if-not-compare.true
 
 pub compare_pairs-loop-i-preserved : goal.compare_pairs-loop-i-preserved
 compare_pairs-loop-i-preserved t c =
-    pairs-go _ _ _ _ _ _ c.args.self.now c.loop-i.self _ c.compare.new.self
-    c.pair_at.ensures c.in-Some.ensures.value c.loop-i.invariant
-    c.compare.ensures c.if-not-compare.false
+    (pairs-next _ _ c.pair_count-count.ensures.distinct c.pair_count.ensures.distinct (omega arith)
+    _ _ _ c.args.self.now c.loop-i.self c.pair_at.ensures c.loop-i.invariant _ _ c.compare.new.self
+    c.in-Some.ensures.value c.compare.ensures).1 c.if-not-compare.false
 
 pub compare_pairs-returns : goal.compare_pairs-returns
 compare_pairs-returns t c =

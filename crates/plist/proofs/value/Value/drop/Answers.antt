@@ -1,5 +1,4 @@
-use Rattle.std.proofs.Common.{ap, ◌∙◌, ◌++◌}
-use Rattle.std.specs.Option.{option_to_list}
+use Rattle.std.proofs.Common.{ap, ◌∙◌, ◌++◌, option_to_list}
 use Rattle.plist.proofs.Dropping.{less-by-one, less-by-joining}
 use Rattle.plist.proofs.value.Value.drop.Goals as goal
 

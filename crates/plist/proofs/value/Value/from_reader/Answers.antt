@@ -1,7 +1,6 @@
 use Rattle.plist_reader.specs.Reader.{items_of_input, to_come}
 use Rattle.plist.specs.Collecting.{built_tree}
-use Rattle.plist.proofs.Shown.{of-items, reader-shows}
-use Rattle.plist.proofs.ReadingBack.{reads-back}
+use Rattle.plist.proofs.Shown.{of-items, reader-shows, reads-back}
 use Rattle.plist.proofs.value.Value.from_reader.Goals as goal
 
 pub returns-clause-value : goal.returns-clause-value

@@ -1,7 +1,7 @@
 use Rattle.plist_ascii.specs.AsciiReader.{bytes_left, dialect_of, place_of}
 use Rattle.plist_ascii.specs.Texts.{ends_bare}
 use Rattle.plist_ascii.specs.Ascii.{items_of_ascii}
-use Rattle.plist_reader.specs.Formats.{front}
+use Rattle.plist_reader.specs.Formats.{input_front}
 use Rattle.plist.specs.Collecting.{built_tree}
 use Rattle.plist.proofs.Shown.{of-items, ascii-start, ascii-shows, ascii_coming}
 use Rattle.plist.proofs.value.Value.from_reader_ascii_with_dialect.Goals as goal
@@ -9,7 +9,7 @@ use Rattle.plist.proofs.value.Value.from_reader_ascii_with_dialect.Goals as goal
 pub returns-clause-value : goal.returns-clause-value
 returns-clause-value g c =
     let reader = c.with_dialect.ensures in
-    of-items (λ bytes. items_of_ascii (ends_bare c.args.dialect) (front bytes) 0) _ _
+    of-items (λ bytes. items_of_ascii (ends_bare c.args.dialect) (input_front bytes) 0) _ _
     (built_tree c.collect.result)
     (ascii-start _ c.args.dialect _ _ _ reader.dialect reader.bytes reader.place)
     (c.collect.ensures.shown (ascii_coming g.R.Bytes.remaining) (λ old item new gives.

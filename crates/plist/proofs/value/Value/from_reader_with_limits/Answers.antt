@@ -1,17 +1,18 @@
-use Rattle.plist_base.specs.Limits.{come_of, inner_of}
-use Rattle.std.specs.Option.{option_map}
-use Rattle.std.proofs.Common.{ap, ◌∙◌}
+use Rattle.plist_base.specs.Limits.{come_of, inner_of, limited_items}
+use Rattle.std.proofs.Common.{ap, ◌∙◌, option_map}
 use Rattle.plist_reader.specs.Reader.{Gives, items_of_input, to_come}
 use Rattle.plist.specs.Collecting.{built_tree}
-use Rattle.plist.proofs.Shown.{reader-shows}
-use Rattle.plist.proofs.Limiting.{built-within, limited-shows, of-limited}
+use Rattle.plist.proofs.Shown.{joined, of-items, reader-shows}
+use Rattle.plist.proofs.Limiting.{built-within, limited-shows}
 use Rattle.plist.proofs.value.Value.from_reader_with_limits.Goals as goal
 
 pub returns-clause-value : goal.returns-clause-value
 returns-clause-value g c =
     let known = g.R.Source.known in
-    of-limited c.args.limits _ _ items_of_input _ (built_tree c.collect.result)
-    c.new-2.ensures.items (ap (to_come known) c.new-2.ensures.inner ∙ c.new.ensures.items)
+    of-items (λ bytes. limited_items c.args.limits (items_of_input bytes)) _ _
+    (built_tree c.collect.result)
+    ((λ j. option_map (c.new-2.ensures.items j)
+    ((ap (to_come known) c.new-2.ensures.inner ∙ c.new.ensures.items) j)) ∙ joined _ _ _)
     (c.collect.ensures.shown (λ l. option_map (come_of l) (to_come known (inner_of l)))
     (limited-shows (Gives known g.R.Source.failures) (to_come known)
     (λ old item new gives. reader-shows _ _ item gives.items)))

@@ -1,8 +1,7 @@
 -- `Store` as a type that may hold the type that holds it, by its values.
-use Rattle.std.specs.Prelude.{◌≡◌, ℕ, List, [], ◌∷◌, map, length, string_bytes, String}
-use Rattle.std.specs.List.{zip, IsDistinct, IsDistinct-prop}
+use Rattle.std.specs.Prelude.{◌≡◌, ℕ, List, [], ◌∷◌, map, length, string_bytes, String, zip, bytes_eq}
+use Rattle.std.specs.List.{IsDistinct, IsDistinct-prop}
 use Rattle.std.specs.Map.{values_of}
-use Rattle.std.specs.Str.{bytes_eq}
 use mathlib.Core.Path.{refl, sym, ap, ◌∙◌}
 use mathlib.Core.HLevel.{×_prop}
 use mathlib.Core.Former.{Former, one_more, this, const, pair, list, via, children}

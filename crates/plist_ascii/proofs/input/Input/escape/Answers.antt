@@ -1,6 +1,6 @@
 use Rattle.std.proofs.Common.{refl}
 use Rattle.std.proofs.lemmas.Result.{err_from_is_err_and}
-use Rattle.plist_ascii.specs.Escapes.{escape, escape_by}
+use Rattle.plist_ascii.specs.Escapes.{escape}
 use Rattle.plist_ascii.specs.inner.Parts.{piece_bytes}
 use Rattle.plist_ascii.proofs.Answering.{answers_past, answers_unclosed}
 use Rattle.plist_ascii.proofs.input.Input.escape.Goals as goal
@@ -8,7 +8,7 @@ use Rattle.plist_ascii.proofs.input.Input.escape.Goals as goal
 pub returns-clause-answers : goal.returns-clause-answers
 unfolding escape
 returns-clause-answers g c =
-    answers_past piece_bytes escape (escape_by c.in_ok-byte.byte) _ _ c.in_ok-byte.byte _ _ _ _ _
+    answers_past _ _ _ _ _ _ _ _ _ _ _
     c.in_ok-byte.ensures.value c.in_ok-byte.ensures.place.0 (λ ys. refl) c.escape_by.ensures.answers
 
 pub returns-in_err-byte-clause-answers : goal.returns-in_err-byte-clause-answers

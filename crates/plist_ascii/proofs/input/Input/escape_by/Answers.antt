@@ -3,12 +3,12 @@ use Rattle.plist_ascii.specs.inner.Parts.{piece_bytes}
 use Rattle.plist_ascii.specs.declared.escape.Piece.TheVariants.{Byte}
 use Rattle.plist_ascii.proofs.Answering.{answers_same, answers_here, answers_fault, front_from}
 use Rattle.std.proofs.lemmas.Bool.{ne_eqb}
-use Rattle.plist_ascii.specs.Escapes.{escape_by, octal}
+use Rattle.plist_ascii.specs.Escapes.{escape_by}
 use Rattle.plist_ascii.proofs.input.Input.escape_by.Goals as goal
 
 pub returns-then-is_octal-clause-answers : goal.returns-then-is_octal-clause-answers
 returns-then-is_octal-clause-answers g c =
-    answers_same piece_bytes (escape_by c.args.byte) (octal c.args.byte) _ _ _ _ _
+    answers_same _ _ _ _ _ _ _ _
     (λ xs. rw (
       ne_eqb _ _ c.if-byte-eq85.false,
       sym c.is_octal.ensures ∙ c.if-is_octal.true,

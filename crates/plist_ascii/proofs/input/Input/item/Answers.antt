@@ -1,14 +1,15 @@
 use Rattle.std.proofs.Common.{arith, [], sym, ◌∙◌, refl}
+use Rattle.plist_ascii.proofs.Loops.{since_on}
 use Rattle.plist_ascii.proofs.Unread.{ended_unread}
 use Rattle.plist_ascii.proofs.Items.{going_start, going_skip, going_event, going_fault, going_none, going_text}
 use Rattle.plist_base.specs.Faults.{kind_of, error_kind_of}
-use Rattle.plist_ascii.proofs.Inside.{inside_gets, outside_gets, inside_is}
+use Rattle.plist_ascii.proofs.Answering.{inside_gets, outside_gets, inside_is}
 use Rattle.plist_ascii.proofs.input.Input.item.Goals as goal
 use Rattle.plist_ascii.proofs.input.Input.item.Goals.{then-is_from_outside, else-is_from_outside}
 
 pub returns-then-has_ended-clause-items : goal.returns-then-has_ended-clause-items
 returns-then-has_ended-clause-items g c = λ xs e.
-    let none = ended_unread _ _ _ _ xs (sym c.has_ended.ensures ∙ c.if-has_ended.true) e in
+    let none = ended_unread _ _ _ _ xs (cc) e in
     (xs, e, (going_none (going_start _ xs _) none, none))
 
 pub returns-in-Ok-Some-token_by-clause-items : goal.returns-in-Ok-Some-token_by-clause-items
@@ -17,7 +18,7 @@ returns-in-Ok-Some-token_by-clause-items g c =
     let place = rw c.in-Ok-Some.field-0-is at c.in-Ok-Some.ensures.place in
     let a = rw c.in-Ok-Some-token_by.field-0-is at c.in-Ok-Some-token_by.ensures.answers in
     λ xs e.
-    let i = c.tokens.invariant.going xs e in
+    let i = c.tokens.invariant.goes xs e in
     let t = some i.0 i.1 in
     let k = a.1 t.0 t.2 in
     (_, k.1, going_event i.2 t.1 place.0 k.2 k.0)
@@ -27,22 +28,16 @@ tokens-preserved g c =
     let some = rw c.in-Ok-Some.field-0-is at c.in-Ok-Some.ensures.some in
     let place = rw c.in-Ok-Some.field-0-is at c.in-Ok-Some.ensures.place in
     let a = rw c.in-Ok-None-token_by.field-0-is at c.in-Ok-None-token_by.ensures.answers in
-    record {
-      counts = c.in-Ok-None-token_by.ensures.failures ∙ c.in-Ok-Some.ensures.failures
-          ∙ c.tokens.invariant.counts;
-      rises = omega (arith, c.tokens.invariant.rises, a.0, place.0);
-      going = λ xs e.
-          let i = c.tokens.invariant.going xs e in
-          let t = some i.0 i.1 in
-          let k = a.1 t.0 t.2 in
-          (_, k.1, going_skip i.2 t.1 place.0 k.2 k.0);
-    }
+    since_on c.tokens.invariant
+    (c.in-Ok-None-token_by.ensures.failures ∙ c.in-Ok-Some.ensures.failures)
+    (omega (arith, a.0, place.0)) (λ xs ys i u.
+    let t = some ys u in let k = a.1 t.0 t.2 in (_, k.1, going_skip i t.1 place.0 k.2 k.0))
 
 pub returns-in-Ok-None-clause-items : goal.returns-in-Ok-None-clause-items
 returns-in-Ok-None-clause-items g c =
     let none = c.in-Ok-None.ensures.none c.in-Ok-None.field-0-is in
     λ xs e.
-    let i = c.tokens.invariant.going xs e in
+    let i = c.tokens.invariant.goes xs e in
     let t = none i.0 i.1 in
     ([], c.end-in-Ok-None.ensures.unread, (going_none i.2 t.1, refl))
 
@@ -53,7 +48,7 @@ returns-in-Err-token_by-clause-items g c =
     let a = c.in-Err-token_by.ensures.answers in
     let error = c.in-Err-token_by.error in
     λ xs e.
-    let i = c.tokens.invariant.going xs e in
+    let i = c.tokens.invariant.goes xs e in
     let t = some i.0 i.1 in
     elim c.if-is_from_outside.branch [
       | then-is_from_outside w ↦ rw (w.self-is) (

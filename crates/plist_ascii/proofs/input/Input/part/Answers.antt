@@ -10,16 +10,16 @@ use Rattle.plist_ascii.proofs.input.Input.part.Goals as goal
 pub returns-in-None-clause-value : goal.returns-in-None-clause-value
 returns-in-None-clause-value g c = λ xs e.
     let quote = c.args.quote in
-    let m = run (ends_run quote) xs in
+    let m = run _ xs in
     let r = c.in_ok-take_run.ensures.value xs e in
     let ok = rw c.in-None.is at c.in_ok-piece.ensures.value in
-    let t = ok (drop m xs) r.1 in (
+    let t = ok _ r.1 in (
       m + t.0,
       take m xs ++ [],
-      part_ends quote t.0 xs _ t.1,
+      part_ends _ t.0 xs _ t.1,
       text_closes _ _ _ r.0,
-      t.2 ∙ ap Some (drop-drop t.0 m xs),
-      omega (arith, t.3, r.2),
+      cc (drop-drop t.0 m xs),
+      omega arith,
     )
 
 pub returns-in_ok-push_piece-in-Some-clause-value

@@ -1,19 +1,19 @@
 use Rattle.std.proofs.Common.{arith, Err, refl, sym, ◌∙◌}
 use Rattle.plist_base.specs.Faults.{InvalidUtf16String}
-use Rattle.plist_ascii.specs.Escapes.{second_letter, second_digits, bad_unit}
+use Rattle.plist_ascii.specs.Escapes.{second_letter, bad_unit}
 use Rattle.plist_ascii.specs.inner.Parts.{piece_bytes}
 use Rattle.plist_ascii.proofs.Answering.{answers_past, answers_looked, answers_fault}
 use Rattle.plist_ascii.proofs.Unread.{takes_looked, first_splits, first_none}
-use Rattle.plist_ascii.proofs.Comments.{nothing_taken}
+use Rattle.plist_ascii.proofs.Loops.{nothing_taken}
 use Rattle.plist_ascii.proofs.input.Input.second_letter.Goals as goal
 use Rattle.plist_ascii.proofs.input.Input.second_letter.Goals.{in_default-via-in-Some+else-is_unit_letter, in_default-via-in_default}
 
 pub returns-in-Some-clause-answers : goal.returns-in-Some-clause-answers
 returns-in-Some-clause-answers g c =
-    answers_past piece_bytes (second_letter c.args.high) (second_digits c.args.high) _ _
-    c.in-Some.byte _ _ _ _ _
+    answers_past _ _ _ _ _
+    _ _ _ _ _ _
     (takes_looked _ _ _ _ _ c.in-Some.is c.in_ok-byte.ensures.next c.advance.ensures.next)
-    (omega (arith, c.advance.ensures.place, c.look.ensures.place))
+    (omega arith)
     (λ ys. rw (sym c.is_unit_letter.ensures ∙ c.if-is_unit_letter.true) refl)
     c.second_digits.ensures.answers
 

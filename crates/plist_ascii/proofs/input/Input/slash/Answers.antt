@@ -1,36 +1,36 @@
-use Rattle.std.proofs.Common.{arith, ap, ◌∙◌, Some, Ok, Err, refl}
+use Rattle.std.proofs.Common.{arith, Some, Ok, Err, refl}
 use Rattle.std.specs.Option.{option_map}
 use Rattle.std.proofs.lemmas.Result.{err_from_is_err_and}
 use Rattle.plist_base.specs.Faults.{IncompleteComment}
 use Rattle.plist_base.specs.Events.{event_of}
 use Rattle.plist_ascii.specs.Texts.{bare}
-use Rattle.plist_ascii.specs.Comments.{slash, line_comment, block_comment}
+use Rattle.plist_ascii.specs.Comments.{slash}
 use Rattle.plist_ascii.specs.Unread.{stops}
 use Rattle.plist_ascii.proofs.Answering.{answers_fault, front_from, answers_past, answers_looked}
-use Rattle.plist_ascii.proofs.Slashes.{bare_looked, slash_wants}
+use Rattle.plist_ascii.proofs.Texts.{bare_looked, slash_wants}
 use Rattle.plist_ascii.proofs.Unread.{takes_looked, first_none}
 use Rattle.plist_ascii.proofs.input.Input.slash.Goals as goal
 
 pub returns-in-Some-eq47-clause-answers : goal.returns-in-Some-eq47-clause-answers
 returns-in-Some-eq47-clause-answers g c =
-    answers_past (option_map event_of) (slash (stops c.args.stop)) line_comment _ _ 47 _ _ _ _ _
-    (takes_looked _ _ _ _ _ (c.in-Some-eq47.is ∙ ap Some c.in-Some-eq47.field-0-test)
+    answers_past _ _ _ _ _ 47 _ _ _ _ _
+    (takes_looked _ _ _ _ _ (cc)
     c.in_ok-look.ensures.next c.advance.ensures.next)
-    (omega (arith, c.advance.ensures.place, c.look.ensures.place)) (λ ys. refl)
+    (omega arith) (λ ys. refl)
     c.line_comment.ensures.answers
 
 pub returns-in-Some-eq42-clause-answers : goal.returns-in-Some-eq42-clause-answers
 returns-in-Some-eq42-clause-answers g c =
-    answers_past (option_map event_of) (slash (stops c.args.stop)) block_comment _ _ 42 _ _ _ _ _
-    (takes_looked _ _ _ _ _ (c.in-Some-eq42.is ∙ ap Some c.in-Some-eq42.field-0-test)
+    answers_past _ _ _ _ _ 42 _ _ _ _ _
+    (takes_looked _ _ _ _ _ (cc)
     c.in_ok-look.ensures.next c.advance-in-Some-eq42.ensures.next)
-    (omega (arith, c.advance-in-Some-eq42.ensures.place, c.look.ensures.place)) (λ ys. refl)
+    (omega arith) (λ ys. refl)
     c.block_comment.ensures.answers
 
 pub returns-in_ok-event-in-Some-clause-answers : goal.returns-in_ok-event-in-Some-clause-answers
 returns-in_ok-event-in-Some-clause-answers g c =
-    answers_looked (λ e. Some (event_of e)) (slash (stops c.args.stop))
-    (bare (stops c.args.stop) 47) _ _ _ _ _ _ (Ok c.in_ok-event-in-Some.event)
+    answers_looked (λ e. Some (event_of e)) _
+    _ _ _ _ _ _ _ (Ok c.in_ok-event-in-Some.event)
     (bare_looked _ _ _ _ _ c.in-Some.is c.in_ok-look.ensures.next c.in-Some._byte-test.0.1
     c.in-Some._byte-test.1)
     c.look.ensures.place c.in_ok-event-in-Some.ensures.answers

@@ -1,6 +1,6 @@
 use Rattle.std.proofs.Common.{rules, sym, FitsSigned, w64}
 use Rattle.std.proofs.lemmas.Int.{to_z-of_z}
-use Rattle.plist_base.proofs.DateYears.{not_printed, not_ranged, printed_at, text_in_utc}
+use Rattle.plist_base.proofs.DateRounding.{not_printed, not_ranged, printed_at, text_in_utc}
 use Rattle.plist_base.proofs.date.Date.from_xml_format.Goals as goal
 
 pub returns-in-None-clause-printed : goal.returns-in-None-clause-printed

@@ -7,7 +7,7 @@ returns-then-frame c = (
   c.in-Some.frame.next,
   c.in-Some.frame.count,
   rw (← c.self.view_is, c.in-Some.is)
-      (innermost_first c.self.inside.outer c.in-Some.frame)
+      (innermost_first c.self.inside.outer _)
       ∙ ap (λ fs. c.in-Some.frame ∷ reverse fs) c.pop-self-inside.ensures.0,
   c.if-frame.true,
 )
@@ -16,7 +16,7 @@ pub returns-else-frame : goal.returns-else-frame
 returns-else-frame c = (
   c.in-Some.frame.count,
   reverse c.self.inside.outer,
-  rw (← c.self.view_is, c.in-Some.is) (innermost_first c.self.inside.outer c.in-Some.frame),
+  rw (← c.self.view_is, c.in-Some.is) (innermost_first c.self.inside.outer _),
   innermost_first c.self.inside.outer _,
-  omega (arith, c.if-frame.false),
+  omega arith,
 )

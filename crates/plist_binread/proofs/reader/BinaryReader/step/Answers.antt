@@ -72,7 +72,7 @@ returns-in-Err-clause-walks g c = record {
   marked = c.begin.new.walk.path;
   counted = c.begin.ensures.counted;
   lists = lists _ _ _ _ c.begin.new.walk.path c.begin.new.walk.same c.begin.ensures.bounded;
-  falls = rw c.in-Fresh.is (omega (arith));
+  falls = rw c.in-Fresh.is (omega arith);
 }
 
 pub returns-in-Some-Ok-clause-walks : goal.returns-in-Some-Ok-clause-walks

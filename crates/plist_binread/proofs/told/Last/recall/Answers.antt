@@ -5,16 +5,16 @@ use Rattle.plist_binread.proofs.told.Last.recall.Goals as goal
 
 pub returns-in-8-to-16-clause-wanted : goal.returns-in-8-to-16-clause-wanted
 returns-in-8-to-16-clause-wanted c = λ _.
-    rw (scalar_of-data (c.args.tag % 128) c.args.content (omega arith) (omega arith)) tt
+    rw (scalar_of-data (c.args.tag % 128) _ (omega arith) (omega arith)) tt
 
 pub returns-in-17-to-25-clause-wanted : goal.returns-in-17-to-25-clause-wanted
 returns-in-17-to-25-clause-wanted c = λ _.
-    rw (scalar_of-text (c.args.tag % 128) c.args.content (omega arith) (omega arith))
+    rw (scalar_of-text (c.args.tag % 128) _ (omega arith) (omega arith))
     (wanted-text _)
 
 pub returns-in-17-to-25-clause-told : goal.returns-in-17-to-25-clause-told
 returns-in-17-to-25-clause-told c = λ yes.
     let told = (rw (c.from-in-17-to-25.ensures, c.to_be_bytes-bytes.ensures) at c.tell_text.ensures)
     yes in
-    ap single (scalar_of-text (c.args.tag % 128) c.args.content (omega arith) (omega arith)
+    ap single (scalar_of-text _ _ (omega arith) (omega arith)
     ∙ text-utf8 _ told.0) ∙ ap Some (sym told.1)

@@ -1,4 +1,4 @@
-use Rattle.std.proofs.Common.{false, refl, sym, ◌∙◌}
+use Rattle.std.proofs.Common.{refl, sym, ◌∙◌}
 use Rattle.plist_binread.specs.Frames.{frame_of}
 use Rattle.plist_binread.proofs.Turned.{next_path, child_owed, closed_owed, child_weight, closed_weight, closes-none, closes-child, taken_back}
 use Rattle.plist_binread.proofs.Opened.{IsOpen-pop, first_below, first_uncached, cached_count-mark}
@@ -14,12 +14,12 @@ returns-in-Nothing-clause-owed c =
 
 pub returns-in-Nothing-clause-back : goal.returns-in-Nothing-clause-back
 returns-in-Nothing-clause-back c =
-    let is = c.in-Nothing.ensures in (refl, is.1 ∙ sym is.0)
+    let is = c.in-Nothing.ensures in (refl, cc)
 
 pub unmark-requires : goal.unmark-requires
 unmark-requires c =
     let is = c.in-End.ensures in
-    first_below c.args.self.now.tags.items _ _ (rw is.2 at c.args.self.now.path)
+    first_below _ _ _ (rw is.2 at c.args.self.now.path)
 
 pub invariant_of-self-in-End : goal.invariant_of-self-in-End
 invariant_of-self-in-End c =
@@ -31,19 +31,19 @@ invariant_of-self-in-End c =
     }
 
 pub returns-in-End-clause-counted : goal.returns-in-End-clause-counted
-returns-in-End-clause-counted c = cached_count-mark _ false _ _ c.unmark.ensures
+returns-in-End-clause-counted c = cached_count-mark _ _ _ _ c.unmark.ensures
 
 pub returns-in-End-clause-owed : goal.returns-in-End-clause-owed
 returns-in-End-clause-owed c =
     let is = c.in-End.ensures in
     λ bytes bounds k. rw is.2
-    (closed_owed bytes c.args.self.now.tags.items c.args.self.now.contents.items bounds _ _
+    (closed_owed _ _ _ _ _ _
     (rw is.2 at k) _ is.3 c.unmark.ensures)
 
 pub returns-in-End-clause-weight : goal.returns-in-End-clause-weight
 returns-in-End-clause-weight c =
     let is = c.in-End.ensures in
-    λ n. rw is.2 (closed_weight n (frame_of c.in-End.object is.0 is.1) _ is.3)
+    λ n. rw is.2 (closed_weight n (frame_of c.in-End.object _ _) _ is.3)
 
 pub invariant_of-self-in-Child-1 : goal.invariant_of-self-in-Child-1
 invariant_of-self-in-Child-1 c =
@@ -58,8 +58,8 @@ invariant_of-self-in-Child-1 c =
 pub returns-in-Child-clause-within : goal.returns-in-Child-clause-within
 returns-in-Child-clause-within c =
     let is = c.in-Child.ensures in (
-      first_below c.args.self.now.tags.items _ _ (rw is.2 at c.args.self.now.path),
-      first_uncached c.args.self.now.tags.items _ _ (rw is.2 at c.args.self.now.path),
+      first_below _ _ _ (rw is.2 at c.args.self.now.path),
+      first_uncached _ _ _ (rw is.2 at c.args.self.now.path),
     )
 
 pub returns-in-Child-clause-closes : goal.returns-in-Child-clause-closes
@@ -70,19 +70,19 @@ pub returns-in-Child-clause-owed : goal.returns-in-Child-clause-owed
 returns-in-Child-clause-owed c =
     let is = c.in-Child.ensures in
     λ bytes bounds k. rw (is.2, is.3)
-    (child_owed bytes c.args.self.now.tags.items c.args.self.now.contents.items bounds
-    (frame_of c.in-Child.object c.in-Child.index is.0) is.1 (rw is.2 at k) is.4)
+    (child_owed _ _ _ _
+    _ _ (rw is.2 at k) is.4)
 
 pub returns-in-Child-clause-weight : goal.returns-in-Child-clause-weight
 returns-in-Child-clause-weight c =
     let is = c.in-Child.ensures in
     λ n. rw (is.2, is.3) (child_weight n
-    (frame_of c.in-Child.object c.in-Child.index is.0) is.1 is.4)
+    (frame_of c.in-Child.object _ _) _ is.4)
 
 pub returns-in-Child-clause-back : goal.returns-in-Child-clause-back
 returns-in-Child-clause-back c =
     let is = c.in-Child.ensures in (
       refl,
       rw (is.2, is.3) (taken_back
-          (frame_of c.in-Child.object c.in-Child.index is.0) is.1),
+          _ _),
     )

@@ -1,5 +1,5 @@
 use Rattle.std.proofs.Common.{subst, sym}
-use Rattle.plist_binwrite.specs.inner.Columns.{entries_of, IsNumberAt}
+use Rattle.plist_binwrite.specs.inner.Columns.{entries_from, IsEntryNumber}
 use Rattle.plist_binwrite.proofs.Columns.{within_lists, number_read}
 use Rattle.plist_binwrite.proofs.entries.Entries.number_at.Goals as goal
 
@@ -9,6 +9,6 @@ get-requires c = (within_lists _ _ _ c.self.invariant c.self.view_is _ c.require
 pub returns : goal.returns
 returns c =
     let s = c.self.inside in
-    subst (λ es. IsNumberAt es c.args.place c.get.result) c.self.view_is
-    (subst (IsNumberAt (entries_of s.kinds.items s.numbers) c.args.place) (sym c.get.ensures)
+    subst (λ es. IsEntryNumber es c.args.place c.get.result) c.self.view_is
+    (subst (IsEntryNumber (entries_from s.kinds.items s.numbers) c.args.place) (sym c.get.ensures)
     (number_read s.kinds.items s.numbers c.args.place c.self.invariant))

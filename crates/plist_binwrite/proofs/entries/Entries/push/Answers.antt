@@ -1,15 +1,19 @@
 use Rattle.std.proofs.Common.{◌≡◌, length, ap, arith}
 use Rattle.std.proofs.lemmas.List.{length_push}
-use Rattle.plist_binwrite.proofs.Columns.{long_entries, pushed_entries}
+use Rattle.plist_binwrite.proofs.Columns.{long_entries, entries_more}
 use Rattle.plist_binwrite.proofs.entries.Entries.push.Goals as goal
 
 pub returns-clause-pushed : goal.returns-clause-pushed
 returns-clause-pushed c =
     let s = c.self.inside in
-    pushed_entries s.kinds.items s.numbers c.args.self.now c.self.invariant c.self.view_is
-    c.reserve.new.self.items c.push_reserved.new.self.items c.push.new.self c.args.entry
-    c.kind_in.result c.number_in.result c.in_ok-reserve.ensures.items c.push_reserved.ensures.items
-    c.in_ok-push.ensures.pushed c.kind_in.ensures c.number_in.ensures
+    rw (
+      c.push_reserved.ensures.items,
+      c.in_ok-reserve.ensures.items,
+      c.in_ok-push.ensures.pushed,
+      c.kind_in.ensures,
+      c.number_in.ensures,
+      ← c.self.view_is,
+    ) (entries_more _ _ _ c.self.invariant)
 
 pub returns-clause-small : goal.returns-clause-small
 returns-clause-small c =

@@ -1,5 +1,5 @@
 use Rattle.std.proofs.Common.{arith}
-use Rattle.plist_binwrite.proofs.Columns.{within_lists, replaced_entries}
+use Rattle.plist_binwrite.proofs.Columns.{within_lists, entries_set}
 use Rattle.plist_binwrite.proofs.entries.Entries.set.Goals as goal
 
 pub set-requires : goal.set-requires
@@ -8,11 +8,10 @@ set-requires c = (within_lists _ _ _ c.self.invariant c.self.view_is _ c.require
 pub index_mut-requires : goal.index_mut-requires
 index_mut-requires c =
     let within = within_lists _ _ _ c.self.invariant c.self.view_is _ c.requires in
-    omega (arith, c.self.inside.kinds.ok.0, within.0)
+    omega arith
 
 pub returns-clause-set : goal.returns-clause-set
 returns-clause-set c =
     let s = c.self.inside in
-    replaced_entries s.kinds.items s.numbers c.set.new.self c.args.self.now c.args.place
-    c.args.entry c.kind_in.result c.number_in.result c.self.view_is c.in_ok-set.ensures.set
-    c.kind_in.ensures c.number_in.ensures
+    rw (c.in_ok-set.ensures.set, c.kind_in.ensures, c.number_in.ensures, ← c.self.view_is)
+    (entries_set _ _ _ _)

@@ -4,4 +4,4 @@ use Rattle.plist_binwrite.proofs.held.Held.skip_pair.Goals as goal
 
 pub returns-then-value-len-clause-ends : goal.returns-then-value-len-clause-ends
 returns-then-value-len-clause-ends c = λ t s.
-    absurd (omega (arith, sits_in s, c.if-value-len.true, c.len.ensures))
+    absurd (omega (arith, sits_in s))

@@ -8,7 +8,7 @@ use Rattle.plist_binwrite.proofs.pending.Pending.offer.Goals as goal
 pub returns-in-Refused-clause-refused : goal.returns-in-Refused-clause-refused
 returns-in-Refused-clause-refused c = (
   (
-    cannot_take c.args.self.now (event_of c.args.event) c.change_on-change.result c.requires.still
+    cannot_take c.args.self.now _ _ c.requires.still
         c.as_slice.ensures.value c.change_on-change.ensures (ap change_seen c.in-Refused.is),
     c.fault_of_event.ensures,
   ),

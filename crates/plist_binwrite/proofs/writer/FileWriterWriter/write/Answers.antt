@@ -1,35 +1,28 @@
-use Rattle.std.proofs.Common.{rules, refl, subst, Ok, Err}
+use Rattle.std.proofs.Common.{rules, refl, ◌∙◌}
 use Rattle.plist_base.specs.Events.{event_of}
 use Rattle.plist_base.specs.Faults.{fault_of}
-use Rattle.plist_binwrite.specs.Pendings.{events_held}
-use Rattle.plist_binwrite.specs.SendingAs.{Sends}
-use Rattle.plist_binwrite.specs.FileWriter.{inner_of}
-use Rattle.plist_binwrite.proofs.Calls.{takes_refused, takes_unsent, takes_whole}
-use Rattle.plist_binwrite.proofs.Unchanged.{same_state}
+use Rattle.plist_binwrite.specs.Held.{plain_events}
+use Rattle.plist_binwrite.proofs.Calls.{takes_refused, takes_unsent, takes_whole, same_state}
 use Rattle.plist_binwrite.proofs.writer.FileWriterWriter.write.Goals as goal
 
 pub returns-in-Ok-Some : goal.returns-in-Ok-Some
 returns-in-Ok-Some g c =
     let r = rw c.in-Ok-Some.field-0-is at c.in-Ok-Some.ensures.refused in
     takes_refused g.S.Sharing.IsFile g.S.Sharing.size g.W.Write.contents
-    c.args.self.now _ (event_of c.args.event) (fault_of c.in-Ok-Some.refusal) (search rules)
+    c.args.self.now _ (event_of c.args.event) (search rules) (fault_of c.in-Ok-Some.refusal)
     r.0.0 r.0.1 (same_state c.args.self.now c.offer.new.self r.1 _)
 
 pub returns-in-Err-complete : goal.returns-in-Err-complete
 returns-in-Err-complete g c =
     let t = c.in-Ok-None.ensures.taken c.in-Ok-None.field-0-is in
     takes_unsent g.S.Sharing.IsFile g.S.Sharing.size g.W.Write.contents
-    c.args.self.now _ (event_of c.args.event) (events_held c.offer.new.self)
-    (fault_of c.in-Err-complete.error) (search rules) t.0 t.1.0 refl
-    (subst (λ l. Sends g.S.Sharing.IsFile g.S.Sharing.size g.W.Write.contents l
-    (Err (fault_of c.in-Err-complete.error)) (inner_of c.args.self.now) c.complete.new.writer)
-    c.events.ensures c.in-Err-complete.ensures)
+    c.args.self.now _ (event_of c.args.event) (search rules) (plain_events c.events.result.now)
+    t.0 (c.events.ensures ∙ t.1.0) (fault_of c.in-Err-complete.error) refl
+    c.in-Err-complete.ensures
 
 pub returns-in_default : goal.returns-in_default
 returns-in_default g c =
     let t = c.in-Ok-None.ensures.taken c.in-Ok-None.field-0-is in
-    takes_whole g.S.Sharing.IsFile g.S.Sharing.size g.W.Write.contents
-    c.args.self.now _ (event_of c.args.event) (events_held c.offer.new.self) (search rules)
-    t.0 t.1.0 refl c.clear.ensures.events
-    (subst (λ l. Sends g.S.Sharing.IsFile g.S.Sharing.size g.W.Write.contents l (Ok tt)
-    (inner_of c.args.self.now) c.complete.new.writer) c.events.ensures c.in_default.ensures)
+    takes_whole _ g.S.Sharing.size g.W.Write.contents
+    _ _ _ (search rules) _
+    t.0 (c.events.ensures ∙ t.1.0) refl c.clear.ensures.events c.in_default.ensures

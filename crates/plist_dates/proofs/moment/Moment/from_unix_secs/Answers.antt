@@ -4,7 +4,7 @@ use Rattle.std.proofs.lemmas.Int.{to_z-of_z}
 use Rattle.jiff_core.proofs.SignedLemmas.{signed_arith, int_div_euclid-parts}
 use Rattle.jiff_core.specs.Calendar.{IsEpochDay}
 use Rattle.jiff_core.specs.Date.{epoch_day}
-use Rattle.plist_dates.proofs.Years.{before_years, day_of_years, in_years}
+use Rattle.plist_dates.proofs.Printing.{before_years, day_of_years, in_years}
 use Rattle.plist_dates.proofs.OneText.{one_text, year_of_text}
 use Rattle.plist_dates.proofs.moment.Moment.from_unix_secs.Goals as goal
 use Rattle.plist_dates.proofs.moment.Moment.from_unix_secs.Goals.{In-Ok}

@@ -1,11 +1,9 @@
 use Rattle.std.proofs.Common.{◌∙◌, ap, sym, None, Some}
 use Rattle.std.specs.Option.{option_copied}
-use Rattle.std.proofs.lemmas.Option.{slice_get_within}
 use Rattle.plist_base.specs.Bracketing.{bracketing}
 use Rattle.plist_base.specs.Faults.{fault_of}
 use Rattle.plist.specs.Views.{tree_of}
-use Rattle.plist_keyed.proofs.Entered.{seen_at}
-use Rattle.plist_keyed.proofs.Walked.{missing, open_already, entered-walk, entered-owes}
+use Rattle.plist_keyed.proofs.Walked.{seen_at, missing, open_already, entered-walk, entered-owes}
 use Rattle.plist_keyed.proofs.walk.Walk.enter.Goals as goal
 
 pub returns-in_default-clause-refused : goal.returns-in_default-clause-refused
@@ -28,7 +26,7 @@ returns-clause-path c =
     let at = seen_at _ c.args.uid _ (Some c.in-Some.object.now) c.look_up.ensures
     (ap option_copied c.in-Some.is) in
     entered-walk c.args.self.now c.open.new.self c.args.uid c.in-Some.object.now c.requires at
-    (sym c.contains.ensures ∙ c.if-contains.false) c.open.result (slice_get_within _ _ _ at)
+    (sym c.contains.ensures ∙ c.if-contains.false) c.open.result
     c.open.ensures.opened c.open.ensures.unchanged
 
 pub returns-clause-entered : goal.returns-clause-entered

@@ -1,37 +1,20 @@
-use Rattle.std.proofs.Common.{refl, sym, subst, Some}
+use Rattle.std.proofs.Common.{sym, subst, Some}
 use Rattle.plist_base.specs.Events.{event_of}
 use Rattle.plist.specs.Events.{GivesEvent}
-use Rattle.plist_keyed.specs.declared.walk.Walk.{Walk}
 use Rattle.plist_keyed.specs.inner.Owing.{Pays, owed}
 use Rattle.plist_keyed.proofs.Walked.{left-walk, taken-owes}
 use Rattle.plist_keyed.proofs.walk.Walk.step.Goals as goal
 
 pub returns-in-None-clause-path : goal.returns-in-None-clause-path
 returns-in-None-clause-path c =
-    let old = c.args.self.now in
-    let new : Walk = record {
-      alloc = old.alloc;
-      objects = old.objects;
-      path =
-          c.pop-in-None.new.self;
-      levels = c.pop.new.self;
-    } in
-    left-walk old new c.in-Some.left c.pop-in-None.result c.requires refl c.in-Some.ensures.items
-    c.pop-in-None.ensures.keys c.pop-in-None.ensures.found
+    left-walk c.args.self.now _ c.pop.new.self.items c.in-Some.left c.pop-in-None.result c.requires
+    c.in-Some.ensures.items c.pop-in-None.ensures.keys c.pop-in-None.ensures.found
 
 pub returns-in-Ok-clause-pays : goal.returns-in-Ok-clause-pays
 returns-in-Ok-clause-pays c =
-    let old = c.args.self.now in
-    let new : Walk = record {
-      alloc = old.alloc;
-      objects = old.objects;
-      path = old.path;
-      levels =
-          c.push_reserved.new.self;
-    } in
     let gave = subst (λ x. GivesEvent c.in-Some.left (Some x) c.next.new.self) c.in-Ok.is
     c.in-Some-next.ensures.steps in
     subst (λ steps. Pays steps c.pass.result (owed c.pass.new.self))
-    (sym (taken-owes old new c.in-Some.left c.next.new.self c.pop.new.self.items c.requires refl
-    refl c.in-Some.ensures.items c.push_reserved.ensures.items (event_of c.in-Ok.event) gave.0))
-    c.pass.ensures.pays
+    (sym (taken-owes c.args.self.now c.push_reserved.new.self.items c.pop.new.self.items
+    c.in-Some.left c.next.new.self (event_of c.in-Ok.event) c.requires c.in-Some.ensures.items
+    c.push_reserved.ensures.items gave.0)) c.pass.ensures.pays

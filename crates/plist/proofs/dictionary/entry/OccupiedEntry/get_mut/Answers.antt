@@ -8,7 +8,7 @@ use Rattle.plist.proofs.dictionary.entry.OccupiedEntry.get_mut.Goals as goal
 
 pub invariant_of-self-lent : goal.invariant_of-self-lent
 invariant_of-self-lent g c =
-    let o = c.args.self.now in λ w. (rw (length-set_value_at o.pairs.now o.at w) o.within, tt)
+    let o = c.args.self.now in λ w. (rw (length-set_value_at _ _ w) o.within, tt)
 
 same_entry : {V : Type 0} (o : OccupiedEntry V) (w : V)
     (p : o.at < length (set_value_at o.pairs.now o.at w))

@@ -1,5 +1,4 @@
-use Rattle.std.proofs.Common.{sym}
-use mathlib.Core.Logic.{inl}
+use Rattle.std.proofs.Common.{sym, inl}
 use Rattle.plist.proofs.EntrySteps.{set_pushed, read_pushed}
 use Rattle.plist.proofs.dictionary.entry.VacantEntry.insert.Goals as goal
 

@@ -1,6 +1,4 @@
-use Rattle.std.proofs.Common.{◌≡◌, ◌<◌, ℕ, Bool, List, Option, Some, slice_get, true, get_or, length, sym, subst, ◌∙◌, arith}
-use borrow.Author.Count.{below_more}
-use Rattle.std.specs.Str.{bytes_eq}
+use Rattle.std.proofs.Common.{◌≡◌, ◌<◌, ℕ, Bool, List, Option, Some, slice_get, true, get_or, length, sym, subst, ◌∙◌, arith, below_more, bytes_eq}
 use Rattle.std.specs.Option.{option_eq}
 use Rattle.std.specs.List.{IsDistinct}
 use Rattle.std.specs.Map.{lookup, keys_of}
@@ -23,7 +21,7 @@ at-key : {V : Type 0} (eq : V → V → Bool) (ps qs : List (List ℕ × V)) (i 
     → n ≡ length ps → i < n → found ≡ lookup (bytes_eq k) qs
     → option_eq eq (lookup (bytes_eq k) ps) (lookup (bytes_eq k) qs) ≡ option_eq eq (Some v) found
 at-key eq ps qs i n k v found at distinct count within is =
-    let mine = own_value bytes_eq nat_list_eq_equiv ps i k v at distinct (omega arith) in
+    let mine = own_value _ nat_list_eq_equiv ps i k v at distinct (omega arith) in
     λ j. option_eq eq (mine j) (sym is j)
 
 pub returns-then-not-eq : goal.returns-then-not-eq

@@ -1,5 +1,4 @@
-use Rattle.std.specs.Prelude.{◌≡◌, ℕ, ◌<◌, true, get_or, List}
-use Rattle.std.specs.Str.{bytes_eq}
+use Rattle.std.proofs.Common.{◌≡◌, ℕ, ◌<◌, true, get_or, List, bytes_eq}
 use Rattle.std.specs.Option.{option_eq}
 use Rattle.std.specs.Map.{lookup, keys_of}
 use Rattle.plist.proofs.dictionary.equal.PairsPartialEq.eq.Given as goal

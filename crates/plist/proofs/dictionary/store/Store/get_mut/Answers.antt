@@ -1,8 +1,6 @@
-use Rattle.std.proofs.Common.{sym, ap, ◌∙◌, arith}
+use Rattle.std.proofs.Common.{sym, ap, ◌∙◌, arith, inr, bytes_eq}
 use Rattle.std.specs.Option.{ghost_name_of}
 use borrow.Follows.Closed.{read_of}
-use mathlib.Core.Logic.{inr}
-use Rattle.std.specs.Str.{bytes_eq}
 use Rattle.std.specs.Map.{lookup, set_value}
 use Rattle.plist.proofs.Columns.{found_value, lost, set_rows, lent_item}
 use Rattle.plist.proofs.dictionary.store.Store.get_mut.Goals as goal

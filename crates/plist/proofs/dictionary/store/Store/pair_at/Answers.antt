@@ -1,23 +1,7 @@
-use Rattle.std.proofs.Common.{length, refl, sym, ap, ◌∙◌, arith, slice_get}
-use Rattle.std.specs.Prelude.{Some}
+use Rattle.std.proofs.Common.{length, refl, sym, ap, ◌∙◌, slice_get, Some}
 use Rattle.std.proofs.lemmas.Option.{slice_get_read}
 use Rattle.plist.proofs.Columns.{item-there, key-read, key-there, pair-rows}
 use Rattle.plist.proofs.dictionary.store.Store.pair_at.Goals as goal
-
-pub bounds-as_slice-index : goal.bounds-as_slice-index
-bounds-as_slice-index g c =
-    rw c.as_slice.ensures.keys
-    (key-there _ _ c.self.invariant.0 _ c.self.view_is c.args.index c.requires)
-
-pub index-requires : goal.index-requires
-index-requires g c =
-    let there = item-there _ _ c.self.invariant.0 _ c.self.view_is c.args.index c.requires in
-    omega arith
-
-pub offset_bounds-as_slice-index : goal.offset_bounds-as_slice-index
-offset_bounds-as_slice-index g c =
-    let there = key-there _ _ c.self.invariant.0 _ c.self.view_is c.args.index c.requires in
-    omega (arith, c.as_slice.type_inv.1, ap length c.as_slice.ensures.keys, there)
 
 pub returns : goal.returns
 returns g c =

@@ -1,5 +1,4 @@
-use Rattle.std.proofs.Common.{length, refl, sym, ap, subst, ◌∙◌, arith, is_lt, IsPermutation}
-use Rattle.std.specs.Prelude.{string_cmp}
+use Rattle.std.proofs.Common.{length, refl, sym, ap, subst, ◌∙◌, arith, is_lt, IsPermutation, string_cmp}
 use Rattle.std.specs.String.{string_cmp_total}
 use Rattle.std.proofs.lemmas.Fn.{always_returns_same}
 use Rattle.std.proofs.lemmas.List.MinMax.{ranks_by}
@@ -12,7 +11,6 @@ rows_of-rows-requires-clause-fits g c =
       arith,
       c.in_ok-room.ensures.capacity,
       ap length c.replace.ensures.value,
-      c.pair_count-count.ensures.count,
     )
 
 pub store_of-requires-clause-distinct : goal.store_of-requires-clause-distinct
@@ -24,7 +22,7 @@ store_of-requires-clause-distinct g c =
 
 pub returns-clause-sorted : goal.returns-clause-sorted
 returns-clause-sorted g c =
-    sorted-rows c.sort_unstable_by.new.self.items c.store_of.result c.store_of.ensures
+    sorted-rows _ _ c.store_of.ensures
     (c.sort_unstable_by.ensures.sorted (λ a b. is_lt (string_cmp a.0 b.0))
     (ranks_by string_cmp_total (λ e. e.0))
     (always_returns_same _ _ _ (λ a r f' k. (ap is_lt k.met, refl))))

@@ -1,16 +1,10 @@
-use Rattle.std.proofs.Common.{length, sym, ap, ◌∙◌, arith, refl}
-use Rattle.std.specs.Prelude.{slice_get}
+use Rattle.std.proofs.Common.{length, sym, ap, ◌∙◌, refl, slice_get}
 use Rattle.std.specs.Map.{values_of}
 use Rattle.std.proofs.lemmas.Option.{slice_get_read}
 use Rattle.indexmap.specs.IndexMap.{set_value_at}
 use Rattle.std_collections.proofs.Zip.{zip-set_value}
 use Rattle.plist.proofs.Columns.{item-there, values-rows}
 use Rattle.plist.proofs.dictionary.store.Store.value_at.Goals as goal
-
-pub index_mut-requires : goal.index_mut-requires
-index_mut-requires g c =
-    let within = item-there _ _ c.self.invariant.0 _ c.self.view_is c.args.place c.requires in
-    omega arith
 
 pub returns : goal.returns
 returns g c =

@@ -1,6 +1,6 @@
 use Rattle.std.proofs.Common.{◌≡◌, ℕ, ◌*◌, ◌<◌, length, get_or}
 use Rattle.plist_binread.specs.Container.{number_at}
-use Rattle.plist_binread.proofs.lent.write_units.Given as goal
+use Rattle.plist_binread.proofs.numbers.write_units.Given as goal
 
 abbrev pub invariant-loop-i : goal.invariant-loop-i
 invariant-loop-i l = record {

@@ -1,6 +1,0 @@
-use Rattle.plist.proofs.Columns.{distinct-rows}
-use Rattle.plist.proofs.dictionary.store.Store.iter.Goals as goal
-
-pub returns-clause-distinct : goal.returns-clause-distinct
-returns-clause-distinct g c =
-    distinct-rows _ _ c.self.invariant.0 _ c.self.view_is c.self.invariant.1

@@ -1,7 +1,0 @@
-use Rattle.std.proofs.Common.{rules}
-use Rattle.plist_base.specs.Date.{real_exponent, second_of_bits}
-use Rattle.plist_base.proofs.callers.faults.infinite_date.Goals as goal
-
-pub returns-in-Ok : goal.returns-in-Ok
-unfolding second_of_bits real_exponent
-returns-in-Ok c = search rules

@@ -1,0 +1,385 @@
+-- What the entries of held events tell, and how each call keeps it.
+use Rattle.std.proofs.Common.{◌≡◌, eqb, ◌⊎◌, inl, inr, ℕ, zero, suc, ◌+◌, ◌^◌, ◌<◌, ◌≤◌, Bool, true, false, if◌then◌else◌, None, Some, Result, Ok, Err, OnOk, OnErr, List, [], ◌∷◌, ◌++◌, length, set, slice_get, reverse, refl, ap, sym, ◌∙◌, subst, arith}
+use Rattle.std.proofs.Math.ListN.{get_or-append}
+use Rattle.std.proofs.Math.Seq.{get_or-append_seam, map-set_same}
+use Rattle.std.proofs.lemmas.Bool.{eq-eqb, ne_eqb}
+use Rattle.std.proofs.lemmas.Bool.Decides.{eqb_tells, leb_tells}
+use Rattle.std.proofs.lemmas.List.{length-map, length-append, length-set, map-append, reverse-append, get_or-map, get_or_past}
+use Rattle.std.proofs.lemmas.List.Folds.{list_any-append, list_any_at}
+use Rattle.std.proofs.lemmas.Option.{get_or_from_slice_get, slice_get-get_or}
+use Rattle.std.specs.List.{list_any}
+use Rattle.std.specs.Prelude.{◌||◌}
+use Rattle.plist_base.specs.Bracketing.{unhinted}
+use Rattle.plist_base.specs.Events.{PlainEvent, EndCollection, Single}
+use Rattle.plist_base.specs.Trees.{Scalar, Tree}
+use Rattle.plist_binwrite.specs.declared.entries.Entry.{Entry}
+use Rattle.plist_binwrite.specs.declared.entries.Entry.TheVariants as entry
+use Rattle.plist_binwrite.specs.declared.kinds.Kind.TheVariants as kind
+use Rattle.plist_binwrite.specs.Held.{event_at, held_kind}
+use Rattle.plist_binwrite.specs.Standing.{size, Sits}
+use Rattle.plist_binwrite.specs.inner.Columns.{kind_in, scalar_named}
+use Rattle.plist_binwrite.specs.inner.Entries.{AreApart, is_leaf, entry_at, shown, all_shown, is_sound, is_start, behind_of, behind_at, closed_at, ended_at, names, IsTold, IsKept}
+use Rattle.plist_binwrite.specs.inner.Opening.{open_behind, open_after, skip_behind, skip_after, without_innermost}
+use Rattle.plist_binwrite.proofs.Changes.{at_set, at_more}
+use Rattle.plist_binwrite.proofs.Columns.{unnamed}
+use Rattle.plist_binwrite.proofs.Opened as opened
+use Rattle.plist_binwrite.proofs.Opened.{open_more, skip_more, skip_ends, skip_forward, innermost_starts}
+
+-- ---- what entries show
+
+pub long_shown : (scalars : List PlainEvent) (es : List Entry)
+    → length (all_shown scalars es) ≡ length es
+long_shown scalars es = length-map es _
+
+shown_more : (scalars : List PlainEvent) (es : List Entry) (e : Entry)
+    → all_shown scalars (es ++ e ∷ []) ≡ all_shown scalars es ++ shown scalars e ∷ []
+shown_more scalars es e = map-append _ es _
+
+entry_before : (es : List Entry) (e : Entry) (p : ℕ) → p < length es
+    → entry_at (es ++ e ∷ []) p ≡ entry_at es p
+entry_before es e p lt = get_or-append es _ _ p lt
+
+entry_last : (es : List Entry) (e : Entry) → entry_at (es ++ e ∷ []) (length es) ≡ e
+entry_last es e = get_or-append_seam es e [] _
+
+-- that a scalar is named stays so
+named_more : (i : ℕ) (es : List Entry) (e : Entry) → list_any (names i) es ≡ true
+    → list_any (names i) (es ++ e ∷ []) ≡ true
+named_more i es e h =
+    cc (list_any-append (names i) es (e ∷ []))
+
+-- a place where a test finds an event that passes is one of the list
+below : (f : PlainEvent → Bool) (es : List PlainEvent) (i : ℕ) → f EndCollection ≡ false
+    → f (event_at es i) ≡ true → i < length es
+below f es i none h = elim (leb_tells (length es) i) [
+  | inl a ↦ cc (ap f (get_or_past es i EndCollection a.1))
+  | inr b ↦ b.1
+]
+
+leaf_is : (e : PlainEvent) → is_leaf e ≡ true → (x : Scalar) × (e ≡ Single x)
+leaf_is (Single x) h = (x, refl)
+leaf_is e h = cc
+
+leaf_unhinted : (e : PlainEvent) → is_leaf e ≡ true → unhinted e ≡ e
+leaf_unhinted e h = let f = leaf_is e h in rw f.1 refl
+
+-- more scalars change nothing that was shown
+module _ (old more : List PlainEvent) where
+  one_kept : (e : Entry) → is_sound old e ≡ true → (is_sound (old ++ more) e ≡ true)
+      × (shown (old ++ more) e ≡ shown old e)
+  one_kept (entry.Scalar i) h =
+      let same
+      = get_or-append old _ _ i (below is_leaf old i refl h) in
+      (ap is_leaf same ∙ h, ap unhinted same)
+  one_kept e h = (refl, refl)
+
+  shown_kept : (es : List Entry) → ((p : ℕ) → p < length es → is_sound old (entry_at es p) ≡ true)
+      → all_shown (old ++ more) es ≡ all_shown old es
+  shown_kept [] sound = refl
+  shown_kept (e ∷ es) sound =
+      λ i. (one_kept e (sound 0 (omega arith))).1 i
+      ∷ shown_kept es (λ p lt. sound (suc p) (omega (arith, lt))) i
+
+-- ---- one more event
+
+pub told_none : IsTold [] [] []
+told_none = record {
+  sound = λ p lt. absurd (omega (arith, lt));
+  starts = refl;
+  skips = λ p lt. absurd (omega (arith, lt));
+}
+
+pub kept_none : (scalars : List PlainEvent) (es : List Entry) (begun : List ℕ) → scalars ≡ []
+    → es ≡ [] → begun ≡ [] → IsKept scalars es begun
+kept_none scalars es begun p q r = rw (p, q, r) (record {
+  apart = λ i j k p q. cc;
+  used = λ i lt. absurd (omega (arith, lt));
+  told = told_none;
+})
+
+module _ {scalars : List PlainEvent} {es : List Entry} {begun : List ℕ}
+    (t : IsTold scalars es begun) where
+  abbrev events : List PlainEvent
+  events = all_shown scalars es
+
+  long : length events ≡ length es
+  long = long_shown _ es
+
+  -- the event at a place is what the entry shows
+  shown_at : (p : ℕ) → p < length es → event_at events p ≡ shown scalars (entry_at es p)
+  shown_at p lt = get_or-map _ es p _ _ lt
+
+  -- entries that show one more
+  told_by : (now : List Entry) (after : List ℕ) (e : PlainEvent)
+      → all_shown scalars now ≡ events ++ e ∷ []
+      → ((p : ℕ) → p < length now → is_sound scalars (entry_at now p) ≡ true)
+      → reverse after ≡ open_behind e (length es) (open_after events)
+      → ((p : ℕ) → p < length es
+      → behind_at now p ≡ skip_behind e (length es) (open_after events) p (behind_at es p))
+      → behind_at now (length es) ≡ length es + 1 → IsTold scalars now after
+  told_by now after e is sound starts before last =
+      let more : length now ≡ length es + 1 = omega (
+        arith,
+        long_shown scalars now,
+        ap length is,
+        length-append events (e ∷ []),
+        long,
+      ) in
+      record {
+        sound = sound;
+        starts = starts ∙ ap (λ n. open_behind e n (open_after events)) (sym long)
+            ∙ sym (open_more events e) ∙ ap open_after (sym is);
+        skips = λ p lt. elim (eqb_tells p (length es)) [
+          | inl d ↦
+              let f = skip_forward (all_shown scalars now) p
+              (omega (arith, lt, long_shown scalars now)) in
+              ap (behind_at now) d.1 ∙ last ∙ omega (arith, f, d.1, more, long_shown scalars now)
+          | inr d ↦
+              let b : p < length es = omega (arith, lt, more, d.1) in
+              before p b
+              ∙ ap (skip_behind e (length es) (open_after events) p) (t.skips p b)
+              ∙ ap (λ n. skip_behind e n (open_after events) p (skip_after events p)) (sym long)
+              ∙ sym (skip_more events e p) ∙ ap (λ l. skip_after l p) (sym is)
+        ];
+      }
+
+  -- one that ends no other
+  told_more : (e : Entry) (after : List ℕ) → is_sound scalars e ≡ true
+      → behind_of (length es) e ≡ length es + 1
+      → reverse after ≡ open_behind (shown scalars e) (length es) (open_after events)
+      → ((p k : ℕ) → skip_behind (shown scalars e) (length es) (open_after events) p k ≡ k)
+      → IsTold scalars (es ++ e ∷ []) after
+  told_more e after one behind starts same =
+      told_by (es ++ e ∷ []) after (shown scalars e) (shown_more scalars es e)
+      (λ p lt. at_more es e entry.End p (λ d. is_sound scalars d ≡ true) lt (λ d. one) (t.sound p))
+      starts
+      (λ p lt. ap (behind_of p) (entry_before es e p lt) ∙ sym (same p (behind_at es p)))
+      (ap (behind_of (length es)) (entry_last es e) ∙ behind)
+
+  told_scalar : (i : ℕ) → is_leaf (event_at scalars i) ≡ true
+      → IsTold scalars (es ++ entry.Scalar i ∷ []) begun
+  told_scalar i leaf =
+      let f = leaf_is (event_at scalars i) leaf in
+      told_more (entry.Scalar i) begun leaf refl (rw f.1 t.starts) (λ p k. rw f.1 refl)
+
+  told_start : (e : Entry) → is_start e ≡ true → behind_of (length es) e ≡ length es + 1
+      → IsTold scalars (es ++ e ∷ []) (begun ++ length es ∷ [])
+  told_start e starts behind = by e starts behind
+    where
+      opens : reverse (begun ++ length es ∷ []) ≡ length es ∷ open_after events
+      opens = cc (reverse-append begun (length es ∷ []))
+
+      by : (e : Entry) → is_start e ≡ true → behind_of (length es) e ≡ length es + 1
+          → IsTold scalars (es ++ e ∷ []) (begun ++ length es ∷ [])
+      by (entry.Array k) s b = told_more (entry.Array k) _ refl b opens (λ p k. refl)
+      by (entry.Dictionary k) s b = told_more (entry.Dictionary k) _ refl b opens (λ p k. refl)
+      by e s b = cc
+
+  -- an end where nothing is begun
+  told_stray : begun ≡ [] → IsTold scalars (es ++ entry.End ∷ []) []
+  told_stray none =
+      let nothing : open_after events ≡ [] = sym t.starts ∙ ap reverse none in
+      told_more entry.End [] refl refl (sym (ap without_innermost nothing))
+      (λ p k. ap (λ b. skip_behind EndCollection (length es) b p k) nothing)
+
+  -- an end, which closes the innermost start
+  module _ (start : ℕ) (outer : List ℕ) (is : begun ≡ outer ++ start ∷ []) where
+    innermost : open_after events ≡ start ∷ reverse outer
+    innermost = cc (reverse-append outer (start ∷ []))
+
+    was_start : opened.is_start (event_at events start) ≡ true
+    was_start = innermost_starts _ _ (reverse outer) innermost
+
+    pub start_within : start < length es
+    start_within = omega (arith, below opened.is_start events start refl was_start, long)
+
+    abbrev ended : List Entry
+    ended = es ++ entry.End ∷ []
+
+    abbrev closing : Entry
+    closing = closed_at (entry_at ended start) (length es + 1)
+
+    within : start < length ended
+    within = omega (arith, start_within, length-append es (entry.End ∷ []))
+
+    -- closing a start changes nothing but what is behind it
+    closing_same : {A : Type 0} (f : Entry → A)
+        → ((m n : ℕ) → f (entry.Array m) ≡ f (entry.Array n))
+        → ((m n : ℕ) → f (entry.Dictionary m) ≡ f (entry.Dictionary n))
+        → f closing ≡ f (entry_at ended start)
+    closing_same f array dictionary = by _ _
+      where
+        by : (e : Entry) (n : ℕ) → f (closed_at e n) ≡ f e
+        by (entry.Array behind) n = array n behind
+        by (entry.Dictionary behind) n = dictionary n behind
+        by e n = refl
+
+    same_named : (i : ℕ) (l : List Entry) (p : ℕ) (e : Entry) → p < length l
+        → names i e ≡ names i (entry_at l p)
+        → list_any (names i) (set l p e) ≡ list_any (names i) l
+    same_named i [] p e lt h = refl
+    same_named i (d ∷ l) zero e lt h = ap (λ b. b || list_any (names i) l) h
+    same_named i (d ∷ l) (suc p) e lt h =
+        ap (λ b. names i d || b) (same_named i l p e (omega arith) h)
+
+    closing_used : (i : ℕ) → list_any (names i) (ended_at es start) ≡ list_any (names i) ended
+    closing_used i = same_named i _ _ closing within
+        (closing_same (names i) (λ m n. refl) (λ m n. refl))
+
+    pub end_shown : all_shown scalars (ended_at es start) ≡ events ++ EndCollection ∷ []
+    end_shown =
+        map-set_same _ _ _ _ entry.End
+        (closing_same (shown _) (λ m n. refl) (λ m n. refl)) ∙ shown_more _ es _
+
+    sound_ended : (p : ℕ) → p < length ended → is_sound scalars (entry_at ended p) ≡ true
+    sound_ended p lt =
+        at_more es _ _ p (λ d. is_sound scalars d ≡ true) lt (λ d. refl) (t.sound p)
+
+    closing_behind : (e : Entry) (n : ℕ) → is_sound scalars e ≡ true
+        → opened.is_start (shown scalars e) ≡ true → behind_of start (closed_at e n) ≡ n
+    closing_behind (entry.Array behind) n h s = refl
+    closing_behind (entry.Dictionary behind) n h s = refl
+    closing_behind (entry.Scalar i) n h s =
+        let f = leaf_is _ h in
+        let never : opened.is_start (unhinted (event_at scalars i)) ≡ false = rw f.1 refl in cc
+    closing_behind entry.End n h s = cc
+
+    told_end : IsTold scalars (ended_at es start) outer
+    told_end =
+        told_by (ended_at es start) outer EndCollection end_shown
+        (λ p lt. at_set ended start closing entry.End p (λ d. is_sound scalars d ≡ true) within
+        (λ d. closing_same (is_sound scalars) (λ m n. refl) (λ m n. refl)
+        ∙ sound_ended start within)
+        (λ d. sound_ended p (omega (arith, lt, length-set ended start closing))))
+        (sym (ap without_innermost innermost))
+        (λ p lt. rw innermost (at_set ended start closing entry.End p
+        (λ d. behind_of p d ≡ (if eqb p start then length es + 1 else behind_at es p)) within
+        (λ d. ap (λ k. behind_of k closing) d
+        ∙ closing_behind (entry_at ended start) (length es + 1) (sound_ended start within)
+        (ap opened.is_start (ap (shown scalars) (entry_before es entry.End start start_within)
+        ∙ sym (shown_at start start_within)) ∙ was_start)
+        ∙ sym (ap (λ b. if b then length es + 1 else behind_at es p) (eq-eqb p start d)))
+        (λ d. ap (behind_of p) (entry_before es entry.End p lt)
+        ∙ sym (ap (λ b. if b then length es + 1 else behind_at es p) (ne_eqb p start d)))))
+        (at_set ended start closing entry.End (length es)
+        (λ d. behind_of (length es) d ≡ length es + 1)
+        within (λ d. absurd (omega (arith, d, start_within)))
+        (λ d. ap (behind_of (length es)) (entry_last es entry.End)))
+
+-- ---- the calls
+
+-- an entry came, or none for want of memory
+pub either_few : {T E : Type 0} (r : Result T E) (es now : List Entry)
+    → OnOk r (length now < 2 ^ 63) → OnErr r (now ≡ es) → length es < 2 ^ 63 → length now < 2 ^ 63
+either_few (Ok x) es now small same few = small
+either_few (Err x) es now small same few = rw same few
+
+pub either : {T E : Type 0} (r : Result T E) {es more now : List Entry} (P : List Entry → Type 0)
+    → OnOk r (now ≡ more) → OnErr r (now ≡ es) → P more → P es → P now
+either (Ok x) P is same new old = rw is new
+either (Err x) P is same new old = rw same old
+
+module _ {scalars : List PlainEvent} {es : List Entry} {begun : List ℕ}
+    (kept : IsKept scalars es begun) where
+  still_used : (e : Entry) (i : ℕ) → i < length scalars → list_any (names i) (es ++ e ∷ []) ≡ true
+  still_used e i lt = named_more i es e (kept.used i lt)
+
+  pub kept_start : (e : Entry) → is_start e ≡ true → behind_of (length es) e ≡ length es + 1
+      → IsKept scalars (es ++ e ∷ []) (begun ++ length es ∷ [])
+  kept_start e starts behind = record {
+    apart = kept.apart;
+    used = still_used e;
+    told = told_start kept.told e starts behind;
+  }
+
+  pub kept_stray : begun ≡ [] → IsKept scalars (es ++ entry.End ∷ []) []
+  kept_stray none =
+      record { apart = kept.apart; used = still_used entry.End; told = told_stray kept.told none }
+
+  pub kept_end : (start : ℕ) (outer : List ℕ) → begun ≡ outer ++ start ∷ []
+      → IsKept scalars (ended_at es start) outer
+  kept_end start outer is = record {
+    apart = kept.apart;
+    used = λ i lt. closing_used kept.told start outer is i ∙ still_used entry.End i lt;
+    told = told_end kept.told start outer is;
+  }
+
+  -- a scalar, where the different scalars may have become one more
+  module _ (more : List PlainEvent) {new : List PlainEvent} (grown : new ≡ scalars ++ more) where
+    grown_shown : all_shown new es ≡ all_shown scalars es
+    grown_shown = cc (shown_kept scalars more es kept.told.sound)
+
+    module _ (i : ℕ) {e : PlainEvent} (leaf : is_leaf e ≡ true)
+        (stored : slice_get new i ≡ Some e) where
+      at : event_at new i ≡ e
+      at = get_or_from_slice_get new i e _ stored
+
+      pub scalar_shown : all_shown new (es ++ entry.Scalar i ∷ []) ≡ all_shown scalars es ++ e ∷ []
+      scalar_shown = shown_more new es (entry.Scalar i)
+          ∙ (λ j. grown_shown j ++ (ap unhinted at ∙ leaf_unhinted e leaf) j ∷ [])
+
+      -- each scalar was there, and then it is named, or it is the one that came
+      pub kept_scalar : AreApart new
+          → ((j : ℕ) → j < length new → (j < length scalars) ⊎ (slice_get new j ≡ Some e))
+          → IsKept new (es ++ entry.Scalar i ∷ []) begun
+      kept_scalar apart came = record {
+        apart = apart;
+        used = λ j lt. elim (came j lt) [
+          | inl a ↦ still_used (entry.Scalar i) j a
+          | inr b ↦ subst (λ n. list_any (names n) (es ++ entry.Scalar i ∷ []) ≡ true)
+              (apart i j e stored b)
+              (list_any_at (names i) (es ++ entry.Scalar i ∷ []) (length es) entry.End
+              (omega (arith, length-append es (entry.Scalar i ∷ [])))
+              (ap (names i) (entry_last es (entry.Scalar i)) ∙ eq-eqb i i refl))
+        ];
+        told = told_scalar
+            (record {
+              sound = λ p lt. ap (λ l. is_sound l (entry_at es p)) grown
+                  ∙ (one_kept scalars more (entry_at es p) (kept.told.sound p lt)).0;
+              starts = kept.told.starts ∙ ap open_after (sym grown_shown);
+              skips = λ p lt. kept.told.skips p lt ∙ ap (λ l. skip_after l p) (sym grown_shown);
+            }) i (ap is_leaf at ∙ leaf);
+      }
+
+  -- ---- what is read of an entry
+
+  module _ {place : ℕ} (here : place < length (all_shown scalars es)) where
+    pub lt : place < length es
+    lt = omega (arith, long_shown scalars es)
+
+    there : event_at (all_shown scalars es) place ≡ shown scalars (entry_at es place)
+    there = shown_at kept.told _ lt
+
+    kind_shown : (e : Entry) → is_sound scalars e ≡ true → held_kind (shown scalars e) ≡ kind_in e
+    kind_shown (entry.Scalar i) h = let f = leaf_is _ h in rw f.1 refl
+    kind_shown e h = refl
+
+    pub kind_held : kind_in (entry_at es place) ≡ held_kind (event_at (all_shown scalars es) place)
+    kind_held =
+        sym (ap held_kind there ∙ kind_shown _ (kept.told.sound _ lt))
+
+    pub no_scalar : scalar_named (entry_at es place) ≡ None
+        → is_leaf (event_at (all_shown scalars es) place) ≡ false
+    no_scalar none = ap is_leaf there ∙ unnamed scalars (entry_at es place) none
+
+    module _ {k : ℕ} (is : entry_at es place ≡ entry.Scalar k) where
+      leaf_here : is_leaf (event_at scalars k) ≡ true
+      leaf_here = cc (kept.told.sound place lt)
+
+      stored : event_at (all_shown scalars es) place ≡ event_at scalars k
+      stored = there ∙ ap (shown scalars) is ∙ leaf_unhinted _ leaf_here
+
+      pub scalar_stored : slice_get scalars k ≡ Some (event_at (all_shown scalars es) place)
+      scalar_stored = slice_get-get_or _ k EndCollection (below is_leaf scalars k refl leaf_here)
+          ∙ ap Some (sym stored)
+
+      pub scalar_is_leaf : is_leaf (event_at (all_shown scalars es) place) ≡ true
+      scalar_is_leaf = ap is_leaf stored ∙ leaf_here
+
+    pub behind_forward : (place < behind_at es place)
+        × (behind_at es place ≤ length (all_shown scalars es))
+    behind_forward = rw (kept.told.skips place lt) (skip_forward (all_shown scalars es) place here)
+
+    pub behind_ends : (t : Tree) → Sits (all_shown scalars es) t place
+        → behind_at es place ≡ place + size t
+    behind_ends t s = kept.told.skips place lt ∙ skip_ends (all_shown scalars es) t place s
