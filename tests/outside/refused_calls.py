@@ -97,8 +97,8 @@ def program(folder):
     (source / "support").mkdir(parents=True)
     for file in (HERE / "calls").glob("*.rt.in"):
         shutil.copy(file, source / file.stem)
-    words = CRATES / "plist_vectors/src/support/words.rt"
-    shutil.copy(words, source / "support/words.rt")
+    for name in ("file.rt", "words.rt"):
+        shutil.copy(CRATES / "plist_vectors/src/support" / name, source / "support" / name)
     lines.append("calls: plist_base plist_data plist_binread plist_binwrite plist_share plist_ascii "
                  "plist_reader plist plist_keyed plist_uses hex")
     (root / "crates.txt").write_text("\n".join(lines) + "\n")
