@@ -89,8 +89,7 @@ owed-under : (limiter : Option Limiter) (items : List Item) → IsOwed items
 owed-under None items h = h
 owed-under (Some limiter) [] h = h
 owed-under (Some limiter) (Ok event ∷ items) h =
-    choice-owed _ _
-    _
+    choice-owed _ _ _
 owed-under (Some limiter) (Err fault ∷ items) h = one-owed (Err fault) []
 
 event-wants : (event : PlainEvent) (items others : List Item) → WantsMemory (Ok event ∷ items)
@@ -163,9 +162,7 @@ module _ (new : Bool) (told : PlainEvent) where
   limit-item None now before after error r h = absurd r
   limit-item (Some limiter) now before after error r h = (
     none-under now,
-    limit-refused _ r.0 _
-        _
-        _
+    limit-refused _ r.0 _ _ _
         (ap (λ (f : Fault). f.kind) r.1) (cc (r.2 after)),
   )
 

@@ -75,8 +75,7 @@ module _ (bytes tags contents : List ℕ) (bounds : Bounds) (f : Frame) (fs : Li
           _ _ (rw k.counts.0 h)
           (get_or_default children _ 0 _ (rw k.counts.0 h)),
       rw k.counts.0 h,
-      until_some _
-          _ _,
+      until_some _ _ _,
       ap (λ b. cond b (Some (get_or children f.next 0)) None) (lt-ltb _ _ h),
     ),
     record {

@@ -55,8 +55,7 @@ module _ {W : Type 0} (IsFile : Tree → List ℕ → Type 0) (size : Tree → �
           (inner_of after)
       sent answer =
           sends_as _ _ _ _ _ _
-          (last_alike _ _ _ are) (λ t alike file of. of) (λ t alike. refl)
-          _ _ _ _
+          (last_alike _ _ _ are) (λ t alike file of. of) (λ t alike. refl) _ _ _ _
 
       pub takes_unsent : (fault : Fault) → failed_of after ≡ true
           → Sends IsFile size contents events (Err fault) (inner_of before) (inner_of after)

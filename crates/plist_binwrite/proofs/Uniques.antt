@@ -107,6 +107,4 @@ module _ {A B : Type 0} (eqa : A → A → Bool) (eqb : B → B → Bool) (f : A
       → map f (unique_keys eqa xs) ≡ unique_keys eqb (map f xs)
   unique_seen [] a = refl
   unique_seen (x ∷ xs) a =
-      seen_cond _ _ _ x
-      _
-      (member_seen xs x a.0 a.1) (unique_seen xs a.1)
+      seen_cond _ _ _ x _ (member_seen xs x a.0 a.1) (unique_seen xs a.1)

@@ -89,8 +89,7 @@ returns-then-go_near-clause-falls g c =
         steps_positive
             (length c.args.walk.now.tags.items - length c.turn.new.self.frames),
       ),
-      omega
-          (arith),
+      omega arith,
     )
 
 -- ---- a child that is read

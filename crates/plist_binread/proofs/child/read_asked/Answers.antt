@@ -19,8 +19,7 @@ returns-in_err-content-clause-slots g c =
 
 pub returns-in-Some-clause-slots : goal.returns-in-Some-clause-slots
 returns-in-Some-clause-slots g c =
-    known_reads _ c.args.bounds.now _ _
-    _ _ _
+    known_reads _ c.args.bounds.now _ _ _ _ _
     c.if-place-bounds.false c.in_ok-content.ensures.behind c.in_ok-content.ensures.within
     c.in-Some.ensures.slots c.in_ok-marker.ensures.value
     (rw c.in_ok-marker.ensures.unchanged at c.in_ok-content.ensures.value)

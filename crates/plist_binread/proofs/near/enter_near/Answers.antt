@@ -16,10 +16,8 @@ Held tags contents number tag content = (number < length tags) × (tag ≡ get_o
 held : (g : _) (c : After-index-content g) → Held c.args.walk.now.tags.items
     c.args.walk.now.contents.items c.args.number c.index-held.result.now c.index-content.result.now
 held g c =
-    let h : c.args.number < length c.args.walk.now.tags.items = omega
-    (arith) in
-    let h' : c.args.number < length c.args.walk.now.contents.items = omega
-    (arith) in (
+    let h : c.args.number < length c.args.walk.now.tags.items = omega arith in
+    let h' : c.args.number < length c.args.walk.now.contents.items = omega arith in (
       h,
       get_or_read_under _ _ _ _ 0 c.index-held.ensures h refl,
       get_or_read_under _ _ _ _ 0 c.index-content.ensures h' refl,

@@ -29,9 +29,7 @@ returns-in_err-bytes-clause-decoded g c =
 
 pub returns-then-marker-ge80-clause-decoded : goal.returns-then-marker-ge80-clause-decoded
 returns-then-marker-ge80-clause-decoded g c =
-    known_counted _ _ _ _
-    _ _ _ _
-    (layout-text _ c.args.marker (omega arith) (omega arith))
+    known_counted _ _ _ _ _ _ _ _ (layout-text _ c.args.marker (omega arith) (omega arith))
     (c.in_ok-bytes.ensures.content _ grows_text) c.text_event.ensures.decoded
 
 pub returns-clause-decoded : goal.returns-clause-decoded

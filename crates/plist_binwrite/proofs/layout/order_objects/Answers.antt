@@ -20,8 +20,7 @@ loop-place-init c =
     let count = c.len-count.result in
     let places = c.in_ok-places.places in
     let zeros = c.in_ok-places.ensures.zeros in
-    let n : c.len-count.result ≡ count_of c.args.plan.now = omega
-    (arith) in
+    let n : c.len-count.result ≡ count_of c.args.plan.now = omega arith in
     let long = ap length zeros ∙ length-replicate count 0 in (
       rw c.new-order.ensures
           (order_none _ _ (long ∙ n) (all_zero _ _ long

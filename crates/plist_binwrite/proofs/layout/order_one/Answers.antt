@@ -11,7 +11,6 @@ returns-clause-order c =
       c.requires.planned.all _
           (omega arith) y.1,
     ) in
-    let zero : get_or c.args.layout.now.places c.number-number.result 0 ≡ 0 = omega
-    (arith) in
+    let zero : get_or c.args.layout.now.places c.number-number.result 0 ≡ 0 = omega arith in
     rw c.in_ok-set.ensures.set (rw c.in_ok-push.ensures.pushed
     (order_more _ c.requires.order low zero))

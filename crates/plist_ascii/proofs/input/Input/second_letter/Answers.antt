@@ -10,8 +10,7 @@ use Rattle.plist_ascii.proofs.input.Input.second_letter.Goals.{in_default-via-in
 
 pub returns-in-Some-clause-answers : goal.returns-in-Some-clause-answers
 returns-in-Some-clause-answers g c =
-    answers_past _ _ _ _ _
-    _ _ _ _ _ _
+    answers_past _ _ _ _ _ _ _ _ _ _ _
     (takes_looked _ _ _ _ _ c.in-Some.is c.in_ok-byte.ensures.next c.advance.ensures.next)
     (omega arith)
     (λ ys. rw (sym c.is_unit_letter.ensures ∙ c.if-is_unit_letter.true) refl)

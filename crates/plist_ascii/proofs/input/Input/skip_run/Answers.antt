@@ -4,8 +4,7 @@ use Rattle.plist_ascii.proofs.input.Input.skip_run.Goals as goal
 
 pub loop-byte-smaller : goal.loop-byte-smaller
 loop-byte-smaller g c =
-    let p = rw c.in-Some.is at c.in_ok-_byte.ensures.place in omega
-    (arith)
+    let p = rw c.in-Some.is at c.in_ok-_byte.ensures.place in omega arith
 
 pub loop-byte-preserved : goal.loop-byte-preserved
 loop-byte-preserved g c =

@@ -83,6 +83,5 @@ pub returns-in-Child-clause-back : goal.returns-in-Child-clause-back
 returns-in-Child-clause-back c =
     let is = c.in-Child.ensures in (
       refl,
-      rw (is.2, is.3) (taken_back
-          _ _),
+      rw (is.2, is.3) (taken_back _ _),
     )
