@@ -8,7 +8,7 @@ import pathlib
 import plistlib
 import struct
 
-VECTORS = pathlib.Path(__file__).resolve().parents[2] / "crates/plist_vectors/src"
+VECTORS = pathlib.Path(__file__).resolve().parents[2] / "crates/plist_read_vectors/src"
 WANT, FAILED = "OutOfMemory", "WriterFailed"
 
 
@@ -269,7 +269,7 @@ def uses(counts, folder):
 # ---- files that lie
 
 def lying_files():
-    """The files of the tables of `plist_vectors` that lie about themselves, and their items."""
+    """The files of the tables of `hostile` that lie about themselves, and their items."""
     for line in (VECTORS / "hostile.rt").read_text().splitlines():
         parts = [part.strip() for part in line.removesuffix('";').split(" | ")]
         if len(parts) == 4:

@@ -4,13 +4,13 @@ use Rattle.indexmap.proofs.MapLemmas.{insert_all_push}
 use Rattle.plist_base.specs.Events.{PlainEvent, StartArray, StartDictionary, EndCollection, Single}
 use Rattle.plist_base.specs.Trees.{String, Tree, Array, Dictionary, trees_of, members_of}
 use Rattle.std.proofs.lemmas.List.{map_push}
-use Rattle.plist.specs.LastWins.{Rows, with_pair, last_values, last_wins, last_wins_in_items, last_wins_in_pairs}
+use Rattle.plist.specs.LastWins.{TreePairs, with_pair, last_values, last_wins, last_wins_in_items, last_wins_in_pairs}
 use Rattle.plist.specs.Building.{OpenCollection, InArray, InDictionary, AfterKey, Unfinished, NotBegun, Within, Complete, last_wins_in_rows, last_wins_within, last_wins_so_far}
 use Rattle.plist.specs.inner.Steps.{and_pair, and_tree, begun, in_array, in_dictionary, carried_on}
 
 -- ---- the last value of each key
 
-rows-snoc : (ps : Rows) (k : List ℕ) (t : Tree)
+rows-snoc : (ps : TreePairs) (k : List ℕ) (t : Tree)
     → last_wins_in_rows (ps ++ (k, t) ∷ []) ≡ with_pair (last_wins_in_rows ps) k (last_wins t)
 rows-snoc ps k t =
     ap last_values (map_push (λ p. (p.0, last_wins p.1)) ps (k, t))
@@ -20,7 +20,7 @@ pub items-last : (ts : List Tree) → last_wins_in_items (trees_of ts) ≡ map l
 items-last [] = refl
 items-last (t ∷ ts) = ap (λ l. last_wins t ∷ l) (items-last ts)
 
-pub pairs-last : (ps : Rows)
+pub pairs-last : (ps : TreePairs)
     → last_wins_in_pairs (members_of ps) ≡ map (λ p. (p.0, last_wins p.1)) ps
 pairs-last [] = refl
 pairs-last (p ∷ ps) = ap (λ l. (p.0, last_wins p.1) ∷ l) (pairs-last ps)
@@ -52,7 +52,7 @@ array-last ts outer EndCollection =
     (items-last ts))
 array-last ts outer e = begun-last (InArray ts ∷ outer) e
 
-dictionary-last : (ps : Rows) (outer : List OpenCollection) (e : PlainEvent)
+dictionary-last : (ps : TreePairs) (outer : List OpenCollection) (e : PlainEvent)
     → option_map last_wins_so_far (in_dictionary and_pair ps outer e)
     ≡ in_dictionary with_pair (last_wins_in_rows ps) (map last_wins_within outer) e
 dictionary-last ps outer EndCollection =

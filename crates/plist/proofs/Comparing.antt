@@ -1,5 +1,5 @@
 -- Equality of values, of which some are put off.
-use Rattle.std.proofs.Common.{◌≡◌, ℕ, zero, suc, ◌≤◌, Some, List, [], ◌∷◌, ap, arith, slice_get, ◌<◌, ◌+◌, ◌-◌, Bool, true, false, ◌&&◌, Option, None, ◌++◌, length, drop, get_or, IsSome, ◌↔◌, MatchOption, true≢false, refl, sym, ◌∙◌, subst, add-one, bytes_eq, option_to_list, drop-cons}
+use Rattle.std.proofs.Common.{◌≡◌, ℕ, zero, suc, ◌≤◌, Some, List, [], ◌∷◌, ap, arith, slice_get, ◌<◌, ◌+◌, Bool, true, false, ◌&&◌, Option, None, ◌++◌, length, drop, get_or, IsSome, ◌↔◌, MatchOption, true≢false, refl, sym, ◌∙◌, subst, add-one, bytes_eq, option_to_list, drop-cons}
 use Rattle.std.specs.Map.{values_of, lookup, keys_of}
 use Rattle.std.proofs.lemmas.Option.{none-some, same_Some, get_or_from_slice_get, slice_get-get_or, slice_get_read, slice_get_within}
 use denote.Param.Weighed.{most}

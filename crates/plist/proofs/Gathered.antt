@@ -12,7 +12,7 @@ use Rattle.plist_base.proofs.Stacks.{shape-is}
 use Rattle.plist_binwrite.specs.Sending.{Sends, FailsWith}
 use Rattle.plist.specs.declared.stream.events.Events.{Events}
 use Rattle.plist.specs.Events.{GivesEvent, remaining_events}
-use Rattle.plist.specs.Sent.{StopsSending, SendsTree}
+use Rattle.plist.specs.SendingValues.{StopsSending, SendsTree}
 
 -- what was gathered, and then what is left, both without lengths
 abbrev pub GatheredSoFar : List PlainEvent → (held : List PlainEvent) → (left : Events) → Type 0

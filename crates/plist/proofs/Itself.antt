@@ -7,7 +7,7 @@ use Rattle.plist_base.specs.Trees.{Tree, Array, Dictionary, trees_of, members_of
 use Rattle.plist.specs.declared.value.Value.{Value, ind-Value, fold-roll-Value, roll-Value}
 use Rattle.plist.specs.declared.value.Value.TheOpen.{Value-F}
 use Rattle.plist.specs.declared.value.Value.TheFolds.{map-Value}
-use Rattle.plist.specs.LastWins.{Rows, with_pair, last_values, last_wins}
+use Rattle.plist.specs.LastWins.{TreePairs, with_pair, last_values, last_wins}
 use Rattle.plist.specs.Building.{Unfinished, IsNested, IsCarriedOn, refusal_at, last_wins_in_rows, last_wins_within, last_wins_so_far, InArray, InDictionary, AfterKey, Within, Complete}
 use Rattle.plist.specs.declared.partial.Open.{Open}
 use Rattle.plist.specs.declared.partial.Open.TheVariants as run
@@ -34,7 +34,7 @@ fixed : {A B : Type 0} (f : A → A) (g : B → A) → ((b : B) → f (g b) ≡ 
 fixed f g e [] = refl
 fixed f g e (b ∷ bs) = λ i. e b i ∷ fixed f g e bs i
 
-rows-itself : (rows : Rows) → map (λ p. (p.0, last_wins p.1)) rows ≡ rows
+rows-itself : (rows : TreePairs) → map (λ p. (p.0, last_wins p.1)) rows ≡ rows
     → last_wins_in_rows (last_values rows) ≡ last_values rows
 rows-itself rows s =
     ap last_values (values-inserts last_wins [] rows ∙ ap last_values s)

@@ -7,13 +7,13 @@ use Rattle.std.proofs.lemmas.Bool.Decides.{not_from_Decides}
 use Rattle.std.proofs.lemmas.Slice.Eq.{bytes_eq-Decides}
 use Rattle.plist_base.specs.Trees.{Tree, Leaf, Array, Dictionary, Trees, NoTrees, TreeAnd, Members, NoMembers, MemberAnd, trees_of, members_of}
 use Rattle.plist_binwrite.specs.Keys.{HasDistinctKeys, HasKeysOnce, ItemsHaveKeysOnce, ValuesHaveKeysOnce}
-use Rattle.plist.specs.LastWins.{Rows, last_values, last_wins, last_wins_in_items, last_wins_in_pairs}
+use Rattle.plist.specs.LastWins.{TreePairs, last_values, last_wins, last_wins_in_items, last_wins_in_pairs}
 use Rattle.plist.proofs.Keeping.{EachOnce, last-values-once, once-last}
 use Rattle.indexmap.specs.IndexMap.{insert_entry, insert_all}
 use Rattle.plist.specs.Limiting.{NestsWithin, ItemsNestWithin, PairsNestWithin}
 use Rattle.plist_binwrite.specs.Keys as keys
 
-abbrev list_of_members : Members → Rows
+abbrev list_of_members : Members → TreePairs
 list_of_members NoMembers = []
 list_of_members (MemberAnd key tree members) = (key, tree) ∷ list_of_members members
 
@@ -46,12 +46,12 @@ last-listed : (ms : Members) → EachOnce (list_of_members ms)
 last-listed ms once =
     last-values-once _ (rw (← (same-keys ms)) once)
 
-rows-back : (rows : Rows) → list_of_members (members_of rows) ≡ rows
+rows-back : (rows : TreePairs) → list_of_members (members_of rows) ≡ rows
 rows-back [] = refl
 rows-back (p ∷ ps) = ap (λ l. p ∷ l) (rows-back ps)
 
 -- the keys of pairs that are last values stand once
-once-listed : (ms : Members) (rows : Rows) → members_of (last_values rows) ≡ ms
+once-listed : (ms : Members) (rows : TreePairs) → members_of (last_values rows) ≡ ms
     → EachOnce (list_of_members ms)
 once-listed ms rows p =
     subst EachOnce (sym (rows-back (last_values rows)) ∙ ap list_of_members p)
@@ -87,23 +87,24 @@ mutual
     λ p. ((keys-once t).1 (cc), (values-once ms).1 (cc)),
   )
 
-abbrev AllNest : Rows → ℕ → Type 0
+abbrev AllNest : TreePairs → ℕ → Type 0
 AllNest rows depth = PairsNestWithin (members_of rows) depth
 
-insert-choice : (b : Bool) (k : List ℕ) (v : Tree) (e : List ℕ × Tree) (es more : Rows) (depth : ℕ)
+insert-choice : (b : Bool) (k : List ℕ) (v : Tree) (e : List ℕ × Tree) (es more : TreePairs)
+    (depth : ℕ)
     → AllNest (e ∷ es) depth → NestsWithin v depth → AllNest more depth
     → AllNest (if b then (e.0, v) ∷ es else e ∷ more) depth
 insert-choice true k v e es more depth h n m = (n, h.1)
 insert-choice false k v e es more depth h n m = (h.0, m)
 
-insert-nests : (rows : Rows) (k : List ℕ) (v : Tree) (depth : ℕ) → AllNest rows depth
+insert-nests : (rows : TreePairs) (k : List ℕ) (v : Tree) (depth : ℕ) → AllNest rows depth
     → NestsWithin v depth → AllNest (insert_entry bytes_eq rows k v) depth
 insert-nests [] k v depth h n = (n, tt)
 insert-nests (e ∷ es) k v depth h n =
     insert-choice _ k v e es _ depth h n
     (insert-nests es k v depth h.1 n)
 
-all-nest : (done rows : Rows) (depth : ℕ) → AllNest done depth → AllNest rows depth
+all-nest : (done rows : TreePairs) (depth : ℕ) → AllNest done depth → AllNest rows depth
     → AllNest (insert_all bytes_eq done rows) depth
 all-nest done [] depth h n = h
 all-nest done (row ∷ rows) depth h n =

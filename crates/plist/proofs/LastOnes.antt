@@ -6,7 +6,7 @@ use Rattle.std.proofs.lemmas.Slice.Eq.{bytes_eq-Decides}
 use Rattle.indexmap.specs.IndexMap.{insert_entry, insert_all}
 use Rattle.indexmap.proofs.SetLemmas.{keys_insert_entry}
 use Rattle.plist_base.specs.Trees.{Tree}
-use Rattle.plist.specs.LastWins.{Rows, last_values, first_keys_behind, last_value, AreLastValues}
+use Rattle.plist.specs.LastWins.{TreePairs, last_values, first_keys_behind, last_value, AreLastValues}
 
 abbrev Key : Type 0
 Key = List ℕ
@@ -26,7 +26,7 @@ one true c d v w l more f g r = rw (f refl) (twice d)
 one false true d v w l more f g r = rw (g refl) r
 one false false d v w l more f g r = ap (cond d _) r
 
-lookup-insert : (q k : Key) (v : Tree) (es : Rows)
+lookup-insert : (q k : Key) (v : Tree) (es : TreePairs)
     → lookup (bytes_eq q) (insert_entry bytes_eq es k v)
     ≡ cond (bytes_eq q k) (Some v) (lookup (bytes_eq q) es)
 lookup-insert q k v [] = refl
@@ -46,7 +46,7 @@ lookup-insert q k v (e ∷ es) =
 
 -- ---- all pairs
 
-keys-all : (es rows : Rows) → keys_of (insert_all bytes_eq es rows)
+keys-all : (es rows : TreePairs) → keys_of (insert_all bytes_eq es rows)
     ≡ first_keys_behind (keys_of es) (keys_of rows)
 keys-all es [] = refl
 keys-all es (r ∷ rows) =
@@ -58,7 +58,7 @@ or-later None l true x = refl
 or-later None l false x = refl
 or-later (Some y) l b x = refl
 
-lookup-all : (q : Key) (es rows : Rows)
+lookup-all : (q : Key) (es rows : TreePairs)
     → lookup (bytes_eq q) (insert_all bytes_eq es rows)
     ≡ option_or (last_value q rows) (lookup (bytes_eq q) es)
 lookup-all q es [] = refl
@@ -75,5 +75,5 @@ or-none None = refl
 or-none (Some x) = refl
 
 -- each key once, where it came first, with its last value
-pub are-last-values : (rows : Rows) → AreLastValues rows (last_values rows)
+pub are-last-values : (rows : TreePairs) → AreLastValues rows (last_values rows)
 are-last-values rows = (keys-all [] rows, λ q. lookup-all q [] rows ∙ or-none (last_value q rows))

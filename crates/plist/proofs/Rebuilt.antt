@@ -51,10 +51,10 @@ module _ (ks : List Text) (k : Text) (b : Bool) (new : b ≡ not (has ks k)) (n 
   pub old-keys : ls ≡ ks
   old-keys = h ∙ ap (λ c. cond c ks (ks ++ k ∷ [])) (is-not b _ new ∙ ap not n)
 
-  pub old-place : (i : ℕ) → i ≡ position_or_len
+  pub old-index : (i : ℕ) → i ≡ position_or_len
       (λ (l : Text). bytes_eq (string_bytes k) (string_bytes l)) ks → i < length ls
       → Some i ≡ position (λ (l : Text). bytes_eq (string_bytes k) (string_bytes l)) ks
-  old-place i at within =
+  old-index i at within =
       at_first (λ (l : Text). bytes_eq (string_bytes k) (string_bytes l)) ks i at
       (rw (← old-keys) within)
 

@@ -8,7 +8,7 @@ use Rattle.std.specs.Map.{keys_of}
 use Rattle.plist_base.specs.Events.{PlainEvent, StartArray, StartDictionary, EndCollection}
 use Rattle.plist_base.specs.Trees.{Tree, Dictionary, trees_of, members_of, number_of_trees, number_of_members}
 use Rattle.plist_base.specs.Bracketing.{bracketing, bracketing_of_items, bracketing_of_pairs}
-use Rattle.plist.specs.LastWins.{Rows}
+use Rattle.plist.specs.LastWins.{TreePairs}
 use Rattle.plist.proofs.Tops.{trees-once}
 use Rattle.plist_base.specs.Trees as tree
 use Rattle.plist.specs.declared.value.Value.TheVariants as value
@@ -61,6 +61,6 @@ pub dictionary_begins : (v : Value) (pairs slice : List (List ℕ × Value)) (n 
 dictionary_begins v pairs slice n rest after p s d l q =
     begins (tree_of v) (StartDictionary (Some n)) _ rest after
     (ap bracketing (ap tree_of p ∙ tree_of-Dictionary pairs
-    ∙ ap (λ (r : Rows). Dictionary (members_of r)) (trees-once pairs d))
+    ∙ ap (λ (r : TreePairs). Dictionary (members_of r)) (trees-once pairs d))
     ∙ λ j. StartDictionary (Some ((members-length pairs ∙ sym l) j))
     ∷ (bracketing_of_pairs (members_of (tree_pairs (sym s j))) ++ EndCollection ∷ [])) q

@@ -7,14 +7,14 @@ use Rattle.plist_base.specs.Faults.{FaultKind, Fault, UnexpectedEventType, Expec
 use Rattle.plist_base.specs.Trees.{Tree, String, trees_of, members_of}
 use Rattle.plist_base.specs.Bracketing.{bracketing, bracketing_of_items, bracketing_of_pairs, AreAlike}
 use Rattle.plist_base.specs.Writing.{Answer}
-use Rattle.plist.specs.LastWins.{Rows, last_values, last_wins}
+use Rattle.plist.specs.LastWins.{TreePairs, last_values, last_wins}
 
 -- an open collection: an array with its items so far; a dictionary with its pairs so far; a
 -- dictionary with these and a key whose value is to come
 pub data OpenCollection : Type 0 where
   InArray : (items : List Tree) → OpenCollection
-  InDictionary : (pairs : Rows) → OpenCollection
-  AfterKey : (pairs : Rows) → (key : List ℕ) → OpenCollection
+  InDictionary : (pairs : TreePairs) → OpenCollection
+  AfterKey : (pairs : TreePairs) → (key : List ℕ) → OpenCollection
 
 -- no event yet; within an open collection, and those round it, innermost first; or the complete
 -- tree
@@ -72,7 +72,7 @@ events_so_far (Within collection outer) = events_round outer ++ events_within co
 events_so_far (Complete tree) = bracketing tree
 
 -- the same with each key in its first place with its last value, wherever a pair is complete
-abbrev pub last_wins_in_rows : Rows → Rows
+abbrev pub last_wins_in_rows : TreePairs → TreePairs
 last_wins_in_rows rows = last_values (map (λ pair. (pair.0, last_wins pair.1)) rows)
 
 abbrev pub last_wins_within : OpenCollection → OpenCollection

@@ -7,16 +7,16 @@ use Rattle.indexmap.specs.IndexMap.{insert_entry, insert_all}
 use Rattle.plist_base.specs.Trees.{Tree, Leaf, Array, Dictionary, Trees, NoTrees, TreeAnd, Members, NoMembers, MemberAnd, trees_of, members_of}
 
 -- pairs of a key and a tree
-abbrev pub Rows : Type 0
-Rows = List (List ℕ × Tree)
+abbrev pub TreePairs : Type 0
+TreePairs = List (List ℕ × Tree)
 
 -- the pairs once this one has come: a key that is there keeps its place and takes the value, a new
 -- one goes last
-abbrev pub with_pair : Rows → (key : List ℕ) → Tree → Rows
+abbrev pub with_pair : TreePairs → (key : List ℕ) → Tree → TreePairs
 with_pair rows key tree = insert_entry bytes_eq rows key tree
 
 -- the pairs, each key in its first place with its last value
-abbrev pub last_values : Rows → Rows
+abbrev pub last_values : TreePairs → TreePairs
 last_values rows = insert_all bytes_eq [] rows
 
 -- the keys once this one has come: one that is there stays, a new one goes last
@@ -32,13 +32,13 @@ abbrev pub first_keys : List (List ℕ) → List (List ℕ)
 first_keys keys = first_keys_behind [] keys
 
 -- the value of the last pair with the key
-abbrev pub last_value : (key : List ℕ) → Rows → Option Tree
+abbrev pub last_value : (key : List ℕ) → TreePairs → Option Tree
 last_value key [] = None
 last_value key (row ∷ rows) =
     option_or (last_value key rows) (cond (bytes_eq key row.0) (Some row.1) None)
 
 -- the keys in the order in which they came first, each with its last value
-abbrev pub AreLastValues : (rows result : Rows) → Type 0
+abbrev pub AreLastValues : (rows result : TreePairs) → Type 0
 AreLastValues rows result =
     (keys_of result ≡ first_keys (keys_of rows))
     × ((key : List ℕ) → lookup (bytes_eq key) result ≡ last_value key rows)
@@ -54,7 +54,7 @@ abbrev mutual
   last_wins_in_items NoTrees = []
   last_wins_in_items (TreeAnd tree trees) = last_wins tree ∷ last_wins_in_items trees
 
-  pub last_wins_in_pairs : Members → Rows
+  pub last_wins_in_pairs : Members → TreePairs
   last_wins_in_pairs NoMembers = []
   last_wins_in_pairs (MemberAnd key tree members) =
       (key, last_wins tree) ∷ last_wins_in_pairs members

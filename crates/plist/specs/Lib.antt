@@ -12,7 +12,7 @@ pub mod Collecting
 pub mod Inputs
 pub mod ReadingBack
 pub mod Handing
-pub mod Sent
+pub mod SendingValues
 pub mod Stored
 pub mod ReadBy
 pub mod Same

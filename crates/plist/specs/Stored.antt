@@ -2,7 +2,7 @@
 use Rattle.std.specs.Prelude.{◌≡◌, None, ⊤}
 use Rattle.plist_base.specs.Faults.{FaultKind, Fault, Io}
 use Rattle.plist_base.specs.Trees.{Tree}
-use Rattle.plist.specs.Sent.{StopsFile}
+use Rattle.plist.specs.SendingValues.{StopsFile}
 
 -- the only refusals: of a device, of size, and of memory
 abbrev pub StopsStoring : FaultKind → Tree → Type 0

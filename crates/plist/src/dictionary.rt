@@ -10,8 +10,8 @@ mod bulk;
 mod entry;
 mod equal;
 mod index;
+mod indices;
 mod iter;
-mod places;
 mod store;
 
 use crate::Value;

@@ -5,7 +5,7 @@ ghost use Rattle.std.specs.Io.{WritesAtMost};
 ghost use Rattle.std.specs.Io.KnownBytes.{WriteAppends};
 ghost use Rattle.plist_base.specs.Faults.{fault_of};
 ghost use Rattle.plist_base.specs.Outcomes.{OnlyDevice};
-ghost use Rattle.plist.specs.Sent.{SendsValue};
+ghost use Rattle.plist.specs.SendingValues.{SendsValue};
 ghost use Rattle.plist.specs.Stored.{IsUnstored};
 ghost use Rattle.plist.specs.Views.{tree_of};
 

@@ -2,7 +2,7 @@
 
 ghost use Rattle.std.specs.Prelude.{◌≡◌, ◌+◌, IfOk, IfSome, option_map, string_bytes};
 ghost use Rattle.plist_base.specs.Bracketing.{bracketing};
-ghost use Rattle.plist.specs.Sent.{SendsValue};
+ghost use Rattle.plist.specs.SendingValues.{SendsValue};
 ghost use Rattle.plist.specs.Collecting.{built_tree};
 ghost use Rattle.plist.specs.Contents.{array_in, data_in, dictionary_in, text_in};
 ghost use Rattle.plist.specs.Inputs.{AnswersOf, CollectsOf, Ends, ReadsItems, TellsTrees};
@@ -12,7 +12,7 @@ ghost use Rattle.plist_ascii.specs.Texts.{ends_bare, lax};
 ghost use Rattle.plist_reader.specs.Reader.{items_of_input};
 ghost use Rattle.plist_base.specs.Outcomes.{OnlyMemory};
 ghost use Rattle.plist_base.specs.Trees.{Leaf, String};
-ghost use Rattle.plist.specs.LastWins.{AreLastValues, Rows, last_values, last_wins};
+ghost use Rattle.plist.specs.LastWins.{AreLastValues, TreePairs, last_values, last_wins};
 ghost use Rattle.plist.specs.Limiting.{IsReadUnder, IsWithinLimits, limited_input};
 ghost use Rattle.plist.specs.Events.{remaining_events};
 ghost use Rattle.plist.specs.Views.{item_trees, kind_of_tree, pair_trees, tree_of};
@@ -167,7 +167,7 @@ impl Value {
     ) -> Result<Value, Error>
         requires asked { Ends I.into_iter_gives I.IntoIter.can_next I.IntoIter.remaining events }
         ensures one_tree { TellsTrees }
-        ensures last_values { (rows : Rows) → AreLastValues rows (last_values rows) }
+        ensures last_values { (rows : TreePairs) → AreLastValues rows (last_values rows) }
         ensures itself { (value : Value) → last_wins (tree_of value) ≡ tree_of value }
         ensures value { CollectsOf I.into_iter_gives E.plain I.IntoIter.next_gives events result }
         ensures shown { AnswersOf I.into_iter_gives E.plain I.IntoIter.next_gives events result }

@@ -72,8 +72,8 @@ GivesItem stops bytes p item rest q = MatchOption item
     (BeginsWithItem stops bytes p (Err (fault_of error)) rest q)))
 
 -- an event and a fault in the bytes have taken a byte or more; whatever came, no byte comes back
-abbrev pub Rises : Option (Result Event Error) → (p q : ℕ) → Type 0
-Rises item p q = MatchOption item (p ≤ q) (λ answer. MatchResult answer
+abbrev pub TakesBytes : Option (Result Event Error) → (p q : ℕ) → Type 0
+TakesBytes item p q = MatchOption item (p ≤ q) (λ answer. MatchResult answer
     (λ _. p < q)
     (λ error. MatchFault (kind_of (error_kind_of error)) (p ≤ q) (p ≤ q) (p < q)))
 
@@ -97,7 +97,7 @@ pub record Gives {R : Type 0} (known : R → Option (List ℕ)) (failed : R → 
       × (bytes_left known new ≡ Some rest)
       × GivesItem (stops_of old) bytes (place_of old) item rest (place_of new))
   pub dialect : dialect_of new ≡ dialect_of old
-  pub rises : Rises item (place_of old) (place_of new)
+  pub rises : TakesBytes item (place_of old) (place_of new)
   pub offset : FaultIsAt item (place_of new)
   pub kinds : IsAsciiItem item
   pub brackets : ItemBehindBracket item (looked_at new ≡ None)

@@ -4,7 +4,7 @@ ghost use Rattle.std.specs.Prelude.{◌≡◌, ◌-◌, ◌<◌, take, None, Som
 ghost use Rattle.plist_base.specs.Faults.{kind_of, error_kind_of};
 ghost use Rattle.plist_ascii.specs.Kinds.{IsAsciiItem, ItemBehindBracket};
 ghost use Rattle.plist_ascii.specs.Unread.{is_from_outside};
-ghost use Rattle.plist_ascii.specs.AsciiReader.{Rises, FaultIsAt, EndsAfter, readable, HoldsLeft};
+ghost use Rattle.plist_ascii.specs.AsciiReader.{TakesBytes, FaultIsAt, EndsAfter, readable, HoldsLeft};
 ghost use Rattle.plist_ascii.specs.inner.Inputs.{ItemCountsFailed, GivesFirst, to_come_of};
 
 use crate::bytes::Bytes;
@@ -24,7 +24,7 @@ impl<R: Bytes> Input<R> {
     // Takes tokens up to the first that gives an item.
     fn item(&mut self, alloc: Global, stop: Stop) -> Option<Result<OwnedEvent, Error>>
         ensures items { GivesFirst R.remaining stop self.old result self.new }
-        ensures rises { Rises result self.old.taken self.new.taken }
+        ensures rises { TakesBytes result self.old.taken self.new.taken }
         ensures offset { FaultIsAt result self.new.taken }
         ensures kinds { IsAsciiItem result }
         ensures brackets { ItemBehindBracket result (self.new.peeked ≡ None) }

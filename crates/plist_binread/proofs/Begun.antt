@@ -9,15 +9,15 @@ use Rattle.plist_base.specs.Faults.{Fault, OutOfMemory, MatchFault, fault_nowher
 use Rattle.plist_base.specs.Events.{PlainEvent, Item}
 use Rattle.plist_base.proofs.Refusals.{MatchFault-at, MatchFault-weaker}
 use Rattle.plist_binread.specs.declared.frames.Frame.{Frame}
-use Rattle.plist_binread.specs.declared.table.Table.{Table}
+use Rattle.plist_binread.specs.declared.head.Head as code
 use Rattle.plist_binread.specs.Container.{Head, head_of}
 use Rattle.plist_binread.specs.Object.{Object}
 use Rattle.plist_binread.specs.Unfolding.{table_of, items_of, unfolding_of, until_fault, items_with, items_of_file}
-use Rattle.plist_binread.specs.declared.table.Bounds.{Bounds}
+use Rattle.plist_binread.specs.declared.head.Bounds.{Bounds}
 use Rattle.plist_binread.specs.Debt.{path_of, owed_by, entries_of, places_with, places_of, IsHeld, IsKnown, IsOwed, WantsMemory}
 use Rattle.plist_binread.specs.Beginning.{RefusesFirst}
 use Rattle.plist_binread.specs.Lent.{PaysAnswer}
-use Rattle.plist_binread.specs.inner.Tables.{head_seen}
+use Rattle.plist_binread.specs.inner.Heads.{head_seen}
 use Rattle.plist_binread.proofs.Steps.{slice_get-within, slice_get-beyond, items_beyond, items_step, owed_at}
 use Rattle.plist_binread.proofs.Opened.{get_or-zeros}
 use Rattle.plist_binread.proofs.Known.{found}
@@ -64,18 +64,18 @@ file_refused : (bytes : List ℕ) (fault : Fault) → head_of bytes ≡ Err faul
 unfolding items_of_file
 file_refused bytes fault is = rw is refl
 
-module _ (bytes : List ℕ) (table : Table) (bounds : Bounds)
-    (is : head_of bytes ≡ Ok (head_seen table)) (trailer : bounds.trailer ≡ table.trailer)
-    (width : bounds.reference_width ≡ table.reference_width) where
+module _ (bytes : List ℕ) (head : code.Head) (bounds : Bounds)
+    (is : head_of bytes ≡ Ok (head_seen head)) (trailer : bounds.trailer ≡ head.trailer)
+    (width : bounds.reference_width ≡ head.reference_width) where
   file_walked : items_of_file bytes
-      ≡ until_fault (unfolding_of (entries_of bytes bounds) (length table.places.items) []
-      table.trailer table.root)
+      ≡ until_fault (unfolding_of (entries_of bytes bounds) (length head.places.items) []
+      head.trailer head.root)
   unfolding items_of_file
   file_walked = rw (is, trailer, width) refl
 
-  -- what is known once the table was read
-  known_first : (tags : List ℕ) (n : ℕ) → tags ≡ replicate n 0 → n ≡ length table.places.items
-      → table.trailer ≤ length bytes → IsKnown bytes bounds tags table.places.items []
+  -- what is known once the head was read
+  known_first : (tags : List ℕ) (n : ℕ) → tags ≡ replicate n 0 → n ≡ length head.places.items
+      → head.trailer ≤ length bytes → IsKnown bytes bounds tags head.places.items []
   known_first tags n zeros count within = record {
     head = rw is (trailer, width);
     within = rw trailer within;
@@ -85,9 +85,9 @@ module _ (bytes : List ℕ) (table : Table) (bounds : Bounds)
     counts = tt;
   }
     where
-      held : (number : ℕ) → number < length table.places.items
+      held : (number : ℕ) → number < length head.places.items
           → IsHeld (slice_get (entries_of bytes bounds) number) (get_or tags number 0)
-          (get_or table.places.items number 0)
+          (get_or head.places.items number 0)
       held number less =
           let there = found bytes bounds number (rw is less) in
           rw (zeros, get_or-zeros n number, there, is) refl
@@ -118,37 +118,37 @@ known_wanted known e memory = IfSome-all known (λ bytes.
     MatchFault-at (kind_of (error_kind_of e)) OutOfMemory _ _ _ (ap (λ (f : Fault). f.kind) memory)
     (owed_file bytes))
 
-pub known_opens : (known now : Option (List ℕ)) (table : Table) (bounds : Bounds) (tags : List ℕ)
+pub known_opens : (known now : Option (List ℕ)) (head : code.Head) (bounds : Bounds) (tags : List ℕ)
     (n : ℕ) (fs : List Frame) → now ≡ known
-    → IfSome known (λ bytes. head_of bytes ≡ Ok (head_seen table))
-    → IfSome known (λ bytes. table.trailer ≤ length bytes) → bounds.trailer ≡ table.trailer
-    → bounds.reference_width ≡ table.reference_width
-    → tags ≡ replicate n 0 → n ≡ length table.places.items → length fs ≡ 0
-    → IfSome now (λ bytes. IsKnown bytes bounds tags table.places.items (reverse fs))
-known_opens known now table bounds tags n fs same value within trailer width zeros count len =
+    → IfSome known (λ bytes. head_of bytes ≡ Ok (head_seen head))
+    → IfSome known (λ bytes. head.trailer ≤ length bytes) → bounds.trailer ≡ head.trailer
+    → bounds.reference_width ≡ head.reference_width
+    → tags ≡ replicate n 0 → n ≡ length head.places.items → length fs ≡ 0
+    → IfSome now (λ bytes. IsKnown bytes bounds tags head.places.items (reverse fs))
+known_opens known now head bounds tags n fs same value within trailer width zeros count len =
     rw (same, nil_from_length fs len) (IfSome-both known value within (λ bytes value within.
-    known_first bytes table bounds value trailer width tags n zeros count within))
+    known_first bytes head bounds value trailer width tags n zeros count within))
 
-pub known_begun : (known now : Option (List ℕ)) (table : Table) (bounds : Bounds) (tags : List ℕ)
+pub known_begun : (known now : Option (List ℕ)) (head : code.Head) (bounds : Bounds) (tags : List ℕ)
     (fs gs : List Frame) (answer : Result (Unit {0}) Error) (told : PlainEvent) → now ≡ known
     → length fs ≡ 0
-    → length tags ≡ length table.places.items → bounds.trailer ≡ table.trailer
-    → bounds.reference_width ≡ table.reference_width
-    → IfSome known (λ bytes. head_of bytes ≡ Ok (head_seen table))
+    → length tags ≡ length head.places.items → bounds.trailer ≡ head.trailer
+    → bounds.reference_width ≡ head.reference_width
+    → IfSome known (λ bytes. head_of bytes ≡ Ok (head_seen head))
     → IfSome now (λ bytes. PaysAnswer (unfolding_of (entries_of bytes bounds)
-    (length tags - length fs) (path_of (reverse fs)) table.trailer table.root
+    (length tags - length fs) (path_of (reverse fs)) head.trailer head.root
     ++ owed_by (entries_of bytes bounds) (reverse fs)) answer told
     (owed_by (entries_of bytes bounds) (reverse gs)))
     → IfSome known (λ bytes. Begins bytes answer told
     (owed_by (entries_of bytes bounds) (reverse gs)))
-known_begun known now table bounds tags fs gs answer told same len count trailer width value pays =
-    let whole : length tags - 0 ≡ length table.places.items = omega arith in
+known_begun known now head bounds tags fs gs answer told same len count trailer width value pays =
+    let whole : length tags - 0 ≡ length head.places.items = omega arith in
     let pays' = rw (same, nil_from_length fs len, whole) at pays in
     IfSome-both known value pays' (λ bytes value pays. begins_with bytes _ _ answer told
-    (file_walked bytes table bounds value trailer width
+    (file_walked bytes head bounds value trailer width
     ∙ ap until_fault (sym (append-nil
-    (unfolding_of (entries_of bytes bounds) (length table.places.items) [] table.trailer
-    table.root)))) pays)
+    (unfolding_of (entries_of bytes bounds) (length head.places.items) [] head.trailer
+    head.root)))) pays)
 
 pub known_few : (known : Option (List ℕ)) (tags : List ℕ) → length tags ≡ 0
     → IfSome known (λ bytes. length tags ≤ length (places_of bytes))

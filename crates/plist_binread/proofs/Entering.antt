@@ -8,7 +8,7 @@ use Rattle.plist_binread.specs.Behind.{AsksAt, object_at}
 use Rattle.plist_binread.specs.declared.frames.Frame.{Frame}
 use Rattle.plist_binread.specs.declared.walk.Turn.TheVariants.{Child}
 use Rattle.plist_binread.specs.declared.lent.Lent.{Lent}
-use Rattle.plist_binread.specs.declared.table.Bounds.{Bounds}
+use Rattle.plist_binread.specs.declared.head.Bounds.{Bounds}
 use Rattle.plist_binread.specs.Debt.{IsOpen, IsKnown, next_number, children_at, entries_of, owed_by, path_of}
 use Rattle.plist_binread.specs.Turning.{IsKeptTold}
 use Rattle.plist_binread.specs.Decoding.{IsDecodedAs}

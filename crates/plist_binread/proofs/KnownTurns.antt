@@ -8,7 +8,7 @@ use Rattle.plist_base.proofs.Refusals.{MatchFault-weaker}
 use Rattle.plist_binread.specs.declared.frames.Frame.{Frame}
 use Rattle.plist_binread.specs.declared.walk.Turn.{Turn}
 use Rattle.plist_binread.specs.declared.walk.Turn.TheVariants.{Done, Closed, Child}
-use Rattle.plist_binread.specs.declared.table.Bounds.{Bounds}
+use Rattle.plist_binread.specs.declared.head.Bounds.{Bounds}
 use Rattle.plist_binread.specs.Object.{object_in}
 use Rattle.plist_binread.specs.Packed.{unmarked}
 use Rattle.plist_binread.specs.Unfolding.{until_fault}

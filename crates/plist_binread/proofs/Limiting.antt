@@ -15,7 +15,7 @@ use Rattle.plist_binread.specs.BinaryReader.{has_room_in}
 use Rattle.plist_binread.specs.Telling.{TellsItem}
 use Rattle.plist_binread.specs.declared.reader.State.{State}
 use Rattle.plist_binread.specs.declared.reader.State.TheVariants.{Walking}
-use Rattle.plist_binread.specs.declared.table.Bounds.{Bounds}
+use Rattle.plist_binread.specs.declared.head.Bounds.{Bounds}
 use Rattle.plist_binread.specs.declared.frames.Frame.{Frame}
 use Rattle.plist_binread.specs.Lent.{PaysTold}
 use Rattle.plist_binread.specs.Debt.{IsOwed, WantsMemory, entries_of, owed_by, still_owed}
@@ -79,18 +79,23 @@ fault-under (Some limiter) fault = refl
 one-owed : (x : Item) (xs : List Item) → IsOwed (x ∷ xs)
 one-owed x xs = omega arith
 
-choice-owed : (o : Option Limit) (event : PlainEvent) (behind : List Item)
-    → IsOwed (event_or_limit o event behind)
-choice-owed None event behind = one-owed (Ok event) behind
-choice-owed (Some limit) event behind = one-owed (Err (fault_nowhere (LimitReached limit))) []
+-- what the first item decides of a list holds behind limits, where it holds of a limit's fault
+module _ (P : List Item → Type 0)
+    (first : (event : PlainEvent) (items others : List Item) → P (Ok event ∷ items)
+    → P (Ok event ∷ others))
+    (cut : (fault : Fault) (items : List Item) → P (Err fault ∷ items) → P (Err fault ∷ []))
+    (limits : (limit : Limit) → P (Err (fault_nowhere (LimitReached limit)) ∷ [])) where
+  choice-of : (o : Option Limit) (event : PlainEvent) (items behind : List Item)
+      → P (Ok event ∷ items) → P (event_or_limit o event behind)
+  choice-of None event items behind h = first event items behind h
+  choice-of (Some limit) event items behind h = limits limit
 
-owed-under : (limiter : Option Limiter) (items : List Item) → IsOwed items
-    → IsOwed (under_any limiter items)
-owed-under None items h = h
-owed-under (Some limiter) [] h = h
-owed-under (Some limiter) (Ok event ∷ items) h =
-    choice-owed _ _ _
-owed-under (Some limiter) (Err fault ∷ items) h = one-owed (Err fault) []
+  under-of : (limiter : Option Limiter) (items : List Item) → P items
+      → P (under_any limiter items)
+  under-of None items h = h
+  under-of (Some limiter) [] h = h
+  under-of (Some limiter) (Ok event ∷ items) h = choice-of _ event items _ h
+  under-of (Some limiter) (Err fault ∷ items) h = cut fault items h
 
 event-wants : (event : PlainEvent) (items others : List Item) → WantsMemory (Ok event ∷ items)
     → WantsMemory (Ok event ∷ others)
@@ -100,25 +105,19 @@ event-wants (Single (Data bytes)) items others h = tt
 event-wants (Single (String text)) items others h = tt
 event-wants event items others h = h
 
-choice-wants : (o : Option Limit) (event : PlainEvent) (items behind : List Item)
-    → WantsMemory (Ok event ∷ items) → WantsMemory (event_or_limit o event behind)
-choice-wants None event items behind h = event-wants _ _ _ h
-choice-wants (Some limit) event items behind h = tt
-
-wants-under : (limiter : Option Limiter) (items : List Item) → WantsMemory items
-    → WantsMemory (under_any limiter items)
-wants-under None items h = h
-wants-under (Some limiter) [] h = h
-wants-under (Some limiter) (Ok event ∷ items) h =
-    choice-wants _ _ _
-    _ h
-wants-under (Some limiter) (Err fault ∷ items) h = h
+owed-under : (limiter : Option Limiter) (items : List Item) → IsOwed items
+    → IsOwed (under_any limiter items)
+owed-under =
+    under-of IsOwed (λ event items others _. one-owed (Ok event) others)
+    (λ fault items _. one-owed (Err fault) [])
+    (λ limit. one-owed (Err (fault_nowhere (LimitReached limit))) [])
 
 either-under : (new : Bool) (limiter : Option Limiter) (items : List Item)
     → MatchBool new (IsOwed items) (WantsMemory items)
     → MatchBool new (IsOwed (under_any limiter items)) (WantsMemory (under_any limiter items))
-either-under true limiter items h = owed-under _ _ h
-either-under false limiter items h = wants-under _ _ h
+either-under true limiter items h = owed-under limiter items h
+either-under false limiter items h =
+    under-of WantsMemory event-wants (λ fault items h. h) (λ limit. tt) limiter items h
 
 module _ (new : Bool) (told : PlainEvent) where
   pub none-told : (known : Option (List ℕ)) (old now : Option Limiter)

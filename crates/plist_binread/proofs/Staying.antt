@@ -20,10 +20,12 @@ tells_stayed known failed counts count old mid new item s t = record {
   faults = rw (← s.limiter) t.faults;
   closes = rw (← s.state, ← s.frames, ← s.limiter) t.closes;
   head = rw (← s.source) t.head;
-  nested = rw (← s.source) t.nested;
   cached = rw (← s.source, ← s.state, ← s.bounds, ← s.frames) t.cached;
-  marked = t.marked;
-  counted = t.counted;
-  lists = rw (← s.source) t.lists;
+  leaves = record {
+    nested = rw (← s.source) t.leaves.nested;
+    marked = t.leaves.marked;
+    counted = t.leaves.counted;
+    lists = rw (← s.source) t.leaves.lists;
+  };
   falls = rw (← s.state, ← s.tags, ← s.frames) t.falls;
 }

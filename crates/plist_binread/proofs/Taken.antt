@@ -2,16 +2,19 @@
 use Rattle.std.proofs.Common.{◌≡◌, ℕ, ◌≤◌, arith, List, length, reverse, true, Option, None, Some, Result, Err, IfSome, MatchOption, refl, ap, sym}
 use Rattle.std.proofs.lemmas.List.{length-reverse}
 use Rattle.plist_base.specs.declared.error.Error.{Error}
+use Rattle.plist_base.specs.declared.source.Source.{Ghosts}
 use Rattle.plist_base.specs.Events.{PlainEvent}
 use Rattle.plist_binread.specs.declared.frames.Frame.{Frame}
+use Rattle.plist_binread.specs.declared.counter.DecodeCounter.{Ghosts as CounterGhosts}
+use Rattle.plist_binread.specs.declared.reader.BinaryReader.{BinaryReader}
 use Rattle.plist_binread.specs.Unfolding.{until_fault}
 use Rattle.plist_binread.specs.declared.reader.State.{State}
 use Rattle.plist_binread.specs.declared.reader.State.TheVariants.{Fresh, Walking, Ended}
-use Rattle.plist_binread.specs.declared.table.Bounds.{Bounds}
+use Rattle.plist_binread.specs.declared.head.Bounds.{Bounds}
 use Rattle.plist_binread.specs.Container.{head_of}
-use Rattle.plist_binread.specs.BinaryReader.{GivesItem, AreWithin}
+use Rattle.plist_binread.specs.BinaryReader.{GivesItem, AreWithin, Leaves}
 use Rattle.plist_binread.specs.Telling.{TellsItem}
-use Rattle.plist_binread.specs.Debt.{IsOpen, IsKnown, AreBoundsOf, places_of, still_owed, owed_by, entries_of}
+use Rattle.plist_binread.specs.Debt.{IsOpen, IsKnown, cached_count, AreBoundsOf, places_of, still_owed, owed_by, entries_of}
 use Rattle.plist_binread.specs.Lent.{PaysNextTold}
 use Rattle.plist_binread.specs.Turning.{IsKeptTold, is_fresh, is_walking, ends_next}
 use Rattle.plist_binread.specs.Beginning.{RefusesFirst}
@@ -24,7 +27,7 @@ open_below : (tags : List ℕ) (fs : List Frame) → IsOpen tags (reverse fs) �
 open_below tags fs path = rw (← length-reverse fs) (IsOpen-length _ _ path)
 
 -- nor than the head of the file tells
-pub nested : (known : Option (List ℕ)) (tags : List ℕ) (fs : List Frame) → IsOpen tags (reverse fs)
+nested : (known : Option (List ℕ)) (tags : List ℕ) (fs : List Frame) → IsOpen tags (reverse fs)
     → IfSome known (λ bytes. length tags ≤ length (places_of bytes))
     → MatchOption known (length fs ≤ length tags) (λ bytes. length fs ≤ length (places_of bytes))
 nested None tags fs path bounded = open_below _ fs path
@@ -47,12 +50,29 @@ pub holds_none : (known : Option (List ℕ)) (bounds : Bounds) (tags : List ℕ)
 holds_none known bounds tags walking never = IfSome-all known (λ bytes w. absurd (never w))
 
 -- and none of the lists is longer
-pub lists : (known : Option (List ℕ)) (tags contents : List ℕ) (fs : List Frame)
+lists : (known : Option (List ℕ)) (tags contents : List ℕ) (fs : List Frame)
     → IsOpen tags (reverse fs) → length contents ≡ length tags
     → IfSome known (λ bytes. length tags ≤ length (places_of bytes))
     → IfSome known (λ bytes. AreWithin (length (places_of bytes)) tags contents fs)
 lists known tags contents fs path same bounded = IfSome_then known bounded (λ bytes bounded.
     (bounded, omega arith, omega (arith, open_below tags fs path)))
+
+-- what a call leaves behind
+pub left_behind : {R C : Type 0} {g : Ghosts R} {h : CounterGhosts C}
+    (known : R → Option (List ℕ)) (counts : Type 0) (count : C → ℕ) (old new : BinaryReader R C g h)
+    → IsOpen new.walk.tags.items (reverse new.walk.frames)
+    → length new.walk.contents.items ≡ length new.walk.tags.items
+    → (counts → count new.counter ≡ cached_count new.walk.tags.items)
+    → IfSome (known old.source)
+    (λ bytes. length new.walk.tags.items ≤ length (places_of bytes))
+    → Leaves known counts count old new
+left_behind known counts count old new path same counted bounded = record {
+  nested = nested (known old.source) new.walk.tags.items new.walk.frames path bounded;
+  marked = path;
+  counted = counted;
+  lists = lists (known old.source) new.walk.tags.items new.walk.contents.items new.walk.frames path
+      same bounded;
+}
 
 -- what was to come and what is to come, over known bytes, by the item that was taken
 

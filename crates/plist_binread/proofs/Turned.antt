@@ -8,7 +8,7 @@ use Rattle.plist_base.specs.Events.{PlainEvent, EndCollection, Item}
 use Rattle.plist_binread.specs.declared.frames.Frame.{Frame}
 use Rattle.plist_binread.specs.Packed.{Remarked}
 use Rattle.plist_binread.specs.Unfolding.{Entry, unfolding_of, until_fault}
-use Rattle.plist_binread.specs.declared.table.Bounds.{Bounds}
+use Rattle.plist_binread.specs.declared.head.Bounds.{Bounds}
 use Rattle.plist_binread.specs.Debt.{path_of, IsOpen, IsKnown, children_at, place_at, entries_of, owed_by, IsOwed, next_number, walk_steps, walk_weight}
 use Rattle.plist_binread.specs.Turning.{closes, given_back}
 use Rattle.std.proofs.lemmas.List.{drop_all, get_or_default}

@@ -8,7 +8,7 @@ use Rattle.plist_binread.specs.Told.{event_in}
 use Rattle.plist_binread.specs.Turning.{IsKeptTold, root_with}
 use Rattle.plist_binread.specs.Unfolding.{until_fault, items_of_file}
 use Rattle.plist_binread.specs.Walking.{IsWalkOf, walk_objects, owed_in}
-use Rattle.plist_binread.specs.declared.table.Bounds.{Bounds}
+use Rattle.plist_binread.specs.declared.head.Bounds.{Bounds}
 use Rattle.plist_binread.specs.declared.told.Last.{Last}
 use Rattle.plist_binread.specs.declared.walk.Walk.{Walk}
 

@@ -15,7 +15,7 @@ use Rattle.std.specs.declared.alloc.Global.{Global}
 use Rattle.std.specs.declared.vec.Vec.{Vec}
 use Rattle.plist_binread.specs.declared.extent.Content.{Content}
 use Rattle.plist_base.specs.declared.event.Event.{Event}
-use Rattle.plist_binread.specs.declared.table.Bounds.{Bounds}
+use Rattle.plist_binread.specs.declared.head.Bounds.{Bounds}
 use Rattle.plist_binread.specs.inner.Places.{bytes_behind, IsTooLargeAt}
 
 -- ---- what is at hand, and what a read gives

@@ -145,6 +145,15 @@ module _ {R C : Type 0} {g : Ghosts R} {h : CounterGhosts C} where
       → BinaryReader R C g h → Type 0
   HasToCome known items reader = IfSome known (λ bytes. to_come bytes reader ≡ items bytes)
 
+-- what a call leaves behind, whatever came of it
+pub record Leaves {R C : Type 0} {g : Ghosts R} {h : CounterGhosts C} (known : R → Option (List ℕ))
+    (counts : Type 0) (count : C → ℕ) (old new : BinaryReader R C g h) : Type 0 where
+  pub nested : MatchOption (known (source_of old)) (open_collections new ≤ object_count new)
+      (λ bytes. open_collections new ≤ told_objects bytes)
+  pub marked : MarksItsPath new
+  pub counted : counts → count (counter_of new) ≡ cached_objects new
+  pub lists : IfSome (known (source_of old)) (λ bytes. KeepsWithin (told_objects bytes) new)
+
 -- one call of `next`: known bytes stay as they are, and the item is the first of those to come
 pub record Gives {R C : Type 0} {g : Ghosts R} {h : CounterGhosts C} (known : R → Option (List ℕ))
     (failed : R → ℕ) (counts : Type 0) (count : C → ℕ) (old : BinaryReader R C g h)
@@ -159,10 +168,6 @@ pub record Gives {R C : Type 0} {g : Ghosts R} {h : CounterGhosts C} (known : R 
   pub faults : ItemGivenWithin 0 (2 ^ 64) (is_limited old) item
   pub closes : end_comes old ≡ true → item ≡ Some (Ok EndCollection)
   pub head : IfSome (known (source_of old)) (λ bytes. HoldsHead bytes new)
-  pub nested : MatchOption (known (source_of old)) (open_collections new ≤ object_count new)
-      (λ bytes. open_collections new ≤ told_objects bytes)
   pub cached : IfSome (known (source_of old))
       (λ bytes. CachesItem (number_to_come bytes old) item new)
-  pub marked : MarksItsPath new
-  pub counted : counts → count (counter_of new) ≡ cached_objects new
-  pub lists : IfSome (known (source_of old)) (λ bytes. KeepsWithin (told_objects bytes) new)
+  pub leaves : Leaves known counts count old new

@@ -7,7 +7,7 @@ use Rattle.plist_base.specs.Events.{StartArray, StartDictionary, EndCollection, 
 use Rattle.plist_base.specs.Trees as trees
 use Rattle.plist_base.specs.Trees.{Data, String}
 use Rattle.plist_binread.specs.declared.frames.Frame.{Frame}
-use Rattle.plist_binread.specs.declared.table.Bounds.{Bounds}
+use Rattle.plist_binread.specs.declared.head.Bounds.{Bounds}
 use Rattle.plist_binread.specs.Container.{Head, head_of}
 use Rattle.plist_binread.specs.Packed.{is_marked, unmarked, cached}
 use Rattle.plist_binread.specs.declared.reader.State.{State}

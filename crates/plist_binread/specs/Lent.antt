@@ -6,7 +6,7 @@ use Rattle.plist_base.specs.Events.{PlainEvent, EndCollection, Item}
 use Rattle.plist_binread.specs.declared.child.Asked.{Asked}
 use Rattle.plist_binread.specs.declared.lent.Lent.{Lent}
 use Rattle.plist_binread.specs.declared.lent.Lent.TheVariants as lent
-use Rattle.plist_binread.specs.declared.table.Bounds.{Bounds}
+use Rattle.plist_binread.specs.declared.head.Bounds.{Bounds}
 use Rattle.plist_binread.specs.Container.{number_at}
 use Rattle.plist_binread.specs.Debt.{Explains, path_of, owed_by}
 use Rattle.plist_binread.specs.Turning.{IsKeptTold, ReadsChild}

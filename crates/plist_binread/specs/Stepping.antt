@@ -14,7 +14,7 @@ use Rattle.plist_binread.specs.Walking.{IsWalkOf, walk_objects, open_in, owed_en
 use Rattle.plist_binread.specs.declared.frames.Frame.{Frame}
 use Rattle.plist_binread.specs.declared.lent.Lent.{Lent}
 use Rattle.plist_binread.specs.declared.lent.Lent.TheVariants as lent
-use Rattle.plist_binread.specs.declared.table.Bounds.{Bounds}
+use Rattle.plist_binread.specs.declared.head.Bounds.{Bounds}
 use Rattle.plist_binread.specs.declared.told.Last.{Last}
 use Rattle.plist_binread.specs.declared.walk.Turn.{Turn}
 use Rattle.plist_binread.specs.declared.walk.Walk.{Walk}

@@ -1,5 +1,5 @@
 -- What one call of a reader's `advance` does, and the event that it tells.
-use Rattle.std.specs.Prelude.{◌≡◌, ℕ, ◌^◌, ◌<◌, ◌≤◌, Bool, true, false, List, Option, None, Some, Result, Ok, MatchOption, IfSome}
+use Rattle.std.specs.Prelude.{◌≡◌, ℕ, ◌^◌, ◌<◌, Bool, true, false, List, Option, None, Some, Result, Ok, IfSome}
 use Rattle.plist_base.specs.declared.error.Error.{Error}
 use Rattle.plist_base.specs.declared.source.Source.{Ghosts}
 use Rattle.plist_base.specs.Events.{PlainEvent, Item}
@@ -12,7 +12,7 @@ use Rattle.plist_binread.specs.Told.{event_in, event_with}
 use Rattle.plist_binread.specs.declared.told.Told.{Told}
 use Rattle.std.specs.String.{string_bytes}
 use Rattle.plist_binread.specs.Turning.{IsKeptTold}
-use Rattle.plist_binread.specs.BinaryReader.{EndsAfter, GivesAs, HasEnded, HoldsHead, KeepsWithin, MarksItsPath, cached_objects, counter_of, end_comes, is_limited, is_new, number_to_come, object_count, open_collections, source_of, steps_to_come, to_come, told_objects, walk_closes, walk_to_come}
+use Rattle.plist_binread.specs.BinaryReader.{EndsAfter, GivesAs, HasEnded, HoldsHead, Leaves, end_comes, is_limited, is_new, number_to_come, source_of, steps_to_come, to_come, walk_closes, walk_to_come}
 
 module _ {R C : Type 0} {g : Ghosts R} {h : CounterGhosts C} where
   -- the event that was told last
@@ -57,13 +57,9 @@ pub record TellsBy {A R C : Type 0} {g : Ghosts R} {h : CounterGhosts C}
   pub faults : ItemGivenWithin 0 (2 ^ 64) (limited old) item
   pub closes : closing old ≡ true → IsToldEnd item (event_told new)
   pub head : IfSome (known (source_of old)) (λ bytes. HoldsHead bytes new)
-  pub nested : MatchOption (known (source_of old)) (open_collections new ≤ object_count new)
-      (λ bytes. open_collections new ≤ told_objects bytes)
   pub cached : IfSome (known (source_of old))
       (λ bytes. CachesTold (number_to_come bytes old) item new)
-  pub marked : MarksItsPath new
-  pub counted : counts → count (counter_of new) ≡ cached_objects new
-  pub lists : IfSome (known (source_of old)) (λ bytes. KeepsWithin (told_objects bytes) new)
+  pub leaves : Leaves known counts count old new
   pub falls : IfSome item (λ _. steps_to_come new < steps_to_come old)
 
 module _ {R C : Type 0} {g : Ghosts R} {h : CounterGhosts C} (known : R → Option (List ℕ))

@@ -2,7 +2,7 @@
 -- still has to go.
 use Rattle.std.specs.Prelude.{◌≡◌, ℕ, ◌+◌, ◌-◌, List, ◌++◌, length, reverse}
 use Rattle.plist_base.specs.Events.{Item}
-use Rattle.plist_binread.specs.declared.table.Bounds.{Bounds}
+use Rattle.plist_binread.specs.declared.head.Bounds.{Bounds}
 use Rattle.plist_binread.specs.declared.frames.Frame.{Frame}
 use Rattle.plist_binread.specs.declared.walk.Walk.{Walk}
 use Rattle.plist_binread.specs.Debt.{IsKnown, cached_count, entries_of, owed_by, path_of, walk_steps, walk_weight}

@@ -1,4 +1,4 @@
 -- What bodies and proofs speak of, and no public clause.
 pub mod Codes
 pub mod Places
-pub mod Tables
+pub mod Heads

@@ -14,8 +14,8 @@ ghost use Rattle.plist_binread.specs.Stepping.{IsAsBefore, IsLighter, KeepsItem,
 use crate::child::{Asked, read_child};
 use crate::counter::DecodeCounter;
 use crate::enter::enter;
+use crate::head::Bounds;
 use crate::near::go_near;
-use crate::table::Bounds;
 use crate::told::{Last, Told};
 use crate::walk::{Turn, Walk};
 use plist_base::{Error, Event, Source};

@@ -10,7 +10,7 @@ ghost use Rattle.plist_binread.specs.Beginning.{GivesFirst, IsBounded, IsKnownWa
 
 use crate::counter::DecodeCounter;
 use crate::enter::enter;
-use crate::table::{Bounds, Table};
+use crate::head::{Bounds, Head};
 use crate::told::Last;
 use crate::walk::Walk;
 use plist_base::{Error, Source};
@@ -46,14 +46,14 @@ pub fn begin<S: Source, C: DecodeCounter>(
     ensures unchanged { S.known source.new ≡ S.known source.old }
     ensures failures { AnswersIo result (S.failures source.old) (S.failures source.new) }
 {
-    let table = Table::read(alloc, source)?;
-    let none = no_tags(alloc, table.places.len())?;
-    let Table {
+    let head = Head::read(alloc, source)?;
+    let none = no_tags(alloc, head.places.len())?;
+    let Head {
         trailer,
         reference_width,
         root,
         places,
-    } = table;
+    } = head;
     *bounds = Bounds {
         trailer,
         reference_width,

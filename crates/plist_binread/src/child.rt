@@ -7,9 +7,9 @@ ghost use Rattle.plist_binread.specs.Failures.{ErrWithin};
 ghost use Rattle.plist_binread.specs.Behind.{AsksAt, BeginsThere, FindsAt, FindsSlots, HasNoChildren, HasPairs, IsAskedBehind, IsAskedOf};
 
 use crate::extent::read_length;
+use crate::head::Bounds;
 use crate::lent::lent_length;
 use crate::numbers::{number_at_hand, read_number};
-use crate::table::Bounds;
 use plist_base::{Error, ErrorKind, Source};
 
 /// Where the references of the collection stand that was asked last.

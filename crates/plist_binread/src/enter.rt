@@ -9,9 +9,9 @@ ghost use Rattle.plist_binread.specs.Failures.{ErrWithin};
 ghost use Rattle.plist_binread.specs.Stepping.{ExplainsEntering, IsFoundAt, IsLighterEntered, KeepsEntered, Meets};
 
 use crate::counter::DecodeCounter;
+use crate::head::Bounds;
 use crate::near::open_lent;
 use crate::object::decode;
-use crate::table::Bounds;
 use crate::told::Last;
 use crate::walk::Walk;
 use plist_base::{Error, ErrorKind, Source};

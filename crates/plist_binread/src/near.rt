@@ -12,9 +12,9 @@ ghost use Rattle.plist_binread.specs.Stepping.{Goes, IsLighterEntered, IsUnchang
 use crate::child::{Asked, lent_before, near_child};
 use crate::counter::DecodeCounter;
 use crate::frames::Frames;
+use crate::head::Bounds;
 use crate::lent::{Lent, decode_lent};
 use crate::packed::{keep, mark};
-use crate::table::Bounds;
 use crate::told::Last;
 use crate::walk::Walk;
 use plist_base::Source;

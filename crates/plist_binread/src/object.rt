@@ -8,8 +8,8 @@ ghost use Rattle.plist_binread.specs.Failures.{ErrWithin, FailsWithin};
 ghost use Rattle.plist_binread.specs.Nearby.{CountsFound, TellsObject};
 
 use crate::counter::DecodeCounter;
+use crate::head::Bounds;
 use crate::lent::{Lent, decode_lent};
-use crate::table::Bounds;
 use crate::text::read_large;
 use crate::told::Last;
 use plist_base::{Error, ErrorKind, Source, read_exact_at};

@@ -9,13 +9,13 @@ use Rattle.plist_base.specs.Faults.{FaultKind, Fault, Io, OutOfMemory, PlistTooL
 use Rattle.plist_base.specs.Trees.{Tree}
 use Rattle.plist_base.specs.Writing.{Answer, MatchKind}
 use Rattle.plist_base.proofs.Grammar.{alike_last}
-use Rattle.plist_binwrite.specs.SendingAs.{Sends, FailsWith}
+use Rattle.plist_binwrite.specs.SendingAs.{SendsAs, FailsAs}
 use Rattle.plist_binwrite.specs.declared.pending.Pending.{Pending}
 use Rattle.plist_binwrite.specs.Pendings.{is_whole, misplaced_fault}
 use Rattle.plist_binwrite.specs.declared.shared.Sharing.{Ghosts as SharingGhosts}
 use Rattle.plist_binwrite.specs.declared.writer.FileWriter.{FileWriter}
 use Rattle.plist_binwrite.specs.FileWriter.{Takes, held_by, failed_of, inner_of}
-use Rattle.plist_binwrite.proofs.Sends.{sends_as}
+use Rattle.plist_binwrite.proofs.SendingFiles.{sends_as}
 
 still : (b : Bool) (x y : Type 0) → b ≡ false → y → MatchBool b x y
 still true x y e h = cc
@@ -30,7 +30,7 @@ module _ {W : Type 0} (IsFile : Tree → List ℕ → Type 0) (size : Tree → �
     (contents : W → Option (List ℕ)) where
   -- a kind by which sending fails is one by which the writer does
   failing : (kind : FaultKind) (events : List PlainEvent) (old new : W) (refused lost : Type 0)
-      → lost → FailsWith IsFile size contents kind events old new → MatchKind kind refused lost ⊥
+      → lost → FailsAs IsFile size contents kind events old new → MatchKind kind refused lost ⊥
   failing Io events old new refused lost f h = f
   failing PlistTooLarge events old new refused lost f h = f
   failing OutOfMemory events old new refused lost f h = f
@@ -50,15 +50,15 @@ module _ {W : Type 0} (IsFile : Tree → List ℕ → Type 0) (size : Tree → �
         (are : events ≡ held_by before ++ unhinted event ∷ []) where
       -- so is what sending them does
       sent : (answer : Answer)
-          → Sends IsFile size contents events answer (inner_of before) (inner_of after)
-          → Sends IsFile size contents (held_by before ++ event ∷ []) answer (inner_of before)
+          → SendsAs IsFile size contents events answer (inner_of before) (inner_of after)
+          → SendsAs IsFile size contents (held_by before ++ event ∷ []) answer (inner_of before)
           (inner_of after)
       sent answer =
           sends_as _ _ _ _ _ _
           (last_alike _ _ _ are) (λ t alike file of. of) (λ t alike. refl) _ _ _ _
 
       pub takes_unsent : (fault : Fault) → failed_of after ≡ true
-          → Sends IsFile size contents events (Err fault) (inner_of before) (inner_of after)
+          → SendsAs IsFile size contents events (Err fault) (inner_of before) (inner_of after)
           → Does (Err fault)
       takes_unsent fault lost sends =
           let s = sent (Err fault) sends in
@@ -69,7 +69,7 @@ module _ {W : Type 0} (IsFile : Tree → List ℕ → Type 0) (size : Tree → �
           )
 
       pub takes_whole : failed_of after ≡ false → held_by after ≡ []
-          → Sends IsFile size contents events (Ok tt) (inner_of before) (inner_of after)
+          → SendsAs IsFile size contents events (Ok tt) (inner_of before) (inner_of after)
           → Does (Ok tt)
       takes_whole on none sends =
           still _ _ _ up (can, on, inl (sent (Ok tt) sends, none))

@@ -36,7 +36,7 @@ module _ {es : List PlainEvent} {class : ℕ → ℕ} (c : AreClasses es class) 
       (same : (t u : Tree) (p q : ℕ) → Sits es t p → Sits es u q → class p ≡ class q
       → num p ≡ num q) where
     mutual
-      -- places of one class have one tree, and one object by the numbers, too
+      -- indices of one class have one tree, and one object by the numbers, too
       pub one_object : (t u : Tree) (p q : ℕ) → Sits es t p → Sits es u q → class p ≡ class q
           → (t ≡ u) × (obj_of num t p ≡ obj_of num u q)
       one_object (Leaf x) (Leaf y) p q s r e =
@@ -106,7 +106,7 @@ module _ {es : List PlainEvent} {plan : Plan} (planned : IsPlanned es plan) wher
     first_class : (t : Tree) (p : ℕ) → Sits es t p → class (first (num p)) ≡ class p
     first_class t p s = goes.same p (sits_in s) (number_below t p s)
 
-    -- places of one number have one class, and places of one class one number
+    -- indices of one number have one class, and indices of one class one number
     pub number_apart : (t u : Tree) (p q : ℕ) → Sits es t p → Sits es u q → num p ≡ num q
         → class p ≡ class q
     number_apart t u p q s r e =

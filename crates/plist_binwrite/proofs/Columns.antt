@@ -25,7 +25,7 @@ long_entries (k ∷ kinds) [] same = absurd (omega (arith, same))
 long_entries (k ∷ kinds) (n ∷ numbers) same =
     ap suc (long_entries kinds _ (omega (arith, same)))
 
--- a place among the entries is one of both lists
+-- an index among the entries is one of both lists
 pub within_lists : (kinds : List Kind) (numbers : List ℕ) (es : List Entry)
     → length kinds ≡ length numbers → entries_from kinds numbers ≡ es → (p : ℕ) → p < length es
     → (p < length kinds) × (p < length numbers)
@@ -80,7 +80,7 @@ named e k is = cc
 
 pub unnamed : (scalars : List PlainEvent) (e : Entry) → scalar_named e ≡ None
     → is_leaf (shown scalars e) ≡ false
-unnamed scalars (entry.Scalar place) is = cc
+unnamed scalars (entry.Scalar index) is = cc
 unnamed scalars e is = refl
 
 -- one more

@@ -14,7 +14,6 @@ use Rattle.plist_base.specs.Events.{PlainEvent, EndCollection, Single}
 use Rattle.plist_base.specs.Trees.{Scalar, Tree}
 use Rattle.plist_binwrite.specs.declared.entries.Entry.{Entry}
 use Rattle.plist_binwrite.specs.declared.entries.Entry.TheVariants as entry
-use Rattle.plist_binwrite.specs.declared.kinds.Kind.TheVariants as kind
 use Rattle.plist_binwrite.specs.Held.{event_at, held_kind}
 use Rattle.plist_binwrite.specs.Standing.{size, Sits}
 use Rattle.plist_binwrite.specs.inner.Columns.{kind_in, scalar_named}
@@ -48,7 +47,7 @@ named_more : (i : ℕ) (es : List Entry) (e : Entry) → list_any (names i) es �
 named_more i es e h =
     cc (list_any-append (names i) es (e ∷ []))
 
--- a place where a test finds an event that passes is one of the list
+-- an index where a test finds an event that passes is one of the list
 below : (f : PlainEvent → Bool) (es : List PlainEvent) (i : ℕ) → f EndCollection ≡ false
     → f (event_at es i) ≡ true → i < length es
 below f es i none h = elim (leb_tells (length es) i) [
@@ -105,7 +104,7 @@ module _ {scalars : List PlainEvent} {es : List Entry} {begun : List ℕ}
   long : length events ≡ length es
   long = long_shown _ es
 
-  -- the event at a place is what the entry shows
+  -- the event at an index is what the entry shows
   shown_at : (p : ℕ) → p < length es → event_at events p ≡ shown scalars (entry_at es p)
   shown_at p lt = get_or-map _ es p _ _ lt
 
@@ -343,43 +342,43 @@ module _ {scalars : List PlainEvent} {es : List Entry} {begun : List ℕ}
 
   -- ---- what is read of an entry
 
-  module _ {place : ℕ} (here : place < length (all_shown scalars es)) where
-    pub lt : place < length es
+  module _ {index : ℕ} (here : index < length (all_shown scalars es)) where
+    pub lt : index < length es
     lt = omega (arith, long_shown scalars es)
 
-    there : event_at (all_shown scalars es) place ≡ shown scalars (entry_at es place)
+    there : event_at (all_shown scalars es) index ≡ shown scalars (entry_at es index)
     there = shown_at kept.told _ lt
 
     kind_shown : (e : Entry) → is_sound scalars e ≡ true → held_kind (shown scalars e) ≡ kind_in e
     kind_shown (entry.Scalar i) h = let f = leaf_is _ h in rw f.1 refl
     kind_shown e h = refl
 
-    pub kind_held : kind_in (entry_at es place) ≡ held_kind (event_at (all_shown scalars es) place)
+    pub kind_held : kind_in (entry_at es index) ≡ held_kind (event_at (all_shown scalars es) index)
     kind_held =
         sym (ap held_kind there ∙ kind_shown _ (kept.told.sound _ lt))
 
-    pub no_scalar : scalar_named (entry_at es place) ≡ None
-        → is_leaf (event_at (all_shown scalars es) place) ≡ false
-    no_scalar none = ap is_leaf there ∙ unnamed scalars (entry_at es place) none
+    pub no_scalar : scalar_named (entry_at es index) ≡ None
+        → is_leaf (event_at (all_shown scalars es) index) ≡ false
+    no_scalar none = ap is_leaf there ∙ unnamed scalars (entry_at es index) none
 
-    module _ {k : ℕ} (is : entry_at es place ≡ entry.Scalar k) where
+    module _ {k : ℕ} (is : entry_at es index ≡ entry.Scalar k) where
       leaf_here : is_leaf (event_at scalars k) ≡ true
-      leaf_here = cc (kept.told.sound place lt)
+      leaf_here = cc (kept.told.sound index lt)
 
-      stored : event_at (all_shown scalars es) place ≡ event_at scalars k
+      stored : event_at (all_shown scalars es) index ≡ event_at scalars k
       stored = there ∙ ap (shown scalars) is ∙ leaf_unhinted _ leaf_here
 
-      pub scalar_stored : slice_get scalars k ≡ Some (event_at (all_shown scalars es) place)
+      pub scalar_stored : slice_get scalars k ≡ Some (event_at (all_shown scalars es) index)
       scalar_stored = slice_get-get_or _ k EndCollection (below is_leaf scalars k refl leaf_here)
           ∙ ap Some (sym stored)
 
-      pub scalar_is_leaf : is_leaf (event_at (all_shown scalars es) place) ≡ true
+      pub scalar_is_leaf : is_leaf (event_at (all_shown scalars es) index) ≡ true
       scalar_is_leaf = ap is_leaf stored ∙ leaf_here
 
-    pub behind_forward : (place < behind_at es place)
-        × (behind_at es place ≤ length (all_shown scalars es))
-    behind_forward = rw (kept.told.skips place lt) (skip_forward (all_shown scalars es) place here)
+    pub behind_forward : (index < behind_at es index)
+        × (behind_at es index ≤ length (all_shown scalars es))
+    behind_forward = rw (kept.told.skips index lt) (skip_forward (all_shown scalars es) index here)
 
-    pub behind_ends : (t : Tree) → Sits (all_shown scalars es) t place
-        → behind_at es place ≡ place + size t
-    behind_ends t s = kept.told.skips place lt ∙ skip_ends (all_shown scalars es) t place s
+    pub behind_ends : (t : Tree) → Sits (all_shown scalars es) t index
+        → behind_at es index ≡ index + size t
+    behind_ends t s = kept.told.skips index lt ∙ skip_ends (all_shown scalars es) t index s

@@ -17,7 +17,7 @@ use Rattle.plist_base.specs.declared.real.RealBits.TheVariants as real
 use Rattle.plist_base.specs.inner.Hashing.{eq_of_events, same_list}
 
 module _ {T P : Type 0} (eq_of_events : T → T → Bool) (view : T → P) where
-  -- the key at a place
+  -- the key at an index
   pub key_at : (cs : List T) (i : ℕ) (x y : T) → (eq_of_events x y ≡ true → view x ≡ view y)
       → slice_get cs i ≡ Some y → eq_of_events x y ≡ true → slice_get (map view cs) i ≡ Some
       (view x)

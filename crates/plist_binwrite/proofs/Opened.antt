@@ -1,4 +1,4 @@
--- What is begun behind some events, and where the tree that begins at a place ends.
+-- What is begun behind some events, and where the tree that begins at an index ends.
 use Rattle.std.proofs.Common.{◌≡◌, ◌≢◌, ℕ, suc, ◌+◌, ◌<◌, ◌≤◌, Bool, true, false, if◌then◌else◌, List, [], ◌∷◌, ◌++◌, length, drop, take, refl, ap, sym, ◌∙◌, subst, arith, length-append, length-drop, add-zero}
 use Rattle.std.specs.List.{AllByRecursion}
 use Rattle.std.proofs.lemmas.Bool.{eq-eqb, ne_eqb}
@@ -95,10 +95,10 @@ skip_tree (Array ts) q begun =
 skip_tree (Dictionary ms) q begun =
     skip_end _ q _ begun (open_pairs ms (q + 1) (q ∷ begun))
 
--- ---- a place that isn't begun
+-- ---- an index that isn't begun
 
 abbrev Lacks : ℕ → List ℕ → Type 0
-Lacks q places = AllByRecursion (λ place. place ≢ q) places
+Lacks q indices = AllByRecursion (λ index. index ≢ q) indices
 
 one_apart : (e : PlainEvent) (p q told : ℕ) (begun : List ℕ) → p ≢ q → Lacks q begun
     → Lacks q (open_behind e p begun) × (skip_behind e p begun q told ≡ told)
@@ -181,7 +181,7 @@ is_start e = false
 
 module _ (all : List PlainEvent) where
   abbrev Starts : List ℕ → Type 0
-  Starts places = AllByRecursion (λ q. is_start (event_at all q) ≡ true) places
+  Starts indices = AllByRecursion (λ q. is_start (event_at all q) ≡ true) indices
 
   one_starts : (e : PlainEvent) (p : ℕ) (begun : List ℕ) → event_at all p ≡ e → Starts begun
       → Starts (open_behind e p begun)

@@ -54,11 +54,11 @@ pub puts_as : {a b : Option (List ℕ)} {held k xs ys : List ℕ} {answer : Answ
     → PutsBytes a held xs answer b k → PutsBytes a held ys answer b k
 puts_as e p = rw (← e) p
 
--- all goes out, where the numbers at these places do yet
+-- all goes out, where the numbers at these indices do yet
 abbrev pub PutsRest : (num : ℕ → ℕ) (w : ℕ) (a : Option (List ℕ)) (held all : List ℕ)
-    (b : Option (List ℕ)) (h places : List ℕ) → Type 0
-PutsRest num w a held all b h places = (answer : Answer) (c : Option (List ℕ)) (k : List ℕ)
-    → PutsBytes b h (table_form w (map num places)) answer c k → PutsBytes a held all answer c k
+    (b : Option (List ℕ)) (h indices : List ℕ) → Type 0
+PutsRest num w a held all b h indices = (answer : Answer) (c : Option (List ℕ)) (k : List ℕ)
+    → PutsBytes b h (table_form w (map num indices)) answer c k → PutsBytes a held all answer c k
 
 -- what waited goes out, and then bytes do
 pub puts_out : (a b : Option (List ℕ)) (held xs : List ℕ) → Appends a b (held ++ xs)

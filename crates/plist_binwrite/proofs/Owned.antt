@@ -9,7 +9,7 @@ use Rattle.plist_base.specs.Bracketing.{shape, shape_of_items, shape_of_pairs}
 use Rattle.plist_base.specs.Events.{PlainEvent, EndCollection}
 use Rattle.plist_base.specs.Trees.{Scalar, Tree, Leaf, Array, Dictionary, Trees, NoTrees, TreeAnd, Members, NoMembers, MemberAnd}
 use Rattle.plist_binwrite.specs.Classes.{AreClasses, same_class, kept, count_by, objects_by, size_by}
-use Rattle.plist_binwrite.specs.Counts.{scalar_eq, collected, texts, collections_in, scalars_in, object_count}
+use Rattle.plist_binwrite.specs.ObjectCounts.{scalar_eq, collected, texts, collections_in, scalars_in, object_count}
 use Rattle.plist_binwrite.specs.Numberings.{obj_of}
 use Rattle.plist_binwrite.specs.inner.Scalars.{Owner, shared, alone, own, owner, AreOwners}
 use Rattle.plist_binwrite.specs.Sizes.{total, object_size, size_with, file_size}
@@ -66,7 +66,7 @@ One = ℕ × Tree
 abbrev owned_eq : One → One → Bool
 owned_eq a b = owner_eq (own_tree a.1 a.0) (own_tree b.1 b.0)
 
--- the places rise, from a bound on
+-- the indices rise, from a bound on
 abbrev Rise : ℕ → List One → Type 0
 Rise low [] = Unit {0}
 Rise low (one ∷ ones) = (low ≤ one.0) × Rise (one.0 + 1) ones

@@ -10,24 +10,24 @@ use Rattle.plist_binwrite.proofs.Changes.{at_set}
 
 -- ---- one more event gets its class
 
-module _ {es scalars : List PlainEvent} {top place : ℕ} (cs : List ℕ) (v : ℕ)
-    (lt : place < length cs) (have : HaveClasses es (num_of cs) scalars top place) where
-  at_write : (q : ℕ) → (P : ℕ → Type 0) → (q ≡ place → P v) → (q ≢ place → P (num_of cs q))
-      → P (num_of (set cs place v) q)
+module _ {es scalars : List PlainEvent} {top index : ℕ} (cs : List ℕ) (v : ℕ)
+    (lt : index < length cs) (have : HaveClasses es (num_of cs) scalars top index) where
+  at_write : (q : ℕ) → (P : ℕ → Type 0) → (q ≡ index → P v) → (q ≢ index → P (num_of cs q))
+      → P (num_of (set cs index v) q)
   at_write q P same other = at_set cs _ v 0 q P lt same other
 
-  -- a scalar's is its place among the different ones, and another event's is new
+  -- a scalar's is its index among the different ones, and another event's is new
   pub one_more : (new : ℕ) → top ≤ new
-      → ((x : Scalar) → event_at es place ≡ Single x → slice_get scalars v ≡ Some (Single x))
-      → (is_leaf (event_at es place) ≡ false → (top ≤ v) × (v < new) × (length scalars ≤ v))
-      → HaveClasses es (num_of (set cs place v)) scalars new (place + 1)
+      → ((x : Scalar) → event_at es index ≡ Single x → slice_get scalars v ≡ Some (Single x))
+      → (is_leaf (event_at es index) ≡ false → (top ≤ v) × (v < new) × (length scalars ≤ v))
+      → HaveClasses es (num_of (set cs index v)) scalars new (index + 1)
   one_more new more scalar other = record {
     scalars = λ p l x s. at_write p (λ w. slice_get scalars w ≡ Some (Single x))
         (λ i. scalar x (rw i at s)) (λ d. have.scalars p (omega (arith, l, d)) x s);
     others = λ p l n. at_write p (λ w. (length scalars ≤ w) × (w < new))
         (λ i. let o = other (rw i at n) in (o.2, o.1))
         (λ d. let h = have.others p (omega (arith, l, d)) n in (h.0, omega (arith, h.1)));
-    apart = λ p q l m n o. at_write p (λ w. w ≡ num_of (set cs place v) q → p ≡ q)
+    apart = λ p q l m n o. at_write p (λ w. w ≡ num_of (set cs index v) q → p ≡ q)
         (λ i. at_write q (λ w. v ≡ w → p ≡ q) (λ j h. i ∙ sym j)
         (λ f h. absurd (omega (
           arith,
@@ -47,8 +47,8 @@ module _ {es scalars : List PlainEvent} {top place : ℕ} (cs : List ℕ) (v : �
 
 -- ---- at the end
 
-module _ {es keys : List PlainEvent} {class : ℕ → ℕ} {top place : ℕ}
-    (full : length es ≤ place) (have : HaveClasses es class keys top place) (apart : AreApart keys)
+module _ {es keys : List PlainEvent} {class : ℕ → ℕ} {top index : ℕ}
+    (full : length es ≤ index) (have : HaveClasses es class keys top index) (apart : AreApart keys)
     (low : length keys ≤ top) where
   record IsShared (p : ℕ) : Type 0 where
     scalar : Scalar

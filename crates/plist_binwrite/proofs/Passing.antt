@@ -10,7 +10,7 @@ use Rattle.plist_binwrite.proofs.Skipping.{first_event, begins, sits_in}
 
 -- ---- arrays
 
--- the items that are left from place q on
+-- the items that are left from index q on
 pub record Items (es : List PlainEvent) (Goes : Trees → ℕ → Type 0) (q : ℕ) : Type 0 where
   pub left : Trees
   pub sits : SitsItems es left q

@@ -1,4 +1,4 @@
--- The objects of trees by their places: their forms, their sizes, and that they can be written.
+-- The objects of trees by their indices: their forms, their sizes, and that they can be written.
 use Rattle.std.proofs.Common.{◌≡◌, inl, inr, ℕ, ◌+◌, ◌*◌, ◌/◌, ◌^◌, ◌<◌, ◌≤◌, false, List, ◌∷◌, ◌++◌, length, flat_map, map, Option, None, Some, SomeIff, refl, ap, sym, ◌∙◌, subst, arith, length-append}
 use Rattle.std.proofs.lemmas.Bool.{cases_lt}
 use Rattle.plist_base.specs.Events.{PlainEvent, Single}
@@ -9,7 +9,7 @@ use Rattle.plist_binwrite.specs.declared.kinds.Kind.TheVariants as kind
 use Rattle.plist_binwrite.specs.Standing.{size, Sits, SitsItems, SitsPairs}
 use Rattle.plist_binwrite.specs.Numberings.{refs, pairs, obj_of}
 use Rattle.plist_binwrite.specs.Forms.{big_endian, length_form, units_of, is_ascii_text, text_form, table_form, form, keys_of, values_of, IsWritable, AllFit}
-use Rattle.plist_binwrite.specs.Held.{IfScalar, is_stop, held_kind, event_at, item_places, key_places, value_places, num_of, AllNumbered, IsBracketed}
+use Rattle.plist_binwrite.specs.Held.{IfScalar, is_stop, held_kind, event_at, item_indices, key_indices, value_indices, num_of, AllNumbered, IsBracketed}
 use Rattle.plist_binwrite.specs.Sizes.{TellsSize, dictionary_size}
 use Rattle.plist_binwrite.specs.inner.Entries.{is_leaf}
 use Rattle.plist_binwrite.proofs.Sitting.{sits_whole, sits_items, sits_pairs, sits_item, sits_next, sits_key, sits_value, sits_next_pair}
@@ -106,20 +106,21 @@ module _ {es : List PlainEvent} {k : Kind} {p : ℕ} (at : k ≡ held_kind (even
 -- ---- forms and sizes
 
 module _ (num : ℕ → ℕ) where
-  pub refs_are : (ts : Trees) (q : ℕ) → refs num ts q ≡ map num (item_places ts q)
+  pub refs_are : (ts : Trees) (q : ℕ) → refs num ts q ≡ map num (item_indices ts q)
   refs_are NoTrees q = refl
   refs_are (TreeAnd t ts) q = ap (λ l. num q ∷ l) (refs_are ts _)
 
-  pub keys_are : (ms : Members) (q : ℕ) → keys_of (pairs num ms q) ≡ map num (key_places ms q)
+  pub keys_are : (ms : Members) (q : ℕ) → keys_of (pairs num ms q) ≡ map num (key_indices ms q)
   keys_are NoMembers q = refl
   keys_are (MemberAnd k t ms) q = ap (λ l. num q ∷ l) (keys_are ms _)
 
-  pub values_are : (ms : Members) (q : ℕ) → values_of (pairs num ms q) ≡ map num (value_places ms q)
+  pub values_are : (ms : Members) (q : ℕ)
+      → values_of (pairs num ms q) ≡ map num (value_indices ms q)
   values_are NoMembers q = refl
   values_are (MemberAnd k t ms) q = ap (λ l. num (q + 1) ∷ l) (values_are ms _)
 
 pub array_is : (num : ℕ → ℕ) (w count : ℕ) (ts : Trees) (p : ℕ) → count ≡ number_of_trees ts
-    → length_form 0xa count ++ table_form w (map num (item_places ts (p + 1)))
+    → length_form 0xa count ++ table_form w (map num (item_indices ts (p + 1)))
     ≡ form w (obj_of num (Array ts) p)
 array_is num w count ts p e =
     λ i. length_form 0xa ((e ∙ sym (length-refs num ts (p + 1))) i) ++ table_form w
@@ -128,8 +129,8 @@ array_is num w count ts p e =
 pub dictionary_is : {es : List PlainEvent} (num : ℕ → ℕ) (w count : ℕ) (ms : Members) (p : ℕ)
     → SitsPairs es ms (p + 1)
     → ((ts : Trees) → SitsItems es ts (p + 1) → count ≡ number_of_trees ts)
-    → length_form 0xd (count / 2) ++ (table_form w (map num (key_places ms (p + 1)))
-    ++ table_form w (map num (value_places ms (p + 1)))) ≡ form w (obj_of num (Dictionary ms) p)
+    → length_form 0xd (count / 2) ++ (table_form w (map num (key_indices ms (p + 1)))
+    ++ table_form w (map num (value_indices ms (p + 1)))) ≡ form w (obj_of num (Dictionary ms) p)
 dictionary_is num w count ms p s h =
     let n = h (as_items ms) (pairs_as_items s) ∙ twice ms in
     let e : count / 2 ≡ number_of_members ms = omega arith in

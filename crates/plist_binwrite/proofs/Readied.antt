@@ -1,4 +1,4 @@
--- A planned file is its tree's, with one object for each class, and sending it sends the tree's file.
+-- A planned file is its tree's, with one object for each class, and sending it sends that file.
 use Rattle.std.proofs.Common.{◌≡◌, ℕ, ◌+◌, ◌-◌, ◌*◌, ◌^◌, ◌<◌, List, [], ◌++◌, length, take, drop, get_or, map, Some, Ok, refl, ap, sym, ◌∙◌, arith, append_assoc, ◌≤◌, Option, None, Result, Err, OnOk, IfSome, subst}
 use Rattle.std.specs.List.{slice_get}
 use Rattle.std.specs.Prelude.{option_map}
@@ -13,7 +13,7 @@ use Rattle.plist_binread.specs.Unfolding.{Entry, table_of, unfolding_of, until_f
 use Rattle.plist_binread.specs.Visits.{visits_of, visits_with, visits}
 use Rattle.plist_binread.proofs.Steps.{length-table_of}
 use Rattle.plist_binwrite.specs.Classes.{IsFileBy, count_by, objects_by, size_by, IsOversized, Fits, SendsBy}
-use Rattle.plist_binwrite.specs.Counts.{collections_in}
+use Rattle.plist_binwrite.specs.ObjectCounts.{collections_in}
 use Rattle.plist_binwrite.specs.Forms.{form, table_form, AllFit}
 use Rattle.plist_binwrite.specs.Held.{num_of, Describes, plain_events}
 use Rattle.plist_binwrite.specs.inner.Laying.{AllOnce, laid_out, closed, IsOrder, HasAll}
@@ -39,7 +39,7 @@ use Rattle.plist_binwrite.specs.inner.Ending.{numbers_in, file_of, IsReady, IsRe
 use Rattle.plist_binwrite.specs.Outlets.{IsOut, Empties, EmptiesInPart}
 use Rattle.plist_binwrite.specs.inner.Sizing.{ExceedsWith, FitsWith}
 use Rattle.plist_binwrite.specs.Sizes.{TellsSize, size_with}
-use Rattle.plist_binwrite.specs.SendingAs.{IsFileOfEvents}
+use Rattle.plist_binwrite.specs.SendingAs.{IsFileAs}
 use Rattle.plist_binwrite.proofs.Unhinted.{plain_shape}
 
 module _ {es : List PlainEvent} {plan : Plan} (planned : IsPlanned es plan) {class : ℕ → ℕ}
@@ -275,7 +275,7 @@ module _ {W : Type 0} (contents : W → Option (List ℕ)) (events : Held) (old 
   of : Numbered (plain_events events) (numbers_in ready)
   of = numbered r.planned
 
-  is_file : IsFileOfEvents (IsFileBy class) (size_by class) (plain_events events)
+  is_file : IsFileAs (IsFileBy class) (size_by class) (plain_events events)
       (file_of ready of.objects)
   is_file = (
     complete_of_whole (plain_events events) whole,

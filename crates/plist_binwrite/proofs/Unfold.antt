@@ -14,7 +14,7 @@ use Rattle.plist_base.specs.Trees.{number_of_trees, number_of_members, Tree, Lea
 use Rattle.plist_binread.specs.Object.{children_of}
 use Rattle.plist_binread.specs.Unfolding.{Entry, items_of, until_fault, unfolding_of}
 use Rattle.plist_binread.specs.Visits.{visits_within, visits_of}
-use Rattle.plist_binwrite.specs.Counts.{collection_of, collected}
+use Rattle.plist_binwrite.specs.ObjectCounts.{collection_of, collected}
 use Rattle.plist_binwrite.specs.Standing.{size, Sits, SitsItems, SitsPairs, met, met_in_items, met_in_pairs}
 use Rattle.plist_binwrite.specs.Numberings.{refs, pairs, obj_of}
 use Rattle.plist_binwrite.proofs.Uniques.{all_from}

@@ -12,7 +12,7 @@ use Rattle.plist_binwrite.specs.inner.Entries.{shown, all_shown}
 
 shown_twice : (scalars : List PlainEvent) (e : Entry)
     → unhinted (shown scalars e) ≡ shown scalars e
-shown_twice scalars (entry.Scalar place) = unhinted-twice _
+shown_twice scalars (entry.Scalar index) = unhinted-twice _
 shown_twice scalars e = refl
 
 all_twice : (scalars : List PlainEvent) (es : List Entry)

@@ -1,4 +1,4 @@
--- Classes of the places where trees begin, and a file that has one object for each class.
+-- Classes of the indices where trees begin, and a file that has one object for each class.
 use Rattle.std.specs.Prelude.{◌≡◌, ◌⊎◌, ℕ, ◌^◌, ◌<◌, ◌≤◌, Bool, List, length, map, nat_eq, Option}
 use Rattle.std.specs.Set.{unique_keys}
 use Rattle.plist_base.specs.Bracketing.{shape}
@@ -7,14 +7,14 @@ use Rattle.plist_base.specs.Faults.{Fault, OutOfMemory, PlistTooLarge, fault_now
 use Rattle.plist_base.specs.Trees.{Tree}
 use Rattle.plist_base.specs.Writing.{Answer}
 use Rattle.plist_binread.specs.Visits.{visits}
-use Rattle.plist_binwrite.specs.Counts.{HasObjects, collections_in}
+use Rattle.plist_binwrite.specs.ObjectCounts.{HasObjects, collections_in}
 use Rattle.plist_binwrite.specs.Numberings.{obj_of}
-use Rattle.plist_binwrite.specs.SendingAs.{Sends}
+use Rattle.plist_binwrite.specs.SendingAs.{SendsAs}
 use Rattle.plist_binwrite.specs.Sizes.{total, object_size, size_with}
 use Rattle.plist_binwrite.specs.Standing.{Sits, met}
 use Rattle.plist_binwrite.specs.Written.{IsWrittenAs, reference_width}
 
--- places of one class have one object, whose references are the classes of its children
+-- indices of one class have one object, whose references are the classes of its children
 pub record AreClasses (es : List PlainEvent) (class : ℕ → ℕ) : Type 0 where
   pub object : (t u : Tree) (p q : ℕ) → Sits es t p → Sits es u q → class p ≡ class q
       → obj_of class t p ≡ obj_of class u q
@@ -38,7 +38,7 @@ module _ (class : ℕ → ℕ) where
   abbrev pub size_by : Tree → ℕ
   size_by tree = size_with (count_by tree) (objects_by (reference_width (count_by tree)) tree)
 
-  -- numbers of the places, one class for each, by which the file's collections are entered
+  -- numbers of the indices, one class for each, by which the file's collections are entered
   pub record IsNumberedBy (tree : Tree) (file : List ℕ) : Type 0 where
     pub numbers : ℕ → ℕ
     pub apart : (t u : Tree) (p q : ℕ) → Sits (shape tree) t p → Sits (shape tree) u q
@@ -69,4 +69,4 @@ module _ (class : ℕ → ℕ) where
   -- what sending the file of whole events does
   module _ {W : Type 0} (contents : W → Option (List ℕ)) where
     abbrev pub SendsBy : List PlainEvent → Answer → (old new : W) → Type 0
-    SendsBy events answer old new = Sends IsFileBy size_by contents events answer old new
+    SendsBy events answer old new = SendsAs IsFileBy size_by contents events answer old new

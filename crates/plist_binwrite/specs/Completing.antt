@@ -6,7 +6,7 @@ use Rattle.plist_base.specs.Writing.{answer_of}
 use Rattle.plist_base.specs.declared.error.Error.{Error}
 use Rattle.plist_binwrite.specs.Classes.{IsUnplanned, SendsBy}
 use Rattle.plist_binwrite.specs.Held.{num_of, plain_events}
-use Rattle.plist_binwrite.specs.SendingAs.{Sends}
+use Rattle.plist_binwrite.specs.SendingAs.{SendsAs}
 use Rattle.plist_binwrite.specs.declared.classes.Classes.{Classes}
 use Rattle.plist_binwrite.specs.declared.held.Held.{Held}
 
@@ -25,4 +25,4 @@ SendsByClass classes contents held result old new =
 abbrev pub SendsHeld : {W : Type 0} → (IsFile : Tree → List ℕ → Type 0) → (size : Tree → ℕ)
     → (W → Option (List ℕ)) → Held → Result (Unit {0}) Error → (old new : W) → Type 0
 SendsHeld IsFile size contents held result old new =
-    Sends IsFile size contents (plain_events held) (answer_of result) old new
+    SendsAs IsFile size contents (plain_events held) (answer_of result) old new

@@ -8,7 +8,7 @@ use Rattle.plist_binread.specs.Container.{head_of}
 use Rattle.plist_binread.specs.Object.{object_in}
 use Rattle.plist_binread.specs.Visits.{visits_of, visits}
 use Rattle.plist_binwrite.specs.Forms.{least_width, length_form, units_of, integer_form, uid_form, text_form}
-use Rattle.plist_binwrite.specs.Counts.{object_count}
+use Rattle.plist_binwrite.specs.ObjectCounts.{object_count}
 use Rattle.plist_binwrite.specs.Sizes.{file_size}
 
 -- ---- objects

@@ -8,7 +8,7 @@ use Rattle.plist_base.specs.Trees.{Tree}
 use Rattle.plist_base.specs.Writing.{Answer, MatchKind}
 use Rattle.plist_binwrite.specs.declared.shared.Sharing.{Ghosts as SharingGhosts}
 use Rattle.plist_binwrite.specs.declared.writer.FileWriter.{FileWriter}
-use Rattle.plist_binwrite.specs.SendingAs.{SendsFile, FailsWith}
+use Rattle.plist_binwrite.specs.SendingAs.{SendsFileAs, FailsAs}
 use Rattle.plist_binwrite.specs.Pendings.{events_held, misplaced_fault}
 
 -- the events taken of the open property list, without the lengths of starts
@@ -32,7 +32,7 @@ module _ {W S : Type 0} {g : Ghosts W} {h : SharingGhosts S} (IsFile : Tree → 
   abbrev pub Completes : (before : FileWriter W S g h) → PlainEvent
       → (after : FileWriter W S g h) → Type 0
   Completes before event after =
-      SendsFile IsFile size contents (held_by before ++ event ∷ []) (inner_of before)
+      SendsFileAs IsFile size contents (held_by before ++ event ∷ []) (inner_of before)
       (inner_of after)
       × (held_by after ≡ [])
 
@@ -54,7 +54,7 @@ module _ {W S : Type 0} {g : Ghosts W} {h : SharingGhosts S} (IsFile : Tree → 
       ((CanContinue (held_by before) event → ⊥) × (fault ≡ misplaced_fault (held_by before) event)
       × (after ≡ before))
       (CanContinue (held_by before) event × (failed_of after ≡ true)
-      × FailsWith IsFile size contents fault.kind (held_by before ++ event ∷ [])
+      × FailsAs IsFile size contents fault.kind (held_by before ++ event ∷ [])
       (inner_of before) (inner_of after))
       ⊥
 

@@ -32,9 +32,9 @@ abbrev mutual
   ValuesHaveKeysOnce (MemberAnd key tree members) =
       HasKeysOnce tree × ValuesHaveKeysOnce members
 
--- tells whether the dictionary that begins at a place has a key twice
-abbrev pub TellsRepeats : Held → (place : ℕ) → Bool → Type 0
-TellsRepeats held place told = (pairs : Members) → Sits (plain_events held) (Dictionary pairs) place
+-- tells whether the dictionary that begins at an index has a key twice
+abbrev pub TellsRepeats : Held → (index : ℕ) → Bool → Type 0
+TellsRepeats held index told = (pairs : Members) → Sits (plain_events held) (Dictionary pairs) index
     → MatchBool told (HasDistinctKeys pairs → ⊥) (HasDistinctKeys pairs)
 
 -- tells whether a dictionary of the tree whose events these are has a key twice

@@ -10,8 +10,8 @@ use Rattle.plist_base.specs.Writing.{Answer}
 
 module _ (IsFile : Tree → List ℕ → Type 0) (size : Tree → ℕ) where
   -- the events are all of a tree's, and this is a file of it
-  abbrev pub IsFileOfEvents : List PlainEvent → List ℕ → Type 0
-  IsFileOfEvents events file =
+  abbrev pub IsFileAs : List PlainEvent → List ℕ → Type 0
+  IsFileAs events file =
       AreComplete events × ((tree : Tree) → AreAlike events (bracketing tree) → IsFile tree file)
 
   -- the events are all of a tree's, and a file of it would have 2^64 bytes or more
@@ -22,22 +22,22 @@ module _ (IsFile : Tree → List ℕ → Type 0) (size : Tree → ℕ) where
 
   module _ {W : Type 0} (contents : W → Option (List ℕ)) where
     -- a file of the tree whose events these are went out
-    abbrev pub SendsFile : (events : List PlainEvent) (old new : W) → Type 0
-    SendsFile events old new =
-        (file : List ℕ) × IsFileOfEvents events file × Appends (contents old) (contents new) file
+    abbrev pub SendsFileAs : (events : List PlainEvent) (old new : W) → Type 0
+    SendsFileAs events old new =
+        (file : List ℕ) × IsFileAs events file × Appends (contents old) (contents new) file
 
     -- what went out where the call failed: of a device's fault a beginning of a file, else nothing,
     -- and what takes the bytes is the same
-    abbrev pub FailsWith : FaultKind → (events : List PlainEvent) (old new : W) → Type 0
-    FailsWith Io events old new =
-        (file : List ℕ) × IsFileOfEvents events file
+    abbrev pub FailsAs : FaultKind → (events : List PlainEvent) (old new : W) → Type 0
+    FailsAs Io events old new =
+        (file : List ℕ) × IsFileAs events file
         × AppendsFront (contents old) (contents new) file
-    FailsWith PlistTooLarge events old new = IsTooLarge events × (new ≡ old)
-    FailsWith OutOfMemory events old new = new ≡ old
-    FailsWith kind events old new = ⊥
+    FailsAs PlistTooLarge events old new = IsTooLarge events × (new ≡ old)
+    FailsAs OutOfMemory events old new = new ≡ old
+    FailsAs kind events old new = ⊥
 
     -- what sending the file of whole events does
-    abbrev pub Sends : (events : List PlainEvent) → Answer → (old new : W) → Type 0
-    Sends events (Ok done) old new = SendsFile events old new
-    Sends events (Err fault) old new =
-        (fault.offset ≡ None) × FailsWith fault.kind events old new
+    abbrev pub SendsAs : (events : List PlainEvent) → Answer → (old new : W) → Type 0
+    SendsAs events (Ok done) old new = SendsFileAs events old new
+    SendsAs events (Err fault) old new =
+        (fault.offset ≡ None) × FailsAs fault.kind events old new

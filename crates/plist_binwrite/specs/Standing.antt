@@ -8,22 +8,22 @@ use Rattle.plist_base.specs.Trees.{Tree, Leaf, Array, Dictionary, Trees, NoTrees
 abbrev pub size : Tree → ℕ
 size t = length (shape t)
 
--- the events of t stand in es from place p on
+-- the events of t stand in es from index p on
 pub record Sits (es : List PlainEvent) (t : Tree) (p : ℕ) : Type 0 where
   pub rest : List PlainEvent
   pub is : drop p es ≡ shape t ++ rest
 
--- what an array still lists from place p on, with its end
+-- what an array still lists from index p on, with its end
 pub record SitsItems (es : List PlainEvent) (ts : Trees) (p : ℕ) : Type 0 where
   pub rest : List PlainEvent
   pub is : drop p es ≡ shape_of_items ts ++ EndCollection ∷ rest
 
--- what a dictionary still lists from place p on, with its end
+-- what a dictionary still lists from index p on, with its end
 pub record SitsPairs (es : List PlainEvent) (ms : Members) (p : ℕ) : Type 0 where
   pub rest : List PlainEvent
   pub is : drop p es ≡ shape_of_pairs ms ++ EndCollection ∷ rest
 
--- a tree and all that is in it, each with the place of its first event; a key is a text
+-- a tree and all that is in it, each with the index of its first event; a key is a text
 abbrev mutual
   pub met : Tree → ℕ → List (ℕ × Tree)
   met (Leaf scalar) p = (p, Leaf scalar) ∷ []

@@ -9,8 +9,8 @@ use crate::numbers::Numbers;
 use std::alloc::{AllocError, Global};
 use std::marker::Model;
 
-/// An event in its place: a start with the place behind its end, or behind itself as long as it has
-/// none; a scalar by its place among the different ones.
+/// A held event: a start with the index behind its end, or behind itself as long as it has none; a
+/// scalar by its index among the different ones.
 #[derive(Clone, Copy)]
 pub enum Entry {
     Array(usize),
@@ -38,7 +38,7 @@ fn number_in(entry: Entry) -> usize
     match entry {
         Entry::Array(behind) => behind,
         Entry::Dictionary(behind) => behind,
-        Entry::Scalar(place) => place,
+        Entry::Scalar(index) => index,
         Entry::End => 0,
     }
 }
@@ -55,14 +55,14 @@ fn entry_of(kind: Kind, number: usize) -> Entry
     }
 }
 
-// The entry with this place behind its end, if it is a start.
+// The entry with this index behind its end, if it is a start.
 fn closed(entry: Entry, behind: usize) -> Entry
     ensures { result ≡ closed_at entry behind }
 {
     match entry {
         Entry::Array(_) => Entry::Array(behind),
         Entry::Dictionary(_) => Entry::Dictionary(behind),
-        Entry::Scalar(place) => Entry::Scalar(place),
+        Entry::Scalar(index) => Entry::Scalar(index),
         Entry::End => Entry::End,
     }
 }
@@ -104,54 +104,54 @@ impl Entries {
         self.kinds.len()
     }
 
-    /// The kind of the entry at a place, of which its number isn't read.
-    pub fn kind_at(&self, place: usize) -> Kind
-        requires { place < length self.now }
-        ensures { result ≡ kind_in (entry_at self.now place) }
+    /// The kind of the entry at an index, of which its number isn't read.
+    pub fn kind_at(&self, index: usize) -> Kind
+        requires { index < length self.now }
+        ensures { result ≡ kind_in (entry_at self.now index) }
     {
-        self.kinds.as_slice()[place]
+        self.kinds.as_slice()[index]
     }
 
-    // The number of the entry at a place. That of an end means nothing.
-    fn number_at(&self, place: usize) -> usize
-        requires { place < length self.now }
-        ensures { IsEntryNumber self.now place result }
+    // The number of the entry at an index. That of an end means nothing.
+    fn number_at(&self, index: usize) -> usize
+        requires { index < length self.now }
+        ensures { IsEntryNumber self.now index result }
     {
-        self.numbers.get(place)
+        self.numbers.get(index)
     }
 
-    // The entry at a place.
-    fn get(&self, place: usize) -> Entry
-        requires { place < length self.now }
-        ensures { result ≡ entry_at self.now place }
+    // The entry at an index.
+    fn get(&self, index: usize) -> Entry
+        requires { index < length self.now }
+        ensures { result ≡ entry_at self.now index }
     {
-        entry_of(self.kind_at(place), self.number_at(place))
+        entry_of(self.kind_at(index), self.number_at(index))
     }
 
-    /// The place behind the tree that begins with the entry at a place.
-    pub fn behind(&self, place: usize) -> usize
-        requires within { place < length self.now }
-        requires small { place < 2 ^ 64 - 1 }
-        ensures { result ≡ behind_at self.now place }
+    /// The index behind the tree that begins with the entry at an index.
+    pub fn behind(&self, index: usize) -> usize
+        requires within { index < length self.now }
+        requires small { index < 2 ^ 64 - 1 }
+        ensures { result ≡ behind_at self.now index }
     {
-        match self.kind_at(place) {
-            Kind::Array => self.number_at(place),
-            Kind::Dictionary => self.number_at(place),
-            Kind::Scalar => place + 1,
-            Kind::End => place + 1,
+        match self.kind_at(index) {
+            Kind::Array => self.number_at(index),
+            Kind::Dictionary => self.number_at(index),
+            Kind::Scalar => index + 1,
+            Kind::End => index + 1,
         }
     }
 
-    /// The place among the different scalars of the one that the entry at a place names, if it
+    /// The index among the different scalars of the one that the entry at an index names, if it
     /// names one.
-    pub fn scalar(&self, place: usize) -> Option<usize>
-        requires { place < length self.now }
-        ensures { result ≡ scalar_named (entry_at self.now place) }
+    pub fn scalar(&self, index: usize) -> Option<usize>
+        requires { index < length self.now }
+        ensures { result ≡ scalar_named (entry_at self.now index) }
     {
-        match self.kind_at(place) {
+        match self.kind_at(index) {
             Kind::Array => None,
             Kind::Dictionary => None,
-            Kind::Scalar => Some(self.number_at(place)),
+            Kind::Scalar => Some(self.number_at(index)),
             Kind::End => None,
         }
     }
@@ -177,17 +177,17 @@ impl Entries {
     }
 
     // Puts another entry in the place of one.
-    fn set(&mut self, place: usize, entry: Entry) -> Result<(), AllocError>
-        requires { place < length self.old }
-        ensures set { OnOk result (self.new ≡ set self.old place entry) }
+    fn set(&mut self, index: usize, entry: Entry) -> Result<(), AllocError>
+        requires { index < length self.old }
+        ensures set { OnOk result (self.new ≡ set self.old index entry) }
         ensures unchanged { OnErr result (self.new ≡ self.old) }
     {
-        self.numbers.set(place, number_in(entry))?;
-        self.kinds[place] = kind_in(entry);
+        self.numbers.set(index, number_in(entry))?;
+        self.kinds[index] = kind_in(entry);
         Ok(())
     }
 
-    /// Appends an end, which closes the start at a place.
+    /// Appends an end, which closes the start at an index.
     pub fn close(&mut self, start: usize) -> Result<(), AllocError>
         requires { start < length self.old }
         ensures closed { OnOk result (self.new ≡ ended_at self.old start) }

@@ -63,38 +63,38 @@ impl<'e> Held<'e> {
         self.scalars.len()
     }
 
-    /// The kind of the event at a place.
-    pub fn kind_at(&self, place: usize) -> Kind
-        requires { place < length (plain_events self.now) }
-        ensures { result ≡ held_kind (held_at self.now place) }
+    /// The kind of the event at an index.
+    pub fn kind_at(&self, index: usize) -> Kind
+        requires { index < length (plain_events self.now) }
+        ensures { result ≡ held_kind (held_at self.now index) }
     {
-        self.entries.kind_at(place)
+        self.entries.kind_at(index)
     }
 
     /// Whether an item of a collection stands here, and not its end.
-    pub fn has_item(&self, place: usize) -> bool
-        ensures yes { result ≡ true → HasItem (plain_events self.now) place }
-        ensures no { result ≡ false → LacksItem (plain_events self.now) place }
+    pub fn has_item(&self, index: usize) -> bool
+        ensures yes { result ≡ true → HasItem (plain_events self.now) index }
+        ensures no { result ≡ false → LacksItem (plain_events self.now) index }
     {
-        if place >= self.len() {
+        if index >= self.len() {
             return false;
         }
-        match self.kind_at(place) {
+        match self.kind_at(index) {
             Kind::End => false,
             _ => true,
         }
     }
 
-    /// The place behind the tree that begins here.
-    pub fn skip(&self, place: usize) -> usize
-        requires { place < length (plain_events self.now) }
-        ensures forward { (place < result) × (result ≤ length (plain_events self.now)) }
-        ensures ends { EndsTree (plain_events self.now) place result }
+    /// The index behind the tree that begins here.
+    pub fn skip(&self, index: usize) -> usize
+        requires { index < length (plain_events self.now) }
+        ensures forward { (index < result) × (result ≤ length (plain_events self.now)) }
+        ensures ends { EndsTree (plain_events self.now) index result }
     {
-        self.entries.behind(place)
+        self.entries.behind(index)
     }
 
-    /// The place behind the pair whose key stands here.
+    /// The index behind the pair whose key stands here.
     pub fn skip_pair(&self, key: usize) -> usize
         requires { key < length (plain_events self.now) }
         ensures forward { (key < result) × (result ≤ length (plain_events self.now)) }
@@ -107,30 +107,30 @@ impl<'e> Held<'e> {
         self.skip(value)
     }
 
-    /// The place of the scalar here among the different ones, in the order in which they came.
-    pub fn scalar_place(&self, place: usize) -> Option<usize>
-        requires { place < length (plain_events self.now) }
-        ensures some { IfSome result (IsScalarAt self.now place) }
-        ensures leaf { IfSome result (λ _. is_leaf (held_at self.now place) ≡ true) }
-        ensures none { result ≡ None → is_leaf (held_at self.now place) ≡ false }
+    /// The index of the scalar here among the different ones, in the order in which they came.
+    pub fn scalar_index(&self, index: usize) -> Option<usize>
+        requires { index < length (plain_events self.now) }
+        ensures some { IfSome result (IsScalarAt self.now index) }
+        ensures leaf { IfSome result (λ _. is_leaf (held_at self.now index) ≡ true) }
+        ensures none { result ≡ None → is_leaf (held_at self.now index) ≡ false }
     {
-        match self.entries.scalar(place) {
+        match self.entries.scalar(index) {
             Some(scalar) => Some(scalar),
             None => None,
         }
     }
 
     /// The scalar here.
-    pub fn scalar_at(&self, place: usize) -> Option<&Event<'e>>
-        requires { place < length (plain_events self.now) }
-        ensures some { IfSome result (λ event. held_at self.now place ≡ plain_event event.now) }
-        ensures none { result ≡ None → is_leaf (held_at self.now place) ≡ false }
+    pub fn scalar_at(&self, index: usize) -> Option<&Event<'e>>
+        requires { index < length (plain_events self.now) }
+        ensures some { IfSome result (λ event. held_at self.now index ≡ plain_event event.now) }
+        ensures none { result ≡ None → is_leaf (held_at self.now index) ≡ false }
     {
-        let scalar = self.scalar_place(place)?;
+        let scalar = self.scalar_index(index)?;
         self.scalars.get_index(scalar)
     }
 
-    // Takes a start, with the place behind itself.
+    // Takes a start, with the index behind itself.
     fn start(&mut self, entry: Entry) -> Result<(), Error>
         requires starts { is_start entry ≡ true }
         requires behind { IsUnclosed (length (plain_events self.old)) entry }
@@ -139,9 +139,9 @@ impl<'e> Held<'e> {
         ensures memory { OnlyMemory result }
     {
         self.begun.reserve(1)?;
-        let place = self.entries.len();
+        let index = self.entries.len();
         self.entries.push(entry)?;
-        self.begun.push_reserved(place);
+        self.begun.push_reserved(index);
         Ok(())
     }
 
@@ -166,7 +166,7 @@ impl<'e> Held<'e> {
         }
     }
 
-    // Takes a scalar: the place of its equal among the different ones, or a new one. A new one is
+    // Takes a scalar: the index of its equal among the different ones, or a new one. A new one is
     // dropped again where there is no memory for its entry.
     fn scalar(&mut self, event: Event<'e>) -> Result<(), Error>
         requires { is_leaf (event_of event) ≡ true }
@@ -176,8 +176,8 @@ impl<'e> Held<'e> {
     {
         let before = self.scalars.len();
         match self.scalars.insert_full(event) {
-            Ok((place, _)) => {
-                match self.entries.push(Entry::Scalar(place)) {
+            Ok((index, _)) => {
+                match self.entries.push(Entry::Scalar(index)) {
                     Ok(()) => return Ok(()),
                     Err(error) => {
                         self.scalars.truncate(before);
@@ -190,7 +190,7 @@ impl<'e> Held<'e> {
     }
 
     /// Takes an event. A scalar that equals one of those held is dropped, and takes no memory but
-    /// that of its place.
+    /// that of its index.
     ///
     /// # Errors
     /// `OutOfMemory`, without an offset; the events held are the same then.
@@ -251,8 +251,8 @@ impl Held<'static> {
         ensures memory { OnlyMemory result }
     {
         match self.scalars.get_index_of(&event) {
-            Some(place) => {
-                self.entries.push(Entry::Scalar(place))?;
+            Some(index) => {
+                self.entries.push(Entry::Scalar(index))?;
                 return Ok(());
             }
             None => {

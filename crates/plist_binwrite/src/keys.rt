@@ -41,7 +41,7 @@ fn repeats_at(events: &Held<'_>, start: usize, stamps: &mut Vec<usize>) -> bool
     let mark = start + 1;
     let mut key = mark;
     'walk: while events.has_item(key) {
-        let Some(scalar) = events.scalar_place(key) else {
+        let Some(scalar) = events.scalar_index(key) else {
             return false;
         };
         if stamp(stamps, scalar, mark) {
@@ -62,8 +62,8 @@ pub fn repeats_key(alloc: Global, events: &Held<'_>) -> Result<bool, Error>
     ensures memory { OnlyMemory result }
 {
     let mut stamps = vec![in alloc; 0usize; events.count_scalars()]?;
-    for place in 0..events.len() {
-        if repeats_at(events, place, &mut stamps) {
+    for index in 0..events.len() {
+        if repeats_at(events, index, &mut stamps) {
             return Ok(true);
         }
     }

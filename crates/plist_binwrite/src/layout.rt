@@ -27,18 +27,18 @@ fn order_one(
     events: &Held<'_>,
     plan: &Plan,
     layout: &mut Layout,
-    place: usize,
+    index: usize,
 ) -> Result<(), AllocError>
     requires planned { IsPlanned (plain_events events.now) plan.now }
     requires order { IsOrder (count_of plan.now) layout.old.order layout.old.places }
     ensures order { OnOk result (IsOrder (count_of plan.now) layout.new.order layout.new.places) }
     ensures keeps { OnOk result (KeepsMarks layout.old.places layout.new.places) }
-    ensures marked { OnOk result (MarksItem events.now plan.now place layout.new.places) }
+    ensures marked { OnOk result (MarksItem events.now plan.now index layout.new.places) }
 {
-    if !events.has_item(place) {
+    if !events.has_item(index) {
         return Ok(());
     }
-    let number = plan.number(place);
+    let number = plan.number(index);
     if layout.places.get(number) != 0 {
         return Ok(());
     }
@@ -72,18 +72,18 @@ fn order_here(
     events: &Held<'_>,
     plan: &Plan,
     layout: &mut Layout,
-    place: usize,
+    index: usize,
 ) -> Result<(), AllocError>
     requires planned { IsPlanned (plain_events events.now) plan.now }
-    requires place { place < length (plain_events events.now) }
+    requires index { index < length (plain_events events.now) }
     requires order { IsOrder (count_of plan.now) layout.old.order layout.old.places }
     ensures order { OnOk result (IsOrder (count_of plan.now) layout.new.order layout.new.places) }
     ensures keeps { OnOk result (KeepsMarks layout.old.places layout.new.places) }
-    ensures marked { OnOk result (MarksItem events.now plan.now place layout.new.places) }
+    ensures marked { OnOk result (MarksItem events.now plan.now index layout.new.places) }
 {
-    order_one(events, plan, layout, place)?;
-    match events.kind_at(place) {
-        Kind::Dictionary => order_keys(events, plan, layout, place + 1),
+    order_one(events, plan, layout, index)?;
+    match events.kind_at(index) {
+        Kind::Dictionary => order_keys(events, plan, layout, index + 1),
         _ => Ok(()),
     }
 }
@@ -103,8 +103,8 @@ pub fn order_objects(alloc: Global, events: &Held<'_>, plan: &Plan) -> Result<La
     let places = Numbers::zeros(alloc, count)?;
     let order = Numbers::new(alloc);
     let mut layout = Layout { order, places };
-    for place in 0..events.len() {
-        order_here(events, plan, &mut layout, place)?;
+    for index in 0..events.len() {
+        order_here(events, plan, &mut layout, index)?;
     }
     Ok(layout)
 }

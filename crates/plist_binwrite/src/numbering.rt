@@ -18,7 +18,7 @@ struct Classed<'p> {
     classes: &'p Numbers,
 }
 
-// The numbers so far: by class, by event, and by number the place of its first event.
+// The numbers so far: by class, by event, and by number the index of its first event.
 #[derive(Drop)]
 struct Numbered {
     ids: Numbers,
@@ -27,30 +27,30 @@ struct Numbered {
 }
 
 // Numbers the object of the event here, unless it has a number.
-fn number_one(given: &Classed<'_>, found: &mut Numbered, place: usize) -> Result<(), AllocError>
+fn number_one(given: &Classed<'_>, found: &mut Numbered, index: usize) -> Result<(), AllocError>
     requires so_far { GoesSoFar given.now found.old }
     ensures plan { OnOk result (IsPlanOf given.now found.new) }
     ensures ids { OnOk result (HaveIdsOf given.now found.new) }
     ensures keeps { OnOk result (KeepsNumbers found.old found.new) }
-    ensures numbered { OnOk result (NumbersItem given.now place found.new) }
-    ensures first { OnOk result (BeginsAt given.now place found.old found.new) }
+    ensures numbered { OnOk result (NumbersItem given.now index found.new) }
+    ensures first { OnOk result (BeginsAt given.now index found.old found.new) }
 {
-    if !given.events.has_item(place) {
+    if !given.events.has_item(index) {
         return Ok(());
     }
-    if found.numbers.get(place) < found.firsts.len() {
+    if found.numbers.get(index) < found.firsts.len() {
         return Ok(());
     }
-    let class = given.classes.get(place);
+    let class = given.classes.get(index);
     let number = found.ids.get(class);
     if number < found.firsts.len() {
-        found.numbers.set(place, number)?;
+        found.numbers.set(index, number)?;
         return Ok(());
     }
     let count = found.firsts.len();
-    found.firsts.push(place)?;
+    found.firsts.push(index)?;
     found.ids.set(class, count)?;
-    found.numbers.set(place, count)?;
+    found.numbers.set(index, count)?;
     Ok(())
 }
 
@@ -61,10 +61,10 @@ fn number_items(given: &Classed<'_>, found: &mut Numbered, from: usize) -> Resul
     ensures keeps { OnOk result (KeepsNumbers found.old found.new) }
     ensures numbered { OnOk result (NumbersItems given.now from found.new) }
 {
-    let mut place = from;
-    'walk: while given.events.has_item(place) {
-        number_one(given, found, place)?;
-        place = given.events.skip(place);
+    let mut index = from;
+    'walk: while given.events.has_item(index) {
+        number_one(given, found, index)?;
+        index = given.events.skip(index);
     }
     Ok(())
 }
@@ -83,8 +83,8 @@ fn number_halves(
 {
     let mut key = from;
     'walk: while given.events.has_item(key) {
-        let place = half_of(key, key + 1, values);
-        number_one(given, found, place)?;
+        let index = half_of(key, key + 1, values);
+        number_one(given, found, index)?;
         key = given.events.skip_pair(key);
     }
     Ok(())
@@ -94,16 +94,16 @@ fn number_halves(
 fn number_children(
     given: &Classed<'_>,
     found: &mut Numbered,
-    place: usize,
+    index: usize,
 ) -> Result<(), AllocError>
     requires so_far { GoesSoFar given.now found.old }
-    requires place { place < length (plain_events given.now.events.now) }
+    requires index { index < length (plain_events given.now.events.now) }
     ensures so_far { OnOk result (GoesSoFar given.now found.new) }
     ensures keeps { OnOk result (KeepsNumbers found.old found.new) }
-    ensures numbered { OnOk result (NumbersChildren given.now place found.new) }
+    ensures numbered { OnOk result (NumbersChildren given.now index found.new) }
 {
-    let inside = place + 1;
-    match given.events.kind_at(place) {
+    let inside = index + 1;
+    match given.events.kind_at(index) {
         Kind::Array => number_items(given, found, inside),
         Kind::Dictionary => {
             number_halves(given, found, inside, false)?;
@@ -114,7 +114,7 @@ fn number_children(
     }
 }
 
-/// The number of each held event's object, and by number the place of the first event of that
+/// The number of each held event's object, and by number the index of the first event of that
 /// object.
 #[derive(Drop)]
 pub struct Numbering {
@@ -150,8 +150,8 @@ pub fn number_by_class(
         firsts,
     };
     number_one(&given, &mut found, 0)?;
-    for place in 0..events.len() {
-        number_children(&given, &mut found, place)?;
+    for index in 0..events.len() {
+        number_children(&given, &mut found, index)?;
     }
     let Numbered {
         numbers,

@@ -23,14 +23,14 @@ fn put_items<W: Write>(
     requires file { CanPut file.now }
     ensures { PutsItems W.contents out.old room.old file.now from result out.new room.new }
 {
-    let mut place = from;
-    'walk: while file.events.has_item(place) {
-        let number = file.plan.number(place);
+    let mut index = from;
+    'walk: while file.events.has_item(index) {
+        let number = file.plan.number(index);
         match put_number(out, room, file.width, number as u64) {
             Ok(()) => {}
             Err(error) => return Err(error),
         }
-        place = file.events.skip(place);
+        index = file.events.skip(index);
     }
     Ok(())
 }
@@ -66,15 +66,15 @@ fn put_array<W: Write>(
     out: &mut W,
     room: &mut Vec<u8>,
     file: &Planned<'_>,
-    place: usize,
+    index: usize,
 ) -> Result<(), Error>
     requires file { CanPut file.now }
-    requires place { place < length (events_in file.now) }
-    ensures { PutsArray W.contents out.old room.old file.now place result out.new room.new }
+    requires index { index < length (events_in file.now) }
+    ensures { PutsArray W.contents out.old room.old file.now index result out.new room.new }
 {
-    let count = count_items(file.events, place + 1) as u64;
+    let count = count_items(file.events, index + 1) as u64;
     match put_length(out, room, 0xa, count) {
-        Ok(()) => put_items(out, room, file, place + 1),
+        Ok(()) => put_items(out, room, file, index + 1),
         Err(error) => Err(error),
     }
 }
@@ -83,19 +83,19 @@ fn put_dictionary<W: Write>(
     out: &mut W,
     room: &mut Vec<u8>,
     file: &Planned<'_>,
-    place: usize,
+    index: usize,
 ) -> Result<(), Error>
     requires file { CanPut file.now }
-    requires place { place < length (events_in file.now) }
-    ensures { PutsDictionary W.contents out.old room.old file.now place result out.new room.new }
+    requires index { index < length (events_in file.now) }
+    ensures { PutsDictionary W.contents out.old room.old file.now index result out.new room.new }
 {
-    let count = count_items(file.events, place + 1) as u64;
+    let count = count_items(file.events, index + 1) as u64;
     match put_length(out, room, 0xd, count / 2) {
         Ok(()) => {}
         Err(error) => return Err(error),
     }
-    match put_halves(out, room, file, place + 1, false) {
-        Ok(()) => put_halves(out, room, file, place + 1, true),
+    match put_halves(out, room, file, index + 1, false) {
+        Ok(()) => put_halves(out, room, file, index + 1, true),
         Err(error) => Err(error),
     }
 }
@@ -105,16 +105,16 @@ fn put_object<W: Write>(
     out: &mut W,
     room: &mut Vec<u8>,
     file: &Planned<'_>,
-    place: usize,
+    index: usize,
 ) -> Result<(), Error>
     requires file { CanPut file.now }
-    requires place { place < length (events_in file.now) }
-    ensures { PutsObject W.contents out.old room.old file.now place result out.new room.new }
+    requires index { index < length (events_in file.now) }
+    ensures { PutsObject W.contents out.old room.old file.now index result out.new room.new }
 {
-    match file.events.kind_at(place) {
-        Kind::Array => put_array(out, room, file, place),
-        Kind::Dictionary => put_dictionary(out, room, file, place),
-        _ => match file.events.scalar_at(place) {
+    match file.events.kind_at(index) {
+        Kind::Array => put_array(out, room, file, index),
+        Kind::Dictionary => put_dictionary(out, room, file, index),
+        _ => match file.events.scalar_at(index) {
             Some(scalar) => put_scalar(out, room, scalar),
             None => Ok(()),
         },

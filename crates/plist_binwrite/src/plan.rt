@@ -20,14 +20,14 @@ pub struct Plan {
 
 impl Plan {
     /// The number of the object of the event here.
-    pub fn number(&self, place: usize) -> usize
-        requires { place < length (numbers_of self.now) }
-        ensures { result ≡ num_of (numbers_of self.now) place }
+    pub fn number(&self, index: usize) -> usize
+        requires { index < length (numbers_of self.now) }
+        ensures { result ≡ num_of (numbers_of self.now) index }
     {
-        self.numbering.numbers.get(place)
+        self.numbering.numbers.get(index)
     }
 
-    /// The place of the first event of an object.
+    /// The index of the first event of an object.
     pub fn first(&self, number: usize) -> usize
         requires { number < length (firsts_of self.now) }
         ensures { result ≡ num_of (firsts_of self.now) number }

@@ -23,32 +23,32 @@ pub fn count_items(events: &Held<'_>, from: usize) -> usize
     ensures small { result < 2 ^ 64 }
 {
     let mut count = 0;
-    let mut place = from;
-    'walk: while events.has_item(place) {
+    let mut index = from;
+    'walk: while events.has_item(index) {
         count += 1;
-        place = events.skip(place);
+        index = events.skip(index);
     }
     count
 }
 
 // The size of the object of the tree that begins here.
-fn size_of_object(file: &Planned<'_>, place: usize) -> Option<u64>
+fn size_of_object(file: &Planned<'_>, index: usize) -> Option<u64>
     requires planned { IsPlanned (events_in file.now) file.now.plan.now }
-    requires place { place < length (events_in file.now) }
+    requires index { index < length (events_in file.now) }
     requires fits { count_of file.now.plan.now ≤ 256 ^ file.now.width }
-    ensures size { TellsSizeAt file.now place result }
-    ensures writable { IsWritableAt file.now place }
+    ensures size { TellsSizeAt file.now index result }
+    ensures writable { IsWritableAt file.now index }
 {
-    match file.events.kind_at(place) {
+    match file.events.kind_at(index) {
         Kind::Array => {
-            let count = count_items(file.events, place + 1) as u64;
+            let count = count_items(file.events, index + 1) as u64;
             length_of_collection(count, count, file.width as u64)
         }
         Kind::Dictionary => {
-            let count = count_items(file.events, place + 1) as u64;
+            let count = count_items(file.events, index + 1) as u64;
             length_of_collection(count / 2, count, file.width as u64)
         }
-        _ => match file.events.scalar_at(place) {
+        _ => match file.events.scalar_at(index) {
             Some(scalar) => length_of_scalar(scalar),
             None => Some(0),
         },

@@ -21,7 +21,7 @@ use Rattle.plist.specs.Views.{tree_of}
 use Rattle.plist_keyed.specs.declared.walk.Walk.{Walk}
 use Rattle.plist_keyed.specs.Archives.{UidOutOfRange, RecursiveUid}
 use Rattle.plist_keyed.specs.inner.Walks.{Step, told, items_of_steps, steps_of_event, steps_of_events, steps_found, steps_at}
-use Rattle.plist_keyed.specs.inner.Owing.{FailsAt, WalkIsKept, IsOpened, IsWalk, follow, follow_in, items_at, levels_of, objects_seen, owed, owed_by, path_of, uid_of_event}
+use Rattle.plist_keyed.specs.inner.Owing.{FailsAt, WalkIsKept, IsOpened, IsWalk, follow, follow_in, items_at, levels_of, objects_seen, owed, steps_owed_by, open_uids, uid_of_event}
 
 -- a key that isn't there goes last
 pub added : (keys new : List ℕ) (uid : ℕ) → new ≡ insert_key nat_eq keys uid
@@ -87,15 +87,15 @@ module _ (objects : List (List PlainEvent)) where
   opened : (levels : List Events) (path : List ℕ) (uid : ℕ) (level : Events)
       (es : List PlainEvent) → IsPath (length objects) path → slice_get objects uid ≡ Some es
       → list_any (nat_eq uid) path ≡ false → remaining_events level ≡ es
-      → follow_in objects path uid ++ owed_by objects levels path ≡ None
-      ∷ owed_by objects (level ∷ levels) (uid ∷ path)
+      → follow_in objects path uid ++ steps_owed_by objects levels path ≡ None
+      ∷ steps_owed_by objects (level ∷ levels) (uid ∷ path)
   opened levels path uid level es o at new left =
       let room = length objects - suc (length path) in
       let fits = path_rises uid o (slice_get_within objects uid es at) new in
       let e : length objects - length path ≡ suc room = omega (arith, fits) in
       rw (e, opened_at room path uid es at new, left) (ap (λ l. None ∷ l)
       (append_assoc (steps_of_events (steps_at objects room (uid ∷ path)) es) (None ∷ [])
-      (owed_by objects levels path)))
+      (steps_owed_by objects levels path)))
 
   -- a step is there, whatever a Uid finds
   found_some : (found : Option (List PlainEvent)) (is_open : Bool) (uid : ℕ)
@@ -113,8 +113,8 @@ module _ (objects : List (List PlainEvent)) where
   -- the next event of an open place is taken
   takes : (left after : Events) (below : List Events) (path : List ℕ) (e : PlainEvent)
       → length (left ∷ below) ≡ length path → remaining_events left ≡ e ∷ remaining_events after
-      → owed_by objects (left ∷ below) path ≡ steps_of_event (follow_in objects path) e
-      ++ owed_by objects (after ∷ below) path
+      → steps_owed_by objects (left ∷ below) path ≡ steps_of_event (follow_in objects path) e
+      ++ steps_owed_by objects (after ∷ below) path
   takes left after below [] e n is = absurd (omega (arith, n))
   takes left after below (uid ∷ path) e n is =
       rw is (append_assoc (steps_of_event (follow_in objects (uid ∷ path)) e) _ _)
@@ -123,20 +123,20 @@ module _ (objects : List (List PlainEvent)) where
 pub missing : (walk : Walk) (uid : ℕ) (fault : Fault) → fault ≡ told (UidOutOfRange uid)
     → slice_get (objects_seen walk.objects.now) uid ≡ None → FailsAt (follow walk uid) fault
 missing walk uid fault e none =
-    rw e (out_of_range (objects_seen walk.objects.now) _ (path_of walk) uid none)
+    rw e (out_of_range (objects_seen walk.objects.now) _ (open_uids walk) uid none)
 
 -- the object is open
 pub open_already : (walk : Walk) (uid : ℕ) (es : List PlainEvent) (fault : Fault)
     → fault ≡ told (RecursiveUid uid) → slice_get (objects_seen walk.objects.now) uid ≡ Some es
     → list_any (nat_eq uid) walk.path.keys ≡ true → FailsAt (follow walk uid) fault
 open_already walk uid es fault e at on =
-    rw e (recursive (objects_seen walk.objects.now) _ (path_of walk) uid es at
+    rw e (recursive (objects_seen walk.objects.now) _ (open_uids walk) uid es at
     (any_reversed (nat_eq uid) walk.path.keys ∙ on))
 
 module _ (old new : Walk) (uid : ℕ) (object : Value) (o : IsWalk old)
     (at : slice_get (objects_seen old.objects.now) uid ≡ Some (bracketing (tree_of object)))
     (off : list_any (nat_eq uid) old.path.keys ≡ false) where
-  off_path : list_any (nat_eq uid) (path_of old) ≡ false
+  off_path : list_any (nat_eq uid) (open_uids old) ≡ false
   off_path = any_reversed (nat_eq uid) old.path.keys ∙ off
 
   pub entered-walk : {A : Type 0} (r : Result A Error) → OnOk r (IsOpened old uid object new)
@@ -150,7 +150,7 @@ module _ (old new : Walk) (uid : ℕ) (object : Value) (o : IsWalk old)
       → OnOk r (follow old uid ++ owed old ≡ None ∷ owed new)
   entered-owes (Ok a) (same, keys, (level, items, is)) =
       rw (same, keys, reverse-snoc old.path.keys uid, items, reverse-snoc old.levels.items level)
-      (opened (objects_seen old.objects.now) (levels_of old) (path_of old) uid level _ o.0 at
+      (opened (objects_seen old.objects.now) (levels_of old) (open_uids old) uid level _ o.0 at
       off_path is)
   entered-owes (Err e) h = tt
 
@@ -170,7 +170,7 @@ pub refuses : (old new : Walk) (e : PlainEvent) (uid : ℕ) (fault : Fault) → 
     ∷ owed new)
 refuses old new e uid fault is same h =
     let some : 0 < length (follow old uid) = some_step (objects_seen old.objects.now) _
-    (path_of old) uid in
+    (open_uids old) uid in
     rw (uid_steps (follow old) e uid is, same) (
       rw (length-append (follow old uid) (owed old)) (omega (arith, some)),
       MatchFault-weaker fault.kind (λ a. a) (λ a. a) (λ p. ap (λ l. l ++ owed old) p) h,
@@ -181,12 +181,13 @@ pub taken-owes : (walk : Walk) (items below : List Events) (left after : Events)
     → IsWalk walk → walk.levels.items ≡ below ++ left ∷ [] → items ≡ below ++ after ∷ []
     → remaining_events left ≡ e ∷ remaining_events after
     → owed walk ≡ steps_of_event (follow walk) e
-    ++ owed_by (objects_seen walk.objects.now) (reverse items) (path_of walk)
+    ++ steps_owed_by (objects_seen walk.objects.now) (reverse items) (open_uids walk)
 taken-owes walk items below left after e o had has is =
-    let owes = λ (l : List Events). owed_by (objects_seen walk.objects.now) l (path_of walk) in
+    let owes = λ (l : List Events).
+    steps_owed_by (objects_seen walk.objects.now) l (open_uids walk) in
     let first : levels_of walk ≡ left ∷ reverse below = ap reverse had ∙ reverse-snoc below left in
     ap owes first
-    ∙ takes (objects_seen walk.objects.now) left after (reverse below) (path_of walk) e
+    ∙ takes (objects_seen walk.objects.now) left after (reverse below) (open_uids walk) e
     (sym (ap length first) ∙ o.1) is
     ∙ ap (λ l. steps_of_event (follow walk) e ++ owes l)
     (sym (ap reverse has ∙ reverse-snoc below after))

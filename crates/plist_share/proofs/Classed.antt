@@ -11,7 +11,7 @@ module _ (es : List PlainEvent) (class : ℕ → ℕ)
     (told : (t : Tree) (p q : ℕ) → Sits es t p → Sits es t q → obj_of class t p ≡ obj_of class t q
     → class p ≡ class q) where
   mutual
-    -- places of one tree have one class
+    -- indices of one tree have one class
     pub complete : (t : Tree) (p q : ℕ) → Sits es t p → Sits es t q → class p ≡ class q
     complete (Leaf x) p q s r = told (Leaf x) p q s r refl
     complete (Array ts) p q s r =

@@ -10,7 +10,7 @@ use Rattle.plist_binread.specs.Object as obj
 use Rattle.plist_binread.specs.Object.{dictionary}
 use Rattle.plist_binwrite.specs.Classes.{AreClasses}
 use Rattle.plist_binwrite.specs.Forms.{keys_of, values_of}
-use Rattle.plist_binwrite.specs.Held.{item_places, key_places, value_places, keys_in, values_in, held_kind, event_at, num_of}
+use Rattle.plist_binwrite.specs.Held.{item_indices, key_indices, value_indices, keys_in, values_in, held_kind, event_at, num_of}
 use Rattle.plist_binwrite.specs.Numberings.{pairs, obj_of}
 use Rattle.plist_binwrite.specs.Standing.{Sits}
 use Rattle.plist_binwrite.specs.declared.kinds.Kind.TheVariants as kind
@@ -22,13 +22,13 @@ use Rattle.plist_binwrite.proofs.Placed.{refs_are, keys_are, values_are}
 use Rattle.plist_binwrite.proofs.Reading.{dictionary_is, length-keys_of, length-values_of}
 use Rattle.plist_binwrite.proofs.Skipping.{stands_single, starts_array, starts_dictionary, sits_in}
 use Rattle.plist_share.proofs.Classed.{complete}
-use Rattle.plist_share.specs.inner.Keys.{Key, is_dictionary, IsIndexed, IsClass, HaveClasses, Extends, TellTrees}
+use Rattle.plist_share.specs.inner.Keys.{Key, is_dictionary, IsIndexed, IsClass, HaveTreeClasses, Extends, TellTrees}
 
 -- ---- a dictionary's pairs by their keys and their values, and the other way
 
 same_pairs : (class : ℕ → ℕ) (ms ns : Members) (p q : ℕ)
-    → map class (key_places ms p) ++ map class (value_places ms p)
-    ≡ map class (key_places ns q) ++ map class (value_places ns q)
+    → map class (key_indices ms p) ++ map class (value_indices ms p)
+    ≡ map class (key_indices ns q) ++ map class (value_indices ns q)
     → obj.Dictionary (pairs class ms p) ≡ obj.Dictionary (pairs class ns q)
 same_pairs class ms ns p q e =
     let a = pairs _ ms p in
@@ -49,16 +49,16 @@ same_pairs class ms ns p q e =
     sym (dictionary_is a) ∙ (λ i. dictionary (many i) (all i)) ∙ dictionary_is b
 
 same_halves : (f g : ℕ → ℕ) (ms : Members) (p q : ℕ) → pairs f ms p ≡ pairs g ms q
-    → map f (key_places ms p) ++ map f (value_places ms p)
-    ≡ map g (key_places ms q) ++ map g (value_places ms q)
+    → map f (key_indices ms p) ++ map f (value_indices ms p)
+    ≡ map g (key_indices ms q) ++ map g (value_indices ms q)
 same_halves f g ms p q e = λ i.
     (sym (keys_are f ms p) ∙ ap keys_of e ∙ keys_are g ms q) i
     ++ (sym (values_are f ms p) ∙ ap values_of e ∙ values_are g ms q) i
 
--- ---- all places have their classes
+-- ---- all indices have their classes
 
 module _ {es : List PlainEvent} {scalar class : ℕ → ℕ} {count : ℕ} {keys : List Key} {from : ℕ}
-    (owners : AreOwners es scalar count) (have : HaveClasses class count scalar es keys from)
+    (owners : AreOwners es scalar count) (have : HaveTreeClasses class count scalar es keys from)
     (none : from ≡ 0) where
   all : (t : Tree) (p : ℕ) → Sits es t p → IsClass class count scalar keys t p (class p)
   all t p s = have.behind t p (omega arith) s
@@ -69,7 +69,7 @@ module _ {es : List PlainEvent} {scalar class : ℕ → ℕ} {count : ℕ} {keys
       let h = class_owner owners _ _ p q s r (sym (all _ p s) ∙ e ∙ all _ q r) in
       cc
 
-  -- the place has this key's class
+  -- the index has this key's class
   abbrev At : Key → ℕ → Type 0
   At k p = (i : ℕ) × (class p ≡ count + i) × (slice_get keys i ≡ Some k)
 
@@ -133,11 +133,11 @@ module _ {es : List PlainEvent} {scalar class : ℕ → ℕ} {count : ℕ} {keys
       λ e. complete es class told t p q s (rw e r),
     )
 
--- ---- one more place
+-- ---- one more index
 
 module _ (class after : ℕ → ℕ) (lo : ℕ) (agree : (q : ℕ) → lo ≤ q → after q ≡ class q) where
   items_agree : (ts : Trees) (q : ℕ) → lo ≤ q
-      → map after (item_places ts q) ≡ map class (item_places ts q)
+      → map after (item_indices ts q) ≡ map class (item_indices ts q)
   items_agree NoTrees q h = refl
   items_agree (TreeAnd t ts) q h =
       let a = agree q h in let r = items_agree ts _ (omega arith) in λ i. a i ∷ r i
@@ -204,12 +204,12 @@ module _ (classes : List ℕ) (p c : ℕ) where
   other q h = get_or-set_other _ p q c 0 h
 
   pub collection_written : {es : List PlainEvent} {scalar : ℕ → ℕ} {count : ℕ} {keys new : List Key}
-      → HaveClasses (num_of classes) count scalar es keys (p + 1)
+      → HaveTreeClasses (num_of classes) count scalar es keys (p + 1)
       → Extends keys new → p < length classes → c < count + length new
       → held_kind (event_at es p) ≢ kind.Scalar
       → ((t : Tree) → Sits es t p
       → IsIndexed (num_of classes) count new (is_dictionary (held_kind (event_at es p))) t p c)
-      → HaveClasses after count scalar es new p
+      → HaveTreeClasses after count scalar es new p
   collection_written {es} {scalar} {count} {keys} {new} old more lt low k this = record {
     behind = λ t q le s. at_set classes p c 0 q (IsClass after count scalar new t q) lt
         (λ e. subst (λ r. Sits es t r → IsClass after count scalar new t r c) (sym e)
@@ -233,7 +233,8 @@ module _ (classes : List ℕ) (p c : ℕ) where
 -- where no collection begins, the classes are there
 pub none_written : {es : List PlainEvent} {scalar class : ℕ → ℕ} {count : ℕ} {keys : List Key}
     (p : ℕ) → held_kind (event_at es p) ≢ kind.Array → held_kind (event_at es p) ≢ kind.Dictionary
-    → HaveClasses class count scalar es keys (p + 1) → HaveClasses class count scalar es keys p
+    → HaveTreeClasses class count scalar es keys (p + 1)
+    → HaveTreeClasses class count scalar es keys p
 none_written {es} {scalar} {class} {count} {keys} p a d old = record {
   behind = λ t q le s. elim (eqb_tells q p) [
     | inl e ↦ subst (λ r. Sits es t r → IsClass class count scalar keys t r (class r)) (sym e.1)

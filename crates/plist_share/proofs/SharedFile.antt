@@ -8,13 +8,13 @@ use Rattle.plist_binwrite.specs.Classes.{IsFileBy, size_by, SendsBy}
 use Rattle.plist_binwrite.specs.declared.held.Held.{Held}
 use Rattle.plist_binwrite.specs.Held.{plain_events}
 use Rattle.plist_binwrite.specs.Standing.{Sits}
-use Rattle.plist_binwrite.proofs.Sends.{sends_as}
+use Rattle.plist_binwrite.proofs.SendingFiles.{sends_as}
 use Rattle.plist_binwrite.proofs.Sitting.{sits_whole}
 use Rattle.plist_binwrite.proofs.Unhinted.{plain_shape}
 use Rattle.plist_share.specs.inner.Keys.{TellTrees}
 use Rattle.plist_share.specs.SharedFiles.{IsSharedFileOf}
 use Rattle.plist_share.specs.SharedSizes.{shared_file_size}
-use Rattle.plist_share.specs.Sharing.{Sends}
+use Rattle.plist_share.specs.Sharing.{SendsShared}
 use Rattle.plist_share.proofs.Shares.{shared_file, size_is}
 
 module _ {W : Type 0} (contents : W → Option (List ℕ)) (events : Held) (class : ℕ → ℕ)
@@ -24,7 +24,7 @@ module _ {W : Type 0} (contents : W → Option (List ℕ)) (events : Held) (clas
 
   pub sends_shared : (answer : Answer) (old new : W)
       → SendsBy class contents (plain_events events) answer old new
-      → Sends contents (plain_events events) answer old new
+      → SendsShared contents (plain_events events) answer old new
   sends_shared answer old new s =
       sends_as (IsFileBy class) IsSharedFileOf (size_by class) shared_file_size
       (plain_events events) (plain_events events) refl
@@ -35,6 +35,6 @@ module _ {W : Type 0} (contents : W → Option (List ℕ)) (events : Held) (clas
 -- where memory was refused before anything was planned, nothing went out
 pub sends_nothing : {W : Type 0} (contents : W → Option (List ℕ)) (events : Held)
     (fault : Fault) (old new : W) → fault ≡ fault_nowhere OutOfMemory → new ≡ old
-    → Sends contents (plain_events events) (Err fault) old new
+    → SendsShared contents (plain_events events) (Err fault) old new
 sends_nothing contents events fault old new is same =
     rw is (refl, same)

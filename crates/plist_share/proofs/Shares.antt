@@ -7,7 +7,7 @@ use Rattle.plist_base.specs.Events.{PlainEvent}
 use Rattle.plist_base.specs.Trees.{Tree, Leaf, Array, Dictionary, Trees, NoTrees, TreeAnd, Members, NoMembers, MemberAnd, String}
 use Rattle.plist_binwrite.specs.Classes.{same_class, kept, count_by, objects_by, size_by, IsFileBy}
 use Rattle.plist_binwrite.specs.Sizes.{total, size_with}
-use Rattle.plist_binwrite.specs.Standing.{size, Sits, met, met_in_items, met_in_pairs}
+use Rattle.plist_binwrite.specs.Standing.{Sits, met, met_in_items, met_in_pairs}
 use Rattle.plist_binwrite.specs.Written.{reference_width}
 use Rattle.plist_binwrite.proofs.Inside.{Stands, met_stand}
 use Rattle.plist_binwrite.proofs.Uniques.{unique_seen}

@@ -2,7 +2,7 @@
 -- No file of the same events has fewer objects, whatever it shares.
 use Rattle.std.specs.Prelude.{◌≡◌, ℕ, ◌^◌, ◌<◌, List, length}
 use Rattle.plist_base.specs.Trees.{Tree}
-use Rattle.plist_binwrite.specs.Counts.{HasObjects}
+use Rattle.plist_binwrite.specs.ObjectCounts.{HasObjects}
 use Rattle.plist_binwrite.specs.Written.{IsWrittenAs}
 use Rattle.plist_share.specs.Distinct.{distinct_subtrees, IsLeastOfAll}
 use Rattle.plist_share.specs.SharedSizes.{shared_file_size}

@@ -8,6 +8,6 @@ use Rattle.plist_share.specs.SharedSizes.{shared_file_size}
 
 module _ {W : Type 0} (contents : W → Option (List ℕ)) where
   -- what sending the shared file of whole events does
-  abbrev pub Sends : (events : List PlainEvent) → Answer → (old new : W) → Type 0
-  Sends events answer old new =
-      any.Sends IsSharedFileOf shared_file_size contents events answer old new
+  abbrev pub SendsShared : (events : List PlainEvent) → Answer → (old new : W) → Type 0
+  SendsShared events answer old new =
+      any.SendsAs IsSharedFileOf shared_file_size contents events answer old new

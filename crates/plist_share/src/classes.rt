@@ -12,7 +12,7 @@ use plist_base::{Error, ErrorKind};
 use plist_binwrite::Held;
 use plist_binwrite::children::children;
 use plist_binwrite::classes::{Classes, classes_of};
-use plist_binwrite::kinds::{Kind, push_place};
+use plist_binwrite::kinds::{Kind, push_index};
 use plist_binwrite::numbers::Numbers;
 use std::alloc::Global;
 
@@ -23,9 +23,9 @@ pub struct Collection {
     pub children: Vec<usize>,
 }
 
-// The places of a collection's keys and values; its room serves one collection after the other.
+// The indices of a collection's keys and values; its room serves one collection after the other.
 #[derive(Drop)]
-pub struct Places {
+pub struct Indices {
     pub keys: Vec<usize>,
     pub values: Vec<usize>,
 }
@@ -44,14 +44,14 @@ fn index_of(seen: &mut IndexSet<Collection>, collection: Collection) -> Result<u
     }
 }
 
-// Appends the classes of the events at these places.
-fn push_classes(found: &mut Vec<usize>, classes: &Numbers, places: &[usize]) -> Result<(), Error>
-    requires { AllBelow (length classes.now) places.now }
-    ensures pushed { OnOk result (AddsClasses found.old classes.now places.now found.new) }
+// Appends the classes of the events at these indices.
+fn push_classes(found: &mut Vec<usize>, classes: &Numbers, indices: &[usize]) -> Result<(), Error>
+    requires { AllBelow (length classes.now) indices.now }
+    ensures pushed { OnOk result (AddsClasses found.old classes.now indices.now found.new) }
     ensures memory { OnlyMemory result }
 {
-    for place in places {
-        push_place(found, classes.get(*place))?;
+    for index in indices {
+        push_index(found, classes.get(*index))?;
     }
     Ok(())
 }
@@ -61,27 +61,27 @@ fn classes_within(
     alloc: Global,
     events: &Held<'_>,
     classes: &Numbers,
-    place: usize,
-    places: &mut Places,
+    index: usize,
+    indices: &mut Indices,
 ) -> Result<Vec<usize>, Error>
-    requires place { place < length (plain_events events.now) }
+    requires index { index < length (plain_events events.now) }
     requires long { length classes.now ≡ length (plain_events events.now) }
-    ensures classes { IfOk result (AreClassesWithin events.now classes.now place) }
+    ensures classes { IfOk result (AreClassesWithin events.now classes.now index) }
     ensures memory { OnlyMemory result }
 {
-    children(events, place, &mut places.keys, &mut places.values)?;
+    children(events, index, &mut indices.keys, &mut indices.values)?;
     let mut found = Vec::new(alloc);
-    push_classes(&mut found, classes, places.keys.as_slice())?;
-    push_classes(&mut found, classes, places.values.as_slice())?;
+    push_classes(&mut found, classes, indices.keys.as_slice())?;
+    push_classes(&mut found, classes, indices.values.as_slice())?;
     Ok(found)
 }
 
 // Whether a dictionary begins here.
-fn begins_dictionary(events: &Held<'_>, place: usize) -> bool
-    requires { place < length (plain_events events.now) }
-    ensures { result ≡ is_dictionary (held_kind (held_at events.now place)) }
+fn begins_dictionary(events: &Held<'_>, index: usize) -> bool
+    requires { index < length (plain_events events.now) }
+    ensures { result ≡ is_dictionary (held_kind (held_at events.now index)) }
 {
-    match events.kind_at(place) {
+    match events.kind_at(index) {
         Kind::Dictionary => true,
         _ => false,
     }
@@ -94,25 +94,25 @@ fn class_of_collection(
     events: &Held<'_>,
     classes: &Numbers,
     base: usize,
-    place: usize,
-    places: &mut Places,
+    index: usize,
+    indices: &mut Indices,
     seen: &mut IndexSet<Collection>,
 ) -> Result<usize, Error>
-    requires place { place < length (plain_events events.now) }
+    requires index { index < length (plain_events events.now) }
     requires long { length classes.now ≡ length (plain_events events.now) }
-    ensures class { IfOk result (IsClassAt events.now classes.now base seen.new.keys place) }
+    ensures class { IfOk result (IsClassAt events.now classes.now base seen.new.keys index) }
     ensures below { IfOk result (λ class. class < base + length (keys_seen seen.new.keys)) }
     ensures extends { OnOk result (Extends (keys_seen seen.old.keys) (keys_seen seen.new.keys)) }
     ensures apart { OnOk result (AreApart (keys_seen seen.new.keys)) }
     ensures memory { OnlyMemory result }
 {
-    let children = classes_within(alloc, events, classes, place, places)?;
+    let children = classes_within(alloc, events, classes, index, indices)?;
     let collection = Collection {
-        is_dictionary: begins_dictionary(events, place),
+        is_dictionary: begins_dictionary(events, index),
         children,
     };
-    let index = index_of(seen, collection)?;
-    match base.checked_add(index) {
+    let found = index_of(seen, collection)?;
+    match base.checked_add(found) {
         Some(class) => Ok(class),
         None => Err(ErrorKind::OutOfMemory.without_position()),
     }
@@ -123,26 +123,26 @@ fn give_class(
     alloc: Global,
     events: &Held<'_>,
     base: usize,
-    place: usize,
-    places: &mut Places,
+    index: usize,
+    indices: &mut Indices,
     classes: &mut Numbers,
     seen: &mut IndexSet<Collection>,
 ) -> Result<(), Error>
-    requires place { place < length (plain_events events.now) }
+    requires index { index < length (plain_events events.now) }
     requires long { length classes.old ≡ length (plain_events events.now) }
-    requires classes { HaveFrom events.now base classes.old seen.old.keys (place + 1) }
+    requires classes { HaveFrom events.now base classes.old seen.old.keys (index + 1) }
     requires apart { AreApart (keys_seen seen.old.keys) }
-    ensures classes { OnOk result (HaveFrom events.now base classes.new seen.new.keys place) }
+    ensures classes { OnOk result (HaveFrom events.now base classes.new seen.new.keys index) }
     ensures long { OnOk result (length classes.new ≡ length (plain_events events.now)) }
     ensures apart { OnOk result (AreApart (keys_seen seen.new.keys)) }
     ensures memory { OnlyMemory result }
 {
-    match events.kind_at(place) {
+    match events.kind_at(index) {
         Kind::Scalar => Ok(()),
         Kind::End => Ok(()),
         _ => {
-            let class = class_of_collection(alloc, events, classes, base, place, places, seen)?;
-            classes.set(place, class)?;
+            let class = class_of_collection(alloc, events, classes, base, index, indices, seen)?;
+            classes.set(index, class)?;
             Ok(())
         }
     }
@@ -163,19 +163,19 @@ pub fn tree_classes(alloc: Global, events: &Held<'_>) -> Result<Classes, Error>
     let mut of = scalars.of;
     let base = scalars.count;
     let mut collections = IndexSet::new(alloc);
-    let mut places = Places {
+    let mut indices = Indices {
         keys: Vec::new(alloc),
         values: Vec::new(alloc),
     };
-    let mut place = events.len();
-    'back: while place > 0 {
-        place -= 1;
+    let mut index = events.len();
+    'back: while index > 0 {
+        index -= 1;
         give_class(
             alloc,
             events,
             base,
-            place,
-            &mut places,
+            index,
+            &mut indices,
             &mut of,
             &mut collections,
         )?;

@@ -61,7 +61,15 @@ told_there (Some bytes) l before after fresh item told left is e h = (
   subst (λ b. TellsItem fresh b item told (after bytes)) (same_Some _ _ is) h,
 )
 
--- a call of a reader
+-- a call of a reader: what was left of all items, what is left now, and what the call gave
+abbrev pub Came : {S C : Type 0} {g : Ghosts S} {h : CounterGhosts C} (known : S → Option (List ℕ))
+    (before after : BinaryReader S C g h) (item : Option (Result (Unit {0}) Error))
+    (items : Option (List Item)) (held : List PlainEvent) → Type 0
+Came known before after item items held = IfSome items (λ all.
+    (left : List Item) × (next : List Item) × TookOf all left held
+    × (items_left known after ≡ Some next)
+    × TellsItem (is_new before) left item (event_told after) next)
+
 pub told_next : {S C : Type 0} {g : Ghosts S} {h : CounterGhosts C} (known : S → Option (List ℕ))
     (before after : BinaryReader S C g h) (item : Option (Result (Unit {0}) Error))
     (items : Option (List Item)) (held : List PlainEvent)
@@ -69,9 +77,7 @@ pub told_next : {S C : Type 0} {g : Ghosts S} {h : CounterGhosts C} (known : S �
     → known (source_of after) ≡ known (source_of before)
     → IfSome (known (source_of before)) (λ bytes. TellsItem (is_new before) (to_come bytes before)
     item (event_told after) (to_come bytes after))
-    → IfSome items (λ all. (left : List Item) × (next : List Item) × TookOf all left held
-    × (items_left known after ≡ Some next)
-    × TellsItem (is_new before) left item (event_told after) next)
+    → Came known before after item items held
 told_next known before after item items held taken same tells =
     IfSome_then items taken (λ all (left, is, took).
     let t = told_there (known (source_of before)) (known (source_of after))

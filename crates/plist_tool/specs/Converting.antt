@@ -18,7 +18,7 @@ use Rattle.plist_reader.specs.Formats.{format_of}
 use Rattle.plist_reader.specs.Reader.{items_of_input}
 use Rattle.plist.specs.Inputs.{AreOf, IsReadIfKnown}
 use Rattle.plist.specs.LastWins.{last_wins}
-use Rattle.plist.specs.Sent.{SendsTree}
+use Rattle.plist.specs.SendingValues.{SendsTree}
 
 -- the bytes are a binary file of a tree that is its own last-value form
 abbrev pub IsDirect : List ℕ → Type 0

@@ -1,2 +1,2 @@
-pub mod Counted
+pub mod Tallies
 pub mod Handed

@@ -9,9 +9,9 @@ abbrev pub is_array : PlainEvent → Bool
 is_array (StartArray length) = true
 is_array event = false
 
-abbrev pub is_dictionary : PlainEvent → Bool
-is_dictionary (StartDictionary length) = true
-is_dictionary event = false
+abbrev pub starts_dictionary : PlainEvent → Bool
+starts_dictionary (StartDictionary length) = true
+starts_dictionary event = false
 
 abbrev pub is_text : PlainEvent → Bool
 is_text (Single (String text)) = true
@@ -30,7 +30,7 @@ count_passing passes events = min (length (filter passes events)) (2 ^ 64 - 1)
 -- the counts tell how many arrays, dictionaries, texts and others these events have
 pub record Tell (events : List PlainEvent) (counts : Counts) : Type 0 where
   pub arrays : counts.arrays ≡ count_passing is_array events
-  pub dictionaries : counts.dictionaries ≡ count_passing is_dictionary events
+  pub dictionaries : counts.dictionaries ≡ count_passing starts_dictionary events
   pub texts : counts.texts ≡ count_passing is_text events
   pub others : counts.others ≡ count_passing is_other events
 
@@ -52,7 +52,7 @@ one_more passes count = cond passes (min (count + 1) (2 ^ 64 - 1)) count
 -- an event is counted
 pub record CountsOne (event : PlainEvent) (old new : Counts) : Type 0 where
   pub arrays : new.arrays ≡ one_more (is_array event) old.arrays
-  pub dictionaries : new.dictionaries ≡ one_more (is_dictionary event) old.dictionaries
+  pub dictionaries : new.dictionaries ≡ one_more (starts_dictionary event) old.dictionaries
   pub texts : new.texts ≡ one_more (is_text event) old.texts
   pub others : new.others ≡ one_more (is_other event) old.others
 

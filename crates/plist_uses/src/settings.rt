@@ -5,7 +5,7 @@ ghost use Rattle.std.specs.Map.{lookup};
 ghost use Rattle.std.specs.Option.{option_copied};
 ghost use Rattle.std.specs.Str.{bytes_eq};
 ghost use Rattle.plist_base.specs.Writing.{answer_of};
-ghost use Rattle.plist.specs.Sent.{SendsTree};
+ghost use Rattle.plist.specs.SendingValues.{SendsTree};
 ghost use Rattle.plist.specs.Views.{tree_of};
 ghost use Rattle.plist_uses.specs.Settings.{IsReadOf, Sets, pairs_of, tree_in};
 

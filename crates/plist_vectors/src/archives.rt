@@ -1,9 +1,10 @@
 //! Trees of keyed archives.
 
-use crate::support::{bytes_of, must, value_of, words_of_value, write_all};
+use crate::support::{must, value_of, words_of_value, write_all};
 use plist::{Builder, Uid, Value};
 use plist_base::{Event, Writer};
 use plist_keyed::{Archive, KeyedError};
+use plist_support::bytes_of;
 use std::process::Abort;
 
 // An archive of objects, whose `$top` names the Uid 1.
@@ -163,7 +164,7 @@ const ARCHIVE: &str = "62706c6973743030d4010203040506070a582476657273696f6e59246
 
 #[test]
 fn an_archive_of_plistlib(rt: HostRuntime) {
-    let bytes = bytes_of(&rt, ARCHIVE);
+    let bytes = must(&rt, bytes_of(rt.alloc(), ARCHIVE));
     let root = must(&rt, Value::from_reader(rt.alloc(), bytes));
     let words = words_of_answer(&rt, tree_of(&rt, &root, 1));
     assert_eq!(rt;

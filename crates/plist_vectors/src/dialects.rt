@@ -1,20 +1,24 @@
 //! What the two dialects of ASCII make of the same bytes.
 
-use crate::support::{By, expect_on_devices, expect_value, words_of};
+use crate::support::{expect_value, must};
 use plist::{Dialect, Value};
 use plist_ascii::AsciiReader;
+use plist_support::{By, expect_on_devices, words_of};
 use std::process::Abort;
 
 // The items of this text in a dialect, and of devices over it.
 fn expect(rt: &(impl Abort + AllocGlobal), dialect: Dialect, text: &str, items: &str) {
     let reader = AsciiReader::with_dialect(rt.alloc(), text.as_bytes(), dialect);
-    let found = words_of(rt, reader);
+    let found = must(rt, words_of(rt.alloc(), reader));
     assert_eq!(rt; found.as_str(), items);
     let by = match dialect {
         Dialect::Lax => By::Ascii,
         Dialect::Tight => By::Tight,
     };
-    expect_on_devices(rt, by, text.as_bytes(), items);
+    must(
+        rt,
+        expect_on_devices(rt.alloc(), by, text.as_bytes(), items),
+    );
 }
 
 // What ends a text in the tight dialect alone.

@@ -1,21 +1,34 @@
 //! How deep and how long what is read may be.
 
-use crate::support::{By, expect_on_devices, expect_value, file, must, words_of};
+use crate::support::{expect_value, must};
 use plist::{Limits, Value};
 use plist_binread::BinaryReader;
+use plist_support::{By, expect_on_devices, file, words_of};
 use std::alloc::Global;
 use std::process::Abort;
 
 // The items of these bytes under limits, and of devices over them.
 fn expect(rt: &(impl Abort + AllocGlobal), bytes: &[u8], limits: Limits, items: &str) {
-    let found = words_of(rt, BinaryReader::with_limits(rt.alloc(), bytes, limits));
+    let found = must(
+        rt,
+        words_of(
+            rt.alloc(),
+            BinaryReader::with_limits(rt.alloc(), bytes, limits),
+        ),
+    );
     assert_eq!(rt; found.as_str(), items);
-    expect_on_devices(rt, By::Limited(limits), bytes, items);
+    must(
+        rt,
+        expect_on_devices(rt.alloc(), By::Limited(limits), bytes, items),
+    );
 }
 
 // An empty array twice in each of two arrays, which are one: fourteen events.
 fn expect_shared(rt: &(impl Abort + AllocGlobal), depth: u64, items: u64, wanted: &str) {
-    let bytes = file(rt, "a20101 a20202 a0 080b0e", [1, 1], [3, 0, 15]);
+    let bytes = must(
+        rt,
+        file(rt.alloc(), "a20101 a20202 a0 080b0e", [1, 1], [3, 0, 15]),
+    );
     expect(rt, bytes.as_slice(), Limits { depth, items }, wanted);
 }
 
@@ -40,7 +53,7 @@ fn expect_file(
     limits: Limits,
     items: &str,
 ) {
-    let bytes = file(rt, body, [1, 1], numbers);
+    let bytes = must(rt, file(rt.alloc(), body, [1, 1], numbers));
     expect(rt, bytes.as_slice(), limits, items);
 }
 

@@ -1,13 +1,14 @@
 //! What `SharingWriter` writes, byte by byte, and that it is read back in order.
 
 use crate::support::{
-    Device, expect_answers, file, file_despite_refusals, file_of_true, front, must, words_of,
-    words_of_value, write_all,
+    expect_answers, expect_despite_refusals, expect_two_files, file_of_true, must, words_of_value,
+    write_all,
 };
 use plist::{Value, write_value};
 use plist_binread::BinaryReader;
 use plist_binwrite::BinaryWriter;
 use plist_share::SharingWriter;
+use plist_support::{Device, file, front, words_of};
 use std::process::Abort;
 
 // The file of the events of these words.
@@ -20,9 +21,12 @@ fn shared(rt: &(impl Abort + AllocGlobal), words: &str) -> Vec<u8> {
 // The events of these words give the file of these objects and their table, with widths of one
 // byte; its events are these words, its value has them in order, and is written as the same file.
 fn expect(rt: &(impl Abort + AllocGlobal), name: &str, words: &str, body: &str, numbers: [u64; 3]) {
-    let bytes = file(rt, body, [1, 1], numbers);
+    let bytes = must(rt, file(rt.alloc(), body, [1, 1], numbers));
     assert_eq!(rt; shared(rt, words).as_slice(), bytes.as_slice(), "{name}");
-    let read = words_of(rt, BinaryReader::new(rt.alloc(), bytes.as_slice()));
+    let read = must(
+        rt,
+        words_of(rt.alloc(), BinaryReader::new(rt.alloc(), bytes.as_slice())),
+    );
     assert_eq!(rt; read.as_str(), words, "{name}");
     let value = must(rt, Value::from_reader(rt.alloc(), bytes.as_slice()));
     let again = words_of_value(rt, &value);
@@ -144,16 +148,12 @@ fn beside_the_plain_writer(rt: HostRuntime) {
 
 #[test]
 fn refusals_change_nothing(rt: HostRuntime) {
-    let mut writer = SharingWriter::new(rt.alloc(), Vec::new(rt.alloc()));
-    let bytes = file_despite_refusals(&rt, &mut writer);
-    assert_eq!(rt; writer.into_inner().as_slice(), bytes.as_slice());
+    expect_despite_refusals(&rt, SharingWriter::new(rt.alloc(), Vec::new(rt.alloc())));
 }
 
 #[test]
 fn files_stand_behind_each_other(rt: HostRuntime) {
-    let mut two = file_of_true(&rt);
-    must(&rt, two.extend_from_slice(file_of_true(&rt).as_slice()));
-    assert_eq!(rt; shared(&rt, "true true").as_slice(), two.as_slice());
+    expect_two_files(&rt, SharingWriter::new(rt.alloc(), Vec::new(rt.alloc())));
 }
 
 // No device's fault is answered where no call of the device failed.
@@ -168,7 +168,7 @@ fn io_without_failing_write(rt: HostRuntime) {
         "ok; ok; ok; ok; ok; ok",
     );
     let device = writer.into_inner();
-    let bytes = file(&rt, "a20101 a0 080b", [1, 1], [2, 0, 12]);
+    let bytes = must(&rt, file(rt.alloc(), "a20101 a0 080b", [1, 1], [2, 0, 12]));
     assert_eq!(rt; device.bytes.as_slice(), bytes.as_slice());
     assert_eq!(rt; device.flushed, bytes.len());
     assert_eq!(rt; device.failures, 0);

@@ -1,7 +1,8 @@
 //! The examples to copy, run once each.
 
-use crate::support::{bytes_of, must, value_of, words_of_value};
+use crate::support::{must, value_of, words_of_value};
 use plist::Builder;
+use plist_support::bytes_of;
 use plist_uses::archive::root_of;
 use plist_uses::convert::convert;
 use plist_uses::counting::count;
@@ -75,7 +76,10 @@ fn converts_a_text(rt: HostRuntime) {
         words_of_value(&rt, &value).as_str(),
         "{2 'name' 'James' 'age' 42 end"
     );
-    assert_eq!(&rt; file.as_slice(), bytes_of(&rt, JAMES).as_slice());
+    assert_eq!(&rt;
+        file.as_slice(),
+        must(&rt, bytes_of(rt.alloc(), JAMES)).as_slice()
+    );
 }
 
 #[test]

@@ -1,20 +1,20 @@
 //! The whole way: what is read of either format, the value of it, and the file of that.
 
-use crate::support::{
-    By, Device, Disk, Fault, bytes_of, expect_io, expect_on_devices, expect_value,
-    expect_value_on_devices, file, must, words_of,
-};
+use crate::support::{expect_value, expect_value_on_devices, must};
 use plist::Value;
 use plist_base::{Error, OwnedEvent, Seeking};
 use plist_reader::Reader;
+use plist_support::{
+    By, Device, Disk, Fault, bytes_of, expect_io, expect_on_devices, file, words_of,
+};
 use std::io::ErrorKind;
 use std::process::Abort;
 
 // The items of these bytes, and of devices over them.
 fn expect(rt: &(impl Abort + AllocGlobal), bytes: &[u8], items: &str) {
-    let found = words_of(rt, Reader::new(rt.alloc(), bytes));
+    let found = must(rt, words_of(rt.alloc(), Reader::new(rt.alloc(), bytes)));
     assert_eq!(rt; found.as_str(), items);
-    expect_on_devices(rt, By::Either, bytes, items);
+    must(rt, expect_on_devices(rt.alloc(), By::Either, bytes, items));
 }
 
 #[test]
@@ -32,7 +32,10 @@ fn ascii_is_chosen(rt: HostRuntime) {
 fn expect_few_calls(rt: &(impl Abort + AllocGlobal), bytes: &[u8], length: usize) {
     let bytes = must(rt, Vec::from_slice(rt.alloc(), bytes));
     let mut disk = Disk::new(bytes, u64::MAX);
-    let found = words_of(rt, Reader::new(rt.alloc(), Seeking::new(&mut disk)));
+    let found = must(
+        rt,
+        words_of(rt.alloc(), Reader::new(rt.alloc(), Seeking::new(&mut disk))),
+    );
     let text = found.trim_matches('\'');
     assert_eq!(rt; text.len(), length);
     assert!(rt; text.bytes().all(|byte| byte == b'a'));
@@ -57,10 +60,10 @@ fn ascii_is_read_by_windows(rt: HostRuntime) {
 #[test]
 fn binary_is_chosen(rt: HostRuntime) {
     expect(&rt, b"bplist00", "UnexpectedEof (offset 8)");
-    let bytes = file(&rt, "09 08", [1, 1], [1, 0, 9]);
+    let bytes = must(&rt, file(rt.alloc(), "09 08", [1, 1], [1, 0, 9]));
     expect(&rt, bytes.as_slice(), "true");
     let body = "d201020301 5161 5162 a104 5178 080d0f1113";
-    let shared = file(&rt, body, [1, 1], [5, 0, 21]);
+    let shared = must(&rt, file(rt.alloc(), body, [1, 1], [5, 0, 21]));
     expect(&rt, shared.as_slice(), "{2 'a' [1 'x' end 'b' 'a' end");
 }
 
@@ -90,21 +93,30 @@ fn values_of_bytes(rt: HostRuntime) {
     expect_read(&rt, b" <plist/>", "XmlUnsupported (offset 1)");
     expect_read(&rt, b"(a)", "[1 'a' end");
     expect_read(&rt, b"a b", "ExpectedEndOfEventStream { found: String }");
-    let shared = file(
+    let shared = must(
         &rt,
-        "d201020301 5161 5162 a104 5178 080d0f1113",
-        [1, 1],
-        [5, 0, 21],
+        file(
+            rt.alloc(),
+            "d201020301 5161 5162 a104 5178 080d0f1113",
+            [1, 1],
+            [5, 0, 21],
+        ),
     );
     expect_read(&rt, shared.as_slice(), "{2 'a' [1 'x' end 'b' 'a' end");
-    let repeated = file(
+    let repeated = must(
         &rt,
-        "d201010203 516b 1001 1002 080d0f11",
-        [1, 1],
-        [4, 0, 19],
+        file(
+            rt.alloc(),
+            "d201010203 516b 1001 1002 080d0f11",
+            [1, 1],
+            [4, 0, 19],
+        ),
     );
     expect_read(&rt, repeated.as_slice(), "{1 'k' 2 end");
-    let number = file(&rt, "d10101 1005 080b", [1, 1], [2, 0, 13]);
+    let number = must(
+        &rt,
+        file(rt.alloc(), "d10101 1005 080b", [1, 1], [2, 0, 13]),
+    );
     expect_read(
         &rt,
         number.as_slice(),
@@ -133,10 +145,13 @@ fn expect_file(rt: &(impl Abort + AllocGlobal), bytes: &[u8], wanted: &[u8]) {
 
 #[test]
 fn ascii_is_converted(rt: HostRuntime) {
-    let file = bytes_of(
+    let file = must(
         &rt,
-        "62706c6973743030 d201020304 546e616d65 53616765 554a616d6573 102a 080d12161c \
+        bytes_of(
+            rt.alloc(),
+            "62706c6973743030 d201020304 546e616d65 53616765 554a616d6573 102a 080d12161c \
          000000000000 01 01 0000000000000005 0000000000000000 000000000000001e",
+        ),
     );
     assert_eq!(rt; file.len(), 67);
     expect_file(&rt, b"{ name = James, age = 42 }", file.as_slice());
@@ -161,7 +176,7 @@ fn expect_handed_on(rt: &(impl Abort + AllocGlobal), bytes: &[u8], call: u64) {
     let bytes = must(rt, Vec::from_slice(rt.alloc(), bytes));
     let mut device = Device::with_fault(bytes, call, Fault::Fails(ErrorKind::TimedOut));
     match only_item(rt, &mut device) {
-        Some(item) => expect_io(rt, item, ErrorKind::TimedOut, Some(device.place)),
+        Some(item) => must(rt, expect_io(item, ErrorKind::TimedOut, Some(device.place))),
         None => panic!(rt; "no item"),
     }
     assert_eq!(rt; device.calls, call.saturating_add(1));
@@ -171,7 +186,7 @@ fn expect_handed_on(rt: &(impl Abort + AllocGlobal), bytes: &[u8], call: u64) {
 fn errors_of_devices(rt: HostRuntime) {
     expect_handed_on(&rt, b"bplist00", 0);
     expect_handed_on(&rt, b"bplist00", 3);
-    let truth = file(&rt, "09 08", [1, 1], [1, 0, 9]);
+    let truth = must(&rt, file(rt.alloc(), "09 08", [1, 1], [1, 0, 9]));
     expect_handed_on(&rt, truth.as_slice(), 12);
     expect_handed_on(&rt, b"  'a'", 0);
     expect_handed_on(&rt, b"  'a'", 3);

@@ -1,12 +1,13 @@
 //! What `BinaryWriter` writes, byte by byte, and that `BinaryReader` reads the same events of it.
 
 use crate::support::{
-    Device, Fault, expect_answers, expect_file_on_devices, file, file_despite_refusals, file_of,
-    file_of_object, file_of_true, must, value_of, words_of, words_of_value, write_all,
+    expect_answers, expect_despite_refusals, expect_file_on_devices, expect_two_files,
+    file_of_true, must, value_of, words_of_value, write_all,
 };
 use plist::Value;
 use plist_binread::BinaryReader;
 use plist_binwrite::BinaryWriter;
+use plist_support::{Device, Fault, file, file_of, file_of_object, words_of};
 use std::io::ErrorKind;
 use std::process::Abort;
 
@@ -30,7 +31,10 @@ fn written_value(rt: &(impl Abort + AllocGlobal), words: &str) -> Vec<u8> {
 // The events of these words give this file, and the file these words.
 fn expect(rt: &(impl Abort + AllocGlobal), name: &str, words: &str, bytes: &[u8]) {
     assert_eq!(rt; written(rt, words).as_slice(), bytes, "{name}");
-    let read = words_of(rt, BinaryReader::new(rt.alloc(), bytes));
+    let read = must(
+        rt,
+        words_of(rt.alloc(), BinaryReader::new(rt.alloc(), bytes)),
+    );
     assert_eq!(rt; read.as_str(), words, "{name}");
 }
 
@@ -57,12 +61,22 @@ fn expect_file(
     body: &str,
     numbers: [u64; 3],
 ) {
-    expect_value(rt, name, words, file(rt, body, [1, 1], numbers).as_slice());
+    expect_value(
+        rt,
+        name,
+        words,
+        must(rt, file(rt.alloc(), body, [1, 1], numbers)).as_slice(),
+    );
 }
 
 // So it is with the file of this one object.
 fn expect_object(rt: &(impl Abort + AllocGlobal), name: &str, word: &str, object: &str) {
-    expect_value(rt, name, word, file_of_object(rt, object).as_slice());
+    expect_value(
+        rt,
+        name,
+        word,
+        must(rt, file_of_object(rt.alloc(), object)).as_slice(),
+    );
 }
 
 #[test]
@@ -102,13 +116,16 @@ fn collections(rt: HostRuntime) {
 fn a_repeated_key_is_written_twice(rt: HostRuntime) {
     let words = "{2 'k' 1 'k' 2 end";
     let body = "d201010203 516b 1001 1002 080d0f11";
-    let bytes = file(&rt, body, [1, 1], [4, 0, 19]);
+    let bytes = must(&rt, file(rt.alloc(), body, [1, 1], [4, 0, 19]));
     expect(&rt, "a repeated key", words, bytes.as_slice());
 }
 
 #[test]
 fn lengths_are_hints(rt: HostRuntime) {
-    let bytes = file(&rt, "a20101 5161 080b", [1, 1], [2, 0, 13]);
+    let bytes = must(
+        &rt,
+        file(rt.alloc(), "a20101 5161 080b", [1, 1], [2, 0, 13]),
+    );
     expect_written(&rt, "[ 'a' 'a' end", bytes.as_slice());
     expect_written(&rt, "[0 'a' 'a' end", bytes.as_slice());
     expect_written(&rt, "[18446744073709551615 'a' 'a' end", bytes.as_slice());
@@ -194,7 +211,10 @@ fn expect_zeros(
     place: u64,
 ) {
     let body = zeros_body(rt, count, begin, table);
-    let bytes = file_of(rt, body.as_slice(), [width, 1], [1, 0, place]);
+    let bytes = must(
+        rt,
+        file_of(rt.alloc(), body.as_slice(), [width, 1], [1, 0, place]),
+    );
     expect_value(
         rt,
         "data of zeros",
@@ -260,7 +280,10 @@ fn expect_numbers(
     length: usize,
 ) {
     let count = u64::from(last) + 2;
-    let bytes = file_of(rt, body, [2, reference_width], [count, 0, table]);
+    let bytes = must(
+        rt,
+        file_of(rt.alloc(), body, [2, reference_width], [count, 0, table]),
+    );
     assert_eq!(rt; bytes.len(), length);
     let words = numbers_words(rt, last);
     expect_value(rt, "numbers", words.as_str(), bytes.as_slice());
@@ -276,23 +299,18 @@ fn widths_of_references(rt: HostRuntime) {
 
 #[test]
 fn refusals_change_nothing(rt: HostRuntime) {
-    let mut writer = BinaryWriter::new(rt.alloc(), Vec::new(rt.alloc()));
-    let bytes = file_despite_refusals(&rt, &mut writer);
-    assert_eq!(rt; writer.into_inner().as_slice(), bytes.as_slice());
+    expect_despite_refusals(&rt, BinaryWriter::new(rt.alloc(), Vec::new(rt.alloc())));
 }
 
 #[test]
 fn files_stand_behind_each_other(rt: HostRuntime) {
-    let mut two = file_of_true(&rt);
-    must(&rt, two.extend_from_slice(file_of_true(&rt).as_slice()));
-    assert_eq!(rt; two.len(), 84);
-    expect_written(&rt, "true true", two.as_slice());
+    expect_two_files(&rt, BinaryWriter::new(rt.alloc(), Vec::new(rt.alloc())));
 }
 
 // Two files went to the device, a byte a call and a flush behind each, and no call failed.
-fn expect_two_files(rt: &(impl Abort + AllocGlobal), device: &Device) {
+fn expect_two_sent(rt: &(impl Abort + AllocGlobal), device: &Device) {
     let mut both = file_of_true(rt);
-    let second = file(rt, "a20101 5161 080b", [1, 1], [2, 0, 13]);
+    let second = must(rt, file(rt.alloc(), "a20101 5161 080b", [1, 1], [2, 0, 13]));
     must(rt, both.extend_from_slice(second.as_slice()));
     assert_eq!(rt; device.bytes.as_slice(), both.as_slice());
     assert_eq!(rt; device.flushed, both.len());
@@ -311,11 +329,11 @@ fn io_without_failing_write(rt: HostRuntime) {
         "true [2 'a' 'a' end",
         "ok; ok; ok; ok; ok",
     );
-    expect_two_files(&rt, &writer.into_inner());
+    expect_two_sent(&rt, &writer.into_inner());
     let mut device = Device::new(Vec::new(rt.alloc()), u64::MAX);
     send(&rt, "true", &mut device);
     send(&rt, "[2 'a' 'a' end", &mut device);
-    expect_two_files(&rt, &device);
+    expect_two_sent(&rt, &device);
 }
 
 // The value of these words is sent to the device.
@@ -327,7 +345,7 @@ fn send(rt: &(impl Abort + AllocGlobal), words: &str, device: &mut Device) {
 fn expect_fault(rt: &(impl Abort + AllocGlobal), fault: Fault) {
     let words = "{2 'a' [1 'x' end 'b' 'a' end";
     let body = "d201020301 5161 5162 a104 5178 080d0f1113";
-    let bytes = file(rt, body, [1, 1], [5, 0, 21]);
+    let bytes = must(rt, file(rt.alloc(), body, [1, 1], [5, 0, 21]));
     assert_eq!(rt; bytes.len(), 58);
     expect_file_on_devices(rt, words, &value_of(rt, words), bytes.as_slice(), fault);
 }

@@ -6,7 +6,7 @@ use Rattle.plist_base.specs.Faults.{FaultKind}
 use Rattle.plist_base.specs.Trees.{Tree, Leaf, Array, Dictionary, trees_of, members_of, String}
 use Rattle.plist_base.specs.Bracketing.{bracketing, bracketing_of_items, bracketing_of_pairs, unhinted, AreAlike, CanContinue, ContinueAlike}
 use Rattle.plist_base.proofs.Grammar.{alike_behind, all_taken, can_continue, continue_alike, continues, none_is, steps_snoc, wanted_alike}
-use Rattle.plist.specs.LastWins.{Rows}
+use Rattle.plist.specs.LastWins.{TreePairs}
 use Rattle.plist.specs.Building.{OpenCollection, InArray, InDictionary, AfterKey, Unfinished, NotBegun, Within, Complete, events_within, events_round, events_so_far, refusal_of_value, refusal_of_key, refusal_at, AllTakeValue, IsNested, TakesValue, last_wins_within, last_wins_so_far, complete_tree}
 use Rattle.plist.specs.inner.Steps.{and_pair, and_tree, begun, in_array, in_dictionary, carried_on}
 use Rattle.plist_base.specs.inner.Wants.{Want, OneValue, Items, Pairs, step, steps, wanted_after}
@@ -21,7 +21,7 @@ items-append (u ∷ ts) t =
     ap (λ l. bracketing u ++ l) (items-append ts t)
     ∙ sym (append_assoc (bracketing u) (bracketing_of_items (trees_of ts)) (bracketing t))
 
-pairs-append : (ps : Rows) (k : List ℕ) (t : Tree)
+pairs-append : (ps : TreePairs) (k : List ℕ) (t : Tree)
     → bracketing_of_pairs (members_of (ps ++ (k, t) ∷ [])) ≡ bracketing_of_pairs (members_of ps)
     ++ Single (String k) ∷ bracketing t
 pairs-append [] k t = ap (λ l. Single (String k) ∷ l) (append-nil (bracketing t))
@@ -91,7 +91,8 @@ array-goes ts outer EndCollection ok =
     closed-goes (Array (trees_of ts)) (StartArray None) _ outer ok refl
 array-goes ts outer e ok = begun-goes (InArray ts ∷ outer) e (tt, ok)
 
-dictionary-goes : (ps : Rows) (outer : List OpenCollection) (e : PlainEvent) → AllTakeValue outer
+dictionary-goes : (ps : TreePairs) (outer : List OpenCollection) (e : PlainEvent)
+    → AllTakeValue outer
     → Goes (refusal_of_key e) (events_round outer ++ events_within (InDictionary ps)) e
     (in_dictionary and_pair ps outer e)
 dictionary-goes ps outer EndCollection ok =
@@ -160,7 +161,8 @@ starts (InArray ts ∷ outer) es ok = (refl, refl)
 starts (InDictionary ps ∷ outer) es ok = absurd ok.0
 starts (AfterKey ps k ∷ outer) es ok = (refl, refl)
 
-pairs-within : (ps : Rows) (outer : List OpenCollection) (es : List PlainEvent) → AllTakeValue outer
+pairs-within : (ps : TreePairs) (outer : List OpenCollection) (es : List PlainEvent)
+    → AllTakeValue outer
     → steps (want_in outer) (events_within (InDictionary ps) ++ es) ≡ steps
     (Pairs ∷ map want_round outer) es
 pairs-within ps outer es ok =

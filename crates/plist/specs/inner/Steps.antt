@@ -2,15 +2,15 @@
 use Rattle.std.specs.Prelude.{ℕ, List, [], ◌∷◌, ◌++◌, Option, Some, None}
 use Rattle.plist_base.specs.Events.{PlainEvent, StartArray, StartDictionary, EndCollection, Single}
 use Rattle.plist_base.specs.Trees.{Tree, Leaf, Array, Dictionary, String, trees_of, members_of}
-use Rattle.plist.specs.LastWins.{Rows}
+use Rattle.plist.specs.LastWins.{TreePairs}
 use Rattle.plist.specs.Building.{OpenCollection, InArray, InDictionary, AfterKey, Unfinished, NotBegun, Within, Complete}
 
 -- a pair goes last, whatever its key
-abbrev pub and_pair : Rows → (key : List ℕ) → Tree → Rows
+abbrev pub and_pair : TreePairs → (key : List ℕ) → Tree → TreePairs
 and_pair rows key tree = rows ++ (key, tree) ∷ []
 
 -- `add` is how a pair comes to the pairs before it
-module _ (add : Rows → List ℕ → Tree → Rows) where
+module _ (add : TreePairs → List ℕ → Tree → TreePairs) where
   -- a tree is complete inside these collections
   abbrev pub and_tree : Tree → (outer : List OpenCollection) → Unfinished
   and_tree tree [] = Complete tree
@@ -32,7 +32,7 @@ module _ (add : Rows → List ℕ → Tree → Rows) where
   in_array items outer event = begun (InArray items ∷ outer) event
 
   -- where a key or a dictionary's end is to come
-  abbrev pub in_dictionary : (pairs : Rows) → (outer : List OpenCollection) → PlainEvent
+  abbrev pub in_dictionary : (pairs : TreePairs) → (outer : List OpenCollection) → PlainEvent
       → Option Unfinished
   in_dictionary pairs outer EndCollection = Some (and_tree (Dictionary (members_of pairs)) outer)
   in_dictionary pairs outer (Single (String key)) = Some (Within (AfterKey pairs key) outer)

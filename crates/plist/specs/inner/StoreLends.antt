@@ -11,18 +11,18 @@ module _ {V : Type 0} (key : List ℕ) (pairs : List (List ℕ × V)) where
   abbrev pub HasNone : Type 0
   HasNone = lookup (bytes_eq key) pairs ≡ None
 
-  -- the key's place
-  abbrev pub IsPlaceOf : ℕ → Type 0
-  IsPlaceOf place = (place < length pairs) × (Some place ≡ position (bytes_eq key) (keys_of pairs))
+  -- the key's index
+  abbrev pub IsIndexOf : ℕ → Type 0
+  IsIndexOf index = (index < length pairs) × (Some index ≡ position (bytes_eq key) (keys_of pairs))
 
 -- the pairs end with the last value behind the reference at the key, and as they are where there is
 -- no reference
-abbrev pub LendsAtKey : (V : RattleType) → MutBor (List (List ℕ × V.Denot)) → List ℕ
+abbrev pub StoreLendsAtKey : (V : RattleType) → MutBor (List (List ℕ × V.Denot)) → List ℕ
     → Option (MutBor V.Denot) → Fml
-LendsAtKey V pairs key value =
+StoreLendsAtKey V pairs key value =
     LendsIf (the_row V) V pairs value (set_value (bytes_eq key) pairs.now) pairs.now
 
--- the pairs end with the last value behind the reference at the place
-abbrev pub LendsPlace : (V : RattleType) → MutBor (List (List ℕ × V.Denot)) → ℕ → MutBor V.Denot
-    → Fml
-LendsPlace V pairs place value = Lends (the_row V) V pairs value (set_value_at pairs.now place)
+-- the pairs end with the last value behind the reference at the index
+abbrev pub StoreLendsIndex : (V : RattleType) → MutBor (List (List ℕ × V.Denot)) → ℕ
+    → MutBor V.Denot → Fml
+StoreLendsIndex V pairs index value = Lends (the_row V) V pairs value (set_value_at pairs.now index)

@@ -58,9 +58,9 @@ pub fn set_where_there<V: Drop>(pairs: &mut Pairs<V>, key: String, value: V) -> 
     }
 }
 
-/// The place of the last pair, if there is one.
-pub fn last_place<V>(pairs: &Pairs<V>) -> Option<usize>
-    ensures place { IfSome result (λ place. place + 1 ≡ length pairs.now) }
+/// The index of the last pair, if there is one.
+pub fn last_index<V>(pairs: &Pairs<V>) -> Option<usize>
+    ensures index { IfSome result (λ index. index + 1 ≡ length pairs.now) }
     ensures none { IsNone result → pairs.now ≡ [] }
 {
     if pairs.is_empty() {

@@ -48,7 +48,7 @@ impl<V> Pairs<V> {
         ensures writes { Inserts result self.old (string_bytes key) }
         ensures removes { Removes result self.old (string_bytes key) }
     {
-        match self.place_of(key.as_str()) {
+        match self.index_of(key.as_str()) {
             Some(at) => Entry::Occupied(OccupiedEntry { pairs: self, at }),
             None => Entry::Vacant(VacantEntry { pairs: self, key }),
         }
@@ -79,8 +79,8 @@ impl<'a, V> OccupiedEntry<'a, V> {
         ensures* writes_back { sem 𝓛 (occupied_lends V.row self.entry result) }
         ensures value { entry_value (Occupied self.old) ≡ Some result.now }
     {
-        let place = self.at;
-        self.pairs.value_at(place)
+        let index = self.at;
+        self.pairs.value_at(index)
     }
 
     /// The key's value, to be changed for as long as the dictionary is lent.

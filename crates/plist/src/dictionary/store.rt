@@ -42,7 +42,7 @@ impl<V> Store<V> {
     ghost use Rattle.std.specs.Borrow.{sem};
     ghost use Rattle.std.specs.List.{IsDistinct};
     ghost use Rattle.plist.specs.EntryLends.{IsRemovedAt};
-    ghost use Rattle.plist.specs.inner.StoreLends.{HasNone, IsPlaceOf, LendsAtKey, LendsPlace};
+    ghost use Rattle.plist.specs.inner.StoreLends.{HasNone, IsIndexOf, StoreLendsAtKey, StoreLendsIndex};
 
     // No pairs. It takes no memory.
     pub(crate) fn new(alloc: Global) -> Store<V>
@@ -87,7 +87,7 @@ impl<V> Store<V> {
     }
 
     pub(crate) fn get_mut(&mut self, key: &str) -> Option<&mut V>
-        ensures* writes_back { sem 𝓛 (LendsAtKey V.row self.entry key.now result) }
+        ensures* writes_back { sem 𝓛 (StoreLendsAtKey V.row self.entry key.now result) }
         ensures value { option_copied_mut result ≡ lookup (bytes_eq key.now) self.old }
     {
         match self.keys.get_index_of(key) {
@@ -182,35 +182,35 @@ impl<V> Store<V> {
         items
     }
 
-    pub(crate) fn place_of(&self, key: &str) -> Option<usize>
-        ensures { MatchOption result (HasNone key.now self.now) (IsPlaceOf key.now self.now) }
+    pub(crate) fn index_of(&self, key: &str) -> Option<usize>
+        ensures { MatchOption result (HasNone key.now self.now) (IsIndexOf key.now self.now) }
     {
         self.keys.get_index_of(key)
     }
 
-    pub(crate) fn key_at(&self, place: usize) -> &String
-        requires { place < length self.now }
-        ensures { slice_get (keys_of self.now) place ≡ Some (string_bytes result.now) }
+    pub(crate) fn key_at(&self, index: usize) -> &String
+        requires { index < length self.now }
+        ensures { slice_get (keys_of self.now) index ≡ Some (string_bytes result.now) }
     {
-        &self.keys.as_slice()[place]
+        &self.keys.as_slice()[index]
     }
 
-    pub(crate) fn value_at(&mut self, place: usize) -> &mut V
-        requires { place < length self.old }
-        ensures* writes_back { sem 𝓛 (LendsPlace V.row self.entry place result) }
-        ensures value { slice_get (values_of self.old) place ≡ Some result.now }
+    pub(crate) fn value_at(&mut self, index: usize) -> &mut V
+        requires { index < length self.old }
+        ensures* writes_back { sem 𝓛 (StoreLendsIndex V.row self.entry index result) }
+        ensures value { slice_get (values_of self.old) index ≡ Some result.now }
     {
-        &mut self.items[place]
+        &mut self.items[index]
     }
 
-    // Takes the pair at a place; the last one moves there.
-    pub(crate) fn swap_remove_at(&mut self, place: usize) -> V
-        requires { place < length self.old }
-        ensures value { slice_get (values_of self.old) place ≡ Some result }
-        ensures pairs { IsRemovedAt self.old place self.new }
+    // Takes the pair at an index; the last one moves there.
+    pub(crate) fn swap_remove_at(&mut self, index: usize) -> V
+        requires { index < length self.old }
+        ensures value { slice_get (values_of self.old) index ≡ Some result }
+        ensures pairs { IsRemovedAt self.old index self.new }
     {
-        let _ = self.keys.swap_remove_index(place);
-        self.items.swap_remove(place)
+        let _ = self.keys.swap_remove_index(index);
+        self.items.swap_remove(index)
     }
 
     pub(crate) fn swap(&mut self, first: usize, second: usize)

@@ -10,19 +10,19 @@ use Rattle.plist_binwrite.specs.declared.kinds.Kind.TheVariants as kind
 abbrev pub kind_in : Entry → Kind
 kind_in (entry.Array behind) = kind.Array
 kind_in (entry.Dictionary behind) = kind.Dictionary
-kind_in (entry.Scalar place) = kind.Scalar
+kind_in (entry.Scalar index) = kind.Scalar
 kind_in entry.End = kind.End
 
 -- its number: that of an end is 0
 abbrev pub number_in : Entry → ℕ
 number_in (entry.Array behind) = behind
 number_in (entry.Dictionary behind) = behind
-number_in (entry.Scalar place) = place
+number_in (entry.Scalar index) = index
 number_in entry.End = 0
 
 -- the scalar that an entry names
 abbrev pub scalar_named : Entry → Option ℕ
-scalar_named (entry.Scalar place) = Some place
+scalar_named (entry.Scalar index) = Some index
 scalar_named other = None
 
 -- the entry of a kind and a number
@@ -33,11 +33,11 @@ entry_of kind.Scalar number = entry.Scalar number
 entry_of kind.End number = entry.End
 
 -- with this number an entry is that of its kind
-abbrev pub IsEntryNumber : List Entry → (place number : ℕ) → Type 0
-IsEntryNumber entries place number =
-    entry_of (kind_in (entry_at entries place)) number ≡ entry_at entries place
+abbrev pub IsEntryNumber : List Entry → (index number : ℕ) → Type 0
+IsEntryNumber entries index number =
+    entry_of (kind_in (entry_at entries index)) number ≡ entry_at entries index
 
--- the entries, place by place
+-- the entries, index by index
 abbrev pub entries_from : List Kind → List ℕ → List Entry
 entries_from (k ∷ kinds) (n ∷ numbers) = entry_of k n ∷ entries_from kinds numbers
 entries_from kinds numbers = []

@@ -17,15 +17,15 @@ abbrev pub is_leaf : PlainEvent → Bool
 is_leaf (Single x) = true
 is_leaf event = false
 
--- the entry at a place
+-- the entry at an index
 abbrev pub entry_at : List Entry → ℕ → Entry
-entry_at entries place = get_or entries place entry.End
+entry_at entries index = get_or entries index entry.End
 
 -- the event of an entry, where these are the different scalars
 abbrev pub shown : (scalars : List PlainEvent) → Entry → PlainEvent
 shown scalars (entry.Array behind) = StartArray None
 shown scalars (entry.Dictionary behind) = StartDictionary None
-shown scalars (entry.Scalar place) = unhinted (get_or scalars place EndCollection)
+shown scalars (entry.Scalar index) = unhinted (get_or scalars index EndCollection)
 shown scalars entry.End = EndCollection
 
 abbrev pub all_shown : (scalars : List PlainEvent) → List Entry → List PlainEvent
@@ -33,12 +33,12 @@ all_shown scalars entries = map (shown scalars) entries
 
 -- where an entry names a scalar, that is one
 abbrev pub is_sound : (scalars : List PlainEvent) → Entry → Bool
-is_sound scalars (entry.Scalar place) = is_leaf (get_or scalars place EndCollection)
+is_sound scalars (entry.Scalar index) = is_leaf (get_or scalars index EndCollection)
 is_sound scalars other = true
 
 -- does the entry name the scalar of this number?
 abbrev pub names : (scalar : ℕ) → Entry → Bool
-names scalar (entry.Scalar place) = place == scalar
+names scalar (entry.Scalar index) = index == scalar
 names scalar other = false
 
 -- is it a start?
@@ -47,20 +47,20 @@ is_start (entry.Array behind) = true
 is_start (entry.Dictionary behind) = true
 is_start other = false
 
--- the place behind the tree that begins with the entry here
-abbrev pub behind_of : (place : ℕ) → Entry → ℕ
-behind_of place (entry.Array behind) = behind
-behind_of place (entry.Dictionary behind) = behind
-behind_of place other = place + 1
+-- the index behind the tree that begins with the entry here
+abbrev pub behind_of : (index : ℕ) → Entry → ℕ
+behind_of index (entry.Array behind) = behind
+behind_of index (entry.Dictionary behind) = behind
+behind_of index other = index + 1
 
-abbrev pub behind_at : List Entry → (place : ℕ) → ℕ
-behind_at entries place = behind_of place (entry_at entries place)
+abbrev pub behind_at : List Entry → (index : ℕ) → ℕ
+behind_at entries index = behind_of index (entry_at entries index)
 
--- a start that has no end yet has the place behind itself
-abbrev pub IsUnclosed : (place : ℕ) → Entry → Type 0
-IsUnclosed place entry = behind_of place entry ≡ place + 1
+-- a start that has no end yet has the index behind itself
+abbrev pub IsUnclosed : (index : ℕ) → Entry → Type 0
+IsUnclosed index entry = behind_of index entry ≡ index + 1
 
--- the entry with this place behind its end
+-- the entry with this index behind its end
 abbrev pub closed_at : Entry → ℕ → Entry
 closed_at (entry.Array old) behind = entry.Array behind
 closed_at (entry.Dictionary old) behind = entry.Dictionary behind

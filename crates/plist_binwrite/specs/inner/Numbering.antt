@@ -8,7 +8,7 @@ use Rattle.plist_binwrite.specs.declared.held.Held.{Held}
 use Rattle.plist_binwrite.specs.declared.numbering.Classed.{Classed}
 use Rattle.plist_binwrite.specs.declared.numbering.Numbered.{Numbered}
 use Rattle.plist_binwrite.specs.declared.numbering.Numbering.{Numbering}
-use Rattle.plist_binwrite.specs.Held.{plain_events, is_stop, event_at, num_of, item_places, half_places, keys_in, values_in, AllNumbered, IsNumbered, Keeps}
+use Rattle.plist_binwrite.specs.Held.{plain_events, is_stop, event_at, num_of, item_indices, half_indices, keys_in, values_in, AllNumbered, IsNumbered, Keeps}
 use Rattle.plist_binwrite.specs.inner.PlansBy.{IsPlan, HaveIds}
 
 -- these numbers go by these classes
@@ -35,33 +35,33 @@ abbrev pub KeepsNumbers : (old new : Numbered) → Type 0
 KeepsNumbers old new = Keeps old.numbers old.firsts new.numbers new.firsts
 
 -- an item that is numbered before all others has the first number
-abbrev pub BeginsAt : Classed → (place : ℕ) → (old new : Numbered) → Type 0
-BeginsAt given place old new = length old.firsts ≡ 0
-    → is_stop (event_at (plain_events given.events.now) place) ≡ false
-    → get_or new.firsts 0 0 ≡ place
+abbrev pub BeginsAt : Classed → (index : ℕ) → (old new : Numbered) → Type 0
+BeginsAt given index old new = length old.firsts ≡ 0
+    → is_stop (event_at (plain_events given.events.now) index) ≡ false
+    → get_or new.firsts 0 0 ≡ index
 
 module _ (given : Classed) where
   -- an item that stands here has a number
-  abbrev pub NumbersItem : (place : ℕ) → Numbered → Type 0
-  NumbersItem place found = is_stop (event_at (plain_events given.events.now) place) ≡ false
-      → IsNumbered found.numbers found.firsts place
+  abbrev pub NumbersItem : (index : ℕ) → Numbered → Type 0
+  NumbersItem index found = is_stop (event_at (plain_events given.events.now) index) ≡ false
+      → IsNumbered found.numbers found.firsts index
 
   -- the items of an array have numbers, from here on
   abbrev pub NumbersItems : (from : ℕ) → Numbered → Type 0
   NumbersItems from found = (ts : Trees) → SitsItems (plain_events given.events.now) ts from
-      → AllByRecursion (IsNumbered found.numbers found.firsts) (item_places ts from)
+      → AllByRecursion (IsNumbered found.numbers found.firsts) (item_indices ts from)
 
   -- the values of a dictionary have, or its keys
   abbrev pub NumbersHalf : (of_values : Bool) → (from : ℕ) → Numbered → Type 0
   NumbersHalf of_values from found =
       (ms : Members) → SitsPairs (plain_events given.events.now) ms from
-      → AllByRecursion (IsNumbered found.numbers found.firsts) (half_places of_values ms from)
+      → AllByRecursion (IsNumbered found.numbers found.firsts) (half_indices of_values ms from)
 
   -- the keys and the values of the collection that begins here have
-  abbrev pub NumbersChildren : (place : ℕ) → Numbered → Type 0
-  NumbersChildren place found = (t : Tree) → Sits (plain_events given.events.now) t place
-      → AllByRecursion (IsNumbered found.numbers found.firsts) (keys_in t place)
-      × AllByRecursion (IsNumbered found.numbers found.firsts) (values_in t place)
+  abbrev pub NumbersChildren : (index : ℕ) → Numbered → Type 0
+  NumbersChildren index found = (t : Tree) → Sits (plain_events given.events.now) t index
+      → AllByRecursion (IsNumbered found.numbers found.firsts) (keys_in t index)
+      × AllByRecursion (IsNumbered found.numbers found.firsts) (values_in t index)
 
 -- where the events are a tree's, each item has a number
 abbrev pub NumbersTree : Held → Numbering → Type 0

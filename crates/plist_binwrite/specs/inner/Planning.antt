@@ -7,7 +7,7 @@ use Rattle.plist_binwrite.specs.Classes.{AreClasses}
 use Rattle.plist_binwrite.specs.Held.{plain_events, IsBracketed, AllNumbered, num_of}
 use Rattle.plist_binwrite.specs.inner.PlansBy.{IsPlan}
 
--- by event, the number of its object; and by number, the place of the first event of that object
+-- by event, the number of its object; and by number, the index of the first event of that object
 abbrev pub numbers_of : Plan → List ℕ
 numbers_of plan = plan.numbering.numbers
 

@@ -1,5 +1,5 @@
--- The numbers given so far, where places of one class share theirs: `firsts` holds, by number, the
--- place of
+-- The numbers given so far, where indices of one class share theirs: `firsts` holds, by number, the
+-- index of
 -- the first event of that object.
 use Rattle.std.specs.Prelude.{◌≡◌, ◌⊎◌, ℕ, ◌-◌, ◌^◌, ◌<◌, false, List, length, get_or}
 use Rattle.plist_base.specs.Events.{PlainEvent}

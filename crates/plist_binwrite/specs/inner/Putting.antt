@@ -7,7 +7,7 @@ use Rattle.plist_base.specs.declared.error.Error.{Error}
 use Rattle.plist_base.specs.Trees.{Tree, Trees, Members, Array, Dictionary}
 use Rattle.plist_binread.specs.Object.{Object}
 use Rattle.plist_binwrite.specs.Forms.{form, table_form}
-use Rattle.plist_binwrite.specs.Held.{plain_events, item_places, half_places, Describes}
+use Rattle.plist_binwrite.specs.Held.{plain_events, item_indices, half_indices, Describes}
 use Rattle.plist_binwrite.specs.Numberings.{obj_of}
 use Rattle.plist_binwrite.specs.Outlets.{Puts}
 use Rattle.plist_binwrite.specs.Standing.{Sits, SitsItems, SitsPairs}
@@ -24,7 +24,7 @@ module _ {W : Type 0} (contents : W → Option (List ℕ)) (old : W) (room : Vec
       → (holds : Vec ℕ Global) → Type 0
   PutsItems file from result new holds = (ts : Trees) → SitsItems (events_in file) ts from
       → Puts contents old room
-      (table_form file.width (map (numbers_by file) (item_places ts from))) result new holds
+      (table_form file.width (map (numbers_by file) (item_indices ts from))) result new holds
 
   -- those to the values of a dictionary, or to its keys
   abbrev pub PutsHalf : Planned → (of_values : Bool) → (from : ℕ) → Result (Unit {0}) Error
@@ -32,28 +32,28 @@ module _ {W : Type 0} (contents : W → Option (List ℕ)) (old : W) (room : Vec
   PutsHalf file of_values from result new holds =
       (ms : Members) → SitsPairs (events_in file) ms from
       → Puts contents old room
-      (table_form file.width (map (numbers_by file) (half_places of_values ms from)))
+      (table_form file.width (map (numbers_by file) (half_indices of_values ms from)))
       result new holds
 
   -- the object of the array that begins here, of the dictionary, and of any tree
-  abbrev pub PutsArray : Planned → (place : ℕ) → Result (Unit {0}) Error → (new : W)
+  abbrev pub PutsArray : Planned → (index : ℕ) → Result (Unit {0}) Error → (new : W)
       → (holds : Vec ℕ Global) → Type 0
-  PutsArray file place result new holds = (ts : Trees) → SitsItems (events_in file) ts (place + 1)
+  PutsArray file index result new holds = (ts : Trees) → SitsItems (events_in file) ts (index + 1)
       → Puts contents old room
-      (form file.width (obj_of (numbers_by file) (Array ts) place)) result new holds
+      (form file.width (obj_of (numbers_by file) (Array ts) index)) result new holds
 
-  abbrev pub PutsDictionary : Planned → (place : ℕ) → Result (Unit {0}) Error → (new : W)
+  abbrev pub PutsDictionary : Planned → (index : ℕ) → Result (Unit {0}) Error → (new : W)
       → (holds : Vec ℕ Global) → Type 0
-  PutsDictionary file place result new holds =
-      (ms : Members) → SitsPairs (events_in file) ms (place + 1)
+  PutsDictionary file index result new holds =
+      (ms : Members) → SitsPairs (events_in file) ms (index + 1)
       → Puts contents old room
-      (form file.width (obj_of (numbers_by file) (Dictionary ms) place)) result new holds
+      (form file.width (obj_of (numbers_by file) (Dictionary ms) index)) result new holds
 
-  abbrev pub PutsObject : Planned → (place : ℕ) → Result (Unit {0}) Error → (new : W)
+  abbrev pub PutsObject : Planned → (index : ℕ) → Result (Unit {0}) Error → (new : W)
       → (holds : Vec ℕ Global) → Type 0
-  PutsObject file place result new holds = (t : Tree) → Sits (events_in file) t place
+  PutsObject file index result new holds = (t : Tree) → Sits (events_in file) t index
       → Puts contents old room
-      (form file.width (obj_of (numbers_by file) t place)) result new holds
+      (form file.width (obj_of (numbers_by file) t index)) result new holds
 
   -- the objects in this order
   abbrev pub PutsOrder : Planned → (order : List ℕ) → Result (Unit {0}) Error → (new : W)

@@ -15,10 +15,10 @@ use Rattle.plist_binwrite.specs.inner.Laying.{laid_out}
 use Rattle.plist_binwrite.specs.inner.Planning.{numbers_of, events_in, numbers_by}
 
 -- the object of an item that stands here has a mark
-abbrev pub MarksItem : Held → Plan → (place : ℕ) → (marks : List ℕ) → Type 0
-MarksItem held plan place marks = place < length (plain_events held)
-    → is_stop (held_at held place) ≡ false
-    → get_or marks (num_of (numbers_of plan) place) 0 ≢ 0
+abbrev pub MarksItem : Held → Plan → (index : ℕ) → (marks : List ℕ) → Type 0
+MarksItem held plan index marks = index < length (plain_events held)
+    → is_stop (held_at held index) ≡ false
+    → get_or marks (num_of (numbers_of plan) index) 0 ≢ 0
 
 -- so many items of an array stand from here on
 abbrev pub CountsItems : Held → (from count : ℕ) → Type 0
@@ -36,14 +36,14 @@ ExceedsWith table count =
 
 module _ (file : Planned) where
   -- the object of the tree that begins here has this size
-  abbrev pub TellsSizeAt : (place : ℕ) → Option ℕ → Type 0
-  TellsSizeAt place told =
-      (t : Tree) → Sits (events_in file) t place → TellsSize told (object_size file.width t)
+  abbrev pub TellsSizeAt : (index : ℕ) → Option ℕ → Type 0
+  TellsSizeAt index told =
+      (t : Tree) → Sits (events_in file) t index → TellsSize told (object_size file.width t)
 
   -- the form holds the object of the tree that begins here
-  abbrev pub IsWritableAt : (place : ℕ) → Type 0
-  IsWritableAt place = (t : Tree) → Sits (events_in file) t place
-      → IsWritable file.width (obj_of (numbers_by file) t place)
+  abbrev pub IsWritableAt : (index : ℕ) → Type 0
+  IsWritableAt index = (t : Tree) → Sits (events_in file) t index
+      → IsWritable file.width (obj_of (numbers_by file) t index)
 
   -- the objects of the plan end here, in this order
   abbrev pub TellsEndOfFile : (order : List ℕ) → Option ℕ → Type 0

@@ -1,5 +1,5 @@
--- The stack of what has to come, as the code holds it: without the value that is wanted where nothing
--- is held. In these lists the topmost want comes first.
+-- The stack of what has to come, as the code holds it: without the value that is wanted where
+-- nothing is held. In these lists the topmost want comes first.
 use Rattle.std.specs.Prelude.{◌≡◌, Bool, true, false, List, [], ◌∷◌, Some, map, reverse, ⊤}
 use Rattle.plist_base.specs.Events.{PlainEvent}
 use Rattle.plist_base.specs.inner.Wants.{Want, OneValue, Items, Pairs, Change, Refused, Gone, Kept, Pushed, Became, change_of, wanted_after}

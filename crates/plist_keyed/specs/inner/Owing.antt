@@ -40,15 +40,16 @@ module _ (objects : List (List PlainEvent)) where
 
   -- the steps that the open places still owe: those of the events left of the innermost one, its
   -- end, and what those below owe
-  abbrev pub owed_by : List Events → (path : List ℕ) → List Step
-  owed_by [] path = []
-  owed_by (level ∷ below) [] = []
-  owed_by (level ∷ below) (uid ∷ path) =
-      steps_of_events (follow_in (uid ∷ path)) (remaining_events level) ++ None ∷ owed_by below path
+  abbrev pub steps_owed_by : List Events → (path : List ℕ) → List Step
+  steps_owed_by [] path = []
+  steps_owed_by (level ∷ below) [] = []
+  steps_owed_by (level ∷ below) (uid ∷ path) =
+      steps_of_events (follow_in (uid ∷ path)) (remaining_events level)
+      ++ None ∷ steps_owed_by below path
 
 -- the open Uids
-abbrev pub path_of : Walk → List ℕ
-path_of walk = reverse walk.path.keys
+abbrev pub open_uids : Walk → List ℕ
+open_uids walk = reverse walk.path.keys
 
 -- what is left of each
 abbrev pub levels_of : Walk → List Events
@@ -57,16 +58,16 @@ levels_of walk = reverse walk.levels.items
 -- its path is one, and something is left of each object on it
 abbrev pub IsWalk : Walk → Type 0
 IsWalk walk =
-    IsPath (length (objects_seen walk.objects.now)) (path_of walk)
-    × (length (levels_of walk) ≡ length (path_of walk))
+    IsPath (length (objects_seen walk.objects.now)) (open_uids walk)
+    × (length (levels_of walk) ≡ length (open_uids walk))
 
 -- what the walk owes
 abbrev pub owed : Walk → List Step
-owed walk = owed_by (objects_seen walk.objects.now) (levels_of walk) (path_of walk)
+owed walk = steps_owed_by (objects_seen walk.objects.now) (levels_of walk) (open_uids walk)
 
 -- what a Uid would owe in its place
 abbrev pub follow : Walk → ℕ → List Step
-follow walk uid = follow_in (objects_seen walk.objects.now) (path_of walk) uid
+follow walk uid = follow_in (objects_seen walk.objects.now) (open_uids walk) uid
 
 -- the walk is as it was
 abbrev pub WalkIsKept : Walk → Walk → Type 0

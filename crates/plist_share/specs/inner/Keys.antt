@@ -34,25 +34,25 @@ module _ (class : ℕ → ℕ) (count : ℕ) where
   abbrev pub key_by : (is_dictionary : Bool) → Tree → ℕ → Key
   key_by is_dictionary t p = (is_dictionary, map class (keys_in t p) ++ map class (values_in t p))
 
-  -- a collection's class: behind so many others, the place of its key
+  -- a collection's class: behind so many others, the index of its key
   abbrev pub IsIndexed : List Key → (is_dictionary : Bool) → Tree → ℕ → ℕ → Type 0
   IsIndexed keys is_dictionary t p c =
       (i : ℕ) × (c ≡ count + i) × (slice_get keys i ≡ Some (key_by is_dictionary t p))
 
   module _ (scalar : ℕ → ℕ) where
-    -- the class that a tree at a place has; a scalar's is known
+    -- the class that a tree at an index has; a scalar's is known
     abbrev pub IsClass : List Key → Tree → ℕ → ℕ → Type 0
     IsClass keys (Leaf x) p c = c ≡ scalar p
     IsClass keys (Array items) p c = IsIndexed keys false (Array items) p c
     IsClass keys (Dictionary pairs) p c = IsIndexed keys true (Dictionary pairs) p c
 
-    -- from this place on each tree has its class, and before it nothing has changed
-    pub record HaveClasses (es : List PlainEvent) (keys : List Key) (from : ℕ) : Type 0 where
+    -- from this index on each tree has its class, and before it nothing has changed
+    pub record HaveTreeClasses (es : List PlainEvent) (keys : List Key) (from : ℕ) : Type 0 where
       pub behind : (t : Tree) (p : ℕ) → from ≤ p → Sits es t p → IsClass keys t p (class p)
       pub before : (p : ℕ) → p < from → class p ≡ scalar p
       pub below : (p : ℕ) → p < length es → class p < count + length keys
 
--- two places have one class exactly where the same tree begins
+-- two indices have one class exactly where the same tree begins
 abbrev pub TellTrees : List PlainEvent → (class : ℕ → ℕ) → Type 0
 TellTrees es class =
     (t u : Tree) (p q : ℕ) → Sits es t p → Sits es u q → (class p ≡ class q) ↔ (t ≡ u)
@@ -63,16 +63,16 @@ TellTrees es class =
 abbrev pub IsKeyAt : (seen : List Collection) → Collection → (index : ℕ) → Type 0
 IsKeyAt seen collection index = slice_get (keys_seen seen) index ≡ Some (key_of collection)
 
--- the classes of the events at these places are added
-abbrev pub AddsClasses : (old : Vec ℕ Global) → (classes places : List ℕ) → (new : Vec ℕ Global)
+-- the classes of the events at these indices are added
+abbrev pub AddsClasses : (old : Vec ℕ Global) → (classes indices : List ℕ) → (new : Vec ℕ Global)
     → Type 0
-AddsClasses old classes places new = new.items ≡ old.items ++ map (num_of classes) places
+AddsClasses old classes indices new = new.items ≡ old.items ++ map (num_of classes) indices
 
 -- the classes of the children of the collection that begins here
-abbrev pub AreClassesWithin : Held → (classes : List ℕ) → (place : ℕ) → Vec ℕ Global → Type 0
-AreClassesWithin held classes place found = (t : Tree) → Sits (plain_events held) t place
-    → found.items ≡ map (num_of classes) (keys_in t place)
-    ++ map (num_of classes) (values_in t place)
+abbrev pub AreClassesWithin : Held → (classes : List ℕ) → (index : ℕ) → Vec ℕ Global → Type 0
+AreClassesWithin held classes index found = (t : Tree) → Sits (plain_events held) t index
+    → found.items ≡ map (num_of classes) (keys_in t index)
+    ++ map (num_of classes) (values_in t index)
 
 -- is it the start of a dictionary?
 abbrev pub is_dictionary : Kind → Bool
@@ -83,15 +83,15 @@ is_dictionary kind.End = false
 
 -- the class of the collection that begins here, behind so many others
 abbrev pub IsClassAt : Held → (classes : List ℕ) → (base : ℕ) → (seen : List Collection)
-    → (place class : ℕ) → Type 0
-IsClassAt held classes base seen place class = (t : Tree) → Sits (plain_events held) t place
+    → (index class : ℕ) → Type 0
+IsClassAt held classes base seen index class = (t : Tree) → Sits (plain_events held) t index
     → IsIndexed (num_of classes) base (keys_seen seen)
-    (is_dictionary (held_kind (held_at held place)))
-    t place class
+    (is_dictionary (held_kind (held_at held index)))
+    t index class
 
--- from this place on each tree has its class, and before it the scalars have theirs
+-- from this index on each tree has its class, and before it the scalars have theirs
 abbrev pub HaveFrom : Held → (base : ℕ) → (classes : List ℕ) → (seen : List Collection)
     → (from : ℕ) → Type 0
 HaveFrom held base classes seen from =
     (scalar : ℕ → ℕ) × AreOwners (plain_events held) scalar base
-    × HaveClasses (num_of classes) base scalar (plain_events held) (keys_seen seen) from
+    × HaveTreeClasses (num_of classes) base scalar (plain_events held) (keys_seen seen) from

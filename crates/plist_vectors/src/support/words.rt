@@ -1,17 +1,10 @@
-//! Events as words of a text, with a blank between two.
-//!
-//! `[2` and `{2` are starts with their length, `[` and `{` starts without one, `end` is an end,
-//! `true` and `false` are themselves, and so is a number. `'a'` is a text and `<00ff>` data in
-//! hexadecimal; `uid:4` is a Uid, `real:3fc00000` a real by its bytes, `date:-5` a date by its
-//! second, to which `date:0/3fe0000000000000` adds the bytes of a date with a fraction.
+//! Events of words, as `plist_support` has them, and what comes of them.
 
-ghost use Rattle.std.specs.Iterator.{IsFinite};
-
-use crate::support::{file, must};
+use crate::support::must;
 use hex::FromHex;
 use plist::{Builder, Value};
-use plist_base::{Date, Error, Event, Integer, OwnedEvent, RealBits, Uid, Writer};
-use std::alloc::{AllocError, Global};
+use plist_base::{Date, Error, Event, Integer, RealBits, Uid, Writer};
+use plist_support::{add_item, add_words};
 use std::borrow::{CowSlice, CowStr};
 use std::process::Abort;
 
@@ -84,86 +77,11 @@ pub(crate) fn event_of<'a>(rt: &(impl Abort + AllocGlobal), word: &'a str) -> Ev
     }
 }
 
-fn start(alloc: Global, bracket: char, length: Option<u64>) -> Result<String, AllocError> {
-    match length {
-        None => format!(in alloc; "{bracket}"),
-        Some(length) => format!(in alloc; "{bracket}{length}"),
-    }
-}
-
-fn date_word(alloc: Global, date: Date) -> Result<String, AllocError> {
-    let second = date.plist_secs();
-    if !date.has_fraction() {
-        return format!(in alloc; "date:{second}");
-    }
-    let digits = hex::encode(alloc, date.to_plist_real())?;
-    format!(in alloc; "date:{second}/{digits}")
-}
-
-fn real_word(alloc: Global, bits: RealBits) -> Result<String, AllocError> {
-    let digits = match bits {
-        RealBits::Four(bytes) => hex::encode(alloc, bytes)?,
-        RealBits::Eight(bytes) => hex::encode(alloc, bytes)?,
-    };
-    format!(in alloc; "real:{digits}")
-}
-
-// The word of an event.
-pub(crate) fn word_of(alloc: Global, event: &Event<'_>) -> Result<String, AllocError> {
-    match event {
-        Event::StartArray(length) => start(alloc, '[', *length),
-        Event::StartDictionary(length) => start(alloc, '{', *length),
-        Event::EndCollection => String::from_str(alloc, "end"),
-        Event::Boolean(value) => format!(in alloc; "{value}"),
-        Event::Data(bytes) => {
-            let digits = hex::encode(alloc, bytes.as_slice())?;
-            format!(in alloc; "<{digits}>")
-        }
-        Event::Date(date) => date_word(alloc, *date),
-        Event::Integer(value) => format!(in alloc; "{value}"),
-        Event::Real(bits) => real_word(alloc, *bits),
-        Event::String(text) => format!(in alloc; "'{}'", text.as_str()),
-        Event::Uid(uid) => format!(in alloc; "uid:{}", uid.get()),
-    }
-}
-
-// Adds an item's word, or the text of its fault, behind those that are there.
-fn add(rt: &(impl Abort + AllocGlobal), all: &mut String, item: &Result<Event<'_>, Error>) {
-    let word = match item {
-        Ok(event) => word_of(rt.alloc(), event),
-        Err(error) => error.to_string(rt.alloc()),
-    };
-    add_words(rt, all, " ", must(rt, word).as_str());
-}
-
-// Adds words, with this mark before them where they aren't the first.
-fn add_words(rt: &impl Abort, all: &mut String, mark: &str, words: &str) {
-    if !all.is_empty() {
-        must(rt, all.push_str(mark));
-    }
-    must(rt, all.push_str(words));
-}
-
-// The words of a reader's items.
-pub(crate) fn words_of<I: Iterator<Item = Result<OwnedEvent, Error>> + Drop>(
-    rt: &(impl Abort + AllocGlobal),
-    reader: I,
-) -> String
-    requires asked { I.can_next reader }
-    requires ends { IsFinite (I.remaining reader) }
-{
-    let mut all = String::new(rt.alloc());
-    for item in reader {
-        add(rt, &mut all, &item);
-    }
-    all
-}
-
 // The words of a value's events.
 pub(crate) fn words_of_value(rt: &(impl Abort + AllocGlobal), value: &Value) -> String {
     let mut all = String::new(rt.alloc());
     for item in value.events(rt.alloc()) {
-        add(rt, &mut all, &item);
+        must(rt, add_item(rt.alloc(), &mut all, &item));
     }
     all
 }
@@ -200,7 +118,7 @@ pub(crate) fn expect_answers<W: Writer>(
     let mut all = String::new(rt.alloc());
     for word in words.split(' ') {
         let answer = writer.write(event_of(rt, word));
-        add_words(rt, &mut all, "; ", text_of(rt, answer).as_str());
+        must(rt, add_words(&mut all, "; ", text_of(rt, answer).as_str()));
     }
     assert_eq!(rt; all.as_str(), answers, "{words}");
 }
@@ -217,21 +135,4 @@ pub(crate) fn value_of(rt: &(impl Abort + AllocGlobal), words: &str) -> Value {
     let mut builder = Builder::new(rt.alloc());
     write_all(rt, &mut builder, words);
     must(rt, builder.finish())
-}
-
-// Events that can't come next are refused, and change nothing: the file of the others.
-pub(crate) fn file_despite_refusals<W: Writer>(
-    rt: &(impl Abort + AllocGlobal),
-    writer: &mut W,
-) -> Vec<u8> {
-    expect_answers(
-        rt,
-        writer,
-        "end { 1 'k' end true end",
-        "UnexpectedEventType { expected: ValueOrStartCollection, found: EndCollection }; ok; \
-         UnexpectedEventType { expected: DictionaryKeyOrEndCollection, found: Integer }; ok; \
-         UnexpectedEventType { expected: DictionaryKeyOrEndCollection, found: EndCollection }; \
-         ok; ok",
-    );
-    file(rt, "d10102 516b 09 080b0d", [1, 1], [3, 0, 14])
 }

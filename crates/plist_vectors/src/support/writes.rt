@@ -1,10 +1,11 @@
 //! What a writer sends to devices: that take one byte a call, fail at each call in turn, or take
 //! nothing.
 
-use crate::support::{Device, Fault, event_of, expect_answers, expect_io, front, must};
+use crate::support::{event_of, expect_answers, file_of_true, must};
 use plist::Value;
 use plist_base::{Error, Writer};
-use plist_binwrite::BinaryWriter;
+use plist_binwrite::{BinaryWriter, FileWriter, Sharing};
+use plist_support::{Device, Fault, expect_io, file, front};
 use std::io::ErrorKind;
 use std::process::Abort;
 
@@ -67,7 +68,7 @@ fn expect_failure(
         assert_eq!(rt; device.calls, bytes.len() as u64 + 1, "at call {call}");
         return false;
     }
-    expect_io(rt, answer, kind_of(fault), None);
+    must(rt, expect_io(answer, kind_of(fault), None));
     assert_eq!(rt; device.failures, 1, "at call {call}");
     assert_eq!(rt; device.calls, call.saturating_add(1));
     assert_eq!(rt;
@@ -126,4 +127,37 @@ pub(crate) fn expect_file_on_devices(
     let fails = expect_sent(rt, words, value, bytes, flush, fault);
     assert_eq!(rt; fails, matches!(fault, Fault::Fails(_)));
     assert!(rt; !expect_sent(rt, words, value, bytes, flush.saturating_add(1), fault));
+}
+
+// Events that can't come next are refused, and change nothing: the file of the others.
+pub(crate) fn expect_despite_refusals<S: Sharing>(
+    rt: &(impl Abort + AllocGlobal),
+    mut writer: FileWriter<Vec<u8>, S>,
+) {
+    expect_answers(
+        rt,
+        &mut writer,
+        "end { 1 'k' end true end",
+        "UnexpectedEventType { expected: ValueOrStartCollection, found: EndCollection }; ok; \
+         UnexpectedEventType { expected: DictionaryKeyOrEndCollection, found: Integer }; ok; \
+         UnexpectedEventType { expected: DictionaryKeyOrEndCollection, found: EndCollection }; \
+         ok; ok",
+    );
+    let bytes = must(
+        rt,
+        file(rt.alloc(), "d10102 516b 09 080b0d", [1, 1], [3, 0, 14]),
+    );
+    assert_eq!(rt; writer.into_inner().as_slice(), bytes.as_slice());
+}
+
+// Two files stand behind each other.
+pub(crate) fn expect_two_files<S: Sharing>(
+    rt: &(impl Abort + AllocGlobal),
+    mut writer: FileWriter<Vec<u8>, S>,
+) {
+    let mut two = file_of_true(rt);
+    must(rt, two.extend_from_slice(file_of_true(rt).as_slice()));
+    assert_eq!(rt; two.len(), 84);
+    expect_answers(rt, &mut writer, "true true", "ok; ok");
+    assert_eq!(rt; writer.into_inner().as_slice(), two.as_slice());
 }

@@ -1,4 +1,4 @@
-use Rattle.std.proofs.Common.{◌-◌, sym, refl, arith}
+use Rattle.std.proofs.Common.{sym, refl, arith}
 use Rattle.std.proofs.Math.Seq.{take-length}
 use Rattle.plist_binread.proofs.Lending.{known_front}
 use Rattle.plist_binread.proofs.child.lent_before.Goals as goal

@@ -9,13 +9,13 @@ give_class-requires-clause-high c =
     let events = c.args.events.now in
     omega (
       arith,
-      c.loop-place.invariant.high,
-      c.loop-place.invariant.few,
-      c.loop-place-test.true,
+      c.loop-index.invariant.high,
+      c.loop-index.invariant.few,
+      c.loop-index-test.true,
       long_shown (scalars_of events) events.entries,
     )
 
 pub returns-clause-classes : goal.returns-clause-classes
 returns-clause-classes c =
-    owners (omega arith) c.loop-place.invariant.have
-    c.args.events.now.kept.apart c.loop-place.invariant.low
+    owners (omega arith) c.loop-index.invariant.have
+    c.args.events.now.kept.apart c.loop-index.invariant.low

@@ -13,7 +13,7 @@ returns-in_ok-set-in-Some-clause-before c =
 pub returns-in_ok-set-in-None-clause-before : goal.returns-in_ok-set-in-None-clause-before
 returns-in_ok-set-in-None-clause-before c =
     rw c.in_ok-set-in-None.ensures.set
-    (one_more c.args.classes.now c.args.top (omega (arith, c.requires.place, c.requires.long))
+    (one_more c.args.classes.now c.args.top (omega (arith, c.requires.index, c.requires.long))
     c.requires.before (c.args.top + 1) (omega arith)
     (λ x s. cc (ap is_leaf s, c.in-None.ensures.none refl))
     (λ n. (omega arith, omega arith, c.requires.low)))

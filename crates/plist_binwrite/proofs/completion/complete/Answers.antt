@@ -2,7 +2,7 @@ use Rattle.std.proofs.Common.{rules, arith, ap, Ok, Err}
 use Rattle.std.proofs.lemmas.Result.{err_from_is_err_and}
 use Rattle.plist_base.specs.Faults.{Fault, fault_of}
 use Rattle.plist_binwrite.proofs.Owned.{owners_classes}
-use Rattle.plist_binwrite.proofs.Sends.{sends_plainly}
+use Rattle.plist_binwrite.proofs.SendingFiles.{sends_plainly}
 use Rattle.plist_binwrite.proofs.completion.complete.Goals as goal
 
 pub complete_by_class-requires : goal.complete_by_class-requires

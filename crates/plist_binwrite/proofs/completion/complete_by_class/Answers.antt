@@ -3,7 +3,7 @@ use Rattle.std.proofs.lemmas.Result.{err_from_is_err_and}
 use Rattle.plist_base.specs.Faults.{fault_of}
 use Rattle.plist_binwrite.proofs.Unhinted.{whole_bracketed}
 use Rattle.plist_binwrite.proofs.Readied.{ready_sends}
-use Rattle.plist_binwrite.proofs.Sends.{sends_unplanned}
+use Rattle.plist_binwrite.proofs.SendingFiles.{sends_unplanned}
 use Rattle.plist_binwrite.proofs.completion.complete_by_class.Goals as goal
 
 pub make_ready-requires : goal.make_ready-requires

@@ -22,12 +22,12 @@ stamp-requires c =
           _ _ c.in-Some.ensures.some,
     )
 
-pub returns-in_default-scalar_place-clause-repeats
-    : goal.returns-in_default-scalar_place-clause-repeats
-returns-in_default-scalar_place-clause-repeats c = λ ms s.
+pub returns-in_default-scalar_index-clause-repeats
+    : goal.returns-in_default-scalar_index-clause-repeats
+returns-in_default-scalar_index-clause-repeats c = λ ms s.
     walked_leaf (c.walk.invariant.walked ms s)
     (c.has_item.ensures.yes c.walk-test.true).1
-    (c.in_default-scalar_place.ensures.none (search rules))
+    (c.in_default-scalar_index.ensures.none (search rules))
 
 pub returns-then-stamp-clause-repeats : goal.returns-then-stamp-clause-repeats
 returns-then-stamp-clause-repeats c = λ ms s.

@@ -9,23 +9,23 @@ use Rattle.plist_binwrite.proofs.Skipping.{sits_in}
 use Rattle.plist_binwrite.proofs.Unhinted.{plain_shape}
 use Rattle.plist_binwrite.proofs.keys.repeats_key.Goals as goal
 
-pub loop-place-preserved : goal.loop-place-preserved
-loop-place-preserved c = record {
+pub loop-index-preserved : goal.loop-index-preserved
+loop-index-preserved c = record {
   long = c.repeats_at.ensures.long;
   older = λ i h. omega (arith, c.repeats_at.ensures.newer i h);
-  once = λ p ms lt s. elim (eqb_tells p c.loop-place.place) [
+  once = λ p ms lt s. elim (eqb_tells p c.loop-index.index) [
     | inl e ↦ MatchBool-at_false _ _ c.if-repeats_at.false (c.repeats_at.ensures.repeats ms
         (subst (λ k. Sits (plain_events c.args.events.now) (Dictionary ms) k) e.1 s))
-    | inr d ↦ c.loop-place.invariant.once p ms (omega (arith, lt, d.1)) s
+    | inr d ↦ c.loop-index.invariant.once p ms (omega (arith, lt, d.1)) s
   ];
 }
 
 pub returns-then-repeats_at-clause-once : goal.returns-then-repeats_at-clause-once
 returns-then-repeats_at-clause-once c = λ tree alike. (
   (λ e. absurd (true≢false e)),
-  (λ once. absurd (one_repeats (plain_events c.args.events.now) tree c.loop-place.place
+  (λ once. absurd (one_repeats (plain_events c.args.events.now) tree c.loop-index.index
       (plain_shape c.args.events.now tree alike)
-      (omega (arith, c.loop-place-test.true, c.len-place-end.ensures))
+      (omega (arith, c.loop-index-test.true, c.len-index-end.ensures))
       (c.repeats_at.ensures.begins c.if-repeats_at.true)
       (λ ms s. MatchBool-at_true _ _ c.if-repeats_at.true (c.repeats_at.ensures.repeats ms s))
       once)),
@@ -34,7 +34,7 @@ returns-then-repeats_at-clause-once c = λ tree alike. (
 pub returns-clause-once : goal.returns-clause-once
 returns-clause-once c = λ tree alike. (
   (λ e. all_once (plain_events c.args.events.now) tree (plain_shape c.args.events.now tree alike)
-      (λ p ms s. c.loop-place.invariant.once p ms
-      (omega (arith, sits_in s, c.loop-place-test.false, c.len-place-end.ensures)) s)),
+      (λ p ms s. c.loop-index.invariant.once p ms
+      (omega (arith, sits_in s, c.loop-index-test.false, c.len-index-end.ensures)) s)),
   (λ once. refl),
 )

@@ -15,8 +15,8 @@ all_zero xs n e h k =
       | inr b ↦ h k b.1
     ]
 
-pub loop-place-init : goal.loop-place-init
-loop-place-init c =
+pub loop-index-init : goal.loop-index-init
+loop-index-init c =
     let count = c.len-count.result in
     let places = c.in_ok-places.places in
     let zeros = c.in_ok-places.ensures.zeros in
@@ -28,15 +28,15 @@ loop-place-init c =
       λ p h s. absurd (omega arith),
     )
 
-pub loop-place-preserved : goal.loop-place-preserved
-loop-place-preserved c = (
+pub loop-index-preserved : goal.loop-index-preserved
+loop-index-preserved c = (
   c.in_ok-order_here.ensures.order,
-  below_more _ _ (λ p lt s. c.in_ok-order_here.ensures.keeps _ (c.loop-place.invariant.1 p lt s))
+  below_more _ _ (λ p lt s. c.in_ok-order_here.ensures.keeps _ (c.loop-index.invariant.1 p lt s))
       (c.in_ok-order_here.ensures.marked (omega arith)),
 )
 
 pub returns-clause-all : goal.returns-clause-all
 returns-clause-all c = λ k h.
     let known = c.requires.planned.numbered.known k h in
-    in_order k c.loop-place.invariant.0 (rw (← known.1)
-    (c.loop-place.invariant.1 _ (omega (arith, known.0, c.loop-place-test.false)) known.2))
+    in_order k c.loop-index.invariant.0 (rw (← known.1)
+    (c.loop-index.invariant.1 _ (omega (arith, known.0, c.loop-index-test.false)) known.2))

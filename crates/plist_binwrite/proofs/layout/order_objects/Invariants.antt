@@ -4,7 +4,7 @@ use Rattle.plist_binwrite.specs.inner.Laying.{IsOrder}
 use Rattle.plist_binwrite.specs.inner.Planning.{count_of, numbers_of}
 use Rattle.plist_binwrite.proofs.layout.order_objects.Given as goal
 
-abbrev pub invariant-loop-place : goal.invariant-loop-place
-invariant-loop-place l = IsOrder (count_of l.plan) l.layout.order l.layout.places
-    × ((p : ℕ) → p < l.place → is_stop (event_at (plain_events l.events) p) ≡ false
+abbrev pub invariant-loop-index : goal.invariant-loop-index
+invariant-loop-index l = IsOrder (count_of l.plan) l.layout.order l.layout.places
+    × ((p : ℕ) → p < l.index → is_stop (event_at (plain_events l.events) p) ≡ false
     → get_or l.layout.places (num_of (numbers_of l.plan) p) 0 ≢ 0)

@@ -11,5 +11,5 @@ returns-in_ok-number_halves-in-Dictionary-2-clause-numbered c =
     dictionary_whole
     (IsNumbered c.number_halves.new.found.numbers c.number_halves.new.found.firsts)
     (IsNumbered c.number_halves-in-Dictionary.new.found.numbers
-    c.number_halves-in-Dictionary.new.found.firsts) c.args.place
+    c.number_halves-in-Dictionary.new.found.firsts) c.args.index
     (sym c.kind_at.ensures ∙ c.in-Dictionary.is) values.keeps.numbered keys.numbered values.numbered

@@ -15,7 +15,7 @@ walk-preserved c =
           (λ f ns fs k all. f.goes ns fs (keeps_then one.keeps k) (
             k.numbered _ (subst (λ p. is_stop (event_at
                 (plain_events c.args.given.now.events.now) p)
-                ≡ false → IsNumbered found.numbers found.firsts p) c.half_of-place.ensures.half
+                ≡ false → IsNumbered found.numbers found.firsts p) c.half_of-index.ensures.half
                 one.numbered (stands c.args.values f)),
             all,
           )),

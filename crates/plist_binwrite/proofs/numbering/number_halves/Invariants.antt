@@ -1,7 +1,7 @@
 use Rattle.std.proofs.Common.{length, ◌-◌}
 use Rattle.plist_base.specs.Trees.{Members}
 use Rattle.plist_binwrite.specs.Standing.{SitsPairs}
-use Rattle.plist_binwrite.specs.Held.{plain_events, half_places}
+use Rattle.plist_binwrite.specs.Held.{plain_events, half_indices}
 use Rattle.plist_binwrite.specs.inner.Numbering.{GoesSoFar, KeepsNumbers}
 use Rattle.plist_binwrite.proofs.PlannedBy.{NumbersRest}
 use Rattle.plist_binwrite.proofs.Passing.{Pairs}
@@ -13,7 +13,7 @@ invariant-walk l =
     × KeepsNumbers l.initial.found l.found
     × ((ms : Members) → SitsPairs (plain_events l.given.events.now) ms l.from
     → Pairs (plain_events l.given.events.now)
-    (λ left q. NumbersRest l.found (half_places l.values ms l.from) (half_places l.values left q))
+    (λ left q. NumbersRest l.found (half_indices l.values ms l.from) (half_indices l.values left q))
     l.key)
 
 abbrev pub decreases-walk : goal.decreases-walk

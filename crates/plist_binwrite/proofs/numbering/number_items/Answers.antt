@@ -9,7 +9,7 @@ walk-preserved c =
     let one = c.in_ok-number_one.ensures in (
       record { long = c.requires.so_far.long; plan = one.plan; ids = one.ids },
       keeps_then c.walk.invariant.1 one.keeps,
-      λ ts s. items_next (c.walk.invariant.2 ts s) y.1 c.skip-place.ensures.ends
+      λ ts s. items_next (c.walk.invariant.2 ts s) y.1 c.skip-index.ensures.ends
           (λ f ns fs k all. f.goes ns fs (keeps_then one.keeps k)
           (k.numbered _ (one.numbered y.1), all)),
     )

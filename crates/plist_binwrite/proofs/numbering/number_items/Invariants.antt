@@ -1,7 +1,7 @@
 use Rattle.std.proofs.Common.{length, ◌-◌}
 use Rattle.plist_base.specs.Trees.{Trees}
 use Rattle.plist_binwrite.specs.Standing.{SitsItems}
-use Rattle.plist_binwrite.specs.Held.{plain_events, item_places}
+use Rattle.plist_binwrite.specs.Held.{plain_events, item_indices}
 use Rattle.plist_binwrite.specs.inner.Numbering.{GoesSoFar, KeepsNumbers}
 use Rattle.plist_binwrite.proofs.PlannedBy.{NumbersRest}
 use Rattle.plist_binwrite.proofs.Passing.{Items}
@@ -13,7 +13,7 @@ invariant-walk l =
     × KeepsNumbers l.initial.found l.found
     × ((ts : Trees) → SitsItems (plain_events l.given.events.now) ts l.from
     → Items (plain_events l.given.events.now)
-    (λ left q. NumbersRest l.found (item_places ts l.from) (item_places left q)) l.place)
+    (λ left q. NumbersRest l.found (item_indices ts l.from) (item_indices left q)) l.index)
 
 abbrev pub decreases-walk : goal.decreases-walk
-decreases-walk l = length (plain_events l.given.events.now) - l.place
+decreases-walk l = length (plain_events l.given.events.now) - l.index

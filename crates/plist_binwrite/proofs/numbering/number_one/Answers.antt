@@ -9,21 +9,21 @@ small c =
     omega (
       arith,
       ap length c.in_ok-push.ensures.pushed,
-      length-append c.args.found.now.firsts (c.args.place ∷ []),
+      length-append c.args.found.now.firsts (c.args.index ∷ []),
     )
 
-within : (c : AllStored) → c.args.place < length (plain_events c.args.given.now.events.now)
+within : (c : AllStored) → c.args.index < length (plain_events c.args.given.now.events.now)
 within c = (c.if-not-has_item.ensures.yes refl).0
 
 without : (c : AllStored)
     → length c.args.found.now.firsts
-    ≤ get_or c.args.found.now.ids (num_of c.args.given.now.classes.now c.args.place) 0
+    ≤ get_or c.args.found.now.ids (num_of c.args.given.now.classes.now c.args.index) 0
 without c =
     let here = ap (λ k. get_or c.args.found.now.ids k 0) c.get-class.ensures in
     omega arith
 
 ids_are : (c : AllStored) → c.set-2.new.self
-    ≡ set c.args.found.now.ids (num_of c.args.given.now.classes.now c.args.place)
+    ≡ set c.args.found.now.ids (num_of c.args.given.now.classes.now c.args.index)
     (length c.args.found.now.firsts)
 ids_are c =
     c.in_ok-set-2.ensures.set
@@ -32,13 +32,13 @@ ids_are c =
     c.len-count.ensures
 
 numbers_are : (c : AllStored) → c.set-3.new.self
-    ≡ set c.args.found.now.numbers c.args.place (length c.args.found.now.firsts)
+    ≡ set c.args.found.now.numbers c.args.index (length c.args.found.now.firsts)
 numbers_are c =
     c.in_ok-set-3.ensures.set ∙ ap (set _ _) c.len-count.ensures
 
 pub returns-clause-ids : goal.returns-clause-ids
 returns-clause-ids c =
-    rw (ids_are c, c.in_ok-push.ensures.pushed) (ids_new c.requires.so_far.ids c.args.place
+    rw (ids_are c, c.in_ok-push.ensures.pushed) (ids_new c.requires.so_far.ids c.args.index
     (omega (arith, within c, c.requires.so_far.long)) (without c) (small c))
 
 pub returns-clause-plan : goal.returns-clause-plan

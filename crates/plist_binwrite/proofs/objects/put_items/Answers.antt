@@ -5,7 +5,7 @@ use Rattle.plist_binwrite.proofs.objects.put_items.Goals as goal
 
 pub walk-preserved : goal.walk-preserved
 walk-preserved g c = λ ts s.
-    items_next (c.walk.invariant ts s) (c.walk-test.ensures.yes refl).1 c.skip-place.ensures.ends
+    items_next (c.walk.invariant ts s) (c.walk-test.ensures.yes refl).1 c.skip-index.ensures.ends
     (λ f answer d k p. f.goes _ d k
     (puts_then (rw c.number-number.ensures at c.in-Ok.ensures) p))
 

@@ -1,6 +1,6 @@
 use Rattle.std.proofs.Common.{length, map, ◌-◌}
 use Rattle.plist_binwrite.specs.Forms.{table_form}
-use Rattle.plist_binwrite.specs.Held.{item_places}
+use Rattle.plist_binwrite.specs.Held.{item_indices}
 use Rattle.plist_base.specs.Trees.{Trees}
 use Rattle.plist_binwrite.specs.Standing.{SitsItems}
 use Rattle.plist_binwrite.specs.inner.Putting.{events_in, numbers_by}
@@ -12,8 +12,8 @@ abbrev pub invariant-walk : goal.invariant-walk
 invariant-walk g l = (ts : Trees) → SitsItems (events_in l.file) ts l.from
     → Items (events_in l.file) (λ left q. PutsRest (numbers_by l.file) l.file.width
     (g.W.Write.contents l.initial.out) l.initial.room.items
-    (table_form l.file.width (map (numbers_by l.file) (item_places ts l.from)))
-    (g.W.Write.contents l.out) l.room.items (item_places left q)) l.place
+    (table_form l.file.width (map (numbers_by l.file) (item_indices ts l.from)))
+    (g.W.Write.contents l.out) l.room.items (item_indices left q)) l.index
 
 abbrev pub decreases-walk : goal.decreases-walk
-decreases-walk g l = length (events_in l.file) - l.place
+decreases-walk g l = length (events_in l.file) - l.index

@@ -10,7 +10,7 @@ pub walk-preserved : goal.walk-preserved
 walk-preserved c =
     let y = c.walk-test.ensures.yes refl in (
       omega arith,
-      λ ts s. items_next (c.walk.invariant.1 ts s) y.1 c.skip-place.ensures.ends
+      λ ts s. items_next (c.walk.invariant.1 ts s) y.1 c.skip-index.ensures.ends
           (λ f. omega arith),
     )
 

@@ -6,9 +6,9 @@ use Rattle.plist_binwrite.proofs.Passing.{Items}
 use Rattle.plist_binwrite.proofs.size.count_items.Given as goal
 
 abbrev pub invariant-walk : goal.invariant-walk
-invariant-walk l = (l.count ≤ l.place) × ((ts : Trees) → SitsItems (plain_events l.events) ts l.from
+invariant-walk l = (l.count ≤ l.index) × ((ts : Trees) → SitsItems (plain_events l.events) ts l.from
     → Items (plain_events l.events) (λ left q. l.count + number_of_trees left ≡ number_of_trees ts)
-    l.place)
+    l.index)
 
 abbrev pub decreases-walk : goal.decreases-walk
-decreases-walk l = length (plain_events l.events) - l.place
+decreases-walk l = length (plain_events l.events) - l.index

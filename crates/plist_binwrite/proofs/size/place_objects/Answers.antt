@@ -25,8 +25,8 @@ first-first-requires c =
     low _ _ _ _ _ c.requires.order c.get-number.ensures
     (omega arith)
 
-pub size_of_object-size-requires-clause-place : goal.size_of_object-size-requires-clause-place
-size_of_object-size-requires-clause-place c =
+pub size_of_object-size-requires-clause-index : goal.size_of_object-size-requires-clause-index
+size_of_object-size-requires-clause-index c =
     let below = low _ _ _ _ _ c.requires.order c.get-number.ensures
     (omega (arith, c.loop-index-test.true, c.len-index-end.ensures)) in
     let known = c.requires.planned.numbered.known _ below in

@@ -8,11 +8,11 @@ returns-in_ok-set-in_default-clause-classes c =
     let have = c.requires.classes in
     let found = c.in_ok-class-in_default.ensures in
     subst (λ classes. HaveFrom c.args.events.now c.args.base classes
-    c.class_of_collection.new.seen.keys c.args.place) (sym c.in_ok-set-in_default.ensures.set) (
+    c.class_of_collection.new.seen.keys c.args.index) (sym c.in_ok-set-in_default.ensures.set) (
       have.0,
       have.1,
-      collection_written c.args.classes.now c.args.place _ have.2 found.extends
-          (omega (arith, c.requires.place, c.requires.long)) found.below
+      collection_written c.args.classes.now c.args.index _ have.2 found.extends
+          (omega (arith, c.requires.index, c.requires.long)) found.below
           (λ k. c.in_default.not-Scalar (c.kind_at.ensures ∙ k)) (λ t s. found.class t s),
     )
 

@@ -10,19 +10,19 @@ pub back-init : goal.back-init
 back-init c =
     let es = plain_events c.args.events.now in
     let owners = c.in_ok-scalars.ensures.classes in
-    let place = c.len-place.ensures in
+    let index = c.len-index.ensures in
     record {
       have = (
         num_of c.in_ok-scalars.scalars.of,
         owners,
         record {
-          behind = λ t p le s. absurd (omega (arith, le, place, sits_in s));
+          behind = λ t p le s. absurd (omega (arith, le, index, sits_in s));
           before = λ p lt. refl;
           below = λ p lt. omega (arith, owners.below p lt);
         },
       );
       long = c.in_ok-scalars.ensures.long;
-      within = omega (arith, place);
+      within = omega (arith, index);
       apart = subst (λ l. AreApart (keys_seen l)) (sym c.new-collections.ensures.empty)
           (λ i j k p q. cc);
     }

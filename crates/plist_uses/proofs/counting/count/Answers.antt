@@ -1,5 +1,5 @@
 use Rattle.plist_reader.specs.Reader.{to_come}
-use Rattle.plist_uses.proofs.Counted.{begun, counted, all-counted}
+use Rattle.plist_uses.proofs.Tallies.{begun, counted, all-counted}
 use Rattle.plist_uses.proofs.counting.count.Goals as goal
 
 pub loop-item-init : goal.loop-item-init

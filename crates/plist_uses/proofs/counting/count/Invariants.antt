@@ -1,5 +1,5 @@
 use Rattle.plist_reader.specs.Reader.{to_come}
-use Rattle.plist_uses.proofs.Counted.{CountedSoFar}
+use Rattle.plist_uses.proofs.Tallies.{CountedSoFar}
 use Rattle.plist_uses.proofs.counting.count.Given as goal
 
 abbrev pub invariant-loop-item : goal.invariant-loop-item

@@ -27,11 +27,13 @@ returns-in-Ok g c =
       faults = tt;
       closes = λ h. w.closes (walk-closes old.limiter (walk_closes old) h);
       head = w.head;
-      nested = w.nested;
       cached = w.cached;
-      marked = w.marked;
-      counted = w.counted;
-      lists = w.lists;
+      leaves = record {
+        nested = w.leaves.nested;
+        marked = w.leaves.marked;
+        counted = w.leaves.counted;
+        lists = w.leaves.lists;
+      };
       falls = w.falls;
     }
 
@@ -59,12 +61,14 @@ returns-in-Err g c =
       closes = λ h. absurd (refused-closes old.limiter (walk_closes old) (event_in mid.last) fault r
           (λ e. w.closes e) h);
       head = holds_none _ mid.bounds mid.walk.tags.items _ (λ v. absurd (cc));
-      nested = w.nested;
       cached = kept_fault _ (λ bytes. number_to_come bytes old) mid.walk.tags.items c.in-Err.reached
           (event_in mid.last);
-      marked = w.marked;
-      counted = w.counted;
-      lists = w.lists;
+      leaves = record {
+        nested = w.leaves.nested;
+        marked = w.leaves.marked;
+        counted = w.leaves.counted;
+        lists = w.leaves.lists;
+      };
       falls = let falls = w.falls in omega (arith, falls);
     }
 
@@ -85,11 +89,8 @@ returns-in-Some-Err g c =
       faults = still-given 0 (2 ^ 64) (is_limited old) (fault_of c.in-Some-Err.error) w.faults;
       closes = λ h. w.closes (walk-closes old.limiter (walk_closes old) h);
       head = w.head;
-      nested = w.nested;
       cached = w.cached;
-      marked = w.marked;
-      counted = w.counted;
-      lists = w.lists;
+      leaves = w.leaves;
       falls = w.falls;
     }
 
@@ -110,10 +111,7 @@ returns-in-None g c =
       faults = tt;
       closes = λ h. w.closes (walk-closes old.limiter (walk_closes old) h);
       head = w.head;
-      nested = w.nested;
       cached = w.cached;
-      marked = w.marked;
-      counted = w.counted;
-      lists = w.lists;
+      leaves = w.leaves;
       falls = tt;
     }

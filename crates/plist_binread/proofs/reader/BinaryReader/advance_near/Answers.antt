@@ -2,7 +2,7 @@ use Rattle.std.proofs.Common.{refl, reverse}
 use Rattle.plist_binread.specs.BinaryReader.{source_of, walk_closes}
 use Rattle.plist_binread.specs.Told.{event_in}
 use Rattle.plist_binread.proofs.Limiting.{near-told, walk-closes}
-use Rattle.plist_binread.proofs.Taken.{holds_head, lists, nested}
+use Rattle.plist_binread.proofs.Taken.{holds_head, left_behind}
 use Rattle.plist_binread.proofs.Turned.{same_frames}
 use Rattle.plist_binread.proofs.reader.BinaryReader.advance_near.Goals as goal
 
@@ -24,11 +24,8 @@ returns-in-Walking-clause-tells g c = λ yes.
           (rw c.in-Walking.is at (walk-closes old.limiter (walk_closes old) h));
       head = holds_head _ old.bounds new.walk.tags.items new.walk.contents.items
           (reverse new.walk.frames) _ c.advance_near.ensures.known;
-      nested = nested _ _ _ new.walk.path (rw c.advance_near.ensures.size old.bounded);
       cached = rw c.in-Walking.is (c.advance_near.ensures.kept yes);
-      marked = new.walk.path;
-      counted = c.advance_near.ensures.counted;
-      lists = lists _ _ _ _ new.walk.path new.walk.same
+      leaves = left_behind _ _ _ _ _ new.walk.path new.walk.same c.advance_near.ensures.counted
           (rw c.advance_near.ensures.size old.bounded);
       falls = rw (c.in-Walking.is, c.advance_near.ensures.size)
           (c.advance_near.ensures.falls yes);

@@ -3,7 +3,7 @@ use Rattle.plist_binread.specs.Told.{event_in}
 use Rattle.plist_binread.specs.Turning.{root_with}
 use Rattle.plist_binread.specs.Container.{head_of}
 use Rattle.plist_binread.proofs.Steps.{fresh_falls}
-use Rattle.plist_binread.proofs.Taken.{closes-fresh, closes-ended, walking-ended, holds_head, holds_none, nested, lists, nothing_ended, first_fault, kept_fault, kept_end, step_fault, step_nothing}
+use Rattle.plist_binread.proofs.Taken.{closes-fresh, closes-ended, walking-ended, holds_head, holds_none, left_behind, nothing_ended, first_fault, kept_fault, kept_end, step_fault, step_nothing}
 use Rattle.plist_binread.proofs.Children.{known_asks_nothing}
 use Rattle.plist_binread.proofs.Failing.{from_within}
 use Rattle.plist_binread.proofs.Limiting.{given-within}
@@ -22,12 +22,10 @@ returns-in-Ended-clause-walks g c = record {
   closes = λ e. (let f = c.in-Ended.is in absurd (closes-ended _ _ f e));
   head = holds_none _ c.args.self.now.bounds c.args.self.now.walk.tags.items _
       (λ w. walking-ended _ c.in-Ended.is w);
-  nested = nested _ _ _ c.args.self.now.walk.path c.args.self.now.bounded;
   cached = rw c.in-Ended.is (kept_end _ (λ bytes. None) c.args.self.now.walk.tags.items
       (event_in c.args.self.now.last));
-  marked = c.args.self.now.walk.path;
-  counted = c.args.self.now.counted;
-  lists = lists _ _ _ _ c.args.self.now.walk.path c.args.self.now.walk.same c.args.self.now.bounded;
+  leaves = left_behind _ _ _ _ _ c.args.self.now.walk.path c.args.self.now.walk.same
+      c.args.self.now.counted c.args.self.now.bounded;
   falls = tt;
 }
 
@@ -43,11 +41,9 @@ returns-in-Ok-clause-walks g c = record {
   closes = λ e. absurd (closes-fresh _ _ c.in-Fresh.is e);
   head = holds_head _ c.begin.new.bounds c.begin.new.walk.tags.items c.begin.new.walk.contents.items
       (reverse c.begin.new.walk.frames) _ c.in-Ok.ensures.known;
-  nested = nested _ _ _ c.begin.new.walk.path c.begin.ensures.bounded;
   cached = rw c.in-Fresh.is c.in-Ok.ensures.kept;
-  marked = c.begin.new.walk.path;
-  counted = c.begin.ensures.counted;
-  lists = lists _ _ _ _ c.begin.new.walk.path c.begin.new.walk.same c.begin.ensures.bounded;
+  leaves = left_behind _ _ _ _ _ c.begin.new.walk.path c.begin.new.walk.same c.begin.ensures.counted
+      c.begin.ensures.bounded;
   falls = fresh_falls c.args.self.now.state (length c.begin.new.walk.tags.items)
       (length c.args.self.now.walk.tags.items) c.args.self.now.walk.frames
       c.begin.new.walk.frames c.in-Fresh.is c.in-Ok.ensures.falls
@@ -66,12 +62,10 @@ returns-in-Err-clause-walks g c = record {
   faults = given-within 0 (2 ^ 64) false _ c.in-Err.ensures.fault;
   closes = λ e. absurd (closes-fresh _ _ c.in-Fresh.is e);
   head = holds_none _ c.begin.new.bounds c.begin.new.walk.tags.items _ (λ w. absurd (cc));
-  nested = nested _ _ _ c.begin.new.walk.path c.begin.ensures.bounded;
   cached = rw c.in-Fresh.is (kept_fault _ (λ bytes. root_with (head_of bytes))
       c.begin.new.walk.tags.items c.in-Err.error _);
-  marked = c.begin.new.walk.path;
-  counted = c.begin.ensures.counted;
-  lists = lists _ _ _ _ c.begin.new.walk.path c.begin.new.walk.same c.begin.ensures.bounded;
+  leaves = left_behind _ _ _ _ _ c.begin.new.walk.path c.begin.new.walk.same c.begin.ensures.counted
+      c.begin.ensures.bounded;
   falls = rw c.in-Fresh.is (omega arith);
 }
 
@@ -89,12 +83,9 @@ returns-in-Some-Ok-clause-walks g c = record {
   head = holds_head _ c.args.self.now.bounds c.advance.new.walk.tags.items
       c.advance.new.walk.contents.items (reverse c.advance.new.walk.frames) _
       c.advance.ensures.known;
-  nested = nested _ _ _ c.advance.new.walk.path (rw c.advance.ensures.size c.args.self.now.bounded);
   cached = rw c.in-Walking.is (rw c.in-Some-Ok.field-0-is at c.in-Some-Ok.ensures.kept);
-  marked = c.advance.new.walk.path;
-  counted = c.advance.ensures.counted;
-  lists = lists _ _ _ _ c.advance.new.walk.path c.advance.new.walk.same
-      (rw c.advance.ensures.size c.args.self.now.bounded);
+  leaves = left_behind _ _ _ _ _ c.advance.new.walk.path c.advance.new.walk.same
+      c.advance.ensures.counted (rw c.advance.ensures.size c.args.self.now.bounded);
   falls = rw (c.in-Walking.is, c.advance.ensures.size)
       (rw c.in-Some-Ok.field-0-is at c.in-Some-Ok.ensures.falls).1;
 }
@@ -115,12 +106,9 @@ returns-in-Some-Err-clause-walks g c = record {
   closes = λ e. absurd ((rw c.in-Some-Err.field-0-is at c.in-Some-Err.ensures.closes)
       (rw c.in-Walking.is at e));
   head = holds_none _ c.args.self.now.bounds c.advance.new.walk.tags.items _ (λ w. absurd (cc));
-  nested = nested _ _ _ c.advance.new.walk.path (rw c.advance.ensures.size c.args.self.now.bounded);
   cached = rw c.in-Walking.is (rw c.in-Some-Err.field-0-is at c.in-Some-Err.ensures.kept);
-  marked = c.advance.new.walk.path;
-  counted = c.advance.ensures.counted;
-  lists = lists _ _ _ _ c.advance.new.walk.path c.advance.new.walk.same
-      (rw c.advance.ensures.size c.args.self.now.bounded);
+  leaves = left_behind _ _ _ _ _ c.advance.new.walk.path c.advance.new.walk.same
+      c.advance.ensures.counted (rw c.advance.ensures.size c.args.self.now.bounded);
   falls = rw c.in-Walking.is (rw c.in-Some-Err.field-0-is at c.in-Some-Err.ensures.falls).0;
 }
 
@@ -137,12 +125,9 @@ returns-in-None-clause-walks g c = record {
   faults = tt;
   closes = λ e. absurd (c.in-None.ensures.closes (rw c.in-Walking.is at e));
   head = holds_none _ c.args.self.now.bounds c.advance.new.walk.tags.items _ (λ w. absurd (cc));
-  nested = nested _ _ _ c.advance.new.walk.path (rw c.advance.ensures.size c.args.self.now.bounded);
   cached = rw c.in-Walking.is c.in-None.ensures.kept;
-  marked = c.advance.new.walk.path;
-  counted = c.advance.ensures.counted;
-  lists = lists _ _ _ _ c.advance.new.walk.path c.advance.new.walk.same
-      (rw c.advance.ensures.size c.args.self.now.bounded);
+  leaves = left_behind _ _ _ _ _ c.advance.new.walk.path c.advance.new.walk.same
+      c.advance.ensures.counted (rw c.advance.ensures.size c.args.self.now.bounded);
   falls = tt;
 }
 

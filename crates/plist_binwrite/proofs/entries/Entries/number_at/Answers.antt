@@ -9,6 +9,6 @@ get-requires c = (within_lists _ _ _ c.self.invariant c.self.view_is _ c.require
 pub returns : goal.returns
 returns c =
     let s = c.self.inside in
-    subst (λ es. IsEntryNumber es c.args.place c.get.result) c.self.view_is
-    (subst (IsEntryNumber (entries_from s.kinds.items s.numbers) c.args.place) (sym c.get.ensures)
-    (number_read s.kinds.items s.numbers c.args.place c.self.invariant))
+    subst (λ es. IsEntryNumber es c.args.index c.get.result) c.self.view_is
+    (subst (IsEntryNumber (entries_from s.kinds.items s.numbers) c.args.index) (sym c.get.ensures)
+    (number_read s.kinds.items s.numbers c.args.index c.self.invariant))

@@ -14,7 +14,7 @@ invariant_of-self c =
       kept = either c.push.result (λ l. IsKept (scalars_of s) l s.begun.items)
           c.push.ensures.pushed c.push.ensures.unchanged
           (kept_scalar s.kept _ (sym (append-nil (scalars_of s))) _ c.requires
-          (key_found eq_of_events event_of s.scalars.keys c.in-Some.place c.args.event
+          (key_found eq_of_events event_of s.scalars.keys c.in-Some.index c.args.event
           (same_event c.args.event) (sym c.in-Some.ensures.index)) s.kept.apart (λ j lt. inl lt))
           s.kept;
       few = either_few c.push.result _ _ c.push.ensures.small c.push.ensures.unchanged s.few;
@@ -25,5 +25,5 @@ returns-in-Some-clause-events c =
     let s = c.args.self.now in
     rw c.in_ok-push-in-Some.ensures.pushed
     (scalar_shown s.kept _ (sym (append-nil (scalars_of s))) _ c.requires
-    (key_found eq_of_events event_of s.scalars.keys c.in-Some.place c.args.event
+    (key_found eq_of_events event_of s.scalars.keys c.in-Some.index c.args.event
     (same_event c.args.event) (sym c.in-Some.ensures.index)))

@@ -16,7 +16,7 @@ invariant_of-self c =
           (kept_scalar s.kept _ (keys_more eq_of_events event_of _ s.scalars.keys keys c.args.event
           more).1
           _ c.requires
-          (key_at eq_of_events event_of keys c.in-Ok.place c.args.event h.0
+          (key_at eq_of_events event_of keys c.in-Ok.index c.args.event h.0
           (same_event c.args.event h.0)
           h.1 h.2)
           (keys_apart eq_of_events event_of event_same keys c.in-Ok.ensures.unique)
@@ -45,6 +45,6 @@ returns-in-Ok-push-clause-events c =
     (scalar_shown s.kept _
     (keys_more eq_of_events event_of _ s.scalars.keys keys c.args.event c.in-Ok.ensures.keys).1 _
     c.requires
-    (key_at eq_of_events event_of keys c.in-Ok.place c.args.event h.0
+    (key_at eq_of_events event_of keys c.in-Ok.index c.args.event h.0
     (same_event c.args.event h.0) h.1
     h.2))

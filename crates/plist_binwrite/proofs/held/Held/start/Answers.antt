@@ -11,7 +11,7 @@ invariant_of-self-2 c =
       kept = rw (
         c.push_reserved.ensures.items,
         c.in_ok-reserve.ensures.items,
-        c.len-place.ensures,
+        c.len-index.ensures,
         c.in_ok-push.ensures.pushed,
       ) (kept_start s.kept c.args.entry c.requires.starts
           (subst (λ n. behind_of n c.args.entry ≡ n + 1) (long_shown (scalars_of s) s.entries)

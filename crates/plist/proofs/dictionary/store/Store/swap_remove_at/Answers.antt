@@ -6,9 +6,9 @@ pub invariant_of-self : goal.invariant_of-self
 invariant_of-self g c =
     let k = c.self.inside in
     let e = c.swap_remove_index.ensures in
-    let within = item-there _ _ c.self.invariant.0 _ c.self.view_is c.args.place c.requires in
-    let taken = item_given k.keys.keys c.args.place c.swap_remove_index.result
-    (λ l. c.swap_remove_index.new.self.keys ≡ swap_remove k.keys.keys c.args.place l)
+    let within = item-there _ _ c.self.invariant.0 _ c.self.view_is c.args.index c.requires in
+    let taken = item_given k.keys.keys c.args.index c.swap_remove_index.result
+    (λ l. c.swap_remove_index.new.self.keys ≡ swap_remove k.keys.keys c.args.index l)
     (omega arith) e.key e.keys in
     let len = rw taken.2 at e.len in (
       omega arith,
@@ -19,7 +19,7 @@ pub returns-clause-pairs : goal.returns-clause-pairs
 returns-clause-pairs g c =
     let k = c.self.inside in
     let e = c.swap_remove_index.ensures in
-    let i = c.args.place in
+    let i = c.args.index in
     let within = item-there _ _ c.self.invariant.0 _ c.self.view_is i c.requires in
     let taken = item_given k.keys.keys i c.swap_remove_index.result
     (λ l. c.swap_remove_index.new.self.keys ≡ swap_remove k.keys.keys i l)

@@ -12,16 +12,16 @@ returns g c =
       (
         refl,
         λ w. zip-set_value _ _ _ w
-            ∙ ap (λ l. set_value_at l c.args.place w) c.self.view_is,
+            ∙ ap (λ l. set_value_at l c.args.index w) c.self.view_is,
       ),
       record {
         writes_back = tt;
-        value = ap (λ l. slice_get l c.args.place)
+        value = ap (λ l. slice_get l c.args.index)
             (sym (sym (values-rows k.keys.keys k.items.items c.self.invariant.0)
             ∙ ap values_of c.self.view_is))
-            ∙ slice_get_read k.items.items (length k.items.items) c.args.place
+            ∙ slice_get_read k.items.items (length k.items.items) c.args.index
             c.index_mut.result.now refl
-            (item-there _ _ c.self.invariant.0 _ c.self.view_is c.args.place c.requires)
+            (item-there _ _ c.self.invariant.0 _ c.self.view_is c.args.index c.requires)
             c.index_mut.ensures.value;
       },
     )

@@ -1,0 +1,101 @@
+-- What sending a file does.
+use Rattle.std.proofs.Common.{◌≡◌, inl, inr, ℕ, ◌^◌, ◌<◌, List, Option, Ok, Err, ◌∙◌, subst, refl}
+use Rattle.plist_binwrite.specs.declared.held.Held.{Held}
+use Rattle.plist_base.specs.Bracketing.{bracketing, shape, AreAlike, AreWhole, AreComplete}
+use Rattle.plist_base.specs.Events.{PlainEvent}
+use Rattle.plist_base.specs.Faults.{FaultKind, Fault, Io, OutOfMemory, PlistTooLarge}
+use Rattle.plist_base.specs.Trees.{Tree}
+use Rattle.plist_base.specs.Writing.{Answer}
+use Rattle.plist_base.proofs.Grammar.{complete_of_whole, whole_alike}
+use Rattle.plist_binwrite.specs.Classes.{IsFileBy, IsUnplanned, SendsBy, size_by}
+use Rattle.plist_binwrite.specs.Files.{IsFileOf}
+use Rattle.plist_binwrite.specs.Held.{plain_events}
+use Rattle.plist_binwrite.specs.SendingAs.{IsFileAs, FailsAs, SendsAs}
+use Rattle.plist_binwrite.specs.Sizes.{file_size}
+use Rattle.plist_binwrite.specs.inner.Scalars.{AreOwners}
+use Rattle.plist_binwrite.proofs.Least.{least}
+use Rattle.plist_binwrite.proofs.Owned.{owned_count, owned_size, entered_once}
+use Rattle.plist_binwrite.proofs.Sitting.{sits_whole}
+use Rattle.plist_binwrite.proofs.Unhinted.{plain_shape}
+
+-- a file of one kind is one of another, and has its size; and the events are alike
+module _ (One Other : Tree → List ℕ → Type 0) (size other : Tree → ℕ) (xs ys : List PlainEvent)
+    (p : AreAlike xs ys)
+    (to : (tree : Tree) → AreAlike ys (bracketing tree) → (file : List ℕ) → One tree file
+    → Other tree file)
+    (same : (tree : Tree) → AreAlike ys (bracketing tree) → size tree ≡ other tree) where
+  complete_as : AreComplete xs → AreComplete ys
+  complete_as c = complete_of_whole ys (whole_alike xs ys p c.0)
+
+  file_as : (file : List ℕ) → IsFileAs One size xs file
+      → IsFileAs Other other ys file
+  file_as file of = (complete_as of.0, λ t alike. to t alike _ (of.1 t (cc)))
+
+  module _ {W : Type 0} (contents : W → Option (List ℕ)) where
+    fails_as : (kind : FaultKind) (old new : W) → FailsAs One size contents kind xs old new
+        → FailsAs Other other contents kind ys old new
+    fails_as Io old new (file, of, front) = (file, file_as file of, front)
+    fails_as PlistTooLarge old new (large, kept) = (
+      (
+        complete_as large.0,
+        λ t alike. rw (← (same t alike)) (large.1 t (p ∙ alike)),
+      ),
+      kept,
+    )
+    fails_as OutOfMemory old new kept = kept
+    fails_as kind old new h = absurd h
+
+    pub sends_as : (answer : Answer) (old new : W) → SendsAs One size contents xs answer old new
+        → SendsAs Other other contents ys answer old new
+    sends_as (Ok done) old new (file, of, all) = (file, file_as file of, all)
+    sends_as (Err fault) old new (nowhere, fails) = (nowhere, fails_as _ old new fails)
+
+-- no file was planned, and nothing went out
+module _ {W : Type 0} (contents : W → Option (List ℕ)) (class : ℕ → ℕ) where
+  pub sends_unplanned : (events : Held) (fault : Fault) (old new : W)
+      → IsUnplanned class (plain_events events) fault
+      → AreWhole (plain_events events) → new ≡ old
+      → SendsBy class contents (plain_events events) (Err fault) old new
+  sends_unplanned events fault old new (inl is) whole same =
+      rw is (refl, same)
+  sends_unplanned events fault old new (inr large) whole same =
+      rw large.0 (
+        refl,
+        (
+          (
+            complete_of_whole _ whole,
+            λ t alike. large.1 t
+                (plain_shape events t alike),
+          ),
+          same,
+        ),
+      )
+
+-- ---- a file by the plain writer's classes is the tree's file
+
+owned_file : {class : ℕ → ℕ} {count : ℕ} (tree : Tree) (file : List ℕ)
+    → AreOwners (shape tree) class count → IsFileBy class tree file → IsFileOf tree file
+owned_file tree file o f = record {
+  written = f.written;
+  once = record {
+    events = bracketing tree;
+    faultless = f.written.items;
+    distinct = rw f.numbered.entered
+        (entered_once o f.numbered.numbers f.numbered.apart tree (sits_whole refl));
+  };
+  count = λ head is. f.count head is ∙ owned_count tree o;
+  least = least tree;
+  size = f.size ∙ owned_size tree o;
+  fits = subst (λ n. n < 2 ^ 64) (owned_size tree o) f.fits;
+}
+
+pub sends_plainly : {W : Type 0} (contents : W → Option (List ℕ)) (events : Held) {class : ℕ → ℕ}
+    {count : ℕ} (answer : Answer) (old new : W) → AreOwners (plain_events events) class count
+    → SendsBy class contents (plain_events events) answer old new
+    → SendsAs IsFileOf file_size contents (plain_events events) answer old new
+sends_plainly contents events {class} {count} answer old new o s =
+    let own = λ (tree : Tree) (alike : AreAlike (plain_events events) (bracketing tree)). subst
+    (λ es. AreOwners es class count) (plain_shape events tree alike) o in
+    sends_as (IsFileBy class) IsFileOf (size_by class) file_size (plain_events events)
+    (plain_events events) refl (λ tree alike file f. owned_file tree file (own tree alike) f)
+    (λ tree alike. owned_size tree (own tree alike)) contents answer old new s

@@ -1,0 +1,92 @@
+//! Faults: their texts, and the errors of devices in them.
+
+use crate::support::must;
+use plist_base::{Error, ErrorKind, EventKind};
+use plist_support::expect_io;
+use std::io;
+use std::process::Abort;
+
+fn expect_text(rt: &(impl Abort + AllocGlobal), error: Error, text: &str) {
+    assert_eq!(rt; must(rt, error.to_string(rt.alloc())).as_str(), text);
+}
+
+fn failed_device() -> Error {
+    ErrorKind::Io(io::Error::other("the device is gone")).with_byte_offset(3)
+}
+
+#[test]
+fn texts_of_kinds(rt: HostRuntime) {
+    let marker = ErrorKind::UnknownObjectType(136);
+    expect_text(&rt, marker.without_position(), "UnknownObjectType(136)");
+    let event = ErrorKind::UnexpectedEventType {
+        expected: EventKind::DictionaryKeyOrEndCollection,
+        found: EventKind::Integer,
+    };
+    let text = "UnexpectedEventType { expected: DictionaryKeyOrEndCollection, found: Integer }";
+    expect_text(&rt, event.without_position(), text);
+    let end = ErrorKind::ExpectedEndOfEventStream {
+        found: EventKind::String,
+    };
+    let text = "ExpectedEndOfEventStream { found: String }";
+    expect_text(&rt, end.without_position(), text);
+}
+
+#[test]
+fn texts_with_an_offset(rt: HostRuntime) {
+    let magic = ErrorKind::InvalidMagic.with_byte_offset(0);
+    expect_text(&rt, magic, "InvalidMagic (offset 0)");
+    let null = ErrorKind::NullObjectUnimplemented.with_byte_offset(18446744073709551615);
+    let text = "NullObjectUnimplemented (offset 18446744073709551615)";
+    expect_text(&rt, null, text);
+    expect_text(&rt, failed_device(), "Io (offset 3)");
+}
+
+// The two texts of a kind of events, with a blank between them.
+fn expect_kind(rt: &(impl Abort + AllocGlobal), kind: EventKind, texts: &str) {
+    let found = must(rt, format!(in rt.alloc(); "{kind} {kind:?}"));
+    assert_eq!(rt; found.as_str(), texts);
+}
+
+#[test]
+fn texts_of_event_kinds(rt: HostRuntime) {
+    expect_kind(&rt, EventKind::StartArray, "StartArray StartArray");
+    expect_kind(&rt, EventKind::Uid, "Uid Uid");
+    expect_kind(
+        &rt,
+        EventKind::ValueOrStartCollection,
+        "value or start collection ValueOrStartCollection",
+    );
+    expect_kind(
+        &rt,
+        EventKind::DictionaryKeyOrEndCollection,
+        "dictionary key or end collection DictionaryKeyOrEndCollection",
+    );
+}
+
+#[test]
+fn device_errors_come_back(rt: HostRuntime) {
+    let failed = failed_device();
+    assert!(rt; failed.is_io());
+    assert!(rt; !failed.is_eof());
+    match failed.into_io() {
+        Ok(failure) => assert_eq!(rt; failure.kind(), io::ErrorKind::Other),
+        Err(_) => panic!(rt; "a device failed"),
+    }
+    let answer: Result<(), Error> = Err(failed_device());
+    must(&rt, expect_io(answer, io::ErrorKind::Other, Some(3)));
+}
+
+#[test]
+fn other_faults_stay(rt: HostRuntime) {
+    let early = ErrorKind::UnexpectedEof.with_byte_offset(7);
+    assert!(rt; early.is_eof());
+    assert!(rt; !early.is_io());
+    assert!(rt; early.as_io().is_none());
+    match early.into_io() {
+        Ok(_) => panic!(rt; "no device failed"),
+        Err(fault) => {
+            assert!(rt; matches!(fault.kind(), ErrorKind::UnexpectedEof));
+            assert_eq!(rt; fault.offset(), Some(7));
+        }
+    }
+}

@@ -1,0 +1,270 @@
+//! Sources over a file, and what is read from their front on.
+
+use crate::support::must;
+use plist_base::{Seeking, Sequential, Source, read_exact_at};
+use plist_binread::BinaryReader;
+use plist_support::{Device, Disk, Fault, expect_io, file, words_of};
+use std::io::{Cursor, ErrorKind, Read};
+use std::process::Abort;
+
+// What lies at a place of the test's file.
+fn byte_at(place: u32) -> u8 {
+    (place % 251) as u8
+}
+
+fn sample(rt: &(impl Abort + AllocGlobal), size: u32) -> Vec<u8> {
+    let mut bytes = Vec::new(rt.alloc());
+    for place in 0..size {
+        must(rt, bytes.push(byte_at(place)));
+    }
+    bytes
+}
+
+// The bytes are those of the file from this place on.
+fn expect_bytes(rt: &impl Abort, bytes: &[u8], place: u32) {
+    let mut here = place;
+    for byte in bytes {
+        assert_eq!(rt; *byte, byte_at(here), "at {here}");
+        here = here.saturating_add(1);
+    }
+}
+
+// A read of so many bytes of a file of this size.
+fn expect_read<S: Source>(
+    rt: &(impl Abort + AllocGlobal),
+    source: &mut S,
+    size: u32,
+    place: u32,
+    length: u16,
+) {
+    let mut buf = must(rt, vec![in rt.alloc(); 0u8; usize::from(length)]);
+    match read_exact_at(source, u64::from(place), &mut buf) {
+        Ok(()) => {
+            assert!(rt; place.saturating_add(u32::from(length)) <= size);
+            expect_bytes(rt, buf.as_slice(), place);
+        }
+        Err(error) => {
+            assert!(rt; place.saturating_add(u32::from(length)) > size);
+            assert!(rt; error.is_eof(), "{length} bytes at {place}");
+        }
+    }
+}
+
+const PLACES: [u32; 17] = [
+    0, 8_190, 1, 8_192, 89_990, 0, 16_383, 12_000, 20_000, 30_000, 40_000, 50_000, 60_000, 70_000,
+    80_000, 0, 20_000,
+];
+
+// Small reads, reads over a window's ends, and reads longer than it give the file's bytes.
+#[test]
+fn gives_the_bytes(rt: HostRuntime) {
+    let size = 90_000;
+    let mut source = Seeking::with_windows(rt.alloc(), Cursor::new(sample(&rt, size)));
+    assert_eq!(rt; must(&rt, source.size()), u64::from(size));
+    for place in PLACES {
+        expect_read(&rt, &mut source, size, place, 1);
+        expect_read(&rt, &mut source, size, place, 2);
+        expect_read(&rt, &mut source, size, place, 9_000);
+    }
+}
+
+// What a short read of a window didn't reach is read at its place.
+#[test]
+fn gives_the_bytes_of_short_reads(rt: HostRuntime) {
+    let size = 9_000;
+    let mut disk = Disk::new(sample(&rt, size), u64::MAX);
+    disk.most = 100;
+    let mut source = Seeking::new(disk);
+    for place in [0, 99, 150, 8_191, 8_998, 8_999] {
+        expect_read(&rt, &mut source, size, place, 2);
+    }
+}
+
+// After small reads at these places, the reader under the source was called so often.
+fn expect_calls(rt: &(impl Abort + AllocGlobal), places: &[u32], calls: u64) {
+    let size = 1_100_000;
+    let mut source = Seeking::with_windows(rt.alloc(), Disk::new(sample(rt, size), u64::MAX));
+    for place in places {
+        expect_read(rt, &mut source, size, *place, 3);
+    }
+    assert_eq!(rt; source.into_inner().calls, calls, "{places:?}");
+}
+
+// Parts of a file in turn are read once each, two in one slot too. A third one of the slot takes
+// the place of the one that was filled first. What is wanted again then is read again, once, and
+// kept.
+#[test]
+fn keeps_its_windows(rt: HostRuntime) {
+    expect_calls(&rt, &[0, 8_192, 5, 80_000, 8_200, 3, 80_005], 6);
+    expect_calls(
+        &rt,
+        &[0, 524_288, 9, 524_290, 8_192, 532_480, 0, 524_288],
+        8,
+    );
+    expect_calls(&rt, &[0, 524_288, 1_048_576, 1_048_580, 524_288], 6);
+    expect_calls(&rt, &[0, 524_288, 1_048_576, 0, 1_048_576], 8);
+    expect_calls(&rt, &[0, 32_768, 65_536, 98_304], 8);
+    expect_calls(
+        &rt,
+        &[
+            0, 32_768, 65_536, 98_304, 0, 32_768, 65_536, 98_304, 0, 32_768, 65_536, 98_304, 5,
+        ],
+        12,
+    );
+}
+
+// Reads three bytes, and tells whether the disk failed.
+fn fails_at(rt: &impl Abort, source: &mut Seeking<Disk>, place: u32) -> bool {
+    let mut buf = [0; 3];
+    match read_exact_at(source, u64::from(place), &mut buf) {
+        Ok(()) => {
+            expect_bytes(rt, &buf, place);
+            false
+        }
+        Err(error) => {
+            let answer: Result<(), _> = Err(error);
+            must(
+                rt,
+                expect_io(answer, ErrorKind::PermissionDenied, Some(u64::from(place))),
+            );
+            true
+        }
+    }
+}
+
+// The disk fails at this call: one read of three fails.
+fn expect_failure(rt: &(impl Abort + AllocGlobal), call: u64) {
+    let mut source = Seeking::with_windows(rt.alloc(), Disk::new(sample(rt, 9_000), call));
+    let first = fails_at(rt, &mut source, 5);
+    let second = fails_at(rt, &mut source, 8_500);
+    let third = fails_at(rt, &mut source, 5);
+    assert_eq!(rt;
+        [first, second, third]
+            .iter()
+            .filter(|failed| **failed)
+            .count(),
+        1
+    );
+}
+
+// Where a seek or a read fails, the answer is its error. A later read gives the bytes again.
+#[test]
+fn goes_on_after_a_failure(rt: HostRuntime) {
+    for call in 0..4 {
+        expect_failure(&rt, call);
+    }
+}
+
+// The items of a file of seven events that gives a byte a read and fails at this call, with the
+// offset of `Io` left out. Tells whether it failed.
+fn expect_items_of_disk(rt: &(impl Abort + AllocGlobal), windows: bool, call: u64) -> bool {
+    let body = "d201020301 5161 5162 a104 5178 080d0f1113";
+    let whole = "{2 'a' [1 'x' end 'b' 'a' end";
+    let mut disk = Disk::new(must(rt, file(rt.alloc(), body, [1, 1], [5, 0, 21])), call);
+    disk.most = 1;
+    let source = match windows {
+        true => Seeking::with_windows(rt.alloc(), &mut disk),
+        false => Seeking::new(&mut disk),
+    };
+    let found = must(
+        rt,
+        words_of(rt.alloc(), BinaryReader::new(rt.alloc(), source)),
+    );
+    if disk.failures == 0 {
+        assert_eq!(rt; found.as_str(), whole);
+        return false;
+    }
+    assert_eq!(rt; disk.calls, call.saturating_add(1));
+    match found.split_once("Io (offset ") {
+        None => panic!(rt; "at call {call} came {found}"),
+        Some((before, _)) => assert!(rt; whole.starts_with(before.trim_end()), "at call {call}"),
+    }
+    true
+}
+
+fn expect_items_of_disks(rt: &(impl Abort + AllocGlobal), windows: bool) {
+    for call in 0..1000 {
+        if !expect_items_of_disk(rt, windows, call) {
+            assert!(rt; call > 20, "a failure at call {call} was lost");
+            return;
+        }
+    }
+    panic!(rt; "the disk never stopped failing")
+}
+
+#[test]
+fn items_of_failing_files(rt: HostRuntime) {
+    expect_items_of_disks(&rt, false);
+    expect_items_of_disks(&rt, true);
+}
+
+// The reader's next bytes, where the buffer has this much room.
+fn expect_next<R: Read>(
+    rt: &(impl Abort + AllocGlobal),
+    reader: &mut R,
+    room: usize,
+    wanted: &[u8],
+) {
+    let mut buf = must(rt, vec![in rt.alloc(); 0u8; room]);
+    match reader.read(&mut buf) {
+        Ok(count) => assert_eq!(rt; &buf[..count], wanted),
+        Err(failure) => panic!(rt; "{failure:?}"),
+    }
+}
+
+#[test]
+fn reads_from_the_front(rt: HostRuntime) {
+    let mut reader = Sequential::new(b"abcdefg".as_slice());
+    expect_next(&rt, &mut reader, 2, b"ab");
+    expect_next(&rt, &mut reader, 0, b"");
+    expect_next(&rt, &mut reader, 4, b"cdef");
+    expect_next(&rt, &mut reader, 4, b"g");
+    expect_next(&rt, &mut reader, 4, b"");
+    assert_eq!(rt; reader.into_inner(), b"abcdefg".as_slice());
+}
+
+// A read that fails isn't tried again, and the next one begins at its place.
+#[test]
+fn a_failed_read_takes_nothing(rt: HostRuntime) {
+    let bytes = must(&rt, Vec::from_slice(rt.alloc(), b"abc"));
+    let device = Device::with_fault(bytes, 1, Fault::Fails(ErrorKind::TimedOut));
+    let mut reader = Sequential::new(device);
+    expect_next(&rt, &mut reader, 2, b"a");
+    match reader.read(&mut [0; 2]) {
+        Ok(_) => panic!(rt; "the device failed"),
+        Err(failure) => assert_eq!(rt; failure.kind(), ErrorKind::TimedOut),
+    }
+    expect_next(&rt, &mut reader, 2, b"b");
+    let device = reader.into_inner();
+    assert_eq!(rt; device.calls, 3);
+    assert_eq!(rt; device.place, 1);
+}
+
+// Four bytes of ten are read from place 2 on, one a call. A failure is that of its own place, with
+// the device's error, and isn't tried again.
+#[test]
+fn a_failed_read_has_its_place(rt: HostRuntime) {
+    for call in 0..4 {
+        let mut device = Device::new(sample(&rt, 10), call);
+        let answer = read_exact_at(&mut device, 2, &mut [0; 4]);
+        must(
+            &rt,
+            expect_io(answer, ErrorKind::Interrupted, Some(call + 2)),
+        );
+        assert_eq!(rt; device.calls, call + 1);
+    }
+}
+
+// The bytes end where a read gives none.
+#[test]
+fn ends_where_no_byte_is(rt: HostRuntime) {
+    let mut device = Device::new(sample(&rt, 8), u64::MAX);
+    match read_exact_at(&mut device, 6, &mut [0; 4]) {
+        Ok(()) => panic!(rt; "two bytes are there"),
+        Err(error) => {
+            assert!(rt; error.is_eof());
+            assert_eq!(rt; error.offset(), Some(8));
+        }
+    }
+    assert_eq!(rt; device.calls, 3);
+}

@@ -1,0 +1,252 @@
+//! Devices that fail, or end too early.
+
+ghost use Rattle.std.specs.Prelude.{None};
+ghost use Rattle.plist_base.specs.Sources.{CountsFailure};
+
+use crate::wrong::{Wrong, told};
+use plist_base::{Error, Source};
+use std::alloc::Global;
+use std::io;
+use std::io::{Cursor, ErrorKind, Read, Seek, SeekFrom, Write};
+
+/// What comes of the one call that is unlike the others.
+#[derive(Clone, Copy)]
+pub enum Fault {
+    /// It fails with an error of this kind.
+    Fails(ErrorKind),
+    /// A read gives nothing; a write takes nothing, and that is a failure.
+    MovesNothing,
+    /// From there on so many bytes are left to be read.
+    Shrinks(usize),
+}
+
+/// A device's own errors, each of which ends a reader.
+pub const READ_FAILURES: [ErrorKind; 4] = [
+    ErrorKind::Interrupted,
+    ErrorKind::TimedOut,
+    ErrorKind::PermissionDenied,
+    ErrorKind::UnexpectedEof,
+];
+
+/// It moves one byte a call, but for one call, counting from 0. A second try of that would succeed.
+#[derive(Drop)]
+pub struct Device {
+    /// What it gives, or has taken.
+    pub bytes: Vec<u8>,
+    /// How many bytes `read` has given, or `write` has taken.
+    pub moved: usize,
+    /// The place that the last call was asked for; 0 for a size.
+    pub place: u64,
+    /// How many it had taken at its last flush.
+    pub flushed: usize,
+    /// How many calls it was asked for.
+    pub calls: u64,
+    /// How many of them failed.
+    pub failures: u64,
+    faulty_call: u64,
+    fault: Fault,
+}
+
+impl Device {
+    /// It fails in a way after which callers may want to try again.
+    pub fn new(bytes: Vec<u8>, fails_at: u64) -> Device {
+        Device::with_fault(bytes, fails_at, Fault::Fails(ErrorKind::Interrupted))
+    }
+
+    /// It has this fault at this call.
+    pub fn with_fault(bytes: Vec<u8>, faulty_call: u64, fault: Fault) -> Device {
+        Device {
+            bytes,
+            moved: 0,
+            place: 0,
+            flushed: 0,
+            calls: 0,
+            failures: 0,
+            faulty_call,
+            fault,
+        }
+    }
+
+    // Counts a call, and tells whether it moves a byte.
+    fn call(&mut self, place: u64) -> io::Result<bool>
+        ensures failures { CountsFailure result self.old.failures self.new.failures }
+    {
+        self.place = place;
+        let call = self.calls;
+        self.calls = call.saturating_add(1);
+        if call != self.faulty_call {
+            return Ok(true);
+        }
+        match self.fault {
+            Fault::MovesNothing => Ok(false),
+            Fault::Shrinks(left) => {
+                self.bytes.truncate(left);
+                Ok(true)
+            }
+            Fault::Fails(kind) => {
+                self.failures = self.failures.saturating_add(1);
+                Err(io::Error::from(kind))
+            }
+        }
+    }
+}
+
+impl Source for Device {
+    ghost known = { λ _. None };
+
+    ghost failures = { λ device. device.failures };
+
+    fn size(&mut self) -> Result<u64, io::Error> {
+        self.call(0)?;
+        Ok(self.bytes.len() as u64)
+    }
+
+    fn read_at(&mut self, place: u64, buf: &mut [u8]) -> Result<usize, io::Error> {
+        if !self.call(place)? || buf.is_empty() || place >= self.bytes.len() as u64 {
+            return Ok(0);
+        }
+        buf[0] = self.bytes[place as usize];
+        Ok(1)
+    }
+}
+
+// Lent to a reader, so that it can be looked at afterwards.
+impl<'a> Source for &'a mut Device {
+    ghost known = { λ _. None };
+
+    ghost failures = { λ device. device.now.failures };
+
+    fn size(&mut self) -> Result<u64, io::Error> {
+        (**self).size()
+    }
+
+    fn read_at(&mut self, place: u64, buf: &mut [u8]) -> Result<usize, io::Error> {
+        (**self).read_at(place, buf)
+    }
+}
+
+impl Read for Device {
+    ghost remaining = { λ _. None };
+
+    fn read(&mut self, buf: &mut [u8]) -> io::Result<usize> {
+        if !self.call(self.moved as u64)? || buf.is_empty() || self.moved >= self.bytes.len() {
+            return Ok(0);
+        }
+        buf[0] = self.bytes[self.moved];
+        self.moved += 1;
+        Ok(1)
+    }
+}
+
+impl Write for Device {
+    fn write(&mut self, buf: &[u8]) -> io::Result<usize> {
+        if !self.call(self.moved as u64)? {
+            self.failures = self.failures.saturating_add(1);
+            return Ok(0);
+        }
+        if buf.is_empty() {
+            return Ok(0);
+        }
+        self.bytes.push(buf[0])?;
+        self.moved = self.moved.saturating_add(1);
+        Ok(1)
+    }
+
+    fn flush(&mut self) -> io::Result<()> {
+        self.call(self.moved as u64)?;
+        self.flushed = self.moved;
+        Ok(())
+    }
+}
+
+/// The fault is a device's own error of this kind, with this offset.
+pub fn expect_io<T: Drop>(
+    answer: Result<T, Error>,
+    kind: ErrorKind,
+    offset: Option<u64>,
+) -> Result<(), Wrong> {
+    match answer {
+        Ok(_) => Err(Wrong::NoFault),
+        Err(error) => {
+            let found = match error.as_io() {
+                None => None,
+                Some(failure) => Some(failure.kind()),
+            };
+            if error.offset() == offset && found == Some(kind) {
+                return Ok(());
+            }
+            Err(Wrong::OtherFault(error.offset(), found))
+        }
+    }
+}
+
+// The device failed once, at its last call, and behind the items before that stands that fault,
+// with the place of the call.
+pub(crate) fn expect_cut(
+    alloc: Global,
+    device: &Device,
+    items: &str,
+    before: &str,
+) -> Result<(), Wrong> {
+    let call = device.faulty_call;
+    let (failures, calls) = (device.failures, device.calls);
+    if failures != 1 || calls != call.saturating_add(1) {
+        return told(format!(in alloc; "{failures} failures and {calls} calls at call {call}"));
+    }
+    let fault = format!(in alloc; "Io (offset {})", device.place)?;
+    match items.strip_suffix(fault.as_str()) {
+        Some(found) if found.trim_end() == before.trim_end() => Ok(()),
+        _ => told(format!(in alloc; "at call {call} came {items}, and not {before} {fault}")),
+    }
+}
+
+/// A file that fails at one call, counting from 0.
+#[derive(Drop)]
+pub struct Disk {
+    inner: Cursor<Vec<u8>>,
+    /// How many bytes one read gives at most.
+    pub most: usize,
+    /// How many calls it was asked for.
+    pub calls: u64,
+    /// How many of them failed.
+    pub failures: u64,
+    fails_at: u64,
+}
+
+impl Disk {
+    /// It gives these bytes, and fails at this call.
+    pub fn new(bytes: Vec<u8>, fails_at: u64) -> Disk {
+        Disk {
+            inner: Cursor::new(bytes),
+            most: usize::MAX,
+            calls: 0,
+            failures: 0,
+            fails_at,
+        }
+    }
+
+    fn call(&mut self) -> io::Result<()> {
+        let call = self.calls;
+        self.calls = call.saturating_add(1);
+        if call == self.fails_at {
+            self.failures = self.failures.saturating_add(1);
+            return Err(io::Error::from(ErrorKind::PermissionDenied));
+        }
+        Ok(())
+    }
+}
+
+impl Read for Disk {
+    fn read(&mut self, buf: &mut [u8]) -> io::Result<usize> {
+        self.call()?;
+        let count = buf.len().min(self.most);
+        self.inner.read(&mut buf[..count])
+    }
+}
+
+impl Seek for Disk {
+    fn seek(&mut self, to: SeekFrom) -> io::Result<u64> {
+        self.call()?;
+        self.inner.seek(to)
+    }
+}

@@ -1,0 +1,57 @@
+//! Files of the binary format, in hexadecimal.
+
+use crate::wrong::{Wrong, told};
+use std::alloc::{AllocError, Global};
+
+/// The bytes that hexadecimal digits spell; blanks between them mean nothing.
+pub fn bytes_of(alloc: Global, digits: &str) -> Result<Vec<u8>, Wrong> {
+    let mut bytes = Vec::new(alloc);
+    for word in digits.split(' ') {
+        match hex::decode(alloc, word) {
+            Ok(some) => bytes.extend_from_slice(some.as_slice())?,
+            Err(error) => return told(format!(in alloc; "{error:?} in {word}")),
+        }
+    }
+    Ok(bytes)
+}
+
+/// A file: the magic, these objects with their table, and the trailer of the widths of a place and
+/// of a reference, the number of objects, the number of the root and the place of the table.
+pub fn file_of(
+    alloc: Global,
+    body: &[u8],
+    widths: [u8; 2],
+    numbers: [u64; 3],
+) -> Result<Vec<u8>, AllocError> {
+    let mut bytes = Vec::from_slice(alloc, b"bplist00")?;
+    bytes.extend_from_slice(body)?;
+    bytes.extend_from_slice(&[0; 6])?;
+    bytes.extend_from_slice(&widths)?;
+    for number in numbers {
+        bytes.extend_from_slice(&number.to_be_bytes())?;
+    }
+    Ok(bytes)
+}
+
+/// A file whose objects and table are in hexadecimal.
+pub fn file(
+    alloc: Global,
+    body: &str,
+    widths: [u8; 2],
+    numbers: [u64; 3],
+) -> Result<Vec<u8>, Wrong> {
+    Ok(file_of(alloc, bytes_of(alloc, body)?.as_slice(), widths, numbers)?)
+}
+
+/// The file of this one object, in hexadecimal, with widths of one byte.
+pub fn file_of_object(alloc: Global, object: &str) -> Result<Vec<u8>, Wrong> {
+    let mut body = bytes_of(alloc, object)?;
+    let table = 8 + body.len() as u64;
+    body.extend_from_slice(&[8])?;
+    Ok(file_of(alloc, body.as_slice(), [1, 1], [1, 0, table])?)
+}
+
+/// At most this many bytes of the front.
+pub fn front(bytes: &[u8], count: usize) -> &[u8] {
+    &bytes[..bytes.len().min(count)]
+}

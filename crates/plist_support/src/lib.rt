@@ -1,0 +1,17 @@
+//! What the examples share: files in hexadecimal, events as words, and devices that fail.
+//!
+//! Nothing here ends the process: what an example wants and doesn't find is a `Wrong`, at which its
+//! test ends.
+#![tactic(auto)]
+
+mod device;
+mod files;
+mod reads;
+mod words;
+mod wrong;
+
+pub use device::{Device, Disk, Fault, READ_FAILURES, expect_io};
+pub use files::{bytes_of, file, file_of, file_of_object, front};
+pub use reads::{By, expect_on_devices, expect_on_shrinking_devices};
+pub use words::{add_item, add_words, word_of, words_of};
+pub use wrong::Wrong;

@@ -1,0 +1,90 @@
+//! Events as words of a text, with a blank between two.
+//!
+//! `[2` and `{2` are starts with their length, `[` and `{` starts without one, `end` is an end,
+//! `true` and `false` are themselves, and so is a number. `'a'` is a text and `<00ff>` data in
+//! hexadecimal; `uid:4` is a Uid, `real:3fc00000` a real by its bytes, `date:-5` a date by its
+//! second, to which `date:0/3fe0000000000000` adds the bytes of a date with a fraction.
+
+ghost use Rattle.std.specs.Iterator.{IsFinite};
+
+use plist_base::{Date, Error, Event, OwnedEvent, RealBits};
+use std::alloc::{AllocError, Global};
+
+fn start(alloc: Global, bracket: char, length: Option<u64>) -> Result<String, AllocError> {
+    match length {
+        None => format!(in alloc; "{bracket}"),
+        Some(length) => format!(in alloc; "{bracket}{length}"),
+    }
+}
+
+fn date_word(alloc: Global, date: Date) -> Result<String, AllocError> {
+    let second = date.plist_secs();
+    if !date.has_fraction() {
+        return format!(in alloc; "date:{second}");
+    }
+    let digits = hex::encode(alloc, date.to_plist_real())?;
+    format!(in alloc; "date:{second}/{digits}")
+}
+
+fn real_word(alloc: Global, bits: RealBits) -> Result<String, AllocError> {
+    let digits = match bits {
+        RealBits::Four(bytes) => hex::encode(alloc, bytes)?,
+        RealBits::Eight(bytes) => hex::encode(alloc, bytes)?,
+    };
+    format!(in alloc; "real:{digits}")
+}
+
+/// The word of an event.
+pub fn word_of(alloc: Global, event: &Event<'_>) -> Result<String, AllocError> {
+    match event {
+        Event::StartArray(length) => start(alloc, '[', *length),
+        Event::StartDictionary(length) => start(alloc, '{', *length),
+        Event::EndCollection => String::from_str(alloc, "end"),
+        Event::Boolean(value) => format!(in alloc; "{value}"),
+        Event::Data(bytes) => {
+            let digits = hex::encode(alloc, bytes.as_slice())?;
+            format!(in alloc; "<{digits}>")
+        }
+        Event::Date(date) => date_word(alloc, *date),
+        Event::Integer(value) => format!(in alloc; "{value}"),
+        Event::Real(bits) => real_word(alloc, *bits),
+        Event::String(text) => format!(in alloc; "'{}'", text.as_str()),
+        Event::Uid(uid) => format!(in alloc; "uid:{}", uid.get()),
+    }
+}
+
+/// Adds an item's word, or the text of its fault, behind those that are there.
+pub fn add_item(
+    alloc: Global,
+    all: &mut String,
+    item: &Result<Event<'_>, Error>,
+) -> Result<(), AllocError> {
+    let word = match item {
+        Ok(event) => word_of(alloc, event)?,
+        Err(error) => error.to_string(alloc)?,
+    };
+    add_words(all, " ", word.as_str())
+}
+
+/// Adds words, with this mark before them where they aren't the first.
+pub fn add_words(all: &mut String, mark: &str, words: &str) -> Result<(), AllocError> {
+    if !all.is_empty() {
+        all.push_str(mark)?;
+    }
+    all.push_str(words)
+}
+
+/// The words of a reader's items.
+pub fn words_of<I: Iterator<Item = Result<OwnedEvent, Error>> + Drop>(
+    alloc: Global,
+    reader: I,
+) -> Result<String, AllocError>
+    requires asked { I.can_next reader }
+    requires ends { IsFinite (I.remaining reader) }
+{
+    let mut all = String::new(alloc);
+    for item in reader {
+        add_item(alloc, &mut all, &item)?;
+    }
+    Ok(all)
+}
