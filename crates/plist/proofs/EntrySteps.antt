@@ -43,10 +43,10 @@ pub comes_last : {X : Type 0} (k : List ℕ) (v : X) (ps : List (List ℕ × X))
 comes_last k v ps e = insert_entry-absent _ k v ps (absent_from_lookup _ ps e)
 
 -- a key that is there keeps its place
-pub keeps_place : {X : Type 0} (k : List ℕ) (v : X) (ps : List (List ℕ × X)) (i : ℕ)
+pub keeps_index : {X : Type 0} (k : List ℕ) (v : X) (ps : List (List ℕ × X)) (i : ℕ)
     → Some i ≡ position (bytes_eq k) (keys_of ps)
     → set_value_at ps i v ≡ insert_entry bytes_eq ps k v
-keeps_place k v ps i q =
+keeps_index k v ps i q =
     sym (insert_entry-first _ k v ps i (Found-position _ ps i (sym q)).first)
 
 -- the value of the pair at a place
@@ -91,4 +91,4 @@ module _ {X : Type 0} (k : List ℕ) where
       (none_of _ (cc (some_index _ ps)))
 
 -- what proofs of entries know of a place
-pub ruleset places = (second_at, length-set_value_at)
+pub ruleset entries = (second_at, length-set_value_at)

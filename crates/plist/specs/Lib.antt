@@ -17,7 +17,7 @@ pub mod Stored
 pub mod ReadBy
 pub mod Same
 pub mod EntryLends
-pub mod EntryPlaces
+pub mod Entry
 pub mod Bulk
 pub mod Contents
 pub mod Rows

@@ -98,7 +98,9 @@ pub fn meets_an_end<R: Files>(rt: &R, alloc: Global, value: &Value, path: &str) 
 /// dictionaries where they have the same at every key.
 #[tactic(auto, using(crate::proofs::SameTrees::sameness))]
 pub fn are_equal(value: &Value, other: &Value) -> bool
+    // The answer.
     ensures same { result ≡ same (tree_of value.now) (tree_of other.now) }
+    // The law.
     ensures reflexive { (tree : Tree) → same tree tree ≡ true }
     ensures symmetric { (tree other : Tree) → same tree other ≡ same other tree }
     ensures transitive { IsTransitive }
@@ -137,8 +139,8 @@ pub fn set_by_entry<V: Drop>(
     ensures refused { OnErr result (pairs.new ≡ pairs.old) }
     ensures handed_back { IfErr result (λ back. back ≡ (key, first)) }
 {
-    let place = pairs.entry(key).or_insert(first)?;
-    *place = value;
+    let lent = pairs.entry(key).or_insert(first)?;
+    *lent = value;
     Ok(())
 }
 
@@ -154,8 +156,8 @@ pub fn set_by_made_entry<V: Drop, F: FnOnce() -> V>(
     ensures refused { OnErr result (pairs.new ≡ pairs.old) }
     ensures handed_back { IfErr result (λ back. (back.0 ≡ key) × F.post first back.1) }
 {
-    let place = pairs.entry(key).or_insert_with(first)?;
-    *place = value;
+    let lent = pairs.entry(key).or_insert_with(first)?;
+    *lent = value;
     Ok(())
 }
 

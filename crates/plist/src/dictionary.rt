@@ -62,11 +62,11 @@ fn empty_store<V>(alloc: Global) -> Result<Box<Store<V>>, AllocError>
 }
 
 // Puts a store where there is none. What stands there can't be dropped, whatever the values' type.
-fn put<V>(place: &mut Option<Box<Store<V>>>, store: Box<Store<V>>)
-    requires { place.old ≡ None }
-    ensures { place.new ≡ Some store }
+fn put<V>(dest: &mut Option<Box<Store<V>>>, store: Box<Store<V>>)
+    requires { dest.old ≡ None }
+    ensures { dest.new ≡ Some store }
 {
-    match place.replace(store) {
+    match dest.replace(store) {
         None => {}
         Some(before) => Box::into_inner(before).destroy_empty(),
     }
@@ -120,8 +120,8 @@ impl<V> Pairs<V> {
 
     /// The value of the key, to be changed, if it is there.
     pub fn get_mut(&mut self, key: &str) -> Option<&mut V>
-        ensures* writes_back { sem 𝓛 (LendsAtKey V.row self.entry key.now result) }
         ensures value { option_copied_mut result ≡ lookup (bytes_eq key.now) self.old }
+        ensures* writes_back { sem 𝓛 (LendsAtKey V.row self.entry key.now result) }
     {
         match &mut self.store {
             None => None,
@@ -138,22 +138,22 @@ impl<V> Pairs<V> {
     /// If memory runs out, which only a new key can meet, the pairs stay as they are, and the key
     /// and the value come back.
     pub fn insert(&mut self, key: String, value: V) -> Result<Option<V>, (String, V)>
+        // The answer.
         ensures old { IfOk result (λ old. old ≡ lookup (bytes_eq (string_bytes key)) self.old) }
         ensures pairs { OnOk result (IsSetAt self.old (string_bytes key) value self.new) }
-        ensures handed_back { IfErr result (λ back. back ≡ (key, value)) }
-        ensures unchanged { OnErr result (self.new ≡ self.old) }
+        // A refusal.
         ensures absent { OnErr result (IsAbsent (string_bytes key) self.old) }
+        ensures handed_back { IfErr result (λ back. back ≡ (key, value)) }
+        // The state after it.
+        ensures unchanged { OnErr result (self.new ≡ self.old) }
     {
         if let Some(store) = &mut self.store {
             return store.insert(key, value);
         }
-        let mut store = match empty_store(self.alloc) {
-            Ok(store) => store,
-            Err(_) => return Err((key, value)),
-        };
-        let answer = store.insert(key, value);
-        put(&mut self.store, store);
-        answer
+        match self.push(key, value) {
+            Ok(()) => Ok(None),
+            Err(back) => Err(back),
+        }
     }
 
     /// Removes the key, and returns its value, if it is there.

@@ -1,10 +1,9 @@
 //! Values in files.
 
-ghost use Rattle.std.specs.Prelude.{None, IfErr, IsSome, OnOk};
+ghost use Rattle.std.specs.Prelude.{None, IsSome, OnOk};
 ghost use Rattle.std.specs.Io.{WritesAtMost};
 ghost use Rattle.std.specs.Io.KnownBytes.{WriteAppends};
-ghost use Rattle.plist_base.specs.Faults.{fault_of};
-ghost use Rattle.plist_base.specs.Outcomes.{OnlyDevice};
+ghost use Rattle.plist_base.specs.Outcomes.{IfFault, OnlyDevice};
 ghost use Rattle.plist.specs.SendingValues.{SendsValue};
 ghost use Rattle.plist.specs.Stored.{IsUnstored};
 ghost use Rattle.plist.specs.Views.{tree_of};
@@ -116,7 +115,7 @@ impl Value {
     /// - `Io` where the file can't be created, and where a write, the flush or the sync fails. The
     ///   file may then hold a beginning of the property list.
     pub fn to_file_binary<R: Files>(&self, rt: &R, alloc: Global, path: &str) -> Result<(), Error>
-        ensures refused { IfErr result (λ error. IsUnstored (tree_of self.now) (fault_of error)) }
+        ensures refused { IfFault result (IsUnstored (tree_of self.now)) }
     {
         Output::new(rt, path).store(alloc, self)
     }

@@ -129,7 +129,7 @@ impl Partial {
 
     // Ends the innermost collection, which is a value then.
     fn end(&mut self) -> Result<(), AllocError>
-        requires place { refusal_at (unfinished_of self.old) events.EndCollection ≡ None }
+        requires order { refusal_at (unfinished_of self.old) events.EndCollection ≡ None }
         requires root { self.old.root ≡ None }
         ensures { OnOk result (CarriesOn self.old events.EndCollection self.new) }
     {

@@ -166,11 +166,13 @@ impl Value {
         events: I,
     ) -> Result<Value, Error>
         requires asked { Ends I.into_iter_gives I.IntoIter.can_next I.IntoIter.remaining events }
+        // The answer.
+        ensures value { CollectsOf I.into_iter_gives E.plain I.IntoIter.next_gives events result }
+        ensures shown { AnswersOf I.into_iter_gives E.plain I.IntoIter.next_gives events result }
+        // The law.
         ensures one_tree { TellsTrees }
         ensures last_values { (rows : TreePairs) → AreLastValues rows (last_values rows) }
         ensures itself { (value : Value) → last_wins (tree_of value) ≡ tree_of value }
-        ensures value { CollectsOf I.into_iter_gives E.plain I.IntoIter.next_gives events result }
-        ensures shown { AnswersOf I.into_iter_gives E.plain I.IntoIter.next_gives events result }
     {
         collect(alloc, events.into_iter())
     }

@@ -120,10 +120,13 @@ impl<R: Bytes> Input<R> {
         requires going { self.old.ended ≡ false }
         requires room { self.old.taken < 2 ^ 64 - 1 }
         requires none { self.old.peeked ≡ None }
+        // The answer.
         ensures next { IfOk result (λ byte. LooksAt R.remaining self.old byte self.new) }
+        // A refusal.
+        ensures fault { OnlyFault result (fault_at Io self.new.taken) }
+        // The state after it.
         ensures held { IfOk result (CanTakeByte self.new) }
         ensures end { IfOk result (λ byte. byte ≡ None → self.new.ended ≡ true) }
-        ensures fault { OnlyFault result (fault_at Io self.new.taken) }
         ensures place { self.new.taken ≡ self.old.taken }
         ensures failures { CountsFailed R.failures self.old result self.new }
     {
@@ -143,11 +146,14 @@ impl<R: Bytes> Input<R> {
     /// The next byte, which isn't taken.
     #[tactic(auto, using(crate::proofs::Unread::looks))]
     pub fn look(&mut self) -> Result<Option<u8>, Error>
+        // The answer.
         ensures next { IfOk result (λ byte. LooksAt R.remaining self.old byte self.new) }
+        // A refusal.
+        ensures fault { OnlyFault result (fault_at Io self.new.taken) }
+        // The state after it.
         ensures held { IfOk result (CanTakeByte self.new) }
         ensures end { IfOk result (λ byte. byte ≡ None → TakesNoMore self.new) }
         ensures unasked { TakesNoMore self.old → (result ≡ Ok None) × (self.new ≡ self.old) }
-        ensures fault { OnlyFault result (fault_at Io self.new.taken) }
         ensures place { self.new.taken ≡ self.old.taken }
         ensures failures { CountsFailed R.failures self.old result self.new }
     {
@@ -180,9 +186,12 @@ impl<R: Bytes> Input<R> {
 
     /// Takes the next byte, unless it ends the run.
     pub fn take_unless(&mut self, stop: Stop) -> Result<Option<u8>, Error>
+        // The answer.
         ensures some { IfCame result (λ c. TakesPlain R.remaining stop self.old c self.new) }
         ensures none { IfOk result (λ o. o ≡ None → StopsRun R.remaining stop self.old self.new) }
+        // A refusal.
         ensures fault { OnlyFault result (fault_at Io self.new.taken) }
+        // The state after it.
         ensures place { IfOk result (λ o. CountsByte self.old o self.new) }
         ensures unchanged { IfErr result (λ _. self.new.taken ≡ self.old.taken) }
         ensures failures { CountsFailed R.failures self.old result self.new }
@@ -239,10 +248,13 @@ impl<R: Bytes> Input<R> {
 
     /// Takes the next byte.
     pub fn take(&mut self) -> Result<Option<u8>, Error>
+        // The answer.
         ensures some { IfCame result (λ c. TakesByte R.remaining self.old c self.new) }
-        ensures looked { IfCame result (λ _. self.new.peeked ≡ None) }
         ensures none { IfOk result (λ o. o ≡ None → HasNothingLeft R.remaining self.old self.new) }
+        // A refusal.
         ensures fault { OnlyFault result (fault_at Io self.new.taken) }
+        // The state after it.
+        ensures looked { IfCame result (λ _. self.new.peeked ≡ None) }
         ensures place { IfOk result (λ o. CountsByte self.old o self.new) }
         ensures unchanged { IfErr result (λ _. self.new.taken ≡ self.old.taken) }
         ensures failures { CountsFailed R.failures self.old result self.new }
@@ -258,10 +270,13 @@ impl<R: Bytes> Input<R> {
 
     /// Takes the next byte of a quoted text, which must be there.
     pub fn must_take(&mut self) -> Result<u8, Error>
+        // The answer.
         ensures value { IfOk result (λ c. TakesByte R.remaining self.old c self.new) }
+        // A refusal.
+        ensures fault { IfErr result (IsUnclosedText R.remaining self.old self.new) }
+        // The state after it.
         ensures place { OnOk result (IsOneOn self.old self.new) }
         ensures unchanged { IfErr result (λ _. self.new.taken ≡ self.old.taken) }
-        ensures fault { IfErr result (IsUnclosedText R.remaining self.old self.new) }
         ensures failures { CountsFailed R.failures self.old result self.new }
     {
         match self.take()? {

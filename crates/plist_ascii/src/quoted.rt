@@ -35,8 +35,8 @@ impl<R: Bytes> Input<R> {
     // Takes what stands behind a run of plain bytes: the closing quote, or an escape.
     fn run_end(&mut self, quote: u8) -> Result<Option<Piece>, Error>
         ensures value { IfOk result (TakesEnd R.remaining quote self.old self.new) }
-        ensures rises { OnOk result (IsFurther self.old self.new) }
         ensures fault { IfErr result (FailsBehind R.remaining (EndFails quote) self.old self.new) }
+        ensures rises { OnOk result (IsFurther self.old self.new) }
         ensures failures { CountsFailed R.failures self.old result self.new }
     {
         if self.must_take()? == quote {
@@ -49,8 +49,8 @@ impl<R: Bytes> Input<R> {
     // Takes a run of plain bytes and what stands behind it. Says whether the text is closed.
     fn part(&mut self, quote: u8, text: &mut Vec<u8>) -> Result<bool, Error>
         ensures value { IfOk result (Quotes R.remaining quote self.old text.old self.new text.new) }
-        ensures rises { OnOk result (IsFurther self.old self.new) }
         ensures fault { IfErr result (FailsBehind R.remaining (PartFails quote) self.old self.new) }
+        ensures rises { OnOk result (IsFurther self.old self.new) }
         ensures failures { CountsFailed R.failures self.old result self.new }
     {
         self.take_run(Stop::Quoted(quote), text)?;

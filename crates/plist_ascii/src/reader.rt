@@ -23,11 +23,14 @@ fn is_from_outside(error: &Error) -> bool
 impl<R: Bytes> Input<R> {
     // Takes tokens up to the first that gives an item.
     fn item(&mut self, alloc: Global, stop: Stop) -> Option<Result<OwnedEvent, Error>>
+        // The answer.
         ensures items { GivesFirst R.remaining stop self.old result self.new }
-        ensures rises { TakesBytes result self.old.taken self.new.taken }
-        ensures offset { FaultIsAt result self.new.taken }
         ensures kinds { IsAsciiItem result }
         ensures brackets { ItemBehindBracket result (self.new.peeked ≡ None) }
+        // A refusal.
+        ensures offset { FaultIsAt result self.new.taken }
+        // The state after it.
+        ensures rises { TakesBytes result self.old.taken self.new.taken }
         ensures ended { self.old.ended ≡ true → result ≡ None }
         ensures unasked { self.old.ended ≡ true → self.new.inner ≡ self.old.inner }
         ensures ends { EndsAfter result (self.new.ended ≡ true) }
@@ -93,11 +96,13 @@ impl<R: Bytes> AsciiReader<R> {
 
     /// A lax reader over a device's bytes. It reads nothing before its first item is asked for.
     pub fn new(alloc: Global, inner: R) -> Self
+        // The answer.
         ensures bytes { bytes_left R.remaining result ≡ readable (R.remaining inner) }
-        ensures place { place_of result ≡ 0 }
         ensures inner { inner_of result ≡ inner }
-        ensures looked_at { looked_at result ≡ None }
         ensures dialect { dialect_of result ≡ Dialect.Lax }
+        // The state after it.
+        ensures place { place_of result ≡ 0 }
+        ensures looked_at { looked_at result ≡ None }
     {
         AsciiReader::with_dialect(alloc, inner, Dialect::Lax)
     }
@@ -108,11 +113,14 @@ impl<R: Bytes> AsciiReader<R> {
     /// In the tight dialect `{a=b}` gives a dictionary's start, `a`, `b` and an end.
     #[tactic(auto, using(crate::proofs::Unread::new_unread))]
     pub fn with_dialect(alloc: Global, inner: R, dialect: Dialect) -> Self
+        // The answer.
         ensures bytes { bytes_left R.remaining result ≡ readable (R.remaining inner) }
-        ensures place { place_of result ≡ 0 }
         ensures inner { inner_of result ≡ inner }
-        ensures looked_at { looked_at result ≡ None }
         ensures dialect { dialect_of result ≡ dialect }
+        // The state after it.
+        ensures place { place_of result ≡ 0 }
+        ensures looked_at { looked_at result ≡ None }
+        // The law.
         ensures alike { OnlyBareTextsDiffer }
     {
         AsciiReader {
@@ -127,8 +135,8 @@ impl<R: Bytes> AsciiReader<R> {
     /// That byte is lost. Behind a bracket or a quoted text none is.
     #[tactic(auto, using(crate::proofs::Unread::going_unread))]
     pub fn into_inner(self) -> R
-        ensures inner { result ≡ inner_of self }
         ensures bytes { (HasEnded self → ⊥) → HoldsLeft self R.remaining result }
+        ensures inner { result ≡ inner_of self }
     {
         self.input.into_inner()
     }

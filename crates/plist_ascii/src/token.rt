@@ -52,7 +52,7 @@ impl<R: Bytes> Input<R> {
     fn slash(&mut self, alloc: Global, stop: Stop) -> Result<Option<OwnedEvent>, Error>
         ensures answers { GivesToken R.remaining (slash (stops stop)) self.old result self.new }
         ensures memory { IfErr result (WantsForText R.remaining (slash (stops stop)) self.old) }
-        ensures kinds { IfCame result (λ e. IsTextEvent (event_of e)) }
+        ensures kinds { IfCame result (λ event. IsTextEvent (event_of event)) }
         ensures failures { CountsFailed R.failures self.old result self.new }
     {
         match self.look()? {
@@ -80,9 +80,12 @@ impl<R: Bytes> Input<R> {
         stop: Stop,
         byte: u8,
     ) -> Result<Option<OwnedEvent>, Error>
+        // The answer.
         ensures answers { GivesToken R.remaining (token_until stop byte) self.old result self.new }
+        ensures kinds { IfCame result (λ event. IsAsciiEvent (event_of event)) }
+        // A refusal.
         ensures memory { IfErr result (WantsForText R.remaining (token_until stop byte) self.old) }
-        ensures kinds { IfCame result (λ e. IsAsciiEvent (event_of e)) }
+        // The state after it.
         ensures brackets { self.old.peeked ≡ None → IfCame result (StopsAtBracket self.new) }
         ensures failures { CountsFailed R.failures self.old result self.new }
     {

@@ -4,6 +4,10 @@ use Rattle.std.specs.Prelude.{◌≡◌, ℕ, List, Option, Result, IfOk, IfErr,
 use Rattle.plist_base.specs.declared.error.Error.{Error}
 use Rattle.plist_base.specs.Faults.{Fault, Io, OutOfMemory, fault_nowhere, fault_of}
 
+-- this is so of the fault, where it is refused
+abbrev pub IfFault : {A : Type 0} → Result A Error → (Fault → Type 0) → Type 0
+IfFault answer says = IfErr answer (λ error. says (fault_of error))
+
 -- the only refusal is this fault
 abbrev pub OnlyFault : {A : Type 0} → Result A Error → Fault → Type 0
 OnlyFault answer fault = IfErr answer (λ error. fault_of error ≡ fault)

@@ -14,8 +14,8 @@ abbrev pub answer_of : Result (Unit {0}) Error → Answer
 answer_of (Ok done) = Ok done
 answer_of (Err error) = Err (fault_of error)
 
--- a fact for an event that is accepted, one for an event refused for its place, one for a failure
--- in the call, and one for every other answer
+-- a fact for an event that is accepted, one for an event refused since it can't come next, one for
+-- a failure in the call, and one for every other answer
 abbrev pub MatchKind : FaultKind → (refused failed other : Type 0) → Type 0
 MatchKind (UnexpectedEventType expected found) refused failed other = refused
 MatchKind (ExpectedEndOfEventStream found) refused failed other = refused
@@ -36,11 +36,11 @@ GoesOn before event after =
     AreWhole (before ++ event ∷ []) ⊎ ContinueAlike after (before ++ event ∷ [])
 
 -- While a writer hasn't failed, an event is accepted where what is held can go on with it, and one
--- that is refused for its place can't, and changes nothing; any other refusal fails the writer, and
+-- that is refused for the order can't, and changes nothing; any other refusal fails the writer, and
 -- comes only where what is held can go on with the event.
-abbrev pub AnswersByPlace : (before : List PlainEvent) → PlainEvent → Answer
+abbrev pub AnswersByOrder : (before : List PlainEvent) → PlainEvent → Answer
     → (after : List PlainEvent) → (failed : Bool) → (unchanged : Type 0) → Type 0
-AnswersByPlace before event answer after failed unchanged = MatchAnswer answer
+AnswersByOrder before event answer after failed unchanged = MatchAnswer answer
     (CanContinue before event × (failed ≡ false) × GoesOn before event after)
     ((CanContinue before event → ⊥) × unchanged)
     (CanContinue before event × (failed ≡ true))

@@ -43,10 +43,12 @@ impl Date {
     /// [`ErrorKind::OverflowOrNanDate`] if the real is infinite or no number, or its second lies
     /// outside the range of dates.
     pub fn from_plist_real(bytes: [u8; 8]) -> Result<Date, ErrorKind>
+        // The answer.
         ensures date { IfOk result (λ date. date_of_bytes bytes ≡ Some date) }
         ensures bytes { IfOk result (λ date. date ≡ date_bytes bytes) }
+        // A refusal.
         ensures refused { IsErr result ↔ (date_of_bytes bytes ≡ None) }
-        ensures error { IfErr result (λ kind. kind ≡ ErrorKind.OverflowOrNanDate) }
+        ensures error { IfErr result (λ error. error ≡ ErrorKind.OverflowOrNanDate) }
         ensures no_second { IfErr result (λ _. HasNoSecond bytes) }
     {
         let bits = u64::from_be_bytes(bytes);
@@ -71,11 +73,14 @@ impl Date {
     /// The date of a second from 2001-01-01T00:00:00Z on, without a fraction, or `None` if it
     /// lies outside the range of dates.
     pub fn from_plist_secs(second: i64) -> Option<Date>
-        ensures in_range { IsSome result ↔ IsSecondOfDate second }
+        // The answer.
         ensures second { IfSome result (λ date. second_of_bytes date ≡ Some second) }
+        ensures date { IfSome result (λ date. IsDate date) }
         ensures whole { IfSome result (λ date. IsWhole date) }
         ensures exact { IfSome result (IsExactly second) }
-        ensures date { IfSome result (λ date. IsDate date) }
+        // A refusal.
+        ensures in_range { IsSome result ↔ IsSecondOfDate second }
+        // The law.
         ensures only { IfSome result (IsOnlyAt second) }
     {
         match bits_of_second(second) {
@@ -89,11 +94,14 @@ impl Date {
     /// The date of a Unix second, without a fraction, or `None` if it lies outside the range of
     /// dates.
     pub fn from_unix_secs(second: i64) -> Option<Date>
-        ensures in_range { IsSome result ↔ IsSecondOfDate (second -ℤ plist_epoch) }
+        // The answer.
         ensures second { IfSome result (λ d. second_of_bytes d ≡ Some (second -ℤ plist_epoch)) }
+        ensures date { IfSome result (λ date. IsDate date) }
         ensures whole { IfSome result (λ date. IsWhole date) }
         ensures exact { IfSome result (IsExactly (second -ℤ plist_epoch)) }
-        ensures date { IfSome result (λ date. IsDate date) }
+        // A refusal.
+        ensures in_range { IsSome result ↔ IsSecondOfDate (second -ℤ plist_epoch) }
+        // The law.
         ensures only { IfSome result (IsOnlyAt (second -ℤ plist_epoch)) }
     {
         match second.checked_sub(PLIST_EPOCH) {

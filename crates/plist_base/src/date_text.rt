@@ -26,10 +26,13 @@ impl Date {
     /// [`InvalidXmlDate`] exactly where the text isn't such a text, the calendar hasn't the day, or
     /// the moment in UTC lies outside the range of dates.
     pub fn from_xml_format(text: &str) -> Result<Date, InvalidXmlDate>
+        // The answer.
         ensures second { IfOk result (λ date. second_of_bytes date ≡ second_of_text text.now) }
         ensures whole { IfOk result (λ date. IsWhole date) }
+        // A refusal.
         ensures refused { IsErr result ↔ (second_of_text text.now ≡ None) }
-        ensures printed { (date : List ℕ) → IsDateText date text.now → ReadsAs date result }
+        // The law.
+        ensures back { (date : List ℕ) → IsDateText date text.now → ReadsAs date result }
         ensures prints { IfOk result (λ date. IsInUtc text.now → IsDateText date text.now) }
     {
         match plist_dates::second_of_text(text) {
@@ -49,10 +52,13 @@ impl Date {
     /// [`ErrorKind::YearOutOfRange`] if its year isn't one from 0 to 9999, else
     /// [`ErrorKind::OutOfMemory`] if memory runs out.
     pub fn to_xml_format(&self, alloc: Global) -> Result<String, Error>
+        // The answer.
+        ensures text { IfOk result (λ text. IsDateText self.now (string_bytes text)) }
+        // A refusal.
         ensures fraction { HasFraction self.now → IsRefused FractionalDate result }
         ensures year { IsWhole self.now → HasOtherYear self.now → IsRefused YearOutOfRange result }
-        ensures text { IfOk result (λ text. IsDateText self.now (string_bytes text)) }
         ensures memory { IsWhole self.now → HasTextYear self.now → OnlyMemory result }
+        // The law.
         ensures only { (text : List ℕ) → IsDateText self.now text → PrintsOnly text result }
     {
         if self.has_fraction() {

@@ -21,8 +21,8 @@ pub struct Limited<I> {
 impl<I> Limited<I> {
     /// Nothing has come.
     pub fn new(inner: I, limits: Limits) -> Self
-        ensures inner { inner_of result ≡ inner }
         ensures items { come_of result ≡ limited_items limits }
+        ensures inner { inner_of result ≡ inner }
     {
         Limited {
             inner,

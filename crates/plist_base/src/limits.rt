@@ -2,7 +2,8 @@
 
 ghost use Rattle.std.specs.Prelude.{◌≡◌, IfOk, IfErr, OnOk};
 ghost use Rattle.plist_base.specs.Events.{event_of};
-ghost use Rattle.plist_base.specs.Faults.{LimitReached, fault_of, limit_name};
+ghost use Rattle.plist_base.specs.Outcomes.{IfFault};
+ghost use Rattle.plist_base.specs.Faults.{LimitReached, limit_name};
 ghost use Rattle.plist_base.specs.Limits.{Admits, Refuses, level_behind, limited_items, under, IsLevelBehind, IsTooDeep, RefusesBy};
 
 use crate::{Error, ErrorKind, Event};
@@ -95,7 +96,7 @@ impl Limiter {
     /// `LimitReached`, without an offset.
     pub fn admit(&mut self, event: &Event<'_>) -> Result<(), Error>
         ensures admitted { OnOk result (Admits self.old (event_of event.now) self.new) }
-        ensures refused { IfErr result (λ e. Refuses self.old (event_of event.now) (fault_of e)) }
+        ensures refused { IfFault result (Refuses self.old (event_of event.now)) }
     {
         match self.count(event) {
             Ok(()) => Ok(()),

@@ -1,9 +1,8 @@
 //! Where a reader takes its bytes from.
 
-ghost use Rattle.std.specs.Prelude.{◌≡◌, ℕ, ◌+◌, ◌-◌, ◌^◌, ◌<◌, ◌≤◌, List, length, drop, Some, Option, IfOk, IfErr, IfSome, OnOk};
-ghost use Rattle.plist_base.specs.Faults.{fault_of};
+ghost use Rattle.std.specs.Prelude.{◌≡◌, ℕ, ◌+◌, ◌-◌, ◌^◌, ◌<◌, ◌≤◌, List, length, drop, Some, Option, IfOk, IfSome, OnOk};
 ghost use Rattle.plist_base.specs.Sources.{CountsFailure, GivesAt, LiesAt, AnswersIo, FailsReading, EndsTooEarly, IsIoWithin};
-ghost use Rattle.plist_base.specs.Outcomes.{IfRead, DecodesBy, IfRefused};
+ghost use Rattle.plist_base.specs.Outcomes.{DecodesBy, IfFault, IfRead, IfRefused};
 
 use crate::{Error, ErrorKind};
 use std::io;
@@ -120,10 +119,13 @@ impl Source for Vec<u8> {
 /// that read. The buffer may then hold a beginning of the bytes.
 pub fn read_exact_at<S: Source>(source: &mut S, place: u64, buf: &mut [u8]) -> Result<(), Error>
     requires { place + length buf.old < 2 ^ 64 }
+    // The answer.
     ensures bytes { OnOk result (IfSome (S.known source.old) (λ b. LiesAt b place buf.new)) }
-    ensures fault { IfErr result (λ error. FailsReading place (length buf.old) (fault_of error)) }
-    ensures short { IfRefused result (S.known source.old) EndsTooEarly }
+    // A refusal.
     ensures refused { IfRefused result (S.known source.old) (IsIoWithin place (length buf.old)) }
+    ensures short { IfRefused result (S.known source.old) EndsTooEarly }
+    ensures fault { IfFault result (FailsReading place (length buf.old)) }
+    // The state after it.
     ensures unchanged { S.known source.new ≡ S.known source.old }
     ensures failures { AnswersIo result (S.failures source.old) (S.failures source.new) }
 {

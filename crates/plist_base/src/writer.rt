@@ -19,7 +19,7 @@ pub trait Sealed {}
 /// a writer has an offset. Lengths of starts are hints, which decide nothing.
 pub trait Writer: Sealed {
     ghost use Rattle.plist_base.specs.Events.{EndCollection, PlainEvent, StartArray, StartDictionary, event_of};
-    ghost use Rattle.plist_base.specs.Writing.{Answer, AnswersByPlace, answer_of};
+    ghost use Rattle.plist_base.specs.Writing.{Answer, AnswersByOrder, answer_of};
 
     ghost held: { Self → List PlainEvent };
 
@@ -104,7 +104,7 @@ pub trait Writer: Sealed {
     // While it hasn't failed, its answer is decided by what it holds and the event.
     ghost law: { (before : Self) (event : PlainEvent) (answer : Answer) (after : Self)
         → Step before event answer after → failed before ≡ false
-        → AnswersByPlace (held before) event answer (held after) (failed after) (after ≡ before) };
+        → AnswersByOrder (held before) event answer (held after) (failed after) (after ≡ before) };
 
     // Once failed, each call says so, and changes nothing.
     ghost law_of_failed: { (before : Self) (event : PlainEvent) (answer : Answer) (after : Self)

@@ -34,13 +34,15 @@ pub fn advance_near<S: Source, C: DecodeCounter>(
     requires known { IfSome (S.known source.now) (λ bytes. IsWalkOf bytes bounds.now walk.old) }
     requires counted { C.counts → C.count counter.old ≡ cached_in walk.old }
     requires asked { IsAskedOf (S.known source.now) bounds.now asked.old }
+    // The answer.
+    ensures pays { PaysNext (S.known source.now) bounds.now walk.old result last.new walk.new }
+    ensures closes { result ≡ true → TellsEnd walk.old last.new }
+    // The state after it.
     ensures size { walk_objects walk.new ≡ walk_objects walk.old }
     ensures known { IfSome (S.known source.now) (λ bytes. IsWalkOf bytes bounds.now walk.new) }
     ensures counted { C.counts → C.count counter.new ≡ cached_in walk.new }
     ensures asked { IsAskedOf (S.known source.now) bounds.now asked.new }
     ensures kept { KeepsNext (S.known source.now) bounds.now walk.old result last.new walk.new }
-    ensures closes { result ≡ true → TellsEnd walk.old last.new }
-    ensures pays { PaysNext (S.known source.now) bounds.now walk.old result last.new walk.new }
     ensures falls { result ≡ true → IsLighter walk.old walk.new }
     ensures unchanged { result ≡ false → IsAsBefore walk.old walk.new }
 {
@@ -75,15 +77,18 @@ pub fn advance<S: Source, C: DecodeCounter>(
     requires known { IfSome (S.known source.old) (λ bytes. IsWalkOf bytes bounds.now walk.old) }
     requires counted { C.counts → C.count counter.old ≡ cached_in walk.old }
     requires asked { IsAskedOf (S.known source.old) bounds.now asked.old }
+    // The answer.
+    ensures pays { PaysItem (S.known source.old) bounds.now walk.old result last.new walk.new }
+    ensures closes { closes (open_in walk.old) ≡ true → IsToldEnd result (event_in last.new) }
+    // A refusal.
+    ensures fault { ItemWithin 0 bounds.now.trailer result }
+    // The state after it.
     ensures size { walk_objects walk.new ≡ walk_objects walk.old }
     ensures known { IfSome (S.known source.old) (λ bytes. IsWalkOf bytes bounds.now walk.new) }
     ensures counted { C.counts → C.count counter.new ≡ cached_in walk.new }
     ensures asked { IsAskedOf (S.known source.old) bounds.now asked.new }
     ensures kept { KeepsItem (S.known source.old) bounds.now walk.old result last.new walk.new }
-    ensures closes { closes (open_in walk.old) ≡ true → IsToldEnd result (event_in last.new) }
-    ensures pays { PaysItem (S.known source.old) bounds.now walk.old result last.new walk.new }
     ensures falls { LightensNext walk.old result walk.new }
-    ensures fault { ItemWithin 0 bounds.now.trailer result }
     ensures unchanged { S.known source.new ≡ S.known source.old }
     ensures failures { ItemCountsIo result (S.failures source.old) (S.failures source.new) }
 {

@@ -36,13 +36,16 @@ pub fn begin<S: Source, C: DecodeCounter>(
 ) -> Result<(), Error>
     requires empty { IsEmpty walk.old }
     requires counted { C.counts → C.count counter.old ≡ cached_in walk.old }
+    // The answer.
+    ensures pays { IfSome (S.known source.old) (GivesFirst result bounds.new last.new walk.new) }
+    // A refusal.
+    ensures fault { ErrWithin 0 (2 ^ 64) result }
+    // The state after it.
     ensures counted { C.counts → C.count counter.new ≡ cached_in walk.new }
     ensures bounded { IfSome (S.known source.old) (IsBounded walk.new) }
     ensures known { OnOk result (IsKnownWalk (S.known source.old) bounds.new walk.new) }
     ensures kept { IfSome (S.known source.old) (KeepsRoot result last.new walk.new) }
-    ensures pays { IfSome (S.known source.old) (GivesFirst result bounds.new last.new walk.new) }
     ensures falls { OnOk result (weight_in walk.new < walk_steps (walk_objects walk.new)) }
-    ensures fault { ErrWithin 0 (2 ^ 64) result }
     ensures unchanged { S.known source.new ≡ S.known source.old }
     ensures failures { AnswersIo result (S.failures source.old) (S.failures source.new) }
 {

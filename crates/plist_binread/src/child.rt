@@ -70,9 +70,12 @@ fn ask(seen: &[u8], width: usize, place: u64) -> Option<Asked>
 
 // Finds those of the collection at a place by reads.
 fn read_asked<S: Source>(source: &mut S, bounds: &Bounds, place: u64) -> Result<Asked, Error>
-    ensures place { IfOk result (λ asked. asked.place ≡ place) }
+    // The answer.
+    ensures value { IfOk result (λ asked. asked.place ≡ place) }
     ensures slots { FindsSlots result (S.known source.old) bounds.now place }
+    // A refusal.
     ensures fault { ErrWithin place bounds.now.trailer result }
+    // The state after it.
     ensures unchanged { S.known source.new ≡ S.known source.old }
     ensures failures { AnswersIo result (S.failures source.old) (S.failures source.new) }
 {

@@ -27,12 +27,15 @@ fn look_up(
     number: u64,
 ) -> Result<Option<u64>, Error>
     requires { length contents.now ≡ length tags.now }
+    // The answer.
+    ensures found { IfOk result (IsFoundAt number tags.now contents.now last.new) }
+    // A refusal.
+    ensures refused { IfErr result (ExplainsEntering tags.now contents.now at number) }
+    ensures kinds { IfErr result (λ error. MatchFault (kind_of (error_kind_of error)) ⊥ ⊤ ⊤) }
+    ensures fault { ErrWithin 0 0 result }
+    // The state after it.
     ensures below { IfOk result (λ _. number < length tags.now) }
     ensures new { IfOk result (λ _. is_marked (get_or tags.now number 0) ≡ false) }
-    ensures found { IfOk result (IsFoundAt number tags.now contents.now last.new) }
-    ensures kinds { IfErr result (λ error. MatchFault (kind_of (error_kind_of error)) ⊥ ⊤ ⊤) }
-    ensures refused { IfErr result (ExplainsEntering tags.now contents.now at number) }
-    ensures fault { ErrWithin 0 0 result }
 {
     if number >= tags.len() as u64 {
         return Err(ErrorKind::ObjectReferenceTooLarge.with_byte_offset(at));
@@ -64,13 +67,16 @@ pub fn enter<S: Source, C: DecodeCounter>(
 ) -> Result<(), Error>
     requires known { IfSome (S.known source.old) (λ bytes. IsWalkOf bytes bounds.now walk.old) }
     requires counted { C.counts → C.count counter.old ≡ cached_in walk.old }
+    // The answer.
+    ensures pays { Meets S.known source.old bounds.now walk.old at number result last.new walk.new }
+    // A refusal.
+    ensures fault { ErrWithin 0 bounds.now.trailer result }
+    // The state after it.
     ensures size { walk_objects walk.new ≡ walk_objects walk.old }
     ensures known { IfSome (S.known source.old) (λ bytes. IsWalkOf bytes bounds.now walk.new) }
     ensures counted { C.counts → C.count counter.new ≡ cached_in walk.new }
     ensures kept { KeepsEntered (S.known source.old) number result last.new walk.new }
-    ensures pays { Meets S.known source.old bounds.now walk.old at number result last.new walk.new }
     ensures falls { OnOk result (IsLighterEntered walk.old walk.new) }
-    ensures fault { ErrWithin 0 bounds.now.trailer result }
     ensures unchanged { S.known source.new ≡ S.known source.old }
     ensures failures { AnswersIo result (S.failures source.old) (S.failures source.new) }
 {

@@ -34,13 +34,15 @@ fn push_near(frames: &mut Frames, object: u64, count: u64) -> bool
 pub fn open_lent(walk: &mut Walk, number: u64, lent: Lent, last: &Last) -> bool
     requires below { number < walk_objects walk.old }
     requires new { get_or walk.old.tags.items number 0 ≡ 0 }
+    // The answer.
+    ensures pays { result ≡ true → OpensLent number (event_in last.now) lent walk.old walk.new }
+    ensures wanted { result ≡ false → WantsRoom lent }
+    // The state after it.
     ensures size { walk_objects walk.new ≡ walk_objects walk.old }
     ensures counted { cached_in walk.new ≡ cached_in walk.old + small_told lent last.now }
     ensures kept { result ≡ true → KeepsLent (event_in last.now) lent number walk.new }
     ensures falls { result ≡ true → IsLighterEntered walk.old walk.new }
-    ensures pays { result ≡ true → OpensLent number (event_in last.now) lent walk.old walk.new }
     ensures unchanged { result ≡ false → IsUnchanged walk.old walk.new }
-    ensures wanted { result ≡ false → WantsRoom lent }
 {
     match lent {
         Lent::Nothing
@@ -85,11 +87,13 @@ fn enter_near<S: Source, C: DecodeCounter>(
 ) -> bool
     requires known { IfSome (S.known source.now) (λ bytes. IsWalkOf bytes bounds.now walk.old) }
     requires counted { C.counts → C.count counter.old ≡ cached_in walk.old }
+    // The answer.
+    ensures pays { PaysNear S.known source.now bounds.now walk.old number result last.new walk.new }
+    // The state after it.
     ensures size { walk_objects walk.new ≡ walk_objects walk.old }
     ensures counted { C.counts → C.count counter.new ≡ cached_in walk.new }
     ensures known { result ≡ true → IsKnownWalk (S.known source.now) bounds.now walk.new }
     ensures kept { KeepsNear (S.known source.now) number result last.new walk.new }
-    ensures pays { PaysNear S.known source.now bounds.now walk.old number result last.new walk.new }
     ensures falls { result ≡ true → IsLighterEntered walk.old walk.new }
     ensures unchanged { result ≡ false → IsUnchanged walk.old walk.new }
 {
@@ -128,11 +132,13 @@ pub fn go_near<S: Source, C: DecodeCounter>(
     requires known { IfSome (S.known source.now) (λ bytes. IsWalkOf bytes bounds.now walk.old) }
     requires counted { C.counts → C.count counter.old ≡ cached_in walk.old }
     requires asked { IsAskedOf (S.known source.now) bounds.now asked.old }
+    // The answer.
+    ensures enters { Goes S.known source.now bounds.now at index walk.old result last.new walk.new }
+    // The state after it.
     ensures size { walk_objects walk.new ≡ walk_objects walk.old }
     ensures counted { C.counts → C.count counter.new ≡ cached_in walk.new }
     ensures asked { IsAskedOf (S.known source.now) bounds.now asked.new }
     ensures known { result ≡ true → IsKnownWalk (S.known source.now) bounds.now walk.new }
-    ensures enters { Goes S.known source.now bounds.now at index walk.old result last.new walk.new }
     ensures falls { result ≡ true → IsLighterEntered walk.old walk.new }
     ensures unchanged { result ≡ false → IsUnchanged walk.old walk.new }
 {

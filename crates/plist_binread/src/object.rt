@@ -39,9 +39,12 @@ pub fn decode<S: Source, C: DecodeCounter>(
     place: u64,
     last: &mut Last,
 ) -> Result<Lent, Error>
+    // The answer.
     ensures decoded { TellsObject S.known source.old bounds.now place last.new result }
-    ensures counted { CountsFound C.counts C.count counter.old counter.new result last.new }
+    // A refusal.
     ensures fault { ErrWithin place bounds.now.trailer result }
+    // The state after it.
+    ensures counted { CountsFound C.counts C.count counter.old counter.new result last.new }
     ensures unchanged { S.known source.new ≡ S.known source.old }
     ensures failures { AnswersIo result (S.failures source.old) (S.failures source.new) }
 {

@@ -51,11 +51,13 @@ impl Walk {
 
     /// Takes the next child of the innermost collection, or closes it where it has no more.
     pub fn turn(&mut self) -> Turn
-        ensures size { walk_objects self.new ≡ walk_objects self.old }
-        ensures counted { cached_in self.new ≡ cached_in self.old }
+        // The answer.
+        ensures owed { TurnsWalk self.old result self.new }
         ensures within { AsksWithin self.new.tags.items result }
         ensures closes { closes (open_in self.old) ≡ true → result ≡ Closed }
-        ensures owed { TurnsWalk self.old result self.new }
+        // The state after it.
+        ensures size { walk_objects self.new ≡ walk_objects self.old }
+        ensures counted { cached_in self.new ≡ cached_in self.old }
         ensures weight { LightensBy self.old result self.new }
         ensures contents { self.new.contents.items ≡ self.old.contents.items }
         ensures back { TurnGivesBack self.old result self.new }

@@ -11,7 +11,7 @@ use Rattle.plist_binwrite.specs.Held.{num_of, Describes}
 use Rattle.plist_binwrite.specs.Numberings.{refs, pairs, obj_of}
 use Rattle.plist_binwrite.specs.declared.plan.Plan.{Plan}
 use Rattle.plist_binwrite.specs.inner.Planning.{IsPlanned, GoesBy, numbers_of, firsts_of, count_of}
-use Rattle.plist_binwrite.proofs.Placed.{sits_at}
+use Rattle.plist_binwrite.proofs.TreeObjects.{sits_at}
 use Rattle.plist_binwrite.specs.Standing.{size, Sits, SitsItems, SitsPairs}
 use Rattle.plist_binwrite.proofs.Sitting.{sits_items, sits_pairs, sits_item, sits_next, sits_key, sits_value, sits_next_pair}
 use Rattle.plist_binwrite.proofs.Skipping.{begins, sits_in}

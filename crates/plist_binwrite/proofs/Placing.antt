@@ -22,7 +22,7 @@ use Rattle.plist_binwrite.specs.Standing.{Sits}
 use Rattle.plist_binwrite.specs.Numberings.{obj_of}
 use Rattle.plist_binwrite.specs.Sizes.{total, TellsSize, object_size}
 use Rattle.plist_binwrite.proofs.Outgoing.{one_part}
-use Rattle.plist_binwrite.proofs.Placed.{sits_at}
+use Rattle.plist_binwrite.proofs.TreeObjects.{sits_at}
 use Rattle.plist_binwrite.proofs.Reading.{length-keys_of, length-values_of}
 use Rattle.plist_binwrite.proofs.ReadingNumbers.{length-table}
 use Rattle.plist_binwrite.proofs.Totals.{total_below, total_all}

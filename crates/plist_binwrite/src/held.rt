@@ -135,8 +135,8 @@ impl<'e> Held<'e> {
         requires starts { is_start entry ≡ true }
         requires behind { IsUnclosed (length (plain_events self.old)) entry }
         ensures events { OnOk result (GrowsBy self.old (shown_in self.old entry) self.new) }
-        ensures unchanged { OnErr result (plain_events self.new ≡ plain_events self.old) }
         ensures memory { OnlyMemory result }
+        ensures unchanged { OnErr result (plain_events self.new ≡ plain_events self.old) }
     {
         self.begun.reserve(1)?;
         let index = self.entries.len();
@@ -148,8 +148,8 @@ impl<'e> Held<'e> {
     // Takes an end: the innermost start that has none is closed.
     fn end(&mut self) -> Result<(), Error>
         ensures events { OnOk result (GrowsBy self.old EndCollection self.new) }
-        ensures unchanged { OnErr result (plain_events self.new ≡ plain_events self.old) }
         ensures memory { OnlyMemory result }
+        ensures unchanged { OnErr result (plain_events self.new ≡ plain_events self.old) }
     {
         match self.begun.pop() {
             Some(start) => match self.entries.close(start) {
@@ -171,8 +171,8 @@ impl<'e> Held<'e> {
     fn scalar(&mut self, event: Event<'e>) -> Result<(), Error>
         requires { is_leaf (event_of event) ≡ true }
         ensures events { OnOk result (GrowsBy self.old (event_of event.entry) self.new) }
-        ensures unchanged { OnErr result (plain_events self.new ≡ plain_events self.old) }
         ensures memory { OnlyMemory result }
+        ensures unchanged { OnErr result (plain_events self.new ≡ plain_events self.old) }
     {
         let before = self.scalars.len();
         match self.scalars.insert_full(event) {
@@ -196,8 +196,8 @@ impl<'e> Held<'e> {
     /// `OutOfMemory`, without an offset; the events held are the same then.
     pub fn push(&mut self, event: Event<'e>) -> Result<(), Error>
         ensures events { OnOk result (GrowsBy self.old (plain_event event.entry) self.new) }
-        ensures unchanged { OnErr result (plain_events self.new ≡ plain_events self.old) }
         ensures memory { OnlyMemory result }
+        ensures unchanged { OnErr result (plain_events self.new ≡ plain_events self.old) }
     {
         let behind = self.entries.len() + 1;
         match event {
@@ -227,8 +227,8 @@ impl Held<'static> {
     /// `OutOfMemory`, without an offset; the events held are the same then.
     pub fn push_copy(&mut self, alloc: Global, event: Event<'_>) -> Result<(), Error>
         ensures events { OnOk result (GrowsBy self.old (plain_event event.entry) self.new) }
-        ensures unchanged { OnErr result (plain_events self.new ≡ plain_events self.old) }
         ensures memory { OnlyMemory result }
+        ensures unchanged { OnErr result (plain_events self.new ≡ plain_events self.old) }
     {
         match event {
             Event::StartArray(length) => self.push(Event::StartArray(length)),
@@ -247,8 +247,8 @@ impl Held<'static> {
     fn copy_content(&mut self, alloc: Global, event: Event<'_>) -> Result<(), Error>
         requires { is_leaf (event_of event) ≡ true }
         ensures events { OnOk result (GrowsBy self.old (event_of event.entry) self.new) }
-        ensures unchanged { OnErr result (plain_events self.new ≡ plain_events self.old) }
         ensures memory { OnlyMemory result }
+        ensures unchanged { OnErr result (plain_events self.new ≡ plain_events self.old) }
     {
         match self.scalars.get_index_of(&event) {
             Some(index) => {

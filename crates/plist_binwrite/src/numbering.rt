@@ -29,11 +29,13 @@ struct Numbered {
 // Numbers the object of the event here, unless it has a number.
 fn number_one(given: &Classed<'_>, found: &mut Numbered, index: usize) -> Result<(), AllocError>
     requires so_far { GoesSoFar given.now found.old }
+    // The answer.
+    ensures numbered { OnOk result (NumbersItem given.now index found.new) }
+    ensures first { OnOk result (BeginsAt given.now index found.old found.new) }
+    // The state after it.
     ensures plan { OnOk result (IsPlanOf given.now found.new) }
     ensures ids { OnOk result (HaveIdsOf given.now found.new) }
     ensures keeps { OnOk result (KeepsNumbers found.old found.new) }
-    ensures numbered { OnOk result (NumbersItem given.now index found.new) }
-    ensures first { OnOk result (BeginsAt given.now index found.old found.new) }
 {
     if !given.events.has_item(index) {
         return Ok(());

@@ -69,7 +69,7 @@ pub fn text_of_no_data(alloc: Global) -> Result<String, AllocError>
 /// [`InvalidXmlData::OutOfMemory`] if memory runs out.
 pub fn data_again(alloc: Global, first: &Data) -> Result<Data, InvalidXmlData>
     ensures same { IfOk result (λ again. again ≡ first.now) }
-    ensures memory { IfErr result (λ kind. kind ≡ refusal.OutOfMemory) }
+    ensures memory { IfErr result (λ error. error ≡ refusal.OutOfMemory) }
 {
     match first.to_xml_format(alloc) {
         Err(_) => Err(InvalidXmlData::OutOfMemory),

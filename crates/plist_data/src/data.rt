@@ -62,8 +62,8 @@ impl Data {
     #[tactic(auto, using(crate::proofs::Lines::data_decoded, crate::proofs::Lines::no_data))]
     pub fn from_xml_format(alloc: Global, text: &str) -> Result<Data, InvalidXmlData>
         ensures data { IfOk result (λ found. data_of_text text.now ≡ Some found) }
-        ensures fault { IfErr result (λ refusal. IsFaultOfText text.now refusal) }
-        ensures no_data { IfErr result (λ refusal. IsNoData text.now refusal) }
+        ensures fault { IfErr result (λ error. IsFaultOfText text.now error) }
+        ensures no_data { IfErr result (λ error. IsNoData text.now error) }
         ensures spelled { (bytes : List ℕ) → IsBytes bytes → IsReadWhereSpelled text.now bytes }
     {
         let symbols = dark_bytes(alloc, text)?;
@@ -94,9 +94,9 @@ impl Data {
 
     /// The bytes, to be changed.
     pub fn as_mut(&mut self) -> &mut [u8]
-        ensures* writes_back { sem 𝓛 (LendsBytes self.entry result) }
         ensures value { result.now ≡ self.old }
         ensures new_bytes { (new : List ℕ) → length new ≡ length self.old → IsAllNew self.old new }
+        ensures* writes_back { sem 𝓛 (LendsBytes self.entry result) }
     {
         self.bytes.as_mut_slice()
     }

@@ -1,10 +1,9 @@
 //! The walk over an archive, by a list of the open places of its own.
 
-ghost use Rattle.std.specs.Prelude.{◌≡◌, ◌<◌, [], false, length, None, OnErr, OnOk, OnSome, IfErr, nat_eq, slice_get};
+ghost use Rattle.std.specs.Prelude.{◌≡◌, ◌<◌, [], false, length, None, OnErr, OnOk, OnSome, nat_eq, slice_get};
 ghost use Rattle.std.specs.Option.{option_copied};
 ghost use Rattle.plist_base.specs.Events.{event_of};
-ghost use Rattle.plist_base.specs.Faults.{fault_of};
-ghost use Rattle.plist_base.specs.Outcomes.{OnlyMemory};
+ghost use Rattle.plist_base.specs.Outcomes.{IfFault, OnlyMemory};
 ghost use Rattle.indexmap.specs.IndexSet.{contains};
 ghost use Rattle.plist.specs.Collecting.{built_tree};
 ghost use Rattle.plist.specs.Inputs.{IsReadFrom};
@@ -90,10 +89,13 @@ impl<'a> Walk<'a> {
     // Enters the object of a Uid.
     fn enter(&mut self, uid: u64) -> Result<(), Error>
         requires { IsWalk self.old }
+        // The answer.
+        ensures entered { OnOk result (Enters self.old uid self.new) }
+        // A refusal.
+        ensures refused { IfFault result (FailsAt (follow self.old uid)) }
+        // The state after it.
         ensures path { IsWalk self.new }
         ensures objects { self.new.objects ≡ self.old.objects }
-        ensures entered { OnOk result (Enters self.old uid self.new) }
-        ensures refused { IfErr result (λ error. FailsAt (follow self.old uid) (fault_of error)) }
         ensures unchanged { OnErr result (owed self.new ≡ owed self.old) }
     {
         let Some(object) = self.look_up(uid) else {

@@ -29,9 +29,12 @@ pub enum Format {
 
 // Do the bytes begin with these?
 fn begins_with<S: Source, const N: usize>(source: &mut S, front: &[u8; N]) -> Result<bool, Error>
+    // The answer.
     ensures value { DecodesBy result (S.known source.old) (λ b. starts_with nat_eq b front.now) }
+    // A refusal.
     ensures refused { IfErr result (λ error. IsIo (kind_of (error_kind_of error))) }
     ensures offset { IfErr result (λ error. HasPlace (offset_of error)) }
+    // The state after it.
     ensures unchanged { S.known source.new ≡ S.known source.old }
     ensures failures { AnswersIo result (S.failures source.old) (S.failures source.new) }
 {
@@ -49,9 +52,12 @@ fn begins_with<S: Source, const N: usize>(source: &mut S, front: &[u8; N]) -> Re
 
 // How many bytes the mark of the byte order takes.
 fn mark_length<S: Source>(source: &mut S) -> Result<u64, Error>
+    // The answer.
     ensures length { DecodesBy result (S.known source.old) mark_length }
+    // A refusal.
     ensures refused { IfErr result (λ error. IsIo (kind_of (error_kind_of error))) }
     ensures offset { IfErr result (λ error. HasPlace (offset_of error)) }
+    // The state after it.
     ensures unchanged { S.known source.new ≡ S.known source.old }
     ensures failures { AnswersIo result (S.failures source.old) (S.failures source.new) }
 {
@@ -84,9 +90,12 @@ fn is_white(byte: u8) -> bool
 
 // Where the first byte past white space is `<`, its place.
 fn xml_place<S: Source>(source: &mut S, start: u64) -> Result<Option<u64>, Error>
-    ensures place { DecodesBy result (S.known source.old) (λ b. xml_place start (input_front b)) }
+    // The answer.
+    ensures value { DecodesBy result (S.known source.old) (λ b. xml_place start (input_front b)) }
+    // A refusal.
     ensures refused { IfErr result (λ error. IsIo (kind_of (error_kind_of error))) }
     ensures offset { IfErr result (λ error. HasPlace (offset_of error)) }
+    // The state after it.
     ensures unchanged { S.known source.new ≡ S.known source.old }
     ensures failures { AnswersIo result (S.failures source.old) (S.failures source.new) }
 {
@@ -111,9 +120,12 @@ fn xml_place<S: Source>(source: &mut S, start: u64) -> Result<Option<u64>, Error
 /// # Errors
 /// `Io` where a read failed, with its place.
 pub fn format_of<S: Source>(source: &mut S) -> Result<Format, Error>
+    // The answer.
     ensures format { DecodesBy result (S.known source.old) format_of }
+    // A refusal.
     ensures refused { IfErr result (λ error. IsIo (kind_of (error_kind_of error))) }
     ensures offset { IfErr result (λ error. HasPlace (offset_of error)) }
+    // The state after it.
     ensures unchanged { S.known source.new ≡ S.known source.old }
     ensures failures { AnswersIo result (S.failures source.old) (S.failures source.new) }
 {

@@ -18,7 +18,7 @@ use Rattle.plist_binwrite.specs.inner.Scalars.{AreOwners, AreApart}
 use Rattle.plist_binwrite.proofs.Changes.{at_set}
 use Rattle.plist_binwrite.proofs.ClassObjects.{sound, the_items, the_pairs}
 use Rattle.plist_binwrite.proofs.Owned.{class_owner, owner_class}
-use Rattle.plist_binwrite.proofs.Placed.{refs_are, keys_are, values_are}
+use Rattle.plist_binwrite.proofs.TreeObjects.{refs_are, keys_are, values_are}
 use Rattle.plist_binwrite.proofs.Reading.{dictionary_is, length-keys_of, length-values_of}
 use Rattle.plist_binwrite.proofs.Skipping.{stands_single, starts_array, starts_dictionary, sits_in}
 use Rattle.plist_share.proofs.Classed.{complete}

@@ -32,11 +32,14 @@ pub struct Indices {
 
 // The index of a collection: that of its equal which came before, or a new one.
 fn index_of(seen: &mut IndexSet<Collection>, collection: Collection) -> Result<usize, Error>
+    // The answer.
     ensures stored { IfOk result (IsKeyAt seen.new.keys collection) }
     ensures below { IfOk result (λ index. index < length (keys_seen seen.new.keys)) }
+    // A refusal.
+    ensures memory { OnlyMemory result }
+    // The state after it.
     ensures extends { OnOk result (Extends (keys_seen seen.old.keys) (keys_seen seen.new.keys)) }
     ensures apart { OnOk result (AreApart (keys_seen seen.new.keys)) }
-    ensures memory { OnlyMemory result }
 {
     match seen.insert_full(collection) {
         Ok((index, _)) => return Ok(index),
@@ -100,11 +103,14 @@ fn class_of_collection(
 ) -> Result<usize, Error>
     requires index { index < length (plain_events events.now) }
     requires long { length classes.now ≡ length (plain_events events.now) }
+    // The answer.
     ensures class { IfOk result (IsClassAt events.now classes.now base seen.new.keys index) }
     ensures below { IfOk result (λ class. class < base + length (keys_seen seen.new.keys)) }
+    // A refusal.
+    ensures memory { OnlyMemory result }
+    // The state after it.
     ensures extends { OnOk result (Extends (keys_seen seen.old.keys) (keys_seen seen.new.keys)) }
     ensures apart { OnOk result (AreApart (keys_seen seen.new.keys)) }
-    ensures memory { OnlyMemory result }
 {
     let children = classes_within(alloc, events, classes, index, indices)?;
     let collection = Collection {
@@ -153,10 +159,12 @@ fn give_class(
 /// # Errors
 /// `OutOfMemory`, without an offset.
 pub fn tree_classes(alloc: Global, events: &Held<'_>) -> Result<Classes, Error>
-    ensures long { IfOk result (λ r. length r.of ≡ length (plain_events events.now)) }
-    ensures below { IfOk result (λ r. AllBelow r.count r.of) }
+    // The answer.
     ensures objects { IfOk result (λ r. AreClasses (plain_events events.now) (num_of r.of)) }
     ensures trees { IfOk result (λ r. TellTrees (plain_events events.now) (num_of r.of)) }
+    ensures long { IfOk result (λ r. length r.of ≡ length (plain_events events.now)) }
+    ensures below { IfOk result (λ r. AllBelow r.count r.of) }
+    // A refusal.
     ensures memory { OnlyMemory result }
 {
     let scalars = classes_of(alloc, events)?;

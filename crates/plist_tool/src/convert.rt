@@ -62,9 +62,12 @@ fn hold_events<S: Source>(
     alloc: Global,
     reader: &mut BinaryReader<S>,
 ) -> Result<Option<Pending>, Error>
+    // The answer.
     ensures held { FindsTree (items_left S.known reader.old) result }
     ensures none { IfOkIs result None (AreNoTree (items_left S.known reader.old)) }
+    // A refusal.
     ensures refused { IsRefusedFor (items_left S.known reader.old) result }
+    // The state after it.
     ensures unchanged { S.known (source_of reader.new) ≡ S.known (source_of reader.old) }
     ensures failures { CountsReadsOf S.failures reader.old result reader.new }
 {

@@ -16,7 +16,7 @@ use std::rt::Files;
 // The tree of the object that an archive's `$top` names by this key.
 fn tree_at(alloc: Global, root: &Value, key: &str) -> Result<Value, Failure>
     ensures tree { IfOk result (λ value. IsTreeAt root.now key.now (tree_of value)) }
-    ensures refused { IfErr result (λ f. IsRefusedAt root.now key.now (complaint_of f)) }
+    ensures refused { IfErr result (λ error. IsRefusedAt root.now key.now (complaint_of error)) }
 {
     let archive = match Archive::open(root) {
         Ok(archive) => archive,

@@ -76,9 +76,12 @@ fn send_lines<S: Source, W: Write>(
     reader: &mut BinaryReader<S>,
     writer: &mut W,
 ) -> Result<(), Error>
+    // The answer.
     ensures printed { OnOk result (PrintsRest S.known W.contents reader.old writer.old writer.new) }
+    // A refusal.
     ensures refused { IfErr result (EndsRest S.known W.contents reader.old writer.old writer.new) }
-    ensures sent { SendsFrontOfRest S.known W.contents reader.old writer.old writer.new }
+    // The state after it.
+    ensures front { SendsFrontOfRest S.known W.contents reader.old writer.old writer.new }
     ensures unchanged { S.known (source_of reader.new) ≡ S.known (source_of reader.old) }
     ensures failures { CountsReadsOf S.failures reader.old result reader.new }
 {
@@ -106,9 +109,12 @@ fn print_items<S: Source, W: Write>(
     reader: &mut BinaryReader<S>,
     writer: &mut W,
 ) -> Result<(), Error>
+    // The answer.
     ensures printed { OnOk result (PrintsRest S.known W.contents reader.old writer.old writer.new) }
+    // A refusal.
     ensures refused { IfErr result (EndsRest S.known W.contents reader.old writer.old writer.new) }
-    ensures sent { SendsFrontOfRest S.known W.contents reader.old writer.old writer.new }
+    // The state after it.
+    ensures front { SendsFrontOfRest S.known W.contents reader.old writer.old writer.new }
     ensures unchanged { S.known (source_of reader.new) ≡ S.known (source_of reader.old) }
     ensures failures { CountsReadsOf S.failures reader.old result reader.new }
 {
@@ -132,7 +138,7 @@ pub fn print_events<S: Source, W: Write>(
 ) -> Result<(), Error>
     ensures printed { OnOk result (PrintsFile S.known W.contents source writer.old writer.new) }
     ensures refused { IfErr result (EndsFile S.known W.contents source writer.old writer.new) }
-    ensures sent { SendsFrontOfFile S.known W.contents source writer.old writer.new }
+    ensures front { SendsFrontOfFile S.known W.contents source writer.old writer.new }
     // `left` is the source as the call left it
     ensures failures { (left : S) × LeavesSource S.known S.failures source result left }
 {

@@ -33,7 +33,7 @@ fn send_events<W: Write>(
 ) -> Result<(), Error>
     ensures printed { OnOk result (PrintsEvents W.contents events.old writer.old writer.new) }
     ensures fault { IfErr result IsOwnFault }
-    ensures sent { SendsFrontOfEvents W.contents events.old writer.old writer.new }
+    ensures front { SendsFrontOfEvents W.contents events.old writer.old writer.new }
 {
     let mut line = Vec::new(alloc);
     while let Some(item) = events.next() {
@@ -51,7 +51,7 @@ fn send_events<W: Write>(
 pub fn print_value<W: Write>(alloc: Global, value: &Value, writer: &mut W) -> Result<(), Error>
     ensures printed { OnOk result (PrintsValue W.contents value.now writer.old writer.new) }
     ensures fault { IfErr result IsOwnFault }
-    ensures sent { SendsFrontOfValue W.contents value.now writer.old writer.new }
+    ensures front { SendsFrontOfValue W.contents value.now writer.old writer.new }
 {
     let mut events = value.events(alloc);
     let sent = send_events(alloc, &mut events, writer);

@@ -87,41 +87,29 @@ fn expect_read(rt: &(impl Abort + AllocGlobal), bytes: &[u8], wanted: &str) {
     expect_value_on_devices(rt, bytes, wanted);
 }
 
+// The same of a file with widths of one byte.
+fn expect_read_file(rt: &(impl Abort + AllocGlobal), body: &str, numbers: [u64; 3], words: &str) {
+    let bytes = must(rt, file(rt.alloc(), body, [1, 1], numbers));
+    expect_read(rt, bytes.as_slice(), words);
+}
+
 #[test]
 fn values_of_bytes(rt: HostRuntime) {
     expect_read(&rt, b"", "UnexpectedEndOfEventStream");
     expect_read(&rt, b" <plist/>", "XmlUnsupported (offset 1)");
     expect_read(&rt, b"(a)", "[1 'a' end");
     expect_read(&rt, b"a b", "ExpectedEndOfEventStream { found: String }");
-    let shared = must(
+    let words = "{2 'a' [1 'x' end 'b' 'a' end";
+    expect_read_file(
         &rt,
-        file(
-            rt.alloc(),
-            "d201020301 5161 5162 a104 5178 080d0f1113",
-            [1, 1],
-            [5, 0, 21],
-        ),
+        "d201020301 5161 5162 a104 5178 080d0f1113",
+        [5, 0, 21],
+        words,
     );
-    expect_read(&rt, shared.as_slice(), "{2 'a' [1 'x' end 'b' 'a' end");
-    let repeated = must(
-        &rt,
-        file(
-            rt.alloc(),
-            "d201010203 516b 1001 1002 080d0f11",
-            [1, 1],
-            [4, 0, 19],
-        ),
-    );
-    expect_read(&rt, repeated.as_slice(), "{1 'k' 2 end");
-    let number = must(
-        &rt,
-        file(rt.alloc(), "d10101 1005 080b", [1, 1], [2, 0, 13]),
-    );
-    expect_read(
-        &rt,
-        number.as_slice(),
-        "UnexpectedEventType { expected: DictionaryKeyOrEndCollection, found: Integer }",
-    );
+    let words = "{1 'k' 2 end";
+    expect_read_file(&rt, "d201010203 516b 1001 1002 080d0f11", [4, 0, 19], words);
+    let words = "UnexpectedEventType { expected: DictionaryKeyOrEndCollection, found: Integer }";
+    expect_read_file(&rt, "d10101 1005 080b", [2, 0, 13], words);
 }
 
 // What is binary for another reader is text for this one.

@@ -8,37 +8,37 @@ use Rattle.plist_base.specs.Faults as faults
 use Rattle.plist_base.specs.Faults.{FaultKind, fault_nowhere, WriterFailed}
 use Rattle.plist_base.specs.Trees as trees
 use Rattle.plist_base.specs.Bracketing.{CanContinue, ContinueAlike}
-use Rattle.plist_base.specs.Writing.{Answer, MatchKind, AnswersByPlace}
+use Rattle.plist_base.specs.Writing.{Answer, MatchKind, AnswersByOrder}
 use Rattle.plist.specs.declared.stream.builder.Builder.{Builder}
 use Rattle.plist.specs.Building.{Unfinished, NotBegun, Within, InArray, InDictionary, AfterKey, Complete, Built, IsNested, events_so_far, refusal_of_value, refusal_of_key, refusal_at, IsRefusedStep}
 use Rattle.plist.specs.Builder.{built_of, IsBuildingStep}
 use Rattle.plist.specs.inner.Following.{refused-ends, taken-continues, accepted-continues, last-continues}
 
--- a refusal for the event's place
-abbrev IsOfPlace : FaultKind → Type 0
-IsOfPlace kind = MatchKind kind (Unit {0}) ⊥ ⊥
+-- a refusal of an event that can't come next
+abbrev IsForOrder : FaultKind → Type 0
+IsForOrder kind = MatchKind kind (Unit {0}) ⊥ ⊥
 
-of_place : (kind other : FaultKind) → Some other ≡ Some kind → IsOfPlace other → IsOfPlace kind
-of_place kind other p x = subst IsOfPlace (same_Some other kind p) x
+for_order : (kind other : FaultKind) → Some other ≡ Some kind → IsForOrder other → IsForOrder kind
+for_order kind other p x = subst IsForOrder (same_Some other kind p) x
 
-value-place : (e : PlainEvent) (kind : FaultKind) → refusal_of_value e ≡ Some kind → IsOfPlace kind
-value-place EndCollection kind p = of_place _ _ p tt
-value-place e kind p = absurd (none-some _ p)
+value-order : (e : PlainEvent) (kind : FaultKind) → refusal_of_value e ≡ Some kind → IsForOrder kind
+value-order EndCollection kind p = for_order _ _ p tt
+value-order e kind p = absurd (none-some _ p)
 
-key-place : (e : PlainEvent) (kind : FaultKind) → refusal_of_key e ≡ Some kind → IsOfPlace kind
-key-place EndCollection kind p = absurd (none-some _ p)
-key-place (Single (trees.String s)) kind p = absurd (none-some _ p)
-key-place e kind p = of_place _ _ p tt
+key-order : (e : PlainEvent) (kind : FaultKind) → refusal_of_key e ≡ Some kind → IsForOrder kind
+key-order EndCollection kind p = absurd (none-some _ p)
+key-order (Single (trees.String s)) kind p = absurd (none-some _ p)
+key-order e kind p = for_order _ _ p tt
 
--- what is refused is refused for its place
-pub refusal-place : (u : Unfinished) (e : PlainEvent) (kind : FaultKind)
-    → refusal_at u e ≡ Some kind → IsOfPlace kind
-refusal-place NotBegun e kind p = value-place e _ p
-refusal-place (Within (InArray items) outer) e kind p = absurd (none-some _ p)
-refusal-place (Within (InDictionary pairs) outer) e kind p = key-place e _ p
-refusal-place (Within (AfterKey pairs key) outer) e kind p = value-place e _ p
-refusal-place (Complete tree) e kind p =
-    of_place _ _ p tt
+-- what is refused can't come next
+pub refusal-order : (u : Unfinished) (e : PlainEvent) (kind : FaultKind)
+    → refusal_at u e ≡ Some kind → IsForOrder kind
+refusal-order NotBegun e kind p = value-order e _ p
+refusal-order (Within (InArray items) outer) e kind p = absurd (none-some _ p)
+refusal-order (Within (InDictionary pairs) outer) e kind p = key-order e _ p
+refusal-order (Within (AfterKey pairs key) outer) e kind p = value-order e _ p
+refusal-order (Complete tree) e kind p =
+    for_order _ _ p tt
 
 -- what a refusal says of the event, and of what is held after it
 module _ (before after : Built) (event : PlainEvent) (unchanged : Type 0)
@@ -46,9 +46,9 @@ module _ (before after : Built) (event : PlainEvent) (unchanged : Type 0)
   abbrev Refused : Type 0
   Refused = (CanContinue (events_so_far before.unfinished) event → ⊥) × unchanged
 
-  in_place : (kind : FaultKind) → refusal_at before.unfinished event ≡ Some kind → unchanged
+  out_of_order : (kind : FaultKind) → refusal_at before.unfinished event ≡ Some kind → unchanged
       → Refused
-  in_place kind r s = (
+  out_of_order kind r s = (
     refused-ends before.unfinished event ok
         (λ n. none-some kind (sym n ∙ r)),
     s,
@@ -58,21 +58,21 @@ module _ (before after : Built) (event : PlainEvent) (unchanged : Type 0)
       → CanContinue (events_so_far before.unfinished) event × (after.failed ≡ true)
   wanting r failed = (accepted-continues _ _ ok r, failed)
 
-  never : (kind : FaultKind) → refusal_at before.unfinished event ≡ Some kind → IsOfPlace kind
-  never kind r = refusal-place _ _ _ r
+  never : (kind : FaultKind) → refusal_at before.unfinished event ≡ Some kind → IsForOrder kind
+  never kind r = refusal-order _ _ _ r
 
   refusal_law : (kind : FaultKind) → IsRefusedStep before event kind after unchanged
       → MatchKind kind Refused (CanContinue (events_so_far before.unfinished) event
       × (after.failed ≡ true)) ⊥
-  refusal_law (faults.UnexpectedEventType expected found) r = in_place _ r.1 r.2
-  refusal_law (faults.ExpectedEndOfEventStream found) r = in_place _ r.1 r.2
+  refusal_law (faults.UnexpectedEventType expected found) r = out_of_order _ r.1 r.2
+  refusal_law (faults.ExpectedEndOfEventStream found) r = out_of_order _ r.1 r.2
   refusal_law faults.OutOfMemory r = wanting r.1 r.2
   refusal_law faults.WriterFailed r = absurd (true≢false (sym r.0 ∙ f))
   refusal_law kind r = absurd (never kind r.1)
 
 pub building_law : (before : Builder) (event : PlainEvent) (answer : Answer) (after : Builder)
     → IsBuildingStep before event answer after → before.failed ≡ false
-    → AnswersByPlace (events_so_far (built_of before).unfinished) event answer
+    → AnswersByOrder (events_so_far (built_of before).unfinished) event answer
     (events_so_far (built_of after).unfinished) after.failed (after ≡ before)
 building_law before event (Ok done) after s f =
     let (taken, nested, alike, last) = s.1.3 in

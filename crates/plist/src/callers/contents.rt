@@ -150,35 +150,35 @@ pub fn number_of_text(text: String) -> Option<i64>
 }
 
 /// Puts an array in the place of a value, which lends it then.
-pub fn put_array(place: &mut Value, items: Vec<Value>) -> Option<&Vec<Value>>
+pub fn put_array(dest: &mut Value, items: Vec<Value>) -> Option<&Vec<Value>>
     ensures { option_map (λ v. item_trees v.now.items) result ≡ Some (item_trees items.items) }
 {
-    *place = Value::from(items);
-    place.as_array()
+    *dest = Value::from(items);
+    dest.as_array()
 }
 
 /// Puts a dictionary in the place of a value, which lends it then.
-pub fn put_dictionary(place: &mut Value, pairs: Dictionary) -> Option<&Dictionary>
+pub fn put_dictionary(dest: &mut Value, pairs: Dictionary) -> Option<&Dictionary>
     ensures { option_map (λ lent. pair_trees lent.now) result ≡ Some (pair_trees pairs) }
 {
-    *place = Value::from(pairs);
-    place.as_dictionary()
+    *dest = Value::from(pairs);
+    dest.as_dictionary()
 }
 
 /// Puts data in the place of a value, which lends its bytes then.
-pub fn put_data(place: &mut Value, bytes: Vec<u8>) -> Option<&[u8]>
+pub fn put_data(dest: &mut Value, bytes: Vec<u8>) -> Option<&[u8]>
     ensures { option_copied result ≡ Some bytes.items }
 {
-    *place = Value::Data(bytes);
-    place.as_data()
+    *dest = Value::Data(bytes);
+    dest.as_data()
 }
 
 /// Puts an identifier in the place of a value, which lends it then.
-pub fn put_uid(place: &mut Value, uid: Uid) -> Option<&Uid>
+pub fn put_uid(dest: &mut Value, uid: Uid) -> Option<&Uid>
     ensures { option_copied result ≡ Some uid }
 {
-    *place = Value::Uid(uid);
-    place.as_uid()
+    *dest = Value::Uid(uid);
+    dest.as_uid()
 }
 
 /// Drops the items of an array; any other value stays as it is.

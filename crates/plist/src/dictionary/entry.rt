@@ -36,15 +36,17 @@ pub struct OccupiedEntry<'a, V = Value> {
 }
 
 impl<V> Pairs<V> {
-    ghost use Rattle.plist.specs.EntryPlaces.{Inserts, Removes, entry_key, entry_pairs, entry_ref, entry_value, kept_key, unless_there};
+    ghost use Rattle.plist.specs.Entry.{Inserts, Removes, entry_key, entry_pairs, entry_ref, entry_value, kept_key, unless_there};
 
     /// The place of the key. It takes no memory: a vacant one takes it with its insert.
     pub fn entry(&mut self, key: String) -> Entry<'_, V>
-        ensures same_pairs { (entry_ref result).ghost_name ≡ self.entry.ghost_name }
+        // The answer.
         ensures now { entry_pairs result ≡ self.old }
         ensures key { entry_key result ≡ Some (string_bytes key) }
         ensures value { entry_value result ≡ lookup (bytes_eq (string_bytes key)) self.old }
         ensures kept { kept_key result ≡ unless_there key self.old }
+        // The state after it.
+        ensures same_pairs { (entry_ref result).ghost_name ≡ self.entry.ghost_name }
         ensures writes { Inserts result self.old (string_bytes key) }
         ensures removes { Removes result self.old (string_bytes key) }
     {
@@ -57,7 +59,7 @@ impl<V> Pairs<V> {
 
 impl<'a, V> OccupiedEntry<'a, V> {
     ghost use Rattle.std.specs.Borrow.{sem};
-    ghost use Rattle.plist.specs.EntryPlaces.{IsSamePlace, IsTaken, Occupied, entry_key, entry_lends, entry_pairs, entry_value, occupied_lends, with_value};
+    ghost use Rattle.plist.specs.Entry.{IsSameEntry, IsTaken, Occupied, entry_key, entry_lends, entry_pairs, entry_value, occupied_lends, with_value};
 
     /// The key.
     pub fn key(&self) -> &String
@@ -67,7 +69,7 @@ impl<'a, V> OccupiedEntry<'a, V> {
     }
 
     /// The key's value.
-    #[tactic(auto, using(crate::proofs::EntrySteps::places))]
+    #[tactic(auto, using(crate::proofs::EntrySteps::entries))]
     pub fn get(&self) -> &V
         ensures { entry_value (Occupied self.now) ≡ Some result.now }
     {
@@ -76,8 +78,8 @@ impl<'a, V> OccupiedEntry<'a, V> {
 
     /// The key's value, to be changed.
     pub fn get_mut(&mut self) -> &mut V
-        ensures* writes_back { sem 𝓛 (occupied_lends V.row self.entry result) }
         ensures value { entry_value (Occupied self.old) ≡ Some result.now }
+        ensures* writes_back { sem 𝓛 (occupied_lends V.row self.entry result) }
     {
         let index = self.at;
         self.pairs.value_at(index)
@@ -85,18 +87,18 @@ impl<'a, V> OccupiedEntry<'a, V> {
 
     /// The key's value, to be changed for as long as the dictionary is lent.
     pub fn into_mut(self) -> &'a mut V
-        ensures* writes_back { sem 𝓛 (entry_lends V.row (Occupied self.entry) result) }
         ensures value { entry_value (Occupied self.entry) ≡ Some result.now }
+        ensures* writes_back { sem 𝓛 (entry_lends V.row (Occupied self.entry) result) }
     {
         let OccupiedEntry { pairs, at } = self;
         pairs.value_at(at)
     }
 
     /// Sets the key's value, and returns the one that it had.
-    #[tactic(auto, using(crate::proofs::EntrySteps::places))]
+    #[tactic(auto, using(crate::proofs::EntrySteps::entries))]
     pub fn insert(&mut self, value: V) -> V
         ensures old { entry_value (Occupied self.old) ≡ Some result }
-        ensures place { IsSamePlace self.old self.new }
+        ensures unchanged { IsSameEntry self.old self.new }
         ensures pairs { entry_pairs (Occupied self.new) ≡ with_value (Occupied self.old) value }
     {
         let at = self.at;
@@ -115,7 +117,7 @@ impl<'a, V> OccupiedEntry<'a, V> {
 
 impl<'a, V> VacantEntry<'a, V> {
     ghost use Rattle.std.specs.Borrow.{sem};
-    ghost use Rattle.plist.specs.EntryPlaces.{HandsBack, Vacant, entry_lends_ok, kept_key};
+    ghost use Rattle.plist.specs.Entry.{HandsBack, Vacant, entry_lends_ok, kept_key};
 
     /// The key that an insert would add.
     pub fn key(&self) -> &String
@@ -130,9 +132,9 @@ impl<'a, V> VacantEntry<'a, V> {
     ///
     /// If memory runs out, the dictionary stays as it is, and the key and the value come back.
     pub fn insert(self, value: V) -> Result<&'a mut V, (String, V)>
-        ensures* writes_back { sem 𝓛 (entry_lends_ok V.row (Vacant self.entry) result) }
-        ensures value { IfOk result (λ place. place.now ≡ value) }
+        ensures value { IfOk result (λ lent. lent.now ≡ value) }
         ensures handed_back { IfErr result (HandsBack (Vacant self.entry) value) }
+        ensures* writes_back { sem 𝓛 (entry_lends_ok V.row (Vacant self.entry) result) }
     {
         let VacantEntry { pairs, key } = self;
         let at = pairs.len();
@@ -145,7 +147,7 @@ impl<'a, V> VacantEntry<'a, V> {
 
 impl<'a, V> Entry<'a, V> {
     ghost use Rattle.std.specs.Borrow.{sem};
-    ghost use Rattle.plist.specs.EntryPlaces.{HandsBack, HandsBackMade, HasOrMakes, entry_key, entry_lends_ok, entry_value};
+    ghost use Rattle.plist.specs.Entry.{HandsBack, HandsBackMade, HasOrMakes, entry_key, entry_lends_ok, entry_value};
 
     /// The key.
     pub fn key(&self) -> &String
@@ -165,10 +167,10 @@ impl<'a, V> Entry<'a, V> {
     pub fn or_insert(self, value: V) -> Result<&'a mut V, (String, V)>
     where
         V: Drop,
-        ensures* writes_back { sem 𝓛 (entry_lends_ok V.row self.entry result) }
-        ensures value { IfOk result (λ v. v.now ≡ unwrap_or (entry_value self.entry) value) }
+        ensures value { IfOk result (λ lent. lent.now ≡ unwrap_or (entry_value self.entry) value) }
         ensures absent { OnErr result (entry_value self.entry ≡ None) }
         ensures handed_back { IfErr result (HandsBack self.entry value) }
+        ensures* writes_back { sem 𝓛 (entry_lends_ok V.row self.entry result) }
     {
         match self {
             Entry::Vacant(entry) => entry.insert(value),
@@ -184,10 +186,10 @@ impl<'a, V> Entry<'a, V> {
     /// Those of [`VacantEntry::insert`].
     pub fn or_insert_with<F: FnOnce() -> V>(self, value: F) -> Result<&'a mut V, (String, V)>
         requires { entry_value self ≡ None → F.pre value }
-        ensures* writes_back { sem 𝓛 (entry_lends_ok V.row self.entry result) }
         ensures value { IfOk result (HasOrMakes self.entry (F.post value)) }
         ensures absent { OnErr result (entry_value self.entry ≡ None) }
         ensures handed_back { IfErr result (HandsBackMade self.entry (F.post value)) }
+        ensures* writes_back { sem 𝓛 (entry_lends_ok V.row self.entry result) }
     {
         match self {
             Entry::Vacant(entry) => entry.insert(value()),

@@ -27,8 +27,8 @@ impl<'q, V> IndexMut<&'q str> for Pairs<V> {
 
     fn index_mut(&mut self, key: &'q str) -> &mut V
         requires { IsSome (lookup (bytes_eq key.now) self.old) }
-        ensures* writes_back { sem 𝓛 (LendsValue V.row self.entry key.now result) }
         ensures value { lookup (bytes_eq key.now) self.old ≡ Some result.now }
+        ensures* writes_back { sem 𝓛 (LendsValue V.row self.entry key.now result) }
     {
         self.get_mut(key).unwrap()
     }

@@ -35,8 +35,8 @@ impl<V> Pairs<V> {
     // The value at an index, to be changed.
     pub(crate) fn value_at(&mut self, index: usize) -> &mut V
         requires { index < length self.old }
-        ensures* writes_back { sem 𝓛 (LendsIndex V.row self.entry index result) }
         ensures value { slice_get (values_of self.old) index ≡ Some result.now }
+        ensures* writes_back { sem 𝓛 (LendsIndex V.row self.entry index result) }
     {
         self.store.as_mut().unwrap().value_at(index)
     }

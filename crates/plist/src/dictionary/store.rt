@@ -87,8 +87,8 @@ impl<V> Store<V> {
     }
 
     pub(crate) fn get_mut(&mut self, key: &str) -> Option<&mut V>
-        ensures* writes_back { sem 𝓛 (StoreLendsAtKey V.row self.entry key.now result) }
         ensures value { option_copied_mut result ≡ lookup (bytes_eq key.now) self.old }
+        ensures* writes_back { sem 𝓛 (StoreLendsAtKey V.row self.entry key.now result) }
     {
         match self.keys.get_index_of(key) {
             None => None,
@@ -99,11 +99,14 @@ impl<V> Store<V> {
     // Sets the key's value, and returns the one that it had.
     #[tactic(auto, using(crate::proofs::Rebuilt::inserting))]
     pub(crate) fn insert(&mut self, key: String, value: V) -> Result<Option<V>, (String, V)>
+        // The answer.
         ensures old { IfOk result (λ old. old ≡ lookup (bytes_eq (string_bytes key)) self.old) }
         ensures pairs { OnOk result (IsSetAt self.old (string_bytes key) value self.new) }
-        ensures handed_back { IfErr result (λ back. back ≡ (key, value)) }
-        ensures unchanged { OnErr result (self.new ≡ self.old) }
+        // A refusal.
         ensures absent { OnErr result (IsAbsent (string_bytes key) self.old) }
+        ensures handed_back { IfErr result (λ back. back ≡ (key, value)) }
+        // The state after it.
+        ensures unchanged { OnErr result (self.new ≡ self.old) }
     {
         match self.keys.insert_full(key) {
             Err(refused) => Err((refused.value, value)),
@@ -197,8 +200,8 @@ impl<V> Store<V> {
 
     pub(crate) fn value_at(&mut self, index: usize) -> &mut V
         requires { index < length self.old }
-        ensures* writes_back { sem 𝓛 (StoreLendsIndex V.row self.entry index result) }
         ensures value { slice_get (values_of self.old) index ≡ Some result.now }
+        ensures* writes_back { sem 𝓛 (StoreLendsIndex V.row self.entry index result) }
     {
         &mut self.items[index]
     }

@@ -1,8 +1,8 @@
 //! A value from its events.
 
-ghost use Rattle.std.specs.Prelude.{◌≡◌, IfErr, IfOk, None, Ok, OnErr, OnOk, Some, false, true};
+ghost use Rattle.std.specs.Prelude.{◌≡◌, IfOk, None, Ok, OnErr, OnOk, Some, false, true};
 ghost use Rattle.plist_base.specs.Events.{event_of};
-ghost use Rattle.plist_base.specs.Faults.{fault_of};
+ghost use Rattle.plist_base.specs.Outcomes.{IfFault};
 ghost use Rattle.plist_base.specs.Writing.{answer_of};
 ghost use Rattle.plist.specs.Building.{IsNested, IsNested-prop, IsUnfinished, events_so_far, nothing_built};
 ghost use Rattle.plist.specs.Partials.{unfinished_of};
@@ -84,11 +84,14 @@ impl Builder {
     /// - `WriterFailed` if it has failed.
     /// - `UnexpectedEndOfEventStream` if the events aren't those of a value yet.
     pub fn finish(&mut self) -> Result<Value, Error>
+        // The answer.
         ensures value { IfOk result (IsWholeOf (built_of self.old)) }
         ensures complete { IfOk result (IsBuilt (built_of self.old)) }
         ensures working { OnOk result ((built_of self.old).failed ≡ false) }
+        // A refusal.
+        ensures refused { IfFault result (IsUnfinished (built_of self.old)) }
+        // The state after it.
         ensures emptied { OnOk result (built_of self.new ≡ nothing_built) }
-        ensures refused { IfErr result (λ e. IsUnfinished (built_of self.old) (fault_of e)) }
         ensures unchanged { OnErr result (self.new ≡ self.old) }
     {
         let failed = self.failed;

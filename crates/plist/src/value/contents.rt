@@ -25,8 +25,8 @@ impl Value {
 
     /// The array, to be changed, if the value is one.
     pub fn as_array_mut(&mut self) -> Option<&mut Vec<Value>>
-        ensures* writes_back { sem 𝓛 (LendsArray self.entry result self.old) }
         ensures value { items_lent result ≡ array_in (tree_of self.old) }
+        ensures* writes_back { sem 𝓛 (LendsArray self.entry result self.old) }
     {
         match self {
             Value::Array(lent) => Some(lent),
@@ -46,8 +46,8 @@ impl Value {
 
     /// The dictionary, to be changed, if the value is one.
     pub fn as_dictionary_mut(&mut self) -> Option<&mut Dictionary>
-        ensures* writes_back { sem 𝓛 (LendsDictionary self.entry result self.old) }
         ensures value { pairs_lent result ≡ dictionary_in (tree_of self.old) }
+        ensures* writes_back { sem 𝓛 (LendsDictionary self.entry result self.old) }
     {
         match self {
             Value::Dictionary(lent) => Some(lent),

@@ -5,7 +5,7 @@ use Rattle.plist_base.specs.Bracketing.{unhinted}
 use Rattle.plist_base.specs.Events.{PlainEvent}
 use Rattle.plist_base.specs.Faults.{FaultKind, fault_nowhere, UnexpectedEventType, ExpectedEndOfEventStream, Io, OutOfMemory, WriterFailed, PlistTooLarge}
 use Rattle.plist_base.specs.Trees.{Tree}
-use Rattle.plist_base.specs.Writing.{Answer, MatchKind, AnswersByPlace, GoesOn}
+use Rattle.plist_base.specs.Writing.{Answer, MatchKind, AnswersByOrder, GoesOn}
 use Rattle.std.proofs.lemmas.Bool.{true≢false, false≢true}
 use Rattle.plist_base.proofs.Grammar.{alike_last, continue_alike}
 use Rattle.plist_binwrite.specs.declared.shared.Sharing.{Ghosts as SharingGhosts}
@@ -44,7 +44,7 @@ module _ {W S : Type 0} {g : Ghosts W} {h : SharingGhosts S} (IsFile : Tree → 
 
   taken : (answer : Answer) (after : FileWriter W S g h)
       → TakesEvent IsFile size contents before event answer after
-      → AnswersByPlace (held_by before) event answer (held_by after) (failed_of after)
+      → AnswersByOrder (held_by before) event answer (held_by after) (failed_of after)
       (after ≡ before)
   taken (Ok done) after t = (t.0, t.1, goes_on after t.2)
   taken (Err fault) after t =
@@ -52,7 +52,7 @@ module _ {W S : Type 0} {g : Ghosts W} {h : SharingGhosts S} (IsFile : Tree → 
 
   pub takes_law : (answer : Answer) (after : FileWriter W S g h)
       → Takes IsFile size contents before event answer after → failed_of before ≡ false
-      → AnswersByPlace (held_by before) event answer (held_by after) (failed_of after)
+      → AnswersByOrder (held_by before) event answer (held_by after) (failed_of after)
       (after ≡ before)
   takes_law answer after t ok = taken answer after (match_false (failed_of before) _ _ ok t)
 

@@ -1,5 +1,5 @@
 use Rattle.std.proofs.Common.{◌∙◌, sym}
-use Rattle.plist_binwrite.proofs.Placed.{wide_length, told_if}
+use Rattle.plist_binwrite.proofs.TreeObjects.{wide_length, told_if}
 use Rattle.plist_binwrite.proofs.lengths.length_of_text.Goals as goal
 
 pub returns-clause-value : goal.returns-clause-value

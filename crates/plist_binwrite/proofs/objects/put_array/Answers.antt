@@ -1,4 +1,4 @@
-use Rattle.plist_binwrite.proofs.Placed.{array_is}
+use Rattle.plist_binwrite.proofs.TreeObjects.{array_is}
 use Rattle.plist_binwrite.proofs.Outgoing.{puts_then, puts_front, puts_as}
 use Rattle.plist_binwrite.proofs.objects.put_array.Goals as goal
 

@@ -1,4 +1,4 @@
-use Rattle.plist_binwrite.proofs.Placed.{dictionary_is}
+use Rattle.plist_binwrite.proofs.TreeObjects.{dictionary_is}
 use Rattle.plist_binwrite.proofs.Outgoing.{puts_then, puts_front, puts_as}
 use Rattle.plist_binwrite.proofs.objects.put_dictionary.Goals as goal
 

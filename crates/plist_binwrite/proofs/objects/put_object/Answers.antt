@@ -1,5 +1,5 @@
 use Rattle.std.proofs.Common.{refl}
-use Rattle.plist_binwrite.proofs.Placed.{of_array, of_dictionary, of_nothing, of_scalar}
+use Rattle.plist_binwrite.proofs.TreeObjects.{of_array, of_dictionary, of_nothing, of_scalar}
 use Rattle.plist_binwrite.proofs.objects.put_object.Goals as goal
 
 pub returns-in-Array : goal.returns-in-Array

@@ -1,5 +1,5 @@
 use Rattle.std.proofs.Common.{refl}
-use Rattle.plist_binwrite.proofs.Placed.{collection_fits, dictionary_told, of_array, of_dictionary, of_nothing, of_scalar}
+use Rattle.plist_binwrite.proofs.TreeObjects.{collection_fits, dictionary_told, of_array, of_dictionary, of_nothing, of_scalar}
 use Rattle.plist_binwrite.proofs.Skipping.{as_items, pairs_as_items}
 use Rattle.plist_binwrite.proofs.size.size_of_object.Goals as goal
 

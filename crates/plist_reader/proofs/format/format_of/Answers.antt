@@ -14,7 +14,7 @@ returns-in-Ok-Some-clause-format g c =
     (Some c.in-Ok-Some.place) c.begins_with.ensures.unchanged
     c.mark_length.ensures.unchanged
     (rw c.in-Ok-false.field-0-test at c.in-Ok-false.ensures.value) c.in-Ok.ensures.length
-    (rw c.in-Ok-Some.field-0-is at c.in-Ok-Some.ensures.place)
+    (rw c.in-Ok-Some.field-0-is at c.in-Ok-Some.ensures.value)
 
 pub returns-in-Ok-None-clause-format : goal.returns-in-Ok-None-clause-format
 returns-in-Ok-None-clause-format g c =
@@ -22,4 +22,4 @@ returns-in-Ok-None-clause-format g c =
     c.begins_with.ensures.unchanged
     c.mark_length.ensures.unchanged
     (rw c.in-Ok-false.field-0-test at c.in-Ok-false.ensures.value) c.in-Ok.ensures.length
-    (rw c.in-Ok-None.field-0-is at c.in-Ok-None.ensures.place)
+    (rw c.in-Ok-None.field-0-is at c.in-Ok-None.ensures.value)

@@ -4,8 +4,8 @@ use Rattle.plist_reader.specs.Formats.{input_front}
 use Rattle.plist_reader.proofs.Fronts.{both_known, white-on, xml-here, xml-none, xml-end, moved, then_some-cond}
 use Rattle.plist_reader.proofs.format.xml_place.Goals as goal
 
-pub returns-then-not-is_white-clause-place : goal.returns-then-not-is_white-clause-place
-returns-then-not-is_white-clause-place g c =
+pub returns-then-not-is_white-clause-value : goal.returns-then-not-is_white-clause-value
+returns-then-not-is_white-clause-value g c =
     let byte = rw c.in-Ok-Some.field-0-is at c.in-Ok-Some.ensures.byte in
     both_known (g.S.Source.known c.args.source.now) c.white.invariant.passed
     (rw c.white.invariant.same at byte)
@@ -27,16 +27,16 @@ white-preserved g c =
           (sym c.is_white.ensures ∙ c.if-not-is_white.false));
     }
 
-pub returns-in-Ok-None-clause-place : goal.returns-in-Ok-None-clause-place
-returns-in-Ok-None-clause-place g c =
+pub returns-in-Ok-None-clause-value : goal.returns-in-Ok-None-clause-value
+returns-in-Ok-None-clause-value g c =
     let none = rw c.in-Ok-None.field-0-is at c.in-Ok-None.ensures.byte in
     both_known (g.S.Source.known c.args.source.now) c.white.invariant.passed
     (rw c.white.invariant.same at none)
     (λ bytes i at. sym (moved c.args.start c.white.place (input_front bytes) i
     ∙ xml-none (2 ^ 64 - 1) bytes c.white.place at))
 
-pub returns-clause-place : goal.returns-clause-place
-returns-clause-place g c =
+pub returns-clause-value : goal.returns-clause-value
+returns-clause-value g c =
     IfSome_then (g.S.Source.known c.args.source.now) c.white.invariant.passed
     (λ bytes i. sym (moved c.args.start c.white.place (input_front bytes) i
     ∙ xml-end (2 ^ 64 - 1) bytes c.white.place c.white-test.false))

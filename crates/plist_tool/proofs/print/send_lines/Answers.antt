@@ -32,13 +32,13 @@ loop-item-preserved-in_ok-pass_told-in-Ok g c =
           (rw same at c.in_ok-pass_told-in-Ok.ensures.passed));
     }
 
-pub returns-in_err-push_near-in-Ok-clause-sent : goal.returns-in_err-push_near-in-Ok-clause-sent
-returns-in_err-push_near-in-Ok-clause-sent g c =
+pub returns-in_err-push_near-in-Ok-clause-front : goal.returns-in_err-push_near-in-Ok-clause-front
+returns-in_err-push_near-in-Ok-clause-front g c =
     IfSome_then (g.S.Source.known (source_of c.args.reader.now)) c.loop-item.invariant.so_far
     (λ bytes h. sent_held h _ (front_none _ _))
 
-pub returns-in_err-pass_told-in-Ok-clause-sent : goal.returns-in_err-pass_told-in-Ok-clause-sent
-returns-in_err-pass_told-in-Ok-clause-sent g c =
+pub returns-in_err-pass_told-in-Ok-clause-front : goal.returns-in_err-pass_told-in-Ok-clause-front
+returns-in_err-pass_told-in-Ok-clause-front g c =
     let same = c.in_ok-push_near-in-Ok.ensures.unchanged (search rules) in
     let is : c.in-Some.item ≡ Ok (tt {0}) = search rules in
     both_known (g.S.Source.known (source_of c.args.reader.now)) c.loop-item.invariant.so_far
@@ -46,8 +46,8 @@ returns-in_err-pass_told-in-Ok-clause-sent g c =
     (λ bytes h t. sent_held (with_line h (rw is at t)) _
     (rw same at c.in_err-pass_told-in-Ok.ensures.front))
 
-pub returns-in_err-send-in-Err-clause-sent : goal.returns-in_err-send-in-Err-clause-sent
-returns-in_err-send-in-Err-clause-sent g c =
+pub returns-in_err-send-in-Err-clause-front : goal.returns-in_err-send-in-Err-clause-front
+returns-in_err-send-in-Err-clause-front g c =
     IfSome_then (g.S.Source.known (source_of c.args.reader.now)) c.loop-item.invariant.so_far
     (λ bytes h. sent_held h _ (rw c.as_slice.ensures.value at c.in_err-send-in-Err.ensures.front))
 
@@ -60,17 +60,17 @@ returns-in-Err-clause-refused g c =
     (event_told c.advance.new.self) (to_come bytes c.advance.new.self)
     (rw c.as_slice.ensures.value at c.in_ok-send-in-Err.ensures.sent) (rw is at t))
 
-pub returns-in-Err-clause-sent : goal.returns-in-Err-clause-sent
-returns-in-Err-clause-sent g c =
+pub returns-in-Err-clause-front : goal.returns-in-Err-clause-front
+returns-in-Err-clause-front g c =
     IfSome_then (g.S.Source.known (source_of c.args.reader.now)) c.loop-item.invariant.so_far
     (λ bytes h. sent_held h _ (rw c.as_slice.ensures.value at c.in_ok-send-in-Err.ensures.front))
 
-pub returns-in_err-send-clause-sent : goal.returns-in_err-send-clause-sent
-returns-in_err-send-clause-sent g c =
+pub returns-in_err-send-clause-front : goal.returns-in_err-send-clause-front
+returns-in_err-send-clause-front g c =
     IfSome_then (g.S.Source.known (source_of c.args.reader.now)) c.loop-item.invariant.so_far
     (λ bytes h. sent_held h _ (rw c.as_slice-2.ensures.value at c.in_err-send.ensures.front))
 
-pub returns-clause-sent : goal.returns-clause-sent
-returns-clause-sent g c =
+pub returns-clause-front : goal.returns-clause-front
+returns-clause-front g c =
     IfSome_then (g.S.Source.known (source_of c.args.reader.now)) c.loop-item.invariant.so_far
     (λ bytes h. sent_held h _ (rw c.as_slice-2.ensures.value at c.in_ok-send.ensures.front))

@@ -4,8 +4,8 @@ use Rattle.plist_tool.specs.Lines.{line_of}
 use Rattle.plist_tool.proofs.HeldBack.{with_line, passed_on, sent_held}
 use Rattle.plist_tool.proofs.values.send_events.Goals as goal
 
-pub returns-in_err-send_event-clause-sent : goal.returns-in_err-send_event-clause-sent
-returns-in_err-send_event-clause-sent g c =
+pub returns-in_err-send_event-clause-front : goal.returns-in_err-send_event-clause-front
+returns-in_err-send_event-clause-front g c =
     let given = rw c.in_ok-event.was at c.in-Some.ensures.steps in
     sent_held (with_line c.loop-item.invariant (ap (map Ok) given.0)) _
     c.in_err-send_event.ensures.front

@@ -1,6 +1,6 @@
 use Rattle.std.proofs.Common.{None, Some, position, refl, sym, ap, ◌∙◌, cond, is_some, bytes_eq}
 use Rattle.std.specs.Map.{lookup, keys_of}
-use Rattle.plist.proofs.EntrySteps.{comes_last, keeps_place, key-there, value-there, kept-there, taken-there, none-taken}
+use Rattle.plist.proofs.EntrySteps.{comes_last, keeps_index, key-there, value-there, kept-there, taken-there, none-taken}
 use Rattle.plist.proofs.dictionary.Pairs.entry.Goals as goal
 
 pub returns-in-Some : goal.returns-in-Some
@@ -14,7 +14,7 @@ returns-in-Some g c =
       key = key-there _ ps _ at;
       value = value-there _ ps _ at;
       kept = kept-there _ ps _ _ at;
-      writes = λ v. keeps_place _ v ps _ at;
+      writes = λ v. keeps_index _ v ps _ at;
       removes = λ after is. taken-there _ ps _ _ at is;
     }
 

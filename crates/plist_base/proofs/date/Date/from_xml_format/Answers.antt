@@ -3,21 +3,21 @@ use Rattle.std.proofs.lemmas.Int.{to_z-of_z}
 use Rattle.plist_base.proofs.DateRounding.{not_printed, not_ranged, printed_at, text_in_utc}
 use Rattle.plist_base.proofs.date.Date.from_xml_format.Goals as goal
 
-pub returns-in-None-clause-printed : goal.returns-in-None-clause-printed
-returns-in-None-clause-printed c =
+pub returns-in-None-clause-back : goal.returns-in-None-clause-back
+returns-in-None-clause-back c =
     λ date is. not_printed date c.args.text.now c.in-None.ensures.is is
 
-pub returns-in-None-from_unix_secs-clause-printed
-    : goal.returns-in-None-from_unix_secs-clause-printed
-returns-in-None-from_unix_secs-clause-printed c =
+pub returns-in-None-from_unix_secs-clause-back
+    : goal.returns-in-None-from_unix_secs-clause-back
+returns-in-None-from_unix_secs-clause-back c =
     let fits : FitsSigned w64 c.in-Some.second = search rules in
     let none = simp to_z-of_z at c.in-None-from_unix_secs.ensures.in_range.1 in
     λ date is. not_ranged date c.args.text.now c.in-Some.second c.in-Some.ensures.is
     (λ within. let has = none within in cc) is
 
-pub returns-in-Some-from_unix_secs-clause-printed
-    : goal.returns-in-Some-from_unix_secs-clause-printed
-returns-in-Some-from_unix_secs-clause-printed c =
+pub returns-in-Some-from_unix_secs-clause-back
+    : goal.returns-in-Some-from_unix_secs-clause-back
+returns-in-Some-from_unix_secs-clause-back c =
     let fits : FitsSigned w64 c.in-Some.second = search rules in
     let only = simp to_z-of_z at c.in-Some-from_unix_secs.ensures.only in
     λ date is. sym (only date is.0 is.1

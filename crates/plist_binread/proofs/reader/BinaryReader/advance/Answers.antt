@@ -6,5 +6,5 @@ returns-then-advance_near g c = c.advance_near.ensures.tells c.if-advance_near.t
 
 pub returns : goal.returns
 returns g c =
-    tells_stayed _ _ _ _ _ _ _ _ (c.advance_near.ensures.stays c.if-advance_near.false)
+    tells_stayed _ _ _ _ _ _ _ _ (c.advance_near.ensures.unchanged c.if-advance_near.false)
     c.advance_far.ensures

@@ -31,8 +31,8 @@ returns-in-Walking-clause-tells g c = λ yes.
           (c.advance_near.ensures.falls yes);
     }
 
-pub returns-in-Walking-clause-stays : goal.returns-in-Walking-clause-stays
-returns-in-Walking-clause-stays g c = λ no.
+pub returns-in-Walking-clause-unchanged : goal.returns-in-Walking-clause-unchanged
+returns-in-Walking-clause-unchanged g c = λ no.
     let same = c.advance_near.ensures.unchanged no in
     record {
       source = refl;

@@ -3,7 +3,7 @@ use Rattle.std.proofs.Props.{props}
 use Rattle.indexmap.specs.IndexMap.{set_value_at}
 use Rattle.plist.specs.declared.dictionary.entry.OccupiedEntry.{OccupiedEntry}
 use Rattle.indexmap.specs.Layout.{length-set_value_at}
-use Rattle.plist.specs.EntryPlaces.{with_entry_value, still_within}
+use Rattle.plist.specs.Entry.{with_entry_value, still_within}
 use Rattle.plist.proofs.dictionary.entry.OccupiedEntry.get_mut.Goals as goal
 
 pub invariant_of-self-lent : goal.invariant_of-self-lent

@@ -42,9 +42,9 @@ module _ {V : Type 0} where
   entry_value (Occupied o) = slice_get (values_of o.pairs.now) o.at
   entry_value (Vacant e) = None
 
-  -- both are the same place of the same pairs, whose values may differ
-  abbrev pub IsSamePlace : OccupiedEntry V → OccupiedEntry V → Type 0
-  IsSamePlace o p = (p.pairs.ghost_name ≡ o.pairs.ghost_name) × (p.at ≡ o.at)
+  -- both are of one index in the same pairs, whose values may differ
+  abbrev pub IsSameEntry : OccupiedEntry V → OccupiedEntry V → Type 0
+  IsSameEntry o p = (p.pairs.ghost_name ≡ o.pairs.ghost_name) × (p.at ≡ o.at)
 
   -- the pairs are those of the entry without the key's, in whose place the last one stands
   abbrev pub IsTaken : Entry V → List (List ℕ × V) → Type 0
