@@ -172,14 +172,14 @@ def walk(container, events, most):
 STOPS = b" )\r\t;,"
 ESCAPES = dict(zip(b"\\\"'abfnrtv", b"\x5c\x22\x27\x07\x08\x0c\x0a\x0d\x09\x0b"))
 NEXTSTEP = [int(code, 16) for code in """
-    A0 C0 C1 C2 C3 C4 C5 C7 C8 C9 CA CB CC CD CE CF
-    D0 D1 D2 D3 D4 D5 D6 D9 DA DB DC DD DE B5 D7 F7
-    A9 A1 A2 A3 2044 A5 192 A7 A4 2019 201C AB 2039 203A FB01 FB02
-    AE 2013 2020 2021 B7 A6 B6 2022 201A 201E 201D BB 2026 2030 AC BF
-    B9 2CB B4 2C6 2DC AF 2D8 2D9 A8 B2 2DA B8 B3 2DD 2DB 2C7
-    2014 B1 BC BD BE E0 E1 E2 E3 E4 E5 E7 E8 E9 EA EB
-    EC C6 ED AA EE EF F0 F1 141 D8 152 BA F2 F3 F4 F5
-    F6 E6 F9 FA FB 131 FC FD 142 F8 153 DF FE FF FFFD FFFD""".split()]
+    a0 c0 c1 c2 c3 c4 c5 c7 c8 c9 ca cb cc cd ce cf
+    d0 d1 d2 d3 d4 d5 d6 d9 da db dc dd de b5 d7 f7
+    a9 a1 a2 a3 2044 a5 192 a7 a4 2019 201c ab 2039 203a fb01 fb02
+    ae 2013 2020 2021 b7 a6 b6 2022 201a 201e 201d bb 2026 2030 ac bf
+    b9 2cb b4 2c6 2dc af 2d8 2d9 a8 b2 2da b8 b3 2dd 2db 2c7
+    2014 b1 bc bd be e0 e1 e2 e3 e4 e5 e7 e8 e9 ea eb
+    ec c6 ed aa ee ef f0 f1 141 d8 152 ba f2 f3 f4 f5
+    f6 e6 f9 fa fb 131 fc fd 142 f8 153 df fe ff fffd fffd""".split()]
 HEXADECIMAL = set(b"0123456789abcdefABCDEF")
 
 
