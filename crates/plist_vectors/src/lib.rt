@@ -3,11 +3,7 @@
 #![tactic(auto)]
 
 #[cfg(test)]
-mod archives;
-#[cfg(test)]
 mod building;
-#[cfg(test)]
-mod deep;
 #[cfg(test)]
 mod dialects;
 #[cfg(test)]
@@ -18,8 +14,6 @@ mod limits;
 mod sharing;
 #[cfg(test)]
 mod support;
-#[cfg(test)]
-mod uses;
 #[cfg(test)]
 mod values;
 #[cfg(test)]

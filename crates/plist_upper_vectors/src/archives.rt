@@ -1,10 +1,10 @@
 //! Trees of keyed archives.
 
-use crate::support::{must, value_of, words_of_value, write_all};
+use crate::support::{must, value_of, words_of_value};
 use plist::{Builder, Uid, Value};
 use plist_base::{Event, Writer};
 use plist_keyed::{Archive, KeyedError};
-use plist_support::bytes_of;
+use plist_support::{bytes_of, write_all};
 use std::process::Abort;
 
 // An archive of objects, whose `$top` names the Uid 1.
@@ -102,16 +102,19 @@ fn looks_up(rt: HostRuntime) {
 // behind it, which is a text, or the first one again.
 fn chain_of(rt: &(impl Abort + AllocGlobal), length: u64, times: u64, last: u64) -> Value {
     let mut builder = Builder::new(rt.alloc());
-    write_all(rt, &mut builder, "{ '$top' { end '$objects' [");
+    must(
+        rt,
+        write_all(rt.alloc(), &mut builder, "{ '$top' { end '$objects' ["),
+    );
     for uid in 0..length {
-        write_all(rt, &mut builder, "[");
+        must(rt, builder.write(Event::StartArray(None)));
         let next = if uid + 1 < length { uid + 1 } else { last };
         for _ in 0..times {
             must(rt, builder.write(Event::Uid(Uid::new(next))));
         }
-        write_all(rt, &mut builder, "end");
+        must(rt, builder.write(Event::EndCollection));
     }
-    write_all(rt, &mut builder, "'x' end end");
+    must(rt, write_all(rt.alloc(), &mut builder, "'x' end end"));
     must(rt, builder.finish())
 }
 
