@@ -100,7 +100,7 @@ def program(folder):
     for name in ("file.rt", "words.rt"):
         shutil.copy(CRATES / "plist_vectors/src/support" / name, source / "support" / name)
     lines.append("calls: plist_base plist_data plist_binread plist_binwrite plist_share plist_ascii "
-                 "plist_reader plist_support plist plist_keyed plist_uses hex")
+                 "plist_reader plist_support plist plist_keyed plist_callers plist_uses hex")
     (root / "crates.txt").write_text("\n".join(lines) + "\n")
     subprocess.run(["rt", "run", "--", "none", "none"], cwd=source.parent, stdout=sys.stderr)
     return source.parent / "out/calls"

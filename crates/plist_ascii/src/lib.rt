@@ -5,7 +5,6 @@
 #![tactic(auto)]
 
 mod bytes;
-pub mod callers;
 mod comment;
 mod dialect;
 mod escape;

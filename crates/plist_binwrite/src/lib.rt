@@ -4,7 +4,6 @@
 //! it, in the least forms, that unfolds to the events; no other event sends a byte.
 #![tactic(auto)]
 
-pub mod callers;
 pub mod children;
 pub mod classes;
 pub mod completion;

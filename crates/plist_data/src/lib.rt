@@ -3,7 +3,6 @@
 //! The main contract is that of [`Data::to_xml_format`]: its text is read back as the same bytes.
 #![tactic(auto)]
 
-pub mod callers;
 pub mod data;
 
 pub use data::{Data, InvalidXmlData};

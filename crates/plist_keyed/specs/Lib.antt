@@ -1,6 +1,5 @@
 pub mod Archives
 pub mod Examples
 pub mod Contents
-pub mod Objects
 pub mod Errors
 pub mod inner

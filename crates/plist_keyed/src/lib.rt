@@ -6,7 +6,6 @@
 #![tactic(auto)]
 
 mod archive;
-pub mod callers;
 mod error;
 mod walk;
 

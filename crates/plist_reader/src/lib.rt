@@ -5,7 +5,6 @@
 #![tactic(auto)]
 
 mod bytes;
-pub mod callers;
 mod format;
 mod reader;
 

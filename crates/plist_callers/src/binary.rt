@@ -1,0 +1,32 @@
+//! Proved callers of a reader: how many objects it tells of a file, and what comes behind a fault.
+
+ghost use Rattle.std.specs.Prelude.{◌≡◌, ◌≤◌, None};
+ghost use Rattle.plist_binread.specs.BinaryReader.{told_objects};
+
+use plist_base::{Error, OwnedEvent, Source};
+use plist_binread::BinaryReader;
+use std::alloc::Global;
+
+/// How many objects a reader tells of a file before its first step, and behind that: none, and then
+/// no more than the file's head tells.
+pub fn count_objects(alloc: Global, bytes: &[u8]) -> (usize, usize)
+    ensures before { result.0 ≡ 0 }
+    ensures behind { result.1 ≤ told_objects bytes.now }
+{
+    let mut reader = BinaryReader::new(alloc, bytes);
+    let before = reader.object_count();
+    let _ = reader.advance();
+    (before, reader.object_count())
+}
+
+/// What a reader gives behind a fault, be it a limit's or a device's: nothing.
+pub fn next_behind_a_fault<R: Source>(
+    reader: &mut BinaryReader<R>,
+) -> Option<Result<OwnedEvent, Error>>
+    ensures { result ≡ None }
+{
+    match reader.next() {
+        Some(Err(_)) => reader.next(),
+        _ => None,
+    }
+}

@@ -1,0 +1,78 @@
+//! Proved callers of data: its bytes are those that were put in, it is what its bytes are, and its
+//! text reads back as itself.
+
+ghost use Rattle.std.specs.Prelude.{◌≡◌, ◌<◌, ◌↔◌, IfErr, IfOk, IsTrue, codes, length, slice_get, slice_set, string_bytes};
+ghost use Rattle.plist_data.specs.declared.data.InvalidXmlData.TheVariants as refusal;
+
+use base64::DecodeError;
+use plist_base::Error;
+use plist_data::{Data, InvalidXmlData};
+use std::alloc::{AllocError, Global};
+
+/// Bytes, by way of data.
+pub fn bytes_again(bytes: Vec<u8>) -> Vec<u8>
+    ensures { result.items ≡ bytes.items }
+{
+    Vec::from(Data::from(bytes))
+}
+
+/// The bytes of a copy of data, which are its own.
+///
+/// # Errors
+///
+/// Want of memory.
+pub fn bytes_of_copy(first: &Data) -> Result<Vec<u8>, Error>
+    ensures { IfOk result (λ bytes. bytes.items ≡ first.now) }
+{
+    let copy = first.clone()?;
+    Ok(Vec::from(copy))
+}
+
+/// The first byte of data, if it has one.
+pub fn first_byte(held: &Data) -> Option<u8>
+    ensures { result ≡ slice_get held.now 0 }
+{
+    held.as_ref().first().copied()
+}
+
+/// Sets the first byte of data; the others stay.
+pub fn set_first_byte(held: &mut Data, byte: u8)
+    requires { 0 < length held.old }
+    ensures { held.new ≡ slice_set held.old 0 byte }
+{
+    let bytes = held.as_mut();
+    bytes[0] = byte;
+}
+
+/// Whether data is the same: whether its bytes are.
+pub fn are_same(first: &Data, other: &Data) -> bool
+    ensures { IsTrue result ↔ (first.now ≡ other.now) }
+{
+    first == other
+}
+
+/// Why a text isn't data, as a text.
+///
+/// # Errors
+///
+/// Want of memory.
+pub fn text_of_no_data(alloc: Global) -> Result<String, AllocError>
+    ensures { IfOk result (λ text. string_bytes text ≡ codes "Invalid XML data") }
+{
+    InvalidXmlData::Decode(DecodeError::InvalidPadding).to_string(alloc)
+}
+
+/// The data of data's own text, which is that data.
+///
+/// # Errors
+///
+/// [`InvalidXmlData::OutOfMemory`] if memory runs out.
+pub fn data_again(alloc: Global, first: &Data) -> Result<Data, InvalidXmlData>
+    ensures same { IfOk result (λ again. again ≡ first.now) }
+    ensures memory { IfErr result (λ error. error ≡ refusal.OutOfMemory) }
+{
+    match first.to_xml_format(alloc) {
+        Err(_) => Err(InvalidXmlData::OutOfMemory),
+        Ok(text) => Data::from_xml_format(alloc, text.as_str()),
+    }
+}

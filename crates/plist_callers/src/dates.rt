@@ -1,0 +1,63 @@
+//! Proved callers of dates and their texts: each reads back as itself; a real that is no date's, a
+//! date that has no text.
+
+ghost use Rattle.std.specs.Prelude.{◌≡◌, IfOk, None, Some, string_bytes};
+ghost use Rattle.plist_base.specs.DateTexts.{IsInUtc, IsRefused, second_of_text};
+ghost use Rattle.plist_base.specs.Faults.{FractionalDate, InvalidDateString};
+
+use plist_base::{Date, Error, ErrorKind};
+use std::alloc::Global;
+
+/// A date's text, by way of the date: the same text, where it has `T` and `Z`.
+///
+/// # Errors
+///
+/// `InvalidDateString`, without an offset, if the text spells no date; else those of
+/// [`Date::to_xml_format`].
+pub fn text_again(alloc: Global, text: &str) -> Result<String, Error>
+    ensures same { IfOk result (λ again. IsInUtc text.now → string_bytes again ≡ text.now) }
+    ensures refused { second_of_text text.now ≡ None → IsRefused InvalidDateString result }
+{
+    let date = Date::from_xml_format(text)?;
+    match date.to_xml_format(alloc) {
+        Ok(again) => Ok(again),
+        Err(error) => Err(error),
+    }
+}
+
+/// The date of a date's own text, which is that date.
+///
+/// # Errors
+///
+/// Those of [`Date::to_xml_format`]: a date without a text, or want of memory.
+pub fn date_again(alloc: Global, date: &Date) -> Result<Date, Error>
+    ensures same { IfOk result (λ again. again ≡ date.now) }
+{
+    match date.to_xml_format(alloc) {
+        Err(error) => Err(error),
+        Ok(text) => match Date::from_xml_format(text.as_str()) {
+            Err(_) => unreachable!(),
+            Ok(again) => Ok(again),
+        },
+    }
+}
+
+/// The text of the half second behind 2001-01-01T00:00:00Z: there is none.
+pub fn half_second(alloc: Global) -> Result<String, Error>
+    ensures { IsRefused FractionalDate result }
+{
+    match Date::from_plist_real([0x3f, 0xe0, 0, 0, 0, 0, 0, 0]) {
+        Ok(date) => date.to_xml_format(alloc),
+        Err(kind) => Err(kind.without_position()),
+    }
+}
+
+/// Why an infinite real is no date.
+pub fn infinite_date() -> Option<ErrorKind>
+    ensures { result ≡ Some ErrorKind.OverflowOrNanDate }
+{
+    match Date::from_plist_real([0x7f, 0xf0, 0, 0, 0, 0, 0, 0]) {
+        Ok(_date) => None,
+        Err(kind) => Some(kind),
+    }
+}

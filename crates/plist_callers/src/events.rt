@@ -1,0 +1,59 @@
+//! Proved callers of events: an event that a writer is handed by the call that it names, or as a
+//! copy; the hash of data; and numbers in their order.
+
+ghost use Rattle.std.specs.Prelude.{◌≡◌, ◌<ℤ◌, ◌↔◌, IsTrue, OnOk};
+ghost use Rattle.std.specs.Cow.{cow_slice_items};
+ghost use Rattle.std.specs.Hash.DefaultHasher as sip;
+ghost use Rattle.plist_base.specs.Events.{event_of};
+ghost use Rattle.plist_base.specs.Writing.{answer_of};
+
+use plist_base::{Error, Event, Integer, Writer};
+use std::alloc::Global;
+use std::borrow::CowSlice;
+use std::hash::{DefaultHasher, Hash, Hasher};
+
+/// Writes an event by the call that it names: just this event.
+pub fn write_by_name<W: Writer>(writer: &mut W, event: Event<'_>) -> Result<(), Error>
+    ensures { W.Step writer.old (event_of event.entry) (answer_of result) writer.new }
+{
+    match event {
+        Event::StartArray(length) => writer.write_start_array(length),
+        Event::StartDictionary(length) => writer.write_start_dictionary(length),
+        Event::EndCollection => writer.write_end_collection(),
+        Event::Boolean(value) => writer.write_boolean(value),
+        Event::Data(bytes) => writer.write_data(bytes),
+        Event::Date(date) => writer.write_date(date),
+        Event::Integer(value) => writer.write_integer(value),
+        Event::Real(bits) => writer.write_real(bits),
+        Event::String(text) => writer.write_string(text),
+        Event::Uid(uid) => writer.write_uid(uid),
+    }
+}
+
+/// Writes a copy of an event, and then a copy of that: each time the event itself.
+pub fn write_copies<W: Writer>(
+    alloc: Global,
+    writer: &mut W,
+    event: &Event<'_>,
+) -> Result<(), Error>
+    ensures { OnOk result (W.Step writer.old (event_of event.now) (answer_of result) writer.new) }
+{
+    let copy = event.clone(alloc)?.into_owned(alloc)?;
+    writer.write(copy)
+}
+
+/// The hash of data, which is that of its bytes in one write.
+pub fn hash_of_data(bytes: CowSlice<'_, u8>) -> u64
+    ensures { result ≡ sip.finish (sip.write sip.initial (cow_slice_items bytes.entry)) }
+{
+    let mut state = DefaultHasher::new();
+    Event::Data(bytes).hash(&mut state);
+    state.finish()
+}
+
+/// Whether a number is below another.
+pub fn is_below(number: Integer, other: Integer) -> bool
+    ensures { IsTrue result ↔ (number <ℤ other) }
+{
+    number < other
+}

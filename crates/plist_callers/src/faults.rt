@@ -1,0 +1,49 @@
+//! Proved callers of faults: what a fault tells of itself.
+
+ghost use Rattle.std.specs.Prelude.{◌≡◌, MatchResult, None, Ok, Some, false, true};
+ghost use Rattle.std.specs.IoError.{error_kind};
+ghost use Rattle.plist_base.specs.Faults.{InvalidMagic, fault_at, fault_of};
+
+use plist_base::{Error, ErrorKind};
+use std::io;
+
+/// Whether the input ended too early, whether a device failed, and where: of an early end.
+pub fn early_end(place: u64) -> (bool, bool, Option<u64>)
+    ensures { result ≡ (true, false, Some place) }
+{
+    let fault = ErrorKind::UnexpectedEof.with_byte_offset(place);
+    (fault.is_eof(), fault.is_io(), fault.offset())
+}
+
+/// The same of an end of the events, which has no place.
+pub fn end_of_events() -> (bool, bool, Option<u64>)
+    ensures { result ≡ (false, false, None) }
+{
+    let fault = ErrorKind::UnexpectedEndOfEventStream.without_position();
+    (fault.is_eof(), fault.is_io(), fault.offset())
+}
+
+/// What kind of failure a device's fault lends.
+pub fn failure_kind(failure: io::Error) -> Option<io::ErrorKind>
+    ensures { result ≡ Some (error_kind failure) }
+{
+    let fault = ErrorKind::Io(failure).without_position();
+    match fault.as_io() {
+        Some(failure) => Some(failure.kind()),
+        None => None,
+    }
+}
+
+/// A device's failure, by way of its fault.
+pub fn failure_again(failure: io::Error, place: u64) -> Result<io::Error, Error>
+    ensures { result ≡ Ok failure }
+{
+    ErrorKind::Io(failure).with_byte_offset(place).into_io()
+}
+
+/// A fault that isn't a device's, which stays itself.
+pub fn fault_again(place: u64) -> Result<io::Error, Error>
+    ensures { MatchResult result (λ _. ⊥) (λ fault. fault_of fault ≡ fault_at InvalidMagic place) }
+{
+    ErrorKind::InvalidMagic.with_byte_offset(place).into_io()
+}

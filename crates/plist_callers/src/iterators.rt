@@ -1,0 +1,67 @@
+//! Proved callers of the iterators over a dictionary: what each tells of how much it has left, and
+//! the first that it gives.
+
+ghost use Rattle.std.specs.Prelude.{◌≡◌, length, option_map, slice_get, Some};
+ghost use Rattle.std.specs.Map.Iter.{deref};
+ghost use Rattle.std.specs.Map.{keys_of, values_of};
+ghost use Rattle.plist.specs.Shown.{shown_key, shown_owned_pair, shown_pair};
+
+use plist::Pairs;
+
+/// What an iterator told before its first call, and what that call gave.
+pub struct Begun<T> {
+    /// How much it has left.
+    pub left: usize,
+    /// The least and the most that it may have left.
+    pub hint: (usize, Option<usize>),
+    /// What it gives first.
+    pub first: Option<T>,
+}
+
+/// Begins to go over the pairs.
+pub fn begin_pairs<V>(pairs: &Pairs<V>) -> Begun<(&String, &V)>
+    ensures left { result.left ≡ length pairs.now }
+    ensures hint { result.hint ≡ (length pairs.now, Some (length pairs.now)) }
+    ensures first { option_map shown_pair result.first ≡ slice_get pairs.now 0 }
+{
+    let mut iter = pairs.into_iter();
+    let (left, hint) = (iter.len(), iter.size_hint());
+    let first = iter.next();
+    Begun { left, hint, first }
+}
+
+/// Begins to go over the keys.
+pub fn begin_keys<V>(pairs: &Pairs<V>) -> Begun<&String>
+    ensures left { result.left ≡ length (keys_of pairs.now) }
+    ensures hint { result.hint ≡ (result.left, Some result.left) }
+    ensures first { option_map shown_key result.first ≡ slice_get (keys_of pairs.now) 0 }
+{
+    let mut keys = pairs.keys();
+    let (left, hint) = (keys.len(), keys.size_hint());
+    let first = keys.next();
+    Begun { left, hint, first }
+}
+
+/// Begins to go over the values.
+pub fn begin_values<V>(pairs: &Pairs<V>) -> Begun<&V>
+    ensures left { result.left ≡ length (values_of pairs.now) }
+    ensures hint { result.hint ≡ (result.left, Some result.left) }
+    ensures first { option_map deref result.first ≡ slice_get (values_of pairs.now) 0 }
+{
+    let mut values = pairs.values();
+    let (left, hint) = (values.len(), values.size_hint());
+    let first = values.next();
+    Begun { left, hint, first }
+}
+
+/// Begins to go over the pairs by value.
+pub fn begin_own_pairs<V: Drop>(pairs: Pairs<V>) -> Begun<(String, V)>
+    ensures left { result.left ≡ length pairs }
+    ensures hint { result.hint ≡ (result.left, Some result.left) }
+    ensures first { option_map shown_owned_pair result.first ≡ slice_get pairs 0 }
+{
+    let mut iter = pairs.into_iter();
+    let (left, hint) = (iter.len(), iter.size_hint());
+    let first = iter.next();
+    Begun { left, hint, first }
+}

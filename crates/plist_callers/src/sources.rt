@@ -1,0 +1,70 @@
+//! Proved callers of sources: what a read gives, how much there is and is lent, and what becomes of
+//! a device.
+
+ghost use Rattle.std.specs.Prelude.{◌≡◌, ◌+◌, ◌-◌, ◌^◌, ◌<◌, ◌≤◌, IfOk, IsOk, OnOk, Some, drop, length, take};
+ghost use Rattle.plist_base.specs.Seeking.{failures_of};
+ghost use Rattle.plist_base.specs.Sources.{CountsFailure, LiesAt};
+
+use plist_base::{Error, Seeking, Sequential, Source, read_exact_at};
+use std::alloc::Global;
+use std::io;
+use std::io::{Read, Seek};
+
+/// Reads bytes of a slice: those that lie there, wherever there are so many.
+pub fn read_slice(bytes: &[u8], place: u64, buf: &mut [u8]) -> Result<(), Error>
+    requires { place + length buf.old < 2 ^ 64 }
+    ensures bytes { OnOk result (LiesAt bytes.now place buf.new) }
+    ensures whole { place + length buf.old ≤ length bytes.now → IsOk result }
+{
+    let mut source = bytes;
+    read_exact_at(&mut source, place, buf)
+}
+
+/// Reads bytes of a vector: those that lie there, wherever there are so many.
+pub fn read_vector(bytes: Vec<u8>, place: u64, buf: &mut [u8]) -> Result<(), Error>
+    requires { place + length buf.old < 2 ^ 64 }
+    ensures bytes { OnOk result (LiesAt bytes.items place buf.new) }
+    ensures whole { place + length buf.old ≤ length bytes.items → IsOk result }
+{
+    let mut source = bytes;
+    read_exact_at(&mut source, place, buf)
+}
+
+/// The size of a slice and of a vector, as sources tell it.
+pub fn sizes(bytes: &[u8], more: Vec<u8>) -> (Option<u64>, Option<u64>)
+    ensures { result ≡ (Some (length bytes.now), Some (length more.items)) }
+{
+    let (mut slice, mut vector) = (bytes, more);
+    (slice.size().ok(), vector.size().ok())
+}
+
+/// How much a slice and a vector lend from a place on: all that lies there.
+pub fn lent(bytes: &[u8], more: &Vec<u8>, place: u64) -> (usize, usize)
+    ensures { result ≡ (length (drop place bytes.now), length (drop place more.now.items)) }
+{
+    (bytes.near(place).len(), more.near(place).len())
+}
+
+/// All bytes of a slice, read from its front on.
+pub fn read_all(alloc: Global, bytes: &[u8]) -> io::Result<Vec<u8>>
+    ensures { IfOk result (λ all. all.items ≡ take (2 ^ 64 - 1) bytes.now) }
+{
+    let mut all = Vec::new(alloc);
+    Sequential::new(bytes).read_to_end(&mut all)?;
+    Ok(all)
+}
+
+/// The size of what can seek, with the source that counts whether its seek failed.
+pub fn size_of_device<R: Read + Seek + Drop>(device: R) -> (Result<u64, io::Error>, Seeking<R>)
+    ensures { CountsFailure result.0 0 (failures_of result.1) }
+{
+    let mut source = Seeking::new(device);
+    (source.size(), source)
+}
+
+/// A device that was made a source, which is that device.
+pub fn device_again<R: Read + Seek + Drop>(device: R) -> R
+    ensures { result ≡ device }
+{
+    Seeking::new(device).into_inner()
+}

@@ -1,0 +1,73 @@
+//! Proved callers of values: what bytes hold, what a builder finishes, and a value's copy, which is
+//! equal to it.
+
+ghost use Rattle.std.specs.Prelude.{◌≡◌, Err, IfOk, IfSome, false, true};
+ghost use Rattle.plist_ascii.specs.Texts.{tight};
+ghost use Rattle.plist_base.specs.Faults.{WriterFailed, fault_nowhere};
+ghost use Rattle.plist_reader.specs.Reader.{items_of_input};
+ghost use Rattle.plist.specs.Collecting.{built_tree};
+ghost use Rattle.plist.specs.Inputs.{IsReadFrom};
+ghost use Rattle.plist.specs.ReadBy.{items_of_text};
+
+use plist::callers::are_equal;
+use plist::{Builder, Dialect, Value};
+use plist_base::{Error, ErrorKind, Event, Writer};
+use std::alloc::Global;
+use std::rt::Files;
+
+/// The value of bytes, binary or in ASCII.
+pub fn value_of_bytes(alloc: Global, bytes: &[u8]) -> Result<Value, Error>
+    ensures value { IsReadFrom (items_of_input bytes.now) (built_tree result) }
+{
+    Value::from_reader(alloc, bytes)
+}
+
+/// The value of an ASCII property list in the tight dialect.
+pub fn value_of_tight(alloc: Global, text: &[u8]) -> Result<Value, Error>
+    ensures value { IsReadFrom (items_of_text tight text.now) (built_tree result) }
+{
+    Value::from_reader_ascii_with_dialect(alloc, text, Dialect::Tight)
+}
+
+/// Whether a builder has no value any more once it gave one.
+pub fn finishes_once(builder: &mut Builder) -> bool
+    ensures { result ≡ true }
+{
+    match builder.finish() {
+        Ok(_) => builder.finish().is_err(),
+        Err(_) => true,
+    }
+}
+
+/// What a builder answers behind an event for which memory ran out: that it has failed.
+pub fn finish_without_memory(
+    builder: &mut Builder,
+    event: Event<'_>,
+) -> Option<Result<Value, Error>>
+    ensures { IfSome result (λ answer. built_tree answer ≡ Err (fault_nowhere WriterFailed)) }
+{
+    match builder.write(event) {
+        Ok(()) => None,
+        Err(error) => match error.kind() {
+            ErrorKind::OutOfMemory => Some(builder.finish()),
+            _ => None,
+        },
+    }
+}
+
+/// Whether the end of a file was why a value couldn't be stored, which it never is.
+pub fn meets_an_end<R: Files>(rt: &R, alloc: Global, value: &Value, path: &str) -> bool
+    ensures { result ≡ false }
+{
+    match value.to_file_binary(rt, alloc, path) {
+        Ok(()) => false,
+        Err(error) => error.is_eof(),
+    }
+}
+
+/// Whether a copy of a value is equal to it, as it always is.
+pub fn equals_its_copy(alloc: Global, value: &Value) -> Result<bool, Error>
+    ensures equal { IfOk result (λ equal. equal ≡ true) }
+{
+    Ok(are_equal(&value.clone(alloc)?, value))
+}
