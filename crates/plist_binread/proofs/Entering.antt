@@ -17,6 +17,10 @@ use Rattle.plist_binread.specs.Object.{Object, object_in}
 use Rattle.plist_binread.specs.Packed.{is_marked, unmarked, cached, single}
 use Rattle.plist_binread.specs.Unfolding.{Entry, unfolding_of}
 use Rattle.plist_binread.proofs.Known.{Entered, as_many, entry_of, entry_there, held_place, held_scalar, lent_as, place_is}
+use Rattle.plist_binread.specs.Told.{event_in}
+use Rattle.plist_binread.specs.Walking.{open_in, owed_in}
+use Rattle.plist_binread.specs.declared.told.Last.{Last}
+use Rattle.plist_binread.specs.declared.walk.Walk.{Walk}
 use Rattle.plist_binread.proofs.KnownTurns.{Turned, child_is}
 use Rattle.plist_binread.proofs.Steps.{pays_scalar}
 use Rattle.std.proofs.lemmas.Option.{IfSome_then}
@@ -126,6 +130,14 @@ known_goes None now bounds tags contents new fs after n place index number answe
 known_goes (Some bytes) now bounds tags contents new fs after n place index number answer told same
     depth k reads kept pays =
     (number, reads k.within, rw same at kept, rw depth at (rw same at pays))
+
+-- what the walk tells is the first that it owed, and cached if it is small
+abbrev pub GoesOn : (known : Option (List ℕ)) → Bounds → (old : Walk) → Result (Unit {0}) Error
+    → Last → (new : Walk) → Type 0
+GoesOn known bounds old answer last new = IfSome known (λ bytes.
+    PaysAnswer (owed_in bytes bounds old) answer (event_in last) (owed_in bytes bounds new)
+    × IsKeptTold (next_number (entries_of bytes bounds) (open_in old)) (Some answer)
+    (event_in last) new.tags.items)
 
 pub known_child_goes : (known : Option (List ℕ)) (bounds : Bounds) (tags contents new : List ℕ)
     (fs gs after : List Frame) (object index : ℕ) (answer : Result (Unit {0}) Error)

@@ -1,15 +1,16 @@
-use Rattle.std.proofs.Common.{Ok, ◌≡◌, arith, sym, ◌<◌, get_or, length, ◌-◌, reverse, IfSome, refl}
+use Rattle.std.proofs.Common.{Ok, ◌≡◌, arith, sym, ◌<◌, get_or, length, ◌-◌, reverse, IfSome, refl, true}
 use Rattle.std.proofs.lemmas.List.{length-reverse, get_or_read_under}
 use Rattle.std.proofs.lemmas.Result.{on_ok_weaker}
 use Rattle.plist_binread.specs.declared.walk.Turn.TheVariants.{Done, Closed, Child}
 use Rattle.plist_binread.specs.Debt.{next_number}
+use Rattle.plist_binread.specs.Walking.{weight_in}
 use Rattle.plist_binread.proofs.Steps.{steps_positive}
 use Rattle.plist_binread.proofs.KnownTurns.{Turned, known_turned, known_after, known_done, known_closed, known_child_failed}
-use Rattle.plist_binread.proofs.Entering.{known_child_goes, known_goes}
+use Rattle.plist_binread.proofs.Entering.{GoesOn, known_child_goes, known_goes}
 use Rattle.plist_binread.proofs.Known.{first, second}
 use Rattle.plist_binread.proofs.Taken.{kept_fault}
 use Rattle.plist_binread.proofs.advance.advance.Goals as goal
-use Rattle.plist_binread.proofs.advance.advance.Goals.{In-Done, In-Closed, In-Child, After-go_near}
+use Rattle.plist_binread.proofs.advance.advance.Goals.{In-Done, In-Closed, In-Child, After-enter, After-go_near}
 
 -- ---- what the turn does
 
@@ -39,6 +40,13 @@ place g c =
     (arith, c.in-Child.ensures.within.0) in
     get_or_read_under _ _ _ _ 0 c.index-at.ensures h refl
 
+-- something is left to do before it
+some : (g : _) (c : In-Child g) → 0 < weight_in c.args.walk.now
+some g c =
+    let n = length c.args.walk.now.tags.items in
+    let e = rw length-reverse at (c.in-Child.ensures.weight n) in
+    omega (arith, steps_positive (n - length c.turn.new.self.frames))
+
 -- ---- nothing is owed, or an end
 
 pub returns-in-Done-clause-known : goal.returns-in-Done-clause-known
@@ -66,31 +74,27 @@ go_near-requires-clause-known g c =
     known_after _ _ _ _ _ _ (Child _ _)
     (child g (goal.at.go_near-requires-clause-known g c).In-Child)
 
+near : (g : _) (c : After-go_near g) → c.go_near.result ≡ true
+    → GoesOn (g.S.Source.known c.args.source.now) c.args.bounds.now c.args.walk.now (Ok tt)
+    c.go_near.new.last c.go_near.new.walk
+near g c went =
+    known_child_goes _ _ _ _ _ _ _ _ _ _ (Ok tt) _ c.in-Child.ensures.within.0
+    c.in-Child.ensures.within.1 (known_turned _ _ _ _ _ _ _ _ (Child _ _) c.requires.known
+    c.in-Child.ensures.owed) (rw (place g c) at (c.go_near.ensures.enters went))
+
 pub returns-then-go_near-clause-kept : goal.returns-then-go_near-clause-kept
-returns-then-go_near-clause-kept g c =
-    let t = goal.at.returns-then-go_near-clause-kept g c in
-    second _ _ _ (known_child_goes _ _ _ _ _ _ _ _ _ _ _ _ c.in-Child.ensures.within.0
-    c.in-Child.ensures.within.1 (child g t.In-Child)
-    (rw (place g t.After-go_near) at (c.go_near.ensures.enters c.if-go_near.true)))
+returns-then-go_near-clause-kept g c = second _ _ _
+    (near g (goal.at.returns-then-go_near-clause-kept g c).After-go_near c.if-go_near.true)
 
 pub returns-then-go_near-clause-pays : goal.returns-then-go_near-clause-pays
-returns-then-go_near-clause-pays g c =
-    let t = goal.at.returns-then-go_near-clause-pays g c in
-    first _ _ _ (known_child_goes _ _ _ _ _ _ _ _ _ _ (Ok tt) _ c.in-Child.ensures.within.0
-    c.in-Child.ensures.within.1 (child g t.In-Child)
-    (rw (place g t.After-go_near) at (c.go_near.ensures.enters c.if-go_near.true)))
+returns-then-go_near-clause-pays g c = first _ _ _
+    (near g (goal.at.returns-then-go_near-clause-pays g c).After-go_near c.if-go_near.true)
 
 pub returns-then-go_near-clause-falls : goal.returns-then-go_near-clause-falls
 returns-then-go_near-clause-falls g c =
     let e = rw length-reverse at (c.in-Child.ensures.weight (length c.args.walk.now.tags.items)) in
-    let f = rw c.turn.ensures.size at (c.go_near.ensures.falls c.if-go_near.true) in (
-      omega (
-        arith,
-        steps_positive
-            (length c.args.walk.now.tags.items - length c.turn.new.self.frames),
-      ),
-      omega arith,
-    )
+    let f = rw c.turn.ensures.size at (c.go_near.ensures.falls c.if-go_near.true) in
+    (some g (goal.at.returns-then-go_near-clause-falls g c).In-Child, omega arith)
 
 -- ---- a child that is read
 
@@ -116,15 +120,7 @@ returns-in-Err-clause-kept g c =
 
 pub returns-in-Err-clause-falls : goal.returns-in-Err-clause-falls
 returns-in-Err-clause-falls g c =
-    let n = length c.args.walk.now.tags.items in
-    let e = rw length-reverse at (c.in-Child.ensures.weight n) in (
-      omega (
-        arith,
-        steps_positive
-            (n - length c.turn.new.self.frames),
-      ),
-      tt,
-    )
+    (some g (goal.at.returns-in-Err-clause-falls g c).In-Child, tt)
 
 pub returns-in-Err-clause-pays : goal.returns-in-Err-clause-pays
 returns-in-Err-clause-pays g c =
@@ -136,39 +132,35 @@ returns-in-Err-clause-pays g c =
 pub returns-in-Ok-clause-falls : goal.returns-in-Ok-clause-falls
 returns-in-Ok-clause-falls g c =
     let same = c.go_near.ensures.unchanged c.if-go_near.false in
-    let n = length c.args.walk.now.tags.items in
-    let e = rw length-reverse at (c.in-Child.ensures.weight n) in (
-      omega (
-        arith,
-        steps_positive
-            (n - length c.turn.new.self.frames),
-      ),
+    let e = rw length-reverse at (c.in-Child.ensures.weight (length c.args.walk.now.tags.items)) in (
+      some g (goal.at.returns-in-Ok-clause-falls g c).In-Child,
       on_ok_weaker c.enter.result (λ h. omega (arith, e, rw c.turn.ensures.size at h))
           (rw (same.0, same.2) at c.enter.ensures.falls),
     )
 
+-- the child has been entered
+far : (g : _) (c : After-enter g)
+    → c.index-at.result.now ≡ get_or c.turn.new.self.contents.items c.in-Child.object 0
+    → GoesOn (g.S.Source.known c.args.source.now) c.args.bounds.now c.args.walk.now c.enter.result
+    c.enter.new.last c.enter.new.walk
+far g c read =
+    let same = c.go_near.ensures.unchanged c.if-go_near.false in
+    let turned = known_turned _ _ _ _ _ _ _ _ (Child c.in-Child.object c.in-Child.index)
+    c.requires.known c.in-Child.ensures.owed in
+    known_child_goes _ _ _ _ _ _ _ _ _ _ c.enter.result _
+    c.in-Child.ensures.within.0 c.in-Child.ensures.within.1 turned
+    (known_goes _ _ _ _ _ _ _ _ (length c.turn.new.self.frames) _ _ c.in-Ok.number c.enter.result
+    _ c.in-Ok.ensures.unchanged (sym (length-reverse c.turn.new.self.frames))
+    (known_after _ _ _ _ _ _ (Child c.in-Child.object c.in-Child.index) turned)
+    (rw read at c.in-Ok.ensures.child) c.enter.ensures.kept
+    (rw (read, same.0, same.2) at c.enter.ensures.pays))
+
 pub returns-in-Ok-clause-pays : goal.returns-in-Ok-clause-pays
 returns-in-Ok-clause-pays g c =
     let t = goal.at.returns-in-Ok-clause-pays g c in
-    let read = place g t.After-go_near in
-    let same = c.go_near.ensures.unchanged c.if-go_near.false in
-    first _ _ _ (known_child_goes _ _ _ _ _ _ _ _ _ _ c.enter.result _
-    c.in-Child.ensures.within.0 c.in-Child.ensures.within.1 (child g t.In-Child)
-    (known_goes _ _ _ _ _ _ _ _ _ _ _ _ _
-    _ c.in-Ok.ensures.unchanged (sym (length-reverse _))
-    (known_after _ _ _ _ _ _ (Child c.in-Child.object c.in-Child.index) (child g t.In-Child))
-    (rw read at c.in-Ok.ensures.child) c.enter.ensures.kept
-    (rw (read, same.0, same.2) at c.enter.ensures.pays)))
+    first _ _ _ (far g t.After-enter (place g t.After-go_near))
 
 pub returns-in-Ok-clause-kept : goal.returns-in-Ok-clause-kept
 returns-in-Ok-clause-kept g c =
     let t = goal.at.returns-in-Ok-clause-kept g c in
-    let read = place g t.After-go_near in
-    let same = c.go_near.ensures.unchanged c.if-go_near.false in
-    second _ _ _ (known_child_goes _ _ _ _ _ _ _ _ _ _ c.enter.result _
-    c.in-Child.ensures.within.0 c.in-Child.ensures.within.1 (child g t.In-Child)
-    (known_goes _ _ _ _ _ _ _ _ (length c.turn.new.self.frames) _ _ c.in-Ok.number c.enter.result
-    _ c.in-Ok.ensures.unchanged (sym (length-reverse c.turn.new.self.frames))
-    (known_after _ _ _ _ _ _ (Child c.in-Child.object c.in-Child.index) (child g t.In-Child))
-    (rw read at c.in-Ok.ensures.child) c.enter.ensures.kept
-    (rw (read, same.0, same.2) at c.enter.ensures.pays)))
+    second _ _ _ (far g t.After-enter (place g t.After-go_near))

@@ -1,23 +1,16 @@
-use Rattle.std.proofs.Common.{Ok, arith, ◌≡◌, ◌<◌, length, refl, true, IfSome}
+use Rattle.std.proofs.Common.{Ok, arith, ◌≡◌, ◌<◌, length, refl, true}
 use Rattle.std.proofs.lemmas.List.{get_or_read_under}
 use Rattle.plist_binread.specs.declared.walk.Turn.TheVariants.{Child}
-use Rattle.plist_binread.specs.Debt.{entries_of, next_number}
-use Rattle.plist_binread.specs.Lent.{IsKeptNear, PaysTold}
-use Rattle.plist_binread.specs.Told.{event_in}
-use Rattle.plist_binread.specs.Walking.{open_in, owed_in}
 use Rattle.plist_binread.proofs.KnownTurns.{known_turned}
-use Rattle.plist_binread.proofs.Entering.{known_child_goes}
+use Rattle.plist_binread.proofs.Entering.{GoesOn, known_child_goes}
 use Rattle.plist_binread.proofs.Known.{first, second}
 use Rattle.plist_binread.proofs.advance.advance_near.Goals as goal
 use Rattle.plist_binread.proofs.advance.advance_near.Goals.{After-go_near}
 
 -- the child that comes next has been entered
 goes : (g : _) (c : After-go_near g) → c.go_near.result ≡ true
-    → IfSome (g.S.Source.known c.args.source.now) (λ bytes.
-    PaysTold (owed_in bytes c.args.bounds.now c.args.walk.now) (event_in c.go_near.new.last)
-    (owed_in bytes c.args.bounds.now c.go_near.new.walk)
-    × IsKeptNear (next_number (entries_of bytes c.args.bounds.now) (open_in c.args.walk.now))
-    (event_in c.go_near.new.last) c.go_near.new.walk.tags.items)
+    → GoesOn (g.S.Source.known c.args.source.now) c.args.bounds.now c.args.walk.now (Ok tt)
+    c.go_near.new.last c.go_near.new.walk
 goes g c went =
     let h : c.in-Child.object < length c.turn.new.self.contents.items = omega
     (arith, c.in-Child.ensures.within.0) in

@@ -1,7 +1,12 @@
-use Rattle.std.proofs.Common.{◌∙◌}
+use Rattle.std.proofs.Common.{◌≡◌, ◌-◌, Result, Ok, Err, IfSome, ◌∙◌}
+use Rattle.std.specs.Prelude.{⊤}
+use Rattle.plist_base.specs.Faults.{Fault, MatchFault, error_kind_of, fault_of, kind_of}
+use Rattle.plist_binread.specs.Container.{Head, head_of}
+use Rattle.plist_binread.specs.inner.Heads.{head_seen}
 use Rattle.std.proofs.lemmas.Result.{IfOk-weaker, IfErr-weaker}
-use Rattle.plist_binread.proofs.Heads.{refused_short, refused_magic, refused_cut, value_whole, refused_whole}
+use Rattle.plist_binread.proofs.Heads.{refused_short, refused_magic, refused_cut, HeadSaid, head_whole}
 use Rattle.plist_binread.proofs.head.Head.read.Goals as goal
+use Rattle.plist_binread.proofs.head.Head.read.Goals.{After-read_before}
 
 pub returns-then-size-lt-MAGIC_SIZE-clause-refused
     : goal.returns-then-size-lt-MAGIC_SIZE-clause-refused
@@ -24,20 +29,26 @@ returns-then-size-lt-TRAILER_SIZE-clause-refused g c =
     c.in_ok-size.ensures.length c.in_ok-has_magic.ensures.value c.if-not-branch.false
     c.if-size-lt-MAGIC_SIZE.false c.if-size-lt-TRAILER_SIZE.true
 
+-- what is said of the head before its trailer is said of the head
+said : (g : _) (c : After-read_before g) (P : Result Head Fault → Type 0)
+    → IfSome (g.S.Source.known c.has_magic.new.source) (HeadSaid P (c.in_ok-size.size - 32))
+    → IfSome (g.S.Source.known c.args.source.now) (λ bytes. P (head_of bytes))
+said g c P =
+    head_whole P _ _ _ _ _ c.in_ok-size.ensures.unchanged
+    (c.in_ok-has_magic.ensures.unchanged ∙ c.in_ok-size.ensures.unchanged)
+    c.in_ok-size.ensures.length c.in_ok-has_magic.ensures.value c.if-not-branch.false
+    c.if-size-lt-TRAILER_SIZE.false
+
 pub returns-clause-value : goal.returns-clause-value
 returns-clause-value g c =
     IfOk-weaker c.read_before.result _ _
-    (λ head value. value_whole _ _ _ _ _ _ c.in_ok-size.ensures.unchanged
-    (c.in_ok-has_magic.ensures.unchanged ∙ c.in_ok-size.ensures.unchanged)
-    c.in_ok-size.ensures.length c.in_ok-has_magic.ensures.value c.if-not-branch.false
-    c.if-size-lt-TRAILER_SIZE.false value)
+    (λ head. said g (goal.at.returns-clause-value g c).After-read_before
+    (λ answer. answer ≡ Ok (head_seen head)))
     c.read_before.ensures.value
 
 pub returns-clause-refused : goal.returns-clause-refused
 returns-clause-refused g c =
     IfErr-weaker c.read_before.result _ _
-    (λ e refused. refused_whole _ _ _ _ _ _ c.in_ok-size.ensures.unchanged
-    (c.in_ok-has_magic.ensures.unchanged ∙ c.in_ok-size.ensures.unchanged)
-    c.in_ok-size.ensures.length c.in_ok-has_magic.ensures.value c.if-not-branch.false
-    c.if-size-lt-TRAILER_SIZE.false refused)
+    (λ e. said g (goal.at.returns-clause-refused g c).After-read_before
+    (λ answer. MatchFault (kind_of (error_kind_of e)) ⊤ ⊤ (answer ≡ Err (fault_of e))))
     c.read_before.ensures.refused
