@@ -3,8 +3,7 @@ use Rattle.plist_ascii.proofs.Loops.{since_on, runs_round}
 use Rattle.plist_ascii.proofs.input.Input.skip_run.Goals as goal
 
 pub loop-byte-smaller : goal.loop-byte-smaller
-loop-byte-smaller g c =
-    let p = rw c.in-Some.is at c.in_ok-_byte.ensures.place in omega arith
+loop-byte-smaller g c = omega (arith, rw c.in-Some.is at c.in_ok-_byte.ensures.place)
 
 pub loop-byte-preserved : goal.loop-byte-preserved
 loop-byte-preserved g c =
