@@ -8,6 +8,11 @@ use Rattle.plist_binwrite.specs.Held.{is_stop, event_at, half_at, EndsTree, Lack
 use Rattle.plist_binwrite.proofs.Sitting.{sits_item, sits_next, sits_key, sits_value, sits_next_pair}
 use Rattle.plist_binwrite.proofs.Skipping.{first_event, begins, sits_in}
 
+-- an item stands where a tree does
+lacks_none : {es : List PlainEvent} (t : Tree) (q : ℕ) → Sits es t q → LacksItem es q → ⊥
+lacks_none t q s (inl h) = cc (begins t q s)
+lacks_none t q s (inr h) = absurd (omega (arith, sits_in s))
+
 -- ---- arrays
 
 -- the items that are left from index q on
@@ -47,8 +52,7 @@ module _ {es : List PlainEvent} {Goes : Trees → ℕ → Type 0} {q : ℕ} (i :
     where
       by : (ts : Trees) → SitsItems es ts q → Goes ts q → LacksItem es q → Goes NoTrees q
       by NoTrees s g l = g
-      by (TreeAnd t ts) s g (inl h) = cc (begins t q (sits_item s))
-      by (TreeAnd t ts) s g (inr h) = absurd (omega (arith, sits_in (sits_item s)))
+      by (TreeAnd t ts) s g l = absurd (lacks_none t q (sits_item s) l)
 
 -- ---- dictionaries
 
@@ -105,5 +109,4 @@ module _ {es : List PlainEvent} {Goes : Members → ℕ → Type 0} {q : ℕ} (i
     where
       by : (ms : Members) → SitsPairs es ms q → Goes ms q → LacksItem es q → Goes NoMembers q
       by NoMembers s g l = g
-      by (MemberAnd k t ms) s g (inl h) = cc (begins (Leaf (trees.String k)) q (sits_key s))
-      by (MemberAnd k t ms) s g (inr h) = absurd (omega (arith, sits_in (sits_key s)))
+      by (MemberAnd k t ms) s g l = absurd (lacks_none _ q (sits_key s) l)

@@ -1,11 +1,10 @@
 //! The order of a file's objects.
 
-ghost use Rattle.std.specs.Prelude.{◌<◌, length, IfOk, OnOk};
+ghost use Rattle.std.specs.Prelude.{IfOk};
 ghost use Rattle.plist_base.specs.Outcomes.{OnlyMemory};
 ghost use Rattle.plist_binwrite.specs.Held.{plain_events};
-ghost use Rattle.plist_binwrite.specs.inner.Laying.{IsOrder, KeepsMarks, HasAll};
+ghost use Rattle.plist_binwrite.specs.inner.Laying.{IsOrder, HasAll};
 ghost use Rattle.plist_binwrite.specs.inner.Planning.{IsPlanned, count_of};
-ghost use Rattle.plist_binwrite.specs.inner.Sizing.{MarksItem};
 
 use crate::held::Held;
 use crate::kinds::Kind;
@@ -21,70 +20,63 @@ pub struct Layout {
     pub places: Numbers,
 }
 
-// Puts the object of the event here into the order, unless it is there already. A mark that isn't 0
-// tells of each object that it is.
-fn order_one(
-    events: &Held<'_>,
-    plan: &Plan,
-    layout: &mut Layout,
-    index: usize,
-) -> Result<(), AllocError>
-    requires planned { IsPlanned (plain_events events.now) plan.now }
-    requires order { IsOrder (count_of plan.now) layout.old.order layout.old.places }
-    ensures order { OnOk result (IsOrder (count_of plan.now) layout.new.order layout.new.places) }
-    ensures keeps { OnOk result (KeepsMarks layout.old.places layout.new.places) }
-    ensures marked { OnOk result (MarksItem events.now plan.now index layout.new.places) }
-{
-    if !events.has_item(index) {
-        return Ok(());
-    }
-    let number = plan.number(index);
-    if layout.places.get(number) != 0 {
-        return Ok(());
-    }
-    layout.order.push(number)?;
-    layout.places.set(number, 1)?;
-    Ok(())
-}
+impl Layout {
+    ghost use Rattle.std.specs.Prelude.{◌<◌, length, OnOk};
+    ghost use Rattle.plist_binwrite.specs.Held.{plain_events};
+    ghost use Rattle.plist_binwrite.specs.inner.Laying.{IsOrder, KeepsMarks};
+    ghost use Rattle.plist_binwrite.specs.inner.Planning.{IsPlanned, count_of};
+    ghost use Rattle.plist_binwrite.specs.inner.Sizing.{MarksItem};
 
-// Puts the keys of a dictionary into the order, from here on.
-fn order_keys(
-    events: &Held<'_>,
-    plan: &Plan,
-    layout: &mut Layout,
-    from: usize,
-) -> Result<(), AllocError>
-    requires planned { IsPlanned (plain_events events.now) plan.now }
-    requires order { IsOrder (count_of plan.now) layout.old.order layout.old.places }
-    ensures order { OnOk result (IsOrder (count_of plan.now) layout.new.order layout.new.places) }
-    ensures keeps { OnOk result (KeepsMarks layout.old.places layout.new.places) }
-{
-    let mut key = from;
-    'walk: while events.has_item(key) {
-        order_one(events, plan, layout, key)?;
-        key = events.skip_pair(key);
+    // Puts the object of the event here into the order, unless it is there already. A mark that
+    // isn't 0 tells of each object that it is.
+    fn put(&mut self, events: &Held<'_>, plan: &Plan, index: usize) -> Result<(), AllocError>
+        requires planned { IsPlanned (plain_events events.now) plan.now }
+        requires order { IsOrder (count_of plan.now) self.old.order self.old.places }
+        ensures order { OnOk result (IsOrder (count_of plan.now) self.new.order self.new.places) }
+        ensures keeps { OnOk result (KeepsMarks self.old.places self.new.places) }
+        ensures marked { OnOk result (MarksItem events.now plan.now index self.new.places) }
+    {
+        if !events.has_item(index) {
+            return Ok(());
+        }
+        let number = plan.number(index);
+        if self.places.get(number) != 0 {
+            return Ok(());
+        }
+        self.order.push(number)?;
+        self.places.set(number, 1)?;
+        Ok(())
     }
-    Ok(())
-}
 
-// Puts the object of the event here into the order, and behind it those of its keys.
-fn order_here(
-    events: &Held<'_>,
-    plan: &Plan,
-    layout: &mut Layout,
-    index: usize,
-) -> Result<(), AllocError>
-    requires planned { IsPlanned (plain_events events.now) plan.now }
-    requires index { index < length (plain_events events.now) }
-    requires order { IsOrder (count_of plan.now) layout.old.order layout.old.places }
-    ensures order { OnOk result (IsOrder (count_of plan.now) layout.new.order layout.new.places) }
-    ensures keeps { OnOk result (KeepsMarks layout.old.places layout.new.places) }
-    ensures marked { OnOk result (MarksItem events.now plan.now index layout.new.places) }
-{
-    order_one(events, plan, layout, index)?;
-    match events.kind_at(index) {
-        Kind::Dictionary => order_keys(events, plan, layout, index + 1),
-        _ => Ok(()),
+    // Puts the keys of a dictionary into the order, from here on.
+    fn put_keys(&mut self, events: &Held<'_>, plan: &Plan, from: usize) -> Result<(), AllocError>
+        requires planned { IsPlanned (plain_events events.now) plan.now }
+        requires order { IsOrder (count_of plan.now) self.old.order self.old.places }
+        ensures order { OnOk result (IsOrder (count_of plan.now) self.new.order self.new.places) }
+        ensures keeps { OnOk result (KeepsMarks self.old.places self.new.places) }
+    {
+        let mut key = from;
+        'walk: while events.has_item(key) {
+            self.put(events, plan, key)?;
+            key = events.skip_pair(key);
+        }
+        Ok(())
+    }
+
+    // Puts the object of the event here into the order, and behind it those of its keys.
+    fn put_here(&mut self, events: &Held<'_>, plan: &Plan, index: usize) -> Result<(), AllocError>
+        requires planned { IsPlanned (plain_events events.now) plan.now }
+        requires index { index < length (plain_events events.now) }
+        requires order { IsOrder (count_of plan.now) self.old.order self.old.places }
+        ensures order { OnOk result (IsOrder (count_of plan.now) self.new.order self.new.places) }
+        ensures keeps { OnOk result (KeepsMarks self.old.places self.new.places) }
+        ensures marked { OnOk result (MarksItem events.now plan.now index self.new.places) }
+    {
+        self.put(events, plan, index)?;
+        match events.kind_at(index) {
+            Kind::Dictionary => self.put_keys(events, plan, index + 1),
+            _ => Ok(()),
+        }
     }
 }
 
@@ -104,7 +96,7 @@ pub fn order_objects(alloc: Global, events: &Held<'_>, plan: &Plan) -> Result<La
     let order = Numbers::new(alloc);
     let mut layout = Layout { order, places };
     for index in 0..events.len() {
-        order_here(events, plan, &mut layout, index)?;
+        layout.put_here(events, plan, index)?;
     }
     Ok(layout)
 }

@@ -1,9 +1,9 @@
 //! The numbers of objects: one for each class.
 
-ghost use Rattle.std.specs.Prelude.{◌≡◌, ◌<◌, length, IfOk, OnOk};
+ghost use Rattle.std.specs.Prelude.{◌≡◌, length, IfOk};
 ghost use Rattle.plist_base.specs.Outcomes.{OnlyMemory};
 ghost use Rattle.plist_binwrite.specs.Held.{plain_events, AllBelow};
-ghost use Rattle.plist_binwrite.specs.inner.Numbering.{BeginsAt, GoesSoFar, HaveIdsOf, IsNumberingOf, IsPlanOf, KeepsNumbers, NumbersChildren, NumbersHalf, NumbersItem, NumbersItems, NumbersRoot, NumbersTree};
+ghost use Rattle.plist_binwrite.specs.inner.Numbering.{IsNumberingOf, NumbersRoot, NumbersTree};
 
 use crate::held::Held;
 use crate::kinds::{Kind, half_of};
@@ -26,93 +26,95 @@ struct Numbered {
     firsts: Numbers,
 }
 
-// Numbers the object of the event here, unless it has a number.
-fn number_one(given: &Classed<'_>, found: &mut Numbered, index: usize) -> Result<(), AllocError>
-    requires so_far { GoesSoFar given.now found.old }
-    // The answer.
-    ensures numbered { OnOk result (NumbersItem given.now index found.new) }
-    ensures first { OnOk result (BeginsAt given.now index found.old found.new) }
-    // The state after it.
-    ensures plan { OnOk result (IsPlanOf given.now found.new) }
-    ensures ids { OnOk result (HaveIdsOf given.now found.new) }
-    ensures keeps { OnOk result (KeepsNumbers found.old found.new) }
-{
-    if !given.events.has_item(index) {
-        return Ok(());
-    }
-    if found.numbers.get(index) < found.firsts.len() {
-        return Ok(());
-    }
-    let class = given.classes.get(index);
-    let number = found.ids.get(class);
-    if number < found.firsts.len() {
-        found.numbers.set(index, number)?;
-        return Ok(());
-    }
-    let count = found.firsts.len();
-    found.firsts.push(index)?;
-    found.ids.set(class, count)?;
-    found.numbers.set(index, count)?;
-    Ok(())
-}
+impl Numbered {
+    ghost use Rattle.std.specs.Prelude.{◌<◌, length, OnOk};
+    ghost use Rattle.plist_binwrite.specs.Held.{plain_events};
+    ghost use Rattle.plist_binwrite.specs.inner.Numbering.{BeginsAt, GoesSoFar, HaveIdsOf, IsPlanOf, KeepsNumbers, NumbersChildren, NumbersHalf, NumbersItem, NumbersItems};
 
-// Numbers the items of an array from here on.
-fn number_items(given: &Classed<'_>, found: &mut Numbered, from: usize) -> Result<(), AllocError>
-    requires so_far { GoesSoFar given.now found.old }
-    ensures so_far { OnOk result (GoesSoFar given.now found.new) }
-    ensures keeps { OnOk result (KeepsNumbers found.old found.new) }
-    ensures numbered { OnOk result (NumbersItems given.now from found.new) }
-{
-    let mut index = from;
-    'walk: while given.events.has_item(index) {
-        number_one(given, found, index)?;
-        index = given.events.skip(index);
-    }
-    Ok(())
-}
-
-// Numbers the values of a dictionary, or its keys, from here on.
-fn number_halves(
-    given: &Classed<'_>,
-    found: &mut Numbered,
-    from: usize,
-    values: bool,
-) -> Result<(), AllocError>
-    requires so_far { GoesSoFar given.now found.old }
-    ensures so_far { OnOk result (GoesSoFar given.now found.new) }
-    ensures keeps { OnOk result (KeepsNumbers found.old found.new) }
-    ensures numbered { OnOk result (NumbersHalf given.now values from found.new) }
-{
-    let mut key = from;
-    'walk: while given.events.has_item(key) {
-        let index = half_of(key, key + 1, values);
-        number_one(given, found, index)?;
-        key = given.events.skip_pair(key);
-    }
-    Ok(())
-}
-
-// Numbers the keys of the collection that begins here, and then its values.
-fn number_children(
-    given: &Classed<'_>,
-    found: &mut Numbered,
-    index: usize,
-) -> Result<(), AllocError>
-    requires so_far { GoesSoFar given.now found.old }
-    requires index { index < length (plain_events given.now.events.now) }
-    ensures so_far { OnOk result (GoesSoFar given.now found.new) }
-    ensures keeps { OnOk result (KeepsNumbers found.old found.new) }
-    ensures numbered { OnOk result (NumbersChildren given.now index found.new) }
-{
-    let inside = index + 1;
-    match given.events.kind_at(index) {
-        Kind::Array => number_items(given, found, inside),
-        Kind::Dictionary => {
-            number_halves(given, found, inside, false)?;
-            number_halves(given, found, inside, true)?;
-            Ok(())
+    // Numbers the object of the event here, unless it has a number.
+    fn number_one(&mut self, given: &Classed<'_>, index: usize) -> Result<(), AllocError>
+        requires so_far { GoesSoFar given.now self.old }
+        // The answer.
+        ensures numbered { OnOk result (NumbersItem given.now index self.new) }
+        ensures first { OnOk result (BeginsAt given.now index self.old self.new) }
+        // The state after it.
+        ensures plan { OnOk result (IsPlanOf given.now self.new) }
+        ensures ids { OnOk result (HaveIdsOf given.now self.new) }
+        ensures keeps { OnOk result (KeepsNumbers self.old self.new) }
+    {
+        if !given.events.has_item(index) {
+            return Ok(());
         }
-        _ => Ok(()),
+        if self.numbers.get(index) < self.firsts.len() {
+            return Ok(());
+        }
+        let class = given.classes.get(index);
+        let number = self.ids.get(class);
+        if number < self.firsts.len() {
+            self.numbers.set(index, number)?;
+            return Ok(());
+        }
+        let count = self.firsts.len();
+        self.firsts.push(index)?;
+        self.ids.set(class, count)?;
+        self.numbers.set(index, count)?;
+        Ok(())
+    }
+
+    // Numbers the items of an array from here on.
+    fn number_items(&mut self, given: &Classed<'_>, from: usize) -> Result<(), AllocError>
+        requires so_far { GoesSoFar given.now self.old }
+        ensures so_far { OnOk result (GoesSoFar given.now self.new) }
+        ensures keeps { OnOk result (KeepsNumbers self.old self.new) }
+        ensures numbered { OnOk result (NumbersItems given.now from self.new) }
+    {
+        let mut index = from;
+        'walk: while given.events.has_item(index) {
+            self.number_one(given, index)?;
+            index = given.events.skip(index);
+        }
+        Ok(())
+    }
+
+    // Numbers the values of a dictionary, or its keys, from here on.
+    fn number_halves(
+        &mut self,
+        given: &Classed<'_>,
+        from: usize,
+        values: bool,
+    ) -> Result<(), AllocError>
+        requires so_far { GoesSoFar given.now self.old }
+        ensures so_far { OnOk result (GoesSoFar given.now self.new) }
+        ensures keeps { OnOk result (KeepsNumbers self.old self.new) }
+        ensures numbered { OnOk result (NumbersHalf given.now values from self.new) }
+    {
+        let mut key = from;
+        'walk: while given.events.has_item(key) {
+            let index = half_of(key, key + 1, values);
+            self.number_one(given, index)?;
+            key = given.events.skip_pair(key);
+        }
+        Ok(())
+    }
+
+    // Numbers the keys of the collection that begins here, and then its values.
+    fn number_children(&mut self, given: &Classed<'_>, index: usize) -> Result<(), AllocError>
+        requires so_far { GoesSoFar given.now self.old }
+        requires index { index < length (plain_events given.now.events.now) }
+        ensures so_far { OnOk result (GoesSoFar given.now self.new) }
+        ensures keeps { OnOk result (KeepsNumbers self.old self.new) }
+        ensures numbered { OnOk result (NumbersChildren given.now index self.new) }
+    {
+        let inside = index + 1;
+        match given.events.kind_at(index) {
+            Kind::Array => self.number_items(given, inside),
+            Kind::Dictionary => {
+                self.number_halves(given, inside, false)?;
+                self.number_halves(given, inside, true)?;
+                Ok(())
+            }
+            _ => Ok(()),
+        }
     }
 }
 
@@ -151,9 +153,9 @@ pub fn number_by_class(
         numbers,
         firsts,
     };
-    number_one(&given, &mut found, 0)?;
+    found.number_one(&given, 0)?;
     for index in 0..events.len() {
-        number_children(&given, &mut found, index)?;
+        found.number_children(&given, index)?;
     }
     let Numbered {
         numbers,

@@ -30,9 +30,9 @@ loop-index-init c =
 
 pub loop-index-preserved : goal.loop-index-preserved
 loop-index-preserved c = (
-  c.in_ok-order_here.ensures.order,
-  below_more _ _ (λ p lt s. c.in_ok-order_here.ensures.keeps _ (c.loop-index.invariant.1 p lt s))
-      (c.in_ok-order_here.ensures.marked (omega arith)),
+  c.in_ok-put_here.ensures.order,
+  below_more _ _ (λ p lt s. c.in_ok-put_here.ensures.keeps _ (c.loop-index.invariant.1 p lt s))
+      (c.in_ok-put_here.ensures.marked (omega arith)),
 )
 
 pub returns-clause-all : goal.returns-clause-all

@@ -1,9 +1,15 @@
-use Rattle.std.proofs.Common.{◌<◌, length, arith}
+use Rattle.std.proofs.Common.{ℕ, ◌<◌, ◌++◌, length, get_or, take, arith}
 use Rattle.std.proofs.lemmas.List.{take_all}
+use Rattle.plist_binread.specs.Object.{Object}
 use Rattle.plist_binwrite.specs.Forms.{form}
+use Rattle.plist_binwrite.specs.Held.{Describes}
+use Rattle.plist_binwrite.specs.Outlets.{Puts}
+use Rattle.plist_binwrite.specs.Written.{bodies}
+use Rattle.plist_binwrite.specs.inner.Planning.{events_in, numbers_of}
 use Rattle.plist_binwrite.proofs.Outgoing.{puts_none, puts_then, puts_front, puts_as, one_part, all_parts}
 use Rattle.plist_binwrite.proofs.Placing.{described}
 use Rattle.plist_binwrite.proofs.objects.put_objects.Goals as goal
+use Rattle.plist_binwrite.proofs.objects.put_objects.Goals.{After-put_object}
 
 pub loop-index-init : goal.loop-index-init
 loop-index-init g c = λ objects d. puts_none
@@ -14,26 +20,33 @@ first-first-requires g c =
     (omega (arith, c.len-index-end.ensures)) in
     omega arith
 
-pub loop-index-preserved : goal.loop-index-preserved
-loop-index-preserved g c = λ objects d.
+-- the object that comes next is put behind the others
+next : (g : _) (c : After-put_object g) (objects : ℕ → Object)
+    → Describes (events_in c.args.file.now) (numbers_of c.args.file.now.plan.now) objects
+    → (c.loop-index.index < length c.args.order.now)
+    × Puts g.W.Write.contents c.args.out.now c.args.room.now
+    (bodies c.args.file.now.width objects (take c.loop-index.index c.args.order.now)
+    ++ form c.args.file.now.width (objects (get_or c.args.order.now c.loop-index.index 0)))
+    c.put_object.result c.put_object.new.out c.put_object.new.room
+next g c objects d =
     let i = c.loop-index.index in
     let within : i < length c.args.order.now =
     omega (arith, c.loop-index-test.true, c.len-index-end.ensures) in
     let u = described c.requires.file.planned objects _ _
     (rw c.get.ensures at c.first-first.ensures) (c.requires.order i within) d in
-    puts_as (one_part (λ k. form c.args.file.now.width (objects k)) c.args.order.now i within)
-    (puts_then (c.loop-index.invariant objects d) (rw (← u.2) at (c.in-Ok.ensures u.0 u.1)))
+    (within, puts_then (c.loop-index.invariant objects d) (rw (← u.2) at (c.put_object.ensures u.0 u.1)))
+
+pub loop-index-preserved : goal.loop-index-preserved
+loop-index-preserved g c = λ objects d.
+    let n = next g (goal.at.loop-index-preserved g c).After-put_object objects d in
+    puts_as (one_part (λ k. form c.args.file.now.width (objects k)) c.args.order.now _ n.0)
+    (rw c.in-Ok.is at n.1)
 
 pub returns-in-Err : goal.returns-in-Err
 returns-in-Err g c = λ objects d.
-    let i = c.loop-index.index in
-    let within : i < length c.args.order.now =
-    omega (arith, c.loop-index-test.true, c.len-index-end.ensures) in
-    let u = described c.requires.file.planned objects _ _
-    (rw c.get.ensures at c.first-first.ensures) (c.requires.order i within) d in
-    puts_as (all_parts (λ k. form c.args.file.now.width (objects k)) c.args.order.now i within)
-    (puts_front _ (puts_then (c.loop-index.invariant objects d)
-    (rw (← u.2) at (c.in-Err.ensures u.0 u.1))))
+    let n = next g (goal.at.returns-in-Err g c).After-put_object objects d in
+    puts_as (all_parts (λ k. form c.args.file.now.width (objects k)) c.args.order.now _ n.0)
+    (puts_front _ (rw c.in-Err.is at n.1))
 
 pub returns : goal.returns
 returns g c = λ objects d.

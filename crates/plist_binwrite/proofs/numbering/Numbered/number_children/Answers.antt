@@ -1,7 +1,7 @@
 use Rattle.std.proofs.Common.{◌∙◌, sym}
 use Rattle.plist_binwrite.specs.Held.{IsNumbered}
 use Rattle.plist_binwrite.proofs.PlannedBy.{dictionary_whole}
-use Rattle.plist_binwrite.proofs.numbering.number_children.Goals as goal
+use Rattle.plist_binwrite.proofs.numbering.Numbered.number_children.Goals as goal
 
 pub returns-in_ok-number_halves-in-Dictionary-2-clause-numbered :
     goal.returns-in_ok-number_halves-in-Dictionary-2-clause-numbered
@@ -9,7 +9,7 @@ returns-in_ok-number_halves-in-Dictionary-2-clause-numbered c =
     let keys = c.in_ok-number_halves-in-Dictionary.ensures in
     let values = c.in_ok-number_halves-in-Dictionary-2.ensures in
     dictionary_whole
-    (IsNumbered c.number_halves.new.found.numbers c.number_halves.new.found.firsts)
-    (IsNumbered c.number_halves-in-Dictionary.new.found.numbers
-    c.number_halves-in-Dictionary.new.found.firsts) c.args.index
+    (IsNumbered c.number_halves.new.self.numbers c.number_halves.new.self.firsts)
+    (IsNumbered c.number_halves-in-Dictionary.new.self.numbers
+    c.number_halves-in-Dictionary.new.self.firsts) c.args.index
     (sym c.kind_at.ensures ∙ c.in-Dictionary.is) values.keeps.numbered keys.numbered values.numbered

@@ -2,13 +2,13 @@ use Rattle.std.proofs.Common.{◌≡◌, refl, subst, false}
 use Rattle.plist_binwrite.specs.Held.{plain_events, is_stop, event_at, IsNumbered}
 use Rattle.plist_binwrite.proofs.Passing.{stands, pairs_next, pairs_stop}
 use Rattle.plist_binwrite.proofs.PlannedBy.{keeps_self, keeps_then}
-use Rattle.plist_binwrite.proofs.numbering.number_halves.Goals as goal
+use Rattle.plist_binwrite.proofs.numbering.Numbered.number_halves.Goals as goal
 
 pub walk-preserved : goal.walk-preserved
 walk-preserved c =
     let y = c.walk-test.ensures.yes refl in
     let one = c.in_ok-number_one.ensures in
-    let found = c.number_one.new.found in (
+    let found = c.number_one.new.self in (
       record { long = c.requires.so_far.long; plan = one.plan; ids = one.ids },
       keeps_then c.walk.invariant.1 one.keeps,
       λ ms s. pairs_next (c.walk.invariant.2 ms s) y.1 c.skip_pair-key.ensures.ends

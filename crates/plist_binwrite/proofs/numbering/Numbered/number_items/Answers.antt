@@ -1,7 +1,7 @@
 use Rattle.std.proofs.Common.{refl}
 use Rattle.plist_binwrite.proofs.Passing.{items_next, items_stop}
 use Rattle.plist_binwrite.proofs.PlannedBy.{keeps_self, keeps_then}
-use Rattle.plist_binwrite.proofs.numbering.number_items.Goals as goal
+use Rattle.plist_binwrite.proofs.numbering.Numbered.number_items.Goals as goal
 
 pub walk-preserved : goal.walk-preserved
 walk-preserved c =

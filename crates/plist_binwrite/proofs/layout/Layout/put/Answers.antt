@@ -1,7 +1,7 @@
 use Rattle.std.proofs.Common.{◌≡◌, ◌<◌, get_or, arith, refl}
 use Rattle.plist_binwrite.specs.inner.Planning.{count_of}
 use Rattle.plist_binwrite.proofs.Placing.{order_more}
-use Rattle.plist_binwrite.proofs.layout.order_one.Goals as goal
+use Rattle.plist_binwrite.proofs.layout.Layout.put.Goals as goal
 
 pub returns-clause-order : goal.returns-clause-order
 returns-clause-order c =
@@ -11,6 +11,6 @@ returns-clause-order c =
       c.requires.planned.all _
           (omega arith) y.1,
     ) in
-    let zero : get_or c.args.layout.now.places c.number-number.result 0 ≡ 0 = omega arith in
+    let zero : get_or c.args.self.now.places c.number-number.result 0 ≡ 0 = omega arith in
     rw c.in_ok-set.ensures.set (rw c.in_ok-push.ensures.pushed
     (order_more _ c.requires.order low zero))

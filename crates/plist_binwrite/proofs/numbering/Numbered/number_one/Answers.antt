@@ -1,38 +1,38 @@
 use Rattle.std.proofs.Common.{◌≡◌, ◌+◌, ◌<◌, ◌^◌, ◌∷◌, [], length, set, arith, get_or, ◌≤◌, refl, length-append, ap, ◌∙◌}
 use Rattle.plist_binwrite.specs.Held.{plain_events, num_of}
 use Rattle.plist_binwrite.proofs.PlannedBy.{plan_new, ids_new, none_yet}
-use Rattle.plist_binwrite.proofs.numbering.number_one.Goals as goal
-use Rattle.plist_binwrite.proofs.numbering.number_one.Goals.{In_ok-set-3 as AllStored}
+use Rattle.plist_binwrite.proofs.numbering.Numbered.number_one.Goals as goal
+use Rattle.plist_binwrite.proofs.numbering.Numbered.number_one.Goals.{In_ok-set-3 as AllStored}
 
-small : (c : AllStored) → length c.args.found.now.firsts + 1 < 2 ^ 64
+small : (c : AllStored) → length c.args.self.now.firsts + 1 < 2 ^ 64
 small c =
     omega (
       arith,
       ap length c.in_ok-push.ensures.pushed,
-      length-append c.args.found.now.firsts (c.args.index ∷ []),
+      length-append c.args.self.now.firsts (c.args.index ∷ []),
     )
 
 within : (c : AllStored) → c.args.index < length (plain_events c.args.given.now.events.now)
 within c = (c.if-not-has_item.ensures.yes refl).0
 
 without : (c : AllStored)
-    → length c.args.found.now.firsts
-    ≤ get_or c.args.found.now.ids (num_of c.args.given.now.classes.now c.args.index) 0
+    → length c.args.self.now.firsts
+    ≤ get_or c.args.self.now.ids (num_of c.args.given.now.classes.now c.args.index) 0
 without c =
-    let here = ap (λ k. get_or c.args.found.now.ids k 0) c.get-class.ensures in
+    let here = ap (λ k. get_or c.args.self.now.ids k 0) c.get-class.ensures in
     omega arith
 
 ids_are : (c : AllStored) → c.set-2.new.self
-    ≡ set c.args.found.now.ids (num_of c.args.given.now.classes.now c.args.index)
-    (length c.args.found.now.firsts)
+    ≡ set c.args.self.now.ids (num_of c.args.given.now.classes.now c.args.index)
+    (length c.args.self.now.firsts)
 ids_are c =
     c.in_ok-set-2.ensures.set
-    ∙ ap (λ k. set c.args.found.now.ids k c.len-count.result) c.get-class.ensures
+    ∙ ap (λ k. set c.args.self.now.ids k c.len-count.result) c.get-class.ensures
     ∙ ap (set _ _)
     c.len-count.ensures
 
 numbers_are : (c : AllStored) → c.set-3.new.self
-    ≡ set c.args.found.now.numbers c.args.index (length c.args.found.now.firsts)
+    ≡ set c.args.self.now.numbers c.args.index (length c.args.self.now.firsts)
 numbers_are c =
     c.in_ok-set-3.ensures.set ∙ ap (set _ _) c.len-count.ensures
 

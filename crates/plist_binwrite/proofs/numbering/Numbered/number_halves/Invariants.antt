@@ -5,15 +5,15 @@ use Rattle.plist_binwrite.specs.Held.{plain_events, half_indices}
 use Rattle.plist_binwrite.specs.inner.Numbering.{GoesSoFar, KeepsNumbers}
 use Rattle.plist_binwrite.proofs.PlannedBy.{NumbersRest}
 use Rattle.plist_binwrite.proofs.Passing.{Pairs}
-use Rattle.plist_binwrite.proofs.numbering.number_halves.Given as goal
+use Rattle.plist_binwrite.proofs.numbering.Numbered.number_halves.Given as goal
 
 abbrev pub invariant-walk : goal.invariant-walk
 invariant-walk l =
-    GoesSoFar l.given l.found
-    × KeepsNumbers l.initial.found l.found
+    GoesSoFar l.given l.self
+    × KeepsNumbers l.initial.self l.self
     × ((ms : Members) → SitsPairs (plain_events l.given.events.now) ms l.from
     → Pairs (plain_events l.given.events.now)
-    (λ left q. NumbersRest l.found (half_indices l.values ms l.from) (half_indices l.values left q))
+    (λ left q. NumbersRest l.self (half_indices l.values ms l.from) (half_indices l.values left q))
     l.key)
 
 abbrev pub decreases-walk : goal.decreases-walk
