@@ -73,6 +73,16 @@ module _ {V : Type 0} (inner : V → List PlainEvent) where
   made outer make h (Err f) xs (es, more, is, (rest, v, alike)) =
       (es, more, is, (rest, make v, alike ∙ h v))
 
+-- what a collection's items are, between its start and its end
+bracketed : {V : Type 0} (inner : V → List PlainEvent) (start : PlainEvent) (make : V → Tree)
+    → ((v : V) → AreAlike (start ∷ (inner v ++ EndCollection ∷ [])) (bracketing (make v)))
+    → (a : Result V ArchiveFault) (xs : List Item) → AreItemsOf inner a xs
+    → Gives (and_then a (λ v. Ok (make v))) (Ok start ∷ (xs ++ Ok EndCollection ∷ []))
+bracketed inner start make alike a xs h =
+    made (λ v. start ∷ (inner v ++ EndCollection ∷ [])) bracketing make alike a _
+    (behind-one (λ v. inner v ++ EndCollection ∷ []) start a _
+    (before-one inner EndCollection a xs h))
+
 behind : {V : Type 0} (inner : V → List PlainEvent) (es : List PlainEvent)
     (a : Result V ArchiveFault) (xs : List Item) → AreItemsOf inner a xs
     → AreItemsOf (λ v. es ++ inner v) a (map Ok es ++ xs)
@@ -112,17 +122,13 @@ module _ (answer : ℕ → Result Tree ArchiveFault) (follow : ℕ → List Step
     tree-gives (Leaf (trees.Uid uid)) = rw (append-nil (follow uid)) (h uid)
     tree-gives (Leaf x) = (Single x ∷ [], refl, refl)
     tree-gives (Array ts) =
-        let start = StartArray (Some (number_of_trees ts)) in
         rw (run-append (bracketing_of_items ts) (EndCollection ∷ []))
-        (made (λ us. start ∷ (bracketing_of_items us ++ EndCollection ∷ [])) bracketing Array
-        (λ us. refl) _ _ (behind-one (λ us. bracketing_of_items us ++ EndCollection ∷ []) start _ _
-        (before-one bracketing_of_items EndCollection _ _ (items-give ts))))
+        (bracketed bracketing_of_items (StartArray (Some (number_of_trees ts))) Array (λ us. refl)
+        _ _ (items-give ts))
     tree-gives (Dictionary ms) =
-        let start = StartDictionary (Some (number_of_members ms)) in
         rw (run-append (bracketing_of_pairs ms) (EndCollection ∷ []))
-        (made (λ ns. start ∷ (bracketing_of_pairs ns ++ EndCollection ∷ [])) bracketing Dictionary
-        (λ us. refl) _ _ (behind-one (λ us. bracketing_of_pairs us ++ EndCollection ∷ []) start _ _
-        (before-one bracketing_of_pairs EndCollection _ _ (pairs-give ms))))
+        (bracketed bracketing_of_pairs (StartDictionary (Some (number_of_members ms))) Dictionary
+        (λ ns. refl) _ _ (pairs-give ms))
 
     items-give : (ts : Trees)
         → AreItemsOf bracketing_of_items (replaced_items answer ts) (run (bracketing_of_items ts))
