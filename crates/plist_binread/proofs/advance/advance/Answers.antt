@@ -74,6 +74,7 @@ go_near-requires-clause-known g c =
     known_after _ _ _ _ _ _ (Child _ _)
     (child g (goal.at.go_near-requires-clause-known g c).In-Child)
 
+-- it has been entered
 near : (g : _) (c : After-go_near g) → c.go_near.result ≡ true
     → GoesOn (g.S.Source.known c.args.source.now) c.args.bounds.now c.args.walk.now (Ok tt)
     c.go_near.new.last c.go_near.new.walk
