@@ -86,7 +86,8 @@ ssize_t write(int file, const void *bytes, size_t size) {
 def program(folder):
     """The program, proved and built in a repository of its own."""
     every = (CRATES.parent / "crates.txt").read_text().splitlines()
-    above = ("plist_tool", "plist_vectors", "plist_read_vectors", "#")
+    above = ("plist_commands", "plist_tool", "plist_vectors", "plist_read_vectors",
+             "plist_upper_vectors", "#")
     lines = [line for line in every if line.strip() and not line.startswith(above)]
     names = [line.split(":")[0].split()[0] for line in lines]
     root = folder / "repository"
@@ -100,7 +101,8 @@ def program(folder):
     for name in ("file.rt", "words.rt"):
         shutil.copy(CRATES / "plist_vectors/src/support" / name, source / "support" / name)
     lines.append("calls: plist_base plist_data plist_binread plist_binwrite plist_share plist_ascii "
-                 "plist_reader plist_support plist plist_keyed plist_callers plist_uses hex")
+                 "plist_reader plist_support plist plist_value_support plist_keyed plist_callers "
+                 "plist_uses hex")
     (root / "crates.txt").write_text("\n".join(lines) + "\n")
     subprocess.run(["rt", "run", "--", "none", "none"], cwd=source.parent, stdout=sys.stderr)
     return source.parent / "out/calls"

@@ -1,8 +1,1 @@
-pub mod Lines
-pub mod Fronts
-pub mod Printing
-pub mod Messages
-pub mod Commands
-pub mod Failures
-pub mod Archives
-pub mod Converting
+pub mod Exits

@@ -6,25 +6,10 @@
 ghost use Rattle.std.specs.Prelude.{◌≤◌, IfOk};
 ghost use Rattle.std.specs.Process.{exit_status};
 ghost use Rattle.plist_base.specs.Outcomes.{OnlyMemory};
-ghost use Rattle.plist_tool.specs.Commands.{IsStatusOf, TellsFault};
+ghost use Rattle.plist_tool.specs.Exits.{IsStatusOf, TellsFault};
 
-mod commands;
-mod convert;
-mod failure;
-mod keyed;
-mod lines;
-mod messages;
-mod print;
-#[cfg(test)]
-mod saved;
-#[cfg(test)]
-mod trickle;
-mod values;
-
-use commands::{Streams, run_words};
-use failure::Failure;
-use messages::{Message, Messages};
 use plist_base::{Error, ErrorKind};
+use plist_commands::{Failure, Message, Messages, Streams, run_words};
 use std::env::Env;
 use std::io::Write;
 use std::process::ExitCode;

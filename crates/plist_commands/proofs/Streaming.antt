@@ -1,0 +1,215 @@
+-- What is held of the items that a reader has told.
+use Rattle.std.proofs.Common.{◌≡◌, ◌↔◌, ℕ, Bool, true, false, List, [], ◌∷◌, ◌++◌, Option, Some, None, Result, Ok, Err, IfSome, map, refl, sym, ap, ◌∙◌, subst, append-nil}
+use Rattle.std.specs.Option.{option_map}
+use Rattle.std.proofs.lemmas.Option.{same_Some, IfSome_then}
+use Rattle.plist_base.specs.declared.error.Error.{Error}
+use Rattle.plist_base.specs.declared.source.Source.{Ghosts}
+use Rattle.plist_base.specs.Bracketing.{bracketing, unhinted, AreAlike, AreWhole, CanContinue}
+use Rattle.plist_base.specs.Events.{PlainEvent, Item}
+use Rattle.plist_base.specs.Faults.{Fault, MatchFault}
+use Rattle.plist_base.specs.Trees.{Tree, Leaf, Array, Dictionary}
+use Rattle.plist_base.proofs.Grammar.{alike_last, alike_with, complete_of_whole, continue_alike, whole_alike}
+use Rattle.plist_base.specs.Writing.{Answer}
+use Rattle.plist_binread.specs.BinaryReader.{is_new, source_of, to_come}
+use Rattle.plist_binread.specs.Telling.{TellsItem, event_told}
+use Rattle.plist_binread.specs.Unfolding.{items_of_file}
+use Rattle.plist_binread.specs.declared.counter.DecodeCounter.{Ghosts as CounterGhosts}
+use Rattle.plist_binread.specs.declared.reader.BinaryReader.{BinaryReader}
+use Rattle.plist_binwrite.specs.Keys.{HasKeysOnce}
+use Rattle.plist_binwrite.specs.Pendings.{TellsWhole}
+use Rattle.plist_binwrite.specs.Sending.{Sends}
+use Rattle.plist_reader.specs.declared.format.Format.{Format}
+use Rattle.plist_reader.specs.declared.format.Format.TheVariants as format
+use Rattle.plist_reader.specs.Formats.{format_of}
+use Rattle.plist_reader.specs.Reader.{items_by, items_of_input}
+use Rattle.plist.specs.Building.{Unfinished, NotBegun, IsNested, events_so_far}
+use Rattle.plist.specs.Inputs.{AreOf, IsReadFrom}
+use Rattle.plist.specs.LastWins.{last_wins}
+use Rattle.plist.specs.inner.Following.{taken, continues-accepted}
+use Rattle.plist.proofs.Gathered.{sends_tree}
+use Rattle.plist.proofs.Inputs.{all-events, event-more, no-events, stops-there}
+use Rattle.plist.proofs.KeysOnce.{keys-once}
+use Rattle.plist_keyed.proofs.Told.{same_of}
+use Rattle.plist_commands.specs.Converting.{HoldsTree, AreNoTree, IsDirect, IsNoBinaryTree, SendsRead, items_left, items_of_known}
+
+-- of the items these events were taken, which are alike to those held, and these items are to come
+abbrev TookOf : (all coming : List Item) → (held : List PlainEvent) → Type 0
+TookOf all coming held =
+    (events : List PlainEvent) × (built : Unfinished) × (all ≡ map Ok events ++ coming)
+    × IsNested built × AreAlike (events_so_far built) events × AreAlike events held
+
+-- the same, where the items are known
+abbrev pub HasTaken : (items coming : Option (List Item)) → (held : List PlainEvent) → Type 0
+HasTaken items coming held =
+    IfSome items (λ all. (left : List Item) × (coming ≡ Some left) × TookOf all left held)
+
+pub taken_none : (items coming : Option (List Item)) (held : List PlainEvent) → coming ≡ items
+    → held ≡ [] → HasTaken items coming held
+taken_none None coming held e h = tt
+taken_none (Some all) coming held e h =
+    (all, e, ([], NotBegun, refl, tt, refl, ap (map unhinted) (sym h)))
+
+told_there : {A : Type 0} (k l : Option (List ℕ)) (before after : List ℕ → List Item)
+    (fresh : Bool) (item : Option (Result A Error)) (told : PlainEvent) (left : List Item)
+    → option_map before k ≡ Some left → l ≡ k
+    → IfSome k (λ bytes. TellsItem fresh (before bytes) item told (after bytes))
+    → (next : List Item) × (option_map after l ≡ Some next) × TellsItem fresh left item told next
+told_there None l before after fresh item told left is e h = absurd (cc)
+told_there (Some bytes) l before after fresh item told left is e h = (
+  after bytes,
+  ap (option_map after) e,
+  subst (λ b. TellsItem fresh b item told (after bytes)) (same_Some _ _ is) h,
+)
+
+-- a call of a reader: what was left of all items, what is left now, and what the call gave
+abbrev pub Came : {S C : Type 0} {g : Ghosts S} {h : CounterGhosts C} (known : S → Option (List ℕ))
+    (before after : BinaryReader S C g h) (item : Option (Result (Unit {0}) Error))
+    (items : Option (List Item)) (held : List PlainEvent) → Type 0
+Came known before after item items held = IfSome items (λ all.
+    (left : List Item) × (next : List Item) × TookOf all left held
+    × (items_left known after ≡ Some next)
+    × TellsItem (is_new before) left item (event_told after) next)
+
+pub told_next : {S C : Type 0} {g : Ghosts S} {h : CounterGhosts C} (known : S → Option (List ℕ))
+    (before after : BinaryReader S C g h) (item : Option (Result (Unit {0}) Error))
+    (items : Option (List Item)) (held : List PlainEvent)
+    → HasTaken items (items_left known before) held
+    → known (source_of after) ≡ known (source_of before)
+    → IfSome (known (source_of before)) (λ bytes. TellsItem (is_new before) (to_come bytes before)
+    item (event_told after) (to_come bytes after))
+    → Came known before after item items held
+told_next known before after item items held taken same tells =
+    IfSome_then items taken (λ all (left, is, took).
+    let t = told_there (known (source_of before)) (known (source_of after))
+    (λ bytes. to_come bytes before) (λ bytes. to_come bytes after) (is_new before) item
+    (event_told after) left is same tells in
+    (left, t.0, took, t.1, t.2))
+
+-- ---- whether the events held are a tree's
+
+no_tree : (t : Tree) → AreAlike [] (bracketing t) → ⊥
+no_tree (Leaf x) p = cc
+no_tree (Array ts) p = cc
+no_tree (Dictionary ms) p = cc
+
+pub tells_none : (b : Bool) (held : List PlainEvent) → b ≡ false → held ≡ [] → TellsWhole b held
+tells_none b held is none =
+    rw is (λ w. no_tree w.0 (sym (ap (map unhinted) none) ∙ w.1))
+
+tells_alike : (b : Bool) (left right : List PlainEvent) → AreAlike left right → TellsWhole b left
+    → TellsWhole b right
+tells_alike true left right p t = complete_of_whole right (whole_alike left right p t.0)
+tells_alike false left right p t = λ w. t (whole_alike right left (sym p) w)
+
+pub tells_next : (b : Bool) (held new : List PlainEvent) (e : PlainEvent)
+    → new ≡ held ++ unhinted e ∷ [] → TellsWhole b (held ++ e ∷ []) → TellsWhole b new
+tells_next b held new e is =
+    tells_alike b (held ++ e ∷ []) new (sym (ap (map unhinted) is ∙ alike_last held e))
+
+-- ---- of the items that were taken
+
+module _ (all before : List Item) (held : List PlainEvent) (took : TookOf all before held) where
+  -- one more event
+  pub took_event : (after : List Item) (e : PlainEvent) (new : List PlainEvent)
+      → before ≡ Ok e ∷ after → CanContinue held e → new ≡ held ++ unhinted e ∷ []
+      → TookOf all after new
+  took_event after e new b can grown =
+      let (events, u, is, ok, alike, like) = took in
+      let r = continues-accepted u e ok
+      ((continue_alike held (events_so_far u) (sym like ∙ sym alike) e).0 can) in
+      let w = taken u e ok r in (
+        events ++ e ∷ [],
+        w.0,
+        is ∙ ap (λ l. map Ok events ++ l) b ∙ event-more events e after,
+        w.2,
+        w.3 ∙ alike_with (events_so_far u) events (e ∷ []) alike,
+        alike_with events held (e ∷ []) like ∙ sym (alike_last held e)
+            ∙ ap (map unhinted) (sym grown),
+      )
+
+  -- the reader's fault
+  pub took_fault : (fault : Fault)
+      → MatchFault fault.kind (Unit {0}) (Unit {0}) (before ≡ Err fault ∷ [])
+      → IsReadFrom all (Err fault)
+  took_fault fault b =
+      let (events, u, is, ok, alike, like) = took in
+      stops-there all before [] events u (Err fault) fault ok alike is b refl
+
+  first_of : (e : PlainEvent) (more : List Item) (es : List PlainEvent) → Ok e ∷ more ≡ map Ok es
+      → (rest : List PlainEvent) × (es ≡ e ∷ rest)
+  first_of e more [] p = absurd (cc p)
+  first_of e more (x ∷ es) p = (es, cc p)
+
+  -- an event of a tree can come next
+  pub goes_on : (after : List Item) (e : PlainEvent) → before ≡ Ok e ∷ after → (tree : Tree)
+      → AreOf all tree → CanContinue held e
+  goes_on after e b tree (others, same, whole) =
+      let (events, u, is, ok, alike, like) = took in
+      let s = all-events events others (Ok e ∷ after)
+      (sym (is ∙ ap (λ l. map Ok events ++ l) b) ∙ same) in
+      let f = first_of e after s.0 s.1 in (
+        f.0,
+        tree,
+        alike_with held events (e ∷ f.0) (sym like)
+            ∙ ap (map unhinted) (ap (λ l. events ++ l) (sym f.1) ∙ sym s.2) ∙ whole,
+      )
+
+  -- all that a tree's items are is held at the end
+  pub whole_at_end : before ≡ [] → (tree : Tree) → AreOf all tree → AreWhole held
+  whole_at_end none tree (others, same, whole) =
+      let (events, u, is, ok, alike, like) = took in
+      let s = all-events events others []
+      (sym (is ∙ ap (λ l. map Ok events ++ l) none) ∙ same) in
+      let e : others ≡ events = s.2 ∙ ap (λ l. events ++ l) (no-events s.0 s.1) ∙ append-nil events
+      in
+      (tree, sym like ∙ ap (map unhinted) (sym e) ∙ whole)
+
+-- ---- the format
+
+pub no_binary_tree : (known : Option (List ℕ)) → AreNoTree (items_of_known known)
+    → IsNoBinaryTree known
+no_binary_tree None h = tt
+no_binary_tree (Some bytes) h = λ binary. h
+
+-- a binary file's items are those of the input
+pub binary_items : (known given inner : Option (List ℕ)) (found : Format)
+    (coming : List ℕ → List Item) → inner ≡ given → given ≡ known
+    → IfSome known (λ bytes. found ≡ format_of bytes) → found ≡ format.Binary
+    → IfSome given (λ bytes. coming bytes ≡ items_of_file bytes)
+    → option_map coming inner ≡ items_of_known known
+binary_items None given inner found coming d e is binary h = ap (option_map coming) (d ∙ e)
+binary_items (Some bytes) given inner found coming d e is binary h =
+    ap (option_map coming) (d ∙ e)
+    ∙ ap Some (subst (λ k. IfSome k (λ b. coming b ≡ items_of_file b)) e h
+    ∙ ap (λ f. items_by f bytes) (sym binary ∙ is))
+
+-- ---- what goes out
+
+pub not_direct : (known : Option (List ℕ)) (held : List PlainEvent)
+    → HoldsTree (items_of_known known) held → (repeats : Bool)
+    → ((tree : Tree) → AreAlike held (bracketing tree) → (repeats ≡ false) ↔ HasKeysOnce tree)
+    → (repeats ≡ false → ⊥) → IfSome known (λ bytes. IsDirect bytes → ⊥)
+not_direct None held h repeats once repeated = tt
+not_direct (Some bytes) held (_, (t, are, alike)) repeats once repeated =
+    λ (binary, (tree, of, last)).
+    let same : t ≡ tree = same_of (items_of_input bytes) t tree are of in
+    repeated ((once t alike).1 ((keys-once t).1 (ap last_wins same ∙ last ∙ sym same)))
+
+pub sends_read : (known : Option (List ℕ)) (held : List PlainEvent)
+    → HoldsTree (items_of_known known) held → {W : Type 0} (contents : W → Option (List ℕ))
+    (answer : Answer) (old new : W)
+    → ((tree : Tree) → AreAlike held (bracketing tree) → HasKeysOnce tree)
+    → Sends contents held answer old new → SendsRead contents known answer old new
+sends_read None held ((t, alike), _) contents answer old new once sent =
+    (t, tt, sends_tree t held alike contents old new answer sent)
+sends_read (Some bytes) held (_, (t, are, alike)) contents answer old new once sent = (
+  t,
+  (t, are, sym ((keys-once t).0 (once t alike))),
+  sends_tree t held alike contents old new answer sent,
+)
+
+-- known bytes are no such file
+pub not_binary : (known : Option (List ℕ)) → IsNoBinaryTree known
+    → IfSome known (λ bytes. IsDirect bytes → ⊥)
+not_binary None h = tt
+not_binary (Some bytes) h = λ (binary, (tree, of, last)). h binary tree of

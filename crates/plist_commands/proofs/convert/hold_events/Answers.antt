@@ -1,0 +1,78 @@
+use Rattle.std.proofs.Common.{◌≡◌, Ok, Err, None, rules, Some, refl, sym, ◌∙◌}
+use Rattle.std.proofs.lemmas.Option.{IfSome_then}
+use Rattle.plist_base.specs.Faults.{error_kind_of, fault_of, kind_of}
+use Rattle.plist_base.proofs.Refusals.{MatchFault-weaker}
+use Rattle.plist_binread.specs.Telling.{event_told}
+use Rattle.plist_binwrite.specs.Pendings.{events_held, is_whole}
+use Rattle.plist_commands.specs.Converting.{items_left}
+use Rattle.plist_commands.proofs.Streaming.{Came, told_next, tells_none, tells_next, taken_none, took_event, took_fault, goes_on, whole_at_end}
+use Rattle.plist_commands.proofs.convert.hold_events.Goals as goal
+use Rattle.plist_commands.proofs.convert.hold_events.Goals.{After-advance}
+
+-- what the call gave
+came : (g : _) (c : After-advance g) → Came g.S.Source.known c.loop-item.reader c.advance.new.self
+    c.advance.result (items_left g.S.Source.known c.args.reader.now)
+    (events_held c.loop-item.pending)
+came g c =
+    told_next g.S.Source.known c.loop-item.reader c.advance.new.self c.advance.result _ _
+    c.loop-item.invariant.so_far c.advance.ensures.unchanged c.advance.ensures.items
+
+pub loop-item-init : goal.loop-item-init
+loop-item-init g c = record {
+  unchanged = refl;
+  failures = refl;
+  told = tells_none _ _ c.new-pending.ensures.whole c.new-pending.ensures.events;
+  so_far = taken_none _ _ _ refl c.new-pending.ensures.events;
+}
+
+pub returns-in-Err-clause-refused : goal.returns-in-Err-clause-refused
+returns-in-Err-clause-refused g c =
+    let is : c.advance.result ≡ Some (Err c.in-Err.error) = search rules in
+    IfSome_then (items_left g.S.Source.known c.args.reader.now)
+    (came g (goal.at.returns-in-Err-clause-refused g c).After-advance)
+    (λ all (left, next, took, to, t). took_fault all left _ took (fault_of c.in-Err.error)
+    (MatchFault-weaker (kind_of (error_kind_of c.in-Err.error)) (λ _. tt) (λ _. tt) (λ b. b)
+    (rw is at t).1))
+
+pub returns-then-is_whole-clause-none : goal.returns-then-is_whole-clause-none
+returns-then-is_whole-clause-none g c = λ e.
+    let is : c.advance.result ≡ Some (Ok c.in-Ok.field-0) = search rules in
+    IfSome_then (items_left g.S.Source.known c.args.reader.now)
+    (came g (goal.at.returns-then-is_whole-clause-none g c).After-advance)
+    (λ all (left, next, took, to, t) tree of.
+    (rw (sym c.is_whole.ensures ∙ c.if-is_whole.true) at c.loop-item.invariant.told).1
+    (event_told c.advance.new.self) (goes_on all left _ took next _ (rw is at t) tree of))
+
+pub returns-in-Ok-Some-clause-none : goal.returns-in-Ok-Some-clause-none
+returns-in-Ok-Some-clause-none g c = λ e.
+    let is : c.advance.result ≡ Some (Ok c.in-Ok.field-0) = search rules in
+    IfSome_then (items_left g.S.Source.known c.args.reader.now)
+    (came g (goal.at.returns-in-Ok-Some-clause-none g c).After-advance)
+    (λ all (left, next, took, to, t) tree of.
+    (rw c.in-Ok-Some.field-0-is at c.in-Ok-Some.ensures.refused)
+    (goes_on all left _ took next _ (rw is at t) tree of))
+
+pub loop-item-preserved : goal.loop-item-preserved
+loop-item-preserved g c =
+    let taken = c.in-Ok-None.ensures.taken (search rules) in
+    let is : c.advance.result ≡ Some (Ok c.in-Ok.field-0) = search rules in
+    record {
+      unchanged = search rules;
+      failures = search rules;
+      told = tells_next (is_whole c.hold_event.new.pending) (events_held c.loop-item.pending)
+          (events_held c.hold_event.new.pending) (event_told c.advance.new.self) taken.1.0
+          taken.1.1;
+      so_far = IfSome_then (items_left g.S.Source.known c.args.reader.now)
+          (came g (goal.at.loop-item-preserved g c).After-advance)
+          (λ all (left, next, took, to, t).
+          (next, to, took_event all left _ took next _ _ (rw is at t) taken.0 taken.1.0));
+    }
+
+pub returns-else-is_whole-2-clause-none : goal.returns-else-is_whole-2-clause-none
+returns-else-is_whole-2-clause-none g c = λ e.
+    let is : c.advance.result ≡ None = search rules in
+    IfSome_then (items_left g.S.Source.known c.args.reader.now)
+    (came g (goal.at.returns-else-is_whole-2-clause-none g c).After-advance)
+    (λ all (left, next, took, to, t) tree of.
+    (rw (sym c.is_whole-2.ensures ∙ c.if-is_whole-2.false) at c.loop-item.invariant.told)
+    (whole_at_end all left _ took (rw is at t).0 tree of))

@@ -1,0 +1,32 @@
+use Rattle.std.proofs.Common.{◌≡◌, None, rules, ap, ◌∙◌, subst}
+use Rattle.std.proofs.lemmas.Result.{IfOk-weaker}
+use Rattle.plist_binread.specs.BinaryReader.{source_of, to_come}
+use Rattle.plist_commands.specs.Converting.{AreNoTree, items_left}
+use Rattle.plist_commands.specs.Printing.{CountsReads}
+use Rattle.plist_commands.proofs.Streaming.{binary_items, no_binary_tree}
+use Rattle.plist_commands.proofs.convert.hold_file.Goals as goal
+
+pub returns-clause-none : goal.returns-clause-none
+returns-clause-none g c =
+    IfOk-weaker c.hold_events.result
+    (λ found. found ≡ None → AreNoTree (items_left g.S.Source.known c.new-reader.result)) _
+    (λ found none is. no_binary_tree (g.S.Source.known c.args.source) (subst AreNoTree
+    (binary_items (g.S.Source.known c.args.source) (g.S.Source.known c.format_of.new.source) _
+    c.in-Ok-Binary.field-0
+    (λ bytes. to_come bytes c.new-reader.result)
+    (ap g.S.Source.known c.new-reader.ensures.source) c.format_of.ensures.unchanged
+    c.in-Ok-Binary.ensures.format (search rules) c.new-reader.ensures.items) (none is)))
+    c.hold_events.ensures.none
+
+pub returns-clause-failures : goal.returns-clause-failures
+returns-clause-failures g c = (
+  source_of c.hold_events.new.reader,
+  (
+    c.hold_events.ensures.unchanged
+        ∙ ap g.S.Source.known c.new-reader.ensures.source ∙ c.format_of.ensures.unchanged,
+    subst (λ n. CountsReads c.hold_events.result n
+        (g.S.Source.failures (source_of c.hold_events.new.reader)))
+        (ap g.S.Source.failures c.new-reader.ensures.source ∙ c.in-Ok-Binary.ensures.failures)
+        c.hold_events.ensures.failures,
+  ),
+)

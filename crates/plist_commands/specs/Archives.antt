@@ -1,0 +1,32 @@
+-- The tree that an archive has under a key, and why there is none.
+use Rattle.std.specs.Prelude.{◌≡◌, ℕ, List, Result, Ok, Err, map, ⊤}
+use Rattle.plist_base.specs.Trees.{Tree}
+use Rattle.plist.specs.declared.value.Value.{Value}
+use Rattle.plist.specs.Views.{tree_of}
+use Rattle.plist_keyed.specs.Archives.{ArchiveFault, resolved_tree}
+use Rattle.plist_keyed.specs.Contents.{IsArchive, IsArchiveOf, IsUidAt}
+use Rattle.plist_keyed.specs.Errors.{MatchError}
+use Rattle.plist_commands.specs.Failures.{Complaint, OfPlist, OfArchive, NoSuchTop}
+
+-- the property list is an archive whose key names an object with this tree, or this fault
+abbrev pub IsResolvedAt : (root : Value) → (key : List ℕ) → Result Tree ArchiveFault → Type 0
+IsResolvedAt root key answer =
+    (objects : List Value) × (names : List (List ℕ × Value)) × (uid : ℕ)
+    × IsArchiveOf root objects names × IsUidAt key names uid
+    × (resolved_tree (map tree_of objects) uid ≡ answer)
+
+abbrev pub IsTreeAt : (root : Value) → (key : List ℕ) → Tree → Type 0
+IsTreeAt root key tree = IsResolvedAt root key (Ok tree)
+
+-- it is an archive in which the key names no object
+abbrev pub IsUnnamed : (root : Value) → (key : List ℕ) → Type 0
+IsUnnamed root key =
+    (objects : List Value) × (names : List (List ℕ × Value)) × IsArchiveOf root objects names
+    × ((uid : ℕ) → ¬ (IsUidAt key names uid))
+
+-- the complaint says why there is no tree; want of memory may always be why
+abbrev pub IsRefusedAt : (root : Value) → (key : List ℕ) → Complaint → Type 0
+IsRefusedAt root key (OfPlist fault) = ⊥
+IsRefusedAt root key (OfArchive error) =
+    MatchError error (¬ (IsArchive root)) ⊤ (λ fault. IsResolvedAt root key (Err fault))
+IsRefusedAt root key NoSuchTop = IsUnnamed root key

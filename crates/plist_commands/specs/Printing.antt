@@ -1,0 +1,104 @@
+-- What printing the items of a file does to a writer, and what it answers.
+use Rattle.std.specs.Prelude.{◌≡◌, ℕ, ◌⊎◌, List, Option, None, Some, ⊤, IfSome, MatchResult, Result}
+use Rattle.std.specs.Io.KnownBytes.{Appends}
+use Rattle.plist_base.specs.declared.error.Error.{Error}
+use Rattle.plist_base.specs.Faults.{MatchFault, IsFromOutside, kind_of, error_kind_of, fault_of, offset_of}
+use Rattle.plist_base.specs.declared.source.Source.{Ghosts}
+use Rattle.plist_base.specs.Bracketing.{bracketing}
+use Rattle.plist_base.specs.Events.{Item}
+use Rattle.plist_base.specs.Sources.{Rises}
+use Rattle.plist_binread.specs.BinaryReader.{source_of, to_come}
+use Rattle.plist_binread.specs.Unfolding.{items_of_file}
+use Rattle.plist_binread.specs.declared.counter.DecodeCounter.{Ghosts as CounterGhosts}
+use Rattle.plist_binread.specs.declared.reader.BinaryReader.{BinaryReader}
+use Rattle.plist_base.specs.Fronts.{AppendsFront}
+use Rattle.plist.specs.declared.stream.events.Events.{Events}
+use Rattle.plist.specs.declared.value.Value.{Value}
+use Rattle.plist.specs.Events.{remaining_events}
+use Rattle.plist.specs.Views.{tree_of}
+use Rattle.plist_commands.specs.Lines.{lines_of, lines_of_events, first_fault}
+
+-- there is no fault, and all the lines went out
+abbrev pub PrintsAll : List Item → (old new : Option (List ℕ)) → Type 0
+PrintsAll items old new = (first_fault items ≡ None) × Appends old new (lines_of items)
+
+-- the error is the first fault, and all the lines before it went out; but a device's failure and
+-- want of memory, which come from outside, say nothing of the items
+abbrev pub PrintsUntil : Error → List Item → (old new : Option (List ℕ)) → Type 0
+PrintsUntil error items old new =
+    MatchFault (kind_of (error_kind_of error)) ⊤ ⊤
+    ((first_fault items ≡ Some (fault_of error)) × Appends old new (lines_of items))
+
+-- the same of the items that a reader of known bytes has still to give, with the writer before and
+-- after
+module _ {S C W : Type 0} {g : Ghosts S} {h : CounterGhosts C} (known : S → Option (List ℕ))
+    (contents : W → Option (List ℕ)) (reader : BinaryReader S C g h) (old new : W) where
+  abbrev pub PrintsRest : Type 0
+  PrintsRest = IfSome (known (source_of reader)) (λ bytes.
+      PrintsAll (to_come bytes reader) (contents old) (contents new))
+
+  abbrev pub EndsRest : Error → Type 0
+  EndsRest error = IfSome (known (source_of reader)) (λ bytes.
+      PrintsUntil error (to_come bytes reader) (contents old) (contents new))
+
+  -- a beginning of their lines went out
+  abbrev pub SendsFrontOfRest : Type 0
+  SendsFrontOfRest = IfSome (known (source_of reader)) (λ bytes.
+      AppendsFront (contents old) (contents new) (lines_of (to_come bytes reader)))
+
+-- the same of all the items of a source's file
+module _ {S W : Type 0} (known : S → Option (List ℕ)) (contents : W → Option (List ℕ)) (source : S)
+    (old new : W) where
+  abbrev pub PrintsFile : Type 0
+  PrintsFile = IfSome (known source) (λ bytes.
+      PrintsAll (items_of_file bytes) (contents old) (contents new))
+
+  abbrev pub EndsFile : Error → Type 0
+  EndsFile error = IfSome (known source) (λ bytes.
+      PrintsUntil error (items_of_file bytes) (contents old) (contents new))
+
+  abbrev pub SendsFrontOfFile : Type 0
+  SendsFrontOfFile = IfSome (known source) (λ bytes.
+      AppendsFront (contents old) (contents new) (lines_of (items_of_file bytes)))
+
+-- the lines of the events that are left went out, or a beginning of them
+module _ {W : Type 0} (contents : W → Option (List ℕ)) (events : Events) (old new : W) where
+  abbrev pub PrintsEvents : Type 0
+  PrintsEvents =
+      Appends (contents old) (contents new) (lines_of_events (remaining_events events))
+
+  abbrev pub SendsFrontOfEvents : Type 0
+  SendsFrontOfEvents =
+      AppendsFront (contents old) (contents new) (lines_of_events (remaining_events events))
+
+-- the same of all the events of a value
+module _ {W : Type 0} (contents : W → Option (List ℕ)) (value : Value) (old new : W) where
+  abbrev pub PrintsValue : Type 0
+  PrintsValue =
+      Appends (contents old) (contents new) (lines_of_events (bracketing (tree_of value)))
+
+  abbrev pub SendsFrontOfValue : Type 0
+  SendsFrontOfValue =
+      AppendsFront (contents old) (contents new) (lines_of_events (bracketing (tree_of value)))
+
+-- the writer's failure, or want of memory for a line: neither has an offset
+abbrev pub IsOwnFault : Error → Type 0
+IsOwnFault error = (offset_of error ≡ None) × IsFromOutside (kind_of (error_kind_of error))
+
+-- the source failed only where the answer is `Io`, and that without an offset may be the writer's
+abbrev pub CountsReads : {A : Type 0} → Result A Error → (old new : ℕ) → Type 0
+CountsReads answer old new = MatchResult answer (λ _. new ≡ old)
+    (λ error. MatchFault (kind_of (error_kind_of error))
+    (((offset_of error ≡ None) × (new ≡ old)) ⊎ Rises old new) (new ≡ old) (new ≡ old))
+
+-- the same of the source inside a reader
+abbrev pub CountsReadsOf : {S C A : Type 0} {g : Ghosts S} {h : CounterGhosts C}
+    → (failures : S → ℕ) → BinaryReader S C g h → Result A Error → BinaryReader S C g h → Type 0
+CountsReadsOf failures old answer new =
+    CountsReads answer (failures (source_of old)) (failures (source_of new))
+
+-- the same of a source that the call has left so, with its known bytes
+abbrev pub LeavesSource : {S A : Type 0} → (known : S → Option (List ℕ)) → (failures : S → ℕ) → S
+    → Result A Error → S → Type 0
+LeavesSource known failures source answer left =
+    (known left ≡ known source) × CountsReads answer (failures source) (failures left)

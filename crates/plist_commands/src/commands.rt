@@ -1,0 +1,134 @@
+//! What the words after the program's name ask for, and how it is done.
+
+ghost use Rattle.std.specs.Prelude.{◌≡◌, ℕ, ◌↔◌, List, Option, Bool, map, string_bytes, IfSome, IsNone};
+ghost use Rattle.plist_commands.specs.Failures.{Outcome};
+ghost use Rattle.plist_commands.specs.Messages.{Usage};
+ghost use Rattle.plist_commands.specs.Commands.{Asked, asked_of, words_for, IsWrong, EndsBy, Performs};
+
+use crate::convert::convert_file;
+use crate::failure::Failure;
+use crate::keyed::keyed_file;
+use crate::messages::{Message, Messages};
+use crate::print::print_events;
+use plist_base::{Error, ErrorKind, Seeking};
+use std::alloc::Global;
+use std::fs;
+use std::io::Write;
+use std::rt::Files;
+
+/// What the program can be asked to do.
+#[derive(Clone, Copy)]
+pub enum Command<'a> {
+    /// Print the events of this file.
+    Print(&'a str),
+    /// Write the property list of the first file to the second one, as a binary one.
+    Convert(&'a str, &'a str),
+    /// Print the tree that the file's archive has under this key.
+    Keyed(&'a str, &'a str),
+}
+
+/// The command that the words ask for, or `None` if they are no command.
+pub fn command_of(words: &[String]) -> Option<Command<'_>>
+    ensures found { IfSome result (λ c. map string_bytes words.now ≡ words_for (asked_of c)) }
+    ensures wrong { IsNone result ↔ IsWrong (map string_bytes words.now) }
+{
+    match words {
+        [verb, file] if verb.as_str() == "print" => Some(Command::Print(file.as_str())),
+        [verb, from, to] if verb.as_str() == "convert" => {
+            Some(Command::Convert(from.as_str(), to.as_str()))
+        }
+        [verb, file, key] if verb.as_str() == "keyed" => {
+            Some(Command::Keyed(file.as_str(), key.as_str()))
+        }
+        _ => None,
+    }
+}
+
+/// Does commands. It is a trait so that a clause can name what a command answered.
+pub trait Commands {
+    /// What a command may have answered, and what an output then holds that tells its bytes.
+    ghost answers: { Self → Asked → (old : Option (List ℕ)) → Outcome
+        → (new : Option (List ℕ)) → Type 0 };
+
+    /// Does a command. What it prints goes to `out`.
+    ///
+    /// # Errors
+    /// Where a file can't be opened, read or written, or holds no property list, or no archive with
+    /// a tree under the key that was asked for.
+    fn perform<O: Write>(
+        &self,
+        alloc: Global,
+        command: Command<'_>,
+        out: &mut O,
+    ) -> Result<(), Failure>
+        ensures { Performs (answers self.now) O.contents command.entry out.old result out.new };
+}
+
+/// Nothing is known of what files hold, so nothing is of the answers.
+impl<R: Files> Commands for R {
+    ghost answers = { λ _ _ _ _ _. Unit {0} };
+
+    fn perform<O: Write>(
+        &self,
+        alloc: Global,
+        command: Command<'_>,
+        out: &mut O,
+    ) -> Result<(), Failure> {
+        match command {
+            Command::Print(path) => Ok(print_file(self, alloc, path, out)?),
+            Command::Convert(from, to) => Ok(convert_file(self, alloc, from, to)?),
+            Command::Keyed(path, key) => keyed_file(self, alloc, path, key, out),
+        }
+    }
+}
+
+// Prints the events of a file. `Io` where it can't be opened.
+fn print_file<R: Files, O: Write>(
+    rt: &R,
+    alloc: Global,
+    path: &str,
+    out: &mut O,
+) -> Result<(), Error> {
+    match fs::open(rt, path) {
+        Ok(file) => print_events(alloc, Seeking::with_windows(alloc, file), out),
+        Err(failure) => Err(ErrorKind::Io(failure).without_position()),
+    }
+}
+
+/// Where a run's lines and its messages go.
+#[derive(Drop)]
+pub struct Streams<O: Write, E: Messages> {
+    /// Takes the lines.
+    pub out: O,
+    /// Takes what is said beside them.
+    pub err: E,
+}
+
+/// Does what the words after the program's name ask for, and answers the status: 0 where it is
+/// done, 1 after a fault, which is then told on `err`, and 2 for wrong words, for which `err` gets
+/// the usage.
+///
+/// A failure of `err` changes no status.
+pub fn run_words<R: Commands, O: Write, E: Messages>(
+    rt: &R,
+    alloc: Global,
+    words: &[String],
+    to: &mut Streams<O, E>,
+) -> u8
+    ensures wrong { (result ≡ 2) ↔ IsWrong (map string_bytes words.now) }
+    ensures silent { result ≡ 2 → to.new.out ≡ to.old.out }
+    ensures usage { result ≡ 2 → (told : Bool) × E.tells to.old.err Usage told to.new.err }
+    ensures ends { EndsBy (R.answers rt.now) O.contents E.tells words.now to.old to.new result }
+{
+    let Some(command) = command_of(words) else {
+        let _ = to.err.tell(Message::Usage);
+        return 2;
+    };
+    match rt.perform(alloc, command, &mut to.out) {
+        Ok(()) => 0,
+        Err(failure) => {
+            let _ = to.err.tell(Message::Fault(&failure));
+            1
+        }
+    }
+}

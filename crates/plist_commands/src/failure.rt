@@ -1,0 +1,41 @@
+//! Why a command isn't done.
+
+ghost use Rattle.std.specs.Prelude.{◌≡◌, Some};
+ghost use Rattle.plist_base.specs.Faults.{fault_of};
+ghost use Rattle.plist_commands.specs.Failures.{OfPlist, complaint_of, text_of_complaint};
+
+use plist_base::Error;
+use plist_keyed::KeyedError;
+use std::fmt;
+
+/// Why a command isn't done.
+#[derive(Debug, Drop)]
+pub enum Failure {
+    /// A property list can't be read, written or printed.
+    Plist(Error),
+    /// It is no archive, or the archive has no such tree.
+    Keyed(KeyedError),
+    /// The archive names no object by this key.
+    NoSuchTop,
+}
+
+/// The fault's own text.
+impl fmt::Display for Failure {
+    ghost output = { λ failure. Some (text_of_complaint (complaint_of failure)) };
+
+    fn fmt<W: fmt::Write>(&self, f: &mut fmt::Formatter<W>) -> fmt::Result {
+        match self {
+            Failure::Plist(error) => write!(f, "{error}"),
+            Failure::Keyed(error) => write!(f, "{error}"),
+            Failure::NoSuchTop => f.write_str("NoSuchTop"),
+        }
+    }
+}
+
+impl From<Error> for Failure {
+    ghost from_gives = { λ error failure. complaint_of failure ≡ OfPlist (fault_of error) };
+
+    fn from(error: Error) -> Failure {
+        Failure::Plist(error)
+    }
+}

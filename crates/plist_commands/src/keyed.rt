@@ -1,0 +1,49 @@
+//! Prints a tree of a keyed archive.
+
+ghost use Rattle.std.specs.Prelude.{IfErr, IfOk};
+ghost use Rattle.plist.specs.Views.{tree_of};
+ghost use Rattle.plist_commands.specs.Archives.{IsRefusedAt, IsTreeAt};
+ghost use Rattle.plist_commands.specs.Failures.{complaint_of};
+
+use crate::failure::Failure;
+use crate::values::print_value;
+use plist::Value;
+use plist_keyed::Archive;
+use std::alloc::Global;
+use std::io::Write;
+use std::rt::Files;
+
+// The tree of the object that an archive's `$top` names by this key.
+fn tree_at(alloc: Global, root: &Value, key: &str) -> Result<Value, Failure>
+    ensures tree { IfOk result (λ value. IsTreeAt root.now key.now (tree_of value)) }
+    ensures refused { IfErr result (λ error. IsRefusedAt root.now key.now (complaint_of error)) }
+{
+    let archive = match Archive::open(root) {
+        Ok(archive) => archive,
+        Err(error) => return Err(Failure::Keyed(error)),
+    };
+    let Some(uid) = archive.top(key) else {
+        return Err(Failure::NoSuchTop);
+    };
+    match archive.tree(alloc, uid) {
+        Ok(tree) => Ok(tree),
+        Err(error) => Err(Failure::Keyed(error)),
+    }
+}
+
+/// Prints the tree of the object that the archive in a file names by this key.
+///
+/// # Errors
+/// Where the file can't be read as a property list, or that is no archive, has no such key, or has
+/// no such tree; and where the tree can't be printed.
+pub fn keyed_file<R: Files, O: Write>(
+    rt: &R,
+    alloc: Global,
+    path: &str,
+    key: &str,
+    out: &mut O,
+) -> Result<(), Failure> {
+    let root = Value::from_file(rt, alloc, path)?;
+    let tree = tree_at(alloc, &root, key)?;
+    Ok(print_value(alloc, &tree, out)?)
+}

@@ -1,0 +1,22 @@
+//! The commands of `plist_tool`, over any source, any writer and any runtime.
+//!
+//! The main contract is that of [`print_events`]: over known bytes what goes out is exactly the
+//! lines of their items, or those before the first fault.
+#![tactic(auto)]
+
+mod commands;
+mod convert;
+mod failure;
+mod keyed;
+mod lines;
+mod messages;
+mod print;
+mod values;
+
+pub use commands::{Command, Commands, Streams, command_of, run_words};
+pub use convert::{Streamed, convert_binary, convert_file};
+pub use failure::Failure;
+pub use keyed::keyed_file;
+pub use messages::{Message, Messages};
+pub use print::print_events;
+pub use values::print_value;

@@ -1,0 +1,43 @@
+//! How bytes go out to a writer, and a flush.
+
+use crate::support::{expect_taken, failing, must, sound};
+use plist_base::send::{flush, send};
+use plist_support::{Device, Fault, expect_io};
+use std::io::ErrorKind;
+
+#[test]
+fn sends_byte_by_byte(rt: HostRuntime) {
+    let mut writer = sound(&rt);
+    must(&rt, send(&mut writer, b""));
+    must(&rt, send(&mut writer, b"three"));
+    must(&rt, send(&mut writer, b" words"));
+    expect_taken(&rt, &writer, b"three words", 11, 0);
+}
+
+// The device's own error comes, and no write is tried again.
+#[test]
+fn stops_at_a_failure(rt: HostRuntime) {
+    let mut writer = failing(&rt, 3, ErrorKind::PermissionDenied);
+    let answer = send(&mut writer, b"three");
+    must(&rt, expect_io(answer, ErrorKind::PermissionDenied, None));
+    expect_taken(&rt, &writer, b"thr", 4, 0);
+}
+
+#[test]
+fn a_write_that_takes_nothing(rt: HostRuntime) {
+    let mut writer = Device::with_fault(Vec::new(rt.alloc()), 2, Fault::MovesNothing);
+    let answer = send(&mut writer, b"three");
+    must(&rt, expect_io(answer, ErrorKind::WriteZero, None));
+    expect_taken(&rt, &writer, b"th", 3, 0);
+}
+
+#[test]
+fn flushes(rt: HostRuntime) {
+    let mut writer = failing(&rt, 1, ErrorKind::TimedOut);
+    must(&rt, flush(&mut writer));
+    must(
+        &rt,
+        expect_io(flush(&mut writer), ErrorKind::TimedOut, None),
+    );
+    expect_taken(&rt, &writer, b"", 2, 0);
+}

@@ -1,0 +1,19 @@
+//! What the tests share, which ends a test that doesn't find what it wants.
+
+mod devices;
+mod files;
+mod runs;
+
+pub(crate) use devices::{Stuck, broken_file, expect_taken, failing, sound};
+pub(crate) use files::{RECURSIVE, expect_holds, expect_missing, put, remove};
+pub(crate) use runs::{expect_done, expect_fault, expect_run, run};
+use std::fmt::Debug;
+use std::process::Abort;
+
+// What an answer holds that is to be no fault.
+pub(crate) fn must<T, E: Debug>(rt: &impl Abort, answer: Result<T, E>) -> T {
+    match answer {
+        Ok(value) => value,
+        Err(error) => panic!(rt; "{error:?}"),
+    }
+}

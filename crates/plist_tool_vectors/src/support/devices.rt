@@ -1,0 +1,56 @@
+//! Devices that take one byte a call and can fail, and a file that can't be read.
+
+use crate::support::must;
+use plist_base::Seeking;
+use plist_support::{Device, Disk, Fault};
+use std::io;
+use std::io::{ErrorKind, Write};
+use std::process::Abort;
+
+// A device that fails at this call, counting from 0; a second try would succeed.
+pub(crate) fn failing(rt: &impl AllocGlobal, call: u64, kind: ErrorKind) -> Device {
+    Device::with_fault(Vec::new(rt.alloc()), call, Fault::Fails(kind))
+}
+
+// One that fails at none.
+pub(crate) fn sound(rt: &impl AllocGlobal) -> Device {
+    Device::new(Vec::new(rt.alloc()), u64::MAX)
+}
+
+// A device took just these bytes, in so many calls, the last flush of which that was done came
+// behind so many bytes.
+pub(crate) fn expect_taken(
+    rt: &impl Abort,
+    device: &Device,
+    bytes: &[u8],
+    calls: u64,
+    flushed: usize,
+) {
+    assert_eq!(rt; device.bytes.as_slice(), bytes);
+    assert_eq!(rt; device.calls, calls);
+    assert_eq!(rt; device.flushed, flushed);
+}
+
+// A file of 64 bytes that fails at this call, counting from 0.
+pub(crate) fn broken_file(rt: &(impl Abort + AllocGlobal), call: u64) -> Seeking<Disk> {
+    let bytes = must(rt, Vec::from_slice(rt.alloc(), &[0; 64]));
+    Seeking::with_windows(rt.alloc(), Disk::new(bytes, call))
+}
+
+// A device that fails at a call, and at each flush.
+#[derive(Drop)]
+pub(crate) struct Stuck {
+    pub device: Device,
+    pub flushes: u64,
+}
+
+impl Write for Stuck {
+    fn write(&mut self, buf: &[u8]) -> io::Result<usize> {
+        self.device.write(buf)
+    }
+
+    fn flush(&mut self) -> io::Result<()> {
+        self.flushes = self.flushes.saturating_add(1);
+        Err(io::Error::from(ErrorKind::TimedOut))
+    }
+}
