@@ -133,7 +133,8 @@ returns-in-Err-clause-pays g c =
 pub returns-in-Ok-clause-falls : goal.returns-in-Ok-clause-falls
 returns-in-Ok-clause-falls g c =
     let same = c.go_near.ensures.unchanged c.if-go_near.false in
-    let e = rw length-reverse at (c.in-Child.ensures.weight (length c.args.walk.now.tags.items)) in (
+    let n = length c.args.walk.now.tags.items in
+    let e = rw length-reverse at (c.in-Child.ensures.weight n) in (
       some g (goal.at.returns-in-Ok-clause-falls g c).In-Child,
       on_ok_weaker c.enter.result (λ h. omega (arith, e, rw c.turn.ensures.size at h))
           (rw (same.0, same.2) at c.enter.ensures.falls),

@@ -34,7 +34,8 @@ next g c objects d =
     omega (arith, c.loop-index-test.true, c.len-index-end.ensures) in
     let u = described c.requires.file.planned objects _ _
     (rw c.get.ensures at c.first-first.ensures) (c.requires.order i within) d in
-    (within, puts_then (c.loop-index.invariant objects d) (rw (← u.2) at (c.put_object.ensures u.0 u.1)))
+    let put = rw (← u.2) at (c.put_object.ensures u.0 u.1) in
+    (within, puts_then (c.loop-index.invariant objects d) put)
 
 pub loop-index-preserved : goal.loop-index-preserved
 loop-index-preserved g c = λ objects d.
