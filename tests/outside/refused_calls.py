@@ -95,11 +95,9 @@ def program(folder):
         shutil.copytree(CRATES / name, root / "crates" / name,
                         ignore=shutil.ignore_patterns("incremental"))
     source = root / "crates/calls/src"
-    (source / "support").mkdir(parents=True)
+    source.mkdir(parents=True)
     for file in (HERE / "calls").glob("*.rt.in"):
         shutil.copy(file, source / file.stem)
-    for name in ("file.rt", "words.rt"):
-        shutil.copy(CRATES / "plist_vectors/src/support" / name, source / "support" / name)
     lines.append("calls: plist_base plist_data plist_binread plist_binwrite plist_share plist_ascii "
                  "plist_reader plist_support plist plist_value_support plist_keyed plist_callers "
                  "plist_uses hex")

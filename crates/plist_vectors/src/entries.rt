@@ -73,35 +73,33 @@ fn pairs_are_inserted_in_order(rt: HostRuntime) {
     expect_dictionary(&rt, pairs, "{2 'a' 3 'b' 2 end");
 }
 
+// The text of a key, which is there.
+fn expect_text(rt: &impl Abort, pairs: &Dictionary, key: &str, wanted: &str) {
+    assert_eq!(rt; at(rt, pairs, key).as_string(), Some(wanted));
+}
+
+// A key with a text.
+fn named(rt: &(impl Abort + AllocGlobal), key: &str, content: &str) -> (String, Value) {
+    (text(rt, key), Value::from(text(rt, content)))
+}
+
 #[test]
 fn from_pairs_gives_each_text(rt: HostRuntime) {
     let mut pairs = Vec::new(rt.alloc());
-    must(
-        &rt,
-        pairs.push((text(&rt, "Doge"), Value::from(text(&rt, "Shiba Inu")))),
-    );
-    must(
-        &rt,
-        pairs.push((text(&rt, "Cheems"), Value::from(text(&rt, "Shiba Inu")))),
-    );
-    must(
-        &rt,
-        pairs.push((text(&rt, "Walter"), Value::from(text(&rt, "Bull Terrier")))),
-    );
+    must(&rt, pairs.push(named(&rt, "Doge", "Shiba Inu")));
+    must(&rt, pairs.push(named(&rt, "Cheems", "Shiba Inu")));
+    must(&rt, pairs.push(named(&rt, "Walter", "Bull Terrier")));
     let dogs = must(&rt, Dictionary::from_pairs(rt.alloc(), pairs));
-    assert_eq!(rt; at(&rt, &dogs, "Doge").as_string(), Some("Shiba Inu"));
-    assert_eq!(rt; at(&rt, &dogs, "Cheems").as_string(), Some("Shiba Inu"));
-    assert_eq!(rt; at(&rt, &dogs, "Walter").as_string(), Some("Bull Terrier"));
+    expect_text(&rt, &dogs, "Doge", "Shiba Inu");
+    expect_text(&rt, &dogs, "Cheems", "Shiba Inu");
+    expect_text(&rt, &dogs, "Walter", "Bull Terrier");
     assert_eq!(rt; dogs.len(), 3);
 }
 
 #[test]
 fn from_pairs_is_insert(rt: HostRuntime) {
     let mut pairs = Vec::new(rt.alloc());
-    must(
-        &rt,
-        pairs.push((text(&rt, "foo"), Value::from(text(&rt, "bar")))),
-    );
+    must(&rt, pairs.push(named(&rt, "foo", "bar")));
     let made = must(&rt, Dictionary::from_pairs(rt.alloc(), pairs));
     let mut inserted = Dictionary::new(rt.alloc());
     assert!(rt;
@@ -256,18 +254,42 @@ fn equal_values(rt: HostRuntime) {
     );
 }
 
-// A value has nothing of another kind than this one, whose call answered.
+// What each call that looks into a value finds, in the order of `answering`.
+const KINDS: [&str; 10] = [
+    "array",
+    "dictionary",
+    "boolean",
+    "data",
+    "date",
+    "real",
+    "integer",
+    "integer",
+    "string",
+    "uid",
+];
+
+// Which of these calls answer.
+fn answering(value: &Value) -> [bool; 10] {
+    [
+        value.as_array().is_some(),
+        value.as_dictionary().is_some(),
+        value.as_boolean().is_some(),
+        value.as_data().is_some(),
+        value.as_date().is_some(),
+        value.as_real().is_some(),
+        value.as_signed_integer().is_some(),
+        value.as_unsigned_integer().is_some(),
+        value.as_string().is_some(),
+        value.as_uid().is_some(),
+    ]
+}
+
+// A value has nothing of another kind than this one, whose calls answer.
 fn expect_nothing_else(rt: &impl Abort, value: &Value, kind: &str) {
-    assert_eq!(rt; value.as_array().is_some(), kind == "array");
-    assert_eq!(rt; value.as_dictionary().is_some(), kind == "dictionary");
-    assert_eq!(rt; value.as_boolean().is_some(), kind == "boolean");
-    assert_eq!(rt; value.as_data().is_some(), kind == "data");
-    assert_eq!(rt; value.as_date().is_some(), kind == "date");
-    assert_eq!(rt; value.as_real().is_some(), kind == "real");
-    assert_eq!(rt; value.as_signed_integer().is_some(), kind == "integer");
-    assert_eq!(rt; value.as_unsigned_integer().is_some(), kind == "integer");
-    assert_eq!(rt; value.as_string().is_some(), kind == "string");
-    assert_eq!(rt; value.as_uid().is_some(), kind == "uid");
+    let answers = answering(value);
+    for number in 0..10 {
+        assert_eq!(rt; answers[number], KINDS[number] == kind);
+    }
 }
 
 #[test]

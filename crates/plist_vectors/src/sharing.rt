@@ -18,26 +18,36 @@ fn shared(rt: &(impl Abort + AllocGlobal), words: &str) -> Vec<u8> {
     writer.into_inner()
 }
 
+// The events of the file are these words.
+fn expect_read(rt: &(impl Abort + AllocGlobal), bytes: &[u8], words: &str) {
+    let read = must(
+        rt,
+        words_of(rt.alloc(), BinaryReader::new(rt.alloc(), bytes)),
+    );
+    assert_eq!(rt; read.as_str(), words);
+}
+
+// The file of a value.
+fn shared_value(rt: &(impl Abort + AllocGlobal), value: &Value) -> Vec<u8> {
+    let mut writer = SharingWriter::new(rt.alloc(), Vec::new(rt.alloc()));
+    must(rt, write_value(rt.alloc(), value, &mut writer));
+    writer.into_inner()
+}
+
+// The value of the file has these events in order, and is written as the same file.
+fn expect_value(rt: &(impl Abort + AllocGlobal), bytes: &[u8], words: &str) {
+    let value = must(rt, Value::from_reader(rt.alloc(), bytes));
+    assert_eq!(rt; words_of_value(rt, &value).as_str(), words);
+    assert_eq!(rt; shared_value(rt, &value).as_slice(), bytes, "{words}");
+}
+
 // The events of these words give the file of these objects and their table, with widths of one
 // byte; its events are these words, its value has them in order, and is written as the same file.
 fn expect(rt: &(impl Abort + AllocGlobal), name: &str, words: &str, body: &str, numbers: [u64; 3]) {
     let bytes = must(rt, file(rt.alloc(), body, [1, 1], numbers));
     assert_eq!(rt; shared(rt, words).as_slice(), bytes.as_slice(), "{name}");
-    let read = must(
-        rt,
-        words_of(rt.alloc(), BinaryReader::new(rt.alloc(), bytes.as_slice())),
-    );
-    assert_eq!(rt; read.as_str(), words, "{name}");
-    let value = must(rt, Value::from_reader(rt.alloc(), bytes.as_slice()));
-    let again = words_of_value(rt, &value);
-    assert_eq!(rt; again.as_str(), words, "the value: {name}");
-    let mut writer = SharingWriter::new(rt.alloc(), Vec::new(rt.alloc()));
-    must(rt, write_value(rt.alloc(), &value, &mut writer));
-    assert_eq!(rt;
-        writer.into_inner().as_slice(),
-        bytes.as_slice(),
-        "the value: {name}"
-    );
+    expect_read(rt, bytes.as_slice(), words);
+    expect_value(rt, bytes.as_slice(), words);
 }
 
 #[test]

@@ -38,17 +38,17 @@ fn expect(rt: &(impl Abort + AllocGlobal), name: &str, words: &str, bytes: &[u8]
     assert_eq!(rt; read.as_str(), words, "{name}");
 }
 
+// The file has the value of these words.
+fn expect_value_read(rt: &(impl Abort + AllocGlobal), bytes: &[u8], words: &str) {
+    let read = Value::from_events(rt.alloc(), BinaryReader::new(rt.alloc(), bytes));
+    assert_eq!(rt; words_of_value(rt, &must(rt, read)).as_str(), words);
+}
+
 // So does the value, and the file the value; and on devices the file is sent alike.
 fn expect_value(rt: &(impl Abort + AllocGlobal), name: &str, words: &str, bytes: &[u8]) {
     expect(rt, name, words, bytes);
-    let read = Value::from_events(rt.alloc(), BinaryReader::new(rt.alloc(), bytes));
-    let again = words_of_value(rt, &must(rt, read));
-    assert_eq!(rt; again.as_str(), words, "the value: {name}");
-    assert_eq!(rt;
-        written_value(rt, words).as_slice(),
-        bytes,
-        "the value: {name}"
-    );
+    expect_value_read(rt, bytes, words);
+    assert_eq!(rt; written_value(rt, words).as_slice(), bytes, "{name}");
     let fault = Fault::Fails(ErrorKind::Interrupted);
     expect_file_on_devices(rt, words, &value_of(rt, words), bytes, fault);
 }

@@ -2,7 +2,6 @@
 
 use crate::support::{expect_value, must};
 use plist::Value;
-use plist_base::Error;
 use plist_support::{Device, expect_io};
 use std::io::ErrorKind;
 use std::process::Abort;
