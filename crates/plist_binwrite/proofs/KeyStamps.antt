@@ -17,7 +17,7 @@ use Rattle.plist_binwrite.specs.Standing.{size, Sits, SitsItems, SitsPairs, met,
 use Rattle.plist_binwrite.proofs.Inside.{met_all}
 use Rattle.plist_binwrite.proofs.Sitting.{sits_whole, sits_items, sits_pairs, sits_item, sits_next, sits_key, sits_value, sits_next_pair}
 use Rattle.plist_binwrite.proofs.Skipping.{stands_single, starts_array}
-use Rattle.plist_binwrite.proofs.Passing.{Pairs, FirstPair, pairs_first, pairs_next, pairs_stop}
+use Rattle.plist_binwrite.proofs.Passing.{Left, FirstPair, pairs_first, onward, pairs_stop}
 use Rattle.plist_binwrite.proofs.Uniques.{all_both}
 
 same_key : (k l : List ℕ) → Some (Single (String k)) ≡ Some (Single (String l)) → k ≡ l
@@ -44,7 +44,7 @@ pub record Tells (scalars : List PlainEvent) (mark : ℕ) (stamps : List ℕ) (a
 module _ {scalars : List PlainEvent} {mark : ℕ} {es : List PlainEvent} {stamps : List ℕ} where
   pub walked_start : (start : ℕ) → mark ≡ start + 1 → length stamps ≡ length scalars
       → AllBelow (start + 1) stamps → (all : Members) → Sits es (Dictionary all) start
-      → Pairs es (Tells scalars mark stamps all) (start + 1)
+      → Left SitsPairs es (Tells scalars mark stamps all) (start + 1)
   walked_start start is long older all sits = record {
     left = all;
     sits = sits_pairs sits;
@@ -59,13 +59,13 @@ module _ {scalars : List PlainEvent} {mark : ℕ} {es : List PlainEvent} {stamps
     };
   }
 
-  module _ {q : ℕ} {all : Members} (w : Pairs es (Tells scalars mark stamps all) q) where
+  module _ {q : ℕ} {all : Members} (w : Left SitsPairs es (Tells scalars mark stamps all) q) where
     pub walked_end : LacksItem es q → HasDistinctKeys all
     walked_end h = (pairs_stop w h).up (tt, λ key stamped. tt)
 
     key_is : (f : FirstPair es (Tells scalars mark stamps all) q)
         → event_at es q ≡ Single (String f.key)
-    key_is f = stands_single f.here
+    key_is f = stands_single f.named
 
     -- each key is a scalar
     pub walked_leaf : {A : Type 0} → is_stop (event_at es q) ≡ false
@@ -85,12 +85,13 @@ module _ {scalars : List PlainEvent} {mark : ℕ} {es : List PlainEvent} {stamps
         pub walked_next : (next : ℕ) → get_or stamps s 0 ≢ mark → s < length stamps
             → is_stop (event_at es q) ≡ false
             → EndsTree es (q + 1) next
-            → Pairs es (Tells scalars mark (set stamps s mark) all) next
-        walked_next next other within h skip = pairs_next w h skip (λ f.
+            → Left SitsPairs es (Tells scalars mark (set stamps s mark) all) next
+        walked_next next other within h skip =
+            let f = pairs_first w h in
             let is : slice_get scalars s ≡ Some (Single (String f.key)) = here ∙ ap Some
             (key_is f) in
-            record {
-              down = λ d. let l = f.goes.down d in (
+            onward f.value skip (λ goes. record {
+              down = λ d. let l = goes.down d in (
                 l.0.1,
                 λ key (t, at, m). elim (eqb_tells t s) [
                   | inl e ↦ subst (λ k. Lacks k f.rest) (same_key f.key key
@@ -99,7 +100,7 @@ module _ {scalars : List PlainEvent} {mark : ℕ} {es : List PlainEvent} {stamps
                       (l.1 key (t, at, sym (get_or-set_other stamps s t mark 0 n.1) ∙ m)).1
                 ],
               );
-              up = λ (d, fresh). f.goes.up (
+              up = λ (d, fresh). goes.up (
                 (fresh f.key (s, is, get_or-set_same stamps s mark 0 within), d),
                 λ key (t, at, m).
                     let off : t ≢ s = λ e. other (ap (λ n. get_or stamps n 0) (sym e) ∙ m) in (

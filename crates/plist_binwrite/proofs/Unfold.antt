@@ -8,7 +8,7 @@ use Rattle.std.proofs.lemmas.Option.{slice_get_within}
 use Rattle.plist_base.specs.inner.Paths.{IsPath}
 use Rattle.plist_base.proofs.Paths.{path_none, path_push, path_room}
 use Rattle.plist_base.specs.Bracketing.{bracketing, bracketing_of_items, bracketing_of_pairs, shape, shape_of_items, shape_of_pairs}
-use Rattle.plist_base.specs.Events.{PlainEvent, Item, StartArray, StartDictionary, EndCollection}
+use Rattle.plist_base.specs.Events.{PlainEvent, Item, EndCollection}
 use Rattle.plist_base.specs.Trees as trees
 use Rattle.plist_base.specs.Trees.{number_of_trees, number_of_members, Tree, Leaf, Array, Dictionary, Trees, NoTrees, TreeAnd, Members, NoMembers, MemberAnd}
 use Rattle.plist_binread.specs.Object.{children_of}
@@ -85,74 +85,56 @@ module _ (table : List Entry) (es : List PlainEvent) (num rank : ℕ → ℕ)
   ShowsAll path at is events ones =
       Shows num (flat_map (items_in path at) is) (flat_map (visits_in path) is) events ones
 
-  -- the objects that are open are of trees of more than m events
+  -- the objects that are open are of trees of m events and more
   record Path (m : ℕ) (path : List ℕ) : Type 0 where
     is : IsPath (length table) path
-    above : AllByRecursion (λ x. m < rank x) path
+    above : AllByRecursion (λ x. m ≤ rank x) path
 
-  -- so an object of a tree of m events isn't
-  not_on_path : (m i : ℕ) (path : List ℕ) → rank i ≤ m → AllByRecursion (λ x. m < rank x) path
+  -- so an object of a tree of fewer isn't
+  not_on_path : (m i : ℕ) (path : List ℕ) → rank i < m → AllByRecursion (λ x. m ≤ rank x) path
       → list_any (eqb i) path ≡ false
   not_on_path m i [] h a = refl
   not_on_path m i (x ∷ path) h a =
       rw (ne_eqb i x (λ e. let k = ap rank e in omega (arith, a.0)))
       (not_on_path m i path h a.1)
 
-  module _ (t : Tree) (p : ℕ) (s : Sits es t p) {m : ℕ} {path : List ℕ} (h : size t ≤ m)
-      (o : Path m path) where
-    not_open : list_any (eqb (num p)) path ≡ false
-    not_open = not_on_path m _ _ (omega (arith, ranked t p s)) o.above
+  -- it is entered, and shows what is in it
+  entered : (t : Tree) (p at : ℕ) {m : ℕ} {path : List ℕ} → Sits es t p → size t < m → Path m path
+      → ((place : ℕ) → Path (size t) (num p ∷ path) → Shows num
+      (items_of place (obj_of num t p) (items_in (num p ∷ path) place))
+      (visits_within (num p) (obj_of num t p) (visits_in (num p ∷ path)))
+      (bracketing t) (met t p)) → ShowsTree path at t p
+  unfolding unfolding_of visits_of
+  entered t p at {m} {path} s h o shows =
+      let found = holds t p s in
+      let not_open = not_on_path m (num p) path (omega (arith, ranked t p s)) o.above in
+      let path_in = path_push (num p) o.is (slice_get_within table (num p) _ found.1) not_open in
+      let all = all_from (λ x. size t ≤ rank x) (λ x. m ≤ rank x) (λ x l. omega arith) _ o.above in
+      let room = path_room path_in in
+      let e : length table - length path ≡ suc (length table - length (num p ∷ path)) = omega
+      arith in
+      rw (e, found.1, not_open)
+      (shows found.0 (record { is = path_in; above = (omega (arith, ranked t p s), all) }))
 
-    abbrev place : ℕ
-    place = (holds t p s).0
-
-    path_in : IsPath (length table) (num p ∷ path)
-    path_in = path_push _ o.is (slice_get_within _ _ _ (holds t p s).1) not_open
-
-    inside : (n : ℕ) → n < size t → Path n (num p ∷ path)
-    inside n lt = record {
-      is = path_in;
-      above = (
-        omega (arith, ranked t p s),
-        all_from (λ x. n < rank x) (λ x. m < rank x) (λ x l. omega arith) path o.above,
-      );
-    }
-
-    -- it isn't open, so it is entered
-    entered : (at : ℕ) → Shows num
-        (items_of place (obj_of num t p) (items_in (num p ∷ path) place))
-        (visits_within (num p) (obj_of num t p) (visits_in (num p ∷ path)))
-        (bracketing t) (met t p) → ShowsTree path at t p
-    unfolding unfolding_of visits_of
-    entered at shows =
-        let room = path_room path_in in
-        let e : length table - length path ≡ suc (length table - length (num p ∷ path)) = omega
-        arith in
-        rw (e, (holds t p s).1, not_open) shows
-
-  leaf : (x : trees.Scalar) (p at : ℕ) {m : ℕ} {path : List ℕ} → Sits es (Leaf x) p → 1 ≤ m
+  leaf : (x : trees.Scalar) (p at : ℕ) {m : ℕ} {path : List ℕ} → Sits es (Leaf x) p → 1 < m
       → Path m path → ShowsTree path at (Leaf x) p
-  leaf x p at s h o = entered _ p s h o at (record { items = refl; visits = refl })
+  leaf x p at s h o = entered (Leaf x) p at s h o (λ _ _. record { items = refl; visits = refl })
 
   mutual
-    unfolds : (t : Tree) (p at : ℕ) {m : ℕ} {path : List ℕ} → Sits es t p → size t ≤ m
+    unfolds : (t : Tree) (p at : ℕ) {m : ℕ} {path : List ℕ} → Sits es t p → size t < m
         → Path m path → ShowsTree path at t p
     unfolds (Leaf x) p at s h o = leaf x p at s h o
     unfolds (Array ts) p at s h o =
-        let long = length-append (shape_of_items ts) (EndCollection ∷ []) in
-        entered (Array ts) p s h o at (rw (length-refs num ts (p + 1))
-        (shows_within num (StartArray (Some (number_of_trees ts))) (p, Array ts) refl
-        (unfolds_items ts (p + 1) _ (sits_items s) (omega arith)
-        (inside (Array ts) p s h o (length (shape_of_items ts)) (omega arith)))))
+        entered (Array ts) p at s h o (λ place inside. rw (length-refs num ts (p + 1))
+        (shows_within num _ _ refl (unfolds_items ts (p + 1) place (sits_items s)
+        (omega (arith, length-append {A = PlainEvent})) inside)))
     unfolds (Dictionary ms) p at s h o =
-        let long = length-append (shape_of_pairs ms) (EndCollection ∷ []) in
-        entered (Dictionary ms) p s h o at (rw (length-pairs num ms (p + 1))
-        (shows_within num (StartDictionary (Some (number_of_members ms))) (p, Dictionary ms) refl
-        (unfolds_pairs ms (p + 1) _ (sits_pairs s) (omega arith)
-        (inside (Dictionary ms) p s h o (length (shape_of_pairs ms)) (omega arith)))))
+        entered (Dictionary ms) p at s h o (λ place inside. rw (length-pairs num ms (p + 1))
+        (shows_within num _ _ refl (unfolds_pairs ms (p + 1) place (sits_pairs s)
+        (omega (arith, length-append {A = PlainEvent})) inside)))
 
     unfolds_items : (ts : Trees) (q at : ℕ) {m : ℕ} {path : List ℕ} → SitsItems es ts q
-        → length (shape_of_items ts) ≤ m → Path m path
+        → length (shape_of_items ts) < m → Path m path
         → ShowsAll path at (refs num ts q) (bracketing_of_items ts) (met_in_items ts q)
     unfolds_items NoTrees q at s h o = record { items = refl; visits = refl }
     unfolds_items (TreeAnd t ts) q at s h o =
@@ -161,7 +143,7 @@ module _ (table : List Entry) (es : List PlainEvent) (num rank : ℕ → ℕ)
         (unfolds_items ts (q + size t) at (sits_next s) (omega arith) o)
 
     unfolds_pairs : (ms : Members) (q at : ℕ) {m : ℕ} {path : List ℕ} → SitsPairs es ms q
-        → length (shape_of_pairs ms) ≤ m → Path m path
+        → length (shape_of_pairs ms) < m → Path m path
         → ShowsAll path at (children_of (pairs num ms q)) (bracketing_of_pairs ms)
         (met_in_pairs ms q)
     unfolds_pairs NoMembers q at s h o = record { items = refl; visits = refl }
@@ -173,7 +155,7 @@ module _ (table : List Entry) (es : List PlainEvent) (num rank : ℕ → ℕ)
 
   pub unfolds_whole : (t : Tree) (at : ℕ) → Sits es t 0 → ShowsTree [] at t 0
   unfolds_whole t at s =
-      unfolds t 0 at {m = size t} s (omega arith)
+      unfolds t 0 at {m = suc (size t)} s (omega arith)
       (record { is = path_none (length table); above = tt })
 
 pub no_fault : (es : List PlainEvent) → until_fault (map Ok es) ≡ map Ok es

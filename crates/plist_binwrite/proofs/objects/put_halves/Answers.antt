@@ -1,12 +1,12 @@
 use Rattle.std.proofs.Common.{arith, refl}
 use Rattle.plist_binwrite.proofs.Outgoing.{puts_none, puts_then, puts_front}
-use Rattle.plist_binwrite.proofs.Passing.{pairs_first, pairs_within, pairs_next, pairs_stop}
+use Rattle.plist_binwrite.proofs.Passing.{pairs_first, pairs_within, onward, pairs_stop}
 use Rattle.plist_binwrite.proofs.objects.put_halves.Goals as goal
 
 pub walk-preserved : goal.walk-preserved
 walk-preserved g c = λ ms s.
-    pairs_next (c.walk.invariant ms s) (c.walk-test.ensures.yes refl).1 c.skip-key.ensures.ends
-    (λ f answer d k p. f.goes _ d k
+    onward (pairs_first (c.walk.invariant ms s) (c.walk-test.ensures.yes refl).1).value
+    c.skip-key.ensures.ends (λ goes answer d k p. goes _ d k
     (puts_then (rw (c.number-number.ensures, c.half_of.ensures.half) at c.in-Ok.ensures) p))
 
 pub returns-in-Err : goal.returns-in-Err

@@ -5,12 +5,12 @@ use Rattle.plist_binwrite.specs.Held.{half_indices}
 use Rattle.plist_binwrite.specs.Standing.{SitsPairs}
 use Rattle.plist_binwrite.specs.inner.Putting.{events_in, numbers_by}
 use Rattle.plist_binwrite.proofs.Outgoing.{PutsRest}
-use Rattle.plist_binwrite.proofs.Passing.{Pairs}
+use Rattle.plist_binwrite.proofs.Passing.{Left}
 use Rattle.plist_binwrite.proofs.objects.put_halves.Given as goal
 
 abbrev pub invariant-walk : goal.invariant-walk
 invariant-walk g l = (ms : Members) → SitsPairs (events_in l.file) ms l.from
-    → Pairs (events_in l.file) (λ left q. PutsRest (numbers_by l.file) l.file.width
+    → Left SitsPairs (events_in l.file) (λ left q. PutsRest (numbers_by l.file) l.file.width
     (g.W.Write.contents l.initial.out) l.initial.room.items
     (table_form l.file.width (map (numbers_by l.file) (half_indices l.values ms l.from)))
     (g.W.Write.contents l.out) l.room.items (half_indices l.values left q)) l.key

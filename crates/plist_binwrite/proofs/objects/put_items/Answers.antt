@@ -1,12 +1,12 @@
 use Rattle.std.proofs.Common.{refl}
 use Rattle.plist_binwrite.proofs.Outgoing.{puts_none, puts_then, puts_front}
-use Rattle.plist_binwrite.proofs.Passing.{items_first, items_next, items_stop}
+use Rattle.plist_binwrite.proofs.Passing.{items_first, onward, items_stop}
 use Rattle.plist_binwrite.proofs.objects.put_items.Goals as goal
 
 pub walk-preserved : goal.walk-preserved
 walk-preserved g c = λ ts s.
-    items_next (c.walk.invariant ts s) (c.walk-test.ensures.yes refl).1 c.skip-index.ensures.ends
-    (λ f answer d k p. f.goes _ d k
+    onward (items_first (c.walk.invariant ts s) (c.walk-test.ensures.yes refl).1)
+    c.skip-index.ensures.ends (λ goes answer d k p. goes _ d k
     (puts_then (rw c.number-number.ensures at c.in-Ok.ensures) p))
 
 pub returns-in-Err : goal.returns-in-Err

@@ -5,12 +5,12 @@ use Rattle.plist_base.specs.Trees.{Trees}
 use Rattle.plist_binwrite.specs.Standing.{SitsItems}
 use Rattle.plist_binwrite.specs.inner.Putting.{events_in, numbers_by}
 use Rattle.plist_binwrite.proofs.Outgoing.{PutsRest}
-use Rattle.plist_binwrite.proofs.Passing.{Items}
+use Rattle.plist_binwrite.proofs.Passing.{Left}
 use Rattle.plist_binwrite.proofs.objects.put_items.Given as goal
 
 abbrev pub invariant-walk : goal.invariant-walk
 invariant-walk g l = (ts : Trees) → SitsItems (events_in l.file) ts l.from
-    → Items (events_in l.file) (λ left q. PutsRest (numbers_by l.file) l.file.width
+    → Left SitsItems (events_in l.file) (λ left q. PutsRest (numbers_by l.file) l.file.width
     (g.W.Write.contents l.initial.out) l.initial.room.items
     (table_form l.file.width (map (numbers_by l.file) (item_indices ts l.from)))
     (g.W.Write.contents l.out) l.room.items (item_indices left q)) l.index

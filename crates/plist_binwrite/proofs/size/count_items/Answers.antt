@@ -1,5 +1,5 @@
 use Rattle.std.proofs.Common.{arith, refl}
-use Rattle.plist_binwrite.proofs.Passing.{items_next, items_stop}
+use Rattle.plist_binwrite.proofs.Passing.{items_first, onward, items_stop}
 use Rattle.plist_binwrite.proofs.size.count_items.Goals as goal
 
 pub walk-init : goal.walk-init
@@ -10,8 +10,8 @@ pub walk-preserved : goal.walk-preserved
 walk-preserved c =
     let y = c.walk-test.ensures.yes refl in (
       omega arith,
-      λ ts s. items_next (c.walk.invariant.1 ts s) y.1 c.skip-index.ensures.ends
-          (λ f. omega arith),
+      λ ts s. onward (items_first (c.walk.invariant.1 ts s) y.1) c.skip-index.ensures.ends
+          (λ goes. omega arith),
     )
 
 pub returns-clause-value : goal.returns-clause-value

@@ -1,6 +1,6 @@
 use Rattle.std.proofs.Common.{◌≡◌, refl, subst, false}
 use Rattle.plist_binwrite.specs.Held.{plain_events, is_stop, event_at, IsNumbered}
-use Rattle.plist_binwrite.proofs.Passing.{stands, pairs_next, pairs_stop}
+use Rattle.plist_binwrite.proofs.Passing.{pairs_first, stands, onward, pairs_stop}
 use Rattle.plist_binwrite.proofs.PlannedBy.{keeps_self, keeps_then}
 use Rattle.plist_binwrite.proofs.numbering.Numbered.number_halves.Goals as goal
 
@@ -11,12 +11,13 @@ walk-preserved c =
     let found = c.number_one.new.self in (
       record { long = c.requires.so_far.long; plan = one.plan; ids = one.ids },
       keeps_then c.walk.invariant.1 one.keeps,
-      λ ms s. pairs_next (c.walk.invariant.2 ms s) y.1 c.skip_pair-key.ensures.ends
-          (λ f ns fs k all. f.goes ns fs (keeps_then one.keeps k) (
+      λ ms s. let i = c.walk.invariant.2 ms s in
+          onward (pairs_first i y.1).value c.skip_pair-key.ensures.ends
+          (λ goes ns fs k all. goes ns fs (keeps_then one.keeps k) (
             k.numbered _ (subst (λ p. is_stop (event_at
                 (plain_events c.args.given.now.events.now) p)
                 ≡ false → IsNumbered found.numbers found.firsts p) c.half_of-index.ensures.half
-                one.numbered (stands c.args.values f)),
+                one.numbered (stands i c.args.values y.1)),
             all,
           )),
     )

@@ -1,5 +1,5 @@
 use Rattle.std.proofs.Common.{refl}
-use Rattle.plist_binwrite.proofs.Passing.{items_next, items_stop}
+use Rattle.plist_binwrite.proofs.Passing.{items_first, onward, items_stop}
 use Rattle.plist_binwrite.proofs.PlannedBy.{keeps_self, keeps_then}
 use Rattle.plist_binwrite.proofs.numbering.Numbered.number_items.Goals as goal
 
@@ -9,8 +9,8 @@ walk-preserved c =
     let one = c.in_ok-number_one.ensures in (
       record { long = c.requires.so_far.long; plan = one.plan; ids = one.ids },
       keeps_then c.walk.invariant.1 one.keeps,
-      λ ts s. items_next (c.walk.invariant.2 ts s) y.1 c.skip-index.ensures.ends
-          (λ f ns fs k all. f.goes ns fs (keeps_then one.keeps k)
+      λ ts s. onward (items_first (c.walk.invariant.2 ts s) y.1) c.skip-index.ensures.ends
+          (λ goes ns fs k all. goes ns fs (keeps_then one.keeps k)
           (k.numbered _ (one.numbered y.1), all)),
     )
 
