@@ -1,5 +1,5 @@
 -- The event that a reader told last, whose text or data it holds in room of its own.
-use Rattle.std.specs.Prelude.{pos, Some}
+use Rattle.std.specs.Prelude.{Bool, true, false, pos, Some}
 use Rattle.std.specs.String.{string_bytes}
 use Rattle.plist_base.specs.Events.{PlainEvent, StartArray, StartDictionary, EndCollection, Single, event_of}
 use Rattle.plist_base.specs.Trees as trees
@@ -18,6 +18,13 @@ event_with last told.End = EndCollection
 event_with last (told.Boolean value) = Single (trees.Boolean value)
 event_with last (told.Unsigned number) = Single (trees.Integer (pos number))
 event_with last (told.Uid number) = Single (trees.Uid number)
+
+-- it is lent, since its content lies beside it
+abbrev pub is_lent : Told → Bool
+is_lent told.Held = true
+is_lent told.Text = true
+is_lent told.Data = true
+is_lent _ = false
 
 -- the same of what was told last
 abbrev pub event_in : Last → PlainEvent

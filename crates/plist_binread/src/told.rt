@@ -6,7 +6,7 @@ ghost use Rattle.plist_base.specs.Trees.{Boolean as BooleanScalar, Data as DataS
 ghost use Rattle.plist_binread.specs.declared.lent.Lent.TheVariants.{Scalar as ScalarLent};
 ghost use Rattle.plist_binread.specs.Object.{signed};
 ghost use Rattle.plist_binread.specs.Packed.{MayWantMemory, cached, is_small_event, single};
-ghost use Rattle.plist_binread.specs.Told.{event_in, event_with};
+ghost use Rattle.plist_binread.specs.Told.{event_in, event_with, is_lent};
 ghost use Rattle.plist_binread.specs.Nearby.{PacksEvent, TellsText, TellsUnits};
 
 use crate::lent::Lent;
@@ -39,6 +39,27 @@ pub enum Told {
     Unsigned(u64),
     /// The number of a Uid.
     Uid(u64),
+}
+
+impl Told {
+    ghost use Rattle.plist_binread.specs.declared.told.Last.{Last};
+
+    // The event of one that isn't lent.
+    #[inline(always)]
+    fn event(self) -> OwnedEvent
+        requires { is_lent self ≡ false }
+        ensures { (last : Last) → event_of result ≡ event_with last self }
+    {
+        match self {
+            Told::Array(length) => Event::StartArray(Some(length)),
+            Told::Dictionary(length) => Event::StartDictionary(Some(length)),
+            Told::End => Event::EndCollection,
+            Told::Boolean(value) => Event::Boolean(value),
+            Told::Unsigned(number) => Event::Integer(Integer::from(number)),
+            Told::Uid(number) => Event::Uid(Uid::new(number)),
+            Told::Held | Told::Text | Told::Data => unreachable!(),
+        }
+    }
 }
 
 /// The event that was told last. The rooms for its text and data serve all events in turn.
@@ -94,12 +115,7 @@ impl Last {
             Told::Held => lend(&self.held),
             Told::Text => Event::String(CowStr::Borrowed(self.text.as_str())),
             Told::Data => Event::Data(CowSlice::Borrowed(self.data.as_slice())),
-            Told::Array(length) => Event::StartArray(Some(length)),
-            Told::Dictionary(length) => Event::StartDictionary(Some(length)),
-            Told::End => Event::EndCollection,
-            Told::Boolean(value) => Event::Boolean(value),
-            Told::Unsigned(number) => Event::Integer(Integer::from(number)),
-            Told::Uid(number) => Event::Uid(Uid::new(number)),
+            told => told.event(),
         }
     }
 
@@ -117,12 +133,7 @@ impl Last {
                 let data = mem::replace(&mut self.data, Vec::new(alloc));
                 Event::Data(CowSlice::Owned(data))
             }
-            Told::Array(length) => Event::StartArray(Some(length)),
-            Told::Dictionary(length) => Event::StartDictionary(Some(length)),
-            Told::End => Event::EndCollection,
-            Told::Boolean(value) => Event::Boolean(value),
-            Told::Unsigned(number) => Event::Integer(Integer::from(number)),
-            Told::Uid(number) => Event::Uid(Uid::new(number)),
+            told => told.event(),
         }
     }
 
