@@ -186,16 +186,18 @@ tested : (b : Bool) (z y : ℤ) → ◌≡◌ {A = Option ℤ} (Some y) (cond b 
 tested true z y e = refl
 tested false z y e = absurd (cc)
 
-pub below_zero : (z y : ℤ) (b : ℕ) → Some y ≡ if_second_of_date z → lt_z z (pos 0) ≡ true
-    → b ≡ whole_bits (unsigned_abs z) → AreWritten z (2 ^ 63 + b)
-below_zero (pos n) y b h lt e = absurd (grind (arith, ints))
-below_zero (negsuc n) y b h lt e =
-    rw e (written_neg n (tested _ _ y h))
+-- the law of a second below zero, and of one from zero on
+pub below_zero : (z x y : ℤ) (b n : ℕ) → x ≡ z → Some y ≡ if_second_of_date x
+    → lt_z x (pos 0) ≡ true → n ≡ unsigned_abs x → b ≡ whole_bits n → AreWritten z (2 ^ 63 + b)
+below_zero z (pos n) y b m same h lt is e = absurd (grind (arith, ints))
+below_zero z (negsuc n) y b m same h lt is e =
+    rw (← same, e, is) (written_neg n (tested _ _ y h))
 
-pub from_zero : (z y : ℤ) (b : ℕ) → Some y ≡ if_second_of_date z → lt_z z (pos 0) ≡ false
-    → b ≡ whole_bits (unsigned_abs z) → AreWritten z b
-from_zero (pos n) y b h le e = rw e (written_pos n (tested _ _ y h))
-from_zero (negsuc n) y b h le e = absurd (cc)
+pub from_zero : (z x y : ℤ) (b n : ℕ) → x ≡ z → Some y ≡ if_second_of_date x
+    → lt_z x (pos 0) ≡ false → n ≡ unsigned_abs x → b ≡ whole_bits n → AreWritten z b
+from_zero z (pos n) y b m same h le is e =
+    rw (← same, e, is) (written_pos n (tested _ _ y h))
+from_zero z (negsuc n) y b m same h le is e = absurd (cc)
 
 plain_low : (b : ℕ) → b < 2 ^ 63 → eqb b (2 ^ 63) ≡ false
 plain_low b h = grind (arith, nat_tests)

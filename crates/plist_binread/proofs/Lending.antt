@@ -10,9 +10,8 @@ use Rattle.plist_base.specs.Faults.{FaultKind, MatchFault, fault_of, fault_at}
 use Rattle.plist_binread.specs.Behind.{HasPairs}
 use Rattle.plist_binread.specs.Container.{number_of, number_at}
 use Rattle.plist_binread.specs.Decoding.{IsRefusedAs, IsUnknownAt}
-use Rattle.plist_binread.specs.Lent.{IsLentAs, IsSlots}
+use Rattle.plist_binread.specs.Lent.{IsSlots}
 use Rattle.plist_binread.specs.Nearby.{LendsWhole}
-use Rattle.plist_binread.specs.declared.lent.Lent.{Lent}
 use Rattle.plist_binread.specs.declared.lent.Lent.TheVariants as lent
 use Rattle.plist_binread.specs.Object.{Object, Faulty, layout_of, length_in, object_behind, object_in}
 use Rattle.plist_binread.proofs.Contents.{refused_as}
@@ -44,12 +43,12 @@ known_front known lent found t p w near h cut is = IfSome_then known is (λ byte
       ∙ ap (λ ys. ys ++ drop w (drop p (take t bytes))) (sym cut),
 ))
 
--- what bytes tell that lie before the trailer, seen from the front of an object
-pub known_seen : (known : Option (List ℕ)) (t w p : ℕ) (seen : List ℕ) (told : PlainEvent)
-    (lent : Lent) → p + length seen ≤ t → IfSome known (λ bytes. LiesAt bytes p seen)
-    → LendsWhole (t - p) (object_in w) seen told lent → IfSome known
-    (λ bytes. t ≤ length bytes → IsLentAs (object_in w (drop p (take t bytes))) told lent)
-known_seen known t w p seen told lent near is means = IfSome_then known is (λ bytes is fits.
+-- what holds of an object by what is seen of it, where that lies before the trailer
+pub known_seen : (known : Option (List ℕ)) (t w p : ℕ) (seen : List ℕ) (P : Object → Type 0)
+    → p + length seen ≤ t → IfSome known (λ bytes. LiesAt bytes p seen)
+    → ((more : List ℕ) → length (seen ++ more) ≡ t - p → P (object_in w (seen ++ more)))
+    → IfSome known (λ bytes. t ≤ length bytes → P (object_in w (drop p (take t bytes))))
+known_seen known t w p seen P near is means = IfSome_then known is (λ bytes is fits.
     let cut = known_front (Some bytes) seen seen t p _ near (omega arith)
     (sym (take-length _)) is fits in
     let room = ap length (sym cut.1)
@@ -57,17 +56,15 @@ known_seen known t w p seen told lent near is means = IfSome_then known is (λ b
     rw cut.1 (means _ room))
 
 -- an object that is refused where what was seen of it is refused
-pub known_refused : (known : Option (List ℕ)) (t w p : ℕ) (seen : List ℕ) (told : PlainEvent)
-    (lent : Lent) (kind : FaultKind) (error : Error) → p + length seen ≤ t
-    → IfSome known (λ bytes. LiesAt bytes p seen)
-    → LendsWhole (t - p) (object_in w) seen told lent
-    → ((object : Object) → IsLentAs object told lent → object ≡ Faulty kind)
+pub known_refused : (known : Option (List ℕ)) (t w p : ℕ) (seen : List ℕ) (kind : FaultKind)
+    (error : Error) → p + length seen ≤ t → IfSome known (λ bytes. LiesAt bytes p seen)
+    → ((more : List ℕ) → length (seen ++ more) ≡ t - p → object_in w (seen ++ more) ≡ Faulty kind)
     → fault_of error ≡ fault_at kind p → MatchFault kind ⊥ ⊥ ⊤
     → IfSome known (λ bytes. t ≤ length bytes
     → IsRefusedAs (object_in w (drop p (take t bytes))) p error)
-known_refused known t w p seen told lent kind error near is means same fault inside =
-    IfSome_then known (known_seen known t w p seen told lent near is means)
-    (λ bytes found fits. refused_as _ p error kind fault inside (same _ (found fits)))
+known_refused known t w p seen kind error near is same fault inside =
+    known_seen known t w p seen (λ object. IsRefusedAs object p error) near is
+    (λ more room. refused_as _ p error kind fault inside (same more room))
 
 -- one whose marker is unknown
 pub known_unknown : (known : Option (List ℕ)) (t w p : ℕ) (seen : List ℕ) (told : PlainEvent)
@@ -77,8 +74,8 @@ pub known_unknown : (known : Option (List ℕ)) (t w p : ℕ) (seen : List ℕ) 
     → (marker < 256 → IsUnknownAt marker p error) → IfSome known (λ bytes. t ≤ length bytes
     → IsRefusedAs (object_in w (drop p (take t bytes))) p error)
 known_unknown known t w p seen told marker error near is means named =
-    IfSome_then known (known_seen known t w p seen told (lent.Unknown marker) near is means)
-    (λ bytes found fits. rw (found fits).1 (named (found fits).0))
+    known_seen known t w p seen (λ object. IsRefusedAs object p error) near is
+    (λ more room. rw (means more room).1 (named (means more room).0))
 
 -- and their first byte
 pub known_first : (known : Option (List ℕ)) (p : ℕ) (seen : List ℕ) → 0 < length seen

@@ -28,13 +28,11 @@ returns-in-51-clause-lent c = rw c.in-51.is c.lent_date.ensures.lent
 
 pub returns-in-64-to-79-clause-lent : goal.returns-in-64-to-79-clause-lent
 returns-in-64-to-79-clause-lent c = λ more whole.
-    rw (layout-data _ c.args.marker (omega arith) (omega arith))
-    (c.lent_data.ensures.lent _)
+    rw (layout-data _ c.args.marker (omega arith) (omega arith)) (c.lent_data.ensures.lent _)
 
 pub returns-in-80-to-95-clause-lent : goal.returns-in-80-to-95-clause-lent
 returns-in-80-to-95-clause-lent c = λ more whole.
-    rw (layout-text _ c.args.marker (omega arith) (omega arith))
-    (c.lent_text.ensures.lent _)
+    rw (layout-text _ c.args.marker (omega arith) (omega arith)) (c.lent_text.ensures.lent _)
 
 pub returns-in-96-to-111-clause-lent : goal.returns-in-96-to-111-clause-lent
 returns-in-96-to-111-clause-lent c = λ more whole.
@@ -42,16 +40,15 @@ returns-in-96-to-111-clause-lent c = λ more whole.
     (c.lent_wide_text.ensures.lent _)
 
 pub returns-in-160-to-175-clause-lent : goal.returns-in-160-to-175-clause-lent
-returns-in-160-to-175-clause-lent c = λ more whole.
-    rw (layout-array _ c.args.marker (omega arith) (omega arith))
-    (c.lent_array.ensures.lent _ whole)
+returns-in-160-to-175-clause-lent c =
+    rw (layout-array _ c.args.marker (omega arith) (omega arith)) c.lent_array.ensures.lent
 
 pub returns-in-208-to-223-clause-lent : goal.returns-in-208-to-223-clause-lent
-returns-in-208-to-223-clause-lent c = λ more whole.
+returns-in-208-to-223-clause-lent c =
     rw (layout-dictionary _ c.args.marker (omega arith) (omega arith))
-    (c.lent_dictionary.ensures.lent _ whole)
+    c.lent_dictionary.ensures.lent
 
 pub returns-in-128-to-135-clause-lent : goal.returns-in-128-to-135-clause-lent
-returns-in-128-to-135-clause-lent c = λ more whole.
+returns-in-128-to-135-clause-lent c =
     rw (layout-uid _ c.args.marker (omega arith) (omega arith))
-    ((rw c.from.ensures at c.lent_uid.ensures.lent) _ whole)
+    (rw c.from.ensures at c.lent_uid.ensures.lent)

@@ -1,6 +1,6 @@
-use Rattle.std.proofs.Common.{rules, Ok, Err, arith}
+use Rattle.std.proofs.Common.{rules, ◌≡◌, Some, Ok, Err, arith}
 use Rattle.std.proofs.lemmas.Result.{err_from_is_err_and}
-use Rattle.plist_binread.specs.declared.lent.Lent.TheVariants as lent
+use Rattle.plist_binread.specs.Decoding.{IsCollection, single_in}
 use Rattle.plist_binread.specs.Told.{event_in}
 use Rattle.plist_binread.proofs.Lending.{known_seen, known_refused, known_unknown, known_first}
 use Rattle.plist_binread.proofs.Markers.{known_beyond, known_marked}
@@ -12,43 +12,39 @@ returns-then-place-bounds-clause-decoded g c =
 
 pub returns-in-Scalar-clause-decoded : goal.returns-in-Scalar-clause-decoded
 returns-in-Scalar-clause-decoded g c =
-    known_seen _ _ _ _ _ _ lent.Scalar (search rules) c.in_ok-read_exact_at.ensures.bytes
-    c.in-Scalar.ensures.lent
+    known_seen _ _ _ _ _ (λ object. single_in object ≡ Some (event_in c.decode_lent.new.last))
+    (search rules) c.in_ok-read_exact_at.ensures.bytes c.in-Scalar.ensures.lent
 
 pub returns-in-Collection-clause-decoded : goal.returns-in-Collection-clause-decoded
 returns-in-Collection-clause-decoded g c =
-    known_seen _ _ _ _ _ _ (lent.Collection _) (search rules) c.in_ok-read_exact_at.ensures.bytes
-    c.in-Collection.ensures.lent
+    known_seen _ _ _ _ _
+    (λ object. IsCollection object (event_in c.decode_lent.new.last) c.in-Collection.count)
+    (search rules) c.in_ok-read_exact_at.ensures.bytes c.in-Collection.ensures.lent
 
 pub returns-in-TooLarge-clause-decoded : goal.returns-in-TooLarge-clause-decoded
 returns-in-TooLarge-clause-decoded g c =
-    known_refused _ _ _ _ _ (event_in c.decode_lent.new.last) lent.TooLarge _ _ (search rules)
-    c.in_ok-read_exact_at.ensures.bytes c.in-TooLarge.ensures.lent (λ object h. h)
-    c.with_byte_offset-in-TooLarge.ensures.fault tt
+    known_refused _ _ _ _ _ _ _ (search rules) c.in_ok-read_exact_at.ensures.bytes
+    c.in-TooLarge.ensures.lent c.with_byte_offset-in-TooLarge.ensures.fault tt
 
 pub returns-in-Null-clause-decoded : goal.returns-in-Null-clause-decoded
 returns-in-Null-clause-decoded g c =
-    known_refused _ _ _ _ _ (event_in c.decode_lent.new.last) lent.Null _ _ (search rules)
-    c.in_ok-read_exact_at.ensures.bytes c.in-Null.ensures.lent (λ object h. h)
-    c.with_byte_offset-in-Null.ensures.fault tt
+    known_refused _ _ _ _ _ _ _ (search rules) c.in_ok-read_exact_at.ensures.bytes
+    c.in-Null.ensures.lent c.with_byte_offset-in-Null.ensures.fault tt
 
 pub returns-in-Fill-clause-decoded : goal.returns-in-Fill-clause-decoded
 returns-in-Fill-clause-decoded g c =
-    known_refused _ _ _ _ _ (event_in c.decode_lent.new.last) lent.Fill _ _ (search rules)
-    c.in_ok-read_exact_at.ensures.bytes c.in-Fill.ensures.lent (λ object h. h)
-    c.with_byte_offset-in-Fill.ensures.fault tt
+    known_refused _ _ _ _ _ _ _ (search rules) c.in_ok-read_exact_at.ensures.bytes
+    c.in-Fill.ensures.lent c.with_byte_offset-in-Fill.ensures.fault tt
 
 pub returns-in-OutOfRange-clause-decoded : goal.returns-in-OutOfRange-clause-decoded
 returns-in-OutOfRange-clause-decoded g c =
-    known_refused _ _ _ _ _ (event_in c.decode_lent.new.last) lent.OutOfRange _ _ (search rules)
-    c.in_ok-read_exact_at.ensures.bytes c.in-OutOfRange.ensures.lent (λ object h. h)
-    c.with_byte_offset-in-OutOfRange.ensures.fault tt
+    known_refused _ _ _ _ _ _ _ (search rules) c.in_ok-read_exact_at.ensures.bytes
+    c.in-OutOfRange.ensures.lent c.with_byte_offset-in-OutOfRange.ensures.fault tt
 
 pub returns-in-NoDate-clause-decoded : goal.returns-in-NoDate-clause-decoded
 returns-in-NoDate-clause-decoded g c =
-    known_refused _ _ _ _ _ (event_in c.decode_lent.new.last) lent.NoDate _ _ (search rules)
-    c.in_ok-read_exact_at.ensures.bytes c.in-NoDate.ensures.lent (λ object h. h)
-    c.with_byte_offset-in-NoDate.ensures.fault tt
+    known_refused _ _ _ _ _ _ _ (search rules) c.in_ok-read_exact_at.ensures.bytes
+    c.in-NoDate.ensures.lent c.with_byte_offset-in-NoDate.ensures.fault tt
 
 pub returns-in-Unknown-clause-decoded : goal.returns-in-Unknown-clause-decoded
 returns-in-Unknown-clause-decoded g c =

@@ -13,29 +13,12 @@ returns-in-Ok g c =
     let old = c.args.self.now in
     let mid = c.step.new.self in
     let w = rw c.in-Some-Ok.field-0-is at c.in-Some-Ok.ensures.walks in
-    record {
-      unchanged = w.unchanged;
-      items = event-told (is_new old) (event_in mid.last) (g.R.Source.known (source_of old))
-          old.limiter c.admit.new.limiter (λ bytes. walk_to_come bytes old)
-          (λ bytes. walk_to_come bytes mid) tt
-          (subst (λ l. AdmitsAny l (event_in mid.last) c.admit.new.limiter) c.step.ensures.limiter
-          c.in-Ok.ensures.admitted) w.items;
-      failures = w.failures;
-      ended = λ e. (let no = w.ended e in absurd (cc));
-      ends = tt;
-      begun = w.begun;
-      faults = tt;
-      closes = λ h. w.closes (walk-closes old.limiter (walk_closes old) h);
-      head = w.head;
-      cached = w.cached;
-      leaves = record {
-        nested = w.leaves.nested;
-        marked = w.leaves.marked;
-        counted = w.leaves.counted;
-        lists = w.leaves.lists;
-      };
-      falls = w.falls;
-    }
+    let admitted = subst (λ l. AdmitsAny l (event_in mid.last) c.admit.new.limiter)
+    c.step.ensures.limiter c.in-Ok.ensures.admitted in
+    let items = event-told (is_new old) (event_in mid.last) (g.R.Source.known (source_of old))
+    old.limiter c.admit.new.limiter (λ bytes. walk_to_come bytes old)
+    (λ bytes. walk_to_come bytes mid) tt admitted w.items in
+    search (w, w.closes, items, walk-closes old.limiter (walk_closes old))
 
 pub returns-in-Err : goal.returns-in-Err
 returns-in-Err g c =
@@ -77,41 +60,23 @@ returns-in-Some-Err g c =
     let old = c.args.self.now in
     let new = c.step.new.self in
     let w = rw c.in-Some-Err.field-0-is at c.in-Some-Err.ensures.walks in
-    record {
-      unchanged = w.unchanged;
-      items = fault-told (is_new old) (event_in new.last) (g.R.Source.known (source_of old))
-          old.limiter new.limiter (λ bytes. walk_to_come bytes old)
-          (λ bytes. walk_to_come bytes new) c.in-Some-Err.error w.items;
-      failures = w.failures;
-      ended = w.ended;
-      ends = w.ends;
-      begun = w.begun;
-      faults = still-given 0 (2 ^ 64) (is_limited old) (fault_of c.in-Some-Err.error) w.faults;
-      closes = λ h. w.closes (walk-closes old.limiter (walk_closes old) h);
-      head = w.head;
-      cached = w.cached;
-      leaves = w.leaves;
-      falls = w.falls;
-    }
+    let items = fault-told (is_new old) (event_in new.last) (g.R.Source.known (source_of old))
+    old.limiter new.limiter (λ bytes. walk_to_come bytes old) (λ bytes. walk_to_come bytes new)
+    c.in-Some-Err.error w.items in
+    search (
+      w,
+      w.closes,
+      items,
+      walk-closes old.limiter (walk_closes old),
+      still-given 0 (2 ^ 64) (is_limited old) (fault_of c.in-Some-Err.error) w.faults,
+    )
 
 pub returns-in-None : goal.returns-in-None
 returns-in-None g c =
     let old = c.args.self.now in
     let new = c.step.new.self in
     let w = c.in-None.ensures.walks in
-    record {
-      unchanged = w.unchanged;
-      items = none-told (is_new old) (event_in new.last) (g.R.Source.known (source_of old))
-          old.limiter new.limiter (λ bytes. walk_to_come bytes old)
-          (λ bytes. walk_to_come bytes new) w.items;
-      failures = w.failures;
-      ended = w.ended;
-      ends = w.ends;
-      begun = w.begun;
-      faults = tt;
-      closes = λ h. w.closes (walk-closes old.limiter (walk_closes old) h);
-      head = w.head;
-      cached = w.cached;
-      leaves = w.leaves;
-      falls = tt;
-    }
+    let items = none-told (is_new old) (event_in new.last) (g.R.Source.known (source_of old))
+    old.limiter new.limiter (λ bytes. walk_to_come bytes old) (λ bytes. walk_to_come bytes new)
+    w.items in
+    search (w, w.closes, items, walk-closes old.limiter (walk_closes old))
