@@ -11,7 +11,8 @@ invariant-walk l = record {
   long : length l.stamps.items ≡ length (scalars_of l.events);
   newer : AllBelow (l.start + 2) l.stamps.items;
   walked : (ms : Members) → Sits (plain_events l.events) (Dictionary ms) l.start
-      → Left SitsPairs (plain_events l.events) (Tells (scalars_of l.events) l.mark l.stamps.items ms) l.key;
+      → Left SitsPairs (plain_events l.events)
+      (Tells (scalars_of l.events) l.mark l.stamps.items ms) l.key;
 }
 
 abbrev pub decreases-walk : goal.decreases-walk

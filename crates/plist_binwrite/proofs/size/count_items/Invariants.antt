@@ -7,8 +7,8 @@ use Rattle.plist_binwrite.proofs.size.count_items.Given as goal
 
 abbrev pub invariant-walk : goal.invariant-walk
 invariant-walk l = (l.count ≤ l.index) × ((ts : Trees) → SitsItems (plain_events l.events) ts l.from
-    → Left SitsItems (plain_events l.events) (λ left q. l.count + number_of_trees left ≡ number_of_trees ts)
-    l.index)
+    → Left SitsItems (plain_events l.events)
+    (λ left q. l.count + number_of_trees left ≡ number_of_trees ts) l.index)
 
 abbrev pub decreases-walk : goal.decreases-walk
 decreases-walk l = length (plain_events l.events) - l.index
