@@ -12,7 +12,7 @@ use Rattle.plist_ascii.specs.Texts.{ends_bare}
 use Rattle.plist_ascii.specs.Unread.{Known}
 use Rattle.plist_base.specs.declared.source.Source.{Ghosts}
 use Rattle.plist_binread.specs.declared.reader.BinaryReader.{BinaryReader}
-use Rattle.plist_binread.specs.Unfolding.{items_of_file}
+use Rattle.plist_format.specs.Unfolding.{items_of_file}
 use Rattle.plist_reader.specs.Reader.{items_of_input}
 use Rattle.plist_reader.specs.Formats.{input_front, format_of}
 use Rattle.plist_reader.proofs.Giving.{ascii-goes}
@@ -23,7 +23,7 @@ use Rattle.plist.specs.Events.{GivesEvent, remaining_events}
 use Rattle.plist_base.proofs.Refusals.{MatchFault-weaker, MatchFault-at}
 use Rattle.plist_binread.specs.declared.counter.DecodeCounter.{Ghosts as CounterGhosts}
 use Rattle.plist_base.specs.Bracketing.{bracketing}
-use Rattle.plist_binread.specs.Container.{magic}
+use Rattle.plist_format.specs.Container.{magic}
 use Rattle.plist_binwrite.specs.Written.{IsWrittenAs}
 use Rattle.plist.specs.ReadingBack.{ReadsBack}
 use Rattle.plist.specs.Views.{tree_of}

@@ -7,7 +7,7 @@ ghost use Rattle.std.specs.Map.{lookup};
 ghost use Rattle.std.specs.Str.{bytes_eq};
 ghost use Rattle.indexmap.specs.IndexMap.{insert_all};
 ghost use Rattle.plist_base.specs.Trees.{Tree};
-ghost use Rattle.plist_binread.specs.Unfolding.{items_of_file};
+ghost use Rattle.plist_format.specs.Unfolding.{items_of_file};
 ghost use Rattle.plist.specs.Collecting.{built_tree};
 ghost use Rattle.plist.specs.Inputs.{GivesBack, ReadsItems};
 ghost use Rattle.plist.specs.Same.{same, IsTransitive, TellsScalars, TellsDictionaries, same_members};

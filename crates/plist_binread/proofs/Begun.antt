@@ -10,15 +10,16 @@ use Rattle.plist_base.specs.Events.{PlainEvent, Item}
 use Rattle.plist_base.proofs.Refusals.{MatchFault-at, MatchFault-weaker}
 use Rattle.plist_binread.specs.declared.frames.Frame.{Frame}
 use Rattle.plist_binread.specs.declared.head.Head as code
-use Rattle.plist_binread.specs.Container.{Head, head_of}
-use Rattle.plist_binread.specs.Object.{Object}
-use Rattle.plist_binread.specs.Unfolding.{table_of, items_of, unfolding_of, until_fault, items_with, items_of_file}
+use Rattle.plist_format.specs.Container.{Head, head_of}
+use Rattle.plist_format.specs.Object.{Object}
+use Rattle.plist_format.specs.Unfolding.{table_of, items_of, unfolding_of, until_fault, items_with, items_of_file}
 use Rattle.plist_binread.specs.declared.head.Bounds.{Bounds}
 use Rattle.plist_binread.specs.Debt.{path_of, owed_by, entries_of, places_with, places_of, IsHeld, IsKnown, IsOwed, WantsMemory}
 use Rattle.plist_binread.specs.Beginning.{RefusesFirst}
 use Rattle.plist_binread.specs.Lent.{PaysAnswer}
 use Rattle.plist_binread.specs.inner.Heads.{head_seen}
-use Rattle.plist_binread.proofs.Steps.{slice_get-within, slice_get-beyond, items_beyond, items_step, owed_at}
+use Rattle.plist_binread.proofs.Steps.{items_beyond, items_step, owed_at}
+use Rattle.plist_format.proofs.Tables.{slice_get-within, slice_get-beyond}
 use Rattle.plist_binread.proofs.Opened.{get_or-zeros}
 use Rattle.plist_binread.proofs.Known.{found}
 use Rattle.std.proofs.lemmas.Option.{IfSome_then}

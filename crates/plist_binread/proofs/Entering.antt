@@ -13,9 +13,9 @@ use Rattle.plist_binread.specs.Debt.{IsOpen, IsKnown, next_number, children_at, 
 use Rattle.plist_binread.specs.Turning.{IsKeptTold}
 use Rattle.plist_binread.specs.Decoding.{IsDecodedAs}
 use Rattle.plist_binread.specs.Lent.{IsLentAs, PaysAnswer, PaysTold, EntersChild}
-use Rattle.plist_binread.specs.Object.{Object, object_in}
+use Rattle.plist_format.specs.Object.{Object, object_in}
 use Rattle.plist_binread.specs.Packed.{is_marked, unmarked, cached, single}
-use Rattle.plist_binread.specs.Unfolding.{Entry, unfolding_of}
+use Rattle.plist_format.specs.Unfolding.{Entry, unfolding_of}
 use Rattle.plist_binread.proofs.Known.{Entered, as_many, entry_of, entry_there, held_place, held_scalar, lent_as, place_is}
 use Rattle.plist_binread.specs.Told.{event_in}
 use Rattle.plist_binread.specs.Walking.{open_in, owed_in}

@@ -15,12 +15,13 @@ use Rattle.plist_binread.specs.declared.lent.Lent.TheVariants.{Scalar as ScalarL
 use Rattle.plist_binread.specs.Lent.{IsLentAs, PaysAnswer}
 use Rattle.plist_binread.specs.Stepping.{WantsRoom}
 use Rattle.plist_binread.specs.declared.head.Bounds.{Bounds}
-use Rattle.plist_binread.specs.Object.{Object, object_in}
+use Rattle.plist_format.specs.Object.{Object, object_in}
 use Rattle.plist_binread.specs.Packed.{is_marked, unmarked, scalar_of, cached, single, IsTextOrData, MayWantMemory, Retagged, Remarked}
-use Rattle.plist_binread.specs.Unfolding.{Entry, unfolding_of, until_fault}
+use Rattle.plist_format.specs.Unfolding.{Entry, unfolding_of, until_fault}
 use Rattle.plist_binread.specs.Debt.{place_at, scalar_at, path_of, IsOpen, HoldsPlaceOr, IsHeld, IsKnown, places_of, entries_of, owed_by, Explains}
 use Rattle.plist_binread.specs.Decoding.{IsCollection, IsDecodedAs, IsRefusedAs, scalar_in}
-use Rattle.plist_binread.proofs.Steps.{slice_get-within, slice_get-beyond, length-table_of, collection_count, items_beyond, items_open, pays_refused, refused_cached, refused_memory}
+use Rattle.plist_binread.proofs.Steps.{collection_count, items_beyond, items_open, pays_refused, refused_cached, refused_memory}
+use Rattle.plist_format.proofs.Tables.{slice_get-within, slice_get-beyond, length-table_of}
 use Rattle.std.proofs.lemmas.Option.{IfSome_then}
 use Rattle.plist_binread.proofs.OverKnown.{IfSome-both}
 use Rattle.std.proofs.lemmas.Bool.{eqb-false}

@@ -9,9 +9,9 @@ use Rattle.plist_binread.specs.declared.frames.Frame.{Frame}
 use Rattle.plist_binread.specs.declared.walk.Turn.{Turn}
 use Rattle.plist_binread.specs.declared.walk.Turn.TheVariants.{Done, Closed, Child}
 use Rattle.plist_binread.specs.declared.head.Bounds.{Bounds}
-use Rattle.plist_binread.specs.Object.{object_in}
+use Rattle.plist_format.specs.Object.{object_in}
 use Rattle.plist_binread.specs.Packed.{unmarked}
-use Rattle.plist_binread.specs.Unfolding.{until_fault}
+use Rattle.plist_format.specs.Unfolding.{until_fault}
 use Rattle.plist_binread.specs.Debt.{place_at, children_at, IsKnown, entries_of, owed_by, Explains}
 use Rattle.plist_binread.specs.Turning.{ReadsChild, Turns}
 use Rattle.plist_binread.proofs.Known.{entry_there, held_place}

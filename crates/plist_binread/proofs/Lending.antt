@@ -8,12 +8,12 @@ use Rattle.plist_base.specs.declared.error.Error.{Error}
 use Rattle.std.specs.Prelude.{⊤}
 use Rattle.plist_base.specs.Faults.{FaultKind, MatchFault, fault_of, fault_at}
 use Rattle.plist_binread.specs.Behind.{HasPairs}
-use Rattle.plist_binread.specs.Container.{number_of, number_at}
+use Rattle.plist_format.specs.Container.{number_of, number_at}
 use Rattle.plist_binread.specs.Decoding.{IsRefusedAs, IsUnknownAt}
 use Rattle.plist_binread.specs.Lent.{IsSlots}
 use Rattle.plist_binread.specs.Nearby.{LendsWhole}
 use Rattle.plist_binread.specs.declared.lent.Lent.TheVariants as lent
-use Rattle.plist_binread.specs.Object.{Object, Faulty, layout_of, length_in, object_behind, object_in}
+use Rattle.plist_format.specs.Object.{Object, Faulty, layout_of, length_in, object_behind, object_in}
 use Rattle.plist_binread.proofs.Contents.{refused_as}
 use Rattle.plist_binread.proofs.Columns.{take-drop-take, known_at_hand}
 use Rattle.std.proofs.lemmas.Option.{IfSome_then}

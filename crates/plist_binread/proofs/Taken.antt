@@ -7,11 +7,11 @@ use Rattle.plist_base.specs.Events.{PlainEvent}
 use Rattle.plist_binread.specs.declared.frames.Frame.{Frame}
 use Rattle.plist_binread.specs.declared.counter.DecodeCounter.{Ghosts as CounterGhosts}
 use Rattle.plist_binread.specs.declared.reader.BinaryReader.{BinaryReader}
-use Rattle.plist_binread.specs.Unfolding.{until_fault}
+use Rattle.plist_format.specs.Unfolding.{until_fault}
 use Rattle.plist_binread.specs.declared.reader.State.{State}
 use Rattle.plist_binread.specs.declared.reader.State.TheVariants.{Fresh, Walking, Ended}
 use Rattle.plist_binread.specs.declared.head.Bounds.{Bounds}
-use Rattle.plist_binread.specs.Container.{head_of}
+use Rattle.plist_format.specs.Container.{head_of}
 use Rattle.plist_binread.specs.BinaryReader.{GivesItem, AreWithin, Leaves}
 use Rattle.plist_binread.specs.Telling.{TellsItem}
 use Rattle.plist_binread.specs.Debt.{IsOpen, IsKnown, cached_count, AreBoundsOf, places_of, still_owed, owed_by, entries_of}

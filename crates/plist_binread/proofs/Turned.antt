@@ -7,7 +7,7 @@ use mathlib.Core.List.{reverse-reverse}
 use Rattle.plist_base.specs.Events.{PlainEvent, EndCollection, Item}
 use Rattle.plist_binread.specs.declared.frames.Frame.{Frame}
 use Rattle.plist_binread.specs.Packed.{Remarked}
-use Rattle.plist_binread.specs.Unfolding.{Entry, unfolding_of, until_fault}
+use Rattle.plist_format.specs.Unfolding.{Entry, unfolding_of, until_fault}
 use Rattle.plist_binread.specs.declared.head.Bounds.{Bounds}
 use Rattle.plist_binread.specs.Debt.{path_of, IsOpen, IsKnown, children_at, place_at, entries_of, owed_by, IsOwed, next_number, walk_steps, walk_weight}
 use Rattle.plist_binread.specs.Turning.{closes, given_back}

@@ -2,11 +2,11 @@
 use Rattle.std.specs.Prelude.{◌≡◌, ℕ, ◌≤◌, List, [], ◌∷◌, length, Option, Some, Result, Ok, Err, IfSome, MatchResult}
 use Rattle.plist_base.specs.declared.error.Error.{Error}
 use Rattle.plist_base.specs.Faults.{MatchFault, kind_of, error_kind_of, fault_of}
-use Rattle.plist_binread.specs.Container.{head_of}
+use Rattle.plist_format.specs.Container.{head_of}
 use Rattle.plist_binread.specs.Debt.{IsOwed, places_of}
 use Rattle.plist_binread.specs.Told.{event_in}
 use Rattle.plist_binread.specs.Turning.{IsKeptTold, root_with}
-use Rattle.plist_binread.specs.Unfolding.{until_fault, items_of_file}
+use Rattle.plist_format.specs.Unfolding.{until_fault, items_of_file}
 use Rattle.plist_binread.specs.Walking.{IsWalkOf, walk_objects, owed_in}
 use Rattle.plist_binread.specs.declared.head.Bounds.{Bounds}
 use Rattle.plist_binread.specs.declared.told.Last.{Last}

@@ -5,10 +5,10 @@ use Rattle.plist_base.specs.declared.error.Error.{Error}
 use Rattle.plist_base.specs.Faults.{Fault, IsFromOutside, MatchFault, ObjectOffsetTooLarge, kind_of, error_kind_of, fault_of}
 use Rattle.plist_base.specs.declared.real.RealBits.TheVariants.{Four, Eight}
 use Rattle.plist_base.specs.Trees.{Data, Real, Uid}
-use Rattle.plist_binread.specs.Container.{number_at, number_of, numbers_spelled}
+use Rattle.plist_format.specs.Container.{number_at, number_of, numbers_spelled}
 use Rattle.plist_binread.specs.Decoding.{children_in, Decodes, GrowsAt, IsRefusedAs}
 use Rattle.plist_binread.specs.Lent.{IsAsked, IsSlots}
-use Rattle.plist_binread.specs.Object.{Faulty, Object, Scalar, layout_of, length_in, meaning_counted, object_behind, object_in}
+use Rattle.plist_format.specs.Object.{Faulty, Object, Scalar, layout_of, length_in, meaning_counted, object_behind, object_in}
 use Rattle.plist_binread.specs.Turning.{ReadsChild}
 use Rattle.plist_binread.specs.declared.child.Asked.{Asked}
 use Rattle.std.specs.declared.alloc.Global.{Global}

@@ -7,12 +7,12 @@ use Rattle.plist_base.specs.declared.source.Source.{Ghosts}
 use Rattle.plist_base.specs.Faults.{MatchFault, kind_of, error_kind_of, fault_of}
 use Rattle.plist_base.specs.Events.{PlainEvent, Item, event_of}
 use Rattle.plist_base.specs.Sources.{ItemCountsIo}
-use Rattle.plist_binread.specs.Container.{head_of}
+use Rattle.plist_format.specs.Container.{head_of}
 use Rattle.std.specs.Option.{is_some}
 use Rattle.plist_base.specs.declared.limits.Limiter.{Limiter}
 use Rattle.plist_base.specs.Limits.{has_room, limited_items, under_any}
 use Rattle.plist_base.specs.declared.limits.Limits.{Limits}
-use Rattle.plist_binread.specs.Unfolding.{items_of_file}
+use Rattle.plist_format.specs.Unfolding.{items_of_file}
 use Rattle.plist_binread.specs.Failures.{ItemGivenWithin}
 use Rattle.plist_binread.specs.declared.reader.BinaryReader.{BinaryReader}
 use Rattle.plist_binread.specs.declared.reader.State.TheVariants.{Ended}

@@ -8,11 +8,11 @@ use Rattle.plist_base.specs.Trees as trees
 use Rattle.plist_base.specs.Trees.{Data, String}
 use Rattle.plist_binread.specs.declared.frames.Frame.{Frame}
 use Rattle.plist_binread.specs.declared.head.Bounds.{Bounds}
-use Rattle.plist_binread.specs.Container.{Head, head_of}
+use Rattle.plist_format.specs.Container.{Head, head_of}
 use Rattle.plist_binread.specs.Packed.{is_marked, unmarked, cached}
 use Rattle.plist_binread.specs.declared.reader.State.{State}
 use Rattle.plist_binread.specs.declared.reader.State.TheVariants.{Fresh, Walking, Ended}
-use Rattle.plist_binread.specs.Unfolding.{Entry, table_of, unfolding_of, until_fault, items_of_file}
+use Rattle.plist_format.specs.Unfolding.{Entry, table_of, unfolding_of, until_fault, items_of_file}
 use Rattle.plist_binread.specs.Decoding.{children_in, scalar_in}
 
 -- ---- the path

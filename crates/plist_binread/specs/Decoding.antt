@@ -9,7 +9,7 @@ use Rattle.plist_base.specs.declared.event.Event.{Event}
 use Rattle.plist_binread.specs.declared.lent.Lent.{Lent}
 use Rattle.plist_binread.specs.declared.lent.Lent.TheVariants as lent
 use Rattle.plist_binread.specs.Packed.{is_small_event, single}
-use Rattle.plist_binread.specs.Object.{Object, Scalar, Array, Dictionary, Faulty, children_of}
+use Rattle.plist_format.specs.Object.{Object, Scalar, Array, Dictionary, Faulty, children_of}
 
 -- ---- what was decoded
 

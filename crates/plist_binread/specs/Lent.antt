@@ -7,14 +7,14 @@ use Rattle.plist_binread.specs.declared.child.Asked.{Asked}
 use Rattle.plist_binread.specs.declared.lent.Lent.{Lent}
 use Rattle.plist_binread.specs.declared.lent.Lent.TheVariants as lent
 use Rattle.plist_binread.specs.declared.head.Bounds.{Bounds}
-use Rattle.plist_binread.specs.Container.{number_at}
+use Rattle.plist_format.specs.Container.{number_at}
 use Rattle.plist_binread.specs.Debt.{Explains, path_of, owed_by}
 use Rattle.plist_binread.specs.Turning.{IsKeptTold, ReadsChild}
 use Rattle.plist_binread.specs.Decoding.{IsCollection, single_in, children_in}
 use Rattle.plist_binread.specs.declared.frames.Frame.{Frame}
-use Rattle.plist_binread.specs.Object.{Object, Faulty, object_in}
+use Rattle.plist_format.specs.Object.{Object, Faulty, object_in}
 use Rattle.plist_binread.specs.Packed.{is_small_event}
-use Rattle.plist_binread.specs.Unfolding.{Entry, unfolding_of, until_fault}
+use Rattle.plist_format.specs.Unfolding.{Entry, unfolding_of, until_fault}
 
 -- what was lent is this object: the scalar that is told, a collection whose start is told, or a
 -- fault

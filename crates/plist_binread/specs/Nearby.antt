@@ -5,12 +5,12 @@ use Rattle.std.specs.Str.{IsUtf8}
 use Rattle.plist_base.specs.declared.error.Error.{Error}
 use Rattle.plist_base.specs.Events.{PlainEvent, Single}
 use Rattle.plist_base.specs.Trees.{String}
-use Rattle.plist_binread.specs.Container.{number_of, numbers_spelled}
+use Rattle.plist_format.specs.Container.{number_of, numbers_spelled}
 use Rattle.plist_binread.specs.Decoding.{DecodesTold, single_in}
 use Rattle.plist_binread.specs.Behind.{object_at}
 use Rattle.plist_binread.specs.declared.head.Bounds.{Bounds}
 use Rattle.plist_binread.specs.Lent.{IsLentAs, small_lent}
-use Rattle.plist_binread.specs.Object.{Array, Object, dictionary, length_in, meaning_counted, meaning_of_front, text_of_units}
+use Rattle.plist_format.specs.Object.{Array, Object, dictionary, length_in, meaning_counted, meaning_of_front, text_of_units}
 use Rattle.plist_binread.specs.Packed.{content_bytes, is_small_event, scalar_of, single}
 use Rattle.plist_binread.specs.Told.{event_in}
 use Rattle.plist_binread.specs.declared.lent.Lent.{Lent}

@@ -9,12 +9,12 @@ use Rattle.plist_binread.specs.declared.frames.Frame.{Frame}
 use Rattle.plist_binread.specs.declared.walk.Turn.{Turn}
 use Rattle.plist_binread.specs.declared.walk.Turn.TheVariants as turn
 use Rattle.plist_binread.specs.declared.head.Bounds.{Bounds}
-use Rattle.plist_binread.specs.Container.{Head, head_of}
+use Rattle.plist_format.specs.Container.{Head, head_of}
 use Rattle.plist_binread.specs.Packed.{is_small_event, unmarked, cached, single}
 use Rattle.plist_binread.specs.declared.reader.State.{State}
 use Rattle.plist_binread.specs.declared.reader.State.TheVariants.{Fresh, Walking, Ended}
-use Rattle.plist_binread.specs.Object.{Object}
-use Rattle.plist_binread.specs.Unfolding.{Entry, unfolding_of, until_fault}
+use Rattle.plist_format.specs.Object.{Object}
+use Rattle.plist_format.specs.Unfolding.{Entry, unfolding_of, until_fault}
 use Rattle.plist_binread.specs.Decoding.{children_in}
 use Rattle.plist_binread.specs.Debt.{IsOwed, children_at, entries_of, next_number, owed_by, path_of, place_at, walk_steps, walk_weight}
 

@@ -6,7 +6,7 @@ use Rattle.plist_binread.specs.declared.head.Bounds.{Bounds}
 use Rattle.plist_binread.specs.declared.frames.Frame.{Frame}
 use Rattle.plist_binread.specs.declared.walk.Walk.{Walk}
 use Rattle.plist_binread.specs.Debt.{IsKnown, cached_count, entries_of, owed_by, path_of, walk_steps, walk_weight}
-use Rattle.plist_binread.specs.Unfolding.{unfolding_of}
+use Rattle.plist_format.specs.Unfolding.{unfolding_of}
 
 -- how many objects there are
 abbrev pub walk_objects : Walk → ℕ

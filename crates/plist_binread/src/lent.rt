@@ -5,7 +5,7 @@ ghost use Rattle.std.specs.Prelude.{◌≡◌, ◌-◌, ◌*◌, ◌^◌, ◌<�
 ghost use Rattle.plist_base.specs.declared.real.RealBits.TheVariants.{Eight};
 ghost use Rattle.plist_base.specs.Trees.{Real};
 ghost use Rattle.plist_binread.specs.Lent.{small_lent};
-ghost use Rattle.plist_binread.specs.Object.{Scalar, Array, date, text, wide_text, unsigned_integer, signed_integer, wide_integer, object_in};
+ghost use Rattle.plist_format.specs.Object.{Scalar, Array, date, text, wide_text, unsigned_integer, signed_integer, wide_integer, object_in};
 ghost use Rattle.plist_binread.specs.Told.{event_in};
 ghost use Rattle.plist_binread.specs.Nearby.{CountsLent, IsContent, IsCount, IsCounted, IsFar, IsFarOrLarge, IsFarOrText, IsLength, IsLengthCut, IsNumber, RefusesCounted, cut_at, LendsCounted, LendsFront, LendsWhole, LiesBehind, array_with, pairs_with};
 ghost use Rattle.plist_binread.specs.Behind.{data_of_content, short_real, long_real, uid_of_content, object_with};

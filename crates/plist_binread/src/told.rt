@@ -4,7 +4,7 @@ ghost use Rattle.std.specs.Prelude.{◌≡◌, ◌<◌, Some, true, false, IfSom
 ghost use Rattle.plist_base.specs.Events.{Single, event_of};
 ghost use Rattle.plist_base.specs.Trees.{Boolean as BooleanScalar, Data as DataScalar, Integer as IntegerScalar};
 ghost use Rattle.plist_binread.specs.declared.lent.Lent.TheVariants.{Scalar as ScalarLent};
-ghost use Rattle.plist_binread.specs.Object.{signed};
+ghost use Rattle.plist_format.specs.Object.{signed};
 ghost use Rattle.plist_binread.specs.Packed.{MayWantMemory, cached, is_small_event, single};
 ghost use Rattle.plist_binread.specs.Told.{event_in, event_with, is_lent};
 ghost use Rattle.plist_binread.specs.Nearby.{PacksEvent, TellsText, TellsUnits};

@@ -4,8 +4,8 @@ use Rattle.std.proofs.lemmas.Bool.{cases_lt}
 use Rattle.plist_base.specs.Events.{PlainEvent}
 use Rattle.plist_base.specs.Trees as trees
 use Rattle.plist_base.specs.Trees.{Scalar, Tree, Leaf, Array, Dictionary, Trees, NoTrees, TreeAnd, Members, NoMembers, MemberAnd}
-use Rattle.plist_binread.specs.Object as obj
-use Rattle.plist_binread.specs.Object.{Object}
+use Rattle.plist_format.specs.Object as obj
+use Rattle.plist_format.specs.Object.{Object}
 use Rattle.plist_binwrite.specs.Classes.{AreClasses}
 use Rattle.plist_binwrite.specs.Held.{num_of, Describes}
 use Rattle.plist_binwrite.specs.Numberings.{refs, pairs, obj_of}

@@ -7,8 +7,8 @@ use Rattle.std.proofs.lemmas.List.Recursion.{or_push, or_from_places}
 use Rattle.std.proofs.lemmas.Map.Keys.{IsDistinct-push, apart_from_distinct}
 use Rattle.std.proofs.lemmas.Bool.Decides.{eqb_tells}
 use Rattle.std.proofs.lemmas.List.{get_or-set_same, get_or-set_other, length-set, take_more, get_or-take, length-take}
-use Rattle.plist_binread.specs.Container.{magic}
-use Rattle.plist_binread.specs.Object.{Object}
+use Rattle.plist_format.specs.Container.{magic}
+use Rattle.plist_format.specs.Object.{Object}
 use Rattle.plist_binwrite.specs.Forms.{form, IsWritable}
 use Rattle.plist_binwrite.specs.Written.{bodies, Laid}
 use Rattle.plist_binwrite.specs.inner.Laying.{IsOrder, KeepsMarks, laid_out, AllOnce}

@@ -7,11 +7,11 @@ use Rattle.std.proofs.lemmas.Option.{slice_get-map, slice_get-get_or}
 use Rattle.plist_base.specs.Bracketing.{bracketing, shape, AreWhole}
 use Rattle.plist_base.specs.Events.{PlainEvent}
 use Rattle.plist_base.specs.Trees.{Tree}
-use Rattle.plist_binread.specs.Container.{magic, Head, head_of}
-use Rattle.plist_binread.specs.Object.{Object, object_in}
-use Rattle.plist_binread.specs.Unfolding.{Entry, table_of, unfolding_of, until_fault, items_with, items_of_file}
-use Rattle.plist_binread.specs.Visits.{visits_of, visits_with, visits}
-use Rattle.plist_binread.proofs.Steps.{length-table_of}
+use Rattle.plist_format.specs.Container.{magic, Head, head_of}
+use Rattle.plist_format.specs.Object.{Object, object_in}
+use Rattle.plist_format.specs.Unfolding.{Entry, table_of, unfolding_of, until_fault, items_with, items_of_file}
+use Rattle.plist_format.specs.Visits.{visits_of, visits_with, visits}
+use Rattle.plist_format.proofs.Tables.{length-table_of}
 use Rattle.plist_binwrite.specs.Classes.{IsFileBy, count_by, objects_by, size_by, IsOversized, Fits, SendsBy}
 use Rattle.plist_binwrite.specs.ObjectCounts.{collections_in}
 use Rattle.plist_binwrite.specs.Forms.{form, table_form, AllFit}

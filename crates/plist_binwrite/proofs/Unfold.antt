@@ -11,9 +11,9 @@ use Rattle.plist_base.specs.Bracketing.{bracketing, bracketing_of_items, bracket
 use Rattle.plist_base.specs.Events.{PlainEvent, Item, EndCollection}
 use Rattle.plist_base.specs.Trees as trees
 use Rattle.plist_base.specs.Trees.{number_of_trees, number_of_members, Tree, Leaf, Array, Dictionary, Trees, NoTrees, TreeAnd, Members, NoMembers, MemberAnd}
-use Rattle.plist_binread.specs.Object.{children_of}
-use Rattle.plist_binread.specs.Unfolding.{Entry, items_of, until_fault, unfolding_of}
-use Rattle.plist_binread.specs.Visits.{visits_within, visits_of}
+use Rattle.plist_format.specs.Object.{children_of}
+use Rattle.plist_format.specs.Unfolding.{Entry, items_of, until_fault, unfolding_of}
+use Rattle.plist_format.specs.Visits.{visits_within, visits_of}
 use Rattle.plist_binwrite.specs.ObjectCounts.{collection_of, collected}
 use Rattle.plist_binwrite.specs.Standing.{size, Sits, SitsItems, SitsPairs, met, met_in_items, met_in_pairs}
 use Rattle.plist_binwrite.specs.Numberings.{refs, pairs, obj_of}

@@ -7,7 +7,7 @@ use Rattle.std.proofs.lemmas.Bool.{lt-ltb, le-ltb, cases_lt}
 use Rattle.std.proofs.Math.Seq.{take-length}
 use lib.Arith.{mod-mul}
 use native.Mathlib.Nat.{mod-eq_of_lt}
-use Rattle.plist_binread.specs.Container.{number_of}
+use Rattle.plist_format.specs.Container.{number_of}
 use Rattle.plist_binwrite.specs.Forms.{big_endian, least_width}
 
 -- ---- the least width

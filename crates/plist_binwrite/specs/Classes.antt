@@ -6,7 +6,7 @@ use Rattle.plist_base.specs.Events.{PlainEvent}
 use Rattle.plist_base.specs.Faults.{Fault, OutOfMemory, PlistTooLarge, fault_nowhere}
 use Rattle.plist_base.specs.Trees.{Tree}
 use Rattle.plist_base.specs.Writing.{Answer}
-use Rattle.plist_binread.specs.Visits.{visits}
+use Rattle.plist_format.specs.Visits.{visits}
 use Rattle.plist_binwrite.specs.ObjectCounts.{HasObjects, collections_in}
 use Rattle.plist_binwrite.specs.Numberings.{obj_of}
 use Rattle.plist_binwrite.specs.SendingAs.{SendsAs}

@@ -4,9 +4,9 @@ use Rattle.std.specs.Str.{chars, is_utf8}
 use lib.Utf8.{encode}
 use Rattle.plist_base.specs.Trees as trees
 use Rattle.plist_base.specs.Trees.{Leaf, Array, Dictionary, trees_of, members_of}
-use Rattle.plist_binread.specs.Container.{head_of}
-use Rattle.plist_binread.specs.Object.{object_in}
-use Rattle.plist_binread.specs.Visits.{visits_of, visits}
+use Rattle.plist_format.specs.Container.{head_of}
+use Rattle.plist_format.specs.Object.{object_in}
+use Rattle.plist_format.specs.Visits.{visits_of, visits}
 use Rattle.plist_binwrite.specs.Forms.{least_width, length_form, units_of, integer_form, uid_form, text_form}
 use Rattle.plist_binwrite.specs.ObjectCounts.{object_count}
 use Rattle.plist_binwrite.specs.Sizes.{file_size}

@@ -7,7 +7,7 @@ use Rattle.plist_base.specs.declared.real.RealBits.{RealBits}
 use Rattle.plist_base.specs.declared.real.RealBits.TheVariants.{Four, Eight}
 use Rattle.plist_base.specs.Trees as trees
 use Rattle.plist_base.specs.Trees.{Scalar, Tree, Leaf}
-use Rattle.plist_binread.specs.Container.{Head, head_of}
+use Rattle.plist_format.specs.Container.{Head, head_of}
 use Rattle.plist_binwrite.specs.Standing.{met}
 
 -- ---- whether a scalar is another

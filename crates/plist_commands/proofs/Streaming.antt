@@ -12,7 +12,7 @@ use Rattle.plist_base.proofs.Grammar.{alike_last, alike_with, complete_of_whole,
 use Rattle.plist_base.specs.Writing.{Answer}
 use Rattle.plist_binread.specs.BinaryReader.{is_new, source_of, to_come}
 use Rattle.plist_binread.specs.Telling.{TellsItem, event_told}
-use Rattle.plist_binread.specs.Unfolding.{items_of_file}
+use Rattle.plist_format.specs.Unfolding.{items_of_file}
 use Rattle.plist_binread.specs.declared.counter.DecodeCounter.{Ghosts as CounterGhosts}
 use Rattle.plist_binread.specs.declared.reader.BinaryReader.{BinaryReader}
 use Rattle.plist_binwrite.specs.Keys.{HasKeysOnce}

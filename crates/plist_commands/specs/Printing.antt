@@ -8,7 +8,7 @@ use Rattle.plist_base.specs.Bracketing.{bracketing}
 use Rattle.plist_base.specs.Events.{Item}
 use Rattle.plist_base.specs.Sources.{Rises}
 use Rattle.plist_binread.specs.BinaryReader.{source_of, to_come}
-use Rattle.plist_binread.specs.Unfolding.{items_of_file}
+use Rattle.plist_format.specs.Unfolding.{items_of_file}
 use Rattle.plist_binread.specs.declared.counter.DecodeCounter.{Ghosts as CounterGhosts}
 use Rattle.plist_binread.specs.declared.reader.BinaryReader.{BinaryReader}
 use Rattle.plist_base.specs.Fronts.{AppendsFront}

@@ -20,7 +20,7 @@ use Rattle.plist_binread.specs.contracts.counter.UncountedDecodeCounter.TheImpl.
 use Rattle.plist_binread.specs.BinaryReader as binary
 use Rattle.plist_binread.specs.Failures.{HasPlace, MatchGiven, ItemGivenWithin}
 use Rattle.plist_binread.specs.Debt.{IsOwed, WantsMemory}
-use Rattle.plist_binread.specs.Unfolding.{items_of_file}
+use Rattle.plist_format.specs.Unfolding.{items_of_file}
 use Rattle.plist_ascii.specs.declared.reader.AsciiReader.{AsciiReader}
 use Rattle.plist_ascii.specs.Ascii.{items_of_ascii, items_in, BeginsWithText}
 use Rattle.plist_ascii.specs.AsciiReader as ascii

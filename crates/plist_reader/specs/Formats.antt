@@ -1,7 +1,7 @@
 -- Which format some bytes have.
 use Rattle.std.specs.Prelude.{◌≡◌, ℕ, ◌+◌, ◌-◌, ◌^◌, Bool, cond, ◌==◌, nat_eq, List, [], ◌∷◌, take, drop, get_or, Option, None, Some, codes, refl}
 use Rattle.std.specs.List.{list_any, prefix_len, starts_with}
-use Rattle.plist_binread.specs.Container.{magic}
+use Rattle.plist_format.specs.Container.{magic}
 use Rattle.plist_reader.specs.declared.format.Format.{Format}
 use Rattle.plist_reader.specs.declared.format.Format.TheVariants.{Binary, Xml, Ascii}
 

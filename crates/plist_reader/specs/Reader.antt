@@ -10,7 +10,7 @@ use Rattle.plist_base.specs.Sources.{ItemCountsIo}
 use Rattle.plist_binread.specs.BinaryReader as binary
 use Rattle.plist_binread.specs.Failures.{HasPlace}
 use Rattle.plist_binread.specs.Debt.{IsOwed, walk_steps}
-use Rattle.plist_binread.specs.Unfolding.{items_of_file}
+use Rattle.plist_format.specs.Unfolding.{items_of_file}
 use Rattle.plist_ascii.specs.Ascii.{items_of_ascii}
 use Rattle.plist_ascii.specs.AsciiReader as ascii
 use Rattle.plist_ascii.specs.Texts.{lax}

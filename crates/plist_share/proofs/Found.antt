@@ -6,8 +6,8 @@ use Rattle.std.proofs.lemmas.List.{get_or-set_other}
 use Rattle.std.proofs.lemmas.Option.{slice_get_within, same_Some}
 use Rattle.plist_base.specs.Trees.{Scalar, Tree, Leaf, Array, Dictionary, Trees, NoTrees, TreeAnd, Members, NoMembers, MemberAnd}
 use Rattle.plist_base.specs.Events.{PlainEvent}
-use Rattle.plist_binread.specs.Object as obj
-use Rattle.plist_binread.specs.Object.{dictionary}
+use Rattle.plist_format.specs.Object as obj
+use Rattle.plist_format.specs.Object.{dictionary}
 use Rattle.plist_binwrite.specs.Classes.{AreClasses}
 use Rattle.plist_binwrite.specs.Forms.{keys_of, values_of}
 use Rattle.plist_binwrite.specs.Held.{item_indices, key_indices, value_indices, keys_in, values_in, held_kind, event_at, num_of}

@@ -5,9 +5,9 @@ use Rattle.std.specs.List.{AllByRecursion}
 use Rattle.std.proofs.lemmas.Option.{slice_get_within}
 use Rattle.plist_base.specs.Trees as trees
 use Rattle.plist_base.specs.Trees.{Tree, Leaf, Array, Dictionary, Trees, NoTrees, TreeAnd, Members, NoMembers, MemberAnd}
-use Rattle.plist_binread.specs.Object as obj
-use Rattle.plist_binread.specs.Object.{Object}
-use Rattle.plist_binread.specs.Unfolding.{Entry}
+use Rattle.plist_format.specs.Object as obj
+use Rattle.plist_format.specs.Object.{Object}
+use Rattle.plist_format.specs.Unfolding.{Entry}
 use Rattle.plist_binwrite.proofs.ClassObjects.{the_scalar, the_text, the_items, the_pairs}
 use Rattle.plist_binwrite.proofs.Uniques.{all_both}
 use Rattle.plist_share.specs.Distinct.{subtrees, subtrees_of_items, subtrees_of_pairs}

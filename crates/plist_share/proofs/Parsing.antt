@@ -10,9 +10,9 @@ use Rattle.plist_base.specs.Events.{PlainEvent, EndCollection, Single, Item}
 use Rattle.plist_base.specs.Trees as trees
 use Rattle.plist_base.specs.Trees.{Tree, Leaf, Array, Dictionary, Trees, NoTrees, TreeAnd, Members, NoMembers, MemberAnd}
 use Rattle.plist_base.specs.Bracketing.{bracketing, bracketing_of_items, bracketing_of_pairs}
-use Rattle.plist_binread.specs.Object as obj
-use Rattle.plist_binread.specs.Object.{Object, children_of}
-use Rattle.plist_binread.specs.Unfolding.{Entry, items_of, items_found, unfolding_of}
+use Rattle.plist_format.specs.Object as obj
+use Rattle.plist_format.specs.Object.{Object, children_of}
+use Rattle.plist_format.specs.Unfolding.{Entry, items_of, items_found, unfolding_of}
 use Rattle.plist_share.proofs.Meaning.{Stands, Means, MeansItems, MeansPairs}
 
 tail_is : (a b : Item) (xs ys : List Item) → a ∷ xs ≡ b ∷ ys → xs ≡ ys

@@ -6,8 +6,8 @@ use Rattle.std.specs.Str.{bytes_eq}
 use Rattle.plist_base.specs.Trees as trees
 use Rattle.plist_base.specs.Trees.{Tree, Leaf, Array, Dictionary, Trees, NoTrees, TreeAnd, Members, NoMembers, MemberAnd}
 use Rattle.plist_base.specs.Bracketing.{bracketing}
-use Rattle.plist_binread.specs.Container.{Head, head_of}
-use Rattle.plist_binread.specs.Unfolding.{items_of_file}
+use Rattle.plist_format.specs.Container.{Head, head_of}
+use Rattle.plist_format.specs.Unfolding.{items_of_file}
 use Rattle.plist_binwrite.specs.ObjectCounts.{scalar_eq}
 
 -- whether a tree is another

@@ -3,7 +3,7 @@ use Rattle.std.specs.Prelude.{◌≡◌, ℕ, List, length, Option, Ok, Err}
 use Rattle.std.specs.Io.KnownBytes.{Appends}
 use Rattle.plist_base.specs.Faults.{Io, fault_nowhere}
 use Rattle.plist_base.specs.Writing.{Answer}
-use Rattle.plist_binread.specs.Object.{Object}
+use Rattle.plist_format.specs.Object.{Object}
 use Rattle.plist_binwrite.specs.declared.completion.Ready.{Ready}
 use Rattle.plist_binwrite.specs.Classes.{IsFileBy}
 use Rattle.plist_base.specs.Fronts.{AppendsFront}

@@ -1,8 +1,8 @@
 -- The objects of a file in order, and a file as far as it is laid out.
 use Rattle.std.specs.Prelude.{◌≡◌, ◌≢◌, ◌↔◌, ℕ, ◌<◌, true, false, eqb, List, ◌++◌, length, get_or}
 use Rattle.std.specs.List.{list_any, IsDistinct}
-use Rattle.plist_binread.specs.Container.{magic}
-use Rattle.plist_binread.specs.Object.{Object}
+use Rattle.plist_format.specs.Container.{magic}
+use Rattle.plist_format.specs.Object.{Object}
 use Rattle.plist_binwrite.specs.Written.{bodies, ending}
 
 -- some of the numbers below a count in order, none twice; each of them has a mark that isn't 0

@@ -5,7 +5,7 @@ use Rattle.std.specs.declared.vec.Vec.{Vec}
 use Rattle.plist_base.specs.Writing.{answer_of}
 use Rattle.plist_base.specs.declared.error.Error.{Error}
 use Rattle.plist_base.specs.Trees.{Tree, Trees, Members, Array, Dictionary}
-use Rattle.plist_binread.specs.Object.{Object}
+use Rattle.plist_format.specs.Object.{Object}
 use Rattle.plist_binwrite.specs.Forms.{form, table_form}
 use Rattle.plist_binwrite.specs.Held.{plain_events, item_indices, half_indices, Describes}
 use Rattle.plist_binwrite.specs.Numberings.{obj_of}

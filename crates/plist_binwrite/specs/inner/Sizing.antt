@@ -1,7 +1,7 @@
 -- Words for the order of a planned file's objects, their places, and its size.
 use Rattle.std.specs.Prelude.{◌≡◌, ◌≢◌, ℕ, ◌+◌, ◌^◌, ◌<◌, ◌≤◌, false, List, length, get_or, Option, IfSome}
 use Rattle.plist_base.specs.Trees.{Tree, Trees, number_of_trees}
-use Rattle.plist_binread.specs.Object.{Object}
+use Rattle.plist_format.specs.Object.{Object}
 use Rattle.plist_binwrite.specs.Forms.{IsWritable}
 use Rattle.plist_binwrite.specs.Held.{plain_events, is_stop, held_at, num_of, Describes}
 use Rattle.plist_binwrite.specs.Numberings.{obj_of}

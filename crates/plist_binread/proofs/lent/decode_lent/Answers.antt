@@ -1,7 +1,7 @@
 use Rattle.std.proofs.Common.{ap, arith, ◌++◌, ℕ}
 use Rattle.std.proofs.lemmas.List.{length-append}
 use Rattle.plist_binread.specs.Nearby.{LendsWhole}
-use Rattle.plist_binread.specs.Object.{object_in}
+use Rattle.plist_format.specs.Object.{object_in}
 use Rattle.plist_binread.specs.Told.{event_in}
 use Rattle.plist_binread.proofs.Lending.{object_lent}
 use Rattle.plist_binread.proofs.lent.decode_lent.Goals as goal

@@ -1,5 +1,5 @@
 use Rattle.std.proofs.Common.{arith}
-use Rattle.plist_binread.proofs.Markers.{layout-data, layout-text, layout-wide_text, layout-uid, layout-array, layout-dictionary}
+use Rattle.plist_format.proofs.Layouts.{layout-data, layout-text, layout-wide_text, layout-uid, layout-array, layout-dictionary}
 use Rattle.plist_binread.proofs.lent.lent_behind.Goals as goal
 
 pub returns-in-16-clause-lent : goal.returns-in-16-clause-lent

@@ -1,6 +1,6 @@
 use Rattle.std.proofs.Common.{refl, ap, sym, ◌∙◌, Some}
 use Rattle.plist_binread.specs.Decoding.{single_in}
-use Rattle.plist_binread.specs.Object.{date, date_if_any}
+use Rattle.plist_format.specs.Object.{date, date_if_any}
 use Rattle.plist_binread.proofs.lent.lent_date.Goals as goal
 
 pub returns-in-Ok-clause-lent : goal.returns-in-Ok-clause-lent

@@ -1,5 +1,5 @@
 use Rattle.std.proofs.Common.{◌++◌}
-use Rattle.plist_binread.specs.Object.{length_in}
+use Rattle.plist_format.specs.Object.{length_in}
 use Rattle.plist_binread.proofs.Children.{dictionary_lent}
 use Rattle.plist_binread.proofs.lent.lent_dictionary.Goals as goal
 

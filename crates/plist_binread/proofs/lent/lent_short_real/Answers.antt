@@ -2,7 +2,7 @@ use Rattle.std.proofs.Common.{ap, sym, ◌∙◌, Some}
 use Rattle.plist_base.specs.declared.real.RealBits.TheVariants.{Four}
 use Rattle.plist_base.specs.Trees.{Real}
 use Rattle.plist_binread.specs.Decoding.{single_in}
-use Rattle.plist_binread.specs.Object.{Scalar}
+use Rattle.plist_format.specs.Object.{Scalar}
 use Rattle.plist_binread.proofs.lent.lent_short_real.Goals as goal
 
 pub returns-in-Some-clause-lent : goal.returns-in-Some-clause-lent

@@ -1,6 +1,6 @@
 use Rattle.std.proofs.Common.{ap, sym, ◌∙◌, Some}
 use Rattle.plist_binread.specs.Decoding.{single_in}
-use Rattle.plist_binread.specs.Object.{text}
+use Rattle.plist_format.specs.Object.{text}
 use Rattle.plist_binread.proofs.Contents.{text-utf8}
 use Rattle.plist_binread.proofs.lent.lent_text.Goals as goal
 

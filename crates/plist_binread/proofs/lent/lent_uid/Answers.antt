@@ -1,7 +1,7 @@
 use Rattle.std.proofs.Common.{ap, sym, ◌∙◌, Some}
 use Rattle.plist_base.specs.Trees.{Uid}
 use Rattle.plist_binread.specs.Decoding.{single_in}
-use Rattle.plist_binread.specs.Object.{Scalar}
+use Rattle.plist_format.specs.Object.{Scalar}
 use Rattle.plist_binread.proofs.lent.lent_uid.Goals as goal
 
 pub returns-in-Some-clause-lent : goal.returns-in-Some-clause-lent

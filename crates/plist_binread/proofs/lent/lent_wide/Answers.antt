@@ -1,7 +1,7 @@
 use Rattle.std.proofs.Common.{◌≡◌, ◌<◌, ◌++◌, pos, ap, sym, ◌∙◌, Some, arith}
 use Rattle.plist_base.specs.Trees.{Integer}
 use Rattle.plist_binread.specs.Decoding.{single_in}
-use Rattle.plist_binread.specs.Object.{Scalar, wide_integer, meaning_of_front}
+use Rattle.plist_format.specs.Object.{Scalar, wide_integer, meaning_of_front}
 use Rattle.plist_binread.proofs.Contents.{wide_front, wide_low, wide_high}
 use Rattle.plist_binread.proofs.lent.lent_wide.Goals as goal
 

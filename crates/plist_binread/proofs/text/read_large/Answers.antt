@@ -2,9 +2,10 @@ use Rattle.std.proofs.Common.{Err, inl, inr, refl, arith}
 use Rattle.std.proofs.lemmas.Bool.{cases_lt}
 use Rattle.std.proofs.lemmas.Result.{err_from_is_err_and}
 use Rattle.plist_binread.specs.Behind.{data_of_content}
-use Rattle.plist_binread.specs.Object.{text}
+use Rattle.plist_format.specs.Object.{text}
 use Rattle.plist_binread.proofs.Contents.{grows_text}
-use Rattle.plist_binread.proofs.Markers.{known_counted, known_layout, layout-data, layout-text, layout-wide_text}
+use Rattle.plist_binread.proofs.Markers.{known_counted, known_layout}
+use Rattle.plist_format.proofs.Layouts.{layout-data, layout-text, layout-wide_text}
 use Rattle.plist_binread.proofs.text.read_large.Goals as goal
 
 pub returns-then-marker-ge96-clause-decoded : goal.returns-then-marker-ge96-clause-decoded

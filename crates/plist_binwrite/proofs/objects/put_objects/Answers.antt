@@ -1,6 +1,6 @@
 use Rattle.std.proofs.Common.{ℕ, ◌<◌, ◌++◌, length, get_or, take, arith}
 use Rattle.std.proofs.lemmas.List.{take_all}
-use Rattle.plist_binread.specs.Object.{Object}
+use Rattle.plist_format.specs.Object.{Object}
 use Rattle.plist_binwrite.specs.Forms.{form}
 use Rattle.plist_binwrite.specs.Held.{Describes}
 use Rattle.plist_binwrite.specs.Outlets.{Puts}

@@ -1,5 +1,5 @@
 use Rattle.std.proofs.Common.{ℕ, take, Ok}
-use Rattle.plist_binread.specs.Object.{Object}
+use Rattle.plist_format.specs.Object.{Object}
 use Rattle.plist_binwrite.specs.Held.{Describes}
 use Rattle.plist_binwrite.specs.Outlets.{PutsBytes}
 use Rattle.plist_binwrite.specs.inner.Planning.{numbers_of}

@@ -1,7 +1,7 @@
 use Rattle.std.proofs.Common.{arith, ◌^◌, length, reverse, refl, false, None}
 use Rattle.plist_binread.specs.Told.{event_in}
 use Rattle.plist_binread.specs.Turning.{root_with}
-use Rattle.plist_binread.specs.Container.{head_of}
+use Rattle.plist_format.specs.Container.{head_of}
 use Rattle.plist_binread.proofs.Steps.{fresh_falls}
 use Rattle.plist_binread.proofs.Taken.{closes-fresh, closes-ended, walking-ended, holds_head, holds_none, left_behind, nothing_ended, first_fault, kept_fault, kept_end, step_fault, step_nothing}
 use Rattle.plist_binread.proofs.Children.{known_asks_nothing}

@@ -1,0 +1,28 @@
+-- The layouts that go by more than one marker.
+use Rattle.std.proofs.Common.{rules, ◌≡◌, ℕ, ◌-◌, ◌*◌, ◌≤◌}
+use Rattle.plist_base.specs.Trees.{Data, Uid}
+use Rattle.plist_format.specs.Container.{number_of, numbers_spelled}
+use Rattle.plist_format.specs.Object.{Scalar, Array, Fixed, Counted, text, wide_text, dictionary, layout_of}
+
+pub layout-data : (w m : ℕ) → 64 ≤ m → m ≤ 79
+    → layout_of w m ≡ Counted 1 (λ _ content. Scalar (Data content))
+layout-data w m low high = search rules
+
+pub layout-text : (w m : ℕ) → 80 ≤ m → m ≤ 95 → layout_of w m ≡ Counted 1 (λ _. text)
+layout-text w m low high = search rules
+
+pub layout-wide_text : (w m : ℕ) → 96 ≤ m → m ≤ 111 → layout_of w m ≡ Counted 2 (λ _. wide_text)
+layout-wide_text w m low high = search rules
+
+pub layout-uid : (w m : ℕ) → 128 ≤ m → m ≤ 135
+    → layout_of w m ≡ Fixed (m - 0x7f) (λ content. Scalar (Uid (number_of content)))
+layout-uid w m low high = search rules
+
+pub layout-array : (w m : ℕ) → 160 ≤ m → m ≤ 175
+    → layout_of w m ≡ Counted w (λ _ content. Array (numbers_spelled w content))
+layout-array w m low high = search rules
+
+pub layout-dictionary : (w m : ℕ) → 208 ≤ m → m ≤ 223
+    → layout_of w m ≡ Counted (2 * w) (λ count content. dictionary count
+    (numbers_spelled w content))
+layout-dictionary w m low high = search rules

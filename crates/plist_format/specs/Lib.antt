@@ -1,0 +1,5 @@
+pub mod Container
+pub mod Object
+pub mod Unfolding
+pub mod Visits
+pub mod Examples
