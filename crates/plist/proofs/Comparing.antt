@@ -16,9 +16,10 @@ use Rattle.plist_base.specs.Trees.{Dictionary}
 use Rattle.plist.specs.declared.same.Later.{Later}
 use Rattle.plist.specs.declared.same.Pair.{Pair}
 use Rattle.plist.specs.declared.value.Value.{Value, Value-F, fold_out-Value}
-use Rattle.plist.specs.inner.PairsSame.{as_map}
+use Rattle.plist_pairs.specs.inner.PairsSame.{as_map}
 use Rattle.plist.specs.inner.PutOff.{Compares, ComparesItems, ComparesPairs, ComparesValues, ItemsLeft, PairsLeft, are_covered, are_same, same_values, to_compare, waiting}
-use Rattle.plist.specs.Same.{same, same_items, same_pairs}
+use Rattle.plist.specs.Same.{same, same_items}
+use Rattle.plist_pairs.specs.Equal.{same_pairs}
 use Rattle.plist.specs.Views.{item_trees, pair_trees}
 use Rattle.plist.specs.inner.Weights.{weight, weight_step, weights}
 use Rattle.plist.proofs.Dropping.{weights-more}

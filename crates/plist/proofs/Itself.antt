@@ -13,7 +13,7 @@ use Rattle.plist.specs.declared.partial.Open.{Open}
 use Rattle.plist.specs.declared.partial.Open.TheVariants as run
 use Rattle.plist.specs.Partials.{open_of, held_in}
 use Rattle.plist.specs.Views.{tree_of, tree_step, tree_pairs}
-use Rattle.plist.proofs.Keeping.{last-values-once, once-last, values-inserts}
+use Rattle.plist_pairs.proofs.Keeping.{last-values-once, once-last, values-inserts}
 use Rattle.plist.specs.inner.Steps.{carried_on}
 use Rattle.plist.specs.inner.Following.{taken}
 use Rattle.plist.proofs.Carrying.{items-last, pairs-last, carried-last}

@@ -1,4 +1,3 @@
-pub mod Columns
 pub mod LastOnes
 pub mod Carrying
 pub mod Tops
@@ -11,11 +10,6 @@ pub mod KeysOnce
 pub mod Shown
 pub mod Handed
 pub mod SameTrees
-pub mod Keeping
-pub mod EntrySteps
 pub mod Gathered
-pub mod Retained
-pub mod Extended
-pub mod Rebuilt
 pub mod Dropping
 pub mod Comparing

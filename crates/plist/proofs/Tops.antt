@@ -12,7 +12,7 @@ use Rattle.plist.specs.LastWins.{with_pair, last_values}
 use Rattle.plist.specs.Partials.{open_of, held_in}
 use Rattle.plist.specs.inner.Steps.{and_tree}
 use Rattle.plist.specs.Views.{tree_of, tree_pairs}
-use Rattle.plist.proofs.Keeping.{EachOnce, last-values-once, once-earlier, values-insert}
+use Rattle.plist_pairs.proofs.Keeping.{EachOnce, last-values-once, once-earlier, values-insert}
 
 -- the innermost collection stands first
 pub innermost : (outer : List Open) (inner : Open)

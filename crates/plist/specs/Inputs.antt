@@ -1,6 +1,5 @@
 -- The value of an input, from the items that it is seen to give.
 use Rattle.std.specs.Prelude.{◌≡◌, ℕ, List, [], ◌∷◌, ◌++◌, Option, None, Some, Result, Ok, Err, IfSome, map, ⊤, option_map}
-use Rattle.std.specs.Iterator.{Count, IsFiniteIterable}
 use Rattle.plist_base.specs.declared.error.Error.{Error}
 use Rattle.plist_base.specs.Events.{PlainEvent, Item}
 use Rattle.plist_base.specs.Faults.{Fault, fault_nowhere, UnexpectedEndOfEventStream, MatchFault, IsFromOutside}
@@ -98,8 +97,3 @@ GivesBack tree (Err fault) = IsFromOutside fault.kind
 -- a tree's events are those of no other tree, whatever their lengths
 abbrev pub TellsTrees : Type 0
 TellsTrees = (left right : Tree) → AreAlike (bracketing left) (bracketing right) → left ≡ right
-
--- whatever is made of it may be asked for items, and ends
-abbrev pub Ends : {J I : Type 0} → (becomes : J → I → Type 0) → (can_next : I → Type 0)
-    → (remaining : I → Count) → J → Type 0
-Ends becomes can_next remaining made = IsFiniteIterable becomes can_next remaining made

@@ -1,7 +1,3 @@
-pub mod formers
-pub mod Keys
-pub mod Lends
-pub mod Shown
 pub mod LastWins
 pub mod Views
 pub mod Building
@@ -16,9 +12,6 @@ pub mod SendingValues
 pub mod Stored
 pub mod ReadBy
 pub mod Same
-pub mod EntryLends
-pub mod Entry
-pub mod Bulk
 pub mod Contents
 pub mod Rows
 pub mod Limiting

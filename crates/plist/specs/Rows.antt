@@ -9,7 +9,7 @@ use Rattle.std.specs.declared.vec.Vec.{Vec}
 use Rattle.std.specs.contracts.alloc.Global as global
 use Rattle.std.specs.contracts.vec.Vec as vec
 use Rattle.std.specs.contracts.impls.GlobalAllocator.TheImpl.{ghosts}
-use Rattle.plist.specs.contracts.dictionary.Pairs as pairs
+use Rattle.plist_pairs.specs.contracts.dictionary.Pairs as pairs
 use Rattle.plist.specs.contracts.value.Value.{the_row}
 use Rattle.plist.specs.declared.value.Value.{Value}
 use Rattle.plist.specs.declared.value.Value.TheVariants as made

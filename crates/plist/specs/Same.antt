@@ -3,7 +3,6 @@
 use Rattle.std.specs.Prelude.{◌≡◌, ℕ, ◌==◌, Bool, true, false, not, ◌&&◌, ◌||◌, cond, Option, Some, None, is_some, List, [], ◌∷◌, ◌↔◌, bytes_eq}
 use Rattle.std.specs.List.{list_any}
 use Rattle.std.specs.Ordering.{int_eq}
-use Rattle.std.specs.HashMap.{entries_eq}
 use Rattle.plist_base.specs.declared.real.RealBits.{RealBits}
 use Rattle.plist_base.specs.declared.real.RealBits.TheVariants.{Four, Eight}
 use Rattle.plist_base.specs.Trees.{Scalar, Boolean, Data, Date, Integer, Real, String, Uid, Tree, Leaf, Array, Dictionary, Trees, NoTrees, TreeAnd, Members, NoMembers, MemberAnd}
@@ -77,10 +76,6 @@ AreSameAt (Some t) (Some u) = same t u ≡ true
 abbrev pub AreSameEverywhere : (left right : Members) → Type 0
 AreSameEverywhere left right =
     (key : List ℕ) → AreSameAt (first_value key left) (first_value key right)
-
--- at each key of either list both have a value, and the two are equal by E
-abbrev pub same_pairs : {V : Type 0} → (V → V → Bool) → List (List ℕ × V) → List (List ℕ × V) → Bool
-same_pairs E pairs others = entries_eq bytes_eq (λ p q. E p.1 q.1) pairs others
 
 -- ---- what `same` is
 

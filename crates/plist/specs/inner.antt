@@ -3,7 +3,5 @@ pub mod Steps
 pub mod Following
 pub mod Laws
 pub mod Sameness
-pub mod PairsSame
-pub mod StoreLends
 pub mod Weights
 pub mod PutOff

@@ -4,7 +4,7 @@
 ghost use Rattle.std.specs.Prelude.{◌≡◌, IfErr, IfOk, OnErr, OnOk, OnSome, string_bytes, unwrap_or};
 ghost use Rattle.std.specs.Map.{lookup};
 ghost use Rattle.std.specs.Str.{bytes_eq};
-ghost use Rattle.plist.specs.Keys.{IsSetAt, IsTakenAt};
+ghost use Rattle.plist_pairs.specs.Keys.{IsSetAt, IsTakenAt};
 
 use plist::Pairs;
 use plist::dictionary::Entry;

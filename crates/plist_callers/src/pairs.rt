@@ -5,7 +5,7 @@ ghost use Rattle.std.specs.Cmp.Lexicographic.{slice_cmp};
 ghost use Rattle.std.specs.Ordering.{nat_cmp};
 ghost use Rattle.std.specs.Map.{keys_of, lookup, set_value};
 ghost use Rattle.std.specs.Str.{bytes_eq};
-ghost use Rattle.plist.specs.Keys.{IsSetAt};
+ghost use Rattle.plist_pairs.specs.Keys.{IsSetAt};
 
 use plist::Pairs;
 use std::mem;

@@ -1,5 +1,5 @@
-//! Proved callers of values: what bytes hold, what a builder finishes, and a value's copy, which is
-//! equal to it.
+//! Proved callers of values: what bytes hold, what a builder finishes, a dictionary's copy, and a
+//! value's, which is equal to it.
 
 ghost use Rattle.std.specs.Prelude.{◌≡◌, Err, IfOk, IfSome, false, true};
 ghost use Rattle.plist_ascii.specs.Texts.{tight};
@@ -8,9 +8,10 @@ ghost use Rattle.plist_reader.specs.Reader.{items_of_input};
 ghost use Rattle.plist.specs.Collecting.{built_tree};
 ghost use Rattle.plist.specs.Inputs.{IsReadFrom};
 ghost use Rattle.plist.specs.ReadBy.{items_of_text};
+ghost use Rattle.plist.specs.Views.{tree_pairs};
 
 use plist::callers::are_equal;
-use plist::{Builder, Dialect, Value};
+use plist::{Builder, Dialect, Dictionary, Value};
 use plist_base::{Error, ErrorKind, Event, Writer};
 use std::alloc::Global;
 use std::rt::Files;
@@ -63,6 +64,13 @@ pub fn meets_an_end<R: Files>(rt: &R, alloc: Global, value: &Value, path: &str) 
         Ok(()) => false,
         Err(error) => error.is_eof(),
     }
+}
+
+/// A copy of a dictionary: the same trees at the same keys, in the same order.
+pub fn copy_of(pairs: &Dictionary) -> Result<Dictionary, Error>
+    ensures copy { IfOk result (λ copy. tree_pairs copy ≡ tree_pairs pairs.now) }
+{
+    pairs.clone()
 }
 
 /// Whether a copy of a value is equal to it, as it always is.

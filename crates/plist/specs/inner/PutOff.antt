@@ -7,7 +7,8 @@ use Rattle.std.specs.declared.vec.Vec.{Vec}
 use Rattle.plist.specs.declared.same.Later.{Later}
 use Rattle.plist.specs.declared.same.Pair.{Pair}
 use Rattle.plist.specs.declared.value.Value.{Value}
-use Rattle.plist.specs.Same.{same, same_items, same_members, same_pairs}
+use Rattle.plist.specs.Same.{same, same_items, same_members}
+use Rattle.plist_pairs.specs.Equal.{same_pairs}
 use Rattle.plist.specs.Views.{item_trees, pair_trees, tree_of}
 use Rattle.plist.specs.inner.Weights.{weight, weights}
 

@@ -5,7 +5,7 @@ use Rattle.std.proofs.lemmas.List.{drop_all}
 use Rattle.std_collections.proofs.HashMapEq.{unequal_len}
 use Rattle.plist_base.specs.Trees.{Dictionary}
 use Rattle.plist.specs.declared.value.Value.{size-Value}
-use Rattle.plist.specs.inner.PairsSame.{as_map}
+use Rattle.plist_pairs.specs.inner.PairsSame.{as_map}
 use Rattle.plist.specs.inner.PutOff.{are_covered, are_same, same_values, waiting}
 use Rattle.plist.specs.Same.{same, same_items}
 use Rattle.plist.specs.Views.{item_trees, pair_trees}

@@ -1,0 +1,45 @@
+use Rattle.std.proofs.Common.{refl, ◌∙◌, String, Global}
+use Rattle.std.proofs.iter.Next as it
+use Rattle.plist_pairs.proofs.Extended.{inserted-more}
+use Rattle.plist_pairs.proofs.dictionary.Pairs.extend.Goals as goal
+
+pub loop-key-init : goal.loop-key-init
+loop-key-init g c =
+    let asked = c.requires.asked _ c.into_iter-rest.ensures.into_iter_gives in
+    it.begun asked.0 asked.1 refl
+
+pub loop-key-preserved-in-Ok : goal.loop-key-preserved-in-Ok
+loop-key-preserved-in-Ok g c =
+    let kept = c.loop-key.invariant in
+    let row : String Global × g.row.V.Denot = (c.in-Some.key, c.in-Some.value) in
+    it.again kept row c.in-Some.is (c.next.ensures.steps, c.next.ensures.goes)
+    (inserted-more c.args.self.now c.loop-key.self c.insert.new.self kept.seen row kept.holds
+    c.in-Ok.ensures.pairs)
+
+pub loop-key-preserved : goal.loop-key-preserved
+loop-key-preserved g c =
+    let kept = c.loop-key.invariant in
+    let row : String Global × g.row.V.Denot = (c.in-Some.key, c.in-Some.value) in
+    it.again kept row c.in-Some.is (c.next.ensures.steps, c.next.ensures.goes)
+    (inserted-more c.args.self.now c.loop-key.self c.insert.new.self kept.seen row kept.holds
+    c.in-Ok.ensures.pairs)
+
+pub returns-in-Err-clause-pairs : goal.returns-in-Err-clause-pairs
+returns-in-Err-clause-pairs g c =
+    let kept = c.loop-key.invariant in
+    let row : String Global × g.row.V.Denot = (c.in-Some.key, c.in-Some.value) in
+    let gave = it.Yields-more g.I.IntoIter.Iterator.next_gives c.into_iter-rest.result kept.seen
+    c.loop-key.rest row c.next.new.self kept.gave
+    (it.said g.I.IntoIter.Iterator.next_gives c.in-Some.is c.next.ensures.steps) in (
+      c.into_iter-rest.result,
+      c.into_iter-rest.ensures.into_iter_gives,
+      (kept.seen, row, (c.next.new.self, gave), c.in-Err.ensures.unchanged ∙ kept.holds),
+    )
+
+pub returns-clause-pairs : goal.returns-clause-pairs
+returns-clause-pairs g c =
+    let kept = c.loop-key.invariant in (
+      c.into_iter-rest.result,
+      c.into_iter-rest.ensures.into_iter_gives,
+      (kept.seen, it.drained kept c.in_default.is c.next.ensures.steps, kept.holds),
+    )

@@ -1,0 +1,41 @@
+use Rattle.std.proofs.Common.{◌≡◌, ◌+◌, ℕ, suc, List, take, string_bytes, sym, ap, subst, ◌∙◌, arith, bytes_eq, take_all}
+use Rattle.std.specs.List.{IsDistinct}
+use Rattle.std.proofs.lemmas.List.{length-map}
+use Rattle.std.proofs.lemmas.Map.Made.{keys_of-map_values}
+use Rattle.indexmap.specs.IndexMap.{insert_entry}
+use Rattle.plist_pairs.specs.Copies.{with_shown}
+use Rattle.plist_pairs.proofs.Keeping.{values-insert, next-last}
+use Rattle.plist_pairs.proofs.Columns.{get-map}
+use Rattle.plist_pairs.proofs.dictionary.copy.copy_pairs.Goals as goal
+
+pub loop-i-preserved : goal.loop-i-preserved
+loop-i-preserved g c =
+    let shown = g.V.TryCopy.shown in
+    let ps = c.args.pairs.now in
+    let i = c.loop-i.i in
+    let k = c.pair_at.result.0.now in
+    let v = c.pair_at.result.1.now in
+    let name = c.in_ok-name.name in
+    let copied = c.in_ok-try_copy.field-0 in
+    let one : suc i ≡ i + 1 = omega arith in
+    ap (with_shown shown) c.in-Ok.ensures.pairs
+    ∙ values-insert shown (string_bytes name) copied c.loop-i.copies
+    ∙ ap (λ l. insert_entry bytes_eq l (string_bytes name) (shown copied)) c.loop-i.invariant
+    ∙ (λ j. insert_entry bytes_eq (take i (with_shown shown ps)) (c.in_ok-name.ensures.ok j)
+    (c.in_ok-try_copy.ensures j))
+    ∙ next-last (with_shown shown ps) i k (shown v)
+    (subst (IsDistinct _) (sym (keys_of-map_values _ ps)) c.pair_count-count.ensures.distinct)
+    (get-map _ ps i (k, v) c.pair_at.ensures)
+    ∙ ap (λ n. take n (with_shown shown ps)) one
+
+pub returns : goal.returns
+returns g c =
+    let shown = g.V.TryCopy.shown in
+    let ps = c.args.pairs.now in
+    c.loop-i.invariant ∙ take_all c.loop-i.i (with_shown shown ps)
+    (omega (
+      arith,
+      c.loop-i-test.false,
+      c.pair_count-count.ensures.count,
+      length-map {B = List ℕ × g.V.TryCopy.View} ps (λ p. (p.0, shown p.1)),
+    ))

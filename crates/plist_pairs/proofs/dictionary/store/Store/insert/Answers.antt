@@ -1,0 +1,33 @@
+use Rattle.std.proofs.Common.{length, string_bytes, sym, ap, ◌∙◌, arith, refl, Some, slice_set, bytes_eq}
+use Rattle.std.specs.Map.{lookup}
+use Rattle.std.proofs.lemmas.Option.{slice_get_read}
+use Rattle.indexmap.specs.IndexMap.{insert_entry}
+use Rattle.plist_pairs.proofs.Columns.{rows, found_value, rows-old}
+use Rattle.plist_pairs.proofs.Rebuilt.{old-keys, old-index}
+use Rattle.plist_pairs.proofs.dictionary.store.Store.insert.Goals as goal
+
+pub returns-in-Ok-default-false : goal.returns-in-Ok-default-false
+returns-in-Ok-default-false g c =
+    let k = c.self.inside in
+    let e = c.in-Ok-default-false in
+    let same = old-keys k.keys.keys c.args.key e.field-0-1 e.ensures.added e.field-0-1-test
+    c.insert_full.new.self.keys e.ensures.keys in
+    let index = old-index k.keys.keys c.args.key e.field-0-1 e.ensures.added e.field-0-1-test
+    c.insert_full.new.self.keys e.ensures.keys e.index e.ensures.index e.ensures.within in
+    let i = e.index in
+    let f = found_value _ _ c.self.invariant.0 (bytes_eq (string_bytes c.args.key)) i index in
+    record {
+      old = ap Some c.replace.ensures.value
+          ∙ sym (slice_get_read k.items.items (length k.items.items) i c.index_mut.result.now refl
+          (omega (arith, e.ensures.within, ap length same, c.self.invariant.0))
+          c.index_mut.ensures.value)
+          ∙ sym f ∙ ap (lookup (bytes_eq (string_bytes c.args.key))) c.self.view_is;
+      pairs = ap (λ l. rows l (slice_set k.items.items i c.replace.new.dest)) same
+          ∙ ap (λ w. rows k.keys.keys (slice_set k.items.items i w)) c.replace.ensures.after
+          ∙ rows-old _ _ c.self.invariant.0 c.args.key c.args.value i index
+          ∙ ap (λ l. insert_entry bytes_eq l (string_bytes c.args.key) c.args.value)
+          c.self.view_is;
+      handed_back = tt;
+      unchanged = tt;
+      absent = tt;
+    }

@@ -1,0 +1,60 @@
+-- What calls that go over all pairs do.
+use Rattle.std.specs.Prelude.{◌≡◌, ℕ, ◌++◌, ◌∷◌, [], Bool, List, Option, String, Result, Ok, Err, map, string_bytes, bytes_eq}
+use Rattle.std.specs.Borrow.{Bor}
+use Rattle.std.specs.Iterator.{Count, Drains, IsFiniteIterable, Yields}
+use Rattle.std.specs.List.{AllZip, items_where_true}
+use Rattle.std.specs.declared.alloc.Global.{Global}
+use denote.Param.Members.{Shared}
+use Rattle.indexmap.specs.IndexMap.{insert_all}
+use Rattle.plist_pairs.specs.Shown.{shown_owned_pair}
+use Rattle.plist_base.specs.declared.error.Error.{Error}
+
+abbrev pub Rows : Type 0 → Type 0
+Rows V = List (List ℕ × V)
+
+module _ {F V : Type 0} (g : Shared F (Bor (String Global) × (Bor V × Unit {0})) Bool) (f : F) where
+  -- the closure, called at a key and a value that are those of the pair, may give this answer
+  pub record AnswersAtPair (pair : List ℕ × V) (answer : Bool) : Type 0 where
+    pub key : Bor (String Global)
+    pub value : Bor V
+    pub shows : (string_bytes key.now ≡ pair.0) × (value.now ≡ pair.1)
+    pub says : g.post f (key, (value, tt)) answer
+
+  -- the pairs for which the closure answered `true`, in their order
+  abbrev pub Retains : Rows V → Rows V → Type 0
+  Retains old new =
+      (answers : List Bool) × AllZip AnswersAtPair old answers
+      × (new ≡ items_where_true answers old)
+
+module _ {I V : Type 0} (next_gives : I → Option (String Global × V) → I → Type 0) (iter : I) where
+  -- All pairs of the iterator are inserted in turn. After an error these are the pairs before one
+  -- that was taken, too.
+  abbrev pub ExtendsBy : Rows V → Result (Unit {0}) Error → Rows V → Type 0
+  ExtendsBy old (Ok _) new =
+      (taken : List (String Global × V)) × Drains next_gives iter taken
+      × (new ≡ insert_all bytes_eq old (map shown_owned_pair taken))
+  ExtendsBy old (Err _) new =
+      (taken : List (String Global × V)) × (refused : String Global × V)
+      × ((rest : I) × Yields next_gives iter (taken ++ refused ∷ []) rest)
+      × (new ≡ insert_all bytes_eq old (map shown_owned_pair taken))
+
+  -- all pairs of the iterator, inserted in turn
+  abbrev pub IsMadeOf : Rows V → Type 0
+  IsMadeOf made =
+      (taken : List (String Global × V)) × Drains next_gives iter taken
+      × (made ≡ insert_all bytes_eq [] (map shown_owned_pair taken))
+
+-- one is made of something: the same of its pairs
+module _ {I J V : Type 0} (becomes : J → I → Type 0)
+    (next_gives : I → Option (String Global × V) → I → Type 0) (made : J) where
+  abbrev pub Adds : Rows V → Result (Unit {0}) Error → Rows V → Type 0
+  Adds old answer new =
+      (iter : I) × becomes made iter × ExtendsBy next_gives iter old answer new
+
+  abbrev pub IsMadeFrom : Rows V → Type 0
+  IsMadeFrom pairs = (iter : I) × becomes made iter × IsMadeOf next_gives iter pairs
+
+-- whatever is made of it may be asked for items, and ends
+abbrev pub Ends : {J I : Type 0} → (becomes : J → I → Type 0) → (can_next : I → Type 0)
+    → (remaining : I → Count) → J → Type 0
+Ends becomes can_next remaining made = IsFiniteIterable becomes can_next remaining made

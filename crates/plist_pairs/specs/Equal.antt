@@ -1,0 +1,7 @@
+-- When pairs are equal.
+use Rattle.std.specs.Prelude.{ℕ, Bool, List, bytes_eq}
+use Rattle.std.specs.HashMap.{entries_eq}
+
+-- at each key of either list both have a value, and the two are equal by E
+abbrev pub same_pairs : {V : Type 0} → (V → V → Bool) → List (List ℕ × V) → List (List ℕ × V) → Bool
+same_pairs E pairs others = entries_eq bytes_eq (λ p q. E p.1 q.1) pairs others

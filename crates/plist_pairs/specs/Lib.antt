@@ -1,0 +1,10 @@
+pub mod formers
+pub mod Keys
+pub mod Lends
+pub mod Shown
+pub mod EntryLends
+pub mod Entry
+pub mod Bulk
+pub mod Equal
+pub mod Copies
+pub mod inner

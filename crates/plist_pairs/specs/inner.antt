@@ -1,0 +1,3 @@
+-- What bodies and proofs speak of, and no public clause.
+pub mod PairsSame
+pub mod StoreLends

@@ -1,0 +1,28 @@
+-- That sameness of pairs is an equivalence where that of their values is one, and that look-ups
+-- decide it.
+use Rattle.plist_pairs.specs.Bulk.{Rows}
+use Rattle.std.proofs.Common.{ℕ, Bool, List}
+use Rattle.std.specs.Str.{bytes_eq}
+use Rattle.std.specs.Cmp.{IsPartialEquivalence, IsEquivalence, equiv, partial_equiv_from_equiv}
+use Rattle.std.specs.Cmp.Lexicographic.{nat_list_eq_equiv}
+use Rattle.std_collections.specs.HashMap.Eq.{hash_map_eq_symm, hash_map_eq_trans, hash_map_eq_refl}
+use Rattle.std_collections.specs.Layout.HashMap.{HashMap, hash_map}
+use Rattle.plist_pairs.specs.Equal.{same_pairs}
+
+-- the pairs as a map
+abbrev pub as_map : {V : Type 0} → Rows V → HashMap (List ℕ) V (Unit {0})
+as_map ps = hash_map ps tt 0
+
+module _ {V : Type 0} {E : V → V → Bool} where
+  pub same_pairs_partial : IsPartialEquivalence E → IsPartialEquivalence (same_pairs E)
+  same_pairs_partial laws = record {
+    symm = λ ps qs. hash_map_eq_symm bytes_eq E laws.symm (as_map ps) (as_map qs);
+    trans =
+        λ ps qs rs. hash_map_eq_trans bytes_eq E nat_list_eq_equiv laws.trans (as_map ps)
+        (as_map qs) (as_map rs);
+  }
+
+  pub same_pairs_equiv : IsEquivalence E → IsEquivalence (same_pairs E)
+  same_pairs_equiv laws =
+      equiv (same_pairs_partial (partial_equiv_from_equiv laws))
+      (λ ps. hash_map_eq_refl bytes_eq E laws.refl (as_map ps))

@@ -1,0 +1,281 @@
+//! Dictionaries: pairs of a key and a value, in the order in which the keys came.
+
+ghost use Rattle.std.specs.Prelude.{◌≡◌, ◌↔◌, IsTrue, None, Some, [], length, is_some, string_bytes, IfOk, OnOk, IfErr, OnErr};
+ghost use Rattle.std.specs.Str.{bytes_eq};
+ghost use Rattle.std.specs.Option.{option_copied, option_copied_mut};
+ghost use Rattle.std.specs.Map.{lookup, keys_of, values_of};
+ghost use Rattle.plist_pairs.specs.Keys.{IsAbsent, IsSetAt, IsTakenAt};
+
+mod bulk;
+mod copy;
+mod entry;
+mod equal;
+mod index;
+mod indices;
+mod iter;
+mod store;
+
+use crate::dictionary::store::Store;
+pub use copy::TryCopy;
+pub use entry::{Entry, OccupiedEntry, VacantEntry};
+pub use iter::{IntoIter, Iter, Keys, Values};
+use std::alloc::{AllocError, Global};
+use std::fmt;
+use std::marker::Model;
+
+/// Pairs of a key and a value, each key once.
+///
+/// The pairs have an order: a new key goes last, and a key that is there keeps its place. Contracts
+/// see the list of the pairs, a key as its bytes.
+#[derive(Drop)]
+pub struct Pairs<V> {
+    // none before the first insert, so that a value without pairs is small
+    store: Option<Box<Store<V>>>,
+    alloc: Global,
+}
+
+impl<V> Model for Pairs<V> {
+    ghost use Rattle.std.specs.Prelude.{List, ℕ, []};
+    ghost use Rattle.std.specs.Coded.{coded_list, coded_ℕ, coded×};
+    ghost use Rattle.std.specs.Option.{option_map_or};
+
+    ghost Value = { List (List ℕ × V) };
+
+    ghost coded = { coded_list (coded× (coded_list coded_ℕ) V.code) };
+
+    ghost view = { λ a. option_map_or (λ b. b.value) a.store [] };
+}
+
+// A store without pairs.
+fn empty_store<V>(alloc: Global) -> Result<Box<Store<V>>, AllocError>
+    ensures { IfOk result (λ store. store.value ≡ []) }
+{
+    match Box::new(alloc, Store::new(alloc)) {
+        Ok(store) => Ok(store),
+        Err(refused) => {
+            refused.value.destroy_empty();
+            Err(AllocError)
+        }
+    }
+}
+
+// Puts a store where there is none. What stands there can't be dropped, whatever the values' type.
+fn put<V>(dest: &mut Option<Box<Store<V>>>, store: Box<Store<V>>)
+    requires { dest.old ≡ None }
+    ensures { dest.new ≡ Some store }
+{
+    match dest.replace(store) {
+        None => {}
+        Some(before) => Box::into_inner(before).destroy_empty(),
+    }
+}
+
+impl<V> Pairs<V> {
+    ghost use Rattle.std.specs.Borrow.{sem};
+    ghost use Rattle.std.specs.List.{IsDistinct};
+    ghost use Rattle.std.specs.Map.Iter.{ShowsInOrder, deref};
+    ghost use Rattle.plist_pairs.specs.Lends.{LendsAtKey};
+    ghost use Rattle.plist_pairs.specs.Shown.{shown_key, shown_pair};
+
+    /// No pairs. It takes no memory before the first insert.
+    pub fn new(alloc: Global) -> Pairs<V>
+        ensures empty { result ≡ [] }
+    {
+        Pairs { store: None, alloc }
+    }
+
+    /// Removes all pairs, and keeps the memory for others.
+    pub fn clear(&mut self)
+    where
+        V: Drop,
+        ensures empty { self.new ≡ [] }
+    {
+        match &mut self.store {
+            None => {}
+            Some(store) => store.clear(),
+        }
+    }
+
+    /// The value of the key, if it is there.
+    pub fn get(&self, key: &str) -> Option<&V>
+        ensures value { option_copied result ≡ lookup (bytes_eq key.now) self.now }
+    {
+        match &self.store {
+            None => None,
+            Some(store) => store.get(key),
+        }
+    }
+
+    /// Whether the key is there.
+    pub fn contains_key(&self, key: &str) -> bool
+        ensures { result ≡ is_some (lookup (bytes_eq key.now) self.now) }
+    {
+        match &self.store {
+            None => false,
+            Some(store) => store.contains_key(key),
+        }
+    }
+
+    /// The value of the key, to be changed, if it is there.
+    pub fn get_mut(&mut self, key: &str) -> Option<&mut V>
+        ensures value { option_copied_mut result ≡ lookup (bytes_eq key.now) self.old }
+        ensures* writes_back { sem 𝓛 (LendsAtKey V.row self.entry key.now result) }
+    {
+        match &mut self.store {
+            None => None,
+            Some(store) => store.get_mut(key),
+        }
+    }
+
+    /// Sets the key's value, and returns the value that it had.
+    ///
+    /// A key that is there keeps its place, and a new one goes last.
+    ///
+    /// # Errors
+    ///
+    /// If memory runs out, which only a new key can meet, the pairs stay as they are, and the key
+    /// and the value come back.
+    pub fn insert(&mut self, key: String, value: V) -> Result<Option<V>, (String, V)>
+        // The answer.
+        ensures old { IfOk result (λ old. old ≡ lookup (bytes_eq (string_bytes key)) self.old) }
+        ensures pairs { OnOk result (IsSetAt self.old (string_bytes key) value self.new) }
+        // A refusal.
+        ensures absent { OnErr result (IsAbsent (string_bytes key) self.old) }
+        ensures handed_back { IfErr result (λ back. back ≡ (key, value)) }
+        // The state after it.
+        ensures unchanged { OnErr result (self.new ≡ self.old) }
+    {
+        if let Some(store) = &mut self.store {
+            return store.insert(key, value);
+        }
+        match self.push(key, value) {
+            Ok(()) => Ok(None),
+            Err(back) => Err(back),
+        }
+    }
+
+    /// Removes the key, and returns its value, if it is there.
+    ///
+    /// The last pair moves to the place of the one that was removed.
+    pub fn remove(&mut self, key: &str) -> Option<V>
+        ensures value { result ≡ lookup (bytes_eq key.now) self.old }
+        ensures pairs { IsTakenAt self.old key.now self.new }
+    {
+        match &mut self.store {
+            None => None,
+            Some(store) => store.remove(key),
+        }
+    }
+
+    /// The number of pairs.
+    pub fn len(&self) -> usize
+        ensures { result ≡ length self.now }
+    {
+        self.pair_count()
+    }
+
+    /// Whether there are no pairs.
+    pub fn is_empty(&self) -> bool
+        ensures { IsTrue result ↔ (self.now ≡ []) }
+    {
+        self.len() == 0
+    }
+
+    /// The pairs, in their order.
+    #[tactic(auto, using(crate::proofs::Columns::no_keys))]
+    pub fn iter(&self) -> Iter<'_, V>
+        ensures rest { result ≡ self.now }
+        ensures runs { ShowsInOrder (shown_pair {V = V}) }
+        ensures distinct { IsDistinct bytes_eq (keys_of self.now) }
+    {
+        match &self.store {
+            None => Iter::new(&[], &[]),
+            Some(store) => store.iter(),
+        }
+    }
+
+    /// The keys, in the order of the pairs.
+    #[tactic(auto, using(crate::proofs::Columns::no_keys))]
+    pub fn keys(&self) -> Keys<'_>
+        ensures rest { result ≡ keys_of self.now }
+        ensures runs { ShowsInOrder shown_key }
+        ensures distinct { IsDistinct bytes_eq (keys_of self.now) }
+    {
+        match &self.store {
+            None => Keys::new(&[]),
+            Some(store) => store.keys(),
+        }
+    }
+
+    /// The values, in the order of the pairs.
+    pub fn values(&self) -> Values<'_, V>
+        ensures rest { result ≡ values_of self.now }
+        ensures runs { ShowsInOrder (deref {X = V}) }
+    {
+        match &self.store {
+            None => Values::new(&[]),
+            Some(store) => store.values(),
+        }
+    }
+
+    // The store, which takes no memory where there was none.
+    fn into_store(self) -> Store<V>
+        ensures { result ≡ self }
+    {
+        let Pairs { store, alloc } = self;
+        match store {
+            None => Store::new(alloc),
+            Some(store) => Box::into_inner(store),
+        }
+    }
+
+    /// The values, without their keys, in the order of the pairs.
+    pub fn into_items(self) -> Vec<V>
+        ensures { result.items ≡ values_of self }
+    {
+        self.into_store().into_items()
+    }
+}
+
+/// The pairs, in their order.
+impl<'a, V> IntoIterator for &'a Pairs<V> {
+    ghost use Rattle.std.specs.List.{IsDistinct};
+    ghost use Rattle.std.specs.Map.Iter.{ShowsInOrder};
+    ghost use Rattle.plist_pairs.specs.Shown.{shown_pair};
+
+    type Item = (&'a String, &'a V);
+
+    type IntoIter = Iter<'a, V>;
+
+    ghost into_iter_gives = { λ pairs iter. (iter ≡ pairs.now) × ShowsInOrder (shown_pair {V = V})
+        × IsDistinct bytes_eq (keys_of pairs.now) };
+
+    fn into_iter(self) -> Iter<'a, V> {
+        self.iter()
+    }
+}
+
+/// The pairs by value, in their order.
+impl<V: Drop> IntoIterator for Pairs<V> {
+    ghost use Rattle.std.specs.List.{IsDistinct};
+    ghost use Rattle.std.specs.Map.Iter.{ShowsInOrder};
+    ghost use Rattle.plist_pairs.specs.Shown.{shown_owned_pair};
+
+    type Item = (String, V);
+
+    type IntoIter = IntoIter<V>;
+
+    ghost into_iter_gives = { λ pairs iter. (iter ≡ pairs) × ShowsInOrder (shown_owned_pair {V = V})
+        × IsDistinct bytes_eq (keys_of pairs) };
+
+    fn into_iter(self) -> IntoIter<V> {
+        self.into_store().into_pairs()
+    }
+}
+
+/// A map of the pairs, in their order.
+impl<V: fmt::Debug> fmt::Debug for Pairs<V> {
+    fn fmt<W: fmt::Write>(&self, f: &mut fmt::Formatter<W>) -> fmt::Result {
+        f.debug_map().entries(self).finish()
+    }
+}

@@ -1,0 +1,97 @@
+//! Calls that go over all pairs.
+
+ghost use Rattle.std.specs.Prelude.{◌≡◌, IfOk, OnErr, OnOk, IsPermutation, IsSorted};
+ghost use Rattle.std.specs.Cmp.Lexicographic.{slice_cmp};
+ghost use Rattle.std.specs.Ordering.{nat_cmp};
+ghost use Rattle.std.specs.Map.{keys_of};
+ghost use Rattle.plist_base.specs.Outcomes.{OnlyMemory};
+
+use crate::dictionary::Pairs;
+use plist_base::{Error, ErrorKind};
+use std::alloc::Global;
+
+impl<V> Pairs<V> {
+    ghost use Rattle.plist_pairs.specs.Bulk.{Adds, Ends, IsMadeFrom, Retains};
+
+    /// Keeps the pairs for which the closure answers `true`, in their order, and drops the others.
+    /// It asks once for each pair, in their order.
+    pub fn retain<F: Fn(&String, &V) -> bool>(&mut self, keep: F)
+    where
+        V: Drop,
+        requires { F.IsAlwaysCallable keep }
+        ensures kept { Retains F.Fn keep self.old self.new }
+    {
+        let mut kept = 0;
+        for i in 0..self.len() {
+            if keep(self.key_at(i), self.pair_at(i).1) {
+                self.swap(kept, i);
+                kept += 1;
+            }
+        }
+        self.truncate(kept);
+    }
+
+    /// Inserts each of the pairs, in their order.
+    ///
+    /// # Errors
+    ///
+    /// `OutOfMemory`: the pairs before the one that found no memory are inserted; that one and
+    /// those behind it are dropped.
+    pub fn extend<I: IntoIterator<Item = (String, V)>>(&mut self, more: I) -> Result<(), Error>
+    where
+        V: Drop,
+        requires asked { Ends I.into_iter_gives I.IntoIter.can_next I.IntoIter.remaining more }
+        ensures pairs { Adds I.into_iter_gives I.IntoIter.next_gives more self.old result self.new }
+        ensures memory { OnlyMemory result }
+    {
+        let mut rest = more.into_iter();
+        while let Some((key, value)) = rest.next() {
+            match self.insert(key, value) {
+                Ok(_old) => {}
+                Err(_pair) => return Err(ErrorKind::OutOfMemory.without_position()),
+            }
+        }
+        Ok(())
+    }
+
+    /// The dictionary of these pairs, inserted in their order.
+    ///
+    /// # Errors
+    ///
+    /// `OutOfMemory`; all pairs are dropped.
+    pub fn from_pairs<I: IntoIterator<Item = (String, V)>>(
+        alloc: Global,
+        pairs: I,
+    ) -> Result<Pairs<V>, Error>
+    where
+        V: Drop,
+        requires asked { Ends I.into_iter_gives I.IntoIter.can_next I.IntoIter.remaining pairs }
+        ensures pairs { IfOk result (IsMadeFrom I.into_iter_gives I.IntoIter.next_gives pairs) }
+        ensures memory { OnlyMemory result }
+    {
+        let mut made = Pairs::new(alloc);
+        match made.extend(pairs) {
+            Ok(()) => Ok(made),
+            Err(error) => Err(error),
+        }
+    }
+
+    /// Sorts the pairs by the bytes of their keys.
+    ///
+    /// # Errors
+    ///
+    /// `OutOfMemory`: the pairs stay as they are. Memory is taken before the first pair moves.
+    pub fn sort_keys(&mut self) -> Result<(), Error>
+    where
+        V: Drop,
+        ensures sorted { OnOk result (IsSorted (slice_cmp nat_cmp) (keys_of self.new)) }
+        ensures pairs { OnOk result (IsPermutation self.old self.new) }
+        ensures memory { OnlyMemory result }
+        ensures unchanged { OnErr result (self.new ≡ self.old) }
+    {
+        match &mut self.store {
+            None => Ok(()),
+            Some(store) => Ok(store.sort_keys(self.alloc)?),
+        }
+    }
+}

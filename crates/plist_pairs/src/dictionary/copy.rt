@@ -1,0 +1,51 @@
+//! Copies of pairs.
+
+ghost use Rattle.std.specs.Prelude.{◌≡◌, IfOk};
+ghost use Rattle.plist_base.specs.Outcomes.{OnlyMemory};
+ghost use Rattle.plist_pairs.specs.Copies.{with_shown};
+
+use crate::dictionary::Pairs;
+use plist_base::Error;
+use std::alloc::{AllocError, Global};
+
+/// What is copied where memory is found for it. Contracts see what a value shows.
+pub trait TryCopy: Sized {
+    /// What is shown.
+    ghost View: { Type 0 };
+    /// What a value shows.
+    ghost shown: { Self → View };
+
+    /// A copy, which shows the same.
+    fn try_copy(&self, alloc: Global) -> Result<Self, AllocError>
+        ensures { IfOk result (λ copy. shown copy ≡ shown self.now) };
+}
+
+fn copy_pairs<V: TryCopy + Drop>(alloc: Global, pairs: &Pairs<V>) -> Result<Pairs<V>, AllocError>
+    ensures { IfOk result (λ copies. with_shown V.shown copies ≡ with_shown V.shown pairs.now) }
+{
+    let mut copies = Pairs::new(alloc);
+    let count = pairs.pair_count();
+    for i in 0..count {
+        let (key, value) = pairs.pair_at(i);
+        let name = String::from_str(alloc, key)?;
+        match copies.insert(name, value.try_copy(alloc)?) {
+            Ok(_) => {}
+            Err(_) => return Err(AllocError),
+        }
+    }
+    Ok(copies)
+}
+
+impl<V: TryCopy + Drop> Pairs<V> {
+    /// A copy: the same pairs, in the same order, stored where this one is.
+    ///
+    /// # Errors
+    ///
+    /// `OutOfMemory`.
+    pub fn clone(&self) -> Result<Pairs<V>, Error>
+        ensures copy { IfOk result (λ copy. with_shown V.shown copy ≡ with_shown V.shown self.now) }
+        ensures memory { OnlyMemory result }
+    {
+        Ok(copy_pairs(self.alloc, self)?)
+    }
+}

@@ -1,0 +1,117 @@
+//! Pairs by their indices, for the calls that look a key up once.
+
+ghost use Rattle.std.specs.Prelude.{◌≡◌, ◌<◌, ◌++◌, ◌∷◌, Some, MatchOption, slice_get, swap, take, [], length, string_bytes, OnOk, IfErr, OnErr};
+ghost use Rattle.std.specs.Str.{bytes_eq};
+ghost use Rattle.std.specs.Map.{keys_of, values_of};
+ghost use Rattle.plist_pairs.specs.Keys.{IsAbsent};
+ghost use Rattle.plist_pairs.specs.inner.StoreLends.{HasNone, IsIndexOf};
+
+use crate::dictionary::{Pairs, empty_store, put};
+use std::alloc::Global;
+
+impl<V> Pairs<V> {
+    ghost use Rattle.std.specs.Borrow.{sem};
+    ghost use Rattle.std.specs.List.{IsDistinct};
+    ghost use Rattle.plist_pairs.specs.EntryLends.{IsRemovedAt, LendsIndex};
+
+    // The index of a key, if it is there.
+    pub(crate) fn index_of(&self, key: &str) -> Option<usize>
+        ensures { MatchOption result (HasNone key.now self.now) (IsIndexOf key.now self.now) }
+    {
+        match &self.store {
+            None => None,
+            Some(store) => store.index_of(key),
+        }
+    }
+
+    // The key at an index.
+    pub(crate) fn key_at(&self, index: usize) -> &String
+        requires { index < length self.now }
+        ensures { slice_get (keys_of self.now) index ≡ Some (string_bytes result.now) }
+    {
+        self.store.as_ref().unwrap().key_at(index)
+    }
+
+    // The value at an index, to be changed.
+    pub(crate) fn value_at(&mut self, index: usize) -> &mut V
+        requires { index < length self.old }
+        ensures value { slice_get (values_of self.old) index ≡ Some result.now }
+        ensures* writes_back { sem 𝓛 (LendsIndex V.row self.entry index result) }
+    {
+        self.store.as_mut().unwrap().value_at(index)
+    }
+
+    // Adds a pair whose key isn't there.
+    pub(crate) fn push(&mut self, key: String, value: V) -> Result<(), (String, V)>
+        requires { IsAbsent (string_bytes key) self.old }
+        ensures pairs { OnOk result (self.new ≡ self.old ++ (string_bytes key, value) ∷ []) }
+        ensures handed_back { IfErr result (λ back. back ≡ (key, value)) }
+        ensures unchanged { OnErr result (self.new ≡ self.old) }
+    {
+        if let Some(store) = &mut self.store {
+            return store.push(key, value);
+        }
+        let mut store = match empty_store(self.alloc) {
+            Ok(store) => store,
+            Err(_) => return Err((key, value)),
+        };
+        let answer = store.push(key, value);
+        put(&mut self.store, store);
+        answer
+    }
+
+    // Takes the pair at an index; the last one moves there.
+    pub(crate) fn swap_remove_at(&mut self, index: usize) -> V
+        requires { index < length self.old }
+        ensures value { slice_get (values_of self.old) index ≡ Some result }
+        ensures pairs { IsRemovedAt self.old index self.new }
+    {
+        self.store.as_mut().unwrap().swap_remove_at(index)
+    }
+
+    // Swaps two pairs. It takes no memory.
+    pub(crate) fn swap(&mut self, first: usize, second: usize)
+        requires first { first < length self.old }
+        requires second { second < length self.old }
+        ensures { self.new ≡ swap self.old first second }
+    {
+        self.store.as_mut().unwrap().swap(first, second);
+    }
+
+    /// Where the pairs are stored.
+    pub fn allocator(&self) -> Global {
+        self.alloc
+    }
+
+    /// The number of pairs, whose keys are distinct.
+    #[tactic(auto, using(crate::proofs::Columns::no_keys))]
+    pub fn pair_count(&self) -> usize
+        ensures count { result ≡ length self.now }
+        ensures distinct { IsDistinct bytes_eq (keys_of self.now) }
+    {
+        match &self.store {
+            None => 0,
+            Some(store) => store.pair_count(),
+        }
+    }
+
+    /// The pair at an index.
+    pub fn pair_at(&self, index: usize) -> (&str, &V)
+        requires { index < length self.now }
+        ensures { slice_get self.now index ≡ Some (result.0.now, result.1.now) }
+    {
+        self.store.as_ref().unwrap().pair_at(index)
+    }
+
+    // Drops the pairs behind the first ones.
+    pub(crate) fn truncate(&mut self, count: usize)
+    where
+        V: Drop,
+        ensures { self.new ≡ take count self.old }
+    {
+        match &mut self.store {
+            None => {}
+            Some(store) => store.truncate(count),
+        }
+    }
+}

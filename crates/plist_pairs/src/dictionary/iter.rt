@@ -1,0 +1,244 @@
+//! The iterators over a dictionary. Contracts see each as the list of what it has left, keys as
+//! their bytes.
+
+ghost use Rattle.std.specs.Prelude.{◌≡◌, length, Some, IfSome, map, string_bytes};
+ghost use Rattle.std.specs.Iterator.{at_most, UpTo};
+ghost use Rattle.std.specs.Iterator.SizeHint.{IsWithinCount};
+ghost use Rattle.std.specs.List.{zip};
+ghost use Rattle.std.specs.Map.Iter.{TakesFirst, deref};
+ghost use Rattle.plist_pairs.specs.Shown.{shown_key, shown_pair, shown_owned_pair};
+
+use indexmap::{IndexSet, set};
+use std::marker::Model;
+use std::{slice, vec};
+
+/// The pairs, in their order.
+#[derive(Drop)]
+pub struct Iter<'a, V> {
+    keys: slice::Iter<'a, String>,
+    items: slice::Iter<'a, V>,
+}
+
+impl<'a, V> Model for Iter<'a, V> {
+    ghost use Rattle.std.specs.Prelude.{◌≡◌, List, ℕ, length, map, string_bytes};
+    ghost use Rattle.std.specs.Coded.{coded_list, coded_ℕ, coded×};
+    ghost use Rattle.std.specs.List.{zip};
+    ghost use Rattle.std.specs.Slice.Iter.{iter_rest};
+
+    ghost Value = { List (List ℕ × V) };
+
+    ghost coded = { coded_list (coded× (coded_list coded_ℕ) V.code) };
+
+    ghost view = { λ a. zip (map string_bytes (iter_rest a.keys)) (iter_rest a.items) };
+
+    ghost invariant = { λ a. length (iter_rest a.items) ≡ length (iter_rest a.keys) };
+}
+
+impl<'a, V> Iter<'a, V> {
+    pub(crate) fn new(keys: &'a [String], items: &'a [V]) -> Iter<'a, V>
+        requires { length items.now ≡ length keys.now }
+        ensures { result ≡ zip (map string_bytes keys.now) items.now }
+    {
+        Iter {
+            keys: keys.iter(),
+            items: items.iter(),
+        }
+    }
+}
+
+impl<'a, V> Iterator for Iter<'a, V> {
+    type Item = (&'a String, &'a V);
+
+    ghost next_gives = { TakesFirst shown_pair };
+
+    ghost remaining = { λ s. at_most (length s) };
+
+    fn next(&mut self) -> Option<(&'a String, &'a V)> {
+        let key = self.keys.next()?;
+        Some((key, self.items.next().unwrap()))
+    }
+
+    fn size_hint(&self) -> (usize, Option<usize>)
+        ensures lower { IsWithinCount result.0 (at_most (length self.now)) }
+        ensures upper { IfSome result.1 (UpTo (at_most (length self.now))) }
+        ensures exact { result ≡ (length self.now, Some (length self.now)) }
+    {
+        let pairs = self.len();
+        (pairs, Some(pairs))
+    }
+}
+
+#[tactic(auto, using(crate::proofs::Columns::columns))]
+impl<'a, V> ExactSizeIterator for Iter<'a, V> {
+    fn len(&self) -> usize {
+        self.keys.len()
+    }
+}
+
+/// The keys, in the order of the pairs.
+#[derive(Drop)]
+pub struct Keys<'a> {
+    texts: slice::Iter<'a, String>,
+}
+
+impl<'a> Model for Keys<'a> {
+    ghost use Rattle.std.specs.Prelude.{List, ℕ, map, string_bytes};
+    ghost use Rattle.std.specs.Coded.{coded_list, coded_ℕ};
+    ghost use Rattle.std.specs.Slice.Iter.{iter_rest};
+
+    ghost Value = { List (List ℕ) };
+
+    ghost coded = { coded_list (coded_list coded_ℕ) };
+
+    ghost view = { λ a. map string_bytes (iter_rest a.texts) };
+}
+
+impl<'a> Keys<'a> {
+    pub(crate) fn new(keys: &'a [String]) -> Keys<'a>
+        ensures { result ≡ map string_bytes keys.now }
+    {
+        Keys { texts: keys.iter() }
+    }
+}
+
+impl<'a> Iterator for Keys<'a> {
+    type Item = &'a String;
+
+    ghost next_gives = { TakesFirst shown_key };
+
+    ghost remaining = { λ s. at_most (length s) };
+
+    fn next(&mut self) -> Option<&'a String> {
+        self.texts.next()
+    }
+
+    fn size_hint(&self) -> (usize, Option<usize>)
+        ensures lower { IsWithinCount result.0 (at_most (length self.now)) }
+        ensures upper { IfSome result.1 (UpTo (at_most (length self.now))) }
+        ensures exact { result ≡ (length self.now, Some (length self.now)) }
+    {
+        let keys = self.len();
+        (keys, Some(keys))
+    }
+}
+
+impl<'a> ExactSizeIterator for Keys<'a> {
+    fn len(&self) -> usize {
+        self.texts.len()
+    }
+}
+
+/// The values, in the order of the pairs.
+#[derive(Drop)]
+pub struct Values<'a, V> {
+    values: slice::Iter<'a, V>,
+}
+
+impl<'a, V> Model for Values<'a, V> {
+    ghost use Rattle.std.specs.Prelude.{List};
+    ghost use Rattle.std.specs.Slice.Iter.{iter_rest};
+
+    ghost Value = { List V };
+
+    ghost view = { λ a. iter_rest a.values };
+}
+
+impl<'a, V> Values<'a, V> {
+    pub(crate) fn new(values: &'a [V]) -> Values<'a, V>
+        ensures { result ≡ values.now }
+    {
+        Values {
+            values: values.iter(),
+        }
+    }
+}
+
+impl<'a, V> Iterator for Values<'a, V> {
+    type Item = &'a V;
+
+    ghost next_gives = { TakesFirst deref };
+
+    ghost remaining = { λ s. at_most (length s) };
+
+    fn next(&mut self) -> Option<&'a V> {
+        self.values.next()
+    }
+
+    fn size_hint(&self) -> (usize, Option<usize>)
+        ensures lower { IsWithinCount result.0 (at_most (length self.now)) }
+        ensures upper { IfSome result.1 (UpTo (at_most (length self.now))) }
+        ensures exact { result ≡ (length self.now, Some (length self.now)) }
+    {
+        let values = self.len();
+        (values, Some(values))
+    }
+}
+
+impl<'a, V> ExactSizeIterator for Values<'a, V> {
+    fn len(&self) -> usize {
+        self.values.len()
+    }
+}
+
+/// The pairs by value, in their order.
+#[derive(Drop)]
+pub struct IntoIter<V> {
+    keys: set::IntoIter<String>,
+    items: vec::IntoIter<V>,
+}
+
+impl<V> Model for IntoIter<V> {
+    ghost use Rattle.std.specs.Prelude.{◌≡◌, List, ℕ, length, map, string_bytes};
+    ghost use Rattle.std.specs.Coded.{coded_list, coded_ℕ, coded×};
+    ghost use Rattle.std.specs.List.{zip};
+    ghost use Rattle.std.specs.Vec.Iter.{into_iter_items};
+
+    ghost Value = { List (List ℕ × V) };
+
+    ghost coded = { coded_list (coded× (coded_list coded_ℕ) V.code) };
+
+    ghost view = { λ a. zip (map string_bytes a.keys) (into_iter_items a.items) };
+
+    ghost invariant = { λ a. length (into_iter_items a.items) ≡ length a.keys };
+}
+
+impl<V> IntoIter<V> {
+    pub(crate) fn new(keys: IndexSet<String>, items: Vec<V>) -> IntoIter<V>
+        requires { length items.items ≡ length keys.keys }
+        ensures { result ≡ zip (map string_bytes keys.keys) items.items }
+    {
+        IntoIter {
+            keys: keys.into_iter(),
+            items: items.into_iter(),
+        }
+    }
+}
+
+impl<V: Drop> Iterator for IntoIter<V> {
+    type Item = (String, V);
+
+    ghost next_gives = { TakesFirst shown_owned_pair };
+
+    ghost remaining = { λ s. at_most (length s) };
+
+    fn next(&mut self) -> Option<(String, V)> {
+        let key = self.keys.next()?;
+        Some((key, self.items.next().unwrap()))
+    }
+
+    fn size_hint(&self) -> (usize, Option<usize>)
+        ensures lower { IsWithinCount result.0 (at_most (length self.now)) }
+        ensures upper { IfSome result.1 (UpTo (at_most (length self.now))) }
+        ensures exact { result ≡ (length self.now, Some (length self.now)) }
+    {
+        let left = self.len();
+        (left, Some(left))
+    }
+}
+
+#[tactic(auto, using(crate::proofs::Columns::columns))]
+impl<V: Drop> ExactSizeIterator for IntoIter<V> {
+    fn len(&self) -> usize {
+        self.items.len()
+    }
+}
