@@ -1,6 +1,6 @@
 //! The second that a date's text spells.
 
-ghost use Rattle.std.specs.Prelude.{◌≡◌, ◌+◌, ◌+ℤ◌, ◌-ℤ◌, ◌*ℤ◌, ◌<◌, ◌≤◌, length, ℤ, pos, IsTrue, IfSome};
+ghost use Rattle.std.specs.Prelude.{◌≡◌, ◌==◌, ◌+◌, ◌+ℤ◌, ◌-ℤ◌, ◌*ℤ◌, ◌<◌, ◌≤◌, cond, length, neg_ℤ, ℤ, pos, IsTrue, Some, None, IfSome};
 ghost use Rattle.jiff_core.specs.Calendar.{IsEpochDay, IsWithin};
 ghost use Rattle.plist_dates.specs.DateText as spec;
 
@@ -99,6 +99,20 @@ fn has_marks(text: &[u8]) -> bool
         && text[16] == b':'
 }
 
+// So many seconds, with this sign.
+fn signed(sign: u8, seconds: u32) -> Option<i32>
+    requires { seconds < 86400 }
+    ensures is { result ≡ cond (sign == 43) (Some (pos seconds))
+        (cond (sign == 45) (Some (neg_ℤ (pos seconds))) None) }
+    ensures bound { IfSome result (λ n. IsWithin 86399 n) }
+{
+    match sign {
+        b'+' => Some(seconds as i32),
+        b'-' => Some(-(seconds as i32)),
+        _ => None,
+    }
+}
+
 // How many seconds hours and minutes behind this sign are before UTC.
 fn offset(sign: u8, hours: u8, minutes: u8) -> Option<i32>
     ensures is { result ≡ spec.offset sign hours minutes }
@@ -107,12 +121,7 @@ fn offset(sign: u8, hours: u8, minutes: u8) -> Option<i32>
     if hours >= 24 || minutes >= 60 {
         return None;
     }
-    let seconds = i32::from(hours) * 3600 + i32::from(minutes) * 60;
-    match sign {
-        b'+' => Some(seconds),
-        b'-' => Some(-seconds),
-        _ => None,
-    }
+    signed(sign, u32::from(hours) * 3600 + u32::from(minutes) * 60)
 }
 
 // `Z`, `z`, or a sign with HH:MM: how many seconds the zone is before UTC.
