@@ -55,10 +55,10 @@ fn day_in(text: &[u8]) -> Option<i32>
     ensures is { result ≡ spec.day_in text.now }
     ensures bound { IfSome result (λ n. IsEpochDay n) }
 {
-    let year = four_at(text, 0)?;
-    let month = two_at(text, 5)?;
-    let day = two_at(text, 8)?;
-    day_number(year, month, day)
+    match (four_at(text, 0), two_at(text, 5), two_at(text, 8)) {
+        (Some(year), Some(month), Some(day)) => day_number(year, month, day),
+        _ => None,
+    }
 }
 
 // The second of a day.
@@ -80,10 +80,10 @@ fn time_in(text: &[u8]) -> Option<u32>
     ensures is { result ≡ spec.time_in text.now }
     ensures bound { IfSome result (λ n. n < 86400) }
 {
-    let hour = two_at(text, 11)?;
-    let minute = two_at(text, 14)?;
-    let second = two_at(text, 17)?;
-    second_of_day(hour, minute, second)
+    match (two_at(text, 11), two_at(text, 14), two_at(text, 17)) {
+        (Some(hour), Some(minute), Some(second)) => second_of_day(hour, minute, second),
+        _ => None,
+    }
 }
 
 // Whether the marks stand where a date has them.
