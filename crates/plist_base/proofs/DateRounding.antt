@@ -1,5 +1,5 @@
 -- The second of a value is the greatest that isn't above it, and the one that a date's text spells.
-use Rattle.std.proofs.Common.{◌≡◌, ℕ, zero, suc, ◌+◌, ◌*◌, ◌<◌, ◌≤◌, Bool, true, false, cond, eqb, ℤ, pos, negsuc, neg_ℤ, ◌<ℤ◌, ◌≤ℤ◌, Option, None, Some, List, slice_index, replicate, subst, refl, ap, sym, ◌∙◌, arith, ◌⊎◌, inl, inr, ◌+ℤ◌, ◌-ℤ◌}
+use Rattle.std.proofs.Common.{◌≡◌, ℕ, zero, suc, ◌+◌, ◌*◌, ◌<◌, ◌≤◌, Bool, true, false, cond, eqb, ℤ, pos, negsuc, neg_ℤ, ◌<ℤ◌, ◌≤ℤ◌, Option, None, Some, List, slice_index, replicate, subst, refl, ap, sym, ◌∙◌, arith, ◌⊎◌, inl, inr, ◌+ℤ◌, ◌-ℤ◌, to_z, of_z, w64}
 use Rattle.std.specs.Prelude.{◌*ℤ◌, is_some, not}
 use Rattle.std.proofs.Math.Nat.{div-add-mod, mod-lt, one-le-pow, mul-le-mul_right}
 use Rattle.std.proofs.lemmas.Option.{cond_some}
@@ -180,6 +180,11 @@ zeros_small (suc count) (suc place) = zeros_small count _
 
 back_to_unix : (second : ℤ) → ((second -ℤ plist_epoch) +ℤ plist_epoch) ≡ second
 back_to_unix second = omega (arith, ints)
+
+-- a date's second, counted from the Unix epoch in 64 bits and back again
+pub unix_and_back : (second : ℤ) → IsSecondOfDate second
+    → (to_z w64 (of_z w64 (to_z w64 (of_z w64 second) +ℤ plist_epoch)) -ℤ plist_epoch) ≡ second
+unix_and_back second ranged = omega (arith, ints)
 
 pub unix_year : (date : List ℕ) (second : ℤ) → second_of_bytes date ≡ Some (second -ℤ plist_epoch)
     → HasTextYear date → HasFourDigitYear second

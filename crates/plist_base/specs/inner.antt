@@ -3,3 +3,4 @@ pub mod Wants
 pub mod DateBits
 pub mod Paths
 pub mod Hashing
+pub mod Names
