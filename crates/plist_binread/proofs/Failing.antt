@@ -1,8 +1,12 @@
 -- Where the faults of a reader are.
-use Rattle.std.proofs.Common.{ℕ, ◌≤◌, Option, None, Some, arith}
-use Rattle.plist_base.specs.Faults.{FaultKind, Fault, UnexpectedEof, Io}
-use Rattle.plist_base.specs.Sources.{IsPlaceWithin}
-use Rattle.plist_binread.specs.Failures.{MatchReader, FailsWithin}
+use Rattle.std.proofs.Common.{◌≡◌, ℕ, ◌+◌, ◌≤◌, Option, None, Some, Result, Ok, Err, arith, ap, refl}
+use Rattle.std.specs.Prelude.{IfErr, ⊤}
+use Rattle.plist_base.specs.declared.error.Error.{Error}
+use Rattle.plist_base.specs.Faults.{FaultKind, Fault, MatchFault, UnexpectedEof, Io, OutOfMemory, error_kind_of, fault_at, fault_nowhere, fault_of, kind_of}
+use Rattle.plist_base.specs.Outcomes.{OnlyMemory}
+use Rattle.plist_base.specs.Sources.{AnswersIo, CountsIo, FailsReading, IsPlaceWithin, IsReadFault}
+use Rattle.plist_base.proofs.Refusals.{MatchFault-at, MatchFault-weaker}
+use Rattle.plist_binread.specs.Failures.{MatchReader, FailsWithin, ErrWithin}
 
 place_wider : (offset : Option ℕ) (s e s' e' : ℕ) → s' ≤ s → e ≤ e' → IsPlaceWithin s e offset
     → IsPlaceWithin s' e' offset
@@ -24,3 +28,87 @@ from_within fault p q s e h low high =
       placed = MatchReader-read fault.kind _ _ (place_wider fault.offset p q s e low high)
           h.placed;
     }
+
+-- the fault of a read is one of a reader's
+MatchReader-from_read : (kind : FaultKind) {A : Type 0} (B C : Type 0) → IsReadFault kind → A
+    → MatchReader kind A B C
+MatchReader-from_read UnexpectedEof B C h a = a
+MatchReader-from_read Io B C h a = a
+MatchReader-from_read kind B C h a = absurd h
+
+-- a read within the range
+pub from_reading : (fault : Fault) (p n s e : ℕ) → FailsReading p n fault → s ≤ p → p + n ≤ e
+    → FailsWithin s e fault
+from_reading fault p n s e h low high =
+    record {
+      placed = MatchReader-from_read fault.kind _ _ h.kind
+          (place_wider fault.offset p (p + n) s e low high h.at);
+    }
+
+-- a fault of the bytes, which has a place
+pub from_fault : (fault : Fault) (kind : FaultKind) (place s e : ℕ) → fault ≡ fault_at kind place
+    → MatchReader kind ⊥ ⊥ ⊤ → FailsWithin s e fault
+from_fault fault kind place s e is other =
+    rw is (record { placed = MatchReader-other kind _ _ other })
+  where
+    MatchReader-other : (kind : FaultKind) (A B : Type 0) → MatchReader kind ⊥ ⊥ ⊤
+        → MatchReader kind A B ⊤
+    MatchReader-other UnexpectedEof A B h = absurd h
+    MatchReader-other Io A B h = absurd h
+    MatchReader-other OutOfMemory A B h = absurd h
+    MatchReader-other kind A B h = h
+
+-- want of memory
+pub from_memory : (fault : Fault) (s e : ℕ) → fault ≡ fault_nowhere OutOfMemory
+    → FailsWithin s e fault
+from_memory fault s e is = rw is (record { placed = refl })
+
+-- no device failed
+pub counts_inside : (error : Error) (old new : ℕ)
+    → MatchFault (kind_of (error_kind_of error)) ⊥ ⊤ ⊤ → new ≡ old → CountsIo error old new
+counts_inside error old new inside same =
+    MatchFault-weaker (kind_of (error_kind_of error)) (λ none. absurd none) (λ _. same) (λ _. same)
+    inside
+
+pub counts_memory : (error : Error) (old new : ℕ) → fault_of error ≡ fault_nowhere OutOfMemory
+    → new ≡ old → CountsIo error old new
+counts_memory error old new is same =
+    counts_inside error old new
+    (MatchFault-at _ OutOfMemory _ _ _ (ap (λ (f : Fault). f.kind) is) tt) same
+
+-- nor was memory wanted
+pub counts_fault : (error : Error) (old new : ℕ)
+    → MatchFault (kind_of (error_kind_of error)) ⊥ ⊥ ⊤ → new ≡ old → CountsIo error old new
+counts_fault error old new other same =
+    MatchFault-weaker (kind_of (error_kind_of error)) (λ none. absurd none) (λ none. absurd none)
+    (λ _. same) other
+
+pub counts_at : (error : Error) (kind : FaultKind) (place old new : ℕ)
+    → fault_of error ≡ fault_at kind place → MatchFault kind ⊥ ⊥ ⊤ → new ≡ old
+    → CountsIo error old new
+counts_at error kind place old new is other same =
+    counts_fault error old new
+    (MatchFault-at _ kind _ _ _ (ap (λ (f : Fault). f.kind) is) other) same
+
+-- ---- the same of an answer
+
+pub err_within : {A : Type 0} (answer : Result A Error) (p q s e : ℕ) → ErrWithin p q answer
+    → s ≤ p → q ≤ e → ErrWithin s e answer
+err_within (Ok value) p q s e within low high = tt
+err_within (Err error) p q s e within low high = from_within _ p q s e within low high
+
+pub err_memory : {A : Type 0} (answer : Result A Error) (s e : ℕ) → OnlyMemory answer
+    → ErrWithin s e answer
+err_memory (Ok value) s e memory = tt
+err_memory (Err error) s e memory = from_memory _ s e memory
+
+pub answers_inside : {A : Type 0} (answer : Result A Error) (old new : ℕ)
+    → IfErr answer (λ error. MatchFault (kind_of (error_kind_of error)) ⊥ ⊤ ⊤) → new ≡ old
+    → AnswersIo answer old new
+answers_inside (Ok value) old new inside same = same
+answers_inside (Err error) old new inside same = counts_inside error old new inside same
+
+pub answers_memory : {A : Type 0} (answer : Result A Error) (old new : ℕ) → OnlyMemory answer
+    → new ≡ old → AnswersIo answer old new
+answers_memory (Ok value) old new memory same = same
+answers_memory (Err error) old new memory same = counts_memory error old new memory same

@@ -13,7 +13,7 @@ use Rattle.plist_binread.specs.declared.frames.Frame.{Frame}
 use Rattle.plist_binread.specs.declared.lent.Lent.{Lent}
 use Rattle.plist_binread.specs.declared.lent.Lent.TheVariants.{Scalar as ScalarLent, Collection}
 use Rattle.plist_binread.specs.Lent.{IsLentAs, PaysAnswer}
-use Rattle.plist_binread.specs.Stepping.{WantsRoom}
+use Rattle.plist_binread.specs.Stepping.{ExplainsEntering, WantsRoom}
 use Rattle.plist_binread.specs.declared.head.Bounds.{Bounds}
 use Rattle.plist_format.specs.Object.{Object, object_in}
 use Rattle.plist_binread.specs.Packed.{is_marked, unmarked, scalar_of, cached, single, IsTextOrData, MayWantMemory, Retagged, Remarked}
@@ -246,6 +246,16 @@ known_refused known bounds tags contents fs n at number place e depth o k h free
     (as_many bytes bounds tags contents fs k) n fs at number (entry_of bytes bounds number) depth o
     h (entry_there bytes bounds tags contents fs k number h) (sym (o.marks number h) ∙ free) e
     (rw (place_is bytes bounds tags contents fs k number place h is) at (refused k.within)))
+
+-- an object that can't be entered
+pub known_unfound : (known : Option (List ℕ)) (bounds : Bounds) (tags contents : List ℕ)
+    (fs : List Frame) (n at number : ℕ) (e : Error) → n ≡ length fs → IsOpen tags fs
+    → IfSome known (λ bytes. IsKnown bytes bounds tags contents fs)
+    → ExplainsEntering tags contents at number e
+    → IfSome known (λ bytes. Explains (until_fault (unfolding_of (entries_of bytes bounds)
+    (length tags - n) (path_of fs) at number ++ owed_by (entries_of bytes bounds) fs)) e)
+known_unfound known bounds tags contents fs n at number e depth o k explains =
+    IfSome_then known k (λ bytes k. rw depth (explains bytes bounds fs o k))
 
 -- what is decoded is lent
 pub lent_as : (object : Object) (told : PlainEvent) (lent : Lent) → IsDecodedAs object told lent

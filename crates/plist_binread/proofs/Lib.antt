@@ -16,6 +16,7 @@ pub mod OverKnown
 pub mod Packing
 pub mod Stacked
 pub mod Staying
+pub mod Stepped
 pub mod Steps
 pub mod Taken
 pub mod Turned

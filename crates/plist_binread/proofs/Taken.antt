@@ -81,33 +81,6 @@ pub nothing_ended : (known : Option (List ℕ)) (bounds : Bounds) (fs : List Fra
     (still_owed bytes Ended bounds fs))
 nothing_ended known bounds fs = IfSome-all known (λ bytes. (refl, refl))
 
-pub first_fault : (known : Option (List ℕ)) (bounds after_bounds : Bounds) (fs gs : List Frame)
-    (e : Error) → IfSome known (λ bytes. RefusesFirst bytes e)
-    → IfSome known (λ bytes. GivesItem (is_fresh Fresh) (still_owed bytes Fresh bounds fs)
-    (Some (Err e)) (still_owed bytes Ended after_bounds gs))
-first_fault known bounds after_bounds fs gs e refused =
-    IfSome_then known refused (λ bytes refused. (refl, refused))
-
-module _ (known : Option (List ℕ)) (bounds : Bounds) (fs gs : List Frame) (told : PlainEvent) where
-  -- what a step of the walk pays
-  abbrev pub StepPays : Option (Result (Unit {0}) Error) → Type 0
-  StepPays item =
-      IfSome known (λ bytes. PaysNextTold (owed_by (entries_of bytes bounds) (reverse fs)) item told
-      (owed_by (entries_of bytes bounds) (reverse gs)))
-
-  -- what the reader tells then, in this state
-  abbrev pub StepTells : Option (Result (Unit {0}) Error) → State → Type 0
-  StepTells item state =
-      IfSome known (λ bytes. TellsItem (is_fresh Walking) (still_owed bytes Walking bounds fs) item
-      told (still_owed bytes state bounds gs))
-
-  pub step_fault : (e : Error) → StepPays (Some (Err e)) → StepTells (Some (Err e)) Ended
-  step_fault e pays = IfSome_then known pays (λ bytes pays. (refl, pays))
-
-  pub step_nothing : StepPays None → StepTells None Ended
-  step_nothing pays =
-      IfSome_then known pays (λ bytes nothing. (ap until_fault nothing.0, refl))
-
 -- no end comes first, or after the last item
 pub closes-fresh : (state : State) (fs : List Frame) → state ≡ Fresh → ends_next state fs ≡ true → ⊥
 closes-fresh state fs is e =

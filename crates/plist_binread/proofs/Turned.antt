@@ -6,12 +6,20 @@ use Rattle.std.proofs.Math.Seq.{drop-cons}
 use mathlib.Core.List.{reverse-reverse}
 use Rattle.plist_base.specs.Events.{PlainEvent, EndCollection, Item}
 use Rattle.plist_binread.specs.declared.frames.Frame.{Frame}
+use Rattle.plist_binread.specs.declared.walk.Turn.TheVariants.{Done, Closed, Child}
 use Rattle.plist_binread.specs.Packed.{Remarked}
 use Rattle.plist_format.specs.Unfolding.{Entry, unfolding_of, until_fault}
 use Rattle.plist_binread.specs.declared.head.Bounds.{Bounds}
 use Rattle.plist_binread.specs.Debt.{path_of, IsOpen, IsKnown, children_at, place_at, entries_of, owed_by, IsOwed, next_number, walk_steps, walk_weight}
 use Rattle.plist_binread.specs.Turning.{closes, given_back}
 use Rattle.std.proofs.lemmas.List.{drop_all, get_or_default}
+
+-- nothing was closed
+pub done-not_closed : Done ≡ Closed → ⊥
+done-not_closed e = absurd (cc)
+
+pub child-not_closed : (object index : ℕ) → Child object index ≡ Closed → ⊥
+child-not_closed object index e = absurd (cc)
 
 -- frames that are the same from the innermost one on
 pub same_frames : (xs ys : List Frame) → reverse xs ≡ reverse ys → xs ≡ ys

@@ -1,5 +1,5 @@
 -- What lies in bytes that are lent, and where the references of a collection stand.
-use Rattle.std.specs.Prelude.{◌≡◌, ℕ, ◌+◌, ◌-◌, ◌*◌, ◌/◌, ◌%◌, ◌<◌, ◌≤◌, List, [], ◌∷◌, ◌++◌, Option, Some, Result, Ok, MatchOption, MatchResult, length, take, drop, get_or, cond, nat_eq}
+use Rattle.std.specs.Prelude.{◌≡◌, ℕ, ◌+◌, ◌-◌, ◌*◌, ◌/◌, ◌%◌, ◌<◌, ◌≤◌, Bool, true, false, List, [], ◌∷◌, ◌++◌, Option, Some, Result, Ok, MatchOption, MatchResult, length, take, drop, get_or, cond, nat_eq}
 use Rattle.plist_base.specs.declared.error.Error.{Error}
 use Rattle.plist_base.specs.Faults.{ObjectOffsetTooLarge, NullObjectUnimplemented, FillObjectUnimplemented, UnknownObjectType, IntegerOutOfRange, OverflowOrNanDate}
 use Rattle.plist_base.specs.Events.{PlainEvent, EndCollection, Item}
@@ -29,6 +29,11 @@ IsLentAs object told lent.OutOfRange = object ≡ Faulty IntegerOutOfRange
 IsLentAs object told lent.NoDate = object ≡ Faulty OverflowOrNanDate
 IsLentAs object told lent.Scalar = single_in object ≡ Some told
 IsLentAs object told (lent.Collection count) = IsCollection object told count
+
+-- nothing was lent
+abbrev pub is_nothing : Lent → Bool
+is_nothing lent.Nothing = true
+is_nothing _ = false
 
 -- how many small objects were decoded
 abbrev pub small_lent : Lent → (told : PlainEvent) → ℕ

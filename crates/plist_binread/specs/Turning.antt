@@ -60,6 +60,12 @@ is_walking Fresh = false
 is_walking Walking = true
 is_walking Ended = false
 
+-- where a reader stands that has given this item
+abbrev pub state_after : {A E : Type 0} → Option (Result A E) → State
+state_after None = Ended
+state_after (Some (Ok value)) = Walking
+state_after (Some (Err error)) = Ended
+
 -- has the innermost collection no child left?
 abbrev pub closes : List Frame → Bool
 closes [] = false

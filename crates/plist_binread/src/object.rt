@@ -1,11 +1,15 @@
 //! One object, read from its bytes.
 
-ghost use Rattle.std.specs.Prelude.{ℕ, ◌≡◌, ◌<◌};
+ghost use Rattle.std.specs.Prelude.{ℕ, ◌≡◌, ◌<◌, false};
+ghost use Rattle.plist_base.specs.Events.{PlainEvent};
 ghost use Rattle.plist_base.specs.Faults.{fault_of};
 ghost use Rattle.plist_base.specs.Sources.{AnswersIo, CountsIo};
-ghost use Rattle.plist_binread.specs.Decoding.{IsUnknownAt};
+ghost use Rattle.plist_format.specs.Object.{Object};
+ghost use Rattle.plist_binread.specs.declared.told.Last.{Last};
+ghost use Rattle.plist_binread.specs.Decoding.{DecodesTold, IsUnknownAt};
 ghost use Rattle.plist_binread.specs.Failures.{ErrWithin, FailsWithin};
-ghost use Rattle.plist_binread.specs.Nearby.{CountsFound, TellsObject};
+ghost use Rattle.plist_binread.specs.Lent.{IsLentAs, is_nothing};
+ghost use Rattle.plist_binread.specs.Nearby.{CountsFound, TellsObject, small_found, small_told};
 
 use crate::counter::DecodeCounter;
 use crate::head::Bounds;
@@ -23,6 +27,31 @@ fn unknown(marker: u64, place: u64) -> Error
 {
     let marker = u8::try_from(marker).unwrap_or(u8::MAX);
     ErrorKind::UnknownObjectType(marker).with_byte_offset(place)
+}
+
+// What was lent of the object at a place, or its fault.
+fn lent_or_fault(lent: Lent, place: u64) -> Result<Lent, Error>
+    requires { is_nothing lent ≡ false }
+    // The answer.
+    ensures decoded { (object : Object) (told : PlainEvent) → IsLentAs object told lent
+        → DecodesTold object place told result }
+    // A refusal.
+    ensures fault { (end : ℕ) → ErrWithin place end result }
+    // The state after it.
+    ensures counted { (last : Last) → small_found result last ≡ small_told lent last }
+    ensures failures { (count : ℕ) → AnswersIo result count count }
+{
+    match lent {
+        Lent::Scalar => Ok(Lent::Scalar),
+        Lent::Collection(count) => Ok(Lent::Collection(count)),
+        Lent::TooLarge => Err(ErrorKind::ObjectOffsetTooLarge.with_byte_offset(place)),
+        Lent::Null => Err(ErrorKind::NullObjectUnimplemented.with_byte_offset(place)),
+        Lent::Fill => Err(ErrorKind::FillObjectUnimplemented.with_byte_offset(place)),
+        Lent::Unknown(marker) => Err(unknown(marker, place)),
+        Lent::OutOfRange => Err(ErrorKind::IntegerOutOfRange.with_byte_offset(place)),
+        Lent::NoDate => Err(ErrorKind::OverflowOrNanDate.with_byte_offset(place)),
+        Lent::Nothing => unreachable!(),
+    }
 }
 
 // As many bytes of an object as are read of it at once: a marker, a length of nine bytes, and the
@@ -56,18 +85,11 @@ pub fn decode<S: Source, C: DecodeCounter>(
     let seen = &mut front[..room.min(FRONT as u64) as usize];
     read_exact_at(source, place, seen)?;
     match decode_lent(seen, room, bounds.reference_width, counter, last) {
-        Lent::Scalar => Ok(Lent::Scalar),
-        Lent::Collection(count) => Ok(Lent::Collection(count)),
-        Lent::TooLarge => Err(ErrorKind::ObjectOffsetTooLarge.with_byte_offset(place)),
-        Lent::Null => Err(ErrorKind::NullObjectUnimplemented.with_byte_offset(place)),
-        Lent::Fill => Err(ErrorKind::FillObjectUnimplemented.with_byte_offset(place)),
-        Lent::Unknown(marker) => Err(unknown(marker, place)),
-        Lent::OutOfRange => Err(ErrorKind::IntegerOutOfRange.with_byte_offset(place)),
-        Lent::NoDate => Err(ErrorKind::OverflowOrNanDate.with_byte_offset(place)),
         Lent::Nothing => {
             let event = read_large(alloc, source, bounds, place, seen[0])?;
             last.hold(event);
             Ok(Lent::Scalar)
         }
+        lent => lent_or_fault(lent, place),
     }
 }

@@ -8,7 +8,9 @@ use Rattle.plist_binread.proofs.Steps.{steps_positive}
 use Rattle.plist_binread.proofs.KnownTurns.{Turned, known_turned, known_after, known_done, known_closed, known_child_failed}
 use Rattle.plist_binread.proofs.Entering.{GoesOn, known_child_goes, known_goes}
 use Rattle.plist_binread.proofs.Known.{first, second}
+use Rattle.plist_binread.proofs.Failing.{from_within}
 use Rattle.plist_binread.proofs.Taken.{kept_fault}
+use Rattle.plist_binread.proofs.Turned.{done-not_closed, child-not_closed}
 use Rattle.plist_binread.proofs.advance.advance.Goals as goal
 use Rattle.plist_binread.proofs.advance.advance.Goals.{In-Done, In-Closed, In-Child, After-enter, After-go_near}
 
@@ -67,7 +69,15 @@ returns-in-Closed-clause-pays g c =
     rw c.hold.ensures (known_closed _ _ _ _ _ _
     (closed g (goal.at.returns-in-Closed-clause-pays g c).In-Closed))
 
+pub returns-in-Done-clause-closes : goal.returns-in-Done-clause-closes
+returns-in-Done-clause-closes g c = λ e.
+    absurd (done-not_closed (c.in-Done.ensures.closes e))
+
 -- ---- a child that is at hand
+
+pub returns-then-go_near-clause-closes : goal.returns-then-go_near-clause-closes
+returns-then-go_near-clause-closes g c = λ e.
+    absurd (child-not_closed _ _ (c.in-Child.ensures.closes e))
 
 pub go_near-requires-clause-known : goal.go_near-requires-clause-known
 go_near-requires-clause-known g c =
@@ -118,6 +128,19 @@ returns-in-Err-clause-kept g c =
     kept_fault _
     (λ bytes. next_number _
     (reverse c.args.walk.now.frames)) _ _ _
+
+pub returns-in-Err-clause-closes : goal.returns-in-Err-clause-closes
+returns-in-Err-clause-closes g c = λ e.
+    absurd (child-not_closed _ _ (c.in-Child.ensures.closes e))
+
+pub returns-in-Err-clause-fault : goal.returns-in-Err-clause-fault
+returns-in-Err-clause-fault g c =
+    from_within _ c.index-at.result.now c.args.bounds.now.trailer 0 c.args.bounds.now.trailer
+    c.in-Err.ensures.fault (omega arith) (omega arith)
+
+pub returns-in-Ok-clause-closes : goal.returns-in-Ok-clause-closes
+returns-in-Ok-clause-closes g c = λ e.
+    absurd (child-not_closed _ _ (c.in-Child.ensures.closes e))
 
 pub returns-in-Err-clause-falls : goal.returns-in-Err-clause-falls
 returns-in-Err-clause-falls g c =

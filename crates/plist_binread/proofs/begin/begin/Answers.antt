@@ -1,9 +1,10 @@
-use Rattle.std.proofs.Common.{arith, ◌∙◌, sym, ap, refl, length}
+use Rattle.std.proofs.Common.{◌^◌, arith, ◌∙◌, sym, ap, refl, length}
 use Rattle.std.proofs.Math.ListN.{length-replicate}
-use Rattle.std.proofs.lemmas.Result.{err_from_is_err_and}
+use Rattle.std.proofs.lemmas.Result.{err_from_is_err_and, IfErr-weaker}
 use Rattle.plist_binread.specs.declared.head.Bounds.{Bounds}
 use Rattle.plist_binread.proofs.Opened.{IsOpen-none, cached_count-none, cached_count-empty}
 use Rattle.plist_binread.proofs.Begun.{known_unread, known_wanted, known_opens, known_begun}
+use Rattle.plist_binread.proofs.Failing.{counts_memory, from_memory, from_within}
 use Rattle.plist_binread.proofs.begin.begin.Goals as goal
 
 pub returns-in_err-head-clause-pays : goal.returns-in_err-head-clause-pays
@@ -56,3 +57,22 @@ returns-clause-pays g c =
     (ap length c.in_ok-none.ensures.tags ∙ length-replicate c.len.result 0 ∙ c.len.ensures
     ∙ c.in_ok-head.head.places.ok.0) refl refl c.in_ok-head.ensures.value
     c.enter.ensures.pays
+
+pub returns-in_err-none-clause-fault : goal.returns-in_err-none-clause-fault
+returns-in_err-none-clause-fault g c =
+    let p = err_from_is_err_and c.from_residual-in_err-none.result
+    c.from_residual-in_err-none.ensures.1 in
+    rw (p.1, p.2) (from_memory _ 0 (2 ^ 64) c.in_err-none.ensures.memory)
+
+pub returns-in_err-none-clause-failures : goal.returns-in_err-none-clause-failures
+returns-in_err-none-clause-failures g c =
+    let p = err_from_is_err_and c.from_residual-in_err-none.result
+    c.from_residual-in_err-none.ensures.1 in
+    rw (p.1, p.2) (counts_memory c.in_err-none.field-0.0 _ _ c.in_err-none.ensures.memory
+    c.in_ok-head.ensures.failures)
+
+pub returns-clause-fault : goal.returns-clause-fault
+returns-clause-fault g c =
+    IfErr-weaker c.enter.result _ _
+    (λ e within. from_within _ 0 c.in_ok-head.head.trailer 0 (2 ^ 64) within (omega arith)
+    (omega arith)) c.enter.ensures.fault

@@ -6,6 +6,7 @@ use Rattle.plist_format.specs.Object.{text}
 use Rattle.plist_binread.proofs.Contents.{grows_text}
 use Rattle.plist_binread.proofs.Markers.{known_counted, known_layout}
 use Rattle.plist_format.proofs.Layouts.{layout-data, layout-text, layout-wide_text}
+use Rattle.plist_binread.proofs.Failing.{answers_inside, answers_memory, err_memory, err_within}
 use Rattle.plist_binread.proofs.text.read_large.Goals as goal
 
 pub returns-then-marker-ge96-clause-decoded : goal.returns-then-marker-ge96-clause-decoded
@@ -40,3 +41,21 @@ returns-clause-decoded g c =
     (layout-data _ c.args.marker (omega arith) (omega arith))
     (c.in_ok-bytes.ensures.content data_of_content (λ _. tt))
     (c.large.ensures.decoded (data_of_content _) c.args.place tt refl)
+
+pub returns-then-marker-ge80-clause-fault : goal.returns-then-marker-ge80-clause-fault
+returns-then-marker-ge80-clause-fault g c =
+    err_within c.text_event.result c.args.place c.args.place c.args.place c.args.bounds.now.trailer
+    c.text_event.ensures.fault (omega arith) (omega arith)
+
+pub returns-then-marker-ge80-clause-failures : goal.returns-then-marker-ge80-clause-failures
+returns-then-marker-ge80-clause-failures g c =
+    answers_inside c.text_event.result _ _ c.text_event.ensures.kinds
+    c.in_ok-bytes.ensures.failures
+
+pub returns-clause-fault : goal.returns-clause-fault
+returns-clause-fault g c =
+    err_memory c.large.result c.args.place c.args.bounds.now.trailer c.large.ensures.memory
+
+pub returns-clause-failures : goal.returns-clause-failures
+returns-clause-failures g c =
+    answers_memory c.large.result _ _ c.large.ensures.memory c.in_ok-bytes.ensures.failures

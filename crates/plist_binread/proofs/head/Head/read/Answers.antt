@@ -1,10 +1,11 @@
-use Rattle.std.proofs.Common.{◌≡◌, ◌-◌, Result, Ok, Err, IfSome, ◌∙◌}
+use Rattle.std.proofs.Common.{◌≡◌, ◌+◌, ◌-◌, ◌^◌, arith, Result, Ok, Err, IfSome, ◌∙◌}
 use Rattle.std.specs.Prelude.{⊤}
 use Rattle.plist_base.specs.Faults.{Fault, MatchFault, error_kind_of, fault_of, kind_of}
 use Rattle.plist_format.specs.Container.{Head, head_of}
 use Rattle.plist_binread.specs.inner.Heads.{head_seen}
-use Rattle.std.proofs.lemmas.Result.{IfOk-weaker, IfErr-weaker}
-use Rattle.plist_binread.proofs.Heads.{refused_short, refused_magic, refused_cut, HeadSaid, head_whole}
+use Rattle.std.proofs.lemmas.Result.{IfOk-weaker, IfErr-weaker, err_from_is_err_and}
+use Rattle.plist_binread.proofs.Heads.{refused_short, refused_io, refused_magic, refused_cut, HeadSaid, head_whole}
+use Rattle.plist_binread.proofs.Failing.{err_within, from_reading}
 use Rattle.plist_binread.proofs.head.Head.read.Goals as goal
 use Rattle.plist_binread.proofs.head.Head.read.Goals.{After-read_before}
 
@@ -13,6 +14,20 @@ pub returns-then-size-lt-MAGIC_SIZE-clause-refused
 returns-then-size-lt-MAGIC_SIZE-clause-refused g c =
     refused_short _ _ _ c.with_byte_offset.ensures.fault c.in_ok-size.ensures.length
     c.if-size-lt-MAGIC_SIZE.true
+
+pub returns-in_err-has_magic-clause-refused : goal.returns-in_err-has_magic-clause-refused
+returns-in_err-has_magic-clause-refused g c =
+    let p = err_from_is_err_and c.from_residual-in_err-has_magic.result
+    c.from_residual-in_err-has_magic.ensures.1 in
+    rw (p.1, p.2) (refused_io _ _ _ _ c.in_ok-size.ensures.unchanged c.in_ok-size.ensures.length
+    c.if-size-lt-MAGIC_SIZE.false c.in_err-has_magic.ensures.refused)
+
+pub returns-in_err-has_magic-clause-fault : goal.returns-in_err-has_magic-clause-fault
+returns-in_err-has_magic-clause-fault g c =
+    let p = err_from_is_err_and c.from_residual-in_err-has_magic.result
+    c.from_residual-in_err-has_magic.ensures.1 in
+    rw (p.1, p.2) (from_reading _ 0 8 0 (2 ^ 64) c.in_err-has_magic.ensures.fault (omega arith)
+    (omega arith))
 
 pub returns-then-not-branch-clause-refused : goal.returns-then-not-branch-clause-refused
 returns-then-not-branch-clause-refused g c =
@@ -38,6 +53,11 @@ said g c P =
     (c.in_ok-has_magic.ensures.unchanged ∙ c.in_ok-size.ensures.unchanged)
     c.in_ok-size.ensures.length c.in_ok-has_magic.ensures.value c.if-not-branch.false
     c.if-size-lt-TRAILER_SIZE.false
+
+pub returns-clause-fault : goal.returns-clause-fault
+returns-clause-fault g c =
+    err_within c.read_before.result 0 (c.in_ok-size.size - 32 + 32) 0 (2 ^ 64)
+    c.read_before.ensures.fault (omega arith) (omega arith)
 
 pub returns-clause-value : goal.returns-clause-value
 returns-clause-value g c =

@@ -1,0 +1,235 @@
+-- One step of a reader that knows no limits.
+use Rattle.std.proofs.Common.{◌≡◌, ℕ, ◌^◌, ◌<◌, ◌≤◌, true, false, List, ◌∷◌, length, reverse, Option, None, Some, Result, Ok, Err, IfSome, refl, ap, sym, arith}
+use Rattle.std.specs.Prelude.{IfOk, MatchOption, MatchResult, OnErr, OnOk, ⊤}
+use Rattle.plist_base.specs.declared.error.Error.{Error}
+use Rattle.plist_base.specs.declared.source.Source.{Ghosts}
+use Rattle.plist_base.specs.Events.{PlainEvent}
+use Rattle.plist_base.specs.Sources.{AnswersIo, ItemCountsIo}
+use Rattle.plist_format.specs.Container.{head_of}
+use Rattle.plist_format.specs.Unfolding.{items_of_file, until_fault}
+use Rattle.plist_binread.specs.declared.counter.DecodeCounter.{Ghosts as CounterGhosts}
+use Rattle.plist_binread.specs.declared.frames.Frame.{Frame}
+use Rattle.plist_binread.specs.declared.head.Bounds.{Bounds}
+use Rattle.plist_binread.specs.declared.reader.BinaryReader.{BinaryReader}
+use Rattle.plist_binread.specs.declared.reader.State.{State}
+use Rattle.plist_binread.specs.declared.reader.State.TheVariants.{Fresh, Walking, Ended}
+use Rattle.plist_binread.specs.Beginning.{GivesFirst, IsBounded, IsKnownWalk, KeepsRoot, RefusesFirst}
+use Rattle.plist_binread.specs.BinaryReader.{told_objects}
+use Rattle.plist_binread.specs.Debt.{AreBoundsOf, IsKnown, entries_of, next_number, owed_by, steps_left, still_owed, walk_steps, walk_weight}
+use Rattle.plist_binread.specs.Failures.{ErrWithin, ItemGivenWithin, ItemWithin}
+use Rattle.plist_binread.specs.Lent.{IsToldEnd, PaysNextTold}
+use Rattle.plist_binread.specs.Stepping.{KeepsItem, LightensNext}
+use Rattle.plist_binread.specs.Telling.{TellsItem, Walks}
+use Rattle.plist_binread.specs.Told.{event_in}
+use Rattle.plist_binread.specs.Turning.{IsKeptTold, closes, is_fresh, is_walking, number_owed, root_with, state_after}
+use Rattle.plist_binread.specs.Walking.{IsWalkOf, cached_in, open_in, owed_in, walk_objects, weight_in}
+use Rattle.plist_binread.proofs.Failing.{from_within}
+use Rattle.plist_binread.proofs.Limiting.{given-within}
+use Rattle.plist_binread.proofs.Steps.{fresh_falls}
+use Rattle.plist_binread.proofs.Taken.{closes-fresh, holds_head, left_behind}
+use Rattle.std.proofs.lemmas.Option.{IfSome_then}
+
+-- ---- the state
+
+-- what a step gives
+abbrev Step : Type 0
+Step = Option (Result (Unit {0}) Error)
+
+-- it is never fresh again
+pub never_fresh : (item : Step) (after : State) → after ≡ state_after item → is_fresh after ≡ false
+never_fresh None after is = ap is_fresh is
+never_fresh (Some (Ok value)) after is = ap is_fresh is
+never_fresh (Some (Err error)) after is = ap is_fresh is
+
+pub not_fresh : (item : Step) (after : State) → after ≡ state_after item → is_fresh after ≡ true → ⊥
+not_fresh item after is fresh = absurd (cc (never_fresh item after is))
+
+-- it walks only where an event was told
+pub walks_on_ok : (answer : Result (Unit {0}) Error) (after : State) (P : Type 0)
+    → after ≡ state_after (Some answer) → OnOk answer P → is_walking after ≡ true → P
+walks_on_ok (Ok value) after P is known walking = known
+walks_on_ok (Err error) after P is known walking = let no = ap is_walking is in absurd (cc)
+
+walking-not_ended : (state : State) → state ≡ Walking → state ≡ Ended → ⊥
+walking-not_ended state is ended = absurd (cc)
+
+fresh-not_ended : (state : State) → state ≡ Fresh → state ≡ Ended → ⊥
+fresh-not_ended state is ended = absurd (cc)
+
+ends_after : (item : Step) (after : State) → after ≡ state_after item
+    → MatchOption item (after ≡ Ended) (λ answer. OnErr answer (after ≡ Ended))
+ends_after None after is = is
+ends_after (Some (Ok value)) after is = tt
+ends_after (Some (Err error)) after is = is
+
+-- ---- where a fault is
+
+given_within : (item : Step) (trailer : ℕ) → trailer ≤ 2 ^ 64 → ItemWithin 0 trailer item
+    → ItemGivenWithin 0 (2 ^ 64) false item
+given_within None trailer small within = tt
+given_within (Some (Ok value)) trailer small within = tt
+given_within (Some (Err error)) trailer small within =
+    given-within 0 (2 ^ 64) false _ (from_within _ 0 trailer 0 (2 ^ 64) within (omega arith) small)
+
+-- ---- what is to come, and what is left to do
+
+module _ (before after : State) (fs gs : List Frame) (item : Step)
+    (is : after ≡ state_after item) where
+  item_tells : (known : Option (List ℕ)) (bounds after_bounds : Bounds) (told : PlainEvent)
+      → before ≡ Walking → IfSome known
+      (λ bytes. PaysNextTold (owed_by (entries_of bytes bounds) (reverse fs)) item told
+      (owed_by (entries_of bytes after_bounds) (reverse gs)))
+      → IfSome known (λ bytes. TellsItem (is_fresh before) (still_owed bytes before bounds fs) item
+      told (still_owed bytes after after_bounds gs))
+  item_tells known bounds after_bounds told walking pays = rw (walking, is)
+      (by_item item known bounds after_bounds told pays)
+    where
+      by_item : (item : Step) (known : Option (List ℕ)) (bounds after_bounds : Bounds)
+          (told : PlainEvent) → IfSome known
+          (λ bytes. PaysNextTold (owed_by (entries_of bytes bounds) (reverse fs)) item told
+          (owed_by (entries_of bytes after_bounds) (reverse gs)))
+          → IfSome known (λ bytes. TellsItem false (still_owed bytes Walking bounds fs) item
+          told (still_owed bytes (state_after item) after_bounds gs))
+      by_item None known bounds after_bounds told pays = IfSome_then known pays
+          (λ bytes nothing. (ap until_fault nothing.0, refl))
+      by_item (Some (Ok value)) known bounds after_bounds told pays = pays
+      by_item (Some (Err error)) known bounds after_bounds told pays = IfSome_then known pays
+          (λ bytes pays. (refl, pays))
+
+  item_falls : (n m : ℕ) → before ≡ Walking → m ≡ n
+      → IfSome item (λ answer. (0 < walk_weight n (reverse fs))
+      × OnOk answer (walk_weight n (reverse gs) < walk_weight n (reverse fs)))
+      → IfSome item (λ _. steps_left after m gs < steps_left before n fs)
+  item_falls n m walking size falls = rw (walking, is, size) (by_item item falls)
+    where
+      by_item : (item : Step) → IfSome item (λ answer. (0 < walk_weight n (reverse fs))
+          × OnOk answer (walk_weight n (reverse gs) < walk_weight n (reverse fs)))
+          → IfSome item (λ _. steps_left (state_after item) n gs < steps_left Walking n fs)
+      by_item None falls = tt
+      by_item (Some (Ok value)) falls = falls.1
+      by_item (Some (Err error)) falls = falls.0
+
+module _ (before after : State) (fs gs : List Frame) (answer : Result (Unit {0}) Error)
+    (is : after ≡ state_after (Some answer)) where
+  first_tells : (known : Option (List ℕ)) (bounds after_bounds : Bounds) (told : PlainEvent)
+      → before ≡ Fresh → IfSome known (λ bytes. MatchResult answer
+      (λ _. items_of_file bytes
+      ≡ Ok told ∷ until_fault (owed_by (entries_of bytes after_bounds) (reverse gs)))
+      (RefusesFirst bytes))
+      → IfSome known (λ bytes. TellsItem (is_fresh before) (still_owed bytes before bounds fs)
+      (Some answer) told (still_owed bytes after after_bounds gs))
+  first_tells known bounds after_bounds told fresh gives = rw (fresh, is)
+      (by_answer answer known bounds after_bounds told gives)
+    where
+      by_answer : (answer : Result (Unit {0}) Error) (known : Option (List ℕ))
+          (bounds after_bounds : Bounds) (told : PlainEvent)
+          → IfSome known (λ bytes. MatchResult answer (λ _. items_of_file bytes
+          ≡ Ok told ∷ until_fault (owed_by (entries_of bytes after_bounds) (reverse gs)))
+          (RefusesFirst bytes))
+          → IfSome known (λ bytes. TellsItem true (still_owed bytes Fresh bounds fs)
+          (Some answer) told (still_owed bytes (state_after (Some answer)) after_bounds gs))
+      by_answer (Ok value) known bounds after_bounds told gives = gives
+      by_answer (Err error) known bounds after_bounds told gives = IfSome_then known gives
+          (λ bytes refused. (refl, refused))
+
+  first_falls : (n m : ℕ) → before ≡ Fresh → n ≤ 2 ^ 64
+      → OnOk answer (walk_weight n (reverse gs) < walk_steps n)
+      → steps_left after n gs < steps_left before m fs
+  first_falls n m fresh small falls = rw (fresh, is) (by_answer answer falls)
+    where
+      by_answer : (answer : Result (Unit {0}) Error)
+          → OnOk answer (walk_weight n (reverse gs) < walk_steps n)
+          → steps_left (state_after (Some answer)) n gs < steps_left Fresh m fs
+      by_answer (Ok value) falls = fresh_falls Fresh n m fs gs refl falls small
+      by_answer (Err error) falls = omega arith
+
+-- ---- what is cached
+
+module _ (state : State) (tags : List ℕ) (told : PlainEvent) (known : Option (List ℕ))
+    (bounds : Bounds) (fs : List Frame) where
+  first_kept : (answer : Result (Unit {0}) Error) → state ≡ Fresh → IfSome known
+      (λ bytes. IsKeptTold (root_with (head_of bytes)) (Some answer) told tags)
+      → IfSome known (λ bytes. IsKeptTold (number_owed bytes state bounds fs) (Some answer) told tags)
+  first_kept answer is kept = rw is kept
+
+  item_kept : (item : Step) → state ≡ Walking → IfSome known
+      (λ bytes. IsKeptTold (next_number (entries_of bytes bounds) (reverse fs)) item told tags)
+      → IfSome known (λ bytes. IsKeptTold (number_owed bytes state bounds fs) item told tags)
+  item_kept item is kept = rw is kept
+
+-- what is known of a file that is walked is known with its head
+holds_walking : (known : Option (List ℕ)) (bounds : Bounds) (tags contents : List ℕ)
+    (fs : List Frame) (walking : Type 0)
+    → (walking → IfSome known (λ bytes. IsKnown bytes bounds tags contents fs))
+    → IfSome known (λ bytes. walking → AreBoundsOf (head_of bytes) bounds
+    × (length tags ≡ told_objects bytes))
+holds_walking None bounds tags contents fs walking k = tt
+holds_walking (Some bytes) bounds tags contents fs walking k = λ w.
+    let held = k w in (held.head, sym held.size)
+
+-- ---- all of it
+
+module _ {R C : Type 0} {g : Ghosts R} {h : CounterGhosts C} (known : R → Option (List ℕ))
+    (failed : R → ℕ) (counts : Type 0) (count : C → ℕ) (old new : BinaryReader R C g h)
+    (same : known new.source ≡ known old.source)
+    (counted : counts → count new.counter ≡ cached_in new.walk) where
+  pub first_walks : (answer : Result (Unit {0}) Error) → old.state ≡ Fresh
+      → new.state ≡ state_after (Some answer)
+      → IfSome (known old.source) (GivesFirst answer new.bounds new.last new.walk)
+      → ErrWithin 0 (2 ^ 64) answer → IfSome (known old.source) (IsBounded new.walk)
+      → OnOk answer (IsKnownWalk (known old.source) new.bounds new.walk)
+      → IfSome (known old.source) (KeepsRoot answer new.last new.walk)
+      → OnOk answer (weight_in new.walk < walk_steps (walk_objects new.walk))
+      → AnswersIo answer (failed old.source) (failed new.source)
+      → Walks known failed counts count old (Some answer) new
+  first_walks answer fresh after pays within bounded held kept falls failures = record {
+    unchanged = same;
+    items = first_tells old.state new.state old.walk.frames new.walk.frames answer after
+        (known old.source) old.bounds new.bounds (event_in new.last) fresh pays;
+    failures = failures;
+    ended = λ e. absurd (fresh-not_ended old.state fresh e);
+    ends = ends_after (Some answer) new.state after;
+    begun = never_fresh (Some answer) new.state after;
+    faults = given_within (Some answer) (2 ^ 64) (omega arith) within;
+    closes = λ e. absurd (closes-fresh old.state old.walk.frames fresh e);
+    head = holds_walking (known old.source) new.bounds new.walk.tags.items new.walk.contents.items
+        (reverse new.walk.frames) (is_walking new.state ≡ true)
+        (walks_on_ok answer new.state _ after held);
+    cached = first_kept old.state new.walk.tags.items (event_in new.last) (known old.source)
+        old.bounds old.walk.frames answer fresh kept;
+    leaves = left_behind known counts count old new new.walk.path new.walk.same counted bounded;
+    falls = first_falls old.state new.state old.walk.frames new.walk.frames answer after
+        (walk_objects new.walk) (walk_objects old.walk) fresh
+        (omega (arith, new.walk.tags.ok, new.walk.tags.small)) falls;
+  }
+
+  pub item_walks : (item : Step) → old.state ≡ Walking → new.state ≡ state_after item
+      → IfSome (known old.source) (λ bytes. PaysNextTold (owed_in bytes old.bounds old.walk) item
+      (event_in new.last) (owed_in bytes new.bounds new.walk))
+      → (closes (open_in old.walk) ≡ true → IsToldEnd item (event_in new.last))
+      → ItemWithin 0 old.bounds.trailer item → walk_objects new.walk ≡ walk_objects old.walk
+      → IfSome (known old.source) (IsBounded old.walk)
+      → IsKnownWalk (known old.source) new.bounds new.walk
+      → KeepsItem (known old.source) old.bounds old.walk item new.last new.walk
+      → LightensNext old.walk item new.walk
+      → ItemCountsIo item (failed old.source) (failed new.source)
+      → Walks known failed counts count old item new
+  item_walks item walking after pays ends within size bounded held kept falls failures = record {
+    unchanged = same;
+    items = item_tells old.state new.state old.walk.frames new.walk.frames item after
+        (known old.source) old.bounds new.bounds (event_in new.last) walking pays;
+    failures = failures;
+    ended = λ e. absurd (walking-not_ended old.state walking e);
+    ends = ends_after item new.state after;
+    begun = never_fresh item new.state after;
+    faults = given_within item old.bounds.trailer (omega (arith, old.bounds.small)) within;
+    closes = λ e. ends (rw walking at e);
+    head = holds_head (known old.source) new.bounds new.walk.tags.items new.walk.contents.items
+        (reverse new.walk.frames) (is_walking new.state ≡ true) held;
+    cached = item_kept old.state new.walk.tags.items (event_in new.last) (known old.source)
+        old.bounds old.walk.frames item walking kept;
+    leaves = left_behind known counts count old new new.walk.path new.walk.same counted
+        (rw size bounded);
+    falls = item_falls old.state new.state old.walk.frames new.walk.frames item after
+        (walk_objects old.walk) (walk_objects new.walk) walking size falls;
+  }
