@@ -1,9 +1,11 @@
-use Rattle.std.proofs.Common.{◌≡◌, ℕ, ◌-◌, ◌%◌, ◌<◌, arith, sym, refl, List, get_or, length, IfSome}
+use Rattle.std.proofs.Common.{◌≡◌, ℕ, ◌+◌, ◌-◌, ◌%◌, ◌<◌, ◌∙◌, ap, arith, sym, refl, List, get_or, length, IfSome}
 use Rattle.std.proofs.lemmas.List.{length-reverse, get_or_read_under}
+use Rattle.plist_binread.specs.Nearby.{small_told}
 use Rattle.plist_binread.specs.Told.{event_in}
 use Rattle.plist_binread.proofs.Entering.{LentAt, known_recalled, known_lent, known_gains, known_small}
 use Rattle.plist_binread.proofs.Extents.{leb_short}
 use Rattle.plist_binread.proofs.Known.{first, second}
+use Rattle.plist_binread.proofs.OverKnown.{IfSome-all}
 use Rattle.plist_binread.proofs.Steps.{steps_positive}
 use Rattle.plist_binread.proofs.near.enter_near.Goals as goal
 use Rattle.plist_binread.proofs.near.enter_near.Goals.{After-index-content, After-open_lent}
@@ -33,6 +35,13 @@ returns-then-held-ne0-clause-pays g c = λ yes.
     (sym (length-reverse c.args.walk.now.frames)) c.args.walk.now.path c.requires.known k.0
     (rw k.1 at free) (rw k.1 at some) (rw (k.1, k.2) at (c.recall.ensures.told yes))
 
+pub returns-then-held-ne0-clause-kept : goal.returns-then-held-ne0-clause-kept
+returns-then-held-ne0-clause-kept g c = λ yes.
+    let k = held g (goal.at.returns-then-held-ne0-clause-kept g c).After-index-content in
+    let some : 0 < c.index-held.result.now % 128 = omega
+    (arith, c.if-held-ge128.false, c.if-held-ne0.true) in
+    IfSome-all (g.S.Source.known c.args.source.now) (λ bytes small. rw k.1 at some)
+
 pub returns-then-held-ne0-clause-falls : goal.returns-then-held-ne0-clause-falls
 returns-then-held-ne0-clause-falls g c =
     λ _. omega (
@@ -40,6 +49,12 @@ returns-then-held-ne0-clause-falls g c =
       steps_positive
           (length c.args.walk.now.tags.items - length c.args.walk.now.frames),
     )
+
+pub open_lent-requires-clause-new : goal.open_lent-requires-clause-new
+open_lent-requires-clause-new g c =
+    let k = held g (goal.at.open_lent-requires-clause-new g c).After-index-content in
+    let none : c.index-held.result.now ≡ 0 = omega arith in
+    sym k.1 ∙ none
 
 -- the object is what is lent
 there : (g : _) (c : After-open_lent g) → Held c.args.walk.now.tags.items
@@ -71,3 +86,10 @@ returns-clause-kept g c = λ yes.
     let t = goal.at.returns-clause-kept g c in
     known_small _ c.args.bounds.now c.args.number _ _ _
     (there g t.After-open_lent (held g t.After-index-content)) (c.open_lent.ensures.kept yes)
+
+pub returns-clause-counted : goal.returns-clause-counted
+returns-clause-counted g c = λ counts.
+    c.decode_lent-lent.ensures.counted counts
+    ∙ ap (λ n. n + small_told c.decode_lent-lent.result c.decode_lent-lent.new.last)
+    (c.requires.counted counts)
+    ∙ sym c.open_lent.ensures.counted
