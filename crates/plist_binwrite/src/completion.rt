@@ -141,10 +141,7 @@ pub fn complete_by_class<W: Write>(
 {
     let mut room = make_room(alloc)?;
     let ready = make_ready(alloc, events, classes)?;
-    match send_file(writer, &mut room, events, &ready) {
-        Ok(()) => Ok(()),
-        Err(error) => Err(error),
-    }
+    send_file(writer, &mut room, events, &ready)
 }
 
 /// Plans the file of the events of a whole property list, sends it and flushes: one object for each
@@ -158,8 +155,5 @@ pub fn complete<W: Write>(alloc: Global, events: &Held<'_>, writer: &mut W) -> R
     ensures { Sends W.contents (plain_events events.now) (answer_of result) writer.old writer.new }
 {
     let classes = classes_of(alloc, events)?;
-    match complete_by_class(alloc, events, classes, writer) {
-        Ok(()) => Ok(()),
-        Err(error) => Err(error),
-    }
+    complete_by_class(alloc, events, classes, writer)
 }

@@ -1,7 +1,6 @@
 //! The order of a file's objects.
 
 ghost use Rattle.std.specs.Prelude.{IfOk};
-ghost use Rattle.plist_base.specs.Outcomes.{OnlyMemory};
 ghost use Rattle.plist_binwrite.specs.Held.{plain_events};
 ghost use Rattle.plist_binwrite.specs.inner.Laying.{IsOrder, HasAll};
 ghost use Rattle.plist_binwrite.specs.inner.Planning.{IsPlanned, count_of};
@@ -10,7 +9,6 @@ use crate::held::Held;
 use crate::kinds::Kind;
 use crate::numbers::Numbers;
 use crate::plan::Plan;
-use plist_base::Error;
 use std::alloc::{AllocError, Global};
 
 /// The numbers of a file's objects in its order, and a list with room for the place of each.
@@ -82,14 +80,10 @@ impl Layout {
 
 /// Puts the objects into order: that of the events, where the keys of a dictionary come before its
 /// values.
-///
-/// # Errors
-/// `OutOfMemory`, without an offset.
-pub fn order_objects(alloc: Global, events: &Held<'_>, plan: &Plan) -> Result<Layout, Error>
+pub fn order_objects(alloc: Global, events: &Held<'_>, plan: &Plan) -> Result<Layout, AllocError>
     requires planned { IsPlanned (plain_events events.now) plan.now }
     ensures order { IfOk result (λ r. IsOrder (count_of plan.now) r.order r.places) }
     ensures all { IfOk result (λ r. HasAll (count_of plan.now) r.order) }
-    ensures memory { OnlyMemory result }
 {
     let count = plan.numbering.firsts.len();
     let places = Numbers::zeros(alloc, count)?;

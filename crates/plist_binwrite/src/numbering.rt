@@ -1,20 +1,18 @@
 //! The numbers of objects: one for each class.
 
 ghost use Rattle.std.specs.Prelude.{◌≡◌, length, IfOk};
-ghost use Rattle.plist_base.specs.Outcomes.{OnlyMemory};
 ghost use Rattle.plist_binwrite.specs.Held.{plain_events, AllBelow};
 ghost use Rattle.plist_binwrite.specs.inner.Numbering.{IsNumberingOf, NumbersRoot, NumbersTree};
 
 use crate::held::Held;
 use crate::kinds::{Kind, half_of};
 use crate::numbers::Numbers;
-use plist_base::Error;
 use std::alloc::{AllocError, Global};
 
 // Held events, and the class of each.
 #[derive(Clone, Copy)]
-struct Classed<'p> {
-    events: &'p Held<'p>,
+struct Classed<'p, 'e> {
+    events: &'p Held<'e>,
     classes: &'p Numbers,
 }
 
@@ -27,12 +25,27 @@ struct Numbered {
 }
 
 impl Numbered {
-    ghost use Rattle.std.specs.Prelude.{◌<◌, length, OnOk};
+    ghost use Rattle.std.specs.Prelude.{◌≡◌, ◌^◌, ◌-◌, ◌<◌, [], length, replicate, IfOk, OnOk};
     ghost use Rattle.plist_binwrite.specs.Held.{plain_events};
-    ghost use Rattle.plist_binwrite.specs.inner.Numbering.{BeginsAt, GoesSoFar, HaveIdsOf, IsPlanOf, KeepsNumbers, NumbersChildren, NumbersHalf, NumbersItem, NumbersItems};
+    ghost use Rattle.plist_binwrite.specs.inner.Numbering.{BeginsAt, GoesSoFar, HaveIdsOf, IsPlanOf, KeepsNumbers, NumbersAll, NumbersChildren, NumbersHalf, NumbersItem, NumbersItems, RootIsFirst};
+
+    // No numbers so far.
+    fn new(alloc: Global, events: &Held<'_>, count: usize) -> Result<Numbered, AllocError>
+        ensures ids { IfOk result (λ r. r.ids ≡ replicate count (2 ^ 64 - 1)) }
+        ensures numbers { IfOk result (λ r. r.numbers ≡ replicate (length (plain_events events.now)) (2 ^ 64 - 1)) }
+        ensures firsts { IfOk result (λ r. r.firsts ≡ []) }
+    {
+        let ids = Numbers::marks(alloc, count)?;
+        let numbers = Numbers::marks(alloc, events.len())?;
+        Ok(Numbered {
+            ids,
+            numbers,
+            firsts: Numbers::new(alloc),
+        })
+    }
 
     // Numbers the object of the event here, unless it has a number.
-    fn number_one(&mut self, given: &Classed<'_>, index: usize) -> Result<(), AllocError>
+    fn number_one(&mut self, given: &Classed<'_, '_>, index: usize) -> Result<(), AllocError>
         requires so_far { GoesSoFar given.now self.old }
         // The answer.
         ensures numbered { OnOk result (NumbersItem given.now index self.new) }
@@ -62,7 +75,7 @@ impl Numbered {
     }
 
     // Numbers the items of an array from here on.
-    fn number_items(&mut self, given: &Classed<'_>, from: usize) -> Result<(), AllocError>
+    fn number_items(&mut self, given: &Classed<'_, '_>, from: usize) -> Result<(), AllocError>
         requires so_far { GoesSoFar given.now self.old }
         ensures so_far { OnOk result (GoesSoFar given.now self.new) }
         ensures keeps { OnOk result (KeepsNumbers self.old self.new) }
@@ -79,7 +92,7 @@ impl Numbered {
     // Numbers the values of a dictionary, or its keys, from here on.
     fn number_halves(
         &mut self,
-        given: &Classed<'_>,
+        given: &Classed<'_, '_>,
         from: usize,
         values: bool,
     ) -> Result<(), AllocError>
@@ -98,7 +111,7 @@ impl Numbered {
     }
 
     // Numbers the keys of the collection that begins here, and then its values.
-    fn number_children(&mut self, given: &Classed<'_>, index: usize) -> Result<(), AllocError>
+    fn number_children(&mut self, given: &Classed<'_, '_>, index: usize) -> Result<(), AllocError>
         requires so_far { GoesSoFar given.now self.old }
         requires index { index < length (plain_events given.now.events.now) }
         ensures so_far { OnOk result (GoesSoFar given.now self.new) }
@@ -115,6 +128,21 @@ impl Numbered {
             }
             _ => Ok(()),
         }
+    }
+
+    // Numbers all: a collection, when its turn comes, its keys and then its values.
+    fn number_all(&mut self, given: &Classed<'_, '_>) -> Result<(), AllocError>
+        requires so_far { GoesSoFar given.now self.old }
+        requires none { self.old.firsts ≡ [] }
+        ensures plan { OnOk result (IsPlanOf given.now self.new) }
+        ensures all { OnOk result (NumbersAll given.now self.new) }
+        ensures root { OnOk result (RootIsFirst given.now self.new) }
+    {
+        self.number_one(given, 0)?;
+        for index in 0..given.events.len() {
+            self.number_children(given, index)?;
+        }
+        Ok(())
     }
 }
 
@@ -133,30 +161,15 @@ pub fn number_by_class(
     events: &Held<'_>,
     classes: &Numbers,
     count: usize,
-) -> Result<Numbering, Error>
+) -> Result<Numbering, AllocError>
     requires long { length classes.now ≡ length (plain_events events.now) }
     requires below { AllBelow count classes.now }
     ensures plan { IfOk result (IsNumberingOf events.now classes.now) }
     ensures all { IfOk result (NumbersTree events.now) }
     ensures root { IfOk result (NumbersRoot events.now) }
-    ensures memory { OnlyMemory result }
 {
-    let numbers = Numbers::marks(alloc, events.len())?;
-    let firsts = Numbers::new(alloc);
-    if events.len() == 0 {
-        return Ok(Numbering { numbers, firsts });
-    }
-    let ids = Numbers::marks(alloc, count)?;
-    let given = Classed { events, classes };
-    let mut found = Numbered {
-        ids,
-        numbers,
-        firsts,
-    };
-    found.number_one(&given, 0)?;
-    for index in 0..events.len() {
-        found.number_children(&given, index)?;
-    }
+    let mut found = Numbered::new(alloc, events, count)?;
+    found.number_all(&Classed { events, classes })?;
     let Numbered {
         numbers,
         firsts,

@@ -17,7 +17,7 @@ use std::io::Write;
 fn put_items<W: Write>(
     out: &mut W,
     room: &mut Vec<u8>,
-    file: &Planned<'_>,
+    file: &Planned<'_, '_>,
     from: usize,
 ) -> Result<(), Error>
     requires file { CanPut file.now }
@@ -39,7 +39,7 @@ fn put_items<W: Write>(
 fn put_halves<W: Write>(
     out: &mut W,
     room: &mut Vec<u8>,
-    file: &Planned<'_>,
+    file: &Planned<'_, '_>,
     from: usize,
     values: bool,
 ) -> Result<(), Error>
@@ -65,7 +65,7 @@ fn put_halves<W: Write>(
 fn put_array<W: Write>(
     out: &mut W,
     room: &mut Vec<u8>,
-    file: &Planned<'_>,
+    file: &Planned<'_, '_>,
     index: usize,
 ) -> Result<(), Error>
     requires file { CanPut file.now }
@@ -82,7 +82,7 @@ fn put_array<W: Write>(
 fn put_dictionary<W: Write>(
     out: &mut W,
     room: &mut Vec<u8>,
-    file: &Planned<'_>,
+    file: &Planned<'_, '_>,
     index: usize,
 ) -> Result<(), Error>
     requires file { CanPut file.now }
@@ -104,7 +104,7 @@ fn put_dictionary<W: Write>(
 fn put_object<W: Write>(
     out: &mut W,
     room: &mut Vec<u8>,
-    file: &Planned<'_>,
+    file: &Planned<'_, '_>,
     index: usize,
 ) -> Result<(), Error>
     requires file { CanPut file.now }
@@ -125,7 +125,7 @@ fn put_object<W: Write>(
 pub fn put_objects<W: Write>(
     out: &mut W,
     room: &mut Vec<u8>,
-    file: &Planned<'_>,
+    file: &Planned<'_, '_>,
     order: &Numbers,
 ) -> Result<(), Error>
     requires file { CanPut file.now }

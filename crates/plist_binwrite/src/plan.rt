@@ -38,8 +38,8 @@ impl Plan {
 
 /// A planned file: its events, what is planned of them, and how wide a reference is.
 #[derive(Clone, Copy)]
-pub struct Planned<'p> {
-    pub events: &'p Held<'p>,
+pub struct Planned<'p, 'e> {
+    pub events: &'p Held<'e>,
     pub plan: &'p Plan,
     pub width: usize,
 }

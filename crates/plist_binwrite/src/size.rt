@@ -32,7 +32,7 @@ pub fn count_items(events: &Held<'_>, from: usize) -> usize
 }
 
 // The size of the object of the tree that begins here.
-fn size_of_object(file: &Planned<'_>, index: usize) -> Option<u64>
+fn size_of_object(file: &Planned<'_, '_>, index: usize) -> Option<u64>
     requires planned { IsPlanned (events_in file.now) file.now.plan.now }
     requires index { index < length (events_in file.now) }
     requires fits { count_of file.now.plan.now ≤ 256 ^ file.now.width }
@@ -71,7 +71,7 @@ fn place_or_none(told: Option<u64>) -> usize
 /// # Errors
 /// `OutOfMemory`, without an offset.
 pub fn place_objects(
-    file: &Planned<'_>,
+    file: &Planned<'_, '_>,
     order: &Numbers,
     places: &mut Numbers,
 ) -> Result<Option<u64>, Error>

@@ -63,12 +63,21 @@ module _ (given : Classed) where
       → AllByRecursion (IsNumbered found.numbers found.firsts) (keys_in t index)
       × AllByRecursion (IsNumbered found.numbers found.firsts) (values_in t index)
 
--- where the events are a tree's, each item has a number
+  -- where the events are a tree's, each item has a number
+  abbrev pub NumbersAll : Numbered → Type 0
+  NumbersAll found = (t : Tree) → plain_events given.events.now ≡ shape t
+      → AllNumbered (plain_events given.events.now) found.numbers (length found.firsts)
+
+  -- where they are, the root has the first number
+  abbrev pub RootIsFirst : Numbered → Type 0
+  RootIsFirst found = (t : Tree) → plain_events given.events.now ≡ shape t
+      → num_of found.numbers 0 ≡ 0
+
+-- the same of the numbers alone
 abbrev pub NumbersTree : Held → Numbering → Type 0
 NumbersTree held numbering = (t : Tree) → plain_events held ≡ shape t
     → AllNumbered (plain_events held) numbering.numbers (length numbering.firsts)
 
--- where they are, the root has the first number
 abbrev pub NumbersRoot : Held → Numbering → Type 0
 NumbersRoot held numbering = (t : Tree) → plain_events held ≡ shape t
     → num_of numbering.numbers 0 ≡ 0

@@ -1,6 +1,7 @@
-use Rattle.std.proofs.Common.{rules, arith, ap, Ok, Err}
+use Rattle.std.proofs.Common.{rules, arith, ap}
 use Rattle.std.proofs.lemmas.Result.{err_from_is_err_and}
-use Rattle.plist_base.specs.Faults.{Fault, fault_of}
+use Rattle.plist_base.specs.Faults.{Fault}
+use Rattle.plist_base.specs.Writing.{answer_of}
 use Rattle.plist_binwrite.proofs.Owned.{owners_classes}
 use Rattle.plist_binwrite.proofs.SendingFiles.{sends_plainly}
 use Rattle.plist_binwrite.proofs.completion.complete.Goals as goal
@@ -15,15 +16,10 @@ complete_by_class-requires g c =
       classes = owners_classes made.classes;
     }
 
-pub returns-in-Ok : goal.returns-in-Ok
-returns-in-Ok g c =
-    sends_plainly g.W.Write.contents c.args.events.now (Ok tt) _ _
-    c.in_ok-classes.ensures.classes c.in-Ok.ensures
-
-pub returns-in-Err : goal.returns-in-Err
-returns-in-Err g c =
-    sends_plainly g.W.Write.contents c.args.events.now (Err (fault_of c.in-Err.error)) _ _
-    c.in_ok-classes.ensures.classes c.in-Err.ensures
+pub returns : goal.returns
+returns g c =
+    sends_plainly g.W.Write.contents c.args.events.now (answer_of c.complete_by_class.result) _ _
+    c.in_ok-classes.ensures.classes c.complete_by_class.ensures
 
 pub returns-in_err-classes : goal.returns-in_err-classes
 returns-in_err-classes g c =

@@ -1,6 +1,6 @@
-use Rattle.std.proofs.Common.{inl, Ok, Err, rules}
+use Rattle.std.proofs.Common.{inl, rules}
 use Rattle.std.proofs.lemmas.Result.{err_from_is_err_and}
-use Rattle.plist_base.specs.Faults.{fault_of}
+use Rattle.plist_base.specs.Writing.{answer_of}
 use Rattle.plist_binwrite.proofs.Unhinted.{whole_bracketed}
 use Rattle.plist_binwrite.proofs.Readied.{ready_sends}
 use Rattle.plist_binwrite.proofs.SendingFiles.{sends_unplanned}
@@ -14,15 +14,10 @@ make_ready-requires g c = record {
   classes = c.requires.classes;
 }
 
-pub returns-in-Ok : goal.returns-in-Ok
-returns-in-Ok g c =
-    ready_sends g.W.Write.contents c.args.events.now _ _ c.requires.whole
-    c.in_ok-ready.ensures.ready (Ok tt) c.in-Ok.ensures
-
 pub returns : goal.returns
 returns g c =
     ready_sends g.W.Write.contents c.args.events.now _ _ c.requires.whole
-    c.in_ok-ready.ensures.ready (Err (fault_of c.in-Err.error)) c.in-Err.ensures
+    c.in_ok-ready.ensures.ready (answer_of c.send_file.result) c.send_file.ensures
 
 pub returns-in_err-room : goal.returns-in_err-room
 returns-in_err-room g c =
