@@ -1,5 +1,5 @@
 -- Lines of base64: one behind the other, and read back.
-use Rattle.std.proofs.Common.{◌≡◌, ℕ, zero, suc, ◌+◌, ◌-◌, ◌*◌, ◌%◌, ◌<◌, ◌≤◌, Bool, true, ◌↔◌, not, cond, List, [], ◌∷◌, ◌++◌, length, map, min, take, drop, replicate, slice_index, Some, refl, sym, ap, ◌∙◌, append_assoc, rules, arith}
+use Rattle.std.proofs.Common.{◌≡◌, ℕ, zero, suc, ◌+◌, ◌-◌, ◌*◌, ◌%◌, ◌<◌, ◌≤◌, Bool, true, ◌↔◌, not, cond, List, [], ◌∷◌, ◌++◌, length, map, min, take, drop, replicate, slice_index, Some, refl, subst, sym, ap, ◌∙◌, append_assoc, rules, arith}
 use Rattle.std.proofs.lemmas.List.{append-nil, length-take-le, length-drop, take_all, take_min}
 use Rattle.std.proofs.lemmas.List.Elements.{filter-append}
 use Rattle.std.proofs.lemmas.List.Folds.{concat-append}
@@ -13,13 +13,14 @@ use Rattle.base64.specs.GeneralPurpose.{IsBytes, IsDecodeFailure, decode_of, dec
 use Rattle.base64.specs.declared.decode.DecodeError.{DecodeError}
 use Rattle.base64.specs.declared.decode.DecodeAllocError.{DecodeAllocError}
 use Rattle.base64.specs.declared.decode.DecodeAllocError.TheVariants as decoding
-use Rattle.std.specs.Result.{result_ok}
-use Rattle.std.specs.Prelude.{Result, Ok}
+use Rattle.std.specs.Result.{result_ok, IfErr, IsErrAnd}
+use Rattle.std.specs.Prelude.{Result, Ok, Err}
+use Rattle.plist_data.specs.declared.data.InvalidXmlData.{InvalidXmlData}
 use Rattle.std.proofs.lemmas.Bool.{and_parts}
 use Rattle.base64.specs.Rfc4648.{encode_symbols}
 use Rattle.base64.proofs.EngineFacts.{decode_of-encode_of, decode_of_iff, encode_of-append, encode_of-nil}
 use Rattle.base64.proofs.Streams.{decoded_of-ok}
-use Rattle.plist_data.specs.DataText.{bytes_of_line, first_lines, line_count, data_text, without_white, data_of_text, IsNoData, refusal_of_decoding}
+use Rattle.plist_data.specs.DataText.{bytes_of_line, first_lines, line_count, data_text, without_white, data_of_text, IsFaultOfText, IsNoData, refusal_of_decoding}
 
 -- ---- no white space in base64
 
@@ -181,6 +182,19 @@ pub text_of_lines : (bytes : List ℕ) (count : ℕ) (text : List ℕ)
     → text ≡ data_text bytes
 unfolding data_text
 text_of_lines bytes count text is all = is ∙ ap (λ n. join_with_byte 10 (first_lines n bytes)) all
+
+-- what holds of the refusal that was made holds of the answer
+pub refused_as : {A : Type 0} (P : InvalidXmlData → Type 0) (made : InvalidXmlData)
+    (answer : Result A InvalidXmlData) → IsErrAnd answer (λ refusal. refusal ≡ made) → P made
+    → IfErr answer P
+refused_as P made (Ok value) is holds = tt
+refused_as P made (Err refusal) is holds = subst P (sym is) holds
+
+-- the fault of a text is that of decoding what is left of it
+pub fault_of_text : (text dark : List ℕ) (error : DecodeAllocError) → dark ≡ without_white text
+    → IsDecodeFailure standard dark error → IsFaultOfText text (refusal_of_decoding error)
+fault_of_text text dark (decoding.DecodeError fault) is refused = rw is at refused
+fault_of_text text dark decoding.OutOfMemory is refused = tt
 
 -- no bytes have a text that doesn't decode
 pub no_data : (text dark : List ℕ) (error : DecodeAllocError) → dark ≡ without_white text

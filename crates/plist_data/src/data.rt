@@ -59,7 +59,6 @@ impl Data {
     ///
     /// [`InvalidXmlData::Decode`] if, without these bytes, it isn't the base64 of any bytes, and
     /// [`InvalidXmlData::OutOfMemory`] if memory runs out.
-    #[tactic(auto, using(crate::proofs::Lines::data_decoded, crate::proofs::Lines::no_data))]
     pub fn from_xml_format(alloc: Global, text: &str) -> Result<Data, InvalidXmlData>
         ensures data { IfOk result (λ found. data_of_text text.now ≡ Some found) }
         ensures fault { IfErr result (λ error. IsFaultOfText text.now error) }
