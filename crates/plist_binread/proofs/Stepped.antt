@@ -1,6 +1,6 @@
 -- One step of a reader that knows no limits.
 use Rattle.std.proofs.Common.{◌≡◌, ℕ, ◌^◌, ◌<◌, ◌≤◌, true, false, List, ◌∷◌, length, reverse, Option, None, Some, Result, Ok, Err, IfSome, refl, ap, sym, arith}
-use Rattle.std.specs.Prelude.{IfOk, MatchOption, MatchResult, OnErr, OnOk, ⊤}
+use Rattle.std.specs.Prelude.{MatchOption, MatchResult, OnErr, OnOk}
 use Rattle.plist_base.specs.declared.error.Error.{Error}
 use Rattle.plist_base.specs.declared.source.Source.{Ghosts}
 use Rattle.plist_base.specs.Events.{PlainEvent}
@@ -22,7 +22,7 @@ use Rattle.plist_binread.specs.Stepping.{KeepsItem, LightensNext}
 use Rattle.plist_binread.specs.Telling.{TellsItem, Walks}
 use Rattle.plist_binread.specs.Told.{event_in}
 use Rattle.plist_binread.specs.Turning.{IsKeptTold, closes, is_fresh, is_walking, number_owed, root_with, state_after}
-use Rattle.plist_binread.specs.Walking.{IsWalkOf, cached_in, open_in, owed_in, walk_objects, weight_in}
+use Rattle.plist_binread.specs.Walking.{cached_in, open_in, owed_in, walk_objects, weight_in}
 use Rattle.plist_binread.proofs.Failing.{from_within}
 use Rattle.plist_binread.proofs.Limiting.{given-within}
 use Rattle.plist_binread.proofs.Steps.{fresh_falls}

@@ -1,5 +1,5 @@
 -- One call of a reader.
-use Rattle.std.proofs.Common.{◌≡◌, ℕ, ◌≤◌, arith, List, length, reverse, true, Option, None, Some, Result, Err, IfSome, MatchOption, refl, ap, sym}
+use Rattle.std.proofs.Common.{◌≡◌, ℕ, ◌≤◌, arith, List, length, reverse, true, Option, None, Some, Err, IfSome, MatchOption, refl, ap, sym}
 use Rattle.std.proofs.lemmas.List.{length-reverse}
 use Rattle.plist_base.specs.declared.error.Error.{Error}
 use Rattle.plist_base.specs.declared.source.Source.{Ghosts}
@@ -7,17 +7,13 @@ use Rattle.plist_base.specs.Events.{PlainEvent}
 use Rattle.plist_binread.specs.declared.frames.Frame.{Frame}
 use Rattle.plist_binread.specs.declared.counter.DecodeCounter.{Ghosts as CounterGhosts}
 use Rattle.plist_binread.specs.declared.reader.BinaryReader.{BinaryReader}
-use Rattle.plist_format.specs.Unfolding.{until_fault}
 use Rattle.plist_binread.specs.declared.reader.State.{State}
-use Rattle.plist_binread.specs.declared.reader.State.TheVariants.{Fresh, Walking, Ended}
+use Rattle.plist_binread.specs.declared.reader.State.TheVariants.{Fresh, Ended}
 use Rattle.plist_binread.specs.declared.head.Bounds.{Bounds}
 use Rattle.plist_format.specs.Container.{head_of}
 use Rattle.plist_binread.specs.BinaryReader.{GivesItem, AreWithin, Leaves}
-use Rattle.plist_binread.specs.Telling.{TellsItem}
-use Rattle.plist_binread.specs.Debt.{IsOpen, IsKnown, cached_count, AreBoundsOf, places_of, still_owed, owed_by, entries_of}
-use Rattle.plist_binread.specs.Lent.{PaysNextTold}
+use Rattle.plist_binread.specs.Debt.{IsOpen, IsKnown, cached_count, AreBoundsOf, places_of, still_owed}
 use Rattle.plist_binread.specs.Turning.{IsKeptTold, is_fresh, is_walking, ends_next}
-use Rattle.plist_binread.specs.Beginning.{RefusesFirst}
 use Rattle.plist_binread.proofs.Opened.{IsOpen-length}
 use Rattle.std.proofs.lemmas.Option.{IfSome_then}
 use Rattle.plist_binread.proofs.OverKnown.{IfSome-all}

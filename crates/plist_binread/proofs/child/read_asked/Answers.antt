@@ -1,4 +1,4 @@
-use Rattle.std.proofs.Common.{◌+◌, Err, arith}
+use Rattle.std.proofs.Common.{Err, arith}
 use Rattle.std.proofs.lemmas.Result.{err_from_is_err_and}
 use Rattle.plist_binread.proofs.Children.{known_beyond, known_childless, known_reads, known_uncounted, known_unread}
 use Rattle.plist_binread.proofs.Failing.{from_fault, from_reading}

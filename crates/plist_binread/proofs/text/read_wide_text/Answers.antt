@@ -1,4 +1,4 @@
-use Rattle.std.proofs.Common.{◌+◌, ◌*◌, arith}
+use Rattle.std.proofs.Common.{arith}
 use Rattle.std.proofs.lemmas.Result.{err_from_is_err_and}
 use Rattle.plist_format.specs.Object.{wide_text}
 use Rattle.plist_binread.proofs.Contents.{decodes_units, grows_units, refuses_cut, refuses_unread}
