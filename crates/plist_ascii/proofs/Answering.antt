@@ -1,10 +1,19 @@
 -- How the answers of the parts of a token make the answer of the whole.
-use Rattle.std.proofs.Common.{◌≡◌, ℕ, true, false, Some, sym, ap, subst, rules, ◌+◌, ◌≤◌, List, [], ◌∷◌, drop, Option, Result, Ok, Err, refl, arith}
+use Rattle.std.proofs.Common.{◌≡◌, ℕ, Bool, true, false, None, Some, sym, ap, subst, ◌∙◌, rules, suc, ◌+◌, ◌≤◌, List, [], ◌∷◌, length, drop, Option, Result, Ok, Err, refl, arith}
+use Rattle.std.specs.Option.{option_map}
+use Rattle.std.specs.Result.{IsErrAnd, IfErr}
+use Rattle.std.proofs.lemmas.List.{drop-drop}
 use Rattle.plist_base.specs.declared.error.Error.{Error}
-use Rattle.plist_base.specs.Faults.{Fault, FaultKind, OutOfMemory, MatchFault, fault_of, fault_at, kind_of, error_kind_of, UnclosedString}
+use Rattle.plist_base.specs.Faults.{Fault, FaultKind, Io, OutOfMemory, MatchFault, fault_of, fault_at, fault_nowhere, kind_of, error_kind_of, UnclosedString}
 use Rattle.plist_ascii.specs.Kinds.{IsFaultOfBytes}
 use Rattle.plist_ascii.specs.Unread.{IsAt, is_from_outside, Known, FirstIsTaken, TakesFront, Answers}
-use Rattle.plist_ascii.specs.Taken.{Taken, taken, past_one}
+use Rattle.plist_ascii.specs.Taken.{Taken, taken, past_one, past_outcome, followed, front, front_gives, needs}
+
+-- what is so of a fault that is passed on is so of the answer
+pub passed_on : {X : Type 0} (P : Error → Type 0) (r : Result X Error) (f : Error)
+    → IsErrAnd r (λ e. e ≡ f) → P f → IfErr r P
+passed_on P (Ok x) f h k = tt
+passed_on P (Err e) f h k = subst P (sym h) k
 
 -- the fact that a fault in the bytes has
 pub inside_has : (kind : FaultKind) (A B C : Type 0) → is_from_outside kind ≡ false
@@ -43,7 +52,60 @@ pub inside_is : (f : Error) (place : ℕ) → is_from_outside (kind_of (error_ki
 inside_is f place i h =
     fault_by _ _ (inside_has _ _ _ _ i h).1
 
+no_both : (b : Bool) → b ≡ true → b ≡ false → ⊥
+no_both b t f = cc
+
+-- a device's fault is one from outside, and so is want of memory
+pub io_outside : (f : Error) (place : ℕ) → fault_of f ≡ fault_at Io place
+    → IsAt (fault_of f) place × (is_from_outside (kind_of (error_kind_of f)) ≡ true)
+io_outside f place e = (
+  subst (λ (fault : Fault). IsAt fault place) (sym e) refl,
+  ap (λ (fault : Fault). is_from_outside fault.kind) e,
+)
+
+pub memory_outside : (f : Error) (place : ℕ) → fault_of f ≡ fault_nowhere OutOfMemory
+    → IsAt (fault_of f) place × (is_from_outside (kind_of (error_kind_of f)) ≡ true)
+memory_outside f place e = (
+  subst (λ (fault : Fault). IsAt fault place) (sym e) refl,
+  ap (λ (fault : Fault). is_from_outside fault.kind) e,
+)
+
+-- it doesn't say that the input ended where a byte had to be taken
+pub io_unclosed : (f : Error) (place : ℕ) → fault_of f ≡ fault_at Io place → {P : Type 0}
+    → IsAt (fault_of f) place × (is_from_outside (kind_of (error_kind_of f)) ≡ false → P)
+io_unclosed f place e =
+    let o = io_outside f place e in (o.0, λ d. absurd (no_both _ o.1 d))
+
+-- several bytes that must be there
+
+front_past : {A : Type 0} (n left c : ℕ) (o : Option (List ℕ))
+    (meaning : List ℕ → Result A FaultKind)
+    → front_gives (suc n) (suc left) (option_map (λ cs. c ∷ cs) o) meaning
+    ≡ past_one (front_gives n left o (λ ds. meaning (c ∷ ds)))
+front_past n left c None meaning = refl
+front_past n left c (Some ds) meaning = refl
+
+needs_past : {A : Type 0} (n c : ℕ) (ys : List ℕ) (meaning : List ℕ → Result A FaultKind)
+    → needs (suc n) (c ∷ ys) meaning ≡ past_one (needs n ys (λ ds. meaning (c ∷ ds)))
+needs_past n c ys meaning = front_past n (length ys) c (front n ys) meaning
+
 module _ {X A : Type 0} (view : X → A) where
+  -- a fault is passed on
+  pub answers_passed : (front : List ℕ → Taken A) (old : Option (List ℕ)) (p : ℕ)
+      (new : Option (List ℕ)) (q : ℕ) (r : Result X Error) (f : Error)
+      → IsErrAnd r (λ e. e ≡ f) → Answers view front old p new q (Err f)
+      → Answers view front old p new q r
+  answers_passed front old p new q (Ok x) f h a = absurd h
+  answers_passed front old p new q (Err e) f h a =
+      subst (λ e. Answers view front old p new q (Err e)) (sym h) a
+
+  -- a fault from outside says nothing of the bytes
+  pub answers_outside : (front : List ℕ → Taken A) (old : Option (List ℕ)) (p : ℕ)
+      (new : Option (List ℕ)) (q : ℕ) (f : Error)
+      → IsAt (fault_of f) q × (is_from_outside (kind_of (error_kind_of f)) ≡ true) → p ≤ q
+      → Answers view front old p new q (Err f)
+  answers_outside front old p new q f a le = (a.0, le, λ d xs e. absurd (no_both _ a.1 d))
+
   -- the next byte was only looked at
   pub answers_looked : (front back : List ℕ → Taken A) (old mid : Option (List ℕ)) (p m : ℕ)
       (new : Option (List ℕ)) (q : ℕ) (r : Result X Error)
@@ -101,6 +163,14 @@ module _ {X A : Type 0} (view : X → A) where
     λ d xs e. rw (← kind_said f k q s) (h xs e),
   )
 
+  -- a fault where nothing was taken
+  pub answers_bad : (front : List ℕ → Taken A) (old : Option (List ℕ)) (p : ℕ) (f : Error)
+      (k : FaultKind) → fault_of f ≡ fault_at k p → IsFaultOfBytes k
+      → ((xs : List ℕ) → front xs ≡ taken 0 (Err k)) → Answers view front old p old p (Err f)
+  answers_bad front old p f k s i h =
+      answers_fault front old p old p f k s i (omega arith)
+      (λ xs e. rw (h xs) (refl, e, omega arith))
+
   -- the input ended where a byte had to be taken
   pub answers_unclosed : (front : List ℕ → Taken A) (old : Option (List ℕ)) (p : ℕ)
       (new : Option (List ℕ)) (q : ℕ) (f : Error)
@@ -116,6 +186,69 @@ module _ {X A : Type 0} (view : X → A) where
         let k = b.1 xs e in
         rw (k.1, h)
         (ap Err (kind_said f _ q b.0), cc, omega arith),
+  )
+
+  -- of the bytes that must be there one was taken, and then what is behind it
+  pub answers_one : (n c : ℕ) (meaning : List ℕ → Result A FaultKind)
+      (old mid : Option (List ℕ)) (p m : ℕ) (new : Option (List ℕ)) (q : ℕ) (r : Result X Error)
+      → FirstIsTaken old c mid → m ≡ p + 1
+      → Answers view (λ ys. needs n ys (λ ds. meaning (c ∷ ds))) mid m new q r
+      → Answers view (λ ys. needs (suc n) ys meaning) old p new q r
+  answers_one n c meaning old mid p m new q r t s a =
+      answers_past (λ ys. needs (suc n) ys meaning) (λ ys. needs n ys (λ ds. meaning (c ∷ ds)))
+      old mid c p m new q r t s (λ ys. needs_past n c ys meaning) a
+
+  -- and one wasn't there
+  pub answers_none : (n : ℕ) (meaning : List ℕ → Result A FaultKind) (old : Option (List ℕ))
+      (p : ℕ) (new : Option (List ℕ)) (q : ℕ) (f : Error)
+      → IsAt (fault_of f) q × (is_from_outside (kind_of (error_kind_of f)) ≡ false
+      → (fault_of f ≡ fault_at UnclosedString q)
+      × Known old (λ xs. (new ≡ Some xs) × (xs ≡ [])))
+      → q ≡ p → Answers view (λ ys. needs (suc n) ys meaning) old p new q (Err f)
+  answers_none n meaning old p new q f a same =
+      answers_unclosed (λ ys. needs (suc n) ys meaning) old p new q f a same refl
+
+module _ {X Y A B : Type 0} (view : X → A) (seen : Y → B) (part : List ℕ → Taken A)
+    (next : A → List ℕ → Taken B) where
+  then_at : (xs : List ℕ) (n : ℕ) (g : Result A FaultKind) (a : A) (outcome : Result B FaultKind)
+      (new : Option (List ℕ)) (p m q : ℕ) → g ≡ Ok a → m ≡ p + n
+      → TakesFront (next a (drop n xs)) outcome new m q (drop n xs)
+      → TakesFront (past_outcome xs n g next) outcome new p q xs
+  then_at xs n g a outcome new p m q e s t =
+      rw e (t.0, t.1 ∙ ap Some (drop-drop _ n xs), omega (arith, s, t.2))
+
+  stops_at : (xs : List ℕ) (n : ℕ) (g : Result A FaultKind) (k : FaultKind)
+      (new : Option (List ℕ)) (p q : ℕ) → g ≡ Err k → new ≡ Some (drop n xs) → q ≡ p + n
+      → TakesFront (past_outcome xs n g next) (Err k) new p q xs
+  stops_at xs n g k new p q e u s = rw e (refl, u, s)
+
+  -- a part was taken, and then what follows it
+  pub answers_then : (old mid : Option (List ℕ)) (p m : ℕ) (x : X) (new : Option (List ℕ)) (q : ℕ)
+      (r : Result Y Error) → Answers view part old p mid m (Ok x)
+      → Answers seen (next (view x)) mid m new q r
+      → Answers seen (λ xs. followed xs (part xs) next) old p new q r
+  answers_then old mid p m x new q (Ok y) a b = (
+    omega (arith, a.0, b.0),
+    λ xs e.
+        let k = a.1 xs e in
+        then_at xs _ _ _ (Ok (seen y)) new p m q k.0 k.2 (b.1 _ k.1),
+  )
+  answers_then old mid p m x new q (Err f) a b = (
+    b.0,
+    omega (arith, a.0, b.1),
+    λ d xs e.
+        let k = a.1 xs e in
+        then_at xs _ _ _ (Err (kind_of (error_kind_of f))) new p m q k.0 k.2 (b.2 d _ k.1),
+  )
+
+  -- a part has a fault
+  pub answers_stops : (old : Option (List ℕ)) (p : ℕ) (new : Option (List ℕ)) (q : ℕ) (f : Error)
+      → Answers view part old p new q (Err f)
+      → Answers seen (λ xs. followed xs (part xs) next) old p new q (Err f)
+  answers_stops old p new q f a = (
+    a.0,
+    a.1,
+    λ d xs e. let k = a.2 d xs e in stops_at xs _ _ _ new p q k.0 k.1 k.2,
   )
 
 pub front_from : {A : Type 0} (t : Taken A) (g : Result A FaultKind) (new : Option (List ℕ))

@@ -1,21 +1,27 @@
 -- What texts give, which tokens are texts, and what a slash begins.
-use Rattle.std.proofs.Common.{◌≡◌, ℕ, List, true, false, Option, Some, Ok, Err, refl, rules, ◌<◌, None, ap, arith, zero, suc, Bool, cond, [], ◌∷◌, take, drop, Result, ◌≢◌}
+use Rattle.std.proofs.Common.{◌≡◌, ℕ, ◌+◌, List, true, false, Option, Some, Ok, Err, refl, ◌<◌, None, ap, sym, subst, ◌∙◌, arith, zero, suc, Bool, cond, [], ◌∷◌, ◌++◌, take, drop, Result, ◌≢◌, vec_items}
+use Rattle.std.specs.declared.alloc.Global.{Global}
+use Rattle.std.specs.declared.vec.Vec.{Vec}
+use Rattle.plist_base.specs.declared.error.Error.{Error}
+use Rattle.plist_base.specs.declared.event.Event.{Event}
+use Rattle.plist_ascii.specs.inner.Inputs.{IfCame}
 use Rattle.std.specs.Str.{is_utf8}
 use Rattle.plist_base.specs.declared.error.ErrorKind.{ErrorKind}
 use Rattle.plist_base.specs.Faults.{InvalidUtf8AsciiStream, kind_of, FaultKind, UnclosedString}
-use Rattle.plist_base.specs.Events.{PlainEvent, Single}
-use Rattle.plist_base.specs.Trees.{Scalar}
-use Rattle.std.specs.Prelude.{ℤ, SomeIff, ⊤, ◌==◌, length}
-use Rattle.plist_ascii.specs.Texts.{utf8_or_fault, number_or_text, bare, bare_event, quoted_event}
-use Rattle.plist_ascii.specs.Kinds.{IsFaultOfBytes, IsTextEvent}
+use Rattle.plist_base.specs.Events.{PlainEvent, StartArray, StartDictionary, EndCollection, Single, event_of}
+use Rattle.plist_base.specs.Trees.{Scalar, String}
+use Rattle.std.specs.Prelude.{ℤ, SomeIff, ⊤, ◌==◌, ◌||◌, length, encode_utf8}
+use Rattle.plist_ascii.specs.Texts.{Token, utf8_or_fault, number_or_text, bare, bare_event, quoted_event}
+use Rattle.plist_ascii.specs.Kinds.{IsFaultOfBytes, IsTextEvent, IsAsciiEvent, BehindBracket}
 use lib.Utf8.{low_scalar}
 use Rattle.std.specs.Char.{IsScalar, is_digit}
-use Rattle.plist_ascii.specs.Taken.{Taken, taken, past_outcome, front, front_gives, run}
-use Rattle.plist_ascii.specs.Escapes.{escape, escape_by, simple, simple_escape, octal_text, unit, first_unit, second_unit, second_letter, second_digits, pair_text}
+use Rattle.plist_ascii.specs.Taken.{Taken, taken, past_one, past_outcome, front, front_gives, run}
+use Rattle.plist_ascii.specs.Escapes.{is_surrogate, bad_unit, escape, escape_by, simple, simple_escape, octal_text, unit, first_unit, second_unit, second_letter, second_digits, pair_text}
 use Rattle.plist_ascii.specs.Quoted.{with_front, escape_then, run_end, quoted_by, quoted_in, quoted, quoted_outcome, quoted_token}
-use Rattle.plist_ascii.specs.Ascii.{IsTextFault, IsTextToken}
+use Rattle.plist_ascii.specs.declared.token.Lead.{Lead}
+use Rattle.plist_ascii.specs.Ascii.{IsTextFault, IsTextToken, lead_of, token_by}
 use Rattle.plist_ascii.specs.Comments.{slash}
-use Rattle.plist_ascii.specs.Unread.{Known, first}
+use Rattle.plist_ascii.specs.Unread.{Known, first, TakesFront, Answers}
 use Rattle.std.proofs.lemmas.Bool.{ne_eqb}
 use Rattle.plist_ascii.proofs.Unread.{first_splits}
 
@@ -24,7 +30,8 @@ pub text_gives : (xs : List ℕ) (e : Scalar) (f : PlainEvent) → is_utf8 xs �
 text_gives xs e f t h is = rw (t, h) (refl, is)
 
 pub number_is_text : (text : List ℕ) (o : Option ℤ) → IsTextEvent (Single (number_or_text text o))
-number_is_text text o = search rules
+number_is_text text None = tt
+number_is_text text (Some number) = tt
 
 pub text_fails : (xs : List ℕ) (e : Scalar) (k : ErrorKind) → is_utf8 xs ≡ false
     → kind_of k ≡ InvalidUtf8AsciiStream → (utf8_or_fault xs e ≡ Err (kind_of k))
@@ -42,11 +49,13 @@ InText (Err kind) = IsTextFault kind
 
 number_wants : (text : List ℕ) (o : Option ℤ)
     → IsTextToken (Ok (Some (Single (number_or_text text o))))
-number_wants text o = search rules
+number_wants text None = tt
+number_wants text (Some number) = tt
 
 utf8_wants : (b : Bool) (text : List ℕ) (scalar : Scalar) → is_utf8 text ≡ b
     → IsTextToken (Ok (Some (Single scalar))) → IsTextToken (utf8_or_fault text scalar)
-utf8_wants b text scalar e h = search rules
+utf8_wants true text scalar e h = rw e h
+utf8_wants false text scalar e h = rw e tt
 
 pub bare_wants : (stops : ℕ → Bool) (c : ℕ) (xs : List ℕ) → IsTextToken (bare stops c xs).gives
 unfolding bare_event
@@ -59,22 +68,31 @@ bare_wants stops c xs =
 needs_in : {A : Type 0} (n : ℕ) (xs : List ℕ) (o : Option (List ℕ))
     (meaning : List ℕ → Result A FaultKind) → ((ds : List ℕ) → InText (meaning ds))
     → InText (front_gives n (length xs) o meaning).gives
-needs_in n xs o meaning h = search rules
+needs_in n xs None meaning h = tt
+needs_in n xs (Some ds) meaning h = h ds
 
 followed_in : {A B : Type 0} (xs : List ℕ) (n : ℕ) (g : Result A FaultKind)
     (next : A → List ℕ → Taken B) → InText g → ((a : A) (ys : List ℕ) → InText (next a ys).gives)
     → InText (past_outcome xs n g next).gives
-followed_in xs n g next h k = search rules
+followed_in xs n (Ok a) next h k = k a (drop n xs)
+followed_in xs n (Err fault) next h k = h
 
 cond_in : {A : Type 0} (b : Bool) (t u : Taken A) → InText t.gives → InText u.gives
     → InText (cond b t u).gives
-cond_in b t u h k = search rules
+cond_in true t u h k = h
+cond_in false t u h k = k
+
+either_in : {A : Type 0} (b : Bool) (r s : Result A FaultKind) → InText r → InText s
+    → InText (cond b r s)
+either_in true r s h k = h
+either_in false r s h k = k
 
 unit_in : (xs : List ℕ) → InText (unit xs).gives
 unit_in xs = needs_in 4 xs _ (λ ds. Ok _) (λ ds. tt)
 
 pair_in : (high : ℕ) (low : Option ℕ) → InText (pair_text high low)
-pair_in high low = search rules
+pair_in high None = tt
+pair_in high (Some low) = either_in _ (Ok _) (Err _) tt tt
 
 digits_in : (high : ℕ) (xs : List ℕ) → InText (second_digits high xs).gives
 digits_in high xs =
@@ -83,21 +101,27 @@ digits_in high xs =
 
 letter_in : (high : ℕ) (xs : List ℕ) → InText (second_letter high xs).gives
 letter_in high [] = tt
-letter_in high (c ∷ xs) = search (rules, digits_in)
+letter_in high (c ∷ xs) =
+    cond_in ((c == 117) || (c == 85)) (past_one (second_digits high xs)) (bad_unit 0)
+    (digits_in high xs) tt
 
 second_in : (high : ℕ) (xs : List ℕ) → InText (second_unit high xs).gives
-second_in high xs = search (rules, letter_in)
+second_in high [] = tt
+second_in high (c ∷ xs) =
+    cond_in (c == 92) (second_letter high xs) (bad_unit 0) (letter_in high xs) tt
 
 first_in : (u : Option ℕ) (xs : List ℕ) → InText (first_unit u xs).gives
 first_in None xs = tt
-first_in (Some u) xs = search (rules, second_in)
+first_in (Some u) xs =
+    cond_in (is_surrogate u) (second_unit u xs) (taken 0 (Ok (encode_utf8 u))) (second_in u xs) tt
 
 simple_in : (o : Option ℕ) → InText (simple o).gives
-simple_in o = search rules
+simple_in None = tt
+simple_in (Some byte) = tt
 
 octal_in : (digits : List ℕ) → InText (octal_text digits)
 unfolding octal_text
-octal_in digits = search rules
+octal_in digits = either_in _ (Ok _) (Err _) tt tt
 
 by_in : (c : ℕ) (xs : List ℕ) → InText (escape_by c xs).gives
 by_in c xs =
@@ -112,18 +136,21 @@ escape_in [] = tt
 escape_in (c ∷ xs) = by_in c xs
 
 with_in : (front : List ℕ) (r : Result (List ℕ) FaultKind) → InText r → InText (with_front front r)
-with_in front r h = search rules
+with_in front (Ok more) h = tt
+with_in front (Err fault) h = h
 
 then_in : (n : ℕ) (r : Result (List ℕ) FaultKind) (more : ℕ → Taken (List ℕ)) → InText r
     → InText (more n).gives → InText (escape_then n r more).gives
-then_in n r more h k = search rules
+then_in n (Ok text) more h k = with_in text (more n).gives k
+then_in n (Err fault) more h k = h
 
 end_in : (quote : ℕ) (more : List ℕ → Taken (List ℕ)) (xs : List ℕ)
     → ((ys : List ℕ) → InText (more ys).gives) → InText (run_end quote more xs).gives
 end_in quote more [] h = tt
 end_in quote more (c ∷ xs) h =
     let t = then_in (escape xs).bytes (escape xs).gives (λ n. more (drop n xs)) (escape_in xs) (h _)
-    in search rules
+    in cond_in (c == quote) (taken 0 (Ok []))
+    (escape_then (escape xs).bytes (escape xs).gives (λ n. more (drop n xs))) tt t
 
 part_in : (quote : ℕ) (more : List ℕ → Taken (List ℕ)) (xs : List ℕ)
     → ((ys : List ℕ) → InText (more ys).gives) → InText (quoted_by quote more xs).gives
@@ -139,7 +166,8 @@ quoted_in_text quote (suc room) xs =
 
 outcome_wants : (r : Result (List ℕ) FaultKind) → InText r → IsTextToken (quoted_outcome r)
 unfolding quoted_event
-outcome_wants r h = search (rules, utf8_wants)
+outcome_wants (Ok text) h = utf8_wants _ text (String text) refl tt
+outcome_wants (Err fault) h = h
 
 pub quoted_wants : (quote : ℕ) (xs : List ℕ) → IsTextToken (quoted_token quote xs).gives
 quoted_wants quote xs = outcome_wants (quoted quote xs).gives (quoted_in_text _ _ xs)
@@ -155,6 +183,77 @@ bare_looked stops old mid o c is looked a b =
 pub slash_wants : (stops : ℕ → Bool) (xs : List ℕ) → slash stops xs ≡ bare stops 47 xs
     → IsTextToken (slash stops xs).gives
 slash_wants stops xs e = rw e (bare_wants _ 47 xs)
+
+-- ---- what the parts of a text make of it
+
+-- a bare text is its first byte and the run behind it
+pub bare_taken : (stops : ℕ → Bool) (c : ℕ) (none one text : List ℕ)
+    (g : Result (Option PlainEvent) FaultKind) (new : Option (List ℕ)) (p q : ℕ) (xs : List ℕ)
+    → none ≡ [] → one ≡ none ++ c ∷ [] → bare_event text ≡ g
+    → (text ≡ one ++ take (run stops xs) xs) × (new ≡ Some (drop (run stops xs) xs))
+    × (q ≡ p + run stops xs) → TakesFront (bare stops c xs) g new p q xs
+bare_taken stops c none one text g new p q xs z o m h =
+    let all : text ≡ c ∷ take (run stops xs) xs = h.0
+    ∙ ap (λ front. front ++ take (run stops xs) xs) (o ∙ ap (λ z. z ++ c ∷ []) z) in
+    (ap bare_event (sym all) ∙ m, h.1, h.2)
+
+-- a quoted text means what its bytes do
+pub quoted_means : (quote : ℕ) (text : List ℕ) (g : Result (Option PlainEvent) FaultKind)
+    (new : Option (List ℕ)) (p q : ℕ) (xs : List ℕ) → quoted_event text ≡ g
+    → TakesFront (quoted quote xs) (Ok text) new p q xs
+    → TakesFront (quoted_token quote xs) g new p q xs
+quoted_means quote text g new p q xs m h = (ap quoted_outcome h.0 ∙ m, h.1, h.2)
+
+-- and has its faults
+pub quoted_stops : (quote : ℕ) (old : Option (List ℕ)) (p : ℕ) (new : Option (List ℕ)) (q : ℕ)
+    (f : Error) → Answers {X = Vec ℕ Global} vec_items (quoted quote) old p new q (Err f)
+    → Answers {X = Event} (λ e. Some (event_of e)) (quoted_token quote) old p new q (Err f)
+quoted_stops quote old p new q f a = (
+  a.0,
+  a.1,
+  λ d xs e. let k = a.2 d xs e in (ap quoted_outcome k.0, k.1, k.2),
+)
+
+-- ---- which token a byte begins
+
+pub led_by : (stops : ℕ → Bool) (byte : ℕ) (lead is : Lead) → lead ≡ lead_of byte → lead ≡ is
+    → (xs : List ℕ) → token_by stops (lead_of byte) byte xs ≡ token_by stops is byte xs
+led_by stops byte lead is e f xs = ap (λ l. token_by stops l byte xs) (sym e ∙ f)
+
+-- where the token is a text, memory may be wanted
+pub wants_led : (stops : ℕ → Bool) (byte : ℕ) (lead is : Lead) → lead ≡ lead_of byte → lead ≡ is
+    → (xs : List ℕ) → IsTextToken (token_by stops is byte xs).gives
+    → IsTextToken (token_by stops (lead_of byte) byte xs).gives
+wants_led stops byte lead is e f xs h =
+    subst (λ (t : Token). IsTextToken t.gives) (sym (led_by stops byte lead is e f xs)) h
+
+-- ---- texts among the events
+
+text_is_ascii : (event : PlainEvent) → IsTextEvent event → IsAsciiEvent event
+text_is_ascii (StartArray length) h = absurd h
+text_is_ascii (StartDictionary length) h = absurd h
+text_is_ascii EndCollection h = absurd h
+text_is_ascii (Single scalar) h = h
+
+pub text_no_bracket : (event : PlainEvent) (behind : Type 0) → IsTextEvent event
+    → BehindBracket event behind
+text_no_bracket (StartArray length) behind h = absurd h
+text_no_bracket (StartDictionary length) behind h = absurd h
+text_no_bracket EndCollection behind h = absurd h
+text_no_bracket (Single scalar) behind h = tt
+
+pub text_came : (r : Result (Option Event) Error) → IfCame r (λ e. IsTextEvent (event_of e))
+    → IfCame r (λ e. IsAsciiEvent (event_of e))
+text_came (Ok (Some e)) h = text_is_ascii (event_of e) h
+text_came (Ok None) h = tt
+text_came (Err f) h = tt
+
+pub texts_no_bracket : (r : Result (Option Event) Error) (behind : Type 0)
+    → IfCame r (λ e. IsTextEvent (event_of e))
+    → IfCame r (λ e. BehindBracket (event_of e) behind)
+texts_no_bracket (Ok (Some e)) behind h = text_no_bracket (event_of e) behind h
+texts_no_bracket (Ok None) behind h = tt
+texts_no_bracket (Err f) behind h = tt
 
 -- what is made of a text that was read, quoted or bare
 pub ruleset texts = (text_gives, text_fails)

@@ -134,10 +134,11 @@ fn is_pair(high: u16, low: u16) -> bool
     (0xD800..0xDC00).contains(&high) && (0xDC00..0xE000).contains(&low)
 }
 
-// The character of a surrogate pair.
-fn pair_char(high: u16, low: u16) -> Option<char>
-    ensures { IsCharOr InvalidUtf16String (pair_text high (Some low)) result }
+// The character of a surrogate pair, whose low half may be no unit.
+fn pair_char(high: u16, low: Option<u16>) -> Option<char>
+    ensures { IsCharOr InvalidUtf16String (pair_text high low) result }
 {
+    let low = low?;
     if !is_pair(high, low) {
         return None;
     }
@@ -250,7 +251,7 @@ impl<R: Bytes> Input<R> {
         ensures failures { CountsFailed R.failures self.old result self.new }
     {
         let low = self.unit()?;
-        match low.and_then(|low| pair_char(high, low)) {
+        match pair_char(high, low) {
             Some(c) => Ok(Piece::Char(c)),
             None => Err(self.fault(ErrorKind::InvalidUtf16String)),
         }

@@ -73,7 +73,6 @@ impl<R: Bytes> Input<R> {
     }
 
     /// Takes the token that a byte begins, which has been taken. It may give nothing.
-    #[tactic(auto, using(crate::proofs::Texts::quoted_wants, crate::proofs::Texts::bare_wants))]
     pub fn token_by(
         &mut self,
         alloc: Global,
