@@ -18,7 +18,8 @@ returns-in_err-third-clause-answers g c =
     let first = c.args.first in
     let second = c.in_ok-second.second in
     answers_passed piece_bytes (octal first) _ _ _ _ _ _ c.from_residual-in_err-third.ensures.1
-    (answers_one piece_bytes 1 second (λ ds. octal_text (first ∷ ds)) _ _ _ _ _ _ (Err c.in_err-third.field-0.0)
+    (answers_one piece_bytes 1 second (λ ds. octal_text (first ∷ ds)) _ _ _ _ _ _
+    (Err c.in_err-third.field-0.0)
     c.in_ok-second.ensures.value c.in_ok-second.ensures.place.0
     (answers_none piece_bytes 0 (λ ds. octal_text (first ∷ second ∷ ds)) _ _ _ _ _
     c.in_err-third.ensures.fault c.in_err-third.ensures.unchanged))
@@ -28,9 +29,11 @@ returns-in-Some-clause-answers g c =
     let first = c.args.first in
     let second = c.in_ok-second.second in
     let third = c.in_ok-third.third in
-    answers_one piece_bytes 1 second (λ ds. octal_text (first ∷ ds)) _ _ _ _ _ _ (Ok (Char c.in-Some.c))
+    answers_one piece_bytes 1 second (λ ds. octal_text (first ∷ ds)) _ _ _ _ _ _
+    (Ok (Char c.in-Some.c))
     c.in_ok-second.ensures.value c.in_ok-second.ensures.place.0
-    (answers_one piece_bytes 0 third (λ ds. octal_text (first ∷ second ∷ ds)) _ _ _ _ _ _ (Ok (Char c.in-Some.c))
+    (answers_one piece_bytes 0 third (λ ds. octal_text (first ∷ second ∷ ds)) _ _ _ _ _ _
+    (Ok (Char c.in-Some.c))
     c.in_ok-third.ensures.value c.in_ok-third.ensures.place.0
     (answers_here piece_bytes (λ ys. needs 0 ys (λ ds. octal_text (first ∷ second ∷ third ∷ ds)))
     _ _ (Char c.in-Some.c) (λ xs. ap (taken 0) c.in-Some.ensures)))
@@ -40,9 +43,11 @@ returns-in-None-clause-answers g c =
     let first = c.args.first in
     let second = c.in_ok-second.second in
     let third = c.in_ok-third.third in
-    answers_one piece_bytes 1 second (λ ds. octal_text (first ∷ ds)) _ _ _ _ _ _ (Err c.fault.result)
+    answers_one piece_bytes 1 second (λ ds. octal_text (first ∷ ds)) _ _ _ _ _ _
+    (Err c.fault.result)
     c.in_ok-second.ensures.value c.in_ok-second.ensures.place.0
-    (answers_one piece_bytes 0 third (λ ds. octal_text (first ∷ second ∷ ds)) _ _ _ _ _ _ (Err c.fault.result)
+    (answers_one piece_bytes 0 third (λ ds. octal_text (first ∷ second ∷ ds)) _ _ _ _ _ _
+    (Err c.fault.result)
     c.in_ok-third.ensures.value c.in_ok-third.ensures.place.0
     (answers_bad piece_bytes (λ ys. needs 0 ys (λ ds. octal_text (first ∷ second ∷ third ∷ ds)))
     _ _ _ _ c.fault.ensures tt (λ xs. ap (taken 0) c.in-None.ensures)))

@@ -9,8 +9,8 @@ use Rattle.plist_ascii.proofs.input.Input.second_digits.Goals as goal
 pub returns-in_err-low-clause-answers : goal.returns-in_err-low-clause-answers
 returns-in_err-low-clause-answers g c =
     answers_passed piece_bytes (second_digits c.args.high) _ _ _ _ _ _ c.from_residual.ensures.1
-    (answers_stops (λ u. u) piece_bytes unit (λ low _. taken 0 (pair_text c.args.high low)) _ _ _ _ _
-    c.in_err-low.ensures.answers)
+    (answers_stops (λ u. u) piece_bytes unit (λ low _. taken 0 (pair_text c.args.high low))
+    _ _ _ _ _ c.in_err-low.ensures.answers)
 
 pub returns-in-Some-clause-answers : goal.returns-in-Some-clause-answers
 returns-in-Some-clause-answers g c =

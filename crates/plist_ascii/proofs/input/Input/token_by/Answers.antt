@@ -17,7 +17,8 @@ pub returns-in_ok-event-in-Quote-clause-answers : goal.returns-in_ok-event-in-Qu
 returns-in_ok-event-in-Quote-clause-answers g c =
     answers_same (λ e. Some (event_of e)) (token_until c.args.stop c.args.byte)
     (quoted_token c.args.byte) _ _ _ _ (Ok c.in_ok-event-in-Quote.event)
-    (led_by (stops c.args.stop) c.args.byte _ _ c.lead_of.ensures c.in-Quote.is) c.in_ok-event-in-Quote.ensures.answers
+    (led_by (stops c.args.stop) c.args.byte _ _ c.lead_of.ensures c.in-Quote.is)
+    c.in_ok-event-in-Quote.ensures.answers
 
 pub returns-in_ok-event-in-Quote-clause-brackets : goal.returns-in_ok-event-in-Quote-clause-brackets
 returns-in_ok-event-in-Quote-clause-brackets g c =
@@ -29,7 +30,8 @@ returns-in_err-event-in-Quote-clause-answers g c =
     c.from_residual.ensures.1
     (answers_same (λ e. Some (event_of e)) (token_until c.args.stop c.args.byte)
     (quoted_token c.args.byte) _ _ _ _ (Err c.in_err-event-in-Quote.field-0.0)
-    (led_by (stops c.args.stop) c.args.byte _ _ c.lead_of.ensures c.in-Quote.is) c.in_err-event-in-Quote.ensures.answers)
+    (led_by (stops c.args.stop) c.args.byte _ _ c.lead_of.ensures c.in-Quote.is)
+    c.in_err-event-in-Quote.ensures.answers)
 
 pub returns-in_err-event-in-Quote-clause-memory : goal.returns-in_err-event-in-Quote-clause-memory
 returns-in_err-event-in-Quote-clause-memory g c =
@@ -44,7 +46,8 @@ pub returns-in-Slash-clause-answers : goal.returns-in-Slash-clause-answers
 returns-in-Slash-clause-answers g c =
     answers_same (option_map event_of) (token_until c.args.stop c.args.byte)
     (slash (stops c.args.stop)) _ _ _ _ _
-    (led_by (stops c.args.stop) c.args.byte _ _ c.lead_of.ensures c.in-Slash.is) c.slash.ensures.answers
+    (led_by (stops c.args.stop) c.args.byte _ _ c.lead_of.ensures c.in-Slash.is)
+    c.slash.ensures.answers
 
 pub returns-in-Slash-clause-kinds : goal.returns-in-Slash-clause-kinds
 returns-in-Slash-clause-kinds g c = text_came c.slash.result c.slash.ensures.kinds
@@ -64,7 +67,8 @@ pub returns-in_ok-event-in-Bare-clause-answers : goal.returns-in_ok-event-in-Bar
 returns-in_ok-event-in-Bare-clause-answers g c =
     answers_same (λ e. Some (event_of e)) (token_until c.args.stop c.args.byte)
     (bare_until c.args.stop c.args.byte) _ _ _ _ (Ok c.in_ok-event-in-Bare.event)
-    (led_by (stops c.args.stop) c.args.byte _ _ c.lead_of.ensures c.in-Bare.is) c.in_ok-event-in-Bare.ensures.answers
+    (led_by (stops c.args.stop) c.args.byte _ _ c.lead_of.ensures c.in-Bare.is)
+    c.in_ok-event-in-Bare.ensures.answers
 
 pub returns-in_ok-event-in-Bare-clause-brackets : goal.returns-in_ok-event-in-Bare-clause-brackets
 returns-in_ok-event-in-Bare-clause-brackets g c =
@@ -76,7 +80,8 @@ returns-in_err-event-in-Bare-clause-answers g c =
     c.from_residual-in_err-event-in-Bare.ensures.1
     (answers_same (λ e. Some (event_of e)) (token_until c.args.stop c.args.byte)
     (bare_until c.args.stop c.args.byte) _ _ _ _ (Err c.in_err-event-in-Bare.field-0.0)
-    (led_by (stops c.args.stop) c.args.byte _ _ c.lead_of.ensures c.in-Bare.is) c.in_err-event-in-Bare.ensures.answers)
+    (led_by (stops c.args.stop) c.args.byte _ _ c.lead_of.ensures c.in-Bare.is)
+    c.in_err-event-in-Bare.ensures.answers)
 
 pub returns-in_err-event-in-Bare-clause-memory : goal.returns-in_err-event-in-Bare-clause-memory
 returns-in_err-event-in-Bare-clause-memory g c =
