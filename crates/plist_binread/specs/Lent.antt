@@ -31,9 +31,9 @@ IsLentAs object told lent.Scalar = single_in object ≡ Some told
 IsLentAs object told (lent.Collection count) = IsCollection object told count
 
 -- nothing was lent
-abbrev pub is_nothing : Lent → Bool
-is_nothing lent.Nothing = true
-is_nothing _ = false
+abbrev pub lends_nothing : Lent → Bool
+lends_nothing lent.Nothing = true
+lends_nothing _ = false
 
 -- how many small objects were decoded
 abbrev pub small_lent : Lent → (told : PlainEvent) → ℕ

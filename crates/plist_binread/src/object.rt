@@ -8,7 +8,7 @@ ghost use Rattle.plist_format.specs.Object.{Object};
 ghost use Rattle.plist_binread.specs.declared.told.Last.{Last};
 ghost use Rattle.plist_binread.specs.Decoding.{DecodesTold, IsUnknownAt};
 ghost use Rattle.plist_binread.specs.Failures.{ErrWithin, FailsWithin};
-ghost use Rattle.plist_binread.specs.Lent.{IsLentAs, is_nothing};
+ghost use Rattle.plist_binread.specs.Lent.{IsLentAs, lends_nothing};
 ghost use Rattle.plist_binread.specs.Nearby.{CountsFound, TellsObject, small_found, small_told};
 
 use crate::counter::DecodeCounter;
@@ -31,7 +31,7 @@ fn unknown(marker: u64, place: u64) -> Error
 
 // What was lent of the object at a place, or its fault.
 fn lent_or_fault(lent: Lent, place: u64) -> Result<Lent, Error>
-    requires { is_nothing lent ≡ false }
+    requires { lends_nothing lent ≡ false }
     // The answer.
     ensures decoded { (object : Object) (told : PlainEvent) → IsLentAs object told lent
         → DecodesTold object place told result }
