@@ -7,8 +7,8 @@ use Rattle.plist_keyed.specs.declared.error.KeyedError.TheVariants as error
 use Rattle.plist_keyed.specs.Archives.{resolved_tree}
 use Rattle.plist_keyed.specs.Contents.{IsArchiveOf, IsUidAt}
 use Rattle.plist_keyed.specs.Errors.{IsFaultOf}
-use Rattle.plist_commands.specs.Archives.{IsRefusedAt}
-use Rattle.plist_commands.specs.Failures.{OfArchive}
+use Rattle.plist_commands.specs.Archives.{IsRefusedAt, IsUnprintedAt}
+use Rattle.plist_commands.specs.Failures.{Complaint, OfArchive, OfPlist, NoSuchTop}
 
 pub refused : (root : Value) (key : List ℕ) (objects : List Value) (names : List (List ℕ × Value))
     (uid : ℕ) (e : KeyedError) → IsArchiveOf root objects names → IsUidAt key names uid
@@ -20,3 +20,10 @@ refused root key objects names uid (error.UidOutOfRange n) archive at h =
 refused root key objects names uid (error.RecursiveUid n) archive at h =
     (objects, names, uid, archive, at, h)
 refused root key objects names uid error.OutOfMemory archive at h = tt
+
+-- the tree isn't printed where there is none
+pub unprinted : (root : Value) (key : List ℕ) (complaint : Complaint)
+    → IsRefusedAt root key complaint → IsUnprintedAt root key complaint
+unprinted root key (OfPlist fault) h = absurd h
+unprinted root key (OfArchive e) h = h
+unprinted root key NoSuchTop h = h

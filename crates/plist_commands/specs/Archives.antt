@@ -1,11 +1,15 @@
 -- The tree that an archive has under a key, and why there is none.
-use Rattle.std.specs.Prelude.{◌≡◌, ℕ, List, Result, Ok, Err, map, ⊤}
+use Rattle.std.specs.Prelude.{◌≡◌, ℕ, List, Option, None, Result, Ok, Err, map, ⊤}
+use Rattle.std.specs.Io.KnownBytes.{Appends}
+use Rattle.plist_base.specs.Bracketing.{bracketing}
+use Rattle.plist_base.specs.Faults.{IsFromOutside}
 use Rattle.plist_base.specs.Trees.{Tree}
 use Rattle.plist.specs.declared.value.Value.{Value}
 use Rattle.plist.specs.Views.{tree_of}
 use Rattle.plist_keyed.specs.Archives.{ArchiveFault, resolved_tree}
 use Rattle.plist_keyed.specs.Contents.{IsArchive, IsArchiveOf, IsUidAt}
 use Rattle.plist_keyed.specs.Errors.{MatchError}
+use Rattle.plist_commands.specs.Lines.{lines_of_events}
 use Rattle.plist_commands.specs.Failures.{Complaint, OfPlist, OfArchive, NoSuchTop}
 
 -- the property list is an archive whose key names an object with this tree, or this fault
@@ -30,3 +34,16 @@ IsRefusedAt root key (OfPlist fault) = ⊥
 IsRefusedAt root key (OfArchive error) =
     MatchError error (¬ (IsArchive root)) ⊤ (λ fault. IsResolvedAt root key (Err fault))
 IsRefusedAt root key NoSuchTop = IsUnnamed root key
+
+-- the lines of that tree went out
+abbrev pub PrintsTreeAt : {W : Type 0} → (contents : W → Option (List ℕ)) → (root : Value)
+    → (key : List ℕ) → (old new : W) → Type 0
+PrintsTreeAt contents root key old new =
+    (tree : Tree) × IsTreeAt root key tree
+    × Appends (contents old) (contents new) (lines_of_events (bracketing tree))
+
+-- the complaint says why they didn't: there is no tree, or the writer or memory failed
+abbrev pub IsUnprintedAt : (root : Value) → (key : List ℕ) → Complaint → Type 0
+IsUnprintedAt root key (OfPlist fault) = (fault.offset ≡ None) × IsFromOutside fault.kind
+IsUnprintedAt root key (OfArchive error) = IsRefusedAt root key (OfArchive error)
+IsUnprintedAt root key NoSuchTop = IsRefusedAt root key NoSuchTop

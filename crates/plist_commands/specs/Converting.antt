@@ -1,5 +1,5 @@
 -- What becomes of a source's property list where its file is sent without a value.
-use Rattle.std.specs.Prelude.{◌≡◌, ◌⊎◌, ℕ, List, Option, Result, Ok, Err, IfErr, IfOk, IfSome}
+use Rattle.std.specs.Prelude.{◌≡◌, ◌⊎◌, ℕ, Bool, true, false, List, [], ◌++◌, Option, Result, Ok, Err, IfErr, IfOk, IfSome}
 use Rattle.std.specs.Option.{option_map}
 use Rattle.plist_base.specs.Bracketing.{bracketing, AreAlike, AreWhole}
 use Rattle.plist_base.specs.declared.error.Error.{Error}
@@ -12,11 +12,12 @@ use Rattle.plist_binread.specs.BinaryReader.{source_of, to_come}
 use Rattle.plist_binread.specs.declared.counter.DecodeCounter.{Ghosts as CounterGhosts}
 use Rattle.plist_binread.specs.declared.reader.BinaryReader.{BinaryReader}
 use Rattle.plist_binwrite.specs.declared.pending.Pending.{Pending}
-use Rattle.plist_binwrite.specs.Pendings.{CanTake, events_held}
+use Rattle.plist_binwrite.specs.Files.{IsFileOf}
+use Rattle.plist_binwrite.specs.Pendings.{CanTake, HoldsNext, events_held, is_whole}
 use Rattle.plist_reader.specs.declared.format.Format.TheVariants.{Binary}
 use Rattle.plist_reader.specs.Formats.{format_of}
 use Rattle.plist_reader.specs.Reader.{items_of_input}
-use Rattle.plist.specs.Inputs.{AreOf, IsReadIfKnown}
+use Rattle.plist.specs.Inputs.{AreOf, IsReadFrom, IsReadIfKnown}
 use Rattle.plist.specs.LastWins.{last_wins}
 use Rattle.plist.specs.SendingValues.{SendsTree}
 
@@ -57,6 +58,12 @@ module _ {W : Type 0} (contents : W → Option (List ℕ)) (known : Option (List
   abbrev pub IsStoppedFor : {A : Type 0} → Result A Error → (old new : W) → Type 0
   IsStoppedFor answer old new = IfErr answer (λ error. IsStopped (fault_of error) old new)
 
+-- what went out of these bytes is a file of the tree that they are read as
+abbrev pub SendsBytes : (bytes old new : List ℕ) → Type 0
+SendsBytes bytes old new =
+    (tree : Tree) × IsReadFrom (items_of_input bytes) (Ok tree)
+    × ((file : List ℕ) × IsFileOf tree file × (new ≡ old ++ file))
+
 -- this is so where a call is done with this answer
 abbrev pub IfOkIs : {A E : Type 0} → Result A E → A → Type 0 → Type 0
 IfOkIs answer wanted P = IfOk answer (λ found. found ≡ wanted → P)
@@ -74,18 +81,25 @@ HoldsTree items held =
     AreWhole held
     × IfSome items (λ all. (tree : Tree) × AreOf all tree × AreAlike held (bracketing tree))
 
--- what is found holds the events of a tree, and the items are of that tree
-abbrev pub FindsTree : (items : Option (List Item)) → Result (Option Pending) Error → Type 0
-FindsTree items answer =
-    IfOk answer (λ found. IfSome found (λ pending. HoldsTree items (events_held pending)))
+-- the same where the answer is that they are
+abbrev pub FindsTree : (items : Option (List Item)) → Result Bool Error → Pending → Type 0
+FindsTree items answer pending = IfOkIs answer true (HoldsTree items (events_held pending))
+
+-- whatever known bytes have such items, this is so of them
+abbrev pub OfHeld : (held : List PlainEvent) → (Option (List ℕ) → Type 0) → Type 0
+OfHeld held P = (known : Option (List ℕ)) → HoldsTree (items_of_known known) held → P known
 
 -- the only refusal is what a value of the items is refused for
 abbrev pub IsRefusedFor : {A : Type 0} → (items : Option (List Item)) → Result A Error → Type 0
 IsRefusedFor items answer = IfErr answer (λ error. IsReadIfKnown items (Err (fault_of error)))
 
--- an event that is refused can't follow those held
-abbrev pub IsNoNext : Pending → PlainEvent → Option Error → Type 0
-IsNoNext pending event refusal = IfSome refusal (λ _. CanTake pending event → ⊥)
+-- the event can follow those held, and is taken
+abbrev pub Takes : Pending → PlainEvent → Pending → Type 0
+Takes before event after = CanTake before event × HoldsNext before event after
+
+-- nothing is held
+abbrev pub IsEmpty : Pending → Type 0
+IsEmpty pending = (events_held pending ≡ []) × (is_whole pending ≡ false)
 
 -- the items are no tree's
 abbrev pub AreNoTree : (items : Option (List Item)) → Type 0

@@ -1,5 +1,5 @@
 -- What a writer holds after some of the bytes were sent.
-use Rattle.std.specs.Prelude.{◌≡◌, ℕ, List, ◌++◌, Option, Result, OnOk}
+use Rattle.std.specs.Prelude.{◌≡◌, ◌⊎◌, ℕ, List, ◌++◌, Option, Result, OnOk}
 use Rattle.std.specs.Io.KnownBytes.{Appends}
 use Rattle.std.specs.declared.alloc.Global.{Global}
 use Rattle.std.specs.declared.vec.Vec.{Vec}
@@ -7,6 +7,7 @@ use Rattle.plist_base.specs.declared.error.Error.{Error}
 use Rattle.plist_base.specs.declared.event.Event.{Event}
 use Rattle.plist_base.specs.declared.source.Source.{Ghosts}
 use Rattle.plist_base.specs.Events.{PlainEvent, event_of}
+use Rattle.plist_base.specs.Faults.{Io, fault_nowhere, fault_of}
 use Rattle.plist_base.specs.Fronts.{AppendsFront}
 use Rattle.plist_binread.specs.Telling.{event_told}
 use Rattle.plist_binread.specs.declared.counter.DecodeCounter.{Ghosts as CounterGhosts}
@@ -27,6 +28,13 @@ MakesRoom contents old held new left =
 abbrev pub SendsFront : {W : Type 0} → (contents : W → Option (List ℕ)) → W → (all : List ℕ) → W
     → Type 0
 SendsFront contents old all new = AppendsFront (contents old) (contents new) all
+
+-- the bytes went out and this fault is the answer, or a device's own
+abbrev pub EndsBehind : {W : Type 0} → (contents : W → Option (List ℕ)) → (bytes : List ℕ) → Error
+    → (old new : W) → (answer : Error) → Type 0
+EndsBehind contents bytes fault old new answer =
+    ((answer ≡ fault) × Appends (contents old) (contents new) bytes)
+    ⊎ (fault_of answer ≡ fault_nowhere Io)
 
 -- ---- one line
 

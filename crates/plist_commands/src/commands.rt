@@ -9,10 +9,10 @@ use crate::convert::convert_file;
 use crate::failure::Failure;
 use crate::keyed::keyed_file;
 use crate::messages::{Message, Messages};
+use crate::open::open_source;
 use crate::print::print_events;
-use plist_base::{Error, ErrorKind, Seeking};
+use plist_base::Error;
 use std::alloc::Global;
-use std::fs;
 use std::io::Write;
 use std::rt::Files;
 
@@ -89,10 +89,8 @@ fn print_file<R: Files, O: Write>(
     path: &str,
     out: &mut O,
 ) -> Result<(), Error> {
-    match fs::open(rt, path) {
-        Ok(file) => print_events(alloc, Seeking::with_windows(alloc, file), out),
-        Err(failure) => Err(ErrorKind::Io(failure).without_position()),
-    }
+    let source = open_source(rt, alloc, path)?;
+    print_events(alloc, source, out)
 }
 
 /// Where a run's lines and its messages go.

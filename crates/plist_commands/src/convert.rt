@@ -1,23 +1,25 @@
 //! Writes a property list as a binary one.
 
-ghost use Rattle.std.specs.Prelude.{◌≡◌, false, IfErr, IfOk, None};
+ghost use Rattle.std.specs.Prelude.{◌≡◌, true, false, IfErr, None};
+ghost use Rattle.plist_base.specs.Bracketing.{AreWhole};
+ghost use Rattle.plist_base.specs.Faults.{offset_of};
 ghost use Rattle.plist_base.specs.Outcomes.{OnlyMemory};
 ghost use Rattle.plist_binread.specs.BinaryReader.{source_of};
 ghost use Rattle.plist_binread.specs.Telling.{event_told};
-ghost use Rattle.plist_binwrite.specs.Pendings.{Accepts, CanTake, events_held, is_whole};
-ghost use Rattle.plist_commands.specs.Converting.{AreNoTree, FindsTree, IfOkIs, IsNoBinaryTree, IsNoNext, IsRefusedFor, IsStoppedFor, LeavesToValue, SendsAll, items_left, items_of_known};
+ghost use Rattle.plist_binwrite.specs.Pendings.{CanTake, TellsWhole, events_held, is_whole};
+ghost use Rattle.plist_commands.specs.Converting.{AreNoTree, FindsTree, IfOkIs, IsEmpty, IsNoBinaryTree, IsRefusedFor, IsStoppedFor, LeavesToValue, OfHeld, SendsAll, Takes, items_left, items_of_known};
 ghost use Rattle.plist_commands.specs.Printing.{CountsReadsOf, LeavesSource};
 ghost use Rattle.plist_commands.specs.declared.convert.Streamed.TheVariants.{NeedsValue, Sent};
 
+use crate::open::open_source;
 use plist::{Output, Value};
-use plist_base::{Error, ErrorKind, Seeking, Source};
+use plist_base::{Error, Source};
 use plist_binread::BinaryReader;
 use plist_binwrite::complete;
 use plist_binwrite::keys::repeats_key;
 use plist_binwrite::pending::Pending;
 use plist_reader::{Format, format_of};
 use std::alloc::Global;
-use std::fs;
 use std::io::Write;
 use std::rt::Files;
 
@@ -41,73 +43,99 @@ fn make_room<S: Source>(reader: &BinaryReader<S>, pending: &mut Pending)
     }
 }
 
-// Holds the event to which a reader went last, or tells why it can't come here.
+// Holds the event to which a reader went last, or tells that it can't come here.
 fn hold_event<S: Source>(
     alloc: Global,
     reader: &BinaryReader<S>,
     pending: &mut Pending,
-) -> Result<Option<Error>, Error>
-    requires still { is_whole pending.old ≡ false }
-    ensures refused { IfOk result (IsNoNext pending.old (event_told reader.now)) }
-    ensures taken { IfOk result (Accepts pending.old (event_told reader.now) pending.new) }
+) -> Result<bool, Error>
+    requires told { TellsWhole (is_whole pending.old) (events_held pending.old) }
+    ensures taken { IfOkIs result true (Takes pending.old (event_told reader.now) pending.new) }
+    ensures refused { IfOkIs result false (CanTake pending.old (event_told reader.now) → ⊥) }
     ensures accepted { IfErr result (λ _. CanTake pending.old (event_told reader.now)) }
     ensures memory { OnlyMemory result }
 {
+    if pending.is_whole() {
+        return Ok(false);
+    }
     make_room(reader, pending);
-    pending.offer(alloc, reader.event())
+    match pending.offer(alloc, reader.event()) {
+        Ok(None) => Ok(true),
+        Ok(Some(_)) => Ok(false),
+        Err(error) => Err(error),
+    }
 }
 
-// Holds the events that a reader has still to give, where they are those of a tree.
+// Holds the events that a reader has still to give, and tells whether they are those of a tree.
 fn hold_events<S: Source>(
     alloc: Global,
     reader: &mut BinaryReader<S>,
-) -> Result<Option<Pending>, Error>
+    pending: &mut Pending,
+) -> Result<bool, Error>
+    requires empty { IsEmpty pending.old }
     // The answer.
-    ensures held { FindsTree (items_left S.known reader.old) result }
-    ensures none { IfOkIs result None (AreNoTree (items_left S.known reader.old)) }
+    ensures held { FindsTree (items_left S.known reader.old) result pending.new }
+    ensures none { IfOkIs result false (AreNoTree (items_left S.known reader.old)) }
     // A refusal.
     ensures refused { IsRefusedFor (items_left S.known reader.old) result }
     // The state after it.
     ensures unchanged { S.known (source_of reader.new) ≡ S.known (source_of reader.old) }
     ensures failures { CountsReadsOf S.failures reader.old result reader.new }
 {
-    let mut pending = Pending::new(alloc);
     while let Some(item) = reader.advance() {
         match item {
             Ok(()) => {}
             Err(error) => return Err(error),
         }
-        if pending.is_whole() {
-            return Ok(None);
-        }
-        match hold_event(alloc, reader, &mut pending) {
-            Ok(None) => {}
-            Ok(Some(_)) => return Ok(None),
+        match hold_event(alloc, reader, pending) {
+            Ok(true) => {}
+            Ok(false) => return Ok(false),
             Err(error) => return Err(error),
         }
     }
-    if pending.is_whole() {
-        Ok(Some(pending))
-    } else {
-        Ok(None)
-    }
+    Ok(pending.is_whole())
 }
 
-// Holds the events of a binary file, where they are those of a tree. The source isn't needed then.
-fn hold_file<S: Source>(alloc: Global, source: S) -> Result<Option<Pending>, Error>
-    ensures held { FindsTree (items_of_known (S.known source)) result }
-    ensures none { IfOkIs result None (IsNoBinaryTree (S.known source)) }
+// Holds the events of a binary file, and tells whether they are those of a tree. The source isn't
+// needed then.
+fn hold_file<S: Source>(alloc: Global, source: S, pending: &mut Pending) -> Result<bool, Error>
+    requires empty { IsEmpty pending.old }
+    ensures held { FindsTree (items_of_known (S.known source)) result pending.new }
+    ensures none { IfOkIs result false (IsNoBinaryTree (S.known source)) }
     ensures refused { IsRefusedFor (items_of_known (S.known source)) result }
     ensures failures { (left : S) × LeavesSource S.known S.failures source result left }
 {
     let mut source = source;
     match format_of(&mut source) {
         Ok(Format::Binary) => {}
-        Ok(_) => return Ok(None),
+        Ok(_) => return Ok(false),
         Err(error) => return Err(error),
     }
     let mut reader = BinaryReader::new(alloc, source);
-    hold_events(alloc, &mut reader)
+    hold_events(alloc, &mut reader, pending)
+}
+
+// Sends the events of a tree as a file, where no key stands twice in a dictionary.
+fn send_held<W: Write>(alloc: Global, pending: &Pending, writer: &mut W) -> Result<Streamed, Error>
+    requires { AreWhole (events_held pending.now) }
+    ensures sent { OfHeld (events_held pending.now) (λ known. IfOkIs result Sent
+        (SendsAll W.contents known writer.old writer.new)) }
+    ensures left { OfHeld (events_held pending.now) (λ known. IfOkIs result NeedsValue
+        (LeavesToValue known writer.old writer.new)) }
+    ensures refused { OfHeld (events_held pending.now)
+        (λ known. IsStoppedFor W.contents known result writer.old writer.new) }
+    ensures nowhere { IfErr result (λ error. offset_of error ≡ None) }
+{
+    let events = pending.events();
+    match repeats_key(alloc, events) {
+        Ok(false) => {}
+        Ok(true) => return Ok(Streamed::NeedsValue),
+        Err(error) => return Err(error),
+    }
+    match complete(alloc, events, writer) {
+        Ok(()) => Ok(Streamed::Sent),
+        Err(error) => Err(error),
+    }
 }
 
 /// Sends the property list of a binary source as a binary file, without a value, where no key
@@ -128,21 +156,36 @@ pub fn convert_binary<S: Source, W: Write>(
     ensures refused { IsStoppedFor W.contents (S.known source) result writer.old writer.new }
     ensures failures { (left : S) × LeavesSource S.known S.failures source result left }
 {
-    let pending = match hold_file(alloc, source) {
-        Ok(Some(pending)) => pending,
-        Ok(None) => return Ok(Streamed::NeedsValue),
-        Err(error) => return Err(error),
-    };
-    let events = pending.events();
-    match repeats_key(alloc, events) {
-        Ok(false) => {}
-        Ok(true) => return Ok(Streamed::NeedsValue),
-        Err(error) => return Err(error),
-    }
-    match complete(alloc, events, writer) {
-        Ok(()) => Ok(Streamed::Sent),
+    let mut pending = Pending::new(alloc);
+    match hold_file(alloc, source, &mut pending) {
+        Ok(true) => send_held(alloc, &pending, writer),
+        Ok(false) => Ok(Streamed::NeedsValue),
         Err(error) => Err(error),
     }
+}
+
+// Sends a source to the file of this name as `convert_binary` does, and has the system store what
+// was sent.
+fn stream_to<R: Files, S: Source>(
+    rt: &R,
+    alloc: Global,
+    source: S,
+    to: &str,
+) -> Result<Streamed, Error> {
+    let mut output = Output::new(rt, to);
+    match convert_binary(alloc, source, &mut output) {
+        Ok(Streamed::Sent) => {
+            output.sync()?;
+            Ok(Streamed::Sent)
+        }
+        other => other,
+    }
+}
+
+// Writes the property list of a file to another one by way of its value.
+fn convert_value<R: Files>(rt: &R, alloc: Global, from: &str, to: &str) -> Result<(), Error> {
+    let value = Value::from_file(rt, alloc, from)?;
+    value.to_file_binary(rt, alloc, to)
 }
 
 /// Writes the property list of a file to another one, or to itself. The other file is created, or
@@ -151,16 +194,9 @@ pub fn convert_binary<S: Source, W: Write>(
 /// # Errors
 /// Where a file can't be opened, read or written, or the first one holds no property list.
 pub fn convert_file<R: Files>(rt: &R, alloc: Global, from: &str, to: &str) -> Result<(), Error> {
-    let source = match fs::open(rt, from) {
-        Ok(file) => Seeking::with_windows(alloc, file),
-        Err(failure) => return Err(ErrorKind::Io(failure).without_position()),
-    };
-    let mut output = Output::new(rt, to);
-    match convert_binary(alloc, source, &mut output)? {
-        Streamed::Sent => output.sync(),
-        Streamed::NeedsValue => {
-            let value = Value::from_file(rt, alloc, from)?;
-            value.to_file_binary(rt, alloc, to)
-        }
+    let source = open_source(rt, alloc, from)?;
+    match stream_to(rt, alloc, source, to)? {
+        Streamed::Sent => Ok(()),
+        Streamed::NeedsValue => convert_value(rt, alloc, from, to),
     }
 }

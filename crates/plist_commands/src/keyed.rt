@@ -1,8 +1,8 @@
 //! Prints a tree of a keyed archive.
 
-ghost use Rattle.std.specs.Prelude.{IfErr, IfOk};
+ghost use Rattle.std.specs.Prelude.{IfErr, IfOk, OnOk};
 ghost use Rattle.plist.specs.Views.{tree_of};
-ghost use Rattle.plist_commands.specs.Archives.{IsRefusedAt, IsTreeAt};
+ghost use Rattle.plist_commands.specs.Archives.{IsRefusedAt, IsTreeAt, IsUnprintedAt, PrintsTreeAt};
 ghost use Rattle.plist_commands.specs.Failures.{complaint_of};
 
 use crate::failure::Failure;
@@ -31,6 +31,21 @@ fn tree_at(alloc: Global, root: &Value, key: &str) -> Result<Value, Failure>
     }
 }
 
+// Prints the tree of the object that an archive names by this key.
+fn print_at<O: Write>(alloc: Global, root: &Value, key: &str, out: &mut O) -> Result<(), Failure>
+    ensures printed { OnOk result (PrintsTreeAt O.contents root.now key.now out.old out.new) }
+    ensures refused { IfErr result (λ error. IsUnprintedAt root.now key.now (complaint_of error)) }
+{
+    let tree = match tree_at(alloc, root, key) {
+        Ok(tree) => tree,
+        Err(failure) => return Err(failure),
+    };
+    match print_value(alloc, &tree, out) {
+        Ok(()) => Ok(()),
+        Err(error) => Err(Failure::Plist(error)),
+    }
+}
+
 /// Prints the tree of the object that the archive in a file names by this key.
 ///
 /// # Errors
@@ -43,7 +58,8 @@ pub fn keyed_file<R: Files, O: Write>(
     key: &str,
     out: &mut O,
 ) -> Result<(), Failure> {
-    let root = Value::from_file(rt, alloc, path)?;
-    let tree = tree_at(alloc, &root, key)?;
-    Ok(print_value(alloc, &tree, out)?)
+    match Value::from_file(rt, alloc, path) {
+        Ok(root) => print_at(alloc, &root, key, out),
+        Err(error) => Err(Failure::Plist(error)),
+    }
 }

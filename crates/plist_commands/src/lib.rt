@@ -4,12 +4,14 @@
 //! lines of their items, or those before the first fault.
 #![tactic(auto)]
 
+pub mod callers;
 mod commands;
 mod convert;
 mod failure;
 mod keyed;
 mod lines;
 mod messages;
+mod open;
 mod print;
 mod values;
 

@@ -1,6 +1,6 @@
 //! The line of each event.
 
-ghost use Rattle.std.specs.Prelude.{◌≡◌, ◌++◌, ◌<◌, length, true, OnOk};
+ghost use Rattle.std.specs.Prelude.{◌≡◌, ◌++◌, ◌<◌, codes, length, true, OnOk};
 ghost use Rattle.std.specs.Fmt.{decimal, signed_decimal};
 ghost use Rattle.plist_base.specs.Events.{event_of};
 ghost use Rattle.plist_base.specs.Trees.{String};
@@ -82,9 +82,12 @@ fn push_hexadecimal(line: &mut Vec<u8>, bytes: &[u8]) -> Result<(), AllocError>
     Ok(())
 }
 
+// Data behind its word.
 fn push_data(line: &mut Vec<u8>, bytes: &[u8]) -> Result<(), AllocError>
-    ensures { OnOk result (line.new.items ≡ line.old.items ++ text_of_data bytes.now) }
+    ensures { OnOk result (line.new.items
+        ≡ line.old.items ++ codes "Data" ++ text_of_data bytes.now) }
 {
+    line.extend_from_slice(b"Data")?;
     if bytes.is_empty() {
         return Ok(());
     }
@@ -103,18 +106,31 @@ fn push_date(line: &mut Vec<u8>, date: Date) -> Result<(), AllocError>
     push_hexadecimal(line, &date.to_plist_real())
 }
 
-fn push_real(line: &mut Vec<u8>, real: RealBits) -> Result<(), AllocError>
-    ensures { OnOk result (line.new.items ≡ line.old.items ++ text_of_real real) }
+// A date behind its word.
+fn push_dated(line: &mut Vec<u8>, date: Date) -> Result<(), AllocError>
+    ensures { OnOk result (line.new.items ≡ line.old.items ++ codes "Date " ++ text_of_date date) }
 {
+    line.extend_from_slice(b"Date ")?;
+    push_date(line, date)
+}
+
+// A real behind its word.
+fn push_real(line: &mut Vec<u8>, real: RealBits) -> Result<(), AllocError>
+    ensures { OnOk result (line.new.items ≡ line.old.items ++ codes "Real " ++ text_of_real real) }
+{
+    line.extend_from_slice(b"Real ")?;
     match real {
         RealBits::Four(bytes) => push_hexadecimal(line, &bytes),
         RealBits::Eight(bytes) => push_hexadecimal(line, &bytes),
     }
 }
 
+// An integer behind its word.
 fn push_integer(line: &mut Vec<u8>, integer: Integer) -> Result<(), AllocError>
-    ensures { OnOk result (line.new.items ≡ line.old.items ++ signed_decimal integer) }
+    ensures { OnOk result (line.new.items
+        ≡ line.old.items ++ codes "Integer " ++ signed_decimal integer) }
 {
+    line.extend_from_slice(b"Integer ")?;
     let mut buffer = Buffer::new();
     match integer.as_signed() {
         Some(number) => line.extend_from_slice(buffer.format(number).as_bytes()),
@@ -199,22 +215,10 @@ fn push_words(line: &mut Vec<u8>, event: &Event<'_>) -> Result<(), AllocError>
         Event::EndCollection => line.extend_from_slice(b"EndCollection"),
         Event::Boolean(true) => line.extend_from_slice(b"Boolean true"),
         Event::Boolean(false) => line.extend_from_slice(b"Boolean false"),
-        Event::Data(bytes) => {
-            line.extend_from_slice(b"Data")?;
-            push_data(line, bytes.as_slice())
-        }
-        Event::Date(date) => {
-            line.extend_from_slice(b"Date ")?;
-            push_date(line, *date)
-        }
-        Event::Integer(integer) => {
-            line.extend_from_slice(b"Integer ")?;
-            push_integer(line, *integer)
-        }
-        Event::Real(real) => {
-            line.extend_from_slice(b"Real ")?;
-            push_real(line, *real)
-        }
+        Event::Data(bytes) => push_data(line, bytes.as_slice()),
+        Event::Date(date) => push_dated(line, *date),
+        Event::Integer(integer) => push_integer(line, *integer),
+        Event::Real(real) => push_real(line, *real),
         Event::String(text) => push_string(line, text.as_str()),
         Event::Uid(uid) => push_number(line, b"Uid ", uid.get()),
     }
@@ -257,10 +261,7 @@ fn push_told_words<S: Source>(
         Told::Unsigned(number) => push_number(line, b"Integer ", number),
         Told::Uid(number) => push_number(line, b"Uid ", number),
         Told::Text => push_string(line, reader.text()),
-        Told::Data => {
-            line.extend_from_slice(b"Data")?;
-            push_data(line, reader.data())
-        }
+        Told::Data => push_data(line, reader.data()),
         Told::Held => push_words(line, &reader.event()),
     }
 }

@@ -1,8 +1,8 @@
 //! Prints the events of a source.
 
-ghost use Rattle.std.specs.Prelude.{◌≡◌, true, false, IfErr, IfOk, OnErr, OnOk};
+ghost use Rattle.std.specs.Prelude.{◌≡◌, true, false, [], IfErr, IfOk, OnErr, OnOk};
 ghost use Rattle.plist_binread.specs.BinaryReader.{source_of};
-ghost use Rattle.plist_commands.specs.Fronts.{MakesRoom, SendsFront, PassesLine, PassesTold, PushesTold, SendsLineInPart, SendsToldInPart};
+ghost use Rattle.plist_commands.specs.Fronts.{EndsBehind, MakesRoom, SendsFront, PassesLine, PassesTold, PushesTold, SendsLineInPart, SendsToldInPart};
 ghost use Rattle.plist_commands.specs.Printing.{PrintsRest, SendsFrontOfRest, IsOwnFault, EndsRest, PrintsFile, EndsFile, SendsFrontOfFile, CountsReadsOf, LeavesSource};
 
 use crate::lines::{most_bytes, most_told, push_line, push_told};
@@ -70,6 +70,63 @@ fn pass_told<S: Source, W: Write>(
     pass_line(out, lines, &reader.event())
 }
 
+// The same, whether or not it fits there.
+#[inline(always)]
+fn pass_next<S: Source, W: Write>(
+    out: &mut W,
+    lines: &mut Vec<u8>,
+    reader: &BinaryReader<S>,
+) -> Result<(), Error>
+    ensures passed { PassesTold W.contents result out.old lines.old reader.now out.new lines.new }
+    ensures fault { IfErr result IsOwnFault }
+    ensures front { OnErr result (SendsToldInPart W.contents out.old lines.old reader.now out.new) }
+{
+    if push_near(lines, reader)? {
+        return Ok(());
+    }
+    pass_told(out, lines, reader)
+}
+
+// The fault that comes behind lines, once they are sent; or the one for which they can't be.
+fn fault_behind<W: Write>(writer: &mut W, lines: &[u8], fault: Error) -> Error
+    ensures sent { EndsBehind W.contents lines.now fault writer.old writer.new result }
+    ensures front { SendsFront W.contents writer.old lines.now writer.new }
+{
+    match send(writer, lines) {
+        Ok(()) => fault,
+        Err(failure) => failure,
+    }
+}
+
+// Sends the lines of what a reader has still to give, by way of an empty buffer.
+fn pass_lines<S: Source, W: Write>(
+    lines: &mut Vec<u8>,
+    reader: &mut BinaryReader<S>,
+    writer: &mut W,
+) -> Result<(), Error>
+    requires empty { lines.old.items ≡ [] }
+    // The answer.
+    ensures printed { OnOk result (PrintsRest S.known W.contents reader.old writer.old writer.new) }
+    // A refusal.
+    ensures refused { IfErr result (EndsRest S.known W.contents reader.old writer.old writer.new) }
+    // The state after it.
+    ensures front { SendsFrontOfRest S.known W.contents reader.old writer.old writer.new }
+    ensures unchanged { S.known (source_of reader.new) ≡ S.known (source_of reader.old) }
+    ensures failures { CountsReadsOf S.failures reader.old result reader.new }
+{
+    while let Some(item) = reader.advance() {
+        match item {
+            Ok(()) => {}
+            Err(error) => return Err(fault_behind(writer, lines.as_slice(), error)),
+        }
+        match pass_next(writer, lines, reader) {
+            Ok(()) => {}
+            Err(error) => return Err(error),
+        }
+    }
+    send(writer, lines.as_slice())
+}
+
 // Sends the lines of what a reader has still to give.
 fn send_lines<S: Source, W: Write>(
     alloc: Global,
@@ -86,21 +143,7 @@ fn send_lines<S: Source, W: Write>(
     ensures failures { CountsReadsOf S.failures reader.old result reader.new }
 {
     let mut lines = Vec::with_capacity(alloc, FULL)?;
-    while let Some(item) = reader.advance() {
-        match item {
-            Ok(()) => {
-                if !push_near(&mut lines, reader)? {
-                    pass_told(writer, &mut lines, reader)?;
-                }
-            }
-            Err(error) => {
-                send(writer, lines.as_slice())?;
-                return Err(error);
-            }
-        }
-    }
-    send(writer, lines.as_slice())?;
-    Ok(())
+    pass_lines(&mut lines, reader, writer)
 }
 
 // The same, and then a flush, whose failure is an error only where nothing failed before it.

@@ -5,7 +5,7 @@ use Rattle.plist_base.proofs.Refusals.{MatchFault-weaker}
 use Rattle.plist_binread.specs.Telling.{event_told}
 use Rattle.plist_binwrite.specs.Pendings.{events_held, is_whole}
 use Rattle.plist_commands.specs.Converting.{items_left}
-use Rattle.plist_commands.proofs.Streaming.{Came, told_next, tells_none, tells_next, taken_none, took_event, took_fault, goes_on, whole_at_end}
+use Rattle.plist_commands.proofs.Streaming.{Came, told_next, tells_none, tells_next, taken_none, took_event, took_fault, goes_on, held_at_end, whole_at_end}
 use Rattle.plist_commands.proofs.convert.hold_events.Goals as goal
 use Rattle.plist_commands.proofs.convert.hold_events.Goals.{After-advance}
 
@@ -21,8 +21,8 @@ pub loop-item-init : goal.loop-item-init
 loop-item-init g c = record {
   unchanged = refl;
   failures = refl;
-  told = tells_none _ _ c.new-pending.ensures.whole c.new-pending.ensures.events;
-  so_far = taken_none _ _ _ refl c.new-pending.ensures.events;
+  told = tells_none _ _ c.requires.empty.1 c.requires.empty.0;
+  so_far = taken_none _ _ _ refl c.requires.empty.0;
 }
 
 pub returns-in-Err-clause-refused : goal.returns-in-Err-clause-refused
@@ -34,27 +34,18 @@ returns-in-Err-clause-refused g c =
     (MatchFault-weaker (kind_of (error_kind_of c.in-Err.error)) (λ _. tt) (λ _. tt) (λ b. b)
     (rw is at t).1))
 
-pub returns-then-is_whole-clause-none : goal.returns-then-is_whole-clause-none
-returns-then-is_whole-clause-none g c = λ e.
+pub returns-in-Ok-false-clause-none : goal.returns-in-Ok-false-clause-none
+returns-in-Ok-false-clause-none g c = λ e.
     let is : c.advance.result ≡ Some (Ok c.in-Ok.field-0) = search rules in
     IfSome_then (items_left g.S.Source.known c.args.reader.now)
-    (came g (goal.at.returns-then-is_whole-clause-none g c).After-advance)
+    (came g (goal.at.returns-in-Ok-false-clause-none g c).After-advance)
     (λ all (left, next, took, to, t) tree of.
-    (rw (sym c.is_whole.ensures ∙ c.if-is_whole.true) at c.loop-item.invariant.told).1
-    (event_told c.advance.new.self) (goes_on all left _ took next _ (rw is at t) tree of))
-
-pub returns-in-Ok-Some-clause-none : goal.returns-in-Ok-Some-clause-none
-returns-in-Ok-Some-clause-none g c = λ e.
-    let is : c.advance.result ≡ Some (Ok c.in-Ok.field-0) = search rules in
-    IfSome_then (items_left g.S.Source.known c.args.reader.now)
-    (came g (goal.at.returns-in-Ok-Some-clause-none g c).After-advance)
-    (λ all (left, next, took, to, t) tree of.
-    (rw c.in-Ok-Some.field-0-is at c.in-Ok-Some.ensures.refused)
+    c.in-Ok-false.ensures.refused c.in-Ok-false.field-0-test
     (goes_on all left _ took next _ (rw is at t) tree of))
 
 pub loop-item-preserved : goal.loop-item-preserved
 loop-item-preserved g c =
-    let taken = c.in-Ok-None.ensures.taken (search rules) in
+    let taken = c.in-Ok-true.ensures.taken c.in-Ok-true.field-0-test in
     let is : c.advance.result ≡ Some (Ok c.in-Ok.field-0) = search rules in
     record {
       unchanged = search rules;
@@ -68,11 +59,21 @@ loop-item-preserved g c =
           (next, to, took_event all left _ took next _ _ (rw is at t) taken.0 taken.1.0));
     }
 
-pub returns-else-is_whole-2-clause-none : goal.returns-else-is_whole-2-clause-none
-returns-else-is_whole-2-clause-none g c = λ e.
+pub returns-clause-held : goal.returns-clause-held
+returns-clause-held g c = λ e.
+    let is : c.advance.result ≡ None = search rules in
+    let whole = (rw (sym c.is_whole.ensures ∙ e) at c.loop-item.invariant.told).0 in (
+      whole,
+      IfSome_then (items_left g.S.Source.known c.args.reader.now)
+          (came g (goal.at.returns-clause-held g c).After-advance)
+          (λ all (left, next, took, to, t). held_at_end all left _ took (rw is at t).0 whole),
+    )
+
+pub returns-clause-none : goal.returns-clause-none
+returns-clause-none g c = λ e.
     let is : c.advance.result ≡ None = search rules in
     IfSome_then (items_left g.S.Source.known c.args.reader.now)
-    (came g (goal.at.returns-else-is_whole-2-clause-none g c).After-advance)
+    (came g (goal.at.returns-clause-none g c).After-advance)
     (λ all (left, next, took, to, t) tree of.
-    (rw (sym c.is_whole-2.ensures ∙ c.if-is_whole-2.false) at c.loop-item.invariant.told)
+    (rw (sym c.is_whole.ensures ∙ e) at c.loop-item.invariant.told)
     (whole_at_end all left _ took (rw is at t).0 tree of))

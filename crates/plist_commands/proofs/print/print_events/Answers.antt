@@ -1,5 +1,40 @@
-use Rattle.plist_binread.specs.BinaryReader.{source_of}
+use Rattle.std.proofs.Common.{◌≡◌, ap}
+use Rattle.std.proofs.lemmas.Result.{IfErr-weaker, on_ok_weaker}
+use Rattle.plist_base.specs.Fronts.{AppendsFront}
+use Rattle.plist_binread.specs.BinaryReader.{source_of, to_come}
+use Rattle.plist_format.specs.Unfolding.{items_of_file}
+use Rattle.plist_commands.specs.Lines.{lines_of}
+use Rattle.plist_commands.specs.Printing.{EndsFile, EndsRest, PrintsAll, PrintsUntil}
+use Rattle.plist_commands.proofs.HeldBack.{of_file}
 use Rattle.plist_commands.proofs.print.print_events.Goals as goal
+
+pub returns-clause-printed : goal.returns-clause-printed
+returns-clause-printed g c =
+    on_ok_weaker c.print_items.result
+    (of_file (g.S.Source.known c.args.source) _ (λ bytes. to_come bytes c.new-reader.result)
+    items_of_file (λ items. PrintsAll items (g.W.Write.contents c.args.writer.now)
+    (g.W.Write.contents c.print_items.new.writer)) (ap g.S.Source.known c.new-reader.ensures.source)
+    c.new-reader.ensures.items) c.print_items.ensures.printed
+
+pub returns-clause-refused : goal.returns-clause-refused
+returns-clause-refused g c =
+    IfErr-weaker c.print_items.result (EndsRest g.S.Source.known g.W.Write.contents
+    c.new-reader.result c.args.writer.now c.print_items.new.writer)
+    (EndsFile g.S.Source.known g.W.Write.contents c.args.source c.args.writer.now
+    c.print_items.new.writer)
+    (λ error. of_file (g.S.Source.known c.args.source) _
+    (λ bytes. to_come bytes c.new-reader.result) items_of_file
+    (λ items. PrintsUntil error items (g.W.Write.contents c.args.writer.now)
+    (g.W.Write.contents c.print_items.new.writer)) (ap g.S.Source.known c.new-reader.ensures.source)
+    c.new-reader.ensures.items) c.print_items.ensures.refused
+
+pub returns-clause-front : goal.returns-clause-front
+returns-clause-front g c =
+    of_file (g.S.Source.known c.args.source) _ (λ bytes. to_come bytes c.new-reader.result)
+    items_of_file (λ items. AppendsFront (g.W.Write.contents c.args.writer.now)
+    (g.W.Write.contents c.print_items.new.writer) (lines_of items))
+    (ap g.S.Source.known c.new-reader.ensures.source) c.new-reader.ensures.items
+    c.print_items.ensures.front
 
 pub returns-clause-failures : goal.returns-clause-failures
 returns-clause-failures g c = (

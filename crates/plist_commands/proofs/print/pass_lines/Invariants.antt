@@ -1,7 +1,7 @@
 use Rattle.std.proofs.Common.{◌≡◌, IfSome}
 use Rattle.plist_binread.specs.BinaryReader.{source_of, to_come, steps_to_come}
 use Rattle.plist_commands.proofs.HeldBack.{IsPassedUpTo}
-use Rattle.plist_commands.proofs.print.send_lines.Given as goal
+use Rattle.plist_commands.proofs.print.pass_lines.Given as goal
 
 abbrev pub invariant-loop-item : goal.invariant-loop-item
 invariant-loop-item g l = record {

@@ -1,0 +1,9 @@
+use Rattle.plist.specs.Views.{tree_of}
+use Rattle.plist_commands.specs.Failures.{complaint_of}
+use Rattle.plist_commands.proofs.Trees.{unprinted}
+use Rattle.plist_commands.proofs.keyed.print_at.Goals as goal
+
+pub returns-in-Err-clause-refused : goal.returns-in-Err-clause-refused
+returns-in-Err-clause-refused g c =
+    unprinted c.args.root.now c.args.key.now (complaint_of c.in-Err.failure)
+    c.in-Err.ensures.refused
