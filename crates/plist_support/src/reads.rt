@@ -5,11 +5,11 @@ use crate::device::{Device, Fault, expect_cut};
 use crate::words::words_of;
 use crate::wrong::{Wrong, told};
 use plist_ascii::{AsciiReader, Dialect};
-use plist_base::{Limits, Sequential};
+use plist_base::{Limits, Sequential, Source};
 use plist_binread::BinaryReader;
 use plist_reader::Reader;
 use std::alloc::{AllocError, Global};
-use std::io::ErrorKind;
+use std::io::{ErrorKind, Read};
 
 /// Who reads the device.
 #[derive(Clone, Copy)]
@@ -27,29 +27,29 @@ pub enum By {
 // More items than any example has.
 const MOST: usize = 100;
 
-// The words of the items over a device, so many at most.
-fn words_over(
+/// The words of the items over a source, so many at most.
+pub fn words_over<S: Source + Read>(
     alloc: Global,
     by: By,
-    device: &mut Device,
+    source: S,
     most: usize,
 ) -> Result<String, AllocError> {
     match by {
-        By::Binary => words_of(alloc, BinaryReader::new(alloc, device).take(most)),
+        By::Binary => words_of(alloc, BinaryReader::new(alloc, source).take(most)),
         By::Limited(limits) => {
-            let reader = BinaryReader::with_limits(alloc, device, limits);
+            let reader = BinaryReader::with_limits(alloc, source, limits);
             words_of(alloc, reader.take(most))
         }
-        By::Ascii => words_of(alloc, AsciiReader::new(alloc, device).take(most)),
+        By::Ascii => words_of(alloc, AsciiReader::new(alloc, source).take(most)),
         By::Tight => {
-            let reader = AsciiReader::with_dialect(alloc, device, Dialect::Tight);
+            let reader = AsciiReader::with_dialect(alloc, source, Dialect::Tight);
             words_of(alloc, reader.take(most))
         }
         By::Sequential => {
-            let reader = AsciiReader::new(alloc, Sequential::new(device));
+            let reader = AsciiReader::new(alloc, Sequential::new(source));
             words_of(alloc, reader.take(most))
         }
-        By::Either => words_of(alloc, Reader::new(alloc, device).take(most)),
+        By::Either => words_of(alloc, Reader::new(alloc, source).take(most)),
     }
 }
 

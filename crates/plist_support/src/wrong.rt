@@ -1,6 +1,6 @@
 //! What an example doesn't find as it wants it.
 
-use std::alloc::AllocError;
+use std::alloc::{AllocError, Global};
 use std::io::ErrorKind;
 
 /// What is not as an example wants it.
@@ -22,7 +22,32 @@ impl From<AllocError> for Wrong {
     }
 }
 
-// What is wrong, in these words.
-pub(crate) fn told<T>(text: Result<String, AllocError>) -> Result<T, Wrong> {
+/// What is wrong, in these words.
+pub fn told<T>(text: Result<String, AllocError>) -> Result<T, Wrong> {
     Err(Wrong::Told(text?))
+}
+
+/// What is found is what is wanted.
+pub fn expect_same(alloc: Global, found: &str, wanted: &str) -> Result<(), Wrong> {
+    if found == wanted {
+        return Ok(());
+    }
+    told(format!(in alloc; "{found} came, and not {wanted}"))
+}
+
+/// The bytes that are found are those that are wanted.
+pub fn expect_bytes(alloc: Global, found: &[u8], wanted: &[u8]) -> Result<(), Wrong> {
+    if found == wanted {
+        return Ok(());
+    }
+    let found = hex::encode(alloc, found)?;
+    told(format!(in alloc; "the bytes {found} came"))
+}
+
+/// Something holds; what it is, is said in this text.
+pub fn expect_that(alloc: Global, holds: bool, text: &str) -> Result<(), Wrong> {
+    if holds {
+        return Ok(());
+    }
+    told(format!(in alloc; "not so: {text}"))
 }

@@ -1,0 +1,64 @@
+//! Trees of keyed archives.
+
+use crate::rows::{Row, bytes_given, unreadable};
+use plist::{Uid, Value};
+use plist_keyed::{Archive, KeyedError};
+use plist_support::{Wrong, expect_same, told};
+use plist_value_support::{value_of, words_of_value};
+use std::alloc::{AllocError, Global};
+
+// The words of an answer's tree, or the text of its fault.
+fn words_of_tree(alloc: Global, answer: Result<Value, KeyedError>) -> Result<String, AllocError> {
+    match answer {
+        Ok(tree) => words_of_value(alloc, &tree),
+        Err(error) => error.to_string(alloc),
+    }
+}
+
+// The tree of the Uid 1 of an archive.
+fn expect_tree(alloc: Global, root: &Value, wanted: &str) -> Result<(), Wrong> {
+    match Archive::open(root) {
+        Ok(archive) => {
+            let words = words_of_tree(alloc, archive.tree(alloc, Uid::new(1)))?;
+            expect_same(alloc, words.as_str(), wanted)
+        }
+        Err(error) => told(error.to_string(alloc)),
+    }
+}
+
+// The tree of an archive of these objects, whose `$top` names the Uid 1.
+fn expect_tree_of(alloc: Global, objects: &str, wanted: &str) -> Result<(), Wrong> {
+    let words = format!(in alloc;
+        "{{ '$objects' [ {objects} end '$top' {{ 'root' uid:1 'text' 'x' end end"
+    )?;
+    let root = value_of(alloc, words.as_str())?;
+    expect_tree(alloc, &root, wanted)
+}
+
+// The tree of an archive's file.
+fn expect_tree_of_file(alloc: Global, given: &str, wanted: &str) -> Result<(), Wrong> {
+    let bytes = bytes_given(alloc, given)?;
+    match Value::from_reader(alloc, bytes.as_slice()) {
+        Ok(root) => expect_tree(alloc, &root, wanted),
+        Err(error) => told(error.to_string(alloc)),
+    }
+}
+
+// The value of these events isn't taken for an archive.
+fn expect_no_archive(alloc: Global, words: &str, wanted: &str) -> Result<(), Wrong> {
+    let root = value_of(alloc, words)?;
+    match Archive::open(&root) {
+        Ok(_) => unreadable(alloc, words),
+        Err(error) => expect_same(alloc, error.to_string(alloc)?.as_str(), wanted),
+    }
+}
+
+/// An example of an archive.
+pub(crate) fn run(alloc: Global, row: Row<'_>) -> Result<(), Wrong> {
+    match row.check {
+        "tree" => expect_tree_of(alloc, row.given, row.wanted),
+        "tree of file" => expect_tree_of_file(alloc, row.given, row.wanted),
+        "no archive" => expect_no_archive(alloc, row.given, row.wanted),
+        _ => unreadable(alloc, row.check),
+    }
+}

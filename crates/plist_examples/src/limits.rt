@@ -1,0 +1,41 @@
+//! What is read under limits.
+
+use crate::rows::{Row, bytes_given, first_number, unreadable};
+use plist_base::Limits;
+use plist_binread::BinaryReader;
+use plist_support::{By, Wrong, expect_on_devices, expect_same, words_over};
+use std::alloc::Global;
+
+// The items of these bytes, and of devices over them.
+fn expect(alloc: Global, limits: Limits, bytes: &[u8], items: &str) -> Result<(), Wrong> {
+    let by = By::Limited(limits);
+    let found = words_over(alloc, by, bytes, usize::MAX)?;
+    expect_same(alloc, found.as_str(), items)?;
+    expect_on_devices(alloc, by, bytes, items)
+}
+
+// So many items come of these bytes.
+fn expect_count(alloc: Global, limits: Limits, bytes: &[u8], count: &str) -> Result<(), Wrong> {
+    let mut found: u64 = 0;
+    for _ in BinaryReader::with_limits(alloc, bytes, limits) {
+        found = found.saturating_add(1);
+    }
+    let found = format!(in alloc; "{found}")?;
+    expect_same(alloc, found.as_str(), count)
+}
+
+fn run_check(alloc: Global, row: Row<'_>, limits: Limits, bytes: &[u8]) -> Result<(), Wrong> {
+    match row.check {
+        "limited" => expect(alloc, limits, bytes, row.wanted),
+        "counted" => expect_count(alloc, limits, bytes, row.wanted),
+        _ => unreadable(alloc, row.check),
+    }
+}
+
+/// An example of what is read under limits: the depth, how many items, and the bytes are given.
+pub(crate) fn run(alloc: Global, row: Row<'_>) -> Result<(), Wrong> {
+    let (depth, rest) = first_number(alloc, row.given)?;
+    let (items, rest) = first_number(alloc, rest)?;
+    let bytes = bytes_given(alloc, rest)?;
+    run_check(alloc, row, Limits { depth, items }, bytes.as_slice())
+}

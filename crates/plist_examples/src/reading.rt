@@ -1,0 +1,84 @@
+//! What is read of bytes, at hand and over devices.
+
+use crate::rows::{Row, bytes_given, decoded, unreadable};
+use plist_ascii::{AsciiReader, Dialect};
+use plist_binread::BinaryReader;
+use plist_support::{
+    By, Device, Wrong, expect_bytes, expect_on_devices, expect_on_shrinking_devices, expect_same,
+    expect_that, words_of, words_over,
+};
+use std::alloc::Global;
+
+// The items of these bytes, and of devices over them.
+fn expect(alloc: Global, by: By, bytes: &[u8], items: &str) -> Result<(), Wrong> {
+    let found = words_over(alloc, by, bytes, usize::MAX)?;
+    expect_same(alloc, found.as_str(), items)?;
+    expect_on_devices(alloc, by, bytes, items)
+}
+
+// So it is with a binary file, and with sources that shrink.
+fn expect_binary(alloc: Global, bytes: &[u8], items: &str) -> Result<(), Wrong> {
+    expect(alloc, By::Binary, bytes, items)?;
+    expect_on_shrinking_devices(alloc, bytes, items)
+}
+
+// So it is with a text, and with a source that is read from its front on.
+fn expect_ascii(alloc: Global, bytes: &[u8], items: &str) -> Result<(), Wrong> {
+    expect(alloc, By::Ascii, bytes, items)?;
+    expect_on_devices(alloc, By::Sequential, bytes, items)
+}
+
+// So it is with a text where the dialect is named.
+fn expect_lax(alloc: Global, bytes: &[u8], items: &str) -> Result<(), Wrong> {
+    let reader = AsciiReader::with_dialect(alloc, bytes, Dialect::Lax);
+    expect_same(alloc, words_of(alloc, reader)?.as_str(), items)?;
+    expect_on_devices(alloc, By::Ascii, bytes, items)
+}
+
+// The items of a binary file, and of a device that gives one byte a call.
+fn expect_plain(alloc: Global, bytes: &[u8], items: &str) -> Result<(), Wrong> {
+    let found = words_over(alloc, By::Binary, bytes, 1000)?;
+    expect_same(alloc, found.as_str(), items)?;
+    let mut device = Device::new(Vec::from_slice(alloc, bytes)?, u64::MAX);
+    let found = words_over(alloc, By::Binary, &mut device, 1000)?;
+    expect_same(alloc, found.as_str(), items)
+}
+
+// The first thousand items of a file begin with these.
+fn expect_front(alloc: Global, bytes: &[u8], items: &str) -> Result<(), Wrong> {
+    let found = words_of(alloc, BinaryReader::new(alloc, bytes).take(1000))?;
+    expect_that(alloc, found.starts_with(items), found.as_str())
+}
+
+// The first item of a text leaves the rest in the inner reader.
+fn expect_rest(alloc: Global, bytes: &[u8], rest: &str) -> Result<(), Wrong> {
+    let mut reader = AsciiReader::new(alloc, bytes);
+    let has_first = reader.next().is_some();
+    expect_bytes(alloc, reader.into_inner(), rest.as_bytes())?;
+    expect_that(alloc, has_first, "an item came")
+}
+
+// What is read of bytes, by a check.
+fn run_check(alloc: Global, check: &str, bytes: &[u8], wanted: &str) -> Result<(), Wrong> {
+    match check {
+        "binary" => expect_binary(alloc, bytes, wanted),
+        "plain" => expect_plain(alloc, bytes, wanted),
+        "front" => expect_front(alloc, bytes, wanted),
+        "ascii" => expect_ascii(alloc, bytes, wanted),
+        "lax" => expect_lax(alloc, bytes, wanted),
+        "tight" => expect(alloc, By::Tight, bytes, wanted),
+        "rest" => expect_rest(alloc, bytes, wanted),
+        "either" => expect(alloc, By::Either, bytes, wanted),
+        _ => unreadable(alloc, check),
+    }
+}
+
+/// An example of what is read.
+pub(crate) fn run(alloc: Global, row: Row<'_>) -> Result<(), Wrong> {
+    let bytes = bytes_given(alloc, row.given)?;
+    let wanted = decoded(alloc, row.wanted)?;
+    match str::from_utf8(wanted.as_slice()) {
+        Ok(wanted) => run_check(alloc, row.check, bytes.as_slice(), wanted),
+        Err(_) => unreadable(alloc, row.wanted),
+    }
+}

@@ -1,0 +1,92 @@
+//! The rows of a table: a check, the name of the example, what is given and what is wanted, with
+//! ` | ` between two. Where no name stands, what is given is the name.
+//!
+//! `%0a` is the byte of that number, in texts and in what is wanted.
+
+use percent_encoding::percent_decode;
+use plist_support::{Wrong, bytes_of, file, file_of_object, told};
+use std::alloc::Global;
+
+/// An example.
+#[derive(Clone, Copy)]
+pub(crate) struct Row<'a> {
+    pub check: &'a str,
+    pub name: &'a str,
+    pub given: &'a str,
+    pub wanted: &'a str,
+}
+
+// The example of a line, if it has so many fields.
+pub(crate) fn row_of(line: &str) -> Option<Row<'_>> {
+    let (check, rest) = line.split_once('|')?;
+    let (name, rest) = rest.split_once('|')?;
+    let (given, wanted) = rest.split_once('|').unwrap_or((name, rest));
+    Some(Row {
+        check: check.trim(),
+        name: name.trim(),
+        given: given.trim(),
+        wanted: wanted.trim(),
+    })
+}
+
+// What is wrong with a row that can't be read.
+pub(crate) fn unreadable<T>(alloc: Global, text: &str) -> Result<T, Wrong> {
+    told(format!(in alloc; "unreadable: {text}"))
+}
+
+// The bytes of a text.
+pub(crate) fn decoded(alloc: Global, text: &str) -> Result<Vec<u8>, Wrong> {
+    let mut bytes = Vec::new(alloc);
+    percent_decode(text.as_bytes()).append_to(&mut bytes)?;
+    Ok(bytes)
+}
+
+// The first word of a text, and what stands behind it.
+pub(crate) fn first_word(text: &str) -> (&str, &str) {
+    text.split_once(' ').unwrap_or((text, ""))
+}
+
+// The first number of a text, and what stands behind it.
+pub(crate) fn first_number(alloc: Global, text: &str) -> Result<(u64, &str), Wrong> {
+    let (first, rest) = first_word(text);
+    match first.parse::<u64>() {
+        Ok(number) => Ok((number, rest)),
+        Err(_) => unreadable(alloc, text),
+    }
+}
+
+// The first number of a text, in one byte, and what stands behind it.
+fn first_byte(alloc: Global, text: &str) -> Result<(u8, &str), Wrong> {
+    let (number, rest) = first_number(alloc, text)?;
+    match u8::try_from(number) {
+        Ok(byte) => Ok((byte, rest)),
+        Err(_) => unreadable(alloc, text),
+    }
+}
+
+// The file of these objects and their table, a slash, and the numbers of its trailer: both widths,
+// how many objects, the root, the place of the table.
+fn file_given(alloc: Global, text: &str) -> Result<Vec<u8>, Wrong> {
+    let Some((body, numbers)) = text.split_once('/') else {
+        return unreadable(alloc, text);
+    };
+    let (offset_width, rest) = first_byte(alloc, numbers.trim())?;
+    let (width, rest) = first_byte(alloc, rest)?;
+    let (count, rest) = first_number(alloc, rest)?;
+    let (root, rest) = first_number(alloc, rest)?;
+    let (table, _) = first_number(alloc, rest)?;
+    let widths = [offset_width, width];
+    file(alloc, body.trim(), widths, [count, root, table])
+}
+
+// The bytes that are given: of a text, in hexadecimal, the file of an object, or of its parts.
+pub(crate) fn bytes_given(alloc: Global, given: &str) -> Result<Vec<u8>, Wrong> {
+    let (form, rest) = first_word(given);
+    match form {
+        "text" => decoded(alloc, rest),
+        "bytes" => bytes_of(alloc, rest),
+        "object" => file_of_object(alloc, rest),
+        "file" => file_given(alloc, rest),
+        _ => unreadable(alloc, given),
+    }
+}

@@ -1,0 +1,98 @@
+//! What `advance` tells of objects, and which are decoded once, however often they are met.
+
+use crate::rows::Row;
+use plist_binread::{BinaryReader, DecodeCounter, Told};
+use plist_support::{Wrong, expect_same, file, word_of};
+use std::alloc::{AllocError, Global};
+
+// How many small scalars were decoded.
+#[derive(Drop)]
+struct Tally {
+    raised: u64,
+}
+
+// Lent to a reader, so that it can be looked at afterwards.
+impl<'a> DecodeCounter for &'a mut Tally {
+    ghost counts = { ⊥ };
+
+    ghost count = { λ _. 0 };
+
+    fn raise(&mut self) {
+        self.raised = self.raised.saturating_add(1);
+    }
+}
+
+// What was told last, in a word.
+fn told_word<C: DecodeCounter>(
+    alloc: Global,
+    reader: &BinaryReader<&[u8], C>,
+) -> Result<String, AllocError> {
+    match reader.told() {
+        Told::Held => {
+            let word = word_of(alloc, &reader.event())?;
+            format!(in alloc; "held:{word}")
+        }
+        Told::Text => {
+            let text = reader.text();
+            format!(in alloc; "text:{text}")
+        }
+        Told::Data => {
+            let digits = hex::encode(alloc, reader.data())?;
+            format!(in alloc; "data:{digits}")
+        }
+        Told::Array(length) => format!(in alloc; "array:{length}"),
+        Told::Dictionary(length) => format!(in alloc; "dictionary:{length}"),
+        Told::End => String::from_str(alloc, "end"),
+        Told::Boolean(value) => format!(in alloc; "boolean:{value}"),
+        Told::Unsigned(number) => format!(in alloc; "unsigned:{number}"),
+        Told::Uid(number) => format!(in alloc; "uid:{number}"),
+    }
+}
+
+// Adds what is told next, behind a blank.
+fn add_told<C: DecodeCounter>(
+    alloc: Global,
+    words: &mut String,
+    reader: &mut BinaryReader<&[u8], C>,
+) -> Result<(), AllocError> {
+    if let Some(Ok(())) = reader.advance() {
+        let word = told_word(alloc, reader)?;
+        words.push(' ')?;
+        words.push_str(word.as_str())?;
+    }
+    Ok(())
+}
+
+// What is told of these bytes, each word behind a blank.
+fn told_words(alloc: Global, bytes: &[u8], tally: &mut Tally) -> Result<String, AllocError> {
+    let mut reader = BinaryReader::with_counter(alloc, bytes, tally);
+    let mut words = String::new(alloc);
+    for _ in 0..8 {
+        add_told(alloc, &mut words, &mut reader)?;
+    }
+    Ok(words)
+}
+
+// The file of an array that refers twice to an object.
+fn twice(alloc: Global, object: &str) -> Result<Vec<u8>, Wrong> {
+    let body = format!(in alloc; "a20101 {object} 080b")?;
+    let table = 11 + object.len() as u64 / 2;
+    file(alloc, body.as_str(), [1, 1], [2, 0, table])
+}
+
+// Of the object this is told each time, and so many small scalars are decoded.
+fn expect(alloc: Global, bytes: &[u8], told: &str, decoded: u64) -> Result<(), Wrong> {
+    let mut tally = Tally { raised: 0 };
+    let words = told_words(alloc, bytes, &mut tally)?;
+    let found = format!(in alloc; "{}{}", tally.raised, words.as_str())?;
+    let wanted = format!(in alloc; "{decoded} array:2 {told} {told} end")?;
+    expect_same(alloc, found.as_str(), wanted.as_str())
+}
+
+/// An example of an object: `kept` is a small scalar, decoded once and told again of what was kept;
+/// what isn't small is read `anew` each time.
+pub(crate) fn run(alloc: Global, row: Row<'_>) -> Result<(), Wrong> {
+    let bytes = twice(alloc, row.given)?;
+    let decoded = if row.check == "kept" { 1 } else { 0 };
+    expect(alloc, bytes.as_slice(), row.wanted, decoded)
+}

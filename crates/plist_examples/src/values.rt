@@ -1,0 +1,192 @@
+//! Values: what is read as them, which are equal, and what is built of events.
+
+use crate::rows::{Row, bytes_given, first_number, unreadable};
+use crate::writes::expect_done;
+use plist::{Builder, Dialect, Limits, Value};
+use plist_base::{Error, ErrorKind, Event};
+use plist_support::{
+    Device, Wrong, add_words, event_of, expect_answers, expect_bytes, expect_io, expect_same,
+    expect_that, told,
+};
+use plist_value_support::{value_of, words_of_answer};
+use std::alloc::{AllocError, Global};
+use std::io;
+
+// The events of an answer's value, or its fault.
+fn expect(alloc: Global, answer: &Result<Value, Error>, wanted: &str) -> Result<(), Wrong> {
+    expect_same(alloc, words_of_answer(alloc, answer)?.as_str(), wanted)
+}
+
+// The answer of a device that may fail at this call: where it fails that is `Io` with the place of
+// the read, and the last call. Tells whether it failed.
+fn expect_answer(
+    alloc: Global,
+    device: &Device,
+    answer: Result<Value, Error>,
+    wanted: &str,
+    call: u64,
+) -> Result<bool, Wrong> {
+    if device.failures == 0 {
+        expect_that(alloc, device.calls <= call, "the call is made")?;
+        expect(alloc, &answer, wanted)?;
+        return Ok(false);
+    }
+    expect_io(answer, io::ErrorKind::Interrupted, Some(device.place))?;
+    let is_last = device.failures == 1 && device.calls == call.saturating_add(1);
+    expect_that(alloc, is_last, "one failure, at the last call")?;
+    Ok(true)
+}
+
+// What is read of a device that fails at this call. Tells whether it failed.
+fn expect_on_device(alloc: Global, bytes: &[u8], wanted: &str, call: u64) -> Result<bool, Wrong> {
+    let mut device = Device::new(Vec::from_slice(alloc, bytes)?, call);
+    let answer = Value::from_reader(alloc, &mut device);
+    expect_answer(alloc, &device, answer, wanted, call)
+}
+
+// The value of these bytes, or its fault, at hand and over devices.
+fn expect_read(alloc: Global, bytes: &[u8], wanted: &str) -> Result<(), Wrong> {
+    expect(alloc, &Value::from_reader(alloc, bytes), wanted)?;
+    for call in 0..1000 {
+        if !expect_on_device(alloc, bytes, wanted, call)? {
+            return Ok(());
+        }
+    }
+    expect_that(alloc, false, "the device stops failing")
+}
+
+// The value of a text, or its fault.
+fn expect_ascii(alloc: Global, bytes: &[u8], wanted: &str) -> Result<(), Wrong> {
+    expect(alloc, &Value::from_reader_ascii(alloc, bytes), wanted)
+}
+
+// The same in a dialect.
+fn expect_dialect(
+    alloc: Global,
+    dialect: Dialect,
+    bytes: &[u8],
+    wanted: &str,
+) -> Result<(), Wrong> {
+    let answer = Value::from_reader_ascii_with_dialect(alloc, bytes, dialect);
+    expect(alloc, &answer, wanted)
+}
+
+// The value of these bytes is written as this file.
+fn expect_converted(alloc: Global, bytes: &[u8], wanted: &str) -> Result<(), Wrong> {
+    let file = bytes_given(alloc, wanted)?;
+    match Value::from_reader(alloc, bytes) {
+        Ok(value) => {
+            let mut found = Vec::new(alloc);
+            expect_done(alloc, value.to_writer_binary(alloc, &mut found))?;
+            expect_bytes(alloc, found.as_slice(), file.as_slice())
+        }
+        Err(error) => told(error.to_string(alloc)),
+    }
+}
+
+// Under limits: the depth, how many items, and the bytes are given.
+fn expect_limited(alloc: Global, given: &str, wanted: &str) -> Result<(), Wrong> {
+    let (depth, rest) = first_number(alloc, given)?;
+    let (items, rest) = first_number(alloc, rest)?;
+    let bytes = bytes_given(alloc, rest)?;
+    let limits = Limits { depth, items };
+    let answer = Value::from_reader_with_limits(alloc, bytes.as_slice(), limits);
+    expect(alloc, &answer, wanted)
+}
+
+// Whether two values are equal.
+fn expect_equal(alloc: Global, row: Row<'_>, equal: bool) -> Result<(), Wrong> {
+    let first = value_of(alloc, row.given)?;
+    let second = value_of(alloc, row.wanted)?;
+    expect_that(alloc, (first == second) == equal, row.check)
+}
+
+// Which of the calls that look into a value answer, by the kind that each is for.
+fn kinds_of(value: &Value) -> [(bool, &'static str); 10] {
+    [
+        (value.as_array().is_some(), "array"),
+        (value.as_dictionary().is_some(), "dictionary"),
+        (value.as_boolean().is_some(), "boolean"),
+        (value.as_data().is_some(), "data"),
+        (value.as_date().is_some(), "date"),
+        (value.as_real().is_some(), "real"),
+        (value.as_signed_integer().is_some(), "signed"),
+        (value.as_unsigned_integer().is_some(), "unsigned"),
+        (value.as_string().is_some(), "string"),
+        (value.as_uid().is_some(), "uid"),
+    ]
+}
+
+fn kind_words(alloc: Global, value: &Value) -> Result<String, AllocError> {
+    let mut words = String::new(alloc);
+    for (answers, kind) in kinds_of(value) {
+        if answers {
+            add_words(&mut words, " ", kind)?;
+        }
+    }
+    Ok(words)
+}
+
+// A value answers the calls of its own kind alone.
+fn expect_kinds(alloc: Global, words: &str, wanted: &str) -> Result<(), Wrong> {
+    let value = value_of(alloc, words)?;
+    expect_same(alloc, kind_words(alloc, &value)?.as_str(), wanted)
+}
+
+// The item of a word: `!` is one that is an error.
+fn item_of<'a>(alloc: Global, word: &'a str) -> Result<Result<Event<'a>, Error>, Wrong> {
+    match word {
+        "!" => Ok(Err(ErrorKind::InvalidMagic.with_byte_offset(0))),
+        other => Ok(Ok(event_of(alloc, other)?)),
+    }
+}
+
+// What is collected of the items of these words.
+fn expect_collected(alloc: Global, words: &str, wanted: &str) -> Result<(), Wrong> {
+    let mut items = Vec::new(alloc);
+    for word in words.split(' ') {
+        let item = item_of(alloc, word)?;
+        if items.push(item).is_err() {
+            return Err(Wrong::OutOfMemory);
+        }
+    }
+    expect(alloc, &Value::from_events(alloc, items), wanted)
+}
+
+// What a builder answers to the events of these words, and the value then.
+fn expect_built(alloc: Global, words: &str, wanted: &str) -> Result<(), Wrong> {
+    let Some((answers, value)) = wanted.split_once(" => ") else {
+        return unreadable(alloc, wanted);
+    };
+    let mut builder = Builder::new(alloc);
+    expect_answers(alloc, &mut builder, words, answers)?;
+    expect(alloc, &builder.finish(), value)
+}
+
+// What is read of bytes, by a check.
+fn run_read(alloc: Global, check: &str, bytes: &[u8], wanted: &str) -> Result<(), Wrong> {
+    match check {
+        "value" => expect_read(alloc, bytes, wanted),
+        "value of ascii" => expect_ascii(alloc, bytes, wanted),
+        "value of lax" => expect_dialect(alloc, Dialect::Lax, bytes, wanted),
+        "value of tight" => expect_dialect(alloc, Dialect::Tight, bytes, wanted),
+        "converted" => expect_converted(alloc, bytes, wanted),
+        _ => unreadable(alloc, check),
+    }
+}
+
+/// An example of values.
+pub(crate) fn run(alloc: Global, row: Row<'_>) -> Result<(), Wrong> {
+    match row.check {
+        "equal" => expect_equal(alloc, row, true),
+        "unequal" => expect_equal(alloc, row, false),
+        "kind" => expect_kinds(alloc, row.given, row.wanted),
+        "collected" => expect_collected(alloc, row.given, row.wanted),
+        "built" => expect_built(alloc, row.given, row.wanted),
+        "value under limits" => expect_limited(alloc, row.given, row.wanted),
+        _ => {
+            let bytes = bytes_given(alloc, row.given)?;
+            run_read(alloc, row.check, bytes.as_slice(), row.wanted)
+        }
+    }
+}

@@ -1,0 +1,200 @@
+//! What `BinaryWriter` and `SharingWriter` write, byte by byte, and what is read of that.
+
+use crate::rows::{Row, bytes_given, first_number, first_word, unreadable};
+use crate::writes::{Sending, expect_done, expect_file_on_devices};
+use plist::{Value, write_value};
+use plist_binread::BinaryReader;
+use plist_binwrite::{BinaryWriter, FileWriter, Sharing};
+use plist_share::SharingWriter;
+use plist_support::{Fault, Wrong, expect_answers, expect_bytes, expect_same, words_of, write_all};
+use plist_value_support::{value_of, words_of_answer};
+use std::alloc::Global;
+use std::io::ErrorKind;
+
+// A writer of these events sends this file.
+fn expect_written<S: Sharing>(
+    alloc: Global,
+    mut writer: FileWriter<Vec<u8>, S>,
+    words: &str,
+    bytes: &[u8],
+) -> Result<(), Wrong> {
+    write_all(alloc, &mut writer, words)?;
+    expect_bytes(alloc, writer.into_inner().as_slice(), bytes)
+}
+
+// The events of a file are these.
+fn expect_read(alloc: Global, bytes: &[u8], words: &str) -> Result<(), Wrong> {
+    let read = words_of(alloc, BinaryReader::new(alloc, bytes))?;
+    expect_same(alloc, read.as_str(), words)
+}
+
+// The value of a file has these events.
+fn expect_value_read(alloc: Global, bytes: &[u8], words: &str) -> Result<(), Wrong> {
+    let read = Value::from_events(alloc, BinaryReader::new(alloc, bytes));
+    expect_same(alloc, words_of_answer(alloc, &read)?.as_str(), words)
+}
+
+// A value is written as this file.
+fn expect_value_written(alloc: Global, value: &Value, bytes: &[u8]) -> Result<(), Wrong> {
+    let mut found = Vec::new(alloc);
+    expect_done(alloc, value.to_writer_binary(alloc, &mut found))?;
+    expect_bytes(alloc, found.as_slice(), bytes)
+}
+
+// The events of these words give this file, whatever lengths they say.
+fn expect_hinted(alloc: Global, words: &str, bytes: &[u8]) -> Result<(), Wrong> {
+    let writer = BinaryWriter::new(alloc, Vec::new(alloc));
+    expect_written(alloc, writer, words, bytes)
+}
+
+// They give this file, and the file gives them.
+fn expect_events(alloc: Global, words: &str, bytes: &[u8]) -> Result<(), Wrong> {
+    expect_hinted(alloc, words, bytes)?;
+    expect_read(alloc, bytes, words)
+}
+
+// The events, and their value, are sent to devices with a fault.
+fn expect_sent(alloc: Global, words: &str, bytes: &[u8], fault: Fault) -> Result<(), Wrong> {
+    let value = value_of(alloc, words)?;
+    let value = &value;
+    expect_file_on_devices(
+        alloc,
+        Sending {
+            words,
+            value,
+            bytes,
+            fault,
+        },
+    )
+}
+
+// They give this file, and so does their value; the file gives them and their value; and on devices
+// it is sent alike.
+fn expect_file(alloc: Global, words: &str, bytes: &[u8]) -> Result<(), Wrong> {
+    expect_events(alloc, words, bytes)?;
+    expect_value_read(alloc, bytes, words)?;
+    expect_value_written(alloc, &value_of(alloc, words)?, bytes)?;
+    expect_sent(alloc, words, bytes, Fault::Fails(ErrorKind::Interrupted))
+}
+
+// A value is shared as this file.
+fn expect_value_shared(alloc: Global, value: &Value, bytes: &[u8]) -> Result<(), Wrong> {
+    let mut writer = SharingWriter::new(alloc, Vec::new(alloc));
+    expect_done(alloc, write_value(alloc, value, &mut writer))?;
+    expect_bytes(alloc, writer.into_inner().as_slice(), bytes)
+}
+
+// The value of a file has these events in order, and is shared as the same file.
+fn expect_shared_again(alloc: Global, words: &str, bytes: &[u8]) -> Result<(), Wrong> {
+    let read = Value::from_reader(alloc, bytes);
+    expect_same(alloc, words_of_answer(alloc, &read)?.as_str(), words)?;
+    match read {
+        Ok(value) => expect_value_shared(alloc, &value, bytes),
+        Err(_) => unreadable(alloc, words),
+    }
+}
+
+// The events of these words are shared as this file; the file gives them, its value has them in
+// order, and is shared as the same file.
+fn expect_shared(alloc: Global, words: &str, bytes: &[u8]) -> Result<(), Wrong> {
+    let writer = SharingWriter::new(alloc, Vec::new(alloc));
+    expect_written(alloc, writer, words, bytes)?;
+    expect_read(alloc, bytes, words)?;
+    expect_shared_again(alloc, words, bytes)
+}
+
+// The fault of this name.
+fn fault_of(alloc: Global, name: &str) -> Result<Fault, Wrong> {
+    match name {
+        "Interrupted" => Ok(Fault::Fails(ErrorKind::Interrupted)),
+        "TimedOut" => Ok(Fault::Fails(ErrorKind::TimedOut)),
+        "PermissionDenied" => Ok(Fault::Fails(ErrorKind::PermissionDenied)),
+        "StorageFull" => Ok(Fault::Fails(ErrorKind::StorageFull)),
+        "MovesNothing" => Ok(Fault::MovesNothing),
+        _ => unreadable(alloc, name),
+    }
+}
+
+// The events behind the name of a fault are sent to devices with that.
+fn expect_faulty(alloc: Global, given: &str, bytes: &[u8]) -> Result<(), Wrong> {
+    let (name, words) = first_word(given);
+    let fault = fault_of(alloc, name)?;
+    expect_sent(alloc, words, bytes, fault)
+}
+
+// What stands before, within and behind the first parentheses.
+fn parts_of(field: &str) -> Option<(&str, &str, &str)> {
+    let (before, rest) = field.split_once('(')?;
+    let (within, behind) = rest.split_once(')')?;
+    Some((before, within, behind))
+}
+
+// A field in which `(00*3)` stands for `000000`.
+fn repeated(alloc: Global, field: &str) -> Result<String, Wrong> {
+    let Some((before, within, behind)) = parts_of(field) else {
+        return unreadable(alloc, field);
+    };
+    let Some((part, times)) = within.split_once('*') else {
+        return unreadable(alloc, field);
+    };
+    let (times, _) = first_number(alloc, times)?;
+    let mut whole = String::from_str(alloc, before)?;
+    for _ in 0..times {
+        whole.push_str(part)?;
+    }
+    whole.push_str(behind)?;
+    Ok(whole)
+}
+
+// An example with parentheses in the words and in the file.
+fn expect_repeated(alloc: Global, row: Row<'_>) -> Result<(), Wrong> {
+    let words = repeated(alloc, row.given)?;
+    let file = repeated(alloc, row.wanted)?;
+    let bytes = bytes_given(alloc, file.as_str())?;
+    expect_file(alloc, words.as_str(), bytes.as_slice())
+}
+
+// A writer gives these answers to the events, and what was sent then are these bytes.
+fn expect_answered<S: Sharing>(
+    alloc: Global,
+    mut writer: FileWriter<Vec<u8>, S>,
+    words: &str,
+    wanted: &str,
+) -> Result<(), Wrong> {
+    let Some((answers, given)) = wanted.split_once(" => ") else {
+        return unreadable(alloc, wanted);
+    };
+    expect_answers(alloc, &mut writer, words, answers)?;
+    let bytes = bytes_given(alloc, given)?;
+    expect_bytes(alloc, writer.into_inner().as_slice(), bytes.as_slice())
+}
+
+// What is written of the events that are given, by a check.
+fn run_check(alloc: Global, row: Row<'_>) -> Result<(), Wrong> {
+    let bytes = bytes_given(alloc, row.wanted)?;
+    let (words, bytes) = (row.given, bytes.as_slice());
+    match row.check {
+        "written" => expect_file(alloc, words, bytes),
+        "written of events" => expect_events(alloc, words, bytes),
+        "hinted" => expect_hinted(alloc, words, bytes),
+        "faulty" => expect_faulty(alloc, words, bytes),
+        "shared" => expect_shared(alloc, words, bytes),
+        _ => unreadable(alloc, row.check),
+    }
+}
+
+/// An example of what is written.
+pub(crate) fn run(alloc: Global, row: Row<'_>) -> Result<(), Wrong> {
+    match row.check {
+        "repeated" => expect_repeated(alloc, row),
+        "answered" => {
+            let writer = BinaryWriter::new(alloc, Vec::new(alloc));
+            expect_answered(alloc, writer, row.given, row.wanted)
+        }
+        "sharing answered" => {
+            let writer = SharingWriter::new(alloc, Vec::new(alloc));
+            expect_answered(alloc, writer, row.given, row.wanted)
+        }
+        _ => run_check(alloc, row),
+    }
+}
