@@ -1,4 +1,4 @@
-use Rattle.plist_commands.specs.Commands.{Asked, Print, Convert, Keyed, IsWrong}
+use Rattle.plist_commands.specs.Commands.{Print, Convert, Keyed, IsWrong}
 use Rattle.std.proofs.Common.{[]}
 use Rattle.plist_commands.proofs.callers.status_of_no_words.Goals as goal
 

@@ -1,4 +1,4 @@
-use Rattle.std.proofs.Common.{rules, refl}
+use Rattle.std.proofs.Common.{refl}
 use Rattle.plist_commands.proofs.Streaming.{counts_sent, not_binary}
 use Rattle.plist_commands.proofs.convert.convert_binary.Goals as goal
 

@@ -1,4 +1,4 @@
-use Rattle.std.proofs.Common.{◌≡◌, true, false, rules, ap, ◌∙◌, subst}
+use Rattle.std.proofs.Common.{◌≡◌, false, rules, ap, ◌∙◌, subst}
 use Rattle.std.proofs.lemmas.Result.{IfOk-weaker}
 use Rattle.plist_binread.specs.BinaryReader.{source_of, to_come}
 use Rattle.plist_commands.specs.Converting.{AreNoTree, FindsTree, IsRefusedFor, items_left, items_of_known}

@@ -1,4 +1,3 @@
-use Rattle.plist.specs.Views.{tree_of}
 use Rattle.plist_commands.specs.Failures.{complaint_of}
 use Rattle.plist_commands.proofs.Trees.{unprinted}
 use Rattle.plist_commands.proofs.keyed.print_at.Goals as goal

@@ -1,4 +1,4 @@
-use Rattle.std.proofs.Common.{◌≡◌, ap}
+use Rattle.std.proofs.Common.{ap}
 use Rattle.std.proofs.lemmas.Result.{IfErr-weaker, on_ok_weaker}
 use Rattle.plist_base.specs.Fronts.{AppendsFront}
 use Rattle.plist_binread.specs.BinaryReader.{source_of, to_come}
