@@ -2,7 +2,7 @@
 use Rattle.std.proofs.Common.{◌≡◌, ℕ, ◌+◌, ◌<◌, Bool, true, false, not, cond, List, [], ◌∷◌, ◌++◌, length, map, sym, ap, subst, ◌∙◌, is_some, length-append, Some, None, position, string_bytes, bytes_eq, lt-ltb, refl, append_assoc, arith, is_lt, string_cmp, IsPermutation, IsSorted, nat_cmp, IsSortedBy}
 use Rattle.std.specs.List.{list_any, position_or_len, IsDistinct}
 use Rattle.std.specs.Map.{lookup, keys_of}
-use Rattle.std.proofs.lemmas.List.{length-map, get_or-map, map-append}
+use Rattle.std.proofs.lemmas.List.{length-map, get_or-map, map-append, map_push}
 use Rattle.plist_pairs.proofs.Columns.{Text, rows, rows-pushed, columns, any-rows, keys-rows}
 use Rattle.plist_pairs.proofs.EntrySteps.{comes_last, none_of}
 use Rattle.std.specs.Cmp.Lexicographic.{slice_cmp, nat_list_eq_equiv}
@@ -99,6 +99,16 @@ module _ {V : Type 0} where
               ∙ append_assoc (rows ks vs) ((string_bytes k, v) ∷ []) (map shown_owned_pair less)
               ∙ parts,
         )
+
+  -- the next of the pairs by value is one row more
+  pub row-moved : (rows new : List (Text × V)) (row : Text × V) (left less pairs : List (List ℕ × V))
+      → map shown_owned_pair rows ++ left ≡ pairs → left ≡ shown_owned_pair row ∷ less
+      → new ≡ rows ++ row ∷ [] → map shown_owned_pair new ++ less ≡ pairs
+  row-moved rows new row left less pairs so next put =
+      ap (λ l. map shown_owned_pair l ++ less) put
+      ∙ ap (λ l. l ++ less) (map_push shown_owned_pair rows row)
+      ∙ append_assoc (map shown_owned_pair rows) (shown_owned_pair row ∷ []) less
+      ∙ ap (λ l. map shown_owned_pair rows ++ l) (sym next) ∙ so
 
   keys-shown : (all : List (Text × V))
       → map (λ (r : Text × V). string_bytes r.0) all ≡ keys_of (map shown_owned_pair all)

@@ -1,0 +1,20 @@
+use Rattle.std.proofs.Common.{ap, arith, length, length-append, ◌∷◌, []}
+use Rattle.plist_pairs.proofs.Rebuilt.{row-moved}
+use Rattle.plist_pairs.proofs.dictionary.store.sorted.rows_of.Goals as goal
+
+pub loop-row-preserved : goal.loop-row-preserved
+loop-row-preserved g c =
+    let i = c.loop-row.invariant in
+    let next = c.in-Some.ensures.steps in
+    let put = c.push_reserved.ensures in (
+      row-moved c.loop-row.rows.items _ c.in-Some.row c.loop-row.row-iterator _ _ i.0 next put.items,
+      omega (
+        arith,
+        i.1,
+        ap length next,
+        ap length put.items,
+        length-append
+            c.loop-row.rows.items (c.in-Some.row ∷ []),
+        put.capacity,
+      ),
+    )
