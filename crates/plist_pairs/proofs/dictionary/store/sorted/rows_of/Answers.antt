@@ -1,6 +1,15 @@
-use Rattle.std.proofs.Common.{ap, arith, length, length-append, ◌∷◌, []}
+use Rattle.std.proofs.Common.{ap, arith, length, length-append, map, ◌∙◌, ◌++◌, ◌∷◌, []}
+use Rattle.plist_pairs.specs.Shown.{shown_owned_pair}
 use Rattle.plist_pairs.proofs.Rebuilt.{row-moved}
 use Rattle.plist_pairs.proofs.dictionary.store.sorted.rows_of.Goals as goal
+
+pub loop-row-init : goal.loop-row-init
+loop-row-init g c =
+    let same = c.into_iter-row-iterator.ensures.into_iter_gives
+    ∙ c.into_pairs-row-items.ensures.pairs in (
+      ap (λ l. map shown_owned_pair l ++ c.into_iter-row-iterator.result) c.requires.empty ∙ same,
+      omega (arith, ap length c.requires.empty, ap length same, c.requires.fits),
+    )
 
 pub loop-row-preserved : goal.loop-row-preserved
 loop-row-preserved g c =
