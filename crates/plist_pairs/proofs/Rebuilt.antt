@@ -1,13 +1,15 @@
 -- Keys and their values that are put into two columns, and their order.
-use Rattle.std.proofs.Common.{◌≡◌, ℕ, ◌+◌, ◌<◌, Bool, true, false, not, cond, List, [], ◌∷◌, ◌++◌, length, map, sym, ap, subst, ◌∙◌, is_some, length-append, Some, None, position, string_bytes, bytes_eq, lt-ltb, refl, append_assoc, arith, is_lt, string_cmp, IsPermutation, IsSorted, nat_cmp, IsSortedBy}
+use Rattle.std.proofs.Common.{◌≡◌, ℕ, ◌+◌, ◌<◌, Bool, true, false, not, cond, List, [], ◌∷◌, ◌++◌, length, map, sym, ap, subst, ◌∙◌, is_some, IsSome, Option, length-append, Some, None, position, string_bytes, bytes_eq, lt-ltb, refl, append_assoc, arith, is_lt, string_cmp, IsPermutation, IsSorted, nat_cmp, IsSortedBy}
 use Rattle.std.specs.List.{list_any, position_or_len, IsDistinct}
 use Rattle.std.specs.Map.{lookup, keys_of}
+use Rattle.std.specs.Option.{option_to_list}
 use Rattle.std.proofs.lemmas.List.{length-map, get_or-map, map-append, map_push}
 use Rattle.plist_pairs.proofs.Columns.{Text, rows, rows-pushed, columns, any-rows, keys-rows}
 use Rattle.plist_pairs.proofs.EntrySteps.{comes_last, none_of}
 use Rattle.std.specs.Cmp.Lexicographic.{slice_cmp, nat_list_eq_equiv}
 use Rattle.std.proofs.lemmas.List.Sorted.{IsPermutation-map}
 use Rattle.indexmap.proofs.MapLemmas.{absent_before, distinct_permutation}
+use Rattle.indexmap.proofs.RemoveLemmas.{popped_last}
 use Rattle.plist_pairs.specs.Shown.{shown_owned_pair}
 use Rattle.plist_pairs.proofs.Keeping.{first-distinct}
 
@@ -57,6 +59,37 @@ module _ (ks : List Text) (k : Text) (b : Bool) (new : b ≡ not (has ks k)) (n 
   old-index i at within =
       at_first (λ (l : Text). bytes_eq (string_bytes k) (string_bytes l)) ks i at
       (rw (← old-keys) within)
+
+-- a key that was put last is the one that is popped, and the others are as they were
+module _ (ks : List Text) (k : Text) (b : Bool) (new : b ≡ not (has ks k)) (n : b ≡ true)
+    (ls : List Text) (h : ls ≡ cond (has ks k) ks (ks ++ k ∷ [])) where
+  new-lacks : has ks k ≡ false
+  new-lacks = is-not b _ new ∙ ap not n
+
+  pub popped-key : (ms : List Text) (o : Option Text) (t : Text) → ls ≡ ms ++ option_to_list o
+      → o ≡ Some t → (t ≡ k) × (ms ≡ ks)
+  popped-key ms o t popped some =
+      let put : ls ≡ ks ++ k ∷ [] = h ∙ ap (λ c. cond c ks (ks ++ k ∷ [])) new-lacks in
+      let p = popped_last ks ms k o (sym put ∙ popped) (subst IsSome (sym some) refl) in
+      let same : o ≡ Some k = p.0 in
+      (cc, p.1)
+
+  module _ {X : Type 0} (vs : List X) (e : length vs ≡ length ks) (pairs : List (List ℕ × X))
+      (seen : rows ks vs ≡ pairs) where
+    -- the key wasn't there
+    pub new-absent : is_some (lookup (bytes_eq (string_bytes k)) pairs) ≡ false
+    new-absent =
+        ap (λ l. is_some (lookup (bytes_eq (string_bytes k)) l)) (sym seen)
+        ∙ sym (any-rows ks vs (bytes_eq (string_bytes k)) e) ∙ new-lacks
+
+    -- neither column has changed
+    pub undone : (ms : List Text) (ws : List X) → ms ≡ ks → ws ≡ vs
+        → IsDistinct bytes_eq (map string_bytes ks)
+        → (length ws ≡ length ms) × IsDistinct bytes_eq (map string_bytes ms)
+    undone ms ws keys items d = (
+      ap length items ∙ e ∙ sym (ap length keys),
+      subst (λ l. IsDistinct bytes_eq (map string_bytes l)) (sym keys) d,
+    )
 
 -- what is in order by a function's values, seen as these values
 sorted-map : {A K : Type 0} (f : A → K) (lt : K → K → Bool) (xs : List A)

@@ -3,7 +3,7 @@ use Rattle.std.specs.Map.{lookup}
 use Rattle.std.proofs.lemmas.Option.{slice_get_read}
 use Rattle.indexmap.specs.IndexMap.{insert_entry}
 use Rattle.plist_pairs.proofs.Columns.{rows, found_value, rows-old}
-use Rattle.plist_pairs.proofs.Rebuilt.{old-keys, old-index}
+use Rattle.plist_pairs.proofs.Rebuilt.{old-keys, old-index, popped-key, new-absent, undone}
 use Rattle.plist_pairs.proofs.dictionary.store.Store.insert.Goals as goal
 
 pub returns-in-Ok-default-false : goal.returns-in-Ok-default-false
@@ -31,3 +31,45 @@ returns-in-Ok-default-false g c =
       unchanged = tt;
       absent = tt;
     }
+
+pub unwrap-requires : goal.unwrap-requires
+unwrap-requires g c =
+    let e = c.in-Ok-default-true in
+    c.pop.ensures.found.1 (omega (arith, e.ensures.within))
+
+pub invariant_of-self-in-Err-push : goal.invariant_of-self-in-Err-push
+invariant_of-self-in-Err-push g c =
+    let k = c.self.inside in
+    let e = c.in-Ok-default-true in
+    let back = popped-key k.keys.keys c.args.key e.field-0-1 e.ensures.added e.field-0-1-test
+    c.insert_full.new.self.keys e.ensures.keys c.pop.new.self.keys c.pop.result c.unwrap.result
+    c.pop.ensures.keys c.unwrap.ensures in
+    undone k.keys.keys c.args.key e.field-0-1 e.ensures.added e.field-0-1-test
+    c.insert_full.new.self.keys e.ensures.keys k.items.items c.self.invariant.0 _ refl
+    c.pop.new.self.keys c.push.new.self.items back.1 c.in-Err-push.ensures.items
+    c.self.invariant.1
+
+pub returns-in-Err-push-clause-absent : goal.returns-in-Err-push-clause-absent
+returns-in-Err-push-clause-absent g c =
+    let k = c.self.inside in
+    let e = c.in-Ok-default-true in
+    new-absent k.keys.keys c.args.key e.field-0-1 e.ensures.added e.field-0-1-test
+    c.insert_full.new.self.keys e.ensures.keys k.items.items c.self.invariant.0 _ c.self.view_is
+
+pub returns-in-Err-push-clause-handed_back : goal.returns-in-Err-push-clause-handed_back
+returns-in-Err-push-clause-handed_back g c =
+    let k = c.self.inside in
+    let e = c.in-Ok-default-true in
+    let back = popped-key k.keys.keys c.args.key e.field-0-1 e.ensures.added e.field-0-1-test
+    c.insert_full.new.self.keys e.ensures.keys c.pop.new.self.keys c.pop.result c.unwrap.result
+    c.pop.ensures.keys c.unwrap.ensures in
+    λ i. (back.0 i, c.in-Err-push.ensures.value_returned i)
+
+pub returns-in-Err-push-clause-unchanged : goal.returns-in-Err-push-clause-unchanged
+returns-in-Err-push-clause-unchanged g c =
+    let k = c.self.inside in
+    let e = c.in-Ok-default-true in
+    let back = popped-key k.keys.keys c.args.key e.field-0-1 e.ensures.added e.field-0-1-test
+    c.insert_full.new.self.keys e.ensures.keys c.pop.new.self.keys c.pop.result c.unwrap.result
+    c.pop.ensures.keys c.unwrap.ensures in
+    (λ i. rows (back.1 i) (c.in-Err-push.ensures.items i)) ∙ c.self.view_is
