@@ -8,7 +8,7 @@ import pathlib
 import plistlib
 import struct
 
-VECTORS = pathlib.Path(__file__).resolve().parents[2] / "crates/plist_read_vectors/src"
+TABLES = pathlib.Path(__file__).resolve().parents[2] / "crates/plist_examples/data"
 WANT, FAILED = "OutOfMemory", "WriterFailed"
 
 
@@ -269,12 +269,13 @@ def uses(counts, folder):
 # ---- files that lie
 
 def lying_files():
-    """The files of the tables of `hostile` that lie about themselves, and their items."""
-    for line in (VECTORS / "hostile.rt").read_text().splitlines():
-        parts = [part.strip() for part in line.removesuffix('";').split(" | ")]
-        if len(parts) == 4:
-            offset_width, width, count, root, table = map(int, parts[2].split())
-            yield file_of(parts[1], count, table, root, bytes((offset_width, width))), parts[3]
+    """The files of the table `hostile` that lie about themselves, and their items."""
+    for line in (TABLES / "hostile").read_text().splitlines():
+        check, *fields = [field.strip() for field in line.split(" | ")]
+        if check == "binary" and fields[1].startswith("file "):
+            body, numbers = fields[1].removeprefix("file ").split(" / ")
+            offset_width, width, count, root, table = map(int, numbers.split())
+            yield file_of(body, count, table, root, bytes((offset_width, width))), fields[2]
 
 
 def lies(counts, folder):

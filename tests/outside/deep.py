@@ -31,7 +31,7 @@ def program(folder):
     """The program, proved and built in a repository of its own."""
     every = (CRATES.parent / "crates.txt").read_text().splitlines()
     above = ("plist_callers", "plist_uses", "plist_commands", "plist_tool", "plist_vectors",
-             "plist_read_vectors", "plist_upper_vectors", "#")
+             "plist_examples", "plist_upper_vectors", "#")
     lines = [line for line in every if line.strip() and not line.startswith(above)]
     root = folder / "repository"
     for name in [line.split(":")[0].split()[0] for line in lines]:

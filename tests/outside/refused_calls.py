@@ -86,7 +86,7 @@ ssize_t write(int file, const void *bytes, size_t size) {
 def program(folder):
     """The program, proved and built in a repository of its own."""
     every = (CRATES.parent / "crates.txt").read_text().splitlines()
-    above = ("plist_commands", "plist_tool", "plist_vectors", "plist_read_vectors",
+    above = ("plist_commands", "plist_tool", "plist_vectors", "plist_examples",
              "plist_upper_vectors", "#")
     lines = [line for line in every if line.strip() and not line.startswith(above)]
     names = [line.split(":")[0].split()[0] for line in lines]

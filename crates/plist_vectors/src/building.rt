@@ -1,21 +1,13 @@
 //! Values built of events, and the events of values.
 
-use crate::support::{event_of, expect_answers, expect_value, must, text_of, words_of_value};
+use crate::support::{expect_answers, expect_value, must, text_of, words_of_value};
 use plist::{Builder, Dictionary, Value, write_value};
-use plist_base::{Date, ErrorKind, Event, Integer, RealBits, Uid, Writer};
+use plist_base::{Date, Event, Integer, RealBits, Uid, Writer};
 use std::borrow::{CowSlice, CowStr};
 use std::process::Abort;
 
 fn expect_finished(rt: &(impl Abort + AllocGlobal), builder: &mut Builder, wanted: &str) {
     expect_value(rt, builder.finish(), wanted);
-}
-
-#[test]
-fn a_repeated_key_keeps_its_place(rt: HostRuntime) {
-    let mut builder = Builder::new(rt.alloc());
-    let answers = "ok; ok; ok; ok; ok; ok; ok; ok";
-    expect_answers(&rt, &mut builder, "{ 'k' 1 'x' 2 'k' 3 end", answers);
-    expect_finished(&rt, &mut builder, "{2 'k' 3 'x' 2 end");
 }
 
 #[test]
@@ -28,32 +20,6 @@ fn nothing_comes_after_the_root(rt: HostRuntime) {
     expect_answers(&rt, &mut builder, "[ end end", answers);
     expect_finished(&rt, &mut builder, "[0 end");
     expect_finished(&rt, &mut builder, "UnexpectedEndOfEventStream");
-}
-
-#[test]
-fn only_texts_are_keys(rt: HostRuntime) {
-    let mut builder = Builder::new(rt.alloc());
-    expect_answers(
-        &rt,
-        &mut builder,
-        "{18446744073709551615 [ 5 end",
-        "ok; UnexpectedEventType { expected: DictionaryKeyOrEndCollection, found: StartArray }; \
-         UnexpectedEventType { expected: DictionaryKeyOrEndCollection, found: Integer }; ok",
-    );
-    expect_finished(&rt, &mut builder, "{0 end");
-}
-
-#[test]
-fn a_lone_key_waits_for_its_value(rt: HostRuntime) {
-    let mut builder = Builder::new(rt.alloc());
-    expect_answers(
-        &rt,
-        &mut builder,
-        "end { 'k' end true end",
-        "UnexpectedEventType { expected: ValueOrStartCollection, found: EndCollection }; ok; ok; \
-         UnexpectedEventType { expected: ValueOrStartCollection, found: EndCollection }; ok; ok",
-    );
-    expect_finished(&rt, &mut builder, "{1 'k' true end");
 }
 
 // Each scalar in an array, by the writer's own calls.
@@ -78,38 +44,6 @@ fn each_call_of_a_writer(rt: HostRuntime) {
     write_scalars(&rt, &mut builder, date);
     let wanted = "[8 true <00ff> date:0 7 real:3fc00000 'x' uid:4 {0 end end";
     expect_finished(&rt, &mut builder, wanted);
-}
-
-// What `from_events` answers to the events of the words; a `!` is an item that is an error.
-fn expect_collected(rt: &(impl Abort + AllocGlobal), words: &str, wanted: &str) {
-    let mut items = Vec::new(rt.alloc());
-    for word in words.split(' ') {
-        let item = match word {
-            "!" => Err(ErrorKind::InvalidMagic.with_byte_offset(0)),
-            other => Ok(event_of(rt, other)),
-        };
-        must(rt, items.push(item));
-    }
-    expect_value(rt, Value::from_events(rt.alloc(), items), wanted);
-}
-
-#[test]
-fn four_pairs_in_order(rt: HostRuntime) {
-    let words = "{ 'Author' 'W' 'Lines' [ 'a' 'b' end 'Birthdate' 1564 \
-                 'Height' real:3ff999999999999a end";
-    let wanted = "{4 'Author' 'W' 'Lines' [2 'a' 'b' end 'Birthdate' 1564 \
-                  'Height' real:3ff999999999999a end";
-    expect_collected(&rt, words, wanted);
-    expect_collected(&rt, wanted, wanted);
-}
-
-#[test]
-fn the_first_bad_item_decides(rt: HostRuntime) {
-    expect_collected(&rt, "[ ! end", "InvalidMagic (offset 0)");
-    let wanted = "ExpectedEndOfEventStream { found: String }";
-    expect_collected(&rt, "'a' 'b' !", wanted);
-    expect_collected(&rt, "[ 'b'", "UnexpectedEndOfEventStream");
-    expect_collected(&rt, "[ 'b' end", "[1 'b' end");
 }
 
 fn text(rt: &(impl Abort + AllocGlobal), text: &str) -> String {

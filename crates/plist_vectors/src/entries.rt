@@ -1,5 +1,4 @@
-//! Values and dictionaries: what they hold, equality, copies, entries, and calls that go over all
-//! pairs.
+//! Values and dictionaries: what they hold, copies, entries, and calls that go over all pairs.
 
 use crate::support::{expect_value, must, value_of};
 use plist::dictionary::Entry;
@@ -220,89 +219,6 @@ fn copies_are_the_same(rt: HostRuntime) {
     expect_dictionary(&rt, must(&rt, pairs.clone()), words);
     expect_value(&rt, value_of(&rt, "<00ff>").clone(rt.alloc()), "<00ff>");
     expect_value(&rt, Value::try_from_str(rt.alloc(), "a"), "'a'");
-}
-
-// Whether the values of the two sides of each line are equal, as the line says.
-fn expect_equalities(rt: &(impl Abort + AllocGlobal), lines: &str) {
-    for line in lines.split('\n') {
-        let (left, right, wanted) = match line.split_once(" == ") {
-            Some((left, right)) => (left, right, true),
-            None => match line.split_once(" != ") {
-                Some((left, right)) => (left, right, false),
-                None => panic!(rt; "{line} says nothing"),
-            },
-        };
-        let equal = value_of(rt, left) == value_of(rt, right);
-        assert_eq!(rt; equal, wanted, "{line}");
-    }
-}
-
-#[test]
-fn equal_values(rt: HostRuntime) {
-    expect_equalities(
-        &rt,
-        "real:00000000 != real:0000000000000000\nreal:3fc00000 == real:3fc00000\n\
-         real:00000000 != real:80000000\n\
-         { 'a' 1 'b' 2 end == { 'b' 2 'a' 1 end\n{ 'a' 1 'b' 2 end != { 'a' 1 end\n\
-         { 'a' 1 end != { 'a' 1 'b' 2 end\n{ 'a' 1 'b' 2 end != { 'a' 1 'c' 2 end\n\
-         { 'a' 1 'b' 2 end != { 'a' 2 'b' 1 end\n\
-         [ { 'a' 1 'b' [ end end end == [ { 'b' [ end 'a' 1 end end\n\
-         [ 1 2 end != [ 2 1 end\n[ 1 end != [ 1 1 end\n[ end != { end\n\
-         'a' == 'a'\n'a' != 'b'\n'1' != 1\n1 != uid:1\n1 == 1\n-1 != 18446744073709551615\n\
-         true != false\ntrue != 1\n<61> != 'a'\n<00ff> == <00ff>\n<00ff> != <00>\n\
-         date:0 == date:0\ndate:0 != date:0/3fe0000000000000\nuid:4 != uid:5\nuid:4 == uid:4",
-    );
-}
-
-// What each call that looks into a value finds, in the order of `answering`.
-const KINDS: [&str; 10] = [
-    "array",
-    "dictionary",
-    "boolean",
-    "data",
-    "date",
-    "real",
-    "integer",
-    "integer",
-    "string",
-    "uid",
-];
-
-// Which of these calls answer.
-fn answering(value: &Value) -> [bool; 10] {
-    [
-        value.as_array().is_some(),
-        value.as_dictionary().is_some(),
-        value.as_boolean().is_some(),
-        value.as_data().is_some(),
-        value.as_date().is_some(),
-        value.as_real().is_some(),
-        value.as_signed_integer().is_some(),
-        value.as_unsigned_integer().is_some(),
-        value.as_string().is_some(),
-        value.as_uid().is_some(),
-    ]
-}
-
-// A value has nothing of another kind than this one, whose calls answer.
-fn expect_nothing_else(rt: &impl Abort, value: &Value, kind: &str) {
-    let answers = answering(value);
-    for number in 0..10 {
-        assert_eq!(rt; answers[number], KINDS[number] == kind);
-    }
-}
-
-#[test]
-fn each_kind_alone_answers(rt: HostRuntime) {
-    expect_nothing_else(&rt, &value_of(&rt, "[ 1 end"), "array");
-    expect_nothing_else(&rt, &value_of(&rt, "{ 'a' 1 end"), "dictionary");
-    expect_nothing_else(&rt, &value_of(&rt, "true"), "boolean");
-    expect_nothing_else(&rt, &value_of(&rt, "<00ff>"), "data");
-    expect_nothing_else(&rt, &value_of(&rt, "date:0"), "date");
-    expect_nothing_else(&rt, &value_of(&rt, "real:3fc00000"), "real");
-    expect_nothing_else(&rt, &value_of(&rt, "5"), "integer");
-    expect_nothing_else(&rt, &value_of(&rt, "'a'"), "string");
-    expect_nothing_else(&rt, &value_of(&rt, "uid:4"), "uid");
 }
 
 #[test]

@@ -1,19 +1,31 @@
-//! The worked examples of the property-list crates: what is read, written and built, by public
-//! calls alone.
+//! What is called in turn, or fails on the way: tests by public calls alone. What can be told in a
+//! line stands in the tables of `plist_examples`.
 #![tactic(auto)]
 
 #[cfg(test)]
-mod building;
+mod ascii;
 #[cfg(test)]
-mod dialects;
+mod building;
 #[cfg(test)]
 mod entries;
 #[cfg(test)]
-mod limits;
+mod events;
+#[cfg(test)]
+mod faults;
+#[cfg(test)]
+mod numbers;
+#[cfg(test)]
+mod reading;
+#[cfg(test)]
+mod scalar_texts;
 #[cfg(test)]
 mod sharing;
 #[cfg(test)]
+mod sources;
+#[cfg(test)]
 mod support;
+#[cfg(test)]
+mod told;
 #[cfg(test)]
 mod values;
 #[cfg(test)]

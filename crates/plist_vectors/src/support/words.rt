@@ -2,13 +2,8 @@
 
 use crate::support::must;
 use plist::Value;
-use plist_base::{Error, Event, Writer};
+use plist_base::{Error, Writer};
 use std::process::Abort;
-
-// The event that a word stands for.
-pub(crate) fn event_of<'a>(rt: &(impl Abort + AllocGlobal), word: &'a str) -> Event<'a> {
-    must(rt, plist_support::event_of(rt.alloc(), word))
-}
 
 // The value whose events these words are.
 pub(crate) fn value_of(rt: &(impl Abort + AllocGlobal), words: &str) -> Value {

@@ -6,7 +6,6 @@ use crate::support::must;
 use plist_base::{Integer, InvalidInteger, RealBits, Uid};
 use std::cmp::Ordering;
 use std::process::Abort;
-use std::str::FromStr;
 
 // What the number is, and its two texts.
 fn expect(
@@ -70,38 +69,6 @@ fn ordered_as_whole_numbers(rt: HostRuntime) {
     assert!(rt; !is_below(&above_signed, &Integer::from(i64::MAX)));
     let order = above_signed.cmp(&Integer::from(i64::MIN));
     assert_eq!(rt; order, Ordering::Greater);
-}
-
-// The number that this text spells, or none.
-fn expect_text(rt: &impl Abort, text: &str, signed: Option<i64>, unsigned: Option<u64>) {
-    match Integer::from_str(text) {
-        Ok(number) => {
-            assert_eq!(rt; number.as_signed(), signed, "{text}");
-            assert_eq!(rt; number.as_unsigned(), unsigned, "{text}");
-        }
-        Err(InvalidInteger) => {
-            assert!(rt; signed.is_none() && unsigned.is_none(), "{text}");
-        }
-    }
-}
-
-#[test]
-fn texts_of_integers(rt: HostRuntime) {
-    expect_text(&rt, "-1", Some(-1), None);
-    expect_text(&rt, "0", Some(0), Some(0));
-    expect_text(&rt, "1", Some(1), Some(1));
-    expect_text(&rt, "-9223372036854775808", Some(i64::MIN), None);
-    expect_text(&rt, "-9223372036854775809", None, None);
-    expect_text(&rt, "18446744073709551615", None, Some(u64::MAX));
-    expect_text(&rt, "18446744073709551616", None, None);
-    expect_text(&rt, "0x0x10", Some(16), Some(16));
-    expect_text(&rt, "0x0xff", Some(255), Some(255));
-    expect_text(&rt, "+5", Some(5), Some(5));
-    expect_text(&rt, "-0", Some(0), Some(0));
-    expect_text(&rt, "-0x1", None, None);
-    expect_text(&rt, "0x", None, None);
-    expect_text(&rt, "", None, None);
-    expect_text(&rt, "5 ", None, None);
 }
 
 #[test]

@@ -1,0 +1,81 @@
+//! How `AsciiReader` ends.
+
+use crate::support::must;
+use plist_ascii::AsciiReader;
+use plist_base::{Error, OwnedEvent};
+use plist_support::{Device, Fault, READ_FAILURES, expect_io};
+use std::alloc::Global;
+use std::io::ErrorKind;
+use std::process::Abort;
+
+// How many items these bytes give.
+fn count_items(alloc: Global, bytes: &[u8]) -> u64 {
+    let mut count = 0u64;
+    for _item in AsciiReader::new(alloc, bytes) {
+        count = count.saturating_add(1);
+    }
+    count
+}
+
+// No input gives more items than it has bytes.
+#[test]
+fn every_short_input_ends(rt: HostRuntime) {
+    for first in 0..=255u8 {
+        assert!(rt; count_items(rt.alloc(), &[first]) <= 1);
+        for second in 0..=255u8 {
+            assert!(rt; count_items(rt.alloc(), &[first, second]) <= 2);
+        }
+    }
+}
+
+// A device over this text, with a fault at this call.
+fn device_of(rt: &(impl Abort + AllocGlobal), text: &str, call: u64, fault: Fault) -> Device {
+    let bytes = must(rt, Vec::from_slice(rt.alloc(), text.as_bytes()));
+    Device::with_fault(bytes, call, fault)
+}
+
+// Nothing more comes, however often it is asked.
+fn expect_end(rt: &impl Abort, reader: &mut AsciiReader<Device>) {
+    for _ in 0..3 {
+        assert!(rt; reader.next().is_none());
+    }
+}
+
+// The next item, which is to be there.
+fn next_of(rt: &impl Abort, reader: &mut AsciiReader<Device>) -> Result<OwnedEvent, Error> {
+    match reader.next() {
+        Some(item) => item,
+        None => panic!(rt; "no item"),
+    }
+}
+
+// A device's own error is handed on, and after it nothing is read, though the device would go on.
+fn expect_handed_on(rt: &(impl Abort + AllocGlobal), kind: ErrorKind) {
+    let device = device_of(rt, "(a)", 1, Fault::Fails(kind));
+    let mut reader = AsciiReader::new(rt.alloc(), device);
+    must(rt, next_of(rt, &mut reader));
+    must(rt, expect_io(next_of(rt, &mut reader), kind, Some(1)));
+    expect_end(rt, &mut reader);
+    let device = reader.into_inner();
+    assert_eq!(rt; device.calls, 2);
+}
+
+#[test]
+fn ends_after_a_failure(rt: HostRuntime) {
+    for kind in READ_FAILURES {
+        expect_handed_on(&rt, kind);
+    }
+}
+
+// After the end of the input nothing is read, though the device would go on.
+#[test]
+fn ends_at_the_end(rt: HostRuntime) {
+    let device = device_of(&rt, "(a)", 2, Fault::MovesNothing);
+    let mut reader = AsciiReader::new(rt.alloc(), device);
+    must(&rt, next_of(&rt, &mut reader));
+    must(&rt, next_of(&rt, &mut reader));
+    expect_end(&rt, &mut reader);
+    let device = reader.into_inner();
+    assert_eq!(rt; device.calls, 3);
+    assert_eq!(rt; device.moved, 2);
+}

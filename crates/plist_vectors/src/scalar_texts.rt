@@ -1,0 +1,32 @@
+//! Data as a value, and the refusals of texts.
+
+use crate::support::must;
+use plist_base::{Error, InvalidXmlDate};
+use plist_data::{Data, InvalidXmlData};
+
+#[test]
+fn data_of_bytes(rt: HostRuntime) {
+    let mut data = Data::from(must(&rt, Vec::from_slice(rt.alloc(), &[0, 255])));
+    let copy = must(&rt, data.clone());
+    assert!(rt; copy == data);
+    assert_eq!(rt;
+        must(&rt, format!(in rt.alloc(); "{data:?}")).as_str(),
+        "[0, 255]"
+    );
+    data.as_mut().fill(7);
+    assert_eq!(rt; data.as_ref(), [7, 7].as_slice());
+    assert!(rt; copy != data);
+    let bytes = Vec::from(copy);
+    assert_eq!(rt; bytes.as_slice(), [0, 255].as_slice());
+    let shown = must(&rt, InvalidXmlData::OutOfMemory.to_string(rt.alloc()));
+    assert_eq!(rt; shown.as_str(), "OutOfMemory");
+}
+
+#[test]
+fn refusal_of_a_date(rt: HostRuntime) {
+    let shown = must(&rt, InvalidXmlDate.to_string(rt.alloc()));
+    assert_eq!(rt; shown.as_str(), "String was not a valid XML plist date");
+    let error = Error::from(InvalidXmlDate);
+    let shown = must(&rt, error.to_string(rt.alloc()));
+    assert_eq!(rt; shown.as_str(), "InvalidDateString");
+}

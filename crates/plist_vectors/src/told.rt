@@ -1,0 +1,36 @@
+//! That a ledger can count what a reader decodes.
+
+ghost use Rattle.std.specs.Prelude.{◌≡◌, ◌<◌};
+
+use crate::support::must;
+use plist_binread::{BinaryReader, Decodings};
+use plist_support::file;
+use std::alloc::Global;
+use std::marker::Brand;
+use std::sync::ledger::{Blank, Ledger};
+
+// How many items a file has, while a ledger counts.
+fn items_counted<L: Ledger>(alloc: Global, bytes: &[u8], blank: Blank) -> u64
+    requires name { blank.name ≡ L.name }
+    requires parts { blank.parts ≡ L.parts }
+    requires some { 0 < L.parts }
+{
+    let mut items: u64 = 0;
+    for _ in BinaryReader::with_counter(alloc, bytes, Decodings::<L>::new(blank)) {
+        items = items.saturating_add(1);
+    }
+    items
+}
+
+#[test]
+fn a_ledger_counts(rt: HostRuntime) {
+    let bytes = must(
+        &rt,
+        file(rt.alloc(), "a30101 02 5161 09 080c0e", [1, 1], [3, 0, 15]),
+    );
+    let blank = Blank::new(1);
+    assert_eq!(rt;
+        items_counted::<Brand>(rt.alloc(), bytes.as_slice(), blank),
+        5
+    );
+}
