@@ -62,7 +62,7 @@ impl Pending {
         ErrorKind::UnexpectedEventType { expected, found }.without_position()
     }
 
-    // HoldsNext an event that can follow those held, where this is what it does to the stack.
+    // Holds an event that can follow those held, where this is what it does to the stack.
     fn hold(&mut self, alloc: Global, event: Event<'_>, change: Change) -> Result<(), Error>
         requires still { is_whole self.old ≡ false }
         requires accepted { CanTake self.old (event_of event) }
@@ -77,7 +77,7 @@ impl Pending {
         Ok(())
     }
 
-    /// HoldsNext an event, or refuses one that can't follow those held: then its fault,
+    /// Holds an event, or refuses one that can't follow those held: then its fault,
     /// `UnexpectedEventType` without an offset, is told, and nothing changes.
     ///
     /// # Errors

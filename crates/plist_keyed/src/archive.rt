@@ -96,8 +96,8 @@ impl<'a> Archive<'a> {
     /// names the next one twice, make a tree of 2^30 leaves. To walk over an archive without making
     /// its tree, follow its Uids by [`Archive::get`].
     ///
-    /// The walk has a list of its own for the objects that are open, so any depth is walked over;
-    /// what is deeper than the call stack is long can't be dropped, as any [`Value`] of that depth.
+    /// The walk has a list of its own for the objects that are open, so it goes over any depth, and
+    /// what it makes is dropped as any [`Value`]: without more of the call stack.
     ///
     /// # Errors
     ///

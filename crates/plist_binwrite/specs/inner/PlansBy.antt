@@ -1,6 +1,5 @@
 -- The numbers given so far, where indices of one class share theirs: `firsts` holds, by number, the
--- index of
--- the first event of that object.
+-- index of the first event of that object.
 use Rattle.std.specs.Prelude.{◌≡◌, ◌⊎◌, ℕ, ◌-◌, ◌^◌, ◌<◌, false, List, length, get_or}
 use Rattle.plist_base.specs.Events.{PlainEvent}
 use Rattle.plist_binwrite.specs.Held.{is_stop, event_at, IsNumbered, AllBelow, num_of}
