@@ -63,7 +63,7 @@ impl<'a, R: Files> Output<'a, R> {
         }
     }
 
-    /// Has the system store what was written.
+    /// Has the system store what was written. What has no store, as a pipe or a terminal, has it all.
     ///
     /// # Errors
     ///
@@ -76,6 +76,7 @@ impl<'a, R: Files> Output<'a, R> {
         };
         match file.sync_all() {
             Ok(()) => Ok(()),
+            Err(failure) if failure.kind() == io::ErrorKind::InvalidInput => Ok(()),
             Err(failure) => Err(ErrorKind::Io(failure).without_position()),
         }
     }

@@ -24,6 +24,8 @@ fn converts_to_a_new_file(rt: HostRuntime) {
     expect_done(&rt, "convert @new_in @new_out", b"");
     expect_holds(&rt, "new_out", CONVERTED);
     expect_holds(&rt, "new_in", SETTINGS);
+    // a device, as a pipe, has nothing to store
+    expect_done(&rt, "convert @new_in /dev/null", b"");
 }
 
 // A longer file is cut, and a binary one is read like one in ASCII.
