@@ -1,7 +1,7 @@
 -- A length that is lent, and what lies behind it.
-use Rattle.std.proofs.Common.{◌≡◌, ℕ, suc, ◌-◌, ◌*◌, ◌%◌, ◌^◌, ◌<◌, ◌≤◌, List, ◌∷◌, ◌++◌, length, take, drop, None, Some, refl, ap, ◌∙◌, arith}
+use Rattle.std.proofs.Common.{◌≡◌, ℕ, suc, ◌-◌, ◌*◌, ◌%◌, ◌^◌, ◌<◌, ◌≤◌, List, [], ◌∷◌, ◌++◌, length, take, drop, None, Some, refl, ap, ◌∙◌, arith}
 use Rattle.std.proofs.lemmas.Bool.{le-leb}
-use Rattle.std.proofs.lemmas.List.{length-append, length-drop, take_all, take-append-le, drop-append-le}
+use Rattle.std.proofs.lemmas.List.{append-nil, length-append, length-drop, take_all, take-append-le, drop-append-le}
 use Rattle.plist_base.specs.Faults.{ObjectOffsetTooLarge}
 use Rattle.plist_format.specs.Container.{number_of}
 use Rattle.plist_format.specs.Object.{Object, Faulty, length_in, meaning_counted}
@@ -50,8 +50,9 @@ module _ (m size left count : ℕ) (rest behind more : List ℕ)
     (near : length (behind ++ more) ≡ left) where
   -- the content ends before the trailer
   pub count_there : count * size ≤ left
-      → (b : List ℕ) × (length_in m (rest ++ more) ≡ Some (count, b)) × (count * size ≤ length b)
-  count_there fits = (behind ++ more, is, omega arith)
+      → (length_in m (rest ++ more) ≡ Some (count, behind ++ more))
+      × (count * size ≤ length (behind ++ more))
+  count_there fits = (is, omega arith)
 
   -- or it doesn't
   pub count_cut : left < count * size → (meaning : ℕ → List ℕ → Object)
@@ -66,3 +67,29 @@ pub length_left : (room : ℕ) (rest behind more : List ℕ) → length (rest ++
     → length (behind ++ more) ≡ room - (length rest - length behind)
 length_left room rest behind more whole short =
     omega (arith, length-append rest more, length-append behind more)
+
+-- nothing lies behind bytes that reach so far
+pub nothing_more : (room : ℕ) (seen more : List ℕ) → length (seen ++ more) ≡ room
+    → room ≤ length seen → seen ++ more ≡ seen
+nothing_more room seen [] whole far = append-nil seen
+nothing_more room seen (x ∷ more) whole far =
+    absurd (omega (arith, length-append seen (x ∷ more)))
+
+-- a length that isn't there
+pub count_none : (m size room : ℕ) (rest more : List ℕ) → length (rest ++ more) ≡ room
+    → (length rest < 16 → room ≤ length rest) → (length rest < 9) × (length_in m rest ≡ None)
+    → (meaning : ℕ → List ℕ → Object)
+    → meaning_counted size meaning (length_in m (rest ++ more)) ≡ Faulty ObjectOffsetTooLarge
+count_none m size room rest more whole far cut meaning =
+    rw (nothing_more room rest more whole (far (omega (arith, cut.0))), cut.1) refl
+
+-- a content that is all seen
+pub content_seen : (m size count : ℕ) (rest behind more : List ℕ)
+    → length_in m (rest ++ more) ≡ Some (count, behind ++ more) → count * size ≤ length behind
+    → (meaning : List ℕ → Object) → meaning_counted size (λ _. meaning) (length_in m (rest ++ more))
+    ≡ meaning (take (count * size) behind)
+content_seen m size count rest behind more is h meaning =
+    let enough : count * size ≤ length (behind ++ more) = omega (arith, length-append behind more)
+    in
+    rw (is, le-leb (count * size) (length (behind ++ more)) enough)
+    (ap meaning (take-append-le (count * size) behind more h))

@@ -1,7 +1,6 @@
 -- Entering an object that is lent.
 use Rattle.std.proofs.Common.{◌≡◌, ℕ, ◌-◌, ◌<◌, ◌≤◌, false, List, ◌++◌, length, take, drop, get_or, Option, None, Some, Result, Ok, IfSome, ap, sym, ◌∙◌}
 use Rattle.std.specs.List.{slice_get}
-use Rattle.std.proofs.lemmas.List.{length-drop, length-take-le}
 use Rattle.plist_base.specs.Events.{PlainEvent}
 use Rattle.plist_base.specs.declared.error.Error.{Error}
 use Rattle.plist_binread.specs.Behind.{AsksAt, object_at}
@@ -10,9 +9,9 @@ use Rattle.plist_binread.specs.declared.walk.Turn.TheVariants.{Child}
 use Rattle.plist_binread.specs.declared.lent.Lent.{Lent}
 use Rattle.plist_binread.specs.declared.head.Bounds.{Bounds}
 use Rattle.plist_binread.specs.Debt.{IsOpen, IsKnown, next_number, children_at, entries_of, owed_by, path_of}
-use Rattle.plist_binread.specs.Turning.{IsKeptTold}
+use Rattle.plist_binread.specs.Turning.{IsKeptTold, ReadsChild}
 use Rattle.plist_binread.specs.Decoding.{IsDecodedAs}
-use Rattle.plist_binread.specs.Lent.{IsLentAs, PaysAnswer, PaysTold, EntersChild}
+use Rattle.plist_binread.specs.Lent.{IsLentAs, PaysAnswer, PaysTold}
 use Rattle.plist_format.specs.Object.{Object, object_in}
 use Rattle.plist_binread.specs.Packed.{is_marked, unmarked, cached, single}
 use Rattle.plist_format.specs.Unfolding.{Entry, unfolding_of}
@@ -66,24 +65,7 @@ module _ (known : Option (List ℕ)) (bounds : Bounds) (tags contents : List ℕ
       (entry_there _ _ _ _ fs k _ h) (sym (o.marks number h) ∙ free) _
       (ap single (held_scalar bytes bounds tags contents fs k number h some) ∙ is))
 
-  pub known_lent : (number place : ℕ) (seen : List ℕ) (told : PlainEvent) (lent : Lent) → Knows
-      → number < length tags → IsPlaceOf number place → IfSome known (λ bytes.
-      bounds.trailer ≤ length bytes → (more : List ℕ)
-      × (drop place (take bounds.trailer bytes) ≡ seen ++ more))
-      → ((more : List ℕ) → length (seen ++ more) ≡ bounds.trailer - place
-      → IsLentAs (object_in bounds.reference_width (seen ++ more)) told lent)
-      → IfSome known (λ bytes. LentAt bytes bounds number told lent)
-  known_lent number place seen told lent k h is front means =
-      IfSome-both known k front (λ bytes k front.
-      let cut = front k.within in
-      let room : length (seen ++ cut.0) ≡ bounds.trailer - place = ap length (sym cut.1)
-      ∙ length-drop place (take bounds.trailer bytes)
-      ∙ ap (λ m. m - place) (length-take-le bounds.trailer bytes k.within) in (
-        entry_there bytes bounds tags contents fs k number h,
-        rw (← place_is bytes bounds tags contents fs k number place h is, cut.1) (means cut.0 room),
-      ))
-
-  -- the same of what is decoded
+  -- the object of a number is what is decoded at its place
   pub known_decoded : (number place : ℕ) (told : PlainEvent) (lent : Lent) → Knows
       → number < length tags → IsPlaceOf number place → IfSome known (λ bytes.
       bounds.trailer ≤ length bytes → IsDecodedAs
@@ -115,6 +97,17 @@ known_small known bounds number told lent X there kept =
     IfSome_then _ there (λ bytes there. kept _ there.1)
 
 -- ---- a child that is entered
+
+-- the child of this index has been entered, from the collection at this place: what was owed with
+-- it begins with what is told and goes on with what is owed now, and it is cached if it is small
+abbrev EntersChild : {A : Type 0} → List Entry → Object → (at index count : ℕ)
+    → (old : List Frame) → Result A Error → (told : PlainEvent) → (tags : List ℕ)
+    → (new : List Frame) → Type 0
+EntersChild table object at index count old answer told tags new =
+    (number : ℕ) × ReadsChild object index (Ok number)
+    × IsKeptTold (Some number) (Some answer) told tags
+    × PaysAnswer (unfolding_of table (count - length old) (path_of old) at number
+    ++ owed_by table old) answer told (owed_by table new)
 
 pub known_goes : (known now : Option (List ℕ)) (bounds : Bounds) (tags contents new : List ℕ)
     (fs after : List Frame) (n place index number : ℕ) (answer : Result (Unit {0}) Error)

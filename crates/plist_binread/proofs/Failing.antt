@@ -1,10 +1,9 @@
 -- Where the faults of a reader are.
 use Rattle.std.proofs.Common.{◌≡◌, ℕ, ◌+◌, ◌≤◌, Option, None, Some, Result, Ok, Err, arith, ap, refl}
-use Rattle.std.specs.Prelude.{IfErr, ⊤}
+use Rattle.std.specs.Prelude.{⊤}
 use Rattle.plist_base.specs.declared.error.Error.{Error}
 use Rattle.plist_base.specs.Faults.{FaultKind, Fault, MatchFault, UnexpectedEof, Io, OutOfMemory, error_kind_of, fault_at, fault_nowhere, fault_of, kind_of}
-use Rattle.plist_base.specs.Outcomes.{OnlyMemory}
-use Rattle.plist_base.specs.Sources.{AnswersIo, CountsIo, FailsReading, IsPlaceWithin, IsReadFault}
+use Rattle.plist_base.specs.Sources.{CountsIo, FailsReading, IsPlaceWithin, IsReadFault}
 use Rattle.plist_base.proofs.Refusals.{MatchFault-at, MatchFault-weaker}
 use Rattle.plist_binread.specs.Failures.{MatchReader, FailsWithin, ErrWithin}
 
@@ -96,19 +95,3 @@ pub err_within : {A : Type 0} (answer : Result A Error) (p q s e : ℕ) → ErrW
     → s ≤ p → q ≤ e → ErrWithin s e answer
 err_within (Ok value) p q s e within low high = tt
 err_within (Err error) p q s e within low high = from_within _ p q s e within low high
-
-pub err_memory : {A : Type 0} (answer : Result A Error) (s e : ℕ) → OnlyMemory answer
-    → ErrWithin s e answer
-err_memory (Ok value) s e memory = tt
-err_memory (Err error) s e memory = from_memory _ s e memory
-
-pub answers_inside : {A : Type 0} (answer : Result A Error) (old new : ℕ)
-    → IfErr answer (λ error. MatchFault (kind_of (error_kind_of error)) ⊥ ⊤ ⊤) → new ≡ old
-    → AnswersIo answer old new
-answers_inside (Ok value) old new inside same = same
-answers_inside (Err error) old new inside same = counts_inside error old new inside same
-
-pub answers_memory : {A : Type 0} (answer : Result A Error) (old new : ℕ) → OnlyMemory answer
-    → new ≡ old → AnswersIo answer old new
-answers_memory (Ok value) old new memory same = same
-answers_memory (Err error) old new memory same = counts_memory error old new memory same

@@ -1,13 +1,12 @@
 -- What is known after a turn of the walk.
-use Rattle.std.proofs.Common.{◌≡◌, ℕ, ◌<◌, ◌≤◌, List, [], ◌∷◌, length, take, drop, get_or, Option, Result, Ok, Err, IfSome, MatchResult, ap, ◌∙◌}
+use Rattle.std.proofs.Common.{◌≡◌, ℕ, ◌<◌, ◌≤◌, List, length, take, drop, get_or, Option, Result, Err, IfSome, MatchResult, ap, ◌∙◌}
 use Rattle.std.specs.List.{slice_get}
 use Rattle.plist_base.specs.declared.error.Error.{Error}
 use Rattle.plist_base.specs.Faults.{IsIo, kind_of, error_kind_of}
-use Rattle.plist_base.specs.Events.{EndCollection}
 use Rattle.plist_base.proofs.Refusals.{MatchFault-weaker}
 use Rattle.plist_binread.specs.declared.frames.Frame.{Frame}
 use Rattle.plist_binread.specs.declared.walk.Turn.{Turn}
-use Rattle.plist_binread.specs.declared.walk.Turn.TheVariants.{Done, Closed, Child}
+use Rattle.plist_binread.specs.declared.walk.Turn.TheVariants.{Child}
 use Rattle.plist_binread.specs.declared.head.Bounds.{Bounds}
 use Rattle.plist_format.specs.Object.{object_in}
 use Rattle.plist_binread.specs.Packed.{unmarked}
@@ -59,18 +58,6 @@ module _ (known : Option (List ℕ)) (bounds : Bounds) (tags contents : List ℕ
   pub known_after : (turn : Turn) → HasTurned turn
       → IfSome known (λ bytes. IsKnown bytes bounds tags contents gs)
   known_after turn turned = IfSome_then known turned (λ bytes turned. turned.1)
-
-  pub known_done : HasTurned Done → IfSome known (λ bytes.
-      (owed_by (entries_of bytes bounds) fs ≡ []) × (owed_by (entries_of bytes bounds) gs ≡ []))
-  known_done turned = IfSome_then known turned (λ bytes turned. (
-    ap (owed_by _) turned.0.0,
-    ap (owed_by _) turned.0.1,
-  ))
-
-  pub known_closed : HasTurned Closed → IfSome known (λ bytes.
-      until_fault (owed_by (entries_of bytes bounds) fs) ≡ Ok EndCollection
-      ∷ until_fault (owed_by (entries_of bytes bounds) gs))
-  known_closed turned = IfSome_then known turned (λ bytes turned. ap until_fault turned.0)
 
   -- a read of the reference failed
   pub known_child_failed : (object index : ℕ) (e : Error) → object < length tags

@@ -1,22 +1,25 @@
 -- What lies in bytes that are lent, whatever follows them.
-use Rattle.std.proofs.Common.{◌≡◌, ℕ, suc, ◌+◌, ◌-◌, ◌<◌, ◌≤◌, List, [], ◌∷◌, ◌++◌, length, take, drop, get_or, Option, Some, IfSome, refl, ap, sym, ◌∙◌, arith}
-use Rattle.std.proofs.lemmas.List.{take-take, length-append, drop-append-le, length-drop, length-take-le, take-append-drop}
+use Rattle.std.proofs.Common.{◌≡◌, ℕ, suc, ◌+◌, ◌-◌, ◌*◌, ◌<◌, ◌≤◌, List, ◌∷◌, ◌++◌, length, take, drop, Option, Some, Result, Ok, Err, IfSome, true, refl, ap, sym, ◌∙◌, arith}
+use Rattle.std.proofs.lemmas.List.{take-take, length-append, drop-append-le, drop-drop, length-drop, length-take-le, take-append-drop}
 use Rattle.std.proofs.Math.Seq.{take-length}
-use Rattle.plist_base.specs.Events.{PlainEvent}
 use Rattle.plist_base.specs.Sources.{LiesAt}
+use Rattle.plist_binread.specs.Behind.{HasPairs, object_at, object_with}
+use Rattle.plist_binread.specs.Nearby.{IfLong, LeavesLong, LendsWhole, LongBehind, content_means, is_fault, small_found, unit_size}
 use Rattle.plist_base.specs.declared.error.Error.{Error}
-use Rattle.std.specs.Prelude.{⊤}
-use Rattle.plist_base.specs.Faults.{FaultKind, MatchFault, fault_of, fault_at}
-use Rattle.plist_binread.specs.Behind.{HasPairs}
-use Rattle.plist_format.specs.Container.{number_of, number_at}
-use Rattle.plist_binread.specs.Decoding.{IsRefusedAs, IsUnknownAt}
-use Rattle.plist_binread.specs.Lent.{IsSlots}
-use Rattle.plist_binread.specs.Nearby.{LendsWhole}
-use Rattle.plist_binread.specs.declared.lent.Lent.TheVariants as lent
-use Rattle.plist_format.specs.Object.{Object, Faulty, layout_of, length_in, object_behind, object_in}
-use Rattle.plist_binread.proofs.Contents.{refused_as}
-use Rattle.plist_binread.proofs.Columns.{take-drop-take, known_at_hand}
+use Rattle.plist_binread.specs.declared.told.Last.{Last}
+use Rattle.plist_binread.specs.declared.told.Refused.{Refused}
+use Rattle.plist_binread.specs.Told.{answer_in, event_in}
+use Rattle.plist_binread.specs.declared.lent.Lent.{Lent}
+use Rattle.plist_binread.specs.declared.head.Bounds.{Bounds}
+use Rattle.plist_base.specs.Events.{PlainEvent}
+use Rattle.plist_binread.specs.Lent.{IsLentAs, IsSlots, small_lent}
+use Rattle.plist_binread.specs.declared.lent.Lent.TheVariants as tag
+use Rattle.plist_format.specs.Object.{Object, layout_of, length_in, object_behind, object_in}
+use Rattle.plist_binread.proofs.Columns.{take-drop-take}
 use Rattle.std.proofs.lemmas.Option.{IfSome_then}
+use Rattle.plist_binread.proofs.OverKnown.{IfSome-both}
+use Rattle.plist_binread.specs.Decoding.{DecodesTold, IsRefusedAs}
+use Rattle.plist_binread.specs.declared.lent.Content.{Content}
 
 -- the object behind a marker
 pub object_lent : (w m : ℕ) (xs ys : List ℕ) → xs ≡ m ∷ ys
@@ -55,37 +58,113 @@ known_seen known t w p seen P near is means = IfSome_then known is (λ bytes is 
     ∙ length-drop p (take t bytes) ∙ ap (λ m. m - p) (length-take-le t bytes fits) in
     rw cut.1 (means _ room))
 
--- an object that is refused where what was seen of it is refused
-pub known_refused : (known : Option (List ℕ)) (t w p : ℕ) (seen : List ℕ) (kind : FaultKind)
-    (error : Error) → p + length seen ≤ t → IfSome known (λ bytes. LiesAt bytes p seen)
-    → ((more : List ℕ) → length (seen ++ more) ≡ t - p → object_in w (seen ++ more) ≡ Faulty kind)
-    → fault_of error ≡ fault_at kind p → MatchFault kind ⊥ ⊥ ⊤
-    → IfSome known (λ bytes. t ≤ length bytes
-    → IsRefusedAs (object_in w (drop p (take t bytes))) p error)
-known_refused known t w p seen kind error near is same fault inside =
-    known_seen known t w p seen (λ object. IsRefusedAs object p error) near is
-    (λ more room. refused_as _ p error kind fault inside (same more room))
+-- what its marker and what lies behind it tell of an object whose content isn't all seen
+pub long_behind : (w m room : ℕ) (seen rest : List ℕ) (lent : Lent) → seen ≡ m ∷ rest → 0 < room
+    → LongBehind m (room - 1) (object_with w m) rest lent
+    → LeavesLong room (object_in w) seen lent
+long_behind w m room seen rest (tag.Long content) is some h =
+    let sum : room - 1 + 1 ≡ room = omega arith in (
+      omega (arith, h.0),
+      λ more whole.
+          object_lent w m (seen ++ more) (rest ++ more) (ap (λ xs. xs ++ more) is)
+          ∙ rw is (h.1 more (ap (λ xs. length (xs ++ more)) (sym is) ∙ whole ∙ sym sum)),
+    )
+long_behind w m room seen rest lent is some h = tt
 
--- one whose marker is unknown
-pub known_unknown : (known : Option (List ℕ)) (t w p : ℕ) (seen : List ℕ) (told : PlainEvent)
-    (marker : ℕ) (error : Error) → p + length seen ≤ t
-    → IfSome known (λ bytes. LiesAt bytes p seen)
-    → LendsWhole (t - p) (object_in w) seen told (lent.Unknown marker)
-    → (marker < 256 → IsUnknownAt marker p error) → IfSome known (λ bytes. t ≤ length bytes
-    → IsRefusedAs (object_in w (drop p (take t bytes))) p error)
-known_unknown known t w p seen told marker error near is means named =
-    known_seen known t w p seen (λ object. IsRefusedAs object p error) near is
-    (λ more room. rw (means more room).1 (named (means more room).0))
+-- a beginning of bytes that lie there lies there
+pub known_prefix : (known : Option (List ℕ)) (p k : ℕ) (near : List ℕ) → k ≤ length near
+    → IfSome known (λ bytes. LiesAt bytes p near)
+    → IfSome known (λ bytes. LiesAt bytes p (take k near))
+known_prefix known p k near h is = IfSome_then known is (λ bytes is.
+    let n = length-take-le k near h in
+    rw n (ap (take k) is ∙ take-take k (length near) (drop p bytes) h))
 
--- and their first byte
-pub known_first : (known : Option (List ℕ)) (p : ℕ) (seen : List ℕ) → 0 < length seen
-    → IfSome known (λ bytes. LiesAt bytes p seen)
-    → IfSome known (λ bytes. get_or seen 0 0 ≡ number_at bytes p 1)
-known_first known p seen some is = known_at_hand known seen p 1 (get_or seen 0 0) some (one seen) is
-  where
-    one : (xs : List ℕ) → get_or xs 0 0 ≡ number_of (take 1 xs)
-    one [] = refl
-    one (x ∷ xs) = omega arith
+-- an answer that is noted counts as it did
+pub noted_small : (noted : Result Lent Refused) (after before : Last) (answer : Result Lent Error)
+    → answer_in noted after ≡ answer → event_in after ≡ event_in before
+    → small_found noted after ≡ small_found answer before
+noted_small (Ok lent) after before answer is same = rw (← is, same) refl
+noted_small (Err refused) after before answer is same = rw (← is) refl
+
+-- and a fault counts nothing
+pub fault_small : (lent : Lent) (told : PlainEvent) → is_fault lent ≡ true → small_lent lent told ≡ 0
+fault_small tag.Scalar told fault = absurd (cc)
+fault_small lent told fault = refl
+
+-- ---- what is seen of an object at a place
+
+module _ (known : Option (List ℕ)) (bounds : Bounds) (place : ℕ) (seen : List ℕ)
+    (near : place + length seen ≤ bounds.trailer)
+    (is : IfSome known (λ bytes. LiesAt bytes place seen)) (lent : Lent) where
+  pub seen_lends : (told : PlainEvent)
+      → LendsWhole (bounds.trailer - place) (object_in bounds.reference_width) seen told lent
+      → IfSome known (λ bytes. bounds.trailer ≤ length bytes
+      → IsLentAs (object_at bounds place bytes) told lent)
+  seen_lends told means =
+      known_seen known bounds.trailer bounds.reference_width place seen
+      (λ object. IsLentAs object told lent) near is means
+
+  pub seen_long : LeavesLong (bounds.trailer - place) (object_in bounds.reference_width) seen lent
+      → IfLong lent (λ content.
+      (place + content.start + content.count * unit_size content.kind ≤ bounds.trailer)
+      × IfSome known (λ bytes. bounds.trailer ≤ length bytes → object_at bounds place bytes
+      ≡ content_means content.kind (take (content.count * unit_size content.kind)
+      (drop (place + content.start) bytes))))
+  seen_long h = by lent h
+    where
+      by : (lent : Lent)
+          → LeavesLong (bounds.trailer - place) (object_in bounds.reference_width) seen lent
+          → IfLong lent (λ content.
+          (place + content.start + content.count * unit_size content.kind ≤ bounds.trailer)
+          × IfSome known (λ bytes. bounds.trailer ≤ length bytes → object_at bounds place bytes
+          ≡ content_means content.kind (take (content.count * unit_size content.kind)
+          (drop (place + content.start) bytes))))
+      by (tag.Long content) h = (
+        omega (arith, h.0, near),
+        IfSome_then known is (λ bytes is fits.
+            let n = content.count * unit_size content.kind in
+            let front = drop place (take bounds.trailer bytes) in
+            let cut = known_front (Some bytes) seen seen bounds.trailer place _ near (omega arith)
+            (sym (take-length _)) is fits in
+            let room = ap length (sym cut.1) ∙ length-drop place (take bounds.trailer bytes)
+            ∙ ap (λ m. m - place) (length-take-le bounds.trailer bytes fits) in
+            ap (object_in bounds.reference_width) cut.1 ∙ h.1 cut.0 room
+            ∙ ap (λ xs. content_means content.kind (take n (drop content.start xs))) (sym cut.1)
+            ∙ ap (λ xs. content_means content.kind (take n xs))
+            (drop-drop content.start place (take bounds.trailer bytes))
+            ∙ ap (content_means content.kind)
+            (take-drop-take (place + content.start) n bounds.trailer bytes
+            (omega (arith, h.0, near)))),
+      )
+      by lent h = tt
+
+-- what was decoded is a fault
+pub seen_refused : (known : Option (List ℕ)) (bounds : Bounds) (place : ℕ) (lent : Lent)
+    (told : PlainEvent) (error : Error) → IfSome known (λ bytes. bounds.trailer ≤ length bytes
+    → IsLentAs (object_at bounds place bytes) told lent)
+    → ((object : Object) (told : PlainEvent) → IsLentAs object told lent
+    → IsRefusedAs object place error)
+    → IfSome known (λ bytes. bounds.trailer ≤ length bytes
+    → IsRefusedAs (object_at bounds place bytes) place error)
+seen_refused known bounds place lent told error means refused =
+    IfSome_then known means (λ bytes means fits. refused _ _ (means fits))
+
+-- or a content that was read
+pub long_tells : (known now : Option (List ℕ)) (bounds : Bounds) (place : ℕ) (content : Content)
+    (told : PlainEvent) (answer : Result Lent Error) → now ≡ known
+    → (place + content.start + content.count * unit_size content.kind ≤ bounds.trailer)
+    × IfSome known (λ bytes. bounds.trailer ≤ length bytes → object_at bounds place bytes
+    ≡ content_means content.kind (take (content.count * unit_size content.kind)
+    (drop (place + content.start) bytes)))
+    → IfSome now (λ bytes. place + content.start + content.count * unit_size content.kind
+    ≤ length bytes → DecodesTold (content_means content.kind
+    (take (content.count * unit_size content.kind) (drop (place + content.start) bytes))) place told
+    answer)
+    → IfSome known (λ bytes. bounds.trailer ≤ length bytes
+    → DecodesTold (object_at bounds place bytes) place told answer)
+long_tells known now bounds place content told answer same long read =
+    IfSome-both known long.1 (rw same at read) (λ bytes is read fits.
+    rw (is fits) (read (omega (arith, long.0, fits))))
 
 -- where the references of a collection stand that is lent
 pub lent_slots : (w m count pairs start : ℕ) (seen rest behind more : List ℕ)

@@ -1,5 +1,5 @@
 -- What limits make of one call.
-use Rattle.std.proofs.Common.{◌≡◌, ℕ, Bool, true, false, cond, List, [], ◌∷◌, length, reverse, Option, None, Some, Ok, Err, IfSome, MatchBool, refl, sym, ap, ◌∙◌, arith}
+use Rattle.std.proofs.Common.{◌≡◌, ℕ, Bool, true, false, cond, List, [], ◌∷◌, length, Option, None, Some, Ok, Err, IfSome, MatchBool, refl, sym, ap, ◌∙◌, arith}
 use Rattle.std.specs.Prelude.{not, ◌&&◌}
 use Rattle.std.specs.Option.{is_some}
 use Rattle.plist_base.specs.declared.error.Error.{Error}
@@ -13,13 +13,7 @@ use Rattle.plist_base.specs.Limits.{AdmitsAny, RefusesAny, event_or_limit, under
 use Rattle.plist_base.specs.Sources.{IsPlaceWithin}
 use Rattle.plist_binread.specs.BinaryReader.{has_room_in}
 use Rattle.plist_binread.specs.Telling.{TellsItem}
-use Rattle.plist_binread.specs.declared.reader.State.{State}
-use Rattle.plist_binread.specs.declared.reader.State.TheVariants.{Walking}
-use Rattle.plist_binread.specs.declared.head.Bounds.{Bounds}
-use Rattle.plist_binread.specs.declared.frames.Frame.{Frame}
-use Rattle.plist_binread.specs.Lent.{PaysTold}
-use Rattle.plist_binread.specs.Debt.{IsOwed, WantsMemory, entries_of, owed_by, still_owed}
-use Rattle.plist_binread.specs.Turning.{is_fresh}
+use Rattle.plist_binread.specs.Debt.{IsOwed, WantsMemory}
 use Rattle.plist_binread.specs.Failures.{FailsWithin, HasPlace, IsGivenWithin, MatchGiven, MatchReader}
 use Rattle.plist_base.proofs.Refusals.{MatchFault-weaker}
 use Rattle.std.proofs.lemmas.Option.{IfSome_then}
@@ -174,16 +168,6 @@ module _ (new : Bool) (told : PlainEvent) where
       (Some (Err error)) told (under_any now []))
   limit-told known old now before after x error r h =
       IfSome_then _ h (λ bytes h. limit-item old now (before bytes) _ _ r h)
-
--- an event that is told where there are no limits
-pub near-told : (known : Option (List ℕ)) (state : State) (bounds : Bounds) (fs gs : List Frame)
-    (limiter : Option Limiter) (told : PlainEvent) → state ≡ Walking → limiter ≡ None
-    → IfSome known (λ bytes. PaysTold (owed_by (entries_of bytes bounds) (reverse fs)) told
-    (owed_by (entries_of bytes bounds) (reverse gs)))
-    → IfSome known (λ bytes. TellsItem {A = Unit {0}} (is_fresh state)
-    (under_any limiter (still_owed bytes state bounds fs)) (Some (Ok (tt {0}))) told
-    (under_any limiter (still_owed bytes state bounds gs)))
-near-told known state bounds fs gs limiter told is none pays = rw (is, none) pays
 
 -- ---- an end that comes
 

@@ -4,7 +4,6 @@ use Rattle.std.specs.Prelude.{MatchOption, MatchResult, OnErr, OnOk}
 use Rattle.plist_base.specs.declared.error.Error.{Error}
 use Rattle.plist_base.specs.declared.source.Source.{Ghosts}
 use Rattle.plist_base.specs.Events.{PlainEvent}
-use Rattle.plist_base.specs.Sources.{AnswersIo, ItemCountsIo}
 use Rattle.plist_format.specs.Container.{head_of}
 use Rattle.plist_format.specs.Unfolding.{items_of_file, until_fault}
 use Rattle.plist_binread.specs.declared.counter.DecodeCounter.{Ghosts as CounterGhosts}
@@ -19,8 +18,10 @@ use Rattle.plist_binread.specs.Debt.{AreBoundsOf, IsKnown, entries_of, next_numb
 use Rattle.plist_binread.specs.Failures.{ErrWithin, ItemGivenWithin, ItemWithin}
 use Rattle.plist_binread.specs.Lent.{IsToldEnd, PaysNextTold}
 use Rattle.plist_binread.specs.Stepping.{KeepsItem, LightensNext}
-use Rattle.plist_binread.specs.Telling.{TellsItem, Walks}
-use Rattle.plist_binread.specs.Told.{event_in}
+use Rattle.plist_binread.specs.Telling.{TellsItem, WalksIn}
+use Rattle.plist_binread.specs.declared.told.Last.{Last}
+use Rattle.plist_binread.specs.declared.told.Refused.{Refused}
+use Rattle.plist_binread.specs.Told.{AnswersIn, ItemAnswersIn, answer_in, event_in, item_in}
 use Rattle.plist_binread.specs.Turning.{IsKeptTold, closes, is_fresh, is_walking, number_owed, root_with, state_after}
 use Rattle.plist_binread.specs.Walking.{cached_in, open_in, owed_in, walk_objects, weight_in}
 use Rattle.plist_binread.proofs.Failing.{from_within}
@@ -36,16 +37,18 @@ abbrev Step : Type 0
 Step = Option (Result (Unit {0}) Error)
 
 -- it is never fresh again
-pub never_fresh : (item : Step) (after : State) → after ≡ state_after item → is_fresh after ≡ false
+pub never_fresh : {E : Type 0} (item : Option (Result (Unit {0}) E)) (after : State)
+    → after ≡ state_after item → is_fresh after ≡ false
 never_fresh None after is = ap is_fresh is
 never_fresh (Some (Ok value)) after is = ap is_fresh is
 never_fresh (Some (Err error)) after is = ap is_fresh is
 
-pub not_fresh : (item : Step) (after : State) → after ≡ state_after item → is_fresh after ≡ true → ⊥
+pub not_fresh : {E : Type 0} (item : Option (Result (Unit {0}) E)) (after : State)
+    → after ≡ state_after item → is_fresh after ≡ true → ⊥
 not_fresh item after is fresh = absurd (cc (never_fresh item after is))
 
 -- it walks only where an event was told
-pub walks_on_ok : (answer : Result (Unit {0}) Error) (after : State) (P : Type 0)
+pub walks_on_ok : {E : Type 0} (answer : Result (Unit {0}) E) (after : State) (P : Type 0)
     → after ≡ state_after (Some answer) → OnOk answer P → is_walking after ≡ true → P
 walks_on_ok (Ok value) after P is known walking = known
 walks_on_ok (Err error) after P is known walking = let no = ap is_walking is in absurd (cc)
@@ -167,69 +170,107 @@ holds_walking None bounds tags contents fs walking k = tt
 holds_walking (Some bytes) bounds tags contents fs walking k = λ w.
     let held = k w in (held.head, sym held.size)
 
+-- ---- an answer whose error is held
+
+-- what a step answers
+abbrev Noted : Type 0
+Noted = Option (Result (Unit {0}) Refused)
+
+after_in : (noted : Noted) (last : Last) (after : State) → after ≡ state_after noted
+    → after ≡ state_after (item_in noted last)
+after_in None last after is = is
+after_in (Some (Ok value)) last after is = is
+after_in (Some (Err refused)) last after is = is
+
+ok_in : (noted : Result (Unit {0}) Refused) (last : Last) (P : Type 0) → OnOk noted P
+    → OnOk (answer_in noted last) P
+ok_in (Ok value) last P h = h
+ok_in (Err refused) last P h = tt
+
+end_in : (noted : Noted) (last : Last) (told : PlainEvent) → IsToldEnd noted told
+    → IsToldEnd (item_in noted last) told
+end_in None last told h = h
+end_in (Some (Ok value)) last told h = h
+end_in (Some (Err refused)) last told h = absurd h
+
+falls_in : (noted : Noted) (last : Last) (P Q : Type 0) → IfSome noted (λ answer. P × OnOk answer Q)
+    → IfSome (item_in noted last) (λ answer. P × OnOk answer Q)
+falls_in None last P Q h = tt
+falls_in (Some (Ok value)) last P Q h = h
+falls_in (Some (Err refused)) last P Q h = (h.0, tt)
+
 -- ---- all of it
 
 module _ {R C : Type 0} {g : Ghosts R} {h : CounterGhosts C} (known : R → Option (List ℕ))
     (failed : R → ℕ) (counts : Type 0) (count : C → ℕ) (old new : BinaryReader R C g h)
     (same : known new.source ≡ known old.source)
     (counted : counts → count new.counter ≡ cached_in new.walk) where
-  pub first_walks : (answer : Result (Unit {0}) Error) → old.state ≡ Fresh
-      → new.state ≡ state_after (Some answer)
-      → IfSome (known old.source) (GivesFirst answer new.bounds new.last new.walk)
-      → ErrWithin 0 (2 ^ 64) answer → IfSome (known old.source) (IsBounded new.walk)
-      → OnOk answer (IsKnownWalk (known old.source) new.bounds new.walk)
-      → IfSome (known old.source) (KeepsRoot answer new.last new.walk)
-      → OnOk answer (weight_in new.walk < walk_steps (walk_objects new.walk))
-      → AnswersIo answer (failed old.source) (failed new.source)
-      → Walks known failed counts count old (Some answer) new
-  first_walks answer fresh after pays within bounded held kept falls failures = record {
-    unchanged = same;
-    items = first_tells old.state new.state old.walk.frames new.walk.frames answer after
-        (known old.source) old.bounds new.bounds (event_in new.last) fresh pays;
-    failures = failures;
-    ended = λ e. absurd (fresh-not_ended old.state fresh e);
-    ends = ends_after (Some answer) new.state after;
-    begun = never_fresh (Some answer) new.state after;
-    faults = given_within (Some answer) (2 ^ 64) (omega arith) within;
-    closes = λ e. absurd (closes-fresh old.state old.walk.frames fresh e);
-    head = holds_walking (known old.source) new.bounds new.walk.tags.items new.walk.contents.items
-        (reverse new.walk.frames) (is_walking new.state ≡ true)
-        (walks_on_ok answer new.state _ after held);
-    cached = first_kept old.state new.walk.tags.items (event_in new.last) (known old.source)
-        old.bounds old.walk.frames answer fresh kept;
-    leaves = left_behind known counts count old new new.walk.path new.walk.same counted bounded;
-    falls = first_falls old.state new.state old.walk.frames new.walk.frames answer after
-        (walk_objects new.walk) (walk_objects old.walk) fresh
-        (omega (arith, new.walk.tags.ok, new.walk.tags.small)) falls;
-  }
+  pub first_walks : (noted : Result (Unit {0}) Refused) → old.state ≡ Fresh
+      → new.state ≡ state_after (Some noted)
+      → IfSome (known old.source) (GivesFirst noted new.bounds new.last new.walk)
+      → ErrWithin 0 (2 ^ 64) (answer_in noted new.last)
+      → IfSome (known old.source) (IsBounded new.walk)
+      → OnOk noted (IsKnownWalk (known old.source) new.bounds new.walk)
+      → IfSome (known old.source) (KeepsRoot noted new.last new.walk)
+      → OnOk noted (weight_in new.walk < walk_steps (walk_objects new.walk))
+      → AnswersIn failed noted new.last old.source new.source
+      → WalksIn known failed counts count old (Some noted) new
+  first_walks noted fresh is pays within bounded held kept falls failures =
+      let answer = answer_in noted new.last in
+      let after = after_in (Some noted) new.last new.state is in
+      record {
+        unchanged = same;
+        items = first_tells old.state new.state old.walk.frames new.walk.frames answer after
+            (known old.source) old.bounds new.bounds (event_in new.last) fresh pays;
+        failures = failures;
+        ended = λ e. absurd (fresh-not_ended old.state fresh e);
+        ends = ends_after (Some answer) new.state after;
+        begun = never_fresh (Some answer) new.state after;
+        faults = given_within (Some answer) (2 ^ 64) (omega arith) within;
+        closes = λ e. absurd (closes-fresh old.state old.walk.frames fresh e);
+        head = holds_walking (known old.source) new.bounds new.walk.tags.items new.walk.contents.items
+            (reverse new.walk.frames) (is_walking new.state ≡ true)
+            (walks_on_ok answer new.state _ after (ok_in noted new.last _ held));
+        cached = first_kept old.state new.walk.tags.items (event_in new.last) (known old.source)
+            old.bounds old.walk.frames answer fresh kept;
+        leaves = left_behind known counts count old new new.walk.path new.walk.same counted bounded;
+        falls = first_falls old.state new.state old.walk.frames new.walk.frames answer after
+            (walk_objects new.walk) (walk_objects old.walk) fresh
+            (omega (arith, new.walk.tags.ok, new.walk.tags.small)) (ok_in noted new.last _ falls);
+      }
 
-  pub item_walks : (item : Step) → old.state ≡ Walking → new.state ≡ state_after item
-      → IfSome (known old.source) (λ bytes. PaysNextTold (owed_in bytes old.bounds old.walk) item
-      (event_in new.last) (owed_in bytes new.bounds new.walk))
-      → (closes (open_in old.walk) ≡ true → IsToldEnd item (event_in new.last))
-      → ItemWithin 0 old.bounds.trailer item → walk_objects new.walk ≡ walk_objects old.walk
+  pub item_walks : (noted : Noted) → old.state ≡ Walking → new.state ≡ state_after noted
+      → IfSome (known old.source) (λ bytes. PaysNextTold (owed_in bytes old.bounds old.walk)
+      (item_in noted new.last) (event_in new.last) (owed_in bytes new.bounds new.walk))
+      → (closes (open_in old.walk) ≡ true → IsToldEnd noted (event_in new.last))
+      → ItemWithin 0 old.bounds.trailer (item_in noted new.last)
+      → walk_objects new.walk ≡ walk_objects old.walk
       → IfSome (known old.source) (IsBounded old.walk)
       → IsKnownWalk (known old.source) new.bounds new.walk
-      → KeepsItem (known old.source) old.bounds old.walk item new.last new.walk
-      → LightensNext old.walk item new.walk
-      → ItemCountsIo item (failed old.source) (failed new.source)
-      → Walks known failed counts count old item new
-  item_walks item walking after pays ends within size bounded held kept falls failures = record {
-    unchanged = same;
-    items = item_tells old.state new.state old.walk.frames new.walk.frames item after
-        (known old.source) old.bounds new.bounds (event_in new.last) walking pays;
-    failures = failures;
-    ended = λ e. absurd (walking-not_ended old.state walking e);
-    ends = ends_after item new.state after;
-    begun = never_fresh item new.state after;
-    faults = given_within item old.bounds.trailer (omega (arith, old.bounds.small)) within;
-    closes = λ e. ends (rw walking at e);
-    head = holds_head (known old.source) new.bounds new.walk.tags.items new.walk.contents.items
-        (reverse new.walk.frames) (is_walking new.state ≡ true) held;
-    cached = item_kept old.state new.walk.tags.items (event_in new.last) (known old.source)
-        old.bounds old.walk.frames item walking kept;
-    leaves = left_behind known counts count old new new.walk.path new.walk.same counted
-        (rw size bounded);
-    falls = item_falls old.state new.state old.walk.frames new.walk.frames item after
-        (walk_objects old.walk) (walk_objects new.walk) walking size falls;
-  }
+      → KeepsItem (known old.source) old.bounds old.walk noted new.last new.walk
+      → LightensNext old.walk noted new.walk
+      → ItemAnswersIn failed noted new.last old.source new.source
+      → WalksIn known failed counts count old noted new
+  item_walks noted walking is pays ends within size bounded held kept falls failures =
+      let item = item_in noted new.last in
+      let after = after_in noted new.last new.state is in
+      record {
+        unchanged = same;
+        items = item_tells old.state new.state old.walk.frames new.walk.frames item after
+            (known old.source) old.bounds new.bounds (event_in new.last) walking pays;
+        failures = failures;
+        ended = λ e. absurd (walking-not_ended old.state walking e);
+        ends = ends_after item new.state after;
+        begun = never_fresh item new.state after;
+        faults = given_within item old.bounds.trailer (omega (arith, old.bounds.small)) within;
+        closes = λ e. end_in noted new.last _ (ends (rw walking at e));
+        head = holds_head (known old.source) new.bounds new.walk.tags.items new.walk.contents.items
+            (reverse new.walk.frames) (is_walking new.state ≡ true) held;
+        cached = item_kept old.state new.walk.tags.items (event_in new.last) (known old.source)
+            old.bounds old.walk.frames item walking kept;
+        leaves = left_behind known counts count old new new.walk.path new.walk.same counted
+            (rw size bounded);
+        falls = item_falls old.state new.state old.walk.frames new.walk.frames item after
+            (walk_objects old.walk) (walk_objects new.walk) walking size
+            (falls_in noted new.last _ _ falls);
+      }

@@ -1,29 +1,16 @@
 -- What the innermost collection asks for.
-use Rattle.std.proofs.Common.{◌≡◌, cond, ℕ, suc, ◌+◌, ◌-◌, ◌*◌, ◌<◌, ◌≤◌, List, [], ◌∷◌, ◌++◌, length, drop, get_or, reverse, not, true, Ok, Err, refl, ap, sym, ◌∙◌, arith, append_assoc, add-one, None, Some, false}
+use Rattle.std.proofs.Common.{◌≡◌, cond, ℕ, suc, ◌+◌, ◌-◌, ◌*◌, ◌<◌, ◌≤◌, List, [], ◌∷◌, ◌++◌, length, drop, get_or, not, true, Ok, Err, refl, ap, sym, ◌∙◌, arith, append_assoc, add-one, None, Some, false}
 use Rattle.std.specs.List.{flat_map, slice_get}
 use Rattle.std.proofs.lemmas.Bool.{lt-ltb}
 use Rattle.std.proofs.Math.Seq.{drop-cons}
-use mathlib.Core.List.{reverse-reverse}
 use Rattle.plist_base.specs.Events.{PlainEvent, EndCollection, Item}
 use Rattle.plist_binread.specs.declared.frames.Frame.{Frame}
-use Rattle.plist_binread.specs.declared.walk.Turn.TheVariants.{Done, Closed, Child}
 use Rattle.plist_binread.specs.Packed.{Remarked}
 use Rattle.plist_format.specs.Unfolding.{Entry, unfolding_of, until_fault}
 use Rattle.plist_binread.specs.declared.head.Bounds.{Bounds}
 use Rattle.plist_binread.specs.Debt.{path_of, IsOpen, IsKnown, children_at, place_at, entries_of, owed_by, IsOwed, next_number, walk_steps, walk_weight}
-use Rattle.plist_binread.specs.Turning.{closes, given_back}
+use Rattle.plist_binread.specs.Turning.{closes}
 use Rattle.std.proofs.lemmas.List.{drop_all, get_or_default}
-
--- nothing was closed
-pub done-not_closed : Done ≡ Closed → ⊥
-done-not_closed e = absurd (cc)
-
-pub child-not_closed : (object index : ℕ) → Child object index ≡ Closed → ⊥
-child-not_closed object index e = absurd (cc)
-
--- frames that are the same from the innermost one on
-pub same_frames : (xs ys : List Frame) → reverse xs ≡ reverse ys → xs ≡ ys
-same_frames xs ys e = cc (reverse-reverse xs, reverse-reverse ys)
 
 -- the frame with another number of its next child
 abbrev pub with_next : Frame → ℕ → Frame
@@ -37,13 +24,6 @@ pub next_path : (tags : List ℕ) (f : Frame) (n : ℕ) (fs : List Frame) → Is
     → IsOpen tags (with_next f n ∷ fs)
 next_path tags f n fs o =
     record { distinct = o.distinct; below = o.below; marks = o.marks; uncached = o.uncached }
-
--- the child that was taken is given back
-pub taken_back : (f : Frame) (below : List Frame) → given_back (after f ∷ below) ≡ f ∷ below
-taken_back f below = ap (λ n. with_next f n ∷ below) (plus_less _)
-  where
-    plus_less : (n : ℕ) → n + 1 - 1 ≡ n
-    plus_less n = omega arith
 
 child_flat : (step : ℕ → List Item) (xs : List ℕ) (more : List Item) (i x : ℕ) → i < length xs
     → x ≡ get_or xs i x → flat_map step (drop i xs) ++ more ≡ step x

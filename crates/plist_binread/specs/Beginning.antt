@@ -4,7 +4,8 @@ use Rattle.plist_base.specs.declared.error.Error.{Error}
 use Rattle.plist_base.specs.Faults.{MatchFault, kind_of, error_kind_of, fault_of}
 use Rattle.plist_format.specs.Container.{head_of}
 use Rattle.plist_binread.specs.Debt.{IsOwed, places_of}
-use Rattle.plist_binread.specs.Told.{event_in}
+use Rattle.plist_binread.specs.declared.told.Refused.{Refused}
+use Rattle.plist_binread.specs.Told.{answer_in, event_in}
 use Rattle.plist_binread.specs.Turning.{IsKeptTold, root_with}
 use Rattle.plist_format.specs.Unfolding.{until_fault, items_of_file}
 use Rattle.plist_binread.specs.Walking.{IsWalkOf, walk_objects, owed_in}
@@ -21,9 +22,9 @@ abbrev pub IsKnownWalk : (known : Option (List ℕ)) → Bounds → Walk → Typ
 IsKnownWalk known bounds walk = IfSome known (λ bytes. IsWalkOf bytes bounds walk)
 
 -- the root is cached if it is small
-abbrev pub KeepsRoot : {A : Type 0} → Result A Error → Last → Walk → List ℕ → Type 0
-KeepsRoot answer last walk bytes =
-    IsKeptTold (root_with (head_of bytes)) (Some answer) (event_in last) walk.tags.items
+abbrev pub KeepsRoot : {A : Type 0} → Result A Refused → Last → Walk → List ℕ → Type 0
+KeepsRoot answer last walk bytes = IsKeptTold (root_with (head_of bytes))
+    (Some (answer_in answer last)) (event_in last) walk.tags.items
 
 -- the file's first item is refused
 abbrev pub RefusesFirst : List ℕ → Error → Type 0
@@ -31,7 +32,7 @@ RefusesFirst bytes e = MatchFault (kind_of (error_kind_of e)) (IsOwed (items_of_
     (IsOwed (items_of_file bytes)) (items_of_file bytes ≡ Err (fault_of e) ∷ [])
 
 -- it is told, and the walk owes the others
-abbrev pub GivesFirst : {A : Type 0} → Result A Error → Bounds → Last → Walk → List ℕ → Type 0
-GivesFirst answer bounds last walk bytes = MatchResult answer
+abbrev pub GivesFirst : {A : Type 0} → Result A Refused → Bounds → Last → Walk → List ℕ → Type 0
+GivesFirst answer bounds last walk bytes = MatchResult (answer_in answer last)
     (λ _. items_of_file bytes ≡ Ok (event_in last) ∷ until_fault (owed_in bytes bounds walk))
     (RefusesFirst bytes)

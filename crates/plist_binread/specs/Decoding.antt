@@ -1,7 +1,7 @@
 -- What was decoded of an object, and what the walk makes of it.
 use Rattle.std.specs.Prelude.{◌≡◌, ℕ, List, [], length, false, Result, Option, None, Some, IfOk, MatchResult, ⊤}
 use Rattle.plist_base.specs.declared.error.Error.{Error}
-use Rattle.plist_base.specs.Faults.{InvalidUtf8String, InvalidUtf16String, UnknownObjectType, MatchFault, kind_of, error_kind_of, offset_of}
+use Rattle.plist_base.specs.Faults.{InvalidUtf8String, InvalidUtf16String, MatchFault, kind_of, error_kind_of, offset_of}
 use Rattle.plist_base.specs.Events.{PlainEvent, StartArray, StartDictionary, event_of}
 use Rattle.plist_base.specs.Trees as trees
 use Rattle.plist_base.specs.Trees.{Data, String}
@@ -42,13 +42,16 @@ single_in object = single (scalar_in object)
 
 -- what was decoded is this object: the scalar that is told, or a collection whose start is told
 abbrev pub IsDecodedAs : Object → (told : PlainEvent) → Lent → Type 0
-IsDecodedAs object told lent.Nothing = ⊥
+IsDecodedAs object told (lent.Long content) = ⊥
 IsDecodedAs object told lent.TooLarge = ⊥
 IsDecodedAs object told lent.Null = ⊥
 IsDecodedAs object told lent.Fill = ⊥
 IsDecodedAs object told (lent.Unknown marker) = ⊥
 IsDecodedAs object told lent.OutOfRange = ⊥
 IsDecodedAs object told lent.NoDate = ⊥
+IsDecodedAs object told lent.NotUtf8 = ⊥
+IsDecodedAs object told lent.NotUtf16 = ⊥
+IsDecodedAs object told lent.NoMemory = ⊥
 IsDecodedAs object told lent.Scalar = single_in object ≡ Some told
 IsDecodedAs object told (lent.Collection count) = IsCollection object told count
 
@@ -73,10 +76,6 @@ abbrev pub IsRefusedAs : Object → (place : ℕ) → Error → Type 0
 IsRefusedAs object place error =
     MatchFault (kind_of (error_kind_of error)) ⊤ (GrowsAt object)
     ((object ≡ Faulty (kind_of (error_kind_of error))) × (offset_of error ≡ Some place))
-
--- the object at a place was refused for its marker
-abbrev pub IsUnknownAt : (marker place : ℕ) → Error → Type 0
-IsUnknownAt marker place error = IsRefusedAs (Faulty (UnknownObjectType marker)) place error
 
 -- the event of a scalar is given, or its object refused
 abbrev pub Decodes : Object → (place : ℕ) → Result Event Error → Type 0

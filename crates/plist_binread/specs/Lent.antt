@@ -1,49 +1,47 @@
 -- What lies in bytes that are lent, and where the references of a collection stand.
-use Rattle.std.specs.Prelude.{◌≡◌, ℕ, ◌+◌, ◌-◌, ◌*◌, ◌/◌, ◌%◌, ◌<◌, ◌≤◌, Bool, true, false, List, [], ◌∷◌, ◌++◌, Option, Some, Result, Ok, MatchOption, MatchResult, length, take, drop, get_or, cond, nat_eq}
+use Rattle.std.specs.Prelude.{◌≡◌, ℕ, ◌+◌, ◌-◌, ◌*◌, ◌/◌, ◌%◌, ◌<◌, ◌≤◌, List, [], ◌∷◌, Option, Some, Result, Ok, MatchOption, MatchResult, length, take, drop, get_or, cond, nat_eq}
 use Rattle.plist_base.specs.declared.error.Error.{Error}
-use Rattle.plist_base.specs.Faults.{ObjectOffsetTooLarge, NullObjectUnimplemented, FillObjectUnimplemented, UnknownObjectType, IntegerOutOfRange, OverflowOrNanDate}
+use Rattle.plist_base.specs.Faults.{ObjectOffsetTooLarge, NullObjectUnimplemented, FillObjectUnimplemented, UnknownObjectType, IntegerOutOfRange, OverflowOrNanDate, InvalidUtf8String, InvalidUtf16String}
 use Rattle.plist_base.specs.Events.{PlainEvent, EndCollection, Item}
 use Rattle.plist_binread.specs.declared.child.Asked.{Asked}
 use Rattle.plist_binread.specs.declared.lent.Lent.{Lent}
 use Rattle.plist_binread.specs.declared.lent.Lent.TheVariants as lent
 use Rattle.plist_binread.specs.declared.head.Bounds.{Bounds}
 use Rattle.plist_format.specs.Container.{number_at}
-use Rattle.plist_binread.specs.Debt.{Explains, path_of, owed_by}
-use Rattle.plist_binread.specs.Turning.{IsKeptTold, ReadsChild}
-use Rattle.plist_binread.specs.Decoding.{IsCollection, single_in, children_in}
-use Rattle.plist_binread.specs.declared.frames.Frame.{Frame}
+use Rattle.plist_binread.specs.Debt.{Explains}
+use Rattle.plist_binread.specs.Decoding.{GrowsAt, IsCollection, single_in, children_in}
 use Rattle.plist_format.specs.Object.{Object, Faulty, object_in}
 use Rattle.plist_binread.specs.Packed.{is_small_event}
-use Rattle.plist_format.specs.Unfolding.{Entry, unfolding_of, until_fault}
+use Rattle.plist_format.specs.Unfolding.{until_fault}
 
 -- what was lent is this object: the scalar that is told, a collection whose start is told, or a
 -- fault
 abbrev pub IsLentAs : Object → (told : PlainEvent) → Lent → Type 0
-IsLentAs object told lent.Nothing = Unit {0}
+IsLentAs object told (lent.Long content) = Unit {0}
 IsLentAs object told lent.TooLarge = object ≡ Faulty ObjectOffsetTooLarge
 IsLentAs object told lent.Null = object ≡ Faulty NullObjectUnimplemented
 IsLentAs object told lent.Fill = object ≡ Faulty FillObjectUnimplemented
-IsLentAs object told (lent.Unknown marker) =
-    (marker < 256) × (object ≡ Faulty (UnknownObjectType marker))
+IsLentAs object told (lent.Unknown marker) = object ≡ Faulty (UnknownObjectType marker)
 IsLentAs object told lent.OutOfRange = object ≡ Faulty IntegerOutOfRange
 IsLentAs object told lent.NoDate = object ≡ Faulty OverflowOrNanDate
+IsLentAs object told lent.NotUtf8 = object ≡ Faulty InvalidUtf8String
+IsLentAs object told lent.NotUtf16 = object ≡ Faulty InvalidUtf16String
+IsLentAs object told lent.NoMemory = GrowsAt object
 IsLentAs object told lent.Scalar = single_in object ≡ Some told
 IsLentAs object told (lent.Collection count) = IsCollection object told count
 
--- nothing was lent
-abbrev pub lends_nothing : Lent → Bool
-lends_nothing lent.Nothing = true
-lends_nothing _ = false
-
 -- how many small objects were decoded
 abbrev pub small_lent : Lent → (told : PlainEvent) → ℕ
-small_lent lent.Nothing told = 0
+small_lent (lent.Long content) told = 0
 small_lent lent.TooLarge told = 0
 small_lent lent.Null told = 0
 small_lent lent.Fill told = 0
 small_lent (lent.Unknown marker) told = 0
 small_lent lent.OutOfRange told = 0
 small_lent lent.NoDate told = 0
+small_lent lent.NotUtf8 told = 0
+small_lent lent.NotUtf16 told = 0
+small_lent lent.NoMemory told = 0
 small_lent lent.Scalar told = cond (is_small_event told) 1 0
 small_lent (lent.Collection count) told = 0
 
@@ -87,22 +85,7 @@ abbrev pub PaysNextTold : {A : Type 0} → List Item → Option (Result A Error)
 PaysNextTold before item told after =
     MatchOption item ((before ≡ []) × (after ≡ [])) (λ answer. PaysAnswer before answer told after)
 
--- the child of this index has been entered, from the collection at this place: what was owed with
--- it begins with what is told and goes on with what is owed now, and it is cached if it is small
-abbrev pub EntersChild : {A : Type 0} → List Entry → Object → (at index count : ℕ)
-    → (old : List Frame) → Result A Error → (told : PlainEvent) → (tags : List ℕ)
-    → (new : List Frame) → Type 0
-EntersChild table object at index count old answer told tags new =
-    (number : ℕ) × ReadsChild object index (Ok number)
-    × IsKeptTold (Some number) (Some answer) told tags
-    × PaysAnswer (unfolding_of table (count - length old) (path_of old) at number
-    ++ owed_by table old) answer told (owed_by table new)
-
--- the object of this number is cached if the event that is told is small
-abbrev pub IsKeptNear : Option ℕ → (told : PlainEvent) → (tags : List ℕ) → Type 0
-IsKeptNear number told tags = IsKeptTold {A = Unit {0}} number (Some (Ok (tt {0}))) told tags
-
 -- an end is told
-abbrev pub IsToldEnd : {A : Type 0} → Option (Result A Error) → (told : PlainEvent) → Type 0
+abbrev pub IsToldEnd : {A E : Type 0} → Option (Result A E) → (told : PlainEvent) → Type 0
 IsToldEnd item told =
     MatchOption item ⊥ (λ answer. MatchResult answer (λ _. told ≡ EndCollection) (λ error. ⊥))

@@ -1,20 +1,24 @@
 -- Words for what is decoded of bytes that are lent, whatever lies behind those that were seen.
-use Rattle.std.specs.Prelude.{◌≡◌, ℕ, ◌+◌, ◌-◌, ◌*◌, ◌<◌, ◌≤◌, false, List, ◌++◌, length, take, drop, get_or, nat_lt, Option, None, Some, Result, Ok, Err, IfSome, MatchOption, if◌then◌else◌}
+use Rattle.std.specs.Prelude.{◌≡◌, ℕ, ◌+◌, ◌-◌, ◌*◌, ◌^◌, ◌<◌, ◌≤◌, Bool, true, false, List, ◌∷◌, ◌++◌, length, take, drop, Option, None, Some, Result, Ok, Err, IfOk, IfSome, MatchOption, MatchResult, ⊤}
 use Rattle.std.specs.Borrow.{Bor}
-use Rattle.std.specs.Str.{IsUtf8}
 use Rattle.plist_base.specs.declared.error.Error.{Error}
-use Rattle.plist_base.specs.Events.{PlainEvent, Single}
+use Rattle.plist_base.specs.Events.{PlainEvent}
 use Rattle.plist_base.specs.Trees.{String}
 use Rattle.plist_format.specs.Container.{number_of, numbers_spelled}
-use Rattle.plist_binread.specs.Decoding.{DecodesTold, single_in}
-use Rattle.plist_binread.specs.Behind.{object_at}
+use Rattle.plist_binread.specs.Decoding.{Decodes, DecodesTold, IsRefusedAs}
+use Rattle.plist_binread.specs.Failures.{ErrWithin}
+use Rattle.plist_base.specs.declared.event.Event.{Event}
+use Rattle.plist_binread.specs.Behind.{data_of_content, object_at}
 use Rattle.plist_binread.specs.declared.head.Bounds.{Bounds}
 use Rattle.plist_binread.specs.Lent.{IsLentAs, small_lent}
-use Rattle.plist_format.specs.Object.{Array, Object, dictionary, length_in, meaning_counted, meaning_of_front, text_of_units}
+use Rattle.plist_format.specs.Object.{Array, Object, dictionary, length_in, meaning_counted, meaning_of_front, text, text_of_units, wide_text}
 use Rattle.plist_binread.specs.Packed.{content_bytes, is_small_event, scalar_of, single}
 use Rattle.plist_binread.specs.Told.{event_in}
 use Rattle.plist_binread.specs.declared.lent.Lent.{Lent}
-use Rattle.plist_binread.specs.declared.lent.Lent.TheVariants.{Nothing, TooLarge}
+use Rattle.plist_binread.specs.declared.lent.Lent.TheVariants as lent
+use Rattle.plist_binread.specs.declared.lent.Kind.{Kind}
+use Rattle.plist_binread.specs.declared.lent.Kind.TheVariants as kind
+use Rattle.plist_binread.specs.declared.lent.Content.{Content}
 use Rattle.plist_binread.specs.declared.told.Last.{Last}
 
 -- ---- what stands at the front of bytes
@@ -40,16 +44,32 @@ IsLengthCut marker rest = (length rest < 9) × (length_in marker rest ≡ None)
 abbrev pub LiesBehind : (rest : List ℕ) → ℕ × Bor (List ℕ) → Type 0
 LiesBehind rest found = drop (length rest - length found.1.now) rest ≡ found.1.now
 
--- the content of a text or data
-abbrev pub IsCounted : (marker : ℕ) (rest : List ℕ) → Bor (List ℕ) → Type 0
-IsCounted marker rest found = (more : List ℕ) (meaning : List ℕ → Object) →
-    meaning_counted 1 (λ _. meaning) (length_in marker (rest ++ more)) ≡ meaning found.now
+-- bytes that reach so far, or are as many as a number and a length need
+abbrev pub ReachesFar : (room : ℕ) (rest : List ℕ) → Type 0
+ReachesFar room rest = length rest < 16 → room ≤ length rest
 
--- a collection's length, where so many bytes lie before the trailer
-abbrev pub IsCount : (marker size room : ℕ) (rest : List ℕ) → ℕ → Type 0
-IsCount marker size room rest count = (more : List ℕ) → length (rest ++ more) ≡ room →
-    (behind : List ℕ) × (length_in marker (rest ++ more) ≡ Some (count, behind))
-    × (count * size ≤ length behind)
+-- and those of the whole front of an object
+abbrev pub ShowsFront : (room : ℕ) (seen : List ℕ) → Type 0
+ShowsFront room seen = length seen < 26 → room ≤ length seen
+
+-- the content of a text or data, whose elements have this size
+abbrev pub IsCounted : (marker size room : ℕ) (rest : List ℕ) → Bor (List ℕ) → Type 0
+IsCounted marker size room rest found = (more : List ℕ) → length (rest ++ more) ≡ room →
+    (meaning : List ℕ → Object) →
+    meaning_counted size (λ _. meaning) (length_in marker (rest ++ more)) ≡ meaning found.now
+
+-- which is of whole elements
+abbrev pub HasUnits : (size : ℕ) → Bor (List ℕ) → Type 0
+HasUnits size found = (count : ℕ) × (length found.now ≡ count * size)
+
+-- a length, where so many elements lie before the trailer, and what is seen behind it
+abbrev pub IsCount : (marker size room : ℕ) (rest : List ℕ) → ℕ × Bor (List ℕ) → Type 0
+IsCount marker size room rest found = (more : List ℕ) → length (rest ++ more) ≡ room →
+    (length_in marker (rest ++ more) ≡ Some (found.0, found.1.now ++ more))
+    × (found.0 * size ≤ length (found.1.now ++ more))
+
+abbrev pub EndsBefore : (size room : ℕ) (rest : List ℕ) → ℕ × Bor (List ℕ) → Type 0
+EndsBefore size room rest found = length rest - length found.1.now + found.0 * size ≤ room
 
 -- ---- what is lent
 
@@ -66,10 +86,21 @@ abbrev pub LendsFront : (room size : ℕ) → (List ℕ → Object) → (rest : 
 LendsFront room size meaning rest told lent =
     LendsWhole room (meaning_of_front size meaning) rest told lent
 
-abbrev pub LendsCounted : (marker size : ℕ) → (List ℕ → Object) → (rest : List ℕ) → PlainEvent
-    → Lent → Type 0
-LendsCounted marker size meaning rest told lent = (more : List ℕ) →
-    IsLentAs (meaning_counted size (λ _. meaning) (length_in marker (rest ++ more))) told lent
+-- how many bytes an element of the content has, and what the content means
+abbrev pub unit_size : Kind → ℕ
+unit_size kind.Data = 1
+unit_size kind.Text = 1
+unit_size kind.WideText = 2
+
+abbrev pub content_means : Kind → List ℕ → Object
+content_means kind.Data = data_of_content
+content_means kind.Text = text
+content_means kind.WideText = wide_text
+
+-- an object that has as many elements as its length says
+abbrev pub counted_with : Kind → (marker : ℕ) → List ℕ → Object
+counted_with kind marker rest =
+    meaning_counted (unit_size kind) (λ _. content_means kind) (length_in marker rest)
 
 abbrev pub array_with : (width marker : ℕ) → List ℕ → Object
 array_with width marker rest =
@@ -87,24 +118,26 @@ RefusesCounted marker size room rest lent =
     → length (rest ++ more) ≡ room
     → IsLentAs (meaning_counted size meaning (length_in marker (rest ++ more))) told lent
 
--- nothing is lent only of bytes that don't reach the trailer, and are less than sixteen
-abbrev pub IsFar : (room : ℕ) (rest : List ℕ) → Lent → Type 0
-IsFar room rest lent = lent ≡ Nothing → (length rest < 16) × (length rest < room)
+-- it isn't a text or data whose content isn't all seen
+abbrev pub IfLong : Lent → (Content → Type 0) → Type 0
+IfLong (lent.Long content) P = P content
+IfLong lent P = ⊤
 
--- the same unless it is a text or data, by its marker
-abbrev pub IsFarOrText : (marker room : ℕ) (rest : List ℕ) → Lent → Type 0
-IsFarOrText marker room rest lent =
-    lent ≡ Nothing → (length rest < 16 → room ≤ length rest) → (64 ≤ marker) × (marker ≤ 111)
+abbrev pub IsWhole : Lent → Type 0
+IsWhole lent = IfLong lent (λ _. ⊥)
 
--- and of bytes that begin with the marker
-abbrev pub IsFarOrLarge : (room : ℕ) (seen : List ℕ) → Lent → Type 0
-IsFarOrLarge room seen lent =
-    lent ≡ Nothing → (length seen < 17 → room ≤ length seen)
-    → (64 ≤ get_or seen 0 0) × (get_or seen 0 0 ≤ 111)
+-- or its content lies before the trailer, and this is its meaning
+abbrev pub LeavesLong : (room : ℕ) → (List ℕ → Object) → (seen : List ℕ) → Lent → Type 0
+LeavesLong room object seen lent = IfLong lent (λ content.
+    (content.start + content.count * unit_size content.kind ≤ room)
+    × ((more : List ℕ) → length (seen ++ more) ≡ room → object (seen ++ more)
+    ≡ content_means content.kind (take (content.count * unit_size content.kind)
+    (drop content.start (seen ++ more)))))
 
--- what is said where so many bytes of an object are too few
-abbrev pub cut_at : (room size : ℕ) → Lent
-cut_at room size = if nat_lt size room then Nothing else TooLarge
+-- the same by what lies behind the marker
+abbrev pub LongBehind : (marker room : ℕ) → (List ℕ → Object) → (rest : List ℕ) → Lent → Type 0
+LongBehind marker room object rest lent =
+    LeavesLong (room + 1) (λ bytes. object (drop 1 bytes)) (marker ∷ rest) lent
 
 -- one for a small object that is lent, by which the counter rises
 abbrev pub small_told : Lent → Last → ℕ
@@ -114,15 +147,43 @@ abbrev pub CountsLent : {C : Type 0} → (counts : Type 0) → (count : C → �
     → Last → Type 0
 CountsLent counts count old new lent last = counts → count new ≡ count old + small_told lent last
 
--- the same of what is decoded by reads
-abbrev pub small_found : Result Lent Error → Last → ℕ
+-- the same of an answer
+abbrev pub small_found : {E : Type 0} → Result Lent E → Last → ℕ
 small_found (Ok lent) last = small_told lent last
 small_found (Err error) last = 0
 
-abbrev pub CountsFound : {C : Type 0} → (counts : Type 0) → (count : C → ℕ) → (old new : C)
-    → Result Lent Error → Last → Type 0
+abbrev pub CountsFound : {C E : Type 0} → (counts : Type 0) → (count : C → ℕ) → (old new : C)
+    → Result Lent E → Last → Type 0
 CountsFound counts count old new answer last =
     counts → count new ≡ count old + small_found answer last
+
+-- what was decoded of the object at a place, by its front, or its refusal
+abbrev pub LendsAt : {S : Type 0} → (S → Option (List ℕ)) → S → Bounds → (place : ℕ) → Last
+    → Result Lent Error → Type 0
+LendsAt known source bounds place last answer = IfSome (known source) (λ bytes.
+    bounds.trailer ≤ length bytes → MatchResult answer
+    (λ lent. IsLentAs (object_at bounds place bytes) (event_in last) lent)
+    (λ error. IsRefusedAs (object_at bounds place bytes) place error))
+
+-- a text or data whose content isn't all seen there lies before the trailer, and this is its object
+abbrev pub LongAt : {E S : Type 0} → (S → Option (List ℕ)) → S → Bounds → (place : ℕ)
+    → Result Lent E → Type 0
+LongAt known source bounds place answer = IfOk answer (λ lent. IfLong lent (λ content.
+    (place + content.start + content.count * unit_size content.kind ≤ bounds.trailer)
+    × IfSome (known source) (λ bytes. bounds.trailer ≤ length bytes → object_at bounds place bytes
+    ≡ content_means content.kind (take (content.count * unit_size content.kind)
+    (drop (place + content.start) bytes)))))
+
+-- something is wrong with the object, or memory was wanted for it
+abbrev pub is_fault : Lent → Bool
+is_fault (lent.Long content) = false
+is_fault lent.Scalar = false
+is_fault (lent.Collection count) = false
+is_fault lent = true
+
+abbrev pub is_wrong : Lent → Bool
+is_wrong lent.NoMemory = false
+is_wrong lent = is_fault lent
 
 -- the object at a place is told, or refused
 abbrev pub TellsObject : {S : Type 0} → (S → Option (List ℕ)) → S → Bounds → (place : ℕ) → Last
@@ -130,6 +191,38 @@ abbrev pub TellsObject : {S : Type 0} → (S → Option (List ℕ)) → S → Bo
 TellsObject known source bounds place last answer = IfSome (known source) (λ bytes.
     bounds.trailer ≤ length bytes
     → DecodesTold (object_at bounds place bytes) place (event_in last) answer)
+
+-- ---- a content that is read
+
+-- its end has a place
+abbrev pub EndsIn64Bits : (place : ℕ) → Content → Type 0
+EndsIn64Bits place content =
+    place + content.start + content.count * unit_size content.kind < 2 ^ 64
+
+-- where all of it is there, its event is given, or the object at the place refused
+abbrev pub ReadsContent : (known : Option (List ℕ)) → (place : ℕ) → Content → Result Event Error
+    → Type 0
+ReadsContent known place content answer = IfSome known (λ bytes.
+    place + content.start + content.count * unit_size content.kind ≤ length bytes
+    → Decodes (content_means content.kind (take (content.count * unit_size content.kind)
+    (drop (place + content.start) bytes))) place answer)
+
+-- the same where the event is told
+abbrev pub TellsContentAt : (known : Option (List ℕ)) → (place : ℕ) → Content → Last
+    → Result Lent Error → Type 0
+TellsContentAt known place content last answer = IfSome known (λ bytes.
+    place + content.start + content.count * unit_size content.kind ≤ length bytes
+    → DecodesTold (content_means content.kind (take (content.count * unit_size content.kind)
+    (drop (place + content.start) bytes))) place (event_in last) answer)
+
+-- a scalar that isn't small is told
+abbrev pub IsLargeScalar : Last → Lent → Type 0
+IsLargeScalar last lent = small_told lent last ≡ 0
+
+-- a read that fails there fails within the object
+abbrev pub FailsInContent : {A : Type 0} → (place : ℕ) → Content → Result A Error → Type 0
+FailsInContent place content answer =
+    ErrWithin place (place + content.start + content.count * unit_size content.kind) answer
 
 -- ---- what is packed
 
@@ -149,10 +242,17 @@ abbrev pub PacksEvent : PlainEvent → Option (ℕ × ℕ) → Type 0
 PacksEvent event packed = MatchOption packed (is_small_event event ≡ false)
     (λ p. single (scalar_of p.0 p.1) ≡ Some event)
 
--- the units are a text, which is told
-abbrev pub TellsUnits : (units : List ℕ) → Last → Type 0
-TellsUnits units last = single_in (text_of_units units) ≡ Some (event_in last)
+-- ---- what is told
 
--- the bytes are a text, which is told
-abbrev pub TellsText : (bytes : List ℕ) → Last → Type 0
-TellsText bytes last = IsUtf8 bytes × (event_in last ≡ Single (String bytes))
+-- the object of a content is told, or what is wrong with it
+abbrev pub TellsContent : Object → Last → Lent → Type 0
+TellsContent object last lent = IsLentAs object (event_in last) lent × IsWhole lent
+
+abbrev pub TellsUnits : (units : List ℕ) → Last → Lent → Type 0
+TellsUnits units last lent = TellsContent (text_of_units units) last lent
+
+abbrev pub TellsText : (bytes : List ℕ) → Last → Lent → Type 0
+TellsText bytes last lent = TellsContent (text bytes) last lent
+
+abbrev pub TellsData : (bytes : List ℕ) → Last → Lent → Type 0
+TellsData bytes last lent = TellsContent (data_of_content bytes) last lent

@@ -1,14 +1,18 @@
 -- Words for what a step of the walk does to the walk, to what is told, and to what is owed.
-use Rattle.std.specs.Prelude.{◌≡◌, ℕ, ◌-◌, ◌<◌, Bool, true, List, ◌++◌, length, get_or, Option, Some, Result, Ok, IfSome, OnOk, ⊤}
+use Rattle.std.specs.Prelude.{◌≡◌, ℕ, ◌-◌, ◌<◌, true, List, ◌++◌, length, get_or, Option, Some, Result, Err, IfSome, OnOk, ⊤}
 use Rattle.std.specs.List.{slice_get}
 use Rattle.plist_base.specs.declared.error.Error.{Error}
-use Rattle.plist_base.specs.Events.{PlainEvent, EndCollection}
-use Rattle.plist_binread.specs.Behind.{object_at}
+use Rattle.plist_base.specs.Events.{PlainEvent}
+use Rattle.plist_binread.specs.Behind.{AsksAt}
 use Rattle.plist_binread.specs.Debt.{Explains, IsKnown, IsOpen, entries_of, next_number, owed_by, path_of, walk_weight}
-use Rattle.plist_binread.specs.Lent.{EntersChild, IsKeptNear, IsLentAs, PaysAnswer, PaysNextTold, PaysTold}
+use Rattle.plist_binread.specs.Lent.{IsLentAs, PaysAnswer, PaysNextTold, PaysTold}
 use Rattle.plist_binread.specs.Packed.{is_small_event, unmarked}
-use Rattle.plist_binread.specs.Told.{event_in}
-use Rattle.plist_binread.specs.Turning.{CanGiveBack, IsFound, IsKeptTold, Lightens, Turns, closes}
+use Rattle.plist_binread.specs.declared.told.Refused.{Refused}
+use Rattle.plist_base.specs.Faults.{MatchFault, kind_of, error_kind_of, fault_of}
+use Rattle.plist_base.specs.Limits.{RefusesAny}
+use Rattle.plist_base.specs.declared.limits.Limiter.{Limiter}
+use Rattle.plist_binread.specs.Told.{answer_in, event_in, item_in}
+use Rattle.plist_binread.specs.Turning.{IsFound, IsKeptTold, Lightens, Turns}
 use Rattle.plist_format.specs.Unfolding.{Entry, unfolding_of, until_fault}
 use Rattle.plist_binread.specs.Walking.{IsWalkOf, walk_objects, open_in, owed_entering, owed_in, weight_entering, weight_in}
 use Rattle.plist_binread.specs.declared.frames.Frame.{Frame}
@@ -30,7 +34,7 @@ abbrev pub IsLighter : (old new : Walk) → Type 0
 IsLighter old new = walk_weight (walk_objects old) (open_in new) < weight_in old
 
 -- an item came of a walk that owed some, and less is left to do
-abbrev pub LightensNext : {A : Type 0} → (old : Walk) → Option (Result A Error) → (new : Walk)
+abbrev pub LightensNext : {A : Type 0} → (old : Walk) → Option (Result A Refused) → (new : Walk)
     → Type 0
 LightensNext old item new =
     IfSome item (λ answer. (0 < weight_in old) × OnOk answer (IsLighter old new))
@@ -41,11 +45,6 @@ IsUnchanged old new =
     (new.tags.items ≡ old.tags.items) × (new.contents.items ≡ old.contents.items)
     × (new.frames ≡ old.frames)
 
-abbrev pub IsAsBefore : (old new : Walk) → Type 0
-IsAsBefore old new =
-    (new.tags.items ≡ old.tags.items) × (new.contents.items ≡ old.contents.items)
-    × (open_in new ≡ open_in old)
-
 -- what a turn takes of what is owed
 abbrev pub TurnsWalk : (old : Walk) → Turn → (new : Walk) → Type 0
 TurnsWalk old turn new = (bytes : List ℕ) (bounds : Bounds) → IsWalkOf bytes bounds old →
@@ -53,10 +52,6 @@ TurnsWalk old turn new = (bytes : List ℕ) (bounds : Bounds) → IsWalkOf bytes
 
 abbrev pub LightensBy : (old : Walk) → Turn → (new : Walk) → Type 0
 LightensBy old turn new = (count : ℕ) → Lightens count (open_in old) turn (open_in new)
-
-abbrev pub TurnGivesBack : (old : Walk) → Turn → (new : Walk) → Type 0
-TurnGivesBack old turn new =
-    CanGiveBack turn old.tags.items new.tags.items (open_in old) (open_in new)
 
 -- ---- what is looked up
 
@@ -72,6 +67,20 @@ ExplainsEntering tags contents at number error =
     Explains (until_fault
     (unfolding_of (entries_of bytes bounds) (length tags - length frames) (path_of frames)
     at number ++ owed_by (entries_of bytes bounds) frames)) error
+
+-- the error of a child that isn't found is held
+abbrev pub RefusesChildren : (known : Option (List ℕ)) → Bounds → (place : ℕ) → Last → Refused
+    → Type 0
+RefusesChildren known bounds place last refused =
+    (index : ℕ) → AsksAt (Err last.fault) known bounds place index
+
+-- the error of a number that isn't entered is held, and no device failed
+abbrev pub RefusesEntering : (tags contents : List ℕ) (at number : ℕ) → Last → Refused → Type 0
+RefusesEntering tags contents at number last refused =
+    ExplainsEntering tags contents at number last.fault
+
+abbrev pub RefusesInside : Last → Refused → Type 0
+RefusesInside last refused = MatchFault (kind_of (error_kind_of last.fault)) ⊥ ⊤ ⊤
 
 -- ---- an object that is opened
 
@@ -96,62 +105,33 @@ WantsRoom lent = ⊤
 -- ---- over known bytes
 
 -- an object that was entered is cached if it is small
-abbrev pub KeepsEntered : {A : Type 0} → (known : Option (List ℕ)) → (number : ℕ) → Result A Error
-    → Last → Walk → Type 0
-KeepsEntered known number answer last walk =
-    IfSome known (λ _. IsKeptTold (Some number) (Some answer) (event_in last) walk.tags.items)
+abbrev pub KeepsEntered : {A : Type 0} → (known : Option (List ℕ)) → (number : ℕ)
+    → Result A Refused → Last → Walk → Type 0
+KeepsEntered known number answer last walk = IfSome known (λ _.
+    IsKeptTold (Some number) (Some (answer_in answer last)) (event_in last) walk.tags.items)
 
 -- its first item is what the list owes, referred to from `at`
 abbrev pub Meets : {A S : Type 0} → (S → Option (List ℕ)) → S → Bounds → (old : Walk)
-    → (at number : ℕ) → Result A Error → Last → (new : Walk) → Type 0
+    → (at number : ℕ) → Result A Refused → Last → (new : Walk) → Type 0
 Meets known source bounds old at number answer last new = IfSome (known source) (λ bytes.
-    PaysAnswer (owed_entering bytes bounds old at number) answer (event_in last)
+    PaysAnswer (owed_entering bytes bounds old at number) (answer_in answer last) (event_in last)
     (owed_in bytes bounds new))
 
 -- what the next item tells is the first that is owed, and cached if it is small
 abbrev pub PaysItem : {A : Type 0} → (known : Option (List ℕ)) → Bounds → (old : Walk)
-    → Option (Result A Error) → Last → (new : Walk) → Type 0
+    → Option (Result A Refused) → Last → (new : Walk) → Type 0
 PaysItem known bounds old item last new = IfSome known (λ bytes.
-    PaysNextTold (owed_in bytes bounds old) item (event_in last) (owed_in bytes bounds new))
+    PaysNextTold (owed_in bytes bounds old) (item_in item last) (event_in last)
+    (owed_in bytes bounds new))
 
 abbrev pub KeepsItem : {A : Type 0} → (known : Option (List ℕ)) → Bounds → (old : Walk)
-    → Option (Result A Error) → Last → (new : Walk) → Type 0
+    → Option (Result A Refused) → Last → (new : Walk) → Type 0
 KeepsItem known bounds old item last new = IfSome known (λ bytes.
-    IsKeptTold (next_number (entries_of bytes bounds) (open_in old)) item (event_in last)
-    new.tags.items)
+    IsKeptTold (next_number (entries_of bytes bounds) (open_in old)) (item_in item last)
+    (event_in last) new.tags.items)
 
--- ---- the same where all was at hand, and nothing where it wasn't
+-- ---- limits
 
-abbrev pub KeepsNear : (known : Option (List ℕ)) → (number : ℕ) → (done : Bool) → Last → Walk
-    → Type 0
-KeepsNear known number done last walk = done ≡ true → IfSome known (λ _.
-    is_small_event (event_in last) ≡ true → 0 < unmarked (get_or walk.tags.items number 0))
-
-abbrev pub PaysNear : {S : Type 0} → (S → Option (List ℕ)) → S → Bounds → (old : Walk)
-    → (number : ℕ) → (done : Bool) → Last → (new : Walk) → Type 0
-PaysNear known source bounds old number done last new =
-    done ≡ true → IfSome (known source) (λ bytes. (at : ℕ) →
-    PaysTold (owed_entering bytes bounds old at number) (event_in last) (owed_in bytes bounds new))
-
--- a child of the collection at a place is entered
-abbrev pub Goes : {S : Type 0} → (S → Option (List ℕ)) → S → Bounds → (at index : ℕ) → (old : Walk)
-    → (done : Bool) → Last → (new : Walk) → Type 0
-Goes known source bounds at index old done last new =
-    done ≡ true → IfSome (known source) (λ bytes.
-    EntersChild {A = Unit {0}} (entries_of bytes bounds) (object_at bounds at bytes) at index
-    (walk_objects old) (open_in old) (Ok (tt {0})) (event_in last) new.tags.items (open_in new))
-
-abbrev pub PaysNext : (known : Option (List ℕ)) → Bounds → (old : Walk) → (done : Bool) → Last
-    → (new : Walk) → Type 0
-PaysNext known bounds old done last new = done ≡ true → IfSome known (λ bytes.
-    PaysTold (owed_in bytes bounds old) (event_in last) (owed_in bytes bounds new))
-
-abbrev pub KeepsNext : (known : Option (List ℕ)) → Bounds → (old : Walk) → (done : Bool) → Last
-    → (new : Walk) → Type 0
-KeepsNext known bounds old done last new = done ≡ true → IfSome known (λ bytes.
-    IsKeptNear (next_number (entries_of bytes bounds) (open_in old)) (event_in last)
-    new.tags.items)
-
--- an end is told where the innermost collection has no child left
-abbrev pub TellsEnd : (old : Walk) → Last → Type 0
-TellsEnd old last = closes (open_in old) ≡ true → event_in last ≡ EndCollection
+-- the error of an event that may not come is held
+abbrev pub RefusesTold : Option Limiter → (told : PlainEvent) → Last → Refused → Type 0
+RefusesTold limiter told last refused = RefusesAny limiter told (fault_of last.fault)

@@ -1,5 +1,5 @@
 -- What one call of a reader's `advance` does, and the event that it tells.
-use Rattle.std.specs.Prelude.{◌≡◌, ℕ, ◌^◌, ◌<◌, Bool, true, false, List, Option, None, Some, Result, Ok, IfSome}
+use Rattle.std.specs.Prelude.{◌≡◌, ℕ, ◌^◌, ◌<◌, Bool, true, false, List, Option, None, Result, IfSome}
 use Rattle.plist_base.specs.declared.error.Error.{Error}
 use Rattle.plist_base.specs.declared.source.Source.{Ghosts}
 use Rattle.plist_base.specs.Events.{PlainEvent, Item}
@@ -8,7 +8,8 @@ use Rattle.plist_binread.specs.Failures.{ItemGivenWithin}
 use Rattle.plist_binread.specs.declared.reader.BinaryReader.{BinaryReader}
 use Rattle.plist_binread.specs.declared.counter.DecodeCounter.{Ghosts as CounterGhosts}
 use Rattle.plist_binread.specs.Lent.{IsToldEnd}
-use Rattle.plist_binread.specs.Told.{event_in, event_with}
+use Rattle.plist_binread.specs.Told.{event_in, event_with, item_in}
+use Rattle.plist_binread.specs.declared.told.Refused.{Refused}
 use Rattle.plist_binread.specs.declared.told.Told.{Told}
 use Rattle.std.specs.String.{string_bytes}
 use Rattle.plist_binread.specs.Turning.{IsKeptTold}
@@ -72,21 +73,11 @@ module _ {R C : Type 0} {g : Ghosts R} {h : CounterGhosts C} (known : R → Opti
   Walks item new =
       TellsBy walk_to_come walk_closes (λ _. false) known failed counts count old item new
 
-  -- one call of `advance` that tells an event
-  abbrev pub TellsOne : (new : BinaryReader R C g h) → Type 0
-  TellsOne new = Tells {A = Unit {0}} (Some (Ok (tt {0}))) new
+  -- the same where the error is held
+  abbrev pub TellsIn : {A : Type 0} → Option (Result A Refused) → (new : BinaryReader R C g h)
+      → Type 0
+  TellsIn item new = Tells (item_in item new.last) new
 
-  -- the same of a step that may not have been done
-  abbrev pub TellsIf : (done : Bool) → (new : BinaryReader R C g h) → Type 0
-  TellsIf done new = done ≡ true → TellsOne new
-
--- all that is said of what is to come stays as it was
-pub record Stays {R C : Type 0} {g : Ghosts R} {h : CounterGhosts C}
-    (old new : BinaryReader R C g h)
-    : Type 0 where
-  pub source : new.source ≡ old.source
-  pub state : new.state ≡ old.state
-  pub bounds : new.bounds ≡ old.bounds
-  pub tags : new.walk.tags.items ≡ old.walk.tags.items
-  pub frames : new.walk.frames ≡ old.walk.frames
-  pub limiter : new.limiter ≡ old.limiter
+  abbrev pub WalksIn : {A : Type 0} → Option (Result A Refused) → (new : BinaryReader R C g h)
+      → Type 0
+  WalksIn item new = Walks (item_in item new.last) new

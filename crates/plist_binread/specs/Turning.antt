@@ -37,19 +37,6 @@ Lightens count old turn.Closed new = walk_weight count old ≡ walk_weight count
 Lightens count old (turn.Child object index) new =
     walk_weight count old ≡ walk_weight count new + walk_steps (count - length new)
 
--- the frames before the innermost one's last child was taken
-abbrev pub given_back : List Frame → List Frame
-given_back [] = []
-given_back (frame ∷ below) =
-    record { object = frame.object; next = frame.next - 1; count = frame.count } ∷ below
-
--- a child that was taken can be given back, and where nothing is open nothing has changed
-abbrev pub CanGiveBack : Turn → (old_tags new_tags : List ℕ) → (old new : List Frame) → Type 0
-CanGiveBack turn.Done old_tags new_tags old new = (new_tags ≡ old_tags) × (new ≡ old)
-CanGiveBack turn.Closed old_tags new_tags old new = Unit {0}
-CanGiveBack (turn.Child object index) old_tags new_tags old new =
-    (new_tags ≡ old_tags) × (given_back new ≡ old)
-
 abbrev pub is_fresh : State → Bool
 is_fresh Fresh = true
 is_fresh Walking = false

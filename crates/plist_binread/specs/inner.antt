@@ -1,4 +1,3 @@
 -- What bodies and proofs speak of, and no public clause.
 pub mod Codes
-pub mod Places
 pub mod Heads

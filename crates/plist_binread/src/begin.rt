@@ -2,16 +2,16 @@
 
 ghost use Rattle.std.specs.Prelude.{◌≡◌, ◌^◌, ◌<◌, Ok, replicate, IfOk, IfSome, OnOk};
 ghost use Rattle.plist_base.specs.Outcomes.{OnlyMemory};
-ghost use Rattle.plist_base.specs.Sources.{AnswersIo};
 ghost use Rattle.plist_binread.specs.Debt.{walk_steps};
 ghost use Rattle.plist_binread.specs.Failures.{ErrWithin};
+ghost use Rattle.plist_binread.specs.Told.{AnswersIn, answer_in};
 ghost use Rattle.plist_binread.specs.Walking.{IsEmpty, cached_in, walk_objects, weight_in};
 ghost use Rattle.plist_binread.specs.Beginning.{GivesFirst, IsBounded, IsKnownWalk, KeepsRoot};
 
 use crate::counter::DecodeCounter;
 use crate::enter::enter;
 use crate::head::{Bounds, Head};
-use crate::told::Last;
+use crate::told::{Last, Refused};
 use crate::walk::Walk;
 use plist_base::{Error, Source};
 use std::alloc::Global;
@@ -33,13 +33,13 @@ pub fn begin<S: Source, C: DecodeCounter>(
     bounds: &mut Bounds,
     walk: &mut Walk,
     last: &mut Last,
-) -> Result<(), Error>
+) -> Result<(), Refused>
     requires empty { IsEmpty walk.old }
     requires counted { C.counts → C.count counter.old ≡ cached_in walk.old }
     // The answer.
     ensures pays { IfSome (S.known source.old) (GivesFirst result bounds.new last.new walk.new) }
     // A refusal.
-    ensures fault { ErrWithin 0 (2 ^ 64) result }
+    ensures fault { ErrWithin 0 (2 ^ 64) (answer_in result last.new) }
     // The state after it.
     ensures counted { C.counts → C.count counter.new ≡ cached_in walk.new }
     ensures bounded { IfSome (S.known source.old) (IsBounded walk.new) }
@@ -47,10 +47,10 @@ pub fn begin<S: Source, C: DecodeCounter>(
     ensures kept { IfSome (S.known source.old) (KeepsRoot result last.new walk.new) }
     ensures falls { OnOk result (weight_in walk.new < walk_steps (walk_objects walk.new)) }
     ensures unchanged { S.known source.new ≡ S.known source.old }
-    ensures failures { AnswersIo result (S.failures source.old) (S.failures source.new) }
+    ensures failures { AnswersIn S.failures result last.new source.old source.new }
 {
-    let head = Head::read(alloc, source)?;
-    let none = no_tags(alloc, head.places.len())?;
+    let head = last.note(Head::read(alloc, source))?;
+    let none = last.note(no_tags(alloc, head.places.len()))?;
     let Head {
         trailer,
         reference_width,

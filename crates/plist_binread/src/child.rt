@@ -1,16 +1,18 @@
-//! The reference of one child, read from the bytes of its collection.
+//! The reference of one child, among those of its collection.
 
-ghost use Rattle.std.specs.Prelude.{◌≡◌, ◌-◌, ◌^◌, ◌<◌, ◌≤◌, length, IfNone, IfOk, IfSome};
+ghost use Rattle.std.specs.Prelude.{◌≡◌, ◌^◌, ◌<◌, ◌≤◌, IfErr, IfNone, IfOk, IfSome, OnOk};
 ghost use Rattle.plist_base.specs.Sources.{AnswersIo};
 ghost use Rattle.plist_binread.specs.Lent.{slot_place, slot_of};
 ghost use Rattle.plist_binread.specs.Failures.{ErrWithin};
-ghost use Rattle.plist_binread.specs.Behind.{AsksAt, BeginsThere, FindsAt, FindsSlots, HasNoChildren, HasPairs, IsAskedBehind, IsAskedOf};
+ghost use Rattle.plist_binread.specs.Behind.{AsksAt, AsksNothing, FindsSlots, HasNoChildren, HasPairs, IsAskedBehind, IsAskedOf, ShowsLength};
+ghost use Rattle.plist_binread.specs.Stepping.{RefusesChildren};
+ghost use Rattle.plist_binread.specs.Told.{AnswersIn, answer_in};
 
-use crate::extent::read_length;
 use crate::head::Bounds;
 use crate::lent::lent_length;
-use crate::numbers::{number_at_hand, read_number};
-use plist_base::{Error, ErrorKind, Source};
+use crate::numbers::{number_at_hand, read_far_number};
+use crate::told::{Last, Refused};
+use plist_base::{Error, ErrorKind, Source, read_exact_at};
 
 /// Where the references of the collection stand that was asked last.
 #[derive(Clone, Copy)]
@@ -51,11 +53,14 @@ fn pairs_in(marker: u8, count: u64) -> Option<u64>
     }
 }
 
-// Finds the references of the collection at the front of lent bytes.
-fn ask(seen: &[u8], width: usize, place: u64) -> Option<Asked>
-    requires { 0 < width }
+// Finds the references of the collection at the front of these bytes, which reach the trailer, so
+// far away, or have all of its length.
+fn ask(seen: &[u8], room: u64, width: usize, place: u64) -> Option<Asked>
+    requires width { 0 < width }
+    requires far { ShowsLength room seen.now }
     ensures place { IfSome result (λ asked. asked.place ≡ place) }
     ensures slots { IfSome result (IsAskedBehind width seen.now) }
+    ensures none { IfNone result (AsksNothing width room seen.now) }
 {
     let (marker, rest) = seen.split_first()?;
     let (count, behind) = lent_length(*marker, rest)?;
@@ -68,8 +73,11 @@ fn ask(seen: &[u8], width: usize, place: u64) -> Option<Asked>
     })
 }
 
-// Finds those of the collection at a place by reads.
-fn read_asked<S: Source>(source: &mut S, bounds: &Bounds, place: u64) -> Result<Asked, Error>
+// As many bytes as a marker and a length have at most.
+const LENGTH_END: usize = 10;
+
+// Finds those of the collection at a place.
+fn find_references<S: Source>(source: &mut S, bounds: &Bounds, place: u64) -> Result<Asked, Error>
     // The answer.
     ensures value { IfOk result (λ asked. asked.place ≡ place) }
     ensures slots { FindsSlots result (S.known source.old) bounds.now place }
@@ -82,14 +90,12 @@ fn read_asked<S: Source>(source: &mut S, bounds: &Bounds, place: u64) -> Result<
     if place >= bounds.trailer {
         return Err(ErrorKind::ObjectOffsetTooLarge.with_byte_offset(place));
     }
-    let marker = read_number(source, place, 1)? as u8;
-    let content = read_length(source, bounds.trailer, place, marker)?;
-    match pairs_in(marker, content.count) {
-        Some(pairs) => Ok(Asked {
-            place,
-            start: content.start - place,
-            pairs,
-        }),
+    let room = bounds.trailer - place;
+    let mut front = [0; LENGTH_END];
+    let seen = &mut front[..room.min(LENGTH_END as u64) as usize];
+    read_exact_at(source, place, seen)?;
+    match ask(seen, room, bounds.reference_width, place) {
+        Some(asked) => Ok(asked),
         None => Err(ErrorKind::ObjectOffsetTooLarge.with_byte_offset(place)),
     }
 }
@@ -119,71 +125,65 @@ fn slot_place(asked: &Asked, index: u64, width: usize) -> Option<u64>
     asked.place.checked_add(asked.start.checked_add(behind)?)
 }
 
-/// Reads the number of a child of the collection at a place.
-pub fn read_child<S: Source>(
+// Finds the references of the collection at a place, unless it was asked last.
+fn ask_of<S: Source>(
     source: &mut S,
     bounds: &Bounds,
+    asked: &mut Asked,
     place: u64,
-    index: u64,
-) -> Result<u64, Error>
-    ensures child { AsksAt result (S.known source.old) bounds.now place index }
-    ensures fault { ErrWithin place bounds.now.trailer result }
+    last: &mut Last,
+) -> Result<(), Refused>
+    requires asked { IsAskedOf (S.known source.old) bounds.now asked.old }
+    // The answer.
+    ensures place { OnOk result (asked.new.place ≡ place) }
+    // A refusal.
+    ensures refused { IfErr result (RefusesChildren (S.known source.old) bounds.now place last.new) }
+    ensures fault { ErrWithin place bounds.now.trailer (answer_in result last.new) }
+    // The state after it.
+    ensures asked { IsAskedOf (S.known source.old) bounds.now asked.new }
     ensures unchanged { S.known source.new ≡ S.known source.old }
-    ensures failures { AnswersIo result (S.failures source.old) (S.failures source.new) }
+    ensures failures { AnswersIn S.failures result last.new source.old source.new }
 {
-    let asked = read_asked(source, bounds, place)?;
-    let width = bounds.reference_width;
-    match slot_place(&asked, index, width) {
-        Some(at) if at < bounds.trailer && width as u64 <= bounds.trailer - at => {
-            read_number(source, at, width)
+    if asked.place == place {
+        return Ok(());
+    }
+    match find_references(source, bounds, place) {
+        Ok(found) => {
+            *asked = found;
+            Ok(())
         }
-        _ => Err(ErrorKind::ObjectOffsetTooLarge.with_byte_offset(place)),
+        Err(error) => Err(last.refuse(error)),
     }
 }
 
-/// The bytes at hand from a place on that lie before the trailer.
-pub fn lent_before<'a, S: Source>(source: &'a S, bounds: &Bounds, place: u64) -> &'a [u8]
-    requires { place < bounds.now.trailer }
-    ensures room { length result.now ≤ bounds.now.trailer - place }
-    ensures bytes { BeginsThere (S.known source.now) bounds.now place result.now }
-{
-    let seen = source.near(place);
-    let room = bounds.trailer - place;
-    if seen.len() as u64 <= room {
-        return seen;
-    }
-    &seen[..room as usize]
-}
-
-// The number of a child of the collection that was asked last, if it is at hand.
-fn near_number<S: Source>(source: &S, bounds: &Bounds, asked: &Asked, index: u64) -> Option<u64>
-    requires { IsAskedOf (S.known source.now) bounds.now asked.now }
-    ensures child { FindsAt result (S.known source.now) bounds.now asked.now.place index }
-{
-    let width = bounds.reference_width;
-    let place = slot_place(asked, index, width)?;
-    let number = number_at_hand(source, place, width)?;
-    Some(number)
-}
-
-/// The number of a child of the collection at a place, if it is at hand.
-pub fn near_child<S: Source>(
-    source: &S,
+/// Finds the number of a child of the collection at a place.
+pub fn read_child<S: Source>(
+    source: &mut S,
     bounds: &Bounds,
     asked: &mut Asked,
     place: u64,
     index: u64,
-) -> Option<u64>
-    requires asked { IsAskedOf (S.known source.now) bounds.now asked.old }
-    ensures asked { IsAskedOf (S.known source.now) bounds.now asked.new }
-    ensures child { FindsAt result (S.known source.now) bounds.now place index }
+    last: &mut Last,
+) -> Result<u64, Refused>
+    requires asked { IsAskedOf (S.known source.old) bounds.now asked.old }
+    // The answer.
+    ensures child { AsksAt (answer_in result last.new) (S.known source.old) bounds.now place index }
+    // A refusal.
+    ensures fault { ErrWithin place bounds.now.trailer (answer_in result last.new) }
+    // The state after it.
+    ensures asked { IsAskedOf (S.known source.old) bounds.now asked.new }
+    ensures unchanged { S.known source.new ≡ S.known source.old }
+    ensures failures { AnswersIn S.failures result last.new source.old source.new }
 {
-    if asked.place != place {
-        if place >= bounds.trailer {
-            return None;
+    ask_of(source, bounds, asked, place, last)?;
+    let width = bounds.reference_width;
+    match slot_place(asked, index, width) {
+        Some(at) if at < bounds.trailer && width as u64 <= bounds.trailer - at => {
+            match number_at_hand(source, at, width) {
+                Some(number) => Ok(number),
+                None => last.note(read_far_number(source, at, width)),
+            }
         }
-        let seen = lent_before(source, bounds, place);
-        *asked = ask(seen, bounds.reference_width, place)?;
+        _ => Err(last.refuse(ErrorKind::ObjectOffsetTooLarge.with_byte_offset(place))),
     }
-    near_number(source, bounds, asked, index)
 }

@@ -1,20 +1,23 @@
-//! Entering an object that is read: its first item.
+//! Entering an object: its first item.
 
-ghost use Rattle.std.specs.Prelude.{◌≡◌, ◌-◌, ◌<◌, length, get_or, false, IfOk, IfErr, OnOk, IfSome, ⊤};
-ghost use Rattle.plist_base.specs.Faults.{MatchFault, kind_of, error_kind_of};
-ghost use Rattle.plist_base.specs.Sources.{AnswersIo};
+ghost use Rattle.std.specs.Prelude.{◌≡◌, ◌+◌, ◌^◌, ◌<◌, [], ◌∷◌, ◌++◌, length, get_or, true, false, IfOk, IfErr, OnOk, IfSome};
+ghost use Rattle.plist_binread.specs.Frames.{frame_of};
 ghost use Rattle.plist_binread.specs.Packed.{is_marked};
 ghost use Rattle.plist_binread.specs.Walking.{IsWalkOf, cached_in, walk_objects};
 ghost use Rattle.plist_binread.specs.Failures.{ErrWithin};
-ghost use Rattle.plist_binread.specs.Stepping.{ExplainsEntering, IsFoundAt, IsLighterEntered, KeepsEntered, Meets};
+ghost use Rattle.plist_binread.specs.Nearby.{small_told};
+ghost use Rattle.plist_binread.specs.Stepping.{IsFoundAt, IsLighterEntered, IsUnchanged, KeepsEntered, KeepsLent, Meets, OpensLent, RefusesEntering, RefusesInside, WantsRoom};
+ghost use Rattle.plist_binread.specs.Told.{AnswersIn, answer_in, event_in};
 
 use crate::counter::DecodeCounter;
+use crate::frames::Frames;
 use crate::head::Bounds;
-use crate::near::open_lent;
+use crate::lent::Lent;
 use crate::object::decode;
-use crate::told::Last;
+use crate::packed::{keep, mark};
+use crate::told::{Last, Refused};
 use crate::walk::Walk;
-use plist_base::{Error, ErrorKind, Source};
+use plist_base::{ErrorKind, Source};
 use std::alloc::Global;
 
 // The place of an object that is about to be entered, referred to from `at`. There is none where it
@@ -25,25 +28,27 @@ fn look_up(
     last: &mut Last,
     at: u64,
     number: u64,
-) -> Result<Option<u64>, Error>
+) -> Result<Option<u64>, Refused>
     requires { length contents.now ≡ length tags.now }
     // The answer.
     ensures found { IfOk result (IsFoundAt number tags.now contents.now last.new) }
     // A refusal.
-    ensures refused { IfErr result (ExplainsEntering tags.now contents.now at number) }
-    ensures kinds { IfErr result (λ error. MatchFault (kind_of (error_kind_of error)) ⊥ ⊤ ⊤) }
-    ensures fault { ErrWithin 0 0 result }
+    ensures refused { IfErr result (RefusesEntering tags.now contents.now at number last.new) }
+    ensures kinds { IfErr result (RefusesInside last.new) }
+    ensures fault { ErrWithin 0 0 (answer_in result last.new) }
     // The state after it.
     ensures below { IfOk result (λ _. number < length tags.now) }
     ensures new { IfOk result (λ _. is_marked (get_or tags.now number 0) ≡ false) }
 {
     if number >= tags.len() as u64 {
-        return Err(ErrorKind::ObjectReferenceTooLarge.with_byte_offset(at));
+        let error = ErrorKind::ObjectReferenceTooLarge.with_byte_offset(at);
+        return Err(last.refuse(error));
     }
     let tag = tags[number as usize];
     let content = contents[number as usize];
     if tag >= 128 {
-        return Err(ErrorKind::RecursiveObject.with_byte_offset(content));
+        let error = ErrorKind::RecursiveObject.with_byte_offset(content);
+        return Err(last.refuse(error));
     }
     if tag == 0 {
         return Ok(Some(content));
@@ -51,7 +56,66 @@ fn look_up(
     if last.recall(tag, content) {
         return Ok(None);
     }
-    Err(ErrorKind::OutOfMemory.without_position())
+    Err(last.refuse(ErrorKind::OutOfMemory.without_position()))
+}
+
+// Opens a collection of so many children, if there is room.
+fn push_near(frames: &mut Frames, object: u64, count: u64) -> bool
+    ensures pushed { result ≡ true → frames.new ≡ frames.old ++ frame_of object 0 count ∷ [] }
+    ensures unchanged { result ≡ false → frames.new ≡ frames.old }
+    ensures small { count < 2 ^ 64 }
+{
+    frames.push(object, count).is_ok()
+}
+
+// Keeps what was decoded and told where it is a small scalar, and opens it where it is a collection.
+// It answers no, and nothing has changed, where memory for that is wanted.
+#[inline(always)]
+fn open_lent(walk: &mut Walk, number: u64, lent: Lent, last: &Last) -> bool
+    requires below { number < walk_objects walk.old }
+    requires new { get_or walk.old.tags.items number 0 ≡ 0 }
+    // The answer.
+    ensures pays { result ≡ true → OpensLent number (event_in last.now) lent walk.old walk.new }
+    ensures wanted { result ≡ false → WantsRoom lent }
+    // The state after it.
+    ensures size { walk_objects walk.new ≡ walk_objects walk.old }
+    ensures counted { cached_in walk.new ≡ cached_in walk.old + small_told lent last.now }
+    ensures kept { result ≡ true → KeepsLent (event_in last.now) lent number walk.new }
+    ensures falls { result ≡ true → IsLighterEntered walk.old walk.new }
+    ensures unchanged { result ≡ false → IsUnchanged walk.old walk.new }
+{
+    match lent {
+        Lent::Long(_)
+        | Lent::TooLarge
+        | Lent::Null
+        | Lent::Fill
+        | Lent::Unknown(_)
+        | Lent::OutOfRange
+        | Lent::NoDate
+        | Lent::NotUtf8
+        | Lent::NotUtf16
+        | Lent::NoMemory => false,
+        Lent::Scalar => match last.pack() {
+            Some((tag, content)) => {
+                keep(
+                    &mut walk.tags,
+                    &mut walk.contents,
+                    number as usize,
+                    tag,
+                    content,
+                );
+                true
+            }
+            None => true,
+        },
+        Lent::Collection(count) => {
+            if push_near(&mut walk.frames, number, count) {
+                mark(&mut walk.tags, number as usize);
+                return true;
+            }
+            false
+        }
+    }
 }
 
 /// Tells the first item of an object, referred to from `at`. A collection is then open.
@@ -64,13 +128,13 @@ pub fn enter<S: Source, C: DecodeCounter>(
     last: &mut Last,
     at: u64,
     number: u64,
-) -> Result<(), Error>
+) -> Result<(), Refused>
     requires known { IfSome (S.known source.old) (λ bytes. IsWalkOf bytes bounds.now walk.old) }
     requires counted { C.counts → C.count counter.old ≡ cached_in walk.old }
     // The answer.
     ensures pays { Meets S.known source.old bounds.now walk.old at number result last.new walk.new }
     // A refusal.
-    ensures fault { ErrWithin 0 bounds.now.trailer result }
+    ensures fault { ErrWithin 0 bounds.now.trailer (answer_in result last.new) }
     // The state after it.
     ensures size { walk_objects walk.new ≡ walk_objects walk.old }
     ensures known { IfSome (S.known source.old) (λ bytes. IsWalkOf bytes bounds.now walk.new) }
@@ -78,7 +142,7 @@ pub fn enter<S: Source, C: DecodeCounter>(
     ensures kept { KeepsEntered (S.known source.old) number result last.new walk.new }
     ensures falls { OnOk result (IsLighterEntered walk.old walk.new) }
     ensures unchanged { S.known source.new ≡ S.known source.old }
-    ensures failures { AnswersIo result (S.failures source.old) (S.failures source.new) }
+    ensures failures { AnswersIn S.failures result last.new source.old source.new }
 {
     let found = look_up(
         walk.tags.as_slice(),
@@ -94,7 +158,7 @@ pub fn enter<S: Source, C: DecodeCounter>(
             if open_lent(walk, number, lent, last) {
                 return Ok(());
             }
-            Err(ErrorKind::OutOfMemory.without_position())
+            Err(last.refuse(ErrorKind::OutOfMemory.without_position()))
         }
     }
 }

@@ -2,7 +2,6 @@
 
 ghost use Rattle.std.specs.Prelude.{◌≡◌, List, [], ◌∷◌, ◌++◌, reverse, IfSome, OnOk, OnErr};
 ghost use Rattle.plist_binread.specs.Frames.{AsksFor, IsLast, frame_of, widened};
-ghost use Rattle.plist_binread.specs.Turning.{given_back};
 
 use std::alloc::{AllocError, Global};
 use std::marker::Model;
@@ -186,19 +185,6 @@ impl Frames {
                 });
                 Wanted::Child(frame.object, frame.next)
             }
-        }
-    }
-
-    /// Gives the child back that was taken last.
-    pub fn give_back(&mut self)
-        ensures { reverse self.new ≡ given_back (reverse self.old) }
-    {
-        if let Some(frame) = self.innermost {
-            self.innermost = Some(Frame {
-                object: frame.object,
-                next: frame.next.saturating_sub(1),
-                count: frame.count,
-            });
         }
     }
 }

@@ -1,28 +1,64 @@
-//! Objects that are decoded where they lie: in bytes that a source lends, or that were read of an
-//! object's front.
+//! Objects that are decoded by the bytes at their front: all up to the trailer, or at least as many
+//! as tell what isn't a long text or data.
 
-ghost use Rattle.std.specs.Prelude.{◌≡◌, ◌-◌, ◌*◌, ◌^◌, ◌<◌, ◌≤◌, length, Some, IfSome, IfNone, IfOk, IfErr, cond};
+ghost use Rattle.std.specs.Prelude.{◌≡◌, ◌-◌, ◌*◌, ◌%◌, ◌^◌, ◌<◌, ◌≤◌, length, true, Some, IfSome, IfNone, IfOk, IfErr, cond};
 ghost use Rattle.plist_base.specs.declared.real.RealBits.TheVariants.{Eight};
 ghost use Rattle.plist_base.specs.Trees.{Real};
 ghost use Rattle.plist_binread.specs.Lent.{small_lent};
-ghost use Rattle.plist_format.specs.Object.{Scalar, Array, date, text, wide_text, unsigned_integer, signed_integer, wide_integer, object_in};
+ghost use Rattle.plist_format.specs.Object.{Scalar, Array, date, unsigned_integer, signed_integer, wide_integer, object_in};
 ghost use Rattle.plist_binread.specs.Told.{event_in};
-ghost use Rattle.plist_binread.specs.Nearby.{CountsLent, IsContent, IsCount, IsCounted, IsFar, IsFarOrLarge, IsFarOrText, IsLength, IsLengthCut, IsNumber, RefusesCounted, cut_at, LendsCounted, LendsFront, LendsWhole, LiesBehind, array_with, pairs_with};
-ghost use Rattle.plist_binread.specs.Behind.{data_of_content, short_real, long_real, uid_of_content, object_with};
+ghost use Rattle.plist_binread.specs.Nearby.{CountsLent, EndsBefore, HasUnits, IsContent, IsCount, IsCounted, IsLength, IsLengthCut, IsNumber, IsWhole, LeavesLong, LendsFront, LendsWhole, LiesBehind, LongBehind, ReachesFar, RefusesCounted, ShowsFront, array_with, counted_with, pairs_with, unit_size};
+ghost use Rattle.plist_binread.specs.declared.lent.Lent.TheVariants.{Scalar as ScalarLent};
+ghost use Rattle.plist_binread.specs.declared.lent.Kind.TheVariants.{Data as KindData, Text as KindText, WideText as KindWideText};
+ghost use Rattle.plist_binread.specs.Behind.{short_real, long_real, uid_of_content, object_with};
 
 use crate::counter::DecodeCounter;
-use crate::extent::number_width;
 use crate::numbers::{number_from, write_units};
 use crate::told::{Last, Told};
 use plist_base::{Date, Event, RealBits};
 
-/// What lies whole in the bytes that are seen of an object, or what is wrong with it.
+/// What the content of a text or data means.
+#[derive(Clone, Copy)]
+pub enum Kind {
+    /// Its bytes are data.
+    Data,
+    /// They are a text.
+    Text,
+    /// They are the units of a text, of two bytes each.
+    WideText,
+}
+
+impl Kind {
+    // How many bytes an element of the content has.
+    fn unit_size(self) -> u64
+        ensures value { result ≡ unit_size self }
+        ensures small { (0 < result) × (result ≤ 2) }
+    {
+        match self {
+            Kind::Data | Kind::Text => 1,
+            Kind::WideText => 2,
+        }
+    }
+}
+
+/// The content of a text or data.
+#[derive(Clone, Copy)]
+pub struct Content {
+    /// What it means.
+    pub kind: Kind,
+    /// How far behind the object's place it begins.
+    pub start: u64,
+    /// How many elements it has.
+    pub count: u64,
+}
+
+/// What the bytes at an object's front tell of it, or what is wrong with it.
 ///
-/// It is a tag and a number, and no more, since one is made for each item.
+/// It is a few numbers, and no more, since one is made for each item.
 #[derive(Clone, Copy)]
 pub enum Lent {
-    /// Not all that is needed, or a text or data that is refused or that no room was found for.
-    Nothing,
+    /// A text or data whose content isn't all seen there.
+    Long(Content),
     /// It doesn't end before the trailer.
     TooLarge,
     /// It is a null.
@@ -30,15 +66,30 @@ pub enum Lent {
     /// It is a fill byte.
     Fill,
     /// No object has this marker.
-    Unknown(u64),
+    Unknown(u8),
     /// The number isn't one of 64 bits without sign.
     OutOfRange,
     /// It is no date.
     NoDate,
+    /// The bytes of a text aren't UTF-8.
+    NotUtf8,
+    /// The units of a text aren't UTF-16.
+    NotUtf16,
+    /// No memory was found for a text or data.
+    NoMemory,
     /// A scalar, which is told.
     Scalar,
     /// A collection of so many children, whose start is told.
     Collection(u64),
+}
+
+impl Lent {
+    /// Is it a scalar, which is told?
+    pub fn is_scalar(self) -> bool
+        ensures { result ≡ true → self ≡ ScalarLent }
+    {
+        matches!(self, Lent::Scalar)
+    }
 }
 
 // The number in so many bytes.
@@ -54,17 +105,6 @@ fn lent_number(rest: &[u8], width: usize) -> Option<u64>
     Some(number_from(&rest[..width]))
 }
 
-// What is said of an object, where more of its bytes are needed than these.
-fn too_few(rest: &[u8], room: u64) -> Lent
-    requires { length rest.now ≤ room }
-    ensures { result ≡ cut_at room (length rest.now) }
-{
-    if (rest.len() as u64) < room {
-        return Lent::Nothing;
-    }
-    Lent::TooLarge
-}
-
 // The content of an object of a fixed size.
 fn lent_content<const N: usize>(rest: &[u8]) -> Option<[u8; N]>
     ensures content { IfSome result (IsContent N rest.now) }
@@ -73,6 +113,19 @@ fn lent_content<const N: usize>(rest: &[u8]) -> Option<[u8; N]>
     match rest.first_chunk::<N>() {
         Some(content) => Some(*content),
         None => None,
+    }
+}
+
+// How many bytes a number has, as the low two bits of the byte before it say.
+fn number_width(byte: u64) -> u64
+    ensures value { result ≡ 2 ^ (byte % 4) }
+    ensures small { result ≤ 8 }
+{
+    match byte % 4 {
+        0 => 1,
+        1 => 2,
+        2 => 4,
+        _ => 8,
     }
 }
 
@@ -95,55 +148,93 @@ pub fn lent_length(marker: u8, rest: &[u8]) -> Option<(u64, &[u8])>
     Some((number_from(&behind[..width]), &behind[width..]))
 }
 
-// The content of a text or data, of as many bytes as its length says.
-fn lent_bytes(marker: u8, rest: &[u8]) -> Option<&[u8]>
-    ensures content { IfSome result (IsCounted marker rest.now) }
+// How many elements of this size an object has that lies before the trailer, which is so far away,
+// and what is seen behind its length.
+fn lent_count(marker: u8, rest: &[u8], room: u64, size: u64) -> Result<(u64, &[u8]), Lent>
+    requires room { length rest.now ≤ room }
+    requires far { ReachesFar room rest.now }
+    ensures count { IfOk result (IsCount marker size room rest.now) }
+    ensures small { IfOk result (λ found. found.0 * size ≤ room) }
+    ensures within { IfOk result (EndsBefore size room rest.now) }
+    ensures behind { IfOk result (LiesBehind rest.now) }
+    ensures refused { IfErr result (RefusesCounted marker size room rest.now) }
+    ensures whole { IfErr result IsWhole }
 {
     match lent_length(marker, rest) {
         Some((count, behind)) => {
-            if count > behind.len() as u64 {
-                return None;
+            let left = room - (rest.len() - behind.len()) as u64;
+            match count.checked_mul(size) {
+                Some(all) if all <= left => Ok((count, behind)),
+                _ => Err(Lent::TooLarge),
             }
-            Some(&behind[..count as usize])
         }
-        None => None,
+        None => Err(Lent::TooLarge),
     }
+}
+
+// The content of a text or data, if all of it is seen and it has at most so many bytes.
+fn lent_content_of(
+    kind: Kind,
+    marker: u8,
+    rest: &[u8],
+    room: u64,
+    most: usize,
+) -> Result<&[u8], Lent>
+    requires room { length rest.now ≤ room }
+    requires far { ReachesFar room rest.now }
+    ensures content { IfOk result (IsCounted marker (unit_size kind) room rest.now) }
+    ensures size { IfOk result (HasUnits (unit_size kind)) }
+    ensures bound { IfOk result (λ content. length content.now ≤ most) }
+    ensures refused { IfErr result (RefusesCounted marker (unit_size kind) room rest.now) }
+    ensures long { IfErr result (LongBehind marker room (counted_with kind marker) rest.now) }
+{
+    let size = kind.unit_size();
+    let (count, behind) = lent_count(marker, rest, room, size)?;
+    let all = count * size;
+    if all > behind.len().min(most) as u64 {
+        let start = 1 + (rest.len() - behind.len()) as u64;
+        return Err(Lent::Long(Content { kind, start, count }));
+    }
+    Ok(&behind[..all as usize])
 }
 
 fn lent_unsigned(rest: &[u8], room: u64, width: usize, last: &mut Last) -> Lent
     requires width { width ≤ 8 }
     requires room { length rest.now ≤ room }
+    requires far { ReachesFar room rest.now }
     ensures lent { LendsFront room width unsigned_integer rest.now (event_in last.new) result }
-    ensures far { IsFar room rest.now result }
+    ensures whole { IsWhole result }
 {
     match lent_number(rest, width) {
         Some(number) => {
             last.tell(Told::Unsigned(number));
             Lent::Scalar
         }
-        None => too_few(rest, room),
+        None => Lent::TooLarge,
     }
 }
 
 fn lent_signed(rest: &[u8], room: u64, last: &mut Last) -> Lent
     requires room { length rest.now ≤ room }
+    requires far { ReachesFar room rest.now }
     ensures lent { LendsFront room 8 signed_integer rest.now (event_in last.new) result }
-    ensures far { IsFar room rest.now result }
+    ensures whole { IsWhole result }
 {
     match lent_number(rest, 8) {
         Some(number) => last.tell_signed(number),
-        None => too_few(rest, room),
+        None => Lent::TooLarge,
     }
 }
 
 // A whole number of sixteen bytes, of which the first eight have to be zero.
 fn lent_wide(rest: &[u8], room: u64, last: &mut Last) -> Lent
     requires room { length rest.now ≤ room }
+    requires far { ReachesFar room rest.now }
     ensures lent { LendsFront room 16 wide_integer rest.now (event_in last.new) result }
-    ensures far { IsFar room rest.now result }
+    ensures whole { IsWhole result }
 {
     if rest.len() < 16 {
-        return too_few(rest, room);
+        return Lent::TooLarge;
     }
     let high = number_from(&rest[..8]);
     let low = number_from(&rest[8..16]);
@@ -157,50 +248,54 @@ fn lent_wide(rest: &[u8], room: u64, last: &mut Last) -> Lent
 fn lent_uid(rest: &[u8], room: u64, width: usize, last: &mut Last) -> Lent
     requires width { width ≤ 8 }
     requires room { length rest.now ≤ room }
+    requires far { ReachesFar room rest.now }
     ensures lent { LendsFront room width uid_of_content rest.now (event_in last.new) result }
-    ensures far { IsFar room rest.now result }
+    ensures whole { IsWhole result }
 {
     match lent_number(rest, width) {
         Some(number) => {
             last.tell(Told::Uid(number));
             Lent::Scalar
         }
-        None => too_few(rest, room),
+        None => Lent::TooLarge,
     }
 }
 
 fn lent_real(rest: &[u8], room: u64, last: &mut Last) -> Lent
     requires room { length rest.now ≤ room }
+    requires far { ReachesFar room rest.now }
     ensures lent { LendsFront room 8 long_real rest.now (event_in last.new) result }
-    ensures far { IsFar room rest.now result }
+    ensures whole { IsWhole result }
 {
     match lent_content(rest) {
         Some(bytes) => {
             last.hold(Event::Real(RealBits::Eight(bytes)));
             Lent::Scalar
         }
-        None => too_few(rest, room),
+        None => Lent::TooLarge,
     }
 }
 
 fn lent_short_real(rest: &[u8], room: u64, last: &mut Last) -> Lent
     requires room { length rest.now ≤ room }
+    requires far { ReachesFar room rest.now }
     ensures lent { LendsFront room 4 short_real rest.now (event_in last.new) result }
-    ensures far { IsFar room rest.now result }
+    ensures whole { IsWhole result }
 {
     match lent_content(rest) {
         Some(bytes) => {
             last.hold(Event::Real(RealBits::Four(bytes)));
             Lent::Scalar
         }
-        None => too_few(rest, room),
+        None => Lent::TooLarge,
     }
 }
 
 fn lent_date(rest: &[u8], room: u64, last: &mut Last) -> Lent
     requires room { length rest.now ≤ room }
+    requires far { ReachesFar room rest.now }
     ensures lent { LendsFront room 8 date rest.now (event_in last.new) result }
-    ensures far { IsFar room rest.now result }
+    ensures whole { IsWhole result }
 {
     match lent_content(rest) {
         Some(bytes) => match Date::from_plist_real(bytes) {
@@ -210,91 +305,63 @@ fn lent_date(rest: &[u8], room: u64, last: &mut Last) -> Lent
             }
             Err(_) => Lent::NoDate,
         },
-        None => too_few(rest, room),
+        None => Lent::TooLarge,
     }
 }
 
-fn lent_text(marker: u8, rest: &[u8], last: &mut Last) -> Lent
-    ensures lent { LendsCounted marker 1 text rest.now (event_in last.new) result }
+fn lent_data(marker: u8, rest: &[u8], room: u64, last: &mut Last) -> Lent
+    requires room { length rest.now ≤ room }
+    requires far { ReachesFar room rest.now }
+    ensures lent { LendsWhole room (counted_with KindData marker) rest.now (event_in last.new) result }
+    ensures long { LongBehind marker room (counted_with KindData marker) rest.now result }
 {
-    match lent_bytes(marker, rest) {
-        Some(bytes) => {
-            if last.tell_text(bytes) {
-                Lent::Scalar
-            } else {
-                Lent::Nothing
-            }
-        }
-        None => Lent::Nothing,
+    match lent_content_of(Kind::Data, marker, rest, room, usize::MAX) {
+        Ok(bytes) => last.tell_data(bytes),
+        Err(lent) => lent,
     }
 }
 
-// A text of at most eight units of two bytes.
-fn lent_wide_text(marker: u8, rest: &[u8], last: &mut Last) -> Lent
-    ensures lent { LendsCounted marker 2 wide_text rest.now (event_in last.new) result }
+fn lent_text(marker: u8, rest: &[u8], room: u64, last: &mut Last) -> Lent
+    requires room { length rest.now ≤ room }
+    requires far { ReachesFar room rest.now }
+    ensures lent { LendsWhole room (counted_with KindText marker) rest.now (event_in last.new) result }
+    ensures long { LongBehind marker room (counted_with KindText marker) rest.now result }
 {
-    match lent_length(marker, rest) {
-        Some((count, behind)) => {
-            if count > 8 || count * 2 > behind.len() as u64 {
-                return Lent::Nothing;
-            }
-            let mut all = [0; 8];
-            let units = &mut all[..count as usize];
-            write_units(&behind[..count as usize * 2], units);
-            if last.tell_units(units) {
-                Lent::Scalar
-            } else {
-                Lent::Nothing
-            }
-        }
-        None => Lent::Nothing,
+    match lent_content_of(Kind::Text, marker, rest, room, usize::MAX) {
+        Ok(bytes) => last.tell_text(bytes),
+        Err(lent) => lent,
     }
 }
 
-fn lent_data(marker: u8, rest: &[u8], last: &mut Last) -> Lent
-    ensures lent { LendsCounted marker 1 data_of_content rest.now (event_in last.new) result }
-{
-    match lent_bytes(marker, rest) {
-        Some(bytes) => {
-            if last.tell_data(bytes) {
-                Lent::Scalar
-            } else {
-                Lent::Nothing
-            }
-        }
-        None => Lent::Nothing,
-    }
-}
+// As many units as a text has at most that is told without memory for them.
+const UNITS: usize = 32;
 
-// How many elements of this size a collection has that lies before the trailer, which is so far
-// away.
-fn lent_count(marker: u8, rest: &[u8], room: u64, size: u64) -> Result<u64, Lent>
-    requires { length rest.now ≤ room }
-    ensures count { IfOk result (IsCount marker size room rest.now) }
-    ensures small { IfOk result (λ count. count * size ≤ room) }
-    ensures refused { IfErr result (RefusesCounted marker size room rest.now) }
-    ensures far { IfErr result (IsFar room rest.now) }
+fn lent_wide_text(marker: u8, rest: &[u8], room: u64, last: &mut Last) -> Lent
+    requires room { length rest.now ≤ room }
+    requires far { ReachesFar room rest.now }
+    ensures lent { LendsWhole room (counted_with KindWideText marker) rest.now (event_in last.new) result }
+    ensures long { LongBehind marker room (counted_with KindWideText marker) rest.now result }
 {
-    match lent_length(marker, rest) {
-        Some((count, behind)) => {
-            let left = room - (rest.len() - behind.len()) as u64;
-            match count.checked_mul(size) {
-                Some(all) if all <= left => Ok(count),
-                _ => Err(Lent::TooLarge),
-            }
+    match lent_content_of(Kind::WideText, marker, rest, room, 2 * UNITS) {
+        Ok(bytes) => {
+            let mut all = [0; UNITS];
+            let units = &mut all[..bytes.len() / 2];
+            write_units(bytes, units);
+            last.tell_units(units)
         }
-        None => Err(too_few(rest, room)),
+        Err(lent) => lent,
     }
 }
 
 fn lent_array(marker: u8, rest: &[u8], room: u64, width: usize, last: &mut Last) -> Lent
     requires room { length rest.now ≤ room }
+    requires far { ReachesFar room rest.now }
     requires width { 0 < width }
     ensures lent { LendsWhole room (array_with width marker) rest.now (event_in last.new) result }
-    ensures far { IsFar room rest.now result }
+    ensures whole { IsWhole result }
 {
     match lent_count(marker, rest, room, width as u64) {
-        Ok(count) => {
+        Ok((count, _)) => {
             last.tell(Told::Array(count));
             Lent::Collection(count)
         }
@@ -304,12 +371,13 @@ fn lent_array(marker: u8, rest: &[u8], room: u64, width: usize, last: &mut Last)
 
 fn lent_dictionary(marker: u8, rest: &[u8], room: u64, width: usize, last: &mut Last) -> Lent
     requires room { length rest.now ≤ room }
+    requires far { ReachesFar room rest.now }
     requires width { (0 < width) × (width ≤ 8) }
     ensures lent { LendsWhole room (pairs_with width marker) rest.now (event_in last.new) result }
-    ensures far { IsFar room rest.now result }
+    ensures whole { IsWhole result }
 {
     match lent_count(marker, rest, room, 2 * width as u64) {
-        Ok(count) => {
+        Ok((count, _)) => {
             last.tell(Told::Dictionary(count));
             Lent::Collection(2 * count)
         }
@@ -320,9 +388,10 @@ fn lent_dictionary(marker: u8, rest: &[u8], room: u64, width: usize, last: &mut 
 // The object behind a marker.
 fn lent_behind(marker: u8, rest: &[u8], room: u64, width: usize, last: &mut Last) -> Lent
     requires room { length rest.now ≤ room }
+    requires far { ReachesFar room rest.now }
     requires width { (0 < width) × (width ≤ 8) }
     ensures lent { LendsWhole room (object_with width marker) rest.now (event_in last.new) result }
-    ensures far { IsFarOrText marker room rest.now result }
+    ensures long { LongBehind marker room (object_with width marker) rest.now result }
 {
     match marker {
         0x00 => Lent::Null,
@@ -337,13 +406,13 @@ fn lent_behind(marker: u8, rest: &[u8], room: u64, width: usize, last: &mut Last
         0x22 => lent_short_real(rest, room, last),
         0x23 => lent_real(rest, room, last),
         0x33 => lent_date(rest, room, last),
-        0x40..=0x4f => lent_data(marker, rest, last),
-        0x50..=0x5f => lent_text(marker, rest, last),
-        0x60..=0x6f => lent_wide_text(marker, rest, last),
+        0x40..=0x4f => lent_data(marker, rest, room, last),
+        0x50..=0x5f => lent_text(marker, rest, room, last),
+        0x60..=0x6f => lent_wide_text(marker, rest, room, last),
         0x80..=0x87 => lent_uid(rest, room, usize::from(marker - 0x7f), last),
         0xa0..=0xaf => lent_array(marker, rest, room, width, last),
         0xd0..=0xdf => lent_dictionary(marker, rest, room, width, last),
-        other => Lent::Unknown(u64::from(other)),
+        other => Lent::Unknown(other),
     }
 }
 
@@ -357,8 +426,8 @@ fn is_small_lent(lent: Lent, last: &Last) -> bool
     }
 }
 
-/// Decodes the object at the front of these bytes, and counts it where it is small. The trailer is
-/// so far away. No other function makes a small object of its bytes.
+/// Decodes the object at the front of these bytes, which reach the trailer, so far away, or are 26
+/// at least, and counts it where it is small. No other function makes a small object of its bytes.
 pub fn decode_lent<C: DecodeCounter>(
     seen: &[u8],
     room: u64,
@@ -367,10 +436,11 @@ pub fn decode_lent<C: DecodeCounter>(
     last: &mut Last,
 ) -> Lent
     requires room { length seen.now ≤ room }
+    requires far { ShowsFront room seen.now }
     requires some { 0 < room }
     requires width { (0 < width) × (width ≤ 8) }
     ensures lent { LendsWhole room (object_in width) seen.now (event_in last.new) result }
-    ensures far { IsFarOrLarge room seen.now result }
+    ensures long { LeavesLong room (object_in width) seen.now result }
     ensures counted { CountsLent C.counts C.count counter.old counter.new result last.new }
 {
     match seen.split_first() {
@@ -381,6 +451,6 @@ pub fn decode_lent<C: DecodeCounter>(
             }
             lent
         }
-        None => Lent::Nothing,
+        None => Lent::TooLarge,
     }
 }

@@ -1,75 +1,82 @@
-//! One object, read from its bytes.
+//! One object, decoded by its bytes.
 
-ghost use Rattle.std.specs.Prelude.{ℕ, ◌≡◌, ◌<◌, false};
+ghost use Rattle.std.specs.Prelude.{ℕ, ◌≡◌, ◌-◌, ◌<◌, true, IfOk, ⊤};
 ghost use Rattle.plist_base.specs.Events.{PlainEvent};
-ghost use Rattle.plist_base.specs.Faults.{fault_of};
+ghost use Rattle.plist_base.specs.Faults.{MatchFault, fault_of, kind_of};
 ghost use Rattle.plist_base.specs.Sources.{AnswersIo, CountsIo};
-ghost use Rattle.plist_format.specs.Object.{Object};
-ghost use Rattle.plist_binread.specs.declared.told.Last.{Last};
-ghost use Rattle.plist_binread.specs.Decoding.{DecodesTold, IsUnknownAt};
-ghost use Rattle.plist_binread.specs.Failures.{ErrWithin, FailsWithin};
-ghost use Rattle.plist_binread.specs.Lent.{IsLentAs, lends_nothing};
-ghost use Rattle.plist_binread.specs.Nearby.{CountsFound, TellsObject, small_found, small_told};
+ghost use Rattle.plist_format.specs.Object.{Faulty, Object};
+ghost use Rattle.plist_binread.specs.Decoding.{IsRefusedAs};
+ghost use Rattle.plist_binread.specs.Failures.{ErrWithin, FailsWithin, MatchReader};
+ghost use Rattle.plist_binread.specs.Lent.{IsLentAs, small_lent};
+ghost use Rattle.plist_binread.specs.Nearby.{CountsFound, EndsIn64Bits, FailsInContent, IsLargeScalar, LendsAt, LongAt, TellsContentAt, TellsObject, is_fault, is_wrong};
+ghost use Rattle.plist_binread.specs.Told.{AnswersIn, answer_in};
 
 use crate::counter::DecodeCounter;
 use crate::head::Bounds;
-use crate::lent::{Lent, decode_lent};
-use crate::text::read_large;
-use crate::told::Last;
+use crate::lent::{Content, Lent, decode_lent};
+use crate::text::read_long;
+use crate::told::{Last, Refused};
 use plist_base::{Error, ErrorKind, Source, read_exact_at};
 use std::alloc::Global;
 
-// The fault of the object at a place whose marker no object has.
-fn unknown(marker: u64, place: u64) -> Error
-    ensures refused { marker < 256 → IsUnknownAt marker place result }
-    ensures fault { (end : ℕ) → FailsWithin place end (fault_of result) }
-    ensures failures { (count : ℕ) → CountsIo result count count }
-{
-    let marker = u8::try_from(marker).unwrap_or(u8::MAX);
-    ErrorKind::UnknownObjectType(marker).with_byte_offset(place)
-}
-
-// What was lent of the object at a place, or its fault.
-fn lent_or_fault(lent: Lent, place: u64) -> Result<Lent, Error>
-    requires { lends_nothing lent ≡ false }
-    // The answer.
-    ensures decoded { (object : Object) (told : PlainEvent) → IsLentAs object told lent
-        → DecodesTold object place told result }
-    // A refusal.
-    ensures fault { (end : ℕ) → ErrWithin place end result }
-    // The state after it.
-    ensures counted { (last : Last) → small_found result last ≡ small_told lent last }
-    ensures failures { (count : ℕ) → AnswersIo result count count }
+// What is wrong with an object.
+fn fault_kind(lent: Lent) -> ErrorKind
+    requires { is_wrong lent ≡ true }
+    ensures faulty { (object : Object) (told : PlainEvent) → IsLentAs object told lent
+        → object ≡ Faulty (kind_of result) }
+    ensures inside { MatchFault (kind_of result) ⊥ ⊥ ⊤ }
+    ensures reader { MatchReader (kind_of result) ⊥ ⊥ ⊤ }
 {
     match lent {
-        Lent::Scalar => Ok(Lent::Scalar),
-        Lent::Collection(count) => Ok(Lent::Collection(count)),
-        Lent::TooLarge => Err(ErrorKind::ObjectOffsetTooLarge.with_byte_offset(place)),
-        Lent::Null => Err(ErrorKind::NullObjectUnimplemented.with_byte_offset(place)),
-        Lent::Fill => Err(ErrorKind::FillObjectUnimplemented.with_byte_offset(place)),
-        Lent::Unknown(marker) => Err(unknown(marker, place)),
-        Lent::OutOfRange => Err(ErrorKind::IntegerOutOfRange.with_byte_offset(place)),
-        Lent::NoDate => Err(ErrorKind::OverflowOrNanDate.with_byte_offset(place)),
-        Lent::Nothing => unreachable!(),
+        Lent::TooLarge => ErrorKind::ObjectOffsetTooLarge,
+        Lent::Null => ErrorKind::NullObjectUnimplemented,
+        Lent::Fill => ErrorKind::FillObjectUnimplemented,
+        Lent::Unknown(marker) => ErrorKind::UnknownObjectType(marker),
+        Lent::OutOfRange => ErrorKind::IntegerOutOfRange,
+        Lent::NoDate => ErrorKind::OverflowOrNanDate,
+        Lent::NotUtf8 => ErrorKind::InvalidUtf8String,
+        Lent::NotUtf16 => ErrorKind::InvalidUtf16String,
+        Lent::Long(_) | Lent::NoMemory | Lent::Scalar | Lent::Collection(_) => unreachable!(),
     }
 }
 
-// As many bytes of an object as are read of it at once: a marker, a length of nine bytes, and the
-// content of what is small.
+// The fault of the object at a place.
+#[cold]
+#[inline(never)]
+fn object_fault(lent: Lent, place: u64) -> Error
+    requires { is_fault lent ≡ true }
+    ensures refused { (object : Object) (told : PlainEvent) → IsLentAs object told lent
+        → IsRefusedAs object place result }
+    ensures fault { (end : ℕ) → FailsWithin place end (fault_of result) }
+    ensures failures { (count : ℕ) → CountsIo result count count }
+    ensures small { (told : PlainEvent) → small_lent lent told ≡ 0 }
+{
+    match lent {
+        Lent::NoMemory => ErrorKind::OutOfMemory.without_position(),
+        _ => fault_kind(lent).with_byte_offset(place),
+    }
+}
+
+// As many bytes as tell any object but a long text or data: a marker, a length of nine bytes, and
+// sixteen of content.
 const FRONT: usize = 26;
 
-/// Tells the object at a place, and counts it where it is small. A text or data that isn't small
-/// is read into room of its own.
-pub fn decode<S: Source, C: DecodeCounter>(
-    alloc: Global,
+// Decodes the object at a place by bytes that are read of its front.
+#[cold]
+#[inline(never)]
+fn read_front<S: Source, C: DecodeCounter>(
     source: &mut S,
     counter: &mut C,
     bounds: &Bounds,
     place: u64,
+    room: u64,
     last: &mut Last,
 ) -> Result<Lent, Error>
+    requires place { place < bounds.now.trailer }
+    requires room { room ≡ bounds.now.trailer - place }
     // The answer.
-    ensures decoded { TellsObject S.known source.old bounds.now place last.new result }
+    ensures lent { LendsAt S.known source.old bounds.now place last.new result }
+    ensures long { LongAt S.known source.old bounds.now place result }
     // A refusal.
     ensures fault { ErrWithin place bounds.now.trailer result }
     // The state after it.
@@ -77,19 +84,94 @@ pub fn decode<S: Source, C: DecodeCounter>(
     ensures unchanged { S.known source.new ≡ S.known source.old }
     ensures failures { AnswersIo result (S.failures source.old) (S.failures source.new) }
 {
-    if place >= bounds.trailer {
-        return Err(ErrorKind::ObjectOffsetTooLarge.with_byte_offset(place));
-    }
-    let room = bounds.trailer - place;
     let mut front = [0; FRONT];
     let seen = &mut front[..room.min(FRONT as u64) as usize];
     read_exact_at(source, place, seen)?;
-    match decode_lent(seen, room, bounds.reference_width, counter, last) {
-        Lent::Nothing => {
-            let event = read_large(alloc, source, bounds, place, seen[0])?;
-            last.hold(event);
-            Ok(Lent::Scalar)
+    Ok(decode_lent(seen, room, bounds.reference_width, counter, last))
+}
+
+// Decodes the object at a place by the bytes of its front.
+fn decode_front<S: Source, C: DecodeCounter>(
+    source: &mut S,
+    counter: &mut C,
+    bounds: &Bounds,
+    place: u64,
+    last: &mut Last,
+) -> Result<Lent, Refused>
+    requires place { place < bounds.now.trailer }
+    // The answer.
+    ensures lent { LendsAt S.known source.old bounds.now place last.new (answer_in result last.new) }
+    ensures long { LongAt S.known source.old bounds.now place result }
+    // A refusal.
+    ensures fault { ErrWithin place bounds.now.trailer (answer_in result last.new) }
+    // The state after it.
+    ensures counted { CountsFound C.counts C.count counter.old counter.new result last.new }
+    ensures unchanged { S.known source.new ≡ S.known source.old }
+    ensures failures { AnswersIn S.failures result last.new source.old source.new }
+{
+    let room = bounds.trailer - place;
+    let near = source.near(place);
+    if near.len() as u64 >= room.min(FRONT as u64) {
+        let seen = &near[..room.min(near.len() as u64) as usize];
+        return Ok(decode_lent(seen, room, bounds.reference_width, counter, last));
+    }
+    let answer = read_front(source, counter, bounds, place, room, last);
+    last.note(answer)
+}
+
+// Reads the text or data of this content, of the object at a place, and tells it.
+#[cold]
+#[inline(never)]
+fn tell_long<S: Source>(
+    alloc: Global,
+    source: &mut S,
+    place: u64,
+    content: Content,
+    last: &mut Last,
+) -> Result<Lent, Error>
+    requires fits { EndsIn64Bits place content }
+    // The answer.
+    ensures told { TellsContentAt (S.known source.old) place content last.new result }
+    ensures large { IfOk result (IsLargeScalar last.new) }
+    // A refusal.
+    ensures fault { FailsInContent place content result }
+    // The state after it.
+    ensures unchanged { S.known source.new ≡ S.known source.old }
+    ensures failures { AnswersIo result (S.failures source.old) (S.failures source.new) }
+{
+    let event = read_long(alloc, source, place, content)?;
+    last.hold(event);
+    Ok(Lent::Scalar)
+}
+
+/// Tells the object at a place, and counts it where it is small.
+pub fn decode<S: Source, C: DecodeCounter>(
+    alloc: Global,
+    source: &mut S,
+    counter: &mut C,
+    bounds: &Bounds,
+    place: u64,
+    last: &mut Last,
+) -> Result<Lent, Refused>
+    // The answer.
+    ensures decoded { TellsObject S.known source.old bounds.now place last.new (answer_in result last.new) }
+    // A refusal.
+    ensures fault { ErrWithin place bounds.now.trailer (answer_in result last.new) }
+    // The state after it.
+    ensures counted { CountsFound C.counts C.count counter.old counter.new result last.new }
+    ensures unchanged { S.known source.new ≡ S.known source.old }
+    ensures failures { AnswersIn S.failures result last.new source.old source.new }
+{
+    if place >= bounds.trailer {
+        return Err(last.refuse(ErrorKind::ObjectOffsetTooLarge.with_byte_offset(place)));
+    }
+    let lent = decode_front(source, counter, bounds, place, last)?;
+    match lent {
+        Lent::Scalar | Lent::Collection(_) => Ok(lent),
+        Lent::Long(content) => {
+            let answer = tell_long(alloc, source, place, content, last);
+            last.note(answer)
         }
-        lent => lent_or_fault(lent, place),
+        _ => Err(last.refuse(object_fault(lent, place))),
     }
 }

@@ -2,16 +2,16 @@
 
 ghost use Rattle.std.specs.Prelude.{◌≡◌, ◌<◌, Some, true, false, IfSome};
 ghost use Rattle.plist_base.specs.Events.{Single, event_of};
-ghost use Rattle.plist_base.specs.Trees.{Boolean as BooleanScalar, Data as DataScalar, Integer as IntegerScalar};
+ghost use Rattle.plist_base.specs.Trees.{Boolean as BooleanScalar, Integer as IntegerScalar};
 ghost use Rattle.plist_binread.specs.declared.lent.Lent.TheVariants.{Scalar as ScalarLent};
 ghost use Rattle.plist_format.specs.Object.{signed};
 ghost use Rattle.plist_binread.specs.Packed.{MayWantMemory, cached, is_small_event, single};
-ghost use Rattle.plist_binread.specs.Told.{event_in, event_with, is_lent};
-ghost use Rattle.plist_binread.specs.Nearby.{PacksEvent, TellsText, TellsUnits};
+ghost use Rattle.plist_binread.specs.Told.{answer_in, event_in, event_with, is_lent};
+ghost use Rattle.plist_binread.specs.Nearby.{PacksEvent, TellsData, TellsText, TellsUnits};
 
 use crate::lent::Lent;
 use crate::packed::{is_small, pack, pack_bytes, pack_text};
-use plist_base::{Event, Integer, OwnedEvent, RealBits, Uid};
+use plist_base::{Error, ErrorKind, Event, Integer, OwnedEvent, RealBits, Uid};
 use std::alloc::Global;
 use std::borrow::{CowSlice, CowStr};
 use std::mem;
@@ -62,7 +62,14 @@ impl Told {
     }
 }
 
-/// The event that was told last. The rooms for its text and data serve all events in turn.
+/// A step was refused: the error is the fault of [`Last`].
+///
+/// It is this small since an error isn't, and what a function may answer is cleared at each call.
+#[derive(Clone, Copy)]
+pub struct Refused;
+
+/// The event that was told last, or the error. The rooms for its text and data serve all events in
+/// turn.
 #[derive(Drop)]
 pub struct Last {
     /// Which of the others it is.
@@ -73,6 +80,8 @@ pub struct Last {
     pub text: String,
     /// Data.
     pub data: Vec<u8>,
+    /// The error of a step that was refused.
+    pub fault: Error,
     /// Where room for a text of units comes from.
     pub alloc: Global,
 }
@@ -103,7 +112,29 @@ impl Last {
             held: Event::EndCollection,
             text: String::new(alloc),
             data: Vec::new(alloc),
+            fault: ErrorKind::OutOfMemory.without_position(),
             alloc,
+        }
+    }
+
+    /// Holds this error.
+    #[cold]
+    pub fn refuse(&mut self, error: Error) -> Refused
+        ensures fault { self.new.fault ≡ error }
+        ensures unchanged { event_in self.new ≡ event_in self.old }
+    {
+        self.fault = error;
+        Refused
+    }
+
+    /// The same answer, whose error is held here if it is one.
+    pub fn note<T>(&mut self, answer: Result<T, Error>) -> Result<T, Refused>
+        ensures answer { answer_in result self.new ≡ answer }
+        ensures unchanged { event_in self.new ≡ event_in self.old }
+    {
+        match answer {
+            Ok(value) => Ok(value),
+            Err(error) => Err(self.refuse(error)),
         }
     }
 
@@ -175,41 +206,48 @@ impl Last {
     }
 
     /// Tells the text in these bytes, if they are one and there is room for it.
-    pub fn tell_text(&mut self, bytes: &[u8]) -> bool
-        ensures { result ≡ true → TellsText bytes.now self.new }
+    pub fn tell_text(&mut self, bytes: &[u8]) -> Lent
+        ensures { TellsText bytes.now self.new result }
     {
         match str::from_utf8(bytes) {
             Ok(text) => {
                 self.text.clear();
                 self.told = Told::Text;
-                self.text.push_str(text).is_ok()
+                match self.text.push_str(text) {
+                    Ok(()) => Lent::Scalar,
+                    Err(_) => Lent::NoMemory,
+                }
             }
-            Err(_) => false,
+            Err(_) => Lent::NotUtf8,
         }
     }
 
     /// Tells the text in these units, if they are one and there is room for it.
-    pub fn tell_units(&mut self, units: &[u16]) -> bool
-        ensures { result ≡ true → TellsUnits units.now self.new }
+    pub fn tell_units(&mut self, units: &[u16]) -> Lent
+        ensures { TellsUnits units.now self.new result }
     {
         let made: Result<Result<_, _>, _> = String::from_utf16(self.alloc, units);
         match made {
             Ok(Ok(text)) => {
                 self.text = text;
                 self.told = Told::Text;
-                true
+                Lent::Scalar
             }
-            _ => false,
+            Ok(Err(_)) => Lent::NotUtf16,
+            Err(_) => Lent::NoMemory,
         }
     }
 
     /// Tells this data, if there is room for it.
-    pub fn tell_data(&mut self, bytes: &[u8]) -> bool
-        ensures { result ≡ true → event_in self.new ≡ Single (DataScalar bytes.now) }
+    pub fn tell_data(&mut self, bytes: &[u8]) -> Lent
+        ensures { TellsData bytes.now self.new result }
     {
         self.data.clear();
         self.told = Told::Data;
-        self.data.extend_from_slice(bytes).is_ok()
+        match self.data.extend_from_slice(bytes) {
+            Ok(()) => Lent::Scalar,
+            Err(_) => Lent::NoMemory,
+        }
     }
 
     /// Is it a scalar that can be cached?
@@ -250,8 +288,14 @@ impl Last {
     {
         let bytes = content.to_be_bytes();
         match tag % 128 {
-            packed @ 8..=16 => return self.tell_data(&bytes[..usize::from(packed - 8)]),
-            packed @ 17..=25 => return self.tell_text(&bytes[..usize::from(packed - 17)]),
+            packed @ 8..=16 => {
+                let told = self.tell_data(&bytes[..usize::from(packed - 8)]);
+                return told.is_scalar();
+            }
+            packed @ 17..=25 => {
+                let told = self.tell_text(&bytes[..usize::from(packed - 17)]);
+                return told.is_scalar();
+            }
             1 => self.tell(Told::Boolean(false)),
             2 => self.tell(Told::Boolean(true)),
             3 => self.tell(Told::Unsigned(content)),

@@ -4,7 +4,7 @@ ghost use Rattle.std.specs.Prelude.{◌≡◌, ◌<◌, length, reverse, true};
 ghost use Rattle.std.proofs.Props.{props};
 ghost use Rattle.plist_binread.specs.declared.walk.Turn.TheVariants.{Closed};
 ghost use Rattle.plist_binread.specs.Debt.{IsOpen};
-ghost use Rattle.plist_binread.specs.Turning.{AsksWithin, closes, given_back};
+ghost use Rattle.plist_binread.specs.Turning.{AsksWithin, closes};
 
 use crate::frames::{Frames, Wanted};
 use crate::packed::unmark;
@@ -35,7 +35,7 @@ pub struct Walk {
 }
 
 impl Walk {
-    ghost use Rattle.plist_binread.specs.Stepping.{TurnGivesBack, LightensBy, TurnsWalk};
+    ghost use Rattle.plist_binread.specs.Stepping.{LightensBy, TurnsWalk};
     ghost use Rattle.plist_binread.specs.Walking.{IsEmpty, cached_in, walk_objects, open_in};
 
     /// No object is held.
@@ -60,7 +60,6 @@ impl Walk {
         ensures counted { cached_in self.new ≡ cached_in self.old }
         ensures weight { LightensBy self.old result self.new }
         ensures contents { self.new.contents.items ≡ self.old.contents.items }
-        ensures back { TurnGivesBack self.old result self.new }
     {
         match self.frames.turn() {
             Wanted::Nothing => Turn::Done,
@@ -70,14 +69,5 @@ impl Walk {
             }
             Wanted::Child(object, index) => Turn::Child(object, index),
         }
-    }
-
-    /// Gives the child back that was taken last.
-    pub fn give_back(&mut self)
-        ensures tags { self.new.tags.items ≡ self.old.tags.items }
-        ensures contents { self.new.contents.items ≡ self.old.contents.items }
-        ensures frames { open_in self.new ≡ given_back (open_in self.old) }
-    {
-        self.frames.give_back();
     }
 }

@@ -1,45 +1,45 @@
-use Rattle.std.proofs.Common.{◌^◌, arith, ◌∙◌, sym, ap, refl, length}
+use Rattle.std.proofs.Common.{arith, ◌∙◌, sym, ap, refl, length}
 use Rattle.std.proofs.Math.ListN.{length-replicate}
-use Rattle.std.proofs.lemmas.Result.{err_from_is_err_and, IfErr-weaker}
+use Rattle.std.proofs.lemmas.Result.{err_from_is_err_and}
 use Rattle.plist_binread.specs.declared.head.Bounds.{Bounds}
+use Rattle.plist_binread.specs.Told.{answer_in}
 use Rattle.plist_binread.proofs.Opened.{IsOpen-none, cached_count-none, cached_count-empty}
 use Rattle.plist_binread.proofs.Begun.{known_unread, known_wanted, known_opens, known_begun}
-use Rattle.plist_binread.proofs.Failing.{counts_memory, from_memory, from_within}
 use Rattle.plist_binread.proofs.begin.begin.Goals as goal
 
 pub returns-in_err-head-clause-pays : goal.returns-in_err-head-clause-pays
 returns-in_err-head-clause-pays g c =
     let p = err_from_is_err_and c.from_residual.result c.from_residual.ensures.1 in
-    rw (p.1, p.2) (known_unread (g.S.Source.known c.args.source.now) c.in_err-head.field-0.0
-    c.in_err-head.ensures.refused)
+    rw p.1 (known_unread (g.S.Source.known c.args.source.now) c.note.new.self.fault
+    (rw (← c.in_err-head.ensures.answer) at c.read.ensures.refused))
 
 pub returns-in_err-none-clause-pays : goal.returns-in_err-none-clause-pays
 returns-in_err-none-clause-pays g c =
     let p = err_from_is_err_and c.from_residual-in_err-none.result
     c.from_residual-in_err-none.ensures.1 in
-    rw (p.1, p.2) (known_wanted (g.S.Source.known c.args.source.now) c.in_err-none.field-0.0
-    c.in_err-none.ensures.memory)
+    rw p.1 (known_wanted (g.S.Source.known c.args.source.now) c.note-2.new.self.fault
+    (rw (← c.in_err-none.ensures.answer) at c.no_tags.ensures.memory))
 
 pub invariant_of-walk : goal.invariant_of-walk
 invariant_of-walk g c = record {
-  same = sym (ap length c.in_ok-none.ensures.tags ∙ length-replicate c.len.result 0 ∙ c.len.ensures
+  same = sym (ap length (rw (← c.in_ok-none.ensures.answer) at c.no_tags.ensures.tags) ∙ length-replicate c.len.result 0 ∙ c.len.ensures
       ∙ c.in_ok-head.head.places.ok.0);
-  path = IsOpen-none _ _ _ c.in_ok-none.ensures.tags c.requires.empty.1;
+  path = IsOpen-none _ _ _ (rw (← c.in_ok-none.ensures.answer) at c.no_tags.ensures.tags) c.requires.empty.1;
 }
 
 pub enter-requires-clause-known : goal.enter-requires-clause-known
 enter-requires-clause-known g c =
     known_opens (g.S.Source.known c.args.source.now) (g.S.Source.known c.read.new.source)
     c.in_ok-head.head _ c.in_ok-none.none.items c.len.result c.args.walk.now.frames
-    c.in_ok-head.ensures.unchanged c.in_ok-head.ensures.value c.in_ok-head.ensures.within
-    refl refl c.in_ok-none.ensures.tags (c.len.ensures ∙ c.in_ok-head.head.places.ok.0)
+    c.read.ensures.unchanged (rw (← c.in_ok-head.ensures.answer) at c.read.ensures.value) (rw (← c.in_ok-head.ensures.answer) at c.read.ensures.within)
+    refl refl (rw (← c.in_ok-none.ensures.answer) at c.no_tags.ensures.tags) (c.len.ensures ∙ c.in_ok-head.head.places.ok.0)
     c.requires.empty.1
 
 pub enter-requires-clause-counted : goal.enter-requires-clause-counted
 enter-requires-clause-counted g c =
     λ counts. c.requires.counted counts
     ∙ cached_count-empty c.args.walk.now.tags.items c.requires.empty.0
-    ∙ sym (cached_count-none c.len.result c.in_ok-none.none.items c.in_ok-none.ensures.tags)
+    ∙ sym (cached_count-none c.len.result c.in_ok-none.none.items (rw (← c.in_ok-none.ensures.answer) at c.no_tags.ensures.tags))
 
 pub returns-clause-pays : goal.returns-clause-pays
 returns-clause-pays g c =
@@ -52,27 +52,8 @@ returns-clause-pays g c =
     } in
     known_begun (g.S.Source.known c.args.source.now) (g.S.Source.known c.read.new.source)
     c.in_ok-head.head bounds c.in_ok-none.none.items c.args.walk.now.frames
-    c.enter.new.walk.frames c.enter.result _ c.in_ok-head.ensures.unchanged
+    c.enter.new.walk.frames (answer_in c.enter.result c.enter.new.last) _ c.read.ensures.unchanged
     c.requires.empty.1
-    (ap length c.in_ok-none.ensures.tags ∙ length-replicate c.len.result 0 ∙ c.len.ensures
-    ∙ c.in_ok-head.head.places.ok.0) refl refl c.in_ok-head.ensures.value
+    (ap length (rw (← c.in_ok-none.ensures.answer) at c.no_tags.ensures.tags) ∙ length-replicate c.len.result 0 ∙ c.len.ensures
+    ∙ c.in_ok-head.head.places.ok.0) refl refl (rw (← c.in_ok-head.ensures.answer) at c.read.ensures.value)
     c.enter.ensures.pays
-
-pub returns-in_err-none-clause-fault : goal.returns-in_err-none-clause-fault
-returns-in_err-none-clause-fault g c =
-    let p = err_from_is_err_and c.from_residual-in_err-none.result
-    c.from_residual-in_err-none.ensures.1 in
-    rw (p.1, p.2) (from_memory _ 0 (2 ^ 64) c.in_err-none.ensures.memory)
-
-pub returns-in_err-none-clause-failures : goal.returns-in_err-none-clause-failures
-returns-in_err-none-clause-failures g c =
-    let p = err_from_is_err_and c.from_residual-in_err-none.result
-    c.from_residual-in_err-none.ensures.1 in
-    rw (p.1, p.2) (counts_memory c.in_err-none.field-0.0 _ _ c.in_err-none.ensures.memory
-    c.in_ok-head.ensures.failures)
-
-pub returns-clause-fault : goal.returns-clause-fault
-returns-clause-fault g c =
-    IfErr-weaker c.enter.result _ _
-    (λ e within. from_within _ 0 c.in_ok-head.head.trailer 0 (2 ^ 64) within (omega arith)
-    (omega arith)) c.enter.ensures.fault

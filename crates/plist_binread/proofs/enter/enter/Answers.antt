@@ -1,33 +1,13 @@
-use Rattle.std.proofs.Common.{arith, refl, sym, length, ◌-◌, IfSome}
+use Rattle.std.proofs.Common.{arith, sym, length, ◌-◌, IfSome}
 use Rattle.std.proofs.lemmas.List.{length-reverse}
 use Rattle.std.proofs.lemmas.Result.{err_from_is_err_and}
 use Rattle.plist_binread.proofs.Entering.{LentAt, from_any, known_decoded, known_gains, known_recalled, known_small}
-use Rattle.plist_binread.proofs.Known.{first, second, known_refused, known_full, known_unfound}
-use Rattle.plist_binread.proofs.Failing.{counts_inside, counts_memory, from_memory, from_within}
+use Rattle.plist_binread.proofs.Known.{first, second, known_refused, known_full}
 use Rattle.plist_binread.proofs.Steps.{steps_positive}
 use Rattle.plist_binread.specs.Behind.{object_at}
 use Rattle.plist_binread.specs.Told.{event_in}
 use Rattle.plist_binread.proofs.enter.enter.Goals as goal
 use Rattle.plist_binread.proofs.enter.enter.Goals.{After-open_lent}
-
-pub returns-in_err-found-clause-pays : goal.returns-in_err-found-clause-pays
-returns-in_err-found-clause-pays g c =
-    let p = err_from_is_err_and c.from_residual.result c.from_residual.ensures.1 in
-    rw (p.1, p.2) (known_unfound _ c.args.bounds.now c.args.walk.now.tags.items
-    c.args.walk.now.contents.items _ _ c.args.at c.args.number _ (sym (length-reverse _))
-    c.args.walk.now.path c.requires.known
-    (rw (c.as_slice.ensures.value, c.as_slice-2.ensures.value) at c.in_err-found.ensures.refused))
-
-pub returns-in_err-found-clause-fault : goal.returns-in_err-found-clause-fault
-returns-in_err-found-clause-fault g c =
-    let p = err_from_is_err_and c.from_residual.result c.from_residual.ensures.1 in
-    rw (p.1, p.2) (from_within _ 0 0 0 c.args.bounds.now.trailer c.in_err-found.ensures.fault
-    (omega arith) (omega arith))
-
-pub returns-in_err-found-clause-failures : goal.returns-in_err-found-clause-failures
-returns-in_err-found-clause-failures g c =
-    let p = err_from_is_err_and c.from_residual.result c.from_residual.ensures.1 in
-    rw (p.1, p.2) (counts_inside c.in_err-found.field-0.0 _ _ c.in_err-found.ensures.kinds refl)
 
 pub returns-in-None-clause-falls : goal.returns-in-None-clause-falls
 returns-in-None-clause-falls g c =
@@ -50,19 +30,12 @@ pub returns-in_err-lent-in-Some-clause-pays : goal.returns-in_err-lent-in-Some-c
 returns-in_err-lent-in-Some-clause-pays g c =
     let p = err_from_is_err_and c.from_residual-in_err-lent-in-Some.result
     c.from_residual-in_err-lent-in-Some.ensures.1 in
-    rw (p.1, p.2) (known_refused _ _ _ _ _ _ c.args.at c.args.number
+    rw p.1 (known_refused _ _ _ _ _ _ c.args.at c.args.number
     c.in-Some.place _ (sym (length-reverse c.args.walk.now.frames)) c.args.walk.now.path
     c.requires.known (rw c.as_slice.ensures.value at c.in_ok-found.ensures.below)
     (rw c.as_slice.ensures.value at c.in_ok-found.ensures.new)
     (rw (c.in-Some.is, c.as_slice.ensures.value, c.as_slice-2.ensures.value) at
     c.in_ok-found.ensures.found) c.in_err-lent-in-Some.ensures.decoded)
-
-pub returns-in_err-lent-in-Some-clause-fault : goal.returns-in_err-lent-in-Some-clause-fault
-returns-in_err-lent-in-Some-clause-fault g c =
-    let p = err_from_is_err_and c.from_residual-in_err-lent-in-Some.result
-    c.from_residual-in_err-lent-in-Some.ensures.1 in
-    rw (p.1, p.2) (from_within _ c.in-Some.place c.args.bounds.now.trailer 0
-    c.args.bounds.now.trailer c.in_err-lent-in-Some.ensures.fault (omega arith) (omega arith))
 
 -- the object is what was decoded
 there : (g : _) (c : After-open_lent g)
@@ -95,7 +68,7 @@ returns-then-open_lent-clause-kept g c =
 
 pub returns-else-open_lent-clause-pays : goal.returns-else-open_lent-clause-pays
 returns-else-open_lent-clause-pays g c =
-    known_refused _ _ _ _ _ _ c.args.at c.args.number
+    rw c.refuse.ensures.fault (known_refused _ _ _ _ _ _ c.args.at c.args.number
     c.in-Some.place _ (sym (length-reverse c.args.walk.now.frames)) c.args.walk.now.path
     c.requires.known (rw c.as_slice.ensures.value at c.in_ok-found.ensures.below)
     (rw c.as_slice.ensures.value at c.in_ok-found.ensures.new)
@@ -104,12 +77,4 @@ returns-else-open_lent-clause-pays g c =
     (known_full _ c.args.bounds.now.trailer c.in-Some.place
     (object_at c.args.bounds.now c.in-Some.place) (event_in c.decode.new.last)
     c.in_ok-lent-in-Some.lent c.without_position.result c.without_position.ensures.fault
-    (c.open_lent.ensures.wanted c.if-open_lent.false) c.in_ok-lent-in-Some.ensures.decoded)
-
-pub returns-else-open_lent-clause-fault : goal.returns-else-open_lent-clause-fault
-returns-else-open_lent-clause-fault g c =
-    from_memory _ 0 c.args.bounds.now.trailer c.without_position.ensures.fault
-
-pub returns-else-open_lent-clause-failures : goal.returns-else-open_lent-clause-failures
-returns-else-open_lent-clause-failures g c =
-    counts_memory c.without_position.result _ _ c.without_position.ensures.fault c.in_ok-lent-in-Some.ensures.failures
+    (c.open_lent.ensures.wanted c.if-open_lent.false) c.in_ok-lent-in-Some.ensures.decoded))

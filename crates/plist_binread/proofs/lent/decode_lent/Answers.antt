@@ -3,7 +3,7 @@ use Rattle.std.proofs.lemmas.List.{length-append}
 use Rattle.plist_binread.specs.Nearby.{LendsWhole}
 use Rattle.plist_format.specs.Object.{object_in}
 use Rattle.plist_binread.specs.Told.{event_in}
-use Rattle.plist_binread.proofs.Lending.{object_lent}
+use Rattle.plist_binread.proofs.Lending.{long_behind, object_lent}
 use Rattle.plist_binread.proofs.lent.decode_lent.Goals as goal
 use Rattle.plist_binread.proofs.lent.decode_lent.Goals.{After-lent_behind-lent}
 
@@ -22,3 +22,8 @@ returns-then-is_small_lent-clause-lent g c =
 pub returns-else-is_small_lent-clause-lent : goal.returns-else-is_small_lent-clause-lent
 returns-else-is_small_lent-clause-lent g c =
     whole g (goal.at.returns-else-is_small_lent-clause-lent g c).After-lent_behind-lent
+
+pub returns-else-is_small_lent-clause-long : goal.returns-else-is_small_lent-clause-long
+returns-else-is_small_lent-clause-long g c =
+    long_behind c.args.width _ c.args.room c.args.seen.now c.in-Some.rest.now _
+    c.in-Some.ensures.cases.0 c.requires.some c.lent_behind-lent.ensures.long

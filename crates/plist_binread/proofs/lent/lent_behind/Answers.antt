@@ -28,16 +28,16 @@ returns-in-51-clause-lent c = rw c.in-51.is c.lent_date.ensures.lent
 
 pub returns-in-64-to-79-clause-lent : goal.returns-in-64-to-79-clause-lent
 returns-in-64-to-79-clause-lent c = λ more whole.
-    rw (layout-data _ c.args.marker (omega arith) (omega arith)) (c.lent_data.ensures.lent _)
+    rw (layout-data _ c.args.marker (omega arith) (omega arith)) (c.lent_data.ensures.lent _ whole)
 
 pub returns-in-80-to-95-clause-lent : goal.returns-in-80-to-95-clause-lent
 returns-in-80-to-95-clause-lent c = λ more whole.
-    rw (layout-text _ c.args.marker (omega arith) (omega arith)) (c.lent_text.ensures.lent _)
+    rw (layout-text _ c.args.marker (omega arith) (omega arith)) (c.lent_text.ensures.lent _ whole)
 
 pub returns-in-96-to-111-clause-lent : goal.returns-in-96-to-111-clause-lent
 returns-in-96-to-111-clause-lent c = λ more whole.
     rw (layout-wide_text _ c.args.marker (omega arith) (omega arith))
-    (c.lent_wide_text.ensures.lent _)
+    (c.lent_wide_text.ensures.lent _ whole)
 
 pub returns-in-160-to-175-clause-lent : goal.returns-in-160-to-175-clause-lent
 returns-in-160-to-175-clause-lent c =

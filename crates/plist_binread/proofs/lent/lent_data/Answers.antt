@@ -1,13 +1,7 @@
-use Rattle.std.proofs.Common.{ap, sym, ◌∙◌, Some}
-use Rattle.plist_base.specs.Trees.{Data}
-use Rattle.plist_binread.specs.Decoding.{single_in}
-use Rattle.plist_format.specs.Object.{Scalar}
+use Rattle.plist_binread.specs.declared.lent.Kind.TheVariants.{Data as KindData}
+use Rattle.plist_binread.specs.Nearby.{content_means}
 use Rattle.plist_binread.proofs.lent.lent_data.Goals as goal
 
-pub returns-then-tell_data : goal.returns-then-tell_data
-returns-then-tell_data c =
-    record {
-      lent = λ more. ap single_in
-          (c.in-Some.ensures.content more (λ content. Scalar (Data content)))
-          ∙ ap Some (sym (c.tell_data.ensures c.if-tell_data.true));
-    }
+pub returns-in-Ok-clause-lent : goal.returns-in-Ok-clause-lent
+returns-in-Ok-clause-lent c = λ more whole.
+    rw (c.in-Ok.ensures.content more whole (content_means KindData)) c.tell_data.ensures.0

@@ -6,5 +6,5 @@ use Rattle.plist_binread.proofs.lent.lent_dictionary.Goals as goal
 pub returns-in-Ok-clause-lent : goal.returns-in-Ok-clause-lent
 returns-in-Ok-clause-lent c = λ more whole.
     let found = c.in-Ok.ensures.count more whole in
-    rw c.tell.ensures (dictionary_lent c.args.width c.in-Ok.count found.0
-    (length_in c.args.marker (c.args.rest.now ++ more)) c.requires.width.0 found.1 found.2)
+    rw c.tell.ensures (dictionary_lent c.args.width c.in-Ok.count _
+    (length_in c.args.marker (c.args.rest.now ++ more)) c.requires.width.0 found.0 found.1)

@@ -1,43 +1,34 @@
-use Rattle.std.proofs.Common.{rules, Ok, Err, ◌+◌, ◌∙◌, ap, sym, arith}
-use Rattle.std.proofs.lemmas.Result.{err_from_is_err_and}
-use Rattle.plist_binread.specs.Decoding.{DecodesTold}
+use Rattle.std.proofs.Common.{◌∙◌, ◌+◌, ap}
 use Rattle.plist_binread.specs.Told.{event_in}
-use Rattle.plist_binread.proofs.Lending.{known_seen, known_first}
-use Rattle.plist_binread.proofs.Markers.{known_beyond, known_marked}
+use Rattle.plist_binread.proofs.Lending.{long_tells, seen_refused}
+use Rattle.plist_binread.proofs.Markers.{known_beyond}
 use Rattle.plist_binread.proofs.object.decode.Goals as goal
 
 pub returns-then-place-bounds-clause-decoded : goal.returns-then-place-bounds-clause-decoded
 returns-then-place-bounds-clause-decoded g c =
-    known_beyond _ _ _ _ _ c.if-place-bounds.true c.with_byte_offset.ensures.fault
+    rw c.refuse.ensures.fault
+    (known_beyond _ c.args.bounds.now.reference_width c.args.bounds.now.trailer c.args.place
+    c.with_byte_offset.result c.if-place-bounds.true c.with_byte_offset.ensures.fault)
 
-pub returns-in_ok-event-in-Nothing-clause-decoded
-    : goal.returns-in_ok-event-in-Nothing-clause-decoded
-returns-in_ok-event-in-Nothing-clause-decoded g c =
-    rw c.hold.ensures (known_marked _ _ c.args.bounds.now.reference_width _ _ _
-    (Ok c.in_ok-event-in-Nothing.event) c.in_ok-read_exact_at.ensures.unchanged (omega arith)
-    (known_first _ _ _ (search rules) c.in_ok-read_exact_at.ensures.bytes)
-    c.in_ok-event-in-Nothing.ensures.decoded)
+pub returns-in-Long-clause-decoded : goal.returns-in-Long-clause-decoded
+returns-in-Long-clause-decoded g c =
+    rw (c.note.ensures.answer, c.note.ensures.unchanged)
+    (long_tells _ _ c.args.bounds.now c.args.place c.in-Long.content
+    (event_in c.tell_long-answer.new.last) c.tell_long-answer.result c.in_ok-lent.ensures.unchanged
+    (rw c.in-Long.is at c.in_ok-lent.ensures.long) c.tell_long-answer.ensures.told)
 
-pub returns-in_err-event-in-Nothing-clause-decoded
-    : goal.returns-in_err-event-in-Nothing-clause-decoded
-returns-in_err-event-in-Nothing-clause-decoded g c =
-    let p = err_from_is_err_and c.from_residual-in_err-event-in-Nothing.result
-    c.from_residual-in_err-event-in-Nothing.ensures.1 in
-    rw (p.1, p.2) (known_marked _ _ c.args.bounds.now.reference_width _ _ _
-    (Err c.in_err-event-in-Nothing.field-0.0) c.in_ok-read_exact_at.ensures.unchanged
-    (omega arith) (known_first _ _ _ (search rules) c.in_ok-read_exact_at.ensures.bytes)
-    c.in_err-event-in-Nothing.ensures.decoded)
-
--- what was lent of it, or its fault
-pub returns-in_default-clause-decoded : goal.returns-in_default-clause-decoded
-returns-in_default-clause-decoded g c =
-    known_seen _ c.args.bounds.now.trailer c.args.bounds.now.reference_width c.args.place _
-    (λ object. DecodesTold object c.args.place (event_in c.decode_lent.new.last)
-    c.lent_or_fault.result) (search rules) c.in_ok-read_exact_at.ensures.bytes
-    (λ more room. c.lent_or_fault.ensures.decoded _ _ (c.decode_lent.ensures.lent more room))
-
-pub returns-in_default-clause-counted : goal.returns-in_default-clause-counted
-returns-in_default-clause-counted g c = λ counts.
-    c.decode_lent.ensures.counted counts
-    ∙ ap (λ n. g.C.DecodeCounter.count c.args.counter.now + n)
-    (sym (c.lent_or_fault.ensures.counted c.decode_lent.new.last))
+pub returns-in_default : goal.returns-in_default
+returns-in_default g c =
+    let error = c.object_fault.result in
+    record {
+      decoded = rw c.refuse-in_default.ensures.fault (seen_refused _ c.args.bounds.now c.args.place
+          c.in_ok-lent.lent (event_in c.decode_front.new.last) error c.in_ok-lent.ensures.lent
+          c.object_fault.ensures.refused);
+      fault = rw c.refuse-in_default.ensures.fault (c.object_fault.ensures.fault _);
+      counted = λ counts. c.in_ok-lent.ensures.counted counts
+          ∙ ap (λ n. g.C.DecodeCounter.count c.args.counter.now + n)
+          (c.object_fault.ensures.small (event_in c.decode_front.new.last));
+      unchanged = c.in_ok-lent.ensures.unchanged;
+      failures = rw (c.refuse-in_default.ensures.fault, c.in_ok-lent.ensures.failures)
+          (c.object_fault.ensures.failures _);
+    }

@@ -1,6 +1,6 @@
-use Rattle.std.proofs.Common.{ap, sym, ◌∙◌, ◌%◌, Some, arith}
+use Rattle.std.proofs.Common.{ap, sym, ◌∙◌, ◌%◌, arith}
 use Rattle.plist_binread.specs.Packed.{single}
-use Rattle.plist_binread.proofs.Packing.{scalar_of-data, scalar_of-text, text-utf8, wanted-text}
+use Rattle.plist_binread.proofs.Packing.{scalar_of-data, scalar_of-text, single-text, wanted-text}
 use Rattle.plist_binread.proofs.told.Last.recall.Goals as goal
 
 pub returns-in-8-to-16-clause-wanted : goal.returns-in-8-to-16-clause-wanted
@@ -14,7 +14,6 @@ returns-in-17-to-25-clause-wanted c = λ _.
 
 pub returns-in-17-to-25-clause-told : goal.returns-in-17-to-25-clause-told
 returns-in-17-to-25-clause-told c = λ yes.
-    let told = (rw (c.from-in-17-to-25.ensures, c.to_be_bytes-bytes.ensures) at c.tell_text.ensures)
-    yes in
-    ap single (scalar_of-text _ _ (omega arith) (omega arith)
-    ∙ text-utf8 _ told.0) ∙ ap Some (sym told.1)
+    ap single (scalar_of-text _ _ (omega arith) (omega arith)) ∙ sym (single-text _)
+    ∙ (rw (c.from-in-17-to-25.ensures, c.to_be_bytes-bytes.ensures, c.is_scalar-in-17-to-25.ensures yes) at
+    c.tell_text-told.ensures).0

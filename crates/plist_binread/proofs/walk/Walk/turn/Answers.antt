@@ -1,6 +1,6 @@
-use Rattle.std.proofs.Common.{refl, sym, ◌∙◌}
+use Rattle.std.proofs.Common.{sym, ◌∙◌}
 use Rattle.plist_binread.specs.Frames.{frame_of}
-use Rattle.plist_binread.proofs.Turned.{next_path, child_owed, closed_owed, child_weight, closed_weight, closes-none, closes-child, taken_back}
+use Rattle.plist_binread.proofs.Turned.{next_path, child_owed, closed_owed, child_weight, closed_weight, closes-none, closes-child}
 use Rattle.plist_binread.proofs.Opened.{IsOpen-pop, first_below, first_uncached, cached_count-mark}
 use Rattle.plist_binread.proofs.walk.Walk.turn.Goals as goal
 
@@ -11,10 +11,6 @@ pub returns-in-Nothing-clause-owed : goal.returns-in-Nothing-clause-owed
 returns-in-Nothing-clause-owed c =
     let is = c.in-Nothing.ensures in
     λ bytes bounds k. ((is.0, is.1), rw is.1 (rw is.0 at k))
-
-pub returns-in-Nothing-clause-back : goal.returns-in-Nothing-clause-back
-returns-in-Nothing-clause-back c =
-    let is = c.in-Nothing.ensures in (refl, cc)
 
 pub unmark-requires : goal.unmark-requires
 unmark-requires c =
@@ -78,10 +74,3 @@ returns-in-Child-clause-weight c =
     let is = c.in-Child.ensures in
     λ n. rw (is.2, is.3) (child_weight n
     (frame_of c.in-Child.object _ _) _ is.4)
-
-pub returns-in-Child-clause-back : goal.returns-in-Child-clause-back
-returns-in-Child-clause-back c =
-    let is = c.in-Child.ensures in (
-      refl,
-      rw (is.2, is.3) (taken_back _ _),
-    )

@@ -6,33 +6,37 @@ use Rattle.plist_binread.specs.BinaryReader.{is_limited, is_new, number_to_come,
 use Rattle.plist_binread.specs.Told.{event_in}
 use Rattle.plist_binread.proofs.Limiting.{event-told, fault-told, limit-told, none-told, refused-closes, refused-given, refused-other, still-given, walk-closes}
 use Rattle.plist_binread.proofs.Taken.{holds_none, kept_fault}
-use Rattle.plist_binread.proofs.reader.BinaryReader.advance_far.Goals as goal
+use Rattle.plist_binread.proofs.reader.BinaryReader.step_within.Goals as goal
 
 pub returns-in-Ok : goal.returns-in-Ok
 returns-in-Ok g c =
     let old = c.args.self.now in
     let mid = c.step.new.self in
+    let told = event_in c.admit.new.last in
+    let same = c.admit.ensures.unchanged in
     let w = rw c.in-Some-Ok.field-0-is at c.in-Some-Ok.ensures.walks in
-    let admitted = subst (λ l. AdmitsAny l (event_in mid.last) c.admit.new.limiter)
-    c.step.ensures.limiter c.in-Ok.ensures.admitted in
-    let items = event-told (is_new old) (event_in mid.last) (g.R.Source.known (source_of old))
+    let admitted = subst (λ l. AdmitsAny l told c.admit.new.limiter)
+    c.step.ensures.limiter (rw (← same) at c.in-Ok.ensures.admitted) in
+    let items = event-told (is_new old) told (g.R.Source.known (source_of old))
     old.limiter c.admit.new.limiter (λ bytes. walk_to_come bytes old)
-    (λ bytes. walk_to_come bytes mid) tt admitted w.items in
-    search (w, w.closes, items, walk-closes old.limiter (walk_closes old))
+    (λ bytes. walk_to_come bytes mid) tt admitted (rw (← same) at w.items) in
+    let closes = rw (← same) at w.closes in
+    let cached = rw (← same) at w.cached in
+    search (w, closes, items, cached, walk-closes old.limiter (walk_closes old))
 
 pub returns-in-Err : goal.returns-in-Err
 returns-in-Err g c =
     let old = c.args.self.now in
     let mid = c.step.new.self in
     let w = rw c.in-Some-Ok.field-0-is at c.in-Some-Ok.ensures.walks in
-    let fault = fault_of c.in-Err.reached in
+    let fault = fault_of c.admit.new.last.fault in
     let r = subst (λ l. RefusesAny l (event_in mid.last) fault) c.step.ensures.limiter
     c.in-Err.ensures.refused in
     record {
       unchanged = w.unchanged;
       items = limit-told (is_new old) (event_in mid.last) (g.R.Source.known (source_of old))
           old.limiter c.admit.new.limiter (λ bytes. walk_to_come bytes old)
-          (λ bytes. walk_to_come bytes mid) tt c.in-Err.reached r w.items;
+          (λ bytes. walk_to_come bytes mid) tt c.admit.new.last.fault r w.items;
       failures = refused-other old.limiter (event_in mid.last) fault
           (Rises (g.R.Source.failures (source_of old)) (g.R.Source.failures (source_of mid)))
           (g.R.Source.failures (source_of mid) ≡ g.R.Source.failures (source_of old))
@@ -44,8 +48,8 @@ returns-in-Err g c =
       closes = λ h. absurd (refused-closes old.limiter (walk_closes old) (event_in mid.last) fault r
           (λ e. w.closes e) h);
       head = holds_none _ mid.bounds mid.walk.tags.items _ (λ v. absurd (cc));
-      cached = kept_fault _ (λ bytes. number_to_come bytes old) mid.walk.tags.items c.in-Err.reached
-          (event_in mid.last);
+      cached = kept_fault _ (λ bytes. number_to_come bytes old) mid.walk.tags.items
+          c.admit.new.last.fault (event_in c.admit.new.last);
       leaves = record {
         nested = w.leaves.nested;
         marked = w.leaves.marked;
@@ -62,13 +66,13 @@ returns-in-Some-Err g c =
     let w = rw c.in-Some-Err.field-0-is at c.in-Some-Err.ensures.walks in
     let items = fault-told (is_new old) (event_in new.last) (g.R.Source.known (source_of old))
     old.limiter new.limiter (λ bytes. walk_to_come bytes old) (λ bytes. walk_to_come bytes new)
-    c.in-Some-Err.error w.items in
+    new.last.fault w.items in
     search (
       w,
       w.closes,
       items,
       walk-closes old.limiter (walk_closes old),
-      still-given 0 (2 ^ 64) (is_limited old) (fault_of c.in-Some-Err.error) w.faults,
+      still-given 0 (2 ^ 64) (is_limited old) (fault_of new.last.fault) w.faults,
     )
 
 pub returns-in-None : goal.returns-in-None

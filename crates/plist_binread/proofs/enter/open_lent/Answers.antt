@@ -7,7 +7,7 @@ use Rattle.plist_binread.specs.Told.{event_in}
 use Rattle.plist_binread.proofs.Steps.{pays_scalar, pays_collection, collection_large, reverse-push, start_falls, steps_positive}
 use Rattle.plist_binread.proofs.Opened.{IsOpen-push, not_open, has_room, cached_count-keep, cached_count-mark}
 use Rattle.plist_binread.proofs.Known.{as_many, known_kept, known_opened}
-use Rattle.plist_binread.proofs.near.open_lent.Goals as goal
+use Rattle.plist_binread.proofs.enter.open_lent.Goals as goal
 
 pub returns-in-Some-clause-counted : goal.returns-in-Some-clause-counted
 returns-in-Some-clause-counted c =
