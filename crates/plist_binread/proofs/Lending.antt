@@ -1,14 +1,12 @@
 -- What lies in bytes that are lent, whatever follows them.
-use Rattle.std.proofs.Common.{◌≡◌, ℕ, suc, ◌+◌, ◌-◌, ◌*◌, ◌<◌, ◌≤◌, List, ◌∷◌, ◌++◌, length, take, drop, Option, Some, Result, Ok, Err, IfSome, true, refl, ap, sym, ◌∙◌, arith}
+use Rattle.std.proofs.Common.{◌≡◌, ℕ, suc, ◌+◌, ◌-◌, ◌*◌, ◌<◌, ◌≤◌, List, ◌∷◌, ◌++◌, length, take, drop, Option, Some, Result, IfSome, true, refl, ap, sym, ◌∙◌, arith}
 use Rattle.std.proofs.lemmas.List.{take-take, length-append, drop-append-le, drop-drop, length-drop, length-take-le, take-append-drop}
 use Rattle.std.proofs.Math.Seq.{take-length}
 use Rattle.plist_base.specs.Sources.{LiesAt}
 use Rattle.plist_binread.specs.Behind.{HasPairs, object_at, object_with}
-use Rattle.plist_binread.specs.Nearby.{IfLong, LeavesLong, LendsWhole, LongBehind, content_means, is_fault, small_found, unit_size}
+use Rattle.plist_binread.specs.Nearby.{IfLong, LeavesLong, LendsWhole, LongBehind, content_means, is_fault, unit_size}
 use Rattle.plist_base.specs.declared.error.Error.{Error}
 use Rattle.plist_binread.specs.declared.told.Last.{Last}
-use Rattle.plist_binread.specs.declared.told.Refused.{Refused}
-use Rattle.plist_binread.specs.Told.{answer_in, event_in}
 use Rattle.plist_binread.specs.declared.lent.Lent.{Lent}
 use Rattle.plist_binread.specs.declared.head.Bounds.{Bounds}
 use Rattle.plist_base.specs.Events.{PlainEvent}
@@ -59,17 +57,17 @@ known_seen known t w p seen P near is means = IfSome_then known is (λ bytes is 
     rw cut.1 (means _ room))
 
 -- what its marker and what lies behind it tell of an object whose content isn't all seen
-pub long_behind : (w m room : ℕ) (seen rest : List ℕ) (lent : Lent) → seen ≡ m ∷ rest → 0 < room
-    → LongBehind m (room - 1) (object_with w m) rest lent
-    → LeavesLong room (object_in w) seen lent
-long_behind w m room seen rest (tag.Long content) is some h =
+pub long_behind : (w m room : ℕ) (seen rest : List ℕ) (last : Last) (lent : Lent) → seen ≡ m ∷ rest
+    → 0 < room → LongBehind m (room - 1) (object_with w m) rest last lent
+    → LeavesLong room (object_in w) seen last lent
+long_behind w m room seen rest last tag.Long is some h =
     let sum : room - 1 + 1 ≡ room = omega arith in (
       omega (arith, h.0),
       λ more whole.
           object_lent w m (seen ++ more) (rest ++ more) (ap (λ xs. xs ++ more) is)
           ∙ rw is (h.1 more (ap (λ xs. length (xs ++ more)) (sym is) ∙ whole ∙ sym sum)),
     )
-long_behind w m room seen rest lent is some h = tt
+long_behind w m room seen rest last lent is some h = tt
 
 -- a beginning of bytes that lie there lies there
 pub known_prefix : (known : Option (List ℕ)) (p k : ℕ) (near : List ℕ) → k ≤ length near
@@ -79,14 +77,7 @@ known_prefix known p k near h is = IfSome_then known is (λ bytes is.
     let n = length-take-le k near h in
     rw n (ap (take k) is ∙ take-take k (length near) (drop p bytes) h))
 
--- an answer that is noted counts as it did
-pub noted_small : (noted : Result Lent Refused) (after before : Last) (answer : Result Lent Error)
-    → answer_in noted after ≡ answer → event_in after ≡ event_in before
-    → small_found noted after ≡ small_found answer before
-noted_small (Ok lent) after before answer is same = rw (← is, same) refl
-noted_small (Err refused) after before answer is same = rw (← is) refl
-
--- and a fault counts nothing
+-- a fault counts nothing
 pub fault_small : (lent : Lent) (told : PlainEvent) → is_fault lent ≡ true → small_lent lent told ≡ 0
 fault_small tag.Scalar told fault = absurd (cc)
 fault_small lent told fault = refl
@@ -104,24 +95,26 @@ module _ (known : Option (List ℕ)) (bounds : Bounds) (place : ℕ) (seen : Lis
       known_seen known bounds.trailer bounds.reference_width place seen
       (λ object. IsLentAs object told lent) near is means
 
-  pub seen_long : LeavesLong (bounds.trailer - place) (object_in bounds.reference_width) seen lent
-      → IfLong lent (λ content.
+  pub seen_long : (last : Last)
+      → LeavesLong (bounds.trailer - place) (object_in bounds.reference_width) seen last lent
+      → IfLong lent last (λ content.
       (place + content.start + content.count * unit_size content.kind ≤ bounds.trailer)
       × IfSome known (λ bytes. bounds.trailer ≤ length bytes → object_at bounds place bytes
       ≡ content_means content.kind (take (content.count * unit_size content.kind)
       (drop (place + content.start) bytes))))
-  seen_long h = by lent h
+  seen_long last h = by lent h
     where
       by : (lent : Lent)
-          → LeavesLong (bounds.trailer - place) (object_in bounds.reference_width) seen lent
-          → IfLong lent (λ content.
+          → LeavesLong (bounds.trailer - place) (object_in bounds.reference_width) seen last lent
+          → IfLong lent last (λ content.
           (place + content.start + content.count * unit_size content.kind ≤ bounds.trailer)
           × IfSome known (λ bytes. bounds.trailer ≤ length bytes → object_at bounds place bytes
           ≡ content_means content.kind (take (content.count * unit_size content.kind)
           (drop (place + content.start) bytes))))
-      by (tag.Long content) h = (
+      by tag.Long h = (
         omega (arith, h.0, near),
         IfSome_then known is (λ bytes is fits.
+            let content = last.content in
             let n = content.count * unit_size content.kind in
             let front = drop place (take bounds.trailer bytes) in
             let cut = known_front (Some bytes) seen seen bounds.trailer place _ near (omega arith)

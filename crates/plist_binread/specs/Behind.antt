@@ -2,6 +2,8 @@
 -- trailer, and those of one object.
 use Rattle.std.specs.Prelude.{◌≡◌, ℕ, ◌+◌, ◌*◌, ◌<◌, ◌≤◌, List, [], ◌++◌, length, take, drop, Option, Some, Result, Err, IfSome, MatchResult}
 use Rattle.plist_base.specs.declared.error.Error.{Error}
+use Rattle.plist_base.specs.Outcomes.{DecodesBy, IfRefused}
+use Rattle.plist_base.specs.Sources.{IsIoWithin}
 use Rattle.plist_base.specs.Faults.{Fault, IsFromOutside}
 use Rattle.plist_base.specs.declared.real.RealBits.TheVariants.{Four, Eight}
 use Rattle.plist_base.specs.Trees.{Data, Real, Uid}
@@ -40,6 +42,14 @@ abbrev pub AreNumbersAt : (place width count : ℕ) → List ℕ → Vec ℕ Glo
 AreNumbersAt place width count bytes numbers =
     place + count * width ≤ length bytes
     → numbers.items ≡ numbers_spelled width (take (count * width) (drop place bytes))
+
+-- the number of this width at a place is read, or where it is there, the device failed
+abbrev pub ReadsNumber : Result ℕ Error → (known : Option (List ℕ)) → (place width : ℕ) → Type 0
+ReadsNumber answer known place width =
+    DecodesBy answer known (λ bytes. number_at bytes place width)
+
+abbrev pub MissesNumber : Result ℕ Error → (known : Option (List ℕ)) → (place width : ℕ) → Type 0
+MissesNumber answer known place width = IfRefused answer known (IsIoWithin place width)
 
 -- ---- what the content of an object of a fixed size means
 

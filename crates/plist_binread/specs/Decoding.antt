@@ -42,7 +42,7 @@ single_in object = single (scalar_in object)
 
 -- what was decoded is this object: the scalar that is told, or a collection whose start is told
 abbrev pub IsDecodedAs : Object → (told : PlainEvent) → Lent → Type 0
-IsDecodedAs object told (lent.Long content) = ⊥
+IsDecodedAs object told lent.Long = ⊥
 IsDecodedAs object told lent.TooLarge = ⊥
 IsDecodedAs object told lent.Null = ⊥
 IsDecodedAs object told lent.Fill = ⊥

@@ -17,7 +17,7 @@ use Rattle.plist_format.specs.Unfolding.{until_fault}
 -- what was lent is this object: the scalar that is told, a collection whose start is told, or a
 -- fault
 abbrev pub IsLentAs : Object → (told : PlainEvent) → Lent → Type 0
-IsLentAs object told (lent.Long content) = Unit {0}
+IsLentAs object told lent.Long = Unit {0}
 IsLentAs object told lent.TooLarge = object ≡ Faulty ObjectOffsetTooLarge
 IsLentAs object told lent.Null = object ≡ Faulty NullObjectUnimplemented
 IsLentAs object told lent.Fill = object ≡ Faulty FillObjectUnimplemented
@@ -32,7 +32,7 @@ IsLentAs object told (lent.Collection count) = IsCollection object told count
 
 -- how many small objects were decoded
 abbrev pub small_lent : Lent → (told : PlainEvent) → ℕ
-small_lent (lent.Long content) told = 0
+small_lent lent.Long told = 0
 small_lent lent.TooLarge told = 0
 small_lent lent.Null told = 0
 small_lent lent.Fill told = 0

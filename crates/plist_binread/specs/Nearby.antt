@@ -13,7 +13,8 @@ use Rattle.plist_binread.specs.declared.head.Bounds.{Bounds}
 use Rattle.plist_binread.specs.Lent.{IsLentAs, small_lent}
 use Rattle.plist_format.specs.Object.{Array, Object, dictionary, length_in, meaning_counted, meaning_of_front, text, text_of_units, wide_text}
 use Rattle.plist_binread.specs.Packed.{content_bytes, is_small_event, scalar_of, single}
-use Rattle.plist_binread.specs.Told.{event_in}
+use Rattle.plist_binread.specs.Told.{answer_in, event_in}
+use Rattle.plist_binread.specs.declared.told.Refused.{Refused}
 use Rattle.plist_binread.specs.declared.lent.Lent.{Lent}
 use Rattle.plist_binread.specs.declared.lent.Lent.TheVariants as lent
 use Rattle.plist_binread.specs.declared.lent.Kind.{Kind}
@@ -119,25 +120,28 @@ RefusesCounted marker size room rest lent =
     → IsLentAs (meaning_counted size meaning (length_in marker (rest ++ more))) told lent
 
 -- it isn't a text or data whose content isn't all seen
-abbrev pub IfLong : Lent → (Content → Type 0) → Type 0
-IfLong (lent.Long content) P = P content
-IfLong lent P = ⊤
-
 abbrev pub IsWhole : Lent → Type 0
-IsWhole lent = IfLong lent (λ _. ⊥)
+IsWhole lent.Long = ⊥
+IsWhole lent = ⊤
 
--- or its content lies before the trailer, and this is its meaning
-abbrev pub LeavesLong : (room : ℕ) → (List ℕ → Object) → (seen : List ℕ) → Lent → Type 0
-LeavesLong room object seen lent = IfLong lent (λ content.
+-- or this is so of its content, which is held
+abbrev pub IfLong : Lent → Last → (Content → Type 0) → Type 0
+IfLong lent.Long last P = P last.content
+IfLong lent last P = ⊤
+
+-- its content lies before the trailer, and this is its meaning
+abbrev pub LeavesLong : (room : ℕ) → (List ℕ → Object) → (seen : List ℕ) → Last → Lent → Type 0
+LeavesLong room object seen last lent = IfLong lent last (λ content.
     (content.start + content.count * unit_size content.kind ≤ room)
     × ((more : List ℕ) → length (seen ++ more) ≡ room → object (seen ++ more)
     ≡ content_means content.kind (take (content.count * unit_size content.kind)
     (drop content.start (seen ++ more)))))
 
 -- the same by what lies behind the marker
-abbrev pub LongBehind : (marker room : ℕ) → (List ℕ → Object) → (rest : List ℕ) → Lent → Type 0
-LongBehind marker room object rest lent =
-    LeavesLong (room + 1) (λ bytes. object (drop 1 bytes)) (marker ∷ rest) lent
+abbrev pub LongBehind : (marker room : ℕ) → (List ℕ → Object) → (rest : List ℕ) → Last → Lent
+    → Type 0
+LongBehind marker room object rest last lent =
+    LeavesLong (room + 1) (λ bytes. object (drop 1 bytes)) (marker ∷ rest) last lent
 
 -- one for a small object that is lent, by which the counter rises
 abbrev pub small_told : Lent → Last → ℕ
@@ -166,9 +170,9 @@ LendsAt known source bounds place last answer = IfSome (known source) (λ bytes.
     (λ error. IsRefusedAs (object_at bounds place bytes) place error))
 
 -- a text or data whose content isn't all seen there lies before the trailer, and this is its object
-abbrev pub LongAt : {E S : Type 0} → (S → Option (List ℕ)) → S → Bounds → (place : ℕ)
+abbrev pub LongAt : {E S : Type 0} → (S → Option (List ℕ)) → S → Bounds → (place : ℕ) → Last
     → Result Lent E → Type 0
-LongAt known source bounds place answer = IfOk answer (λ lent. IfLong lent (λ content.
+LongAt known source bounds place last answer = IfOk answer (λ lent. IfLong lent last (λ content.
     (place + content.start + content.count * unit_size content.kind ≤ bounds.trailer)
     × IfSome (known source) (λ bytes. bounds.trailer ≤ length bytes → object_at bounds place bytes
     ≡ content_means content.kind (take (content.count * unit_size content.kind)
@@ -176,7 +180,7 @@ LongAt known source bounds place answer = IfOk answer (λ lent. IfLong lent (λ 
 
 -- something is wrong with the object, or memory was wanted for it
 abbrev pub is_fault : Lent → Bool
-is_fault (lent.Long content) = false
+is_fault lent.Long = false
 is_fault lent.Scalar = false
 is_fault (lent.Collection count) = false
 is_fault lent = true
@@ -209,11 +213,11 @@ ReadsContent known place content answer = IfSome known (λ bytes.
 
 -- the same where the event is told
 abbrev pub TellsContentAt : (known : Option (List ℕ)) → (place : ℕ) → Content → Last
-    → Result Lent Error → Type 0
+    → Result Lent Refused → Type 0
 TellsContentAt known place content last answer = IfSome known (λ bytes.
     place + content.start + content.count * unit_size content.kind ≤ length bytes
     → DecodesTold (content_means content.kind (take (content.count * unit_size content.kind)
-    (drop (place + content.start) bytes))) place (event_in last) answer)
+    (drop (place + content.start) bytes))) place (event_in last) (answer_in answer last))
 
 -- a scalar that isn't small is told
 abbrev pub IsLargeScalar : Last → Lent → Type 0

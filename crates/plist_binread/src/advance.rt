@@ -19,6 +19,7 @@ use plist_base::Source;
 use std::alloc::Global;
 
 /// Tells the next item of what the open collections owe.
+#[inline(always)]
 pub fn advance<S: Source, C: DecodeCounter>(
     alloc: Global,
     source: &mut S,

@@ -26,6 +26,8 @@ fn no_tags(alloc: Global, count: usize) -> Result<Vec<u8>, Error>
 }
 
 /// Tells the first item of all.
+#[cold]
+#[inline(never)]
 pub fn begin<S: Source, C: DecodeCounter>(
     alloc: Global,
     source: &mut S,

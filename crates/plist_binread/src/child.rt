@@ -1,10 +1,9 @@
 //! The reference of one child, among those of its collection.
 
-ghost use Rattle.std.specs.Prelude.{◌≡◌, ◌^◌, ◌<◌, ◌≤◌, IfErr, IfNone, IfOk, IfSome, OnOk};
-ghost use Rattle.plist_base.specs.Sources.{AnswersIo};
+ghost use Rattle.std.specs.Prelude.{◌≡◌, ◌+◌, ◌-◌, ◌^◌, ◌<◌, ◌≤◌, IfErr, IfNone, IfOk, IfSome, OnOk};
 ghost use Rattle.plist_binread.specs.Lent.{slot_place, slot_of};
 ghost use Rattle.plist_binread.specs.Failures.{ErrWithin};
-ghost use Rattle.plist_binread.specs.Behind.{AsksAt, AsksNothing, FindsSlots, HasNoChildren, HasPairs, IsAskedBehind, IsAskedOf, ShowsLength};
+ghost use Rattle.plist_binread.specs.Behind.{AsksAt, AsksNothing, FindsSlots, HasNoChildren, HasPairs, IsAskedBehind, IsAskedOf, MissesNumber, ReadsNumber, ShowsLength};
 ghost use Rattle.plist_binread.specs.Stepping.{RefusesChildren};
 ghost use Rattle.plist_binread.specs.Told.{AnswersIn, answer_in};
 
@@ -12,7 +11,7 @@ use crate::head::Bounds;
 use crate::lent::lent_length;
 use crate::numbers::{number_at_hand, read_far_number};
 use crate::told::{Last, Refused};
-use plist_base::{Error, ErrorKind, Source, read_exact_at};
+use plist_base::{Source, read_exact_at};
 
 /// Where the references of the collection stand that was asked last.
 #[derive(Clone, Copy)]
@@ -76,28 +75,68 @@ fn ask(seen: &[u8], room: u64, width: usize, place: u64) -> Option<Asked>
 // As many bytes as a marker and a length have at most.
 const LENGTH_END: usize = 10;
 
-// Finds those of the collection at a place.
-fn find_references<S: Source>(source: &mut S, bounds: &Bounds, place: u64) -> Result<Asked, Error>
+// Finds those of the collection at a place by bytes that are read there.
+#[cold]
+#[inline(never)]
+fn read_references<S: Source>(
+    source: &mut S,
+    bounds: &Bounds,
+    place: u64,
+    room: u64,
+    last: &mut Last,
+) -> Result<Asked, Refused>
+    requires place { place < bounds.now.trailer }
+    requires room { room ≡ bounds.now.trailer - place }
     // The answer.
     ensures value { IfOk result (λ asked. asked.place ≡ place) }
-    ensures slots { FindsSlots result (S.known source.old) bounds.now place }
+    ensures slots { FindsSlots (answer_in result last.new) (S.known source.old) bounds.now place }
     // A refusal.
-    ensures fault { ErrWithin place bounds.now.trailer result }
+    ensures fault { ErrWithin place bounds.now.trailer (answer_in result last.new) }
     // The state after it.
     ensures unchanged { S.known source.new ≡ S.known source.old }
-    ensures failures { AnswersIo result (S.failures source.old) (S.failures source.new) }
+    ensures failures { AnswersIn S.failures result last.new source.old source.new }
 {
-    if place >= bounds.trailer {
-        return Err(ErrorKind::ObjectOffsetTooLarge.with_byte_offset(place));
-    }
-    let room = bounds.trailer - place;
     let mut front = [0; LENGTH_END];
     let seen = &mut front[..room.min(LENGTH_END as u64) as usize];
-    read_exact_at(source, place, seen)?;
-    match ask(seen, room, bounds.reference_width, place) {
-        Some(asked) => Ok(asked),
-        None => Err(ErrorKind::ObjectOffsetTooLarge.with_byte_offset(place)),
+    match read_exact_at(source, place, seen) {
+        Ok(()) => match ask(seen, room, bounds.reference_width, place) {
+            Some(asked) => Ok(asked),
+            None => Err(last.exceed(place)),
+        },
+        Err(error) => Err(last.refuse(error)),
     }
+}
+
+// Finds those of the collection at a place.
+#[inline(never)]
+fn find_references<S: Source>(
+    source: &mut S,
+    bounds: &Bounds,
+    place: u64,
+    last: &mut Last,
+) -> Result<Asked, Refused>
+    // The answer.
+    ensures value { IfOk result (λ asked. asked.place ≡ place) }
+    ensures slots { FindsSlots (answer_in result last.new) (S.known source.old) bounds.now place }
+    // A refusal.
+    ensures fault { ErrWithin place bounds.now.trailer (answer_in result last.new) }
+    // The state after it.
+    ensures unchanged { S.known source.new ≡ S.known source.old }
+    ensures failures { AnswersIn S.failures result last.new source.old source.new }
+{
+    if place >= bounds.trailer {
+        return Err(last.exceed(place));
+    }
+    let room = bounds.trailer - place;
+    let near = source.near(place);
+    if near.len() as u64 >= room.min(LENGTH_END as u64) {
+        let seen = &near[..room.min(near.len() as u64) as usize];
+        return match ask(seen, room, bounds.reference_width, place) {
+            Some(asked) => Ok(asked),
+            None => Err(last.exceed(place)),
+        };
+    }
+    read_references(source, bounds, place, room, last)
 }
 
 // The number of a child's reference among those of its collection.
@@ -126,6 +165,7 @@ fn slot_place(asked: &Asked, index: u64, width: usize) -> Option<u64>
 }
 
 // Finds the references of the collection at a place, unless it was asked last.
+#[inline(always)]
 fn ask_of<S: Source>(
     source: &mut S,
     bounds: &Bounds,
@@ -147,16 +187,35 @@ fn ask_of<S: Source>(
     if asked.place == place {
         return Ok(());
     }
-    match find_references(source, bounds, place) {
-        Ok(found) => {
-            *asked = found;
-            Ok(())
-        }
-        Err(error) => Err(last.refuse(error)),
-    }
+    *asked = find_references(source, bounds, place, last)?;
+    Ok(())
+}
+
+// Reads a reference that isn't at hand.
+#[cold]
+#[inline(never)]
+fn read_reference<S: Source>(
+    source: &mut S,
+    place: u64,
+    width: usize,
+    last: &mut Last,
+) -> Result<u64, Refused>
+    requires width { width ≤ 8 }
+    requires fits { place + width < 2 ^ 64 }
+    // The answer.
+    ensures value { ReadsNumber (answer_in result last.new) (S.known source.old) place width }
+    // A refusal.
+    ensures refused { MissesNumber (answer_in result last.new) (S.known source.old) place width }
+    ensures fault { ErrWithin place (place + width) (answer_in result last.new) }
+    // The state after it.
+    ensures unchanged { S.known source.new ≡ S.known source.old }
+    ensures failures { AnswersIn S.failures result last.new source.old source.new }
+{
+    last.note(read_far_number(source, place, width))
 }
 
 /// Finds the number of a child of the collection at a place.
+#[inline(always)]
 pub fn read_child<S: Source>(
     source: &mut S,
     bounds: &Bounds,
@@ -181,9 +240,9 @@ pub fn read_child<S: Source>(
         Some(at) if at < bounds.trailer && width as u64 <= bounds.trailer - at => {
             match number_at_hand(source, at, width) {
                 Some(number) => Ok(number),
-                None => last.note(read_far_number(source, at, width)),
+                None => read_reference(source, at, width, last),
             }
         }
-        _ => Err(last.refuse(ErrorKind::ObjectOffsetTooLarge.with_byte_offset(place))),
+        _ => Err(last.exceed(place)),
     }
 }

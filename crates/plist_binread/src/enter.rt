@@ -1,6 +1,7 @@
 //! Entering an object: its first item.
 
 ghost use Rattle.std.specs.Prelude.{◌≡◌, ◌+◌, ◌^◌, ◌<◌, [], ◌∷◌, ◌++◌, length, get_or, true, false, IfOk, IfErr, OnOk, IfSome};
+ghost use Rattle.plist_base.specs.Faults.{ObjectReferenceTooLarge, RecursiveObject, fault_at, fault_of};
 ghost use Rattle.plist_binread.specs.Frames.{frame_of};
 ghost use Rattle.plist_binread.specs.Packed.{is_marked};
 ghost use Rattle.plist_binread.specs.Walking.{IsWalkOf, cached_in, walk_objects};
@@ -20,8 +21,27 @@ use crate::walk::Walk;
 use plist_base::{ErrorKind, Source};
 use std::alloc::Global;
 
+// Holds that no object has the number that is referred to from `at`.
+#[cold]
+#[inline(never)]
+fn refuse_number(last: &mut Last, at: u64) -> Refused
+    ensures { fault_of last.new.fault ≡ fault_at ObjectReferenceTooLarge at }
+{
+    last.refuse(ErrorKind::ObjectReferenceTooLarge.with_byte_offset(at))
+}
+
+// Holds that the object at a place is open.
+#[cold]
+#[inline(never)]
+fn refuse_open(last: &mut Last, place: u64) -> Refused
+    ensures { fault_of last.new.fault ≡ fault_at RecursiveObject place }
+{
+    last.refuse(ErrorKind::RecursiveObject.with_byte_offset(place))
+}
+
 // The place of an object that is about to be entered, referred to from `at`. There is none where it
 // is cached: then it is told.
+#[inline(always)]
 fn look_up(
     tags: &[u8],
     contents: &[u64],
@@ -41,14 +61,12 @@ fn look_up(
     ensures new { IfOk result (λ _. is_marked (get_or tags.now number 0) ≡ false) }
 {
     if number >= tags.len() as u64 {
-        let error = ErrorKind::ObjectReferenceTooLarge.with_byte_offset(at);
-        return Err(last.refuse(error));
+        return Err(refuse_number(last, at));
     }
     let tag = tags[number as usize];
     let content = contents[number as usize];
     if tag >= 128 {
-        let error = ErrorKind::RecursiveObject.with_byte_offset(content);
-        return Err(last.refuse(error));
+        return Err(refuse_open(last, content));
     }
     if tag == 0 {
         return Ok(Some(content));
@@ -56,7 +74,7 @@ fn look_up(
     if last.recall(tag, content) {
         return Ok(None);
     }
-    Err(last.refuse(ErrorKind::OutOfMemory.without_position()))
+    Err(last.want_memory())
 }
 
 // Opens a collection of so many children, if there is room.
@@ -85,7 +103,7 @@ fn open_lent(walk: &mut Walk, number: u64, lent: Lent, last: &Last) -> bool
     ensures unchanged { result ≡ false → IsUnchanged walk.old walk.new }
 {
     match lent {
-        Lent::Long(_)
+        Lent::Long
         | Lent::TooLarge
         | Lent::Null
         | Lent::Fill
@@ -119,6 +137,7 @@ fn open_lent(walk: &mut Walk, number: u64, lent: Lent, last: &Last) -> bool
 }
 
 /// Tells the first item of an object, referred to from `at`. A collection is then open.
+#[inline(always)]
 pub fn enter<S: Source, C: DecodeCounter>(
     alloc: Global,
     source: &mut S,
@@ -158,7 +177,7 @@ pub fn enter<S: Source, C: DecodeCounter>(
             if open_lent(walk, number, lent, last) {
                 return Ok(());
             }
-            Err(last.refuse(ErrorKind::OutOfMemory.without_position()))
+            Err(last.want_memory())
         }
     }
 }

@@ -54,11 +54,11 @@ pub struct Content {
 
 /// What the bytes at an object's front tell of it, or what is wrong with it.
 ///
-/// It is a few numbers, and no more, since one is made for each item.
+/// It is a tag and a number, and no more, since one is made for each item.
 #[derive(Clone, Copy)]
 pub enum Lent {
-    /// A text or data whose content isn't all seen there.
-    Long(Content),
+    /// A text or data whose content isn't all seen there, and is held.
+    Long,
     /// It doesn't end before the trailer.
     TooLarge,
     /// It is a null.
@@ -173,27 +173,29 @@ fn lent_count(marker: u8, rest: &[u8], room: u64, size: u64) -> Result<(u64, &[u
 }
 
 // The content of a text or data, if all of it is seen and it has at most so many bytes.
-fn lent_content_of(
+fn lent_content_of<'a>(
     kind: Kind,
     marker: u8,
-    rest: &[u8],
+    rest: &'a [u8],
     room: u64,
     most: usize,
-) -> Result<&[u8], Lent>
+    last: &mut Last,
+) -> Result<&'a [u8], Lent>
     requires room { length rest.now ≤ room }
     requires far { ReachesFar room rest.now }
     ensures content { IfOk result (IsCounted marker (unit_size kind) room rest.now) }
     ensures size { IfOk result (HasUnits (unit_size kind)) }
     ensures bound { IfOk result (λ content. length content.now ≤ most) }
     ensures refused { IfErr result (RefusesCounted marker (unit_size kind) room rest.now) }
-    ensures long { IfErr result (LongBehind marker room (counted_with kind marker) rest.now) }
+    ensures long { IfErr result (LongBehind marker room (counted_with kind marker) rest.now last.new) }
 {
     let size = kind.unit_size();
     let (count, behind) = lent_count(marker, rest, room, size)?;
     let all = count * size;
     if all > behind.len().min(most) as u64 {
         let start = 1 + (rest.len() - behind.len()) as u64;
-        return Err(Lent::Long(Content { kind, start, count }));
+        last.content = Content { kind, start, count };
+        return Err(Lent::Long);
     }
     Ok(&behind[..all as usize])
 }
@@ -313,9 +315,9 @@ fn lent_data(marker: u8, rest: &[u8], room: u64, last: &mut Last) -> Lent
     requires room { length rest.now ≤ room }
     requires far { ReachesFar room rest.now }
     ensures lent { LendsWhole room (counted_with KindData marker) rest.now (event_in last.new) result }
-    ensures long { LongBehind marker room (counted_with KindData marker) rest.now result }
+    ensures long { LongBehind marker room (counted_with KindData marker) rest.now last.new result }
 {
-    match lent_content_of(Kind::Data, marker, rest, room, usize::MAX) {
+    match lent_content_of(Kind::Data, marker, rest, room, usize::MAX, last) {
         Ok(bytes) => last.tell_data(bytes),
         Err(lent) => lent,
     }
@@ -325,9 +327,9 @@ fn lent_text(marker: u8, rest: &[u8], room: u64, last: &mut Last) -> Lent
     requires room { length rest.now ≤ room }
     requires far { ReachesFar room rest.now }
     ensures lent { LendsWhole room (counted_with KindText marker) rest.now (event_in last.new) result }
-    ensures long { LongBehind marker room (counted_with KindText marker) rest.now result }
+    ensures long { LongBehind marker room (counted_with KindText marker) rest.now last.new result }
 {
-    match lent_content_of(Kind::Text, marker, rest, room, usize::MAX) {
+    match lent_content_of(Kind::Text, marker, rest, room, usize::MAX, last) {
         Ok(bytes) => last.tell_text(bytes),
         Err(lent) => lent,
     }
@@ -340,9 +342,9 @@ fn lent_wide_text(marker: u8, rest: &[u8], room: u64, last: &mut Last) -> Lent
     requires room { length rest.now ≤ room }
     requires far { ReachesFar room rest.now }
     ensures lent { LendsWhole room (counted_with KindWideText marker) rest.now (event_in last.new) result }
-    ensures long { LongBehind marker room (counted_with KindWideText marker) rest.now result }
+    ensures long { LongBehind marker room (counted_with KindWideText marker) rest.now last.new result }
 {
-    match lent_content_of(Kind::WideText, marker, rest, room, 2 * UNITS) {
+    match lent_content_of(Kind::WideText, marker, rest, room, 2 * UNITS, last) {
         Ok(bytes) => {
             let mut all = [0; UNITS];
             let units = &mut all[..bytes.len() / 2];
@@ -391,7 +393,7 @@ fn lent_behind(marker: u8, rest: &[u8], room: u64, width: usize, last: &mut Last
     requires far { ReachesFar room rest.now }
     requires width { (0 < width) × (width ≤ 8) }
     ensures lent { LendsWhole room (object_with width marker) rest.now (event_in last.new) result }
-    ensures long { LongBehind marker room (object_with width marker) rest.now result }
+    ensures long { LongBehind marker room (object_with width marker) rest.now last.new result }
 {
     match marker {
         0x00 => Lent::Null,
@@ -440,7 +442,7 @@ pub fn decode_lent<C: DecodeCounter>(
     requires some { 0 < room }
     requires width { (0 < width) × (width ≤ 8) }
     ensures lent { LendsWhole room (object_in width) seen.now (event_in last.new) result }
-    ensures long { LeavesLong room (object_in width) seen.now result }
+    ensures long { LeavesLong room (object_in width) seen.now last.new result }
     ensures counted { CountsLent C.counts C.count counter.old counter.new result last.new }
 {
     match seen.split_first() {

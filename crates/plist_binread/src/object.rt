@@ -13,7 +13,7 @@ ghost use Rattle.plist_binread.specs.Told.{AnswersIn, answer_in};
 
 use crate::counter::DecodeCounter;
 use crate::head::Bounds;
-use crate::lent::{Content, Lent, decode_lent};
+use crate::lent::{Lent, decode_lent};
 use crate::text::read_long;
 use crate::told::{Last, Refused};
 use plist_base::{Error, ErrorKind, Source, read_exact_at};
@@ -36,7 +36,7 @@ fn fault_kind(lent: Lent) -> ErrorKind
         Lent::NoDate => ErrorKind::OverflowOrNanDate,
         Lent::NotUtf8 => ErrorKind::InvalidUtf8String,
         Lent::NotUtf16 => ErrorKind::InvalidUtf16String,
-        Lent::Long(_) | Lent::NoMemory | Lent::Scalar | Lent::Collection(_) => unreachable!(),
+        Lent::Long | Lent::NoMemory | Lent::Scalar | Lent::Collection(_) => unreachable!(),
     }
 }
 
@@ -71,26 +71,29 @@ fn read_front<S: Source, C: DecodeCounter>(
     place: u64,
     room: u64,
     last: &mut Last,
-) -> Result<Lent, Error>
+) -> Result<Lent, Refused>
     requires place { place < bounds.now.trailer }
     requires room { room ≡ bounds.now.trailer - place }
     // The answer.
-    ensures lent { LendsAt S.known source.old bounds.now place last.new result }
-    ensures long { LongAt S.known source.old bounds.now place result }
+    ensures lent { LendsAt S.known source.old bounds.now place last.new (answer_in result last.new) }
+    ensures long { LongAt S.known source.old bounds.now place last.new result }
     // A refusal.
-    ensures fault { ErrWithin place bounds.now.trailer result }
+    ensures fault { ErrWithin place bounds.now.trailer (answer_in result last.new) }
     // The state after it.
     ensures counted { CountsFound C.counts C.count counter.old counter.new result last.new }
     ensures unchanged { S.known source.new ≡ S.known source.old }
-    ensures failures { AnswersIo result (S.failures source.old) (S.failures source.new) }
+    ensures failures { AnswersIn S.failures result last.new source.old source.new }
 {
     let mut front = [0; FRONT];
     let seen = &mut front[..room.min(FRONT as u64) as usize];
-    read_exact_at(source, place, seen)?;
-    Ok(decode_lent(seen, room, bounds.reference_width, counter, last))
+    match read_exact_at(source, place, seen) {
+        Ok(()) => Ok(decode_lent(seen, room, bounds.reference_width, counter, last)),
+        Err(error) => Err(last.refuse(error)),
+    }
 }
 
 // Decodes the object at a place by the bytes of its front.
+#[inline(always)]
 fn decode_front<S: Source, C: DecodeCounter>(
     source: &mut S,
     counter: &mut C,
@@ -101,7 +104,7 @@ fn decode_front<S: Source, C: DecodeCounter>(
     requires place { place < bounds.now.trailer }
     // The answer.
     ensures lent { LendsAt S.known source.old bounds.now place last.new (answer_in result last.new) }
-    ensures long { LongAt S.known source.old bounds.now place result }
+    ensures long { LongAt S.known source.old bounds.now place last.new result }
     // A refusal.
     ensures fault { ErrWithin place bounds.now.trailer (answer_in result last.new) }
     // The state after it.
@@ -115,36 +118,53 @@ fn decode_front<S: Source, C: DecodeCounter>(
         let seen = &near[..room.min(near.len() as u64) as usize];
         return Ok(decode_lent(seen, room, bounds.reference_width, counter, last));
     }
-    let answer = read_front(source, counter, bounds, place, room, last);
-    last.note(answer)
+    read_front(source, counter, bounds, place, room, last)
 }
 
-// Reads the text or data of this content, of the object at a place, and tells it.
+// Reads the text or data whose content is held, of the object at a place, and tells it.
 #[cold]
 #[inline(never)]
 fn tell_long<S: Source>(
     alloc: Global,
     source: &mut S,
     place: u64,
-    content: Content,
     last: &mut Last,
-) -> Result<Lent, Error>
-    requires fits { EndsIn64Bits place content }
+) -> Result<Lent, Refused>
+    requires fits { EndsIn64Bits place last.old.content }
     // The answer.
-    ensures told { TellsContentAt (S.known source.old) place content last.new result }
+    ensures told { TellsContentAt (S.known source.old) place last.old.content last.new result }
     ensures large { IfOk result (IsLargeScalar last.new) }
     // A refusal.
-    ensures fault { FailsInContent place content result }
+    ensures fault { FailsInContent place last.old.content (answer_in result last.new) }
     // The state after it.
     ensures unchanged { S.known source.new ≡ S.known source.old }
-    ensures failures { AnswersIo result (S.failures source.old) (S.failures source.new) }
+    ensures failures { AnswersIn S.failures result last.new source.old source.new }
 {
-    let event = read_long(alloc, source, place, content)?;
-    last.hold(event);
-    Ok(Lent::Scalar)
+    match read_long(alloc, source, place, last.content) {
+        Ok(event) => {
+            last.hold(event);
+            Ok(Lent::Scalar)
+        }
+        Err(error) => Err(last.refuse(error)),
+    }
+}
+
+// Holds the fault of the object at a place.
+#[cold]
+#[inline(never)]
+fn refuse_object(lent: Lent, place: u64, last: &mut Last) -> Refused
+    requires { is_fault lent ≡ true }
+    ensures refused { (object : Object) (told : PlainEvent) → IsLentAs object told lent
+        → IsRefusedAs object place last.new.fault }
+    ensures fault { (end : ℕ) → FailsWithin place end (fault_of last.new.fault) }
+    ensures failures { (count : ℕ) → CountsIo last.new.fault count count }
+    ensures small { (told : PlainEvent) → small_lent lent told ≡ 0 }
+{
+    last.refuse(object_fault(lent, place))
 }
 
 /// Tells the object at a place, and counts it where it is small.
+#[inline(always)]
 pub fn decode<S: Source, C: DecodeCounter>(
     alloc: Global,
     source: &mut S,
@@ -163,15 +183,12 @@ pub fn decode<S: Source, C: DecodeCounter>(
     ensures failures { AnswersIn S.failures result last.new source.old source.new }
 {
     if place >= bounds.trailer {
-        return Err(last.refuse(ErrorKind::ObjectOffsetTooLarge.with_byte_offset(place)));
+        return Err(last.exceed(place));
     }
     let lent = decode_front(source, counter, bounds, place, last)?;
     match lent {
         Lent::Scalar | Lent::Collection(_) => Ok(lent),
-        Lent::Long(content) => {
-            let answer = tell_long(alloc, source, place, content, last);
-            last.note(answer)
-        }
-        _ => Err(last.refuse(object_fault(lent, place))),
+        Lent::Long => tell_long(alloc, source, place, last),
+        _ => Err(refuse_object(lent, place, last)),
     }
 }

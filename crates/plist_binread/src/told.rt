@@ -2,6 +2,7 @@
 
 ghost use Rattle.std.specs.Prelude.{◌≡◌, ◌<◌, Some, true, false, IfSome};
 ghost use Rattle.plist_base.specs.Events.{Single, event_of};
+ghost use Rattle.plist_base.specs.Faults.{ObjectOffsetTooLarge, OutOfMemory, fault_at, fault_nowhere, fault_of};
 ghost use Rattle.plist_base.specs.Trees.{Boolean as BooleanScalar, Integer as IntegerScalar};
 ghost use Rattle.plist_binread.specs.declared.lent.Lent.TheVariants.{Scalar as ScalarLent};
 ghost use Rattle.plist_format.specs.Object.{signed};
@@ -9,7 +10,7 @@ ghost use Rattle.plist_binread.specs.Packed.{MayWantMemory, cached, is_small_eve
 ghost use Rattle.plist_binread.specs.Told.{answer_in, event_in, event_with, is_lent};
 ghost use Rattle.plist_binread.specs.Nearby.{PacksEvent, TellsData, TellsText, TellsUnits};
 
-use crate::lent::Lent;
+use crate::lent::{Content, Kind, Lent};
 use crate::packed::{is_small, pack, pack_bytes, pack_text};
 use plist_base::{Error, ErrorKind, Event, Integer, OwnedEvent, RealBits, Uid};
 use std::alloc::Global;
@@ -80,6 +81,8 @@ pub struct Last {
     pub text: String,
     /// Data.
     pub data: Vec<u8>,
+    /// The content of a text or data that isn't all seen with its object's front.
+    pub content: Content,
     /// The error of a step that was refused.
     pub fault: Error,
     /// Where room for a text of units comes from.
@@ -112,6 +115,11 @@ impl Last {
             held: Event::EndCollection,
             text: String::new(alloc),
             data: Vec::new(alloc),
+            content: Content {
+                kind: Kind::Data,
+                start: 0,
+                count: 0,
+            },
             fault: ErrorKind::OutOfMemory.without_position(),
             alloc,
         }
@@ -125,6 +133,26 @@ impl Last {
     {
         self.fault = error;
         Refused
+    }
+
+    /// Holds that memory was wanted.
+    #[cold]
+    #[inline(never)]
+    pub fn want_memory(&mut self) -> Refused
+        ensures fault { fault_of self.new.fault ≡ fault_nowhere OutOfMemory }
+        ensures unchanged { event_in self.new ≡ event_in self.old }
+    {
+        self.refuse(ErrorKind::OutOfMemory.without_position())
+    }
+
+    /// Holds that the object at a place doesn't end before the trailer.
+    #[cold]
+    #[inline(never)]
+    pub fn exceed(&mut self, place: u64) -> Refused
+        ensures fault { fault_of self.new.fault ≡ fault_at ObjectOffsetTooLarge place }
+        ensures unchanged { event_in self.new ≡ event_in self.old }
+    {
+        self.refuse(ErrorKind::ObjectOffsetTooLarge.with_byte_offset(place))
     }
 
     /// The same answer, whose error is held here if it is one.

@@ -1,23 +1,21 @@
-use Rattle.std.proofs.Common.{rules, Err, sym, arith}
-use Rattle.std.proofs.Math.Seq.{take-length}
+use Rattle.std.proofs.Common.{rules, Err, refl, arith}
 use Rattle.plist_binread.proofs.Children.{known_asks, known_beyond, known_childless}
-use Rattle.plist_binread.proofs.Lending.{known_front}
+use Rattle.plist_binread.proofs.Lending.{known_front, known_prefix}
 use Rattle.plist_binread.proofs.child.find_references.Goals as goal
 
 pub returns-then-place-bounds-clause-slots : goal.returns-then-place-bounds-clause-slots
 returns-then-place-bounds-clause-slots g c = λ index.
-    known_beyond _ c.args.bounds.now _ _ (Err c.with_byte_offset.result)
-    c.if-place-bounds.true
+    known_beyond _ c.args.bounds.now _ _ (Err c.exceed.new.self.fault) c.if-place-bounds.true
 
 pub returns-in-Some-clause-slots : goal.returns-in-Some-clause-slots
 returns-in-Some-clause-slots g c =
     known_asks _ c.args.bounds.now _ _ _ c.in-Some.ensures.place
-    (known_front _ c.read_exact_at.new.buf c.read_exact_at.new.buf _ _ _ (search rules) (omega arith)
-    (sym (take-length _)) c.in_ok-read_exact_at.ensures.bytes)
+    (known_front _ c.near-near.result.now _ _ _ _ (omega arith) (omega arith) refl
+    c.near-near.ensures.bytes)
     c.in-Some.ensures.slots
 
 pub returns-in-None-clause-slots : goal.returns-in-None-clause-slots
 returns-in-None-clause-slots g c = λ index.
-    known_childless _ c.args.bounds.now c.args.place index c.read_exact_at.new.buf
-    (Err c.with_byte_offset-in-None.result) (search rules) c.in_ok-read_exact_at.ensures.bytes
-    c.in-None.ensures.none
+    known_childless _ c.args.bounds.now c.args.place index _
+    (Err c.exceed-in-None.new.self.fault) (search rules)
+    (known_prefix _ _ _ _ (omega arith) c.near-near.ensures.bytes) c.in-None.ensures.none

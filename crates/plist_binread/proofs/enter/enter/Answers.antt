@@ -68,7 +68,7 @@ returns-then-open_lent-clause-kept g c =
 
 pub returns-else-open_lent-clause-pays : goal.returns-else-open_lent-clause-pays
 returns-else-open_lent-clause-pays g c =
-    rw c.refuse.ensures.fault (known_refused _ _ _ _ _ _ c.args.at c.args.number
+    known_refused _ _ _ _ _ _ c.args.at c.args.number
     c.in-Some.place _ (sym (length-reverse c.args.walk.now.frames)) c.args.walk.now.path
     c.requires.known (rw c.as_slice.ensures.value at c.in_ok-found.ensures.below)
     (rw c.as_slice.ensures.value at c.in_ok-found.ensures.new)
@@ -76,5 +76,5 @@ returns-else-open_lent-clause-pays g c =
     c.in_ok-found.ensures.found)
     (known_full _ c.args.bounds.now.trailer c.in-Some.place
     (object_at c.args.bounds.now c.in-Some.place) (event_in c.decode.new.last)
-    c.in_ok-lent-in-Some.lent c.without_position.result c.without_position.ensures.fault
-    (c.open_lent.ensures.wanted c.if-open_lent.false) c.in_ok-lent-in-Some.ensures.decoded))
+    c.in_ok-lent-in-Some.lent c.want_memory.new.self.fault c.want_memory.ensures.fault
+    (c.open_lent.ensures.wanted c.if-open_lent.false) c.in_ok-lent-in-Some.ensures.decoded)

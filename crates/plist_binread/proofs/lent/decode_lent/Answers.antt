@@ -25,5 +25,5 @@ returns-else-is_small_lent-clause-lent g c =
 
 pub returns-else-is_small_lent-clause-long : goal.returns-else-is_small_lent-clause-long
 returns-else-is_small_lent-clause-long g c =
-    long_behind c.args.width _ c.args.room c.args.seen.now c.in-Some.rest.now _
+    long_behind c.args.width _ c.args.room c.args.seen.now c.in-Some.rest.now _ _
     c.in-Some.ensures.cases.0 c.requires.some c.lent_behind-lent.ensures.long

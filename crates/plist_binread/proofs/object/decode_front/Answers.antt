@@ -1,6 +1,6 @@
-use Rattle.std.proofs.Common.{rules, ◌∙◌, ap, arith, sym, ◌+◌}
+use Rattle.std.proofs.Common.{rules, arith}
 use Rattle.plist_binread.specs.Told.{event_in}
-use Rattle.plist_binread.proofs.Lending.{known_prefix, noted_small, seen_lends, seen_long}
+use Rattle.plist_binread.proofs.Lending.{known_prefix, seen_lends, seen_long}
 use Rattle.plist_binread.proofs.object.decode_front.Goals as goal
 
 pub returns-then-near-min-clause-lent : goal.returns-then-near-min-clause-lent
@@ -13,15 +13,4 @@ pub returns-then-near-min-clause-long : goal.returns-then-near-min-clause-long
 returns-then-near-min-clause-long g c =
     seen_long _ c.args.bounds.now c.args.place _ (search rules)
     (known_prefix _ _ _ _ (omega arith) c.near-near.ensures.bytes) c.decode_lent.result
-    c.decode_lent.ensures.long
-
-pub returns-clause-lent : goal.returns-clause-lent
-returns-clause-lent g c =
-    rw (c.note.ensures.answer, c.note.ensures.unchanged) c.read_front-answer.ensures.lent
-
-pub returns-clause-counted : goal.returns-clause-counted
-returns-clause-counted g c = λ counts.
-    c.read_front-answer.ensures.counted counts
-    ∙ ap (λ n. g.C.DecodeCounter.count c.args.counter.now + n)
-    (sym (noted_small c.note.result c.note.new.self c.read_front-answer.new.last
-    c.read_front-answer.result c.note.ensures.answer c.note.ensures.unchanged))
+    c.decode_lent.new.last c.decode_lent.ensures.long
