@@ -16,7 +16,7 @@ use Rattle.plist_format.specs.Unfolding.{table_of, items_of, unfolding_of, until
 use Rattle.plist_binread.specs.declared.head.Bounds.{Bounds}
 use Rattle.plist_binread.specs.Debt.{path_of, owed_by, entries_of, places_with, places_of, IsHeld, IsKnown, IsOwed, WantsMemory}
 use Rattle.plist_binread.specs.Beginning.{RefusesFirst}
-use Rattle.plist_binread.specs.Lent.{PaysAnswer}
+use Rattle.plist_binread.specs.Outcome.{PaysAnswer}
 use Rattle.plist_binread.specs.inner.Heads.{head_seen}
 use Rattle.plist_binread.proofs.Steps.{items_beyond, items_step, owed_at}
 use Rattle.plist_format.proofs.Tables.{slice_get-within, slice_get-beyond}

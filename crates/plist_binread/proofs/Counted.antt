@@ -1,4 +1,4 @@
--- A length that is lent, and what lies behind it.
+-- A length, and what lies behind it.
 use Rattle.std.proofs.Common.{◌≡◌, ℕ, suc, ◌-◌, ◌*◌, ◌%◌, ◌^◌, ◌<◌, ◌≤◌, List, [], ◌∷◌, ◌++◌, length, take, drop, None, Some, refl, ap, ◌∙◌, arith}
 use Rattle.std.proofs.lemmas.Bool.{le-leb}
 use Rattle.std.proofs.lemmas.List.{append-nil, length-append, length-drop, take_all, take-append-le, drop-append-le}
@@ -15,9 +15,9 @@ tail_whole w xs = take_all (length xs - w) (drop w xs) (omega (arith, length-dro
 
 module _ (m byte w : ℕ) (rest behind : List ℕ) (beyond : 15 ≤ m % 16) (is : rest ≡ byte ∷ behind)
     (width : w ≡ 2 ^ (byte % 4)) where
-  pub length_lent : (tail more : List ℕ) → w ≤ length behind → tail ≡ drop w behind
+  pub length_front : (tail more : List ℕ) → w ≤ length behind → tail ≡ drop w behind
       → length_in m (rest ++ more) ≡ Some (number_of (take w behind), tail ++ more)
-  length_lent tail more h cut =
+  length_front tail more h cut =
       let enough : w ≤ length (behind ++ more) = omega (arith, length-append behind more) in
       length_beyond m (rest ++ more) beyond
       ∙ rw (

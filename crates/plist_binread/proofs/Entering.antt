@@ -1,21 +1,21 @@
--- Entering an object that is lent.
+-- Entering an object.
 use Rattle.std.proofs.Common.{◌≡◌, ℕ, ◌-◌, ◌<◌, ◌≤◌, false, List, ◌++◌, length, take, drop, get_or, Option, None, Some, Result, Ok, IfSome, ap, sym, ◌∙◌}
 use Rattle.std.specs.List.{slice_get}
 use Rattle.plist_base.specs.Events.{PlainEvent}
 use Rattle.plist_base.specs.declared.error.Error.{Error}
-use Rattle.plist_binread.specs.Behind.{AsksAt, object_at}
+use Rattle.plist_binread.specs.Reading.{ReadsChildAt, object_at}
 use Rattle.plist_binread.specs.declared.frames.Frame.{Frame}
 use Rattle.plist_binread.specs.declared.walk.Turn.TheVariants.{Child}
-use Rattle.plist_binread.specs.declared.lent.Lent.{Lent}
+use Rattle.plist_binread.specs.declared.front.Outcome.{Outcome}
 use Rattle.plist_binread.specs.declared.head.Bounds.{Bounds}
 use Rattle.plist_binread.specs.Debt.{IsOpen, IsKnown, next_number, children_at, entries_of, owed_by, path_of}
 use Rattle.plist_binread.specs.Turning.{IsKeptTold, ReadsChild}
 use Rattle.plist_binread.specs.Decoding.{IsDecodedAs}
-use Rattle.plist_binread.specs.Lent.{IsLentAs, PaysAnswer, PaysTold}
+use Rattle.plist_binread.specs.Outcome.{IsOutcomeOf, PaysAnswer, PaysTold}
 use Rattle.plist_format.specs.Object.{Object, object_in}
 use Rattle.plist_binread.specs.Packed.{is_marked, unmarked, cached, single}
 use Rattle.plist_format.specs.Unfolding.{Entry, unfolding_of}
-use Rattle.plist_binread.proofs.Known.{Entered, as_many, entry_of, entry_there, held_place, held_scalar, lent_as, place_is}
+use Rattle.plist_binread.proofs.Known.{Entered, as_many, entry_of, entry_there, held_place, held_scalar, outcome_as, place_is}
 use Rattle.plist_binread.specs.Told.{event_in}
 use Rattle.plist_binread.specs.Walking.{open_in, owed_in}
 use Rattle.plist_binread.specs.declared.told.Last.{Last}
@@ -37,11 +37,11 @@ pub from_any : (known : Option (List ℕ)) (P : List ℕ → ℕ → Type 0) (at
     → IfSome known (λ bytes. (at : ℕ) → P bytes at) → IfSome known (λ bytes. P bytes at)
 from_any known P at h = IfSome_then known h (λ bytes h. h at)
 
--- the object of a number is what is lent at its place
-abbrev pub LentAt : (bytes : List ℕ) (bounds : Bounds) (number : ℕ) → PlainEvent → Lent → Type 0
-LentAt bytes bounds number told lent =
+-- the object of a number is what was decoded at its place
+abbrev pub OutcomeAt : (bytes : List ℕ) (bounds : Bounds) (number : ℕ) → PlainEvent → Outcome → Type 0
+OutcomeAt bytes bounds number told outcome =
     (slice_get (entries_of bytes bounds) number ≡ Some (entry_of bytes bounds number))
-    × IsLentAs (entry_of bytes bounds number).object told lent
+    × IsOutcomeOf (entry_of bytes bounds number).object told outcome
 
 module _ (known : Option (List ℕ)) (bounds : Bounds) (tags contents : List ℕ)
     (fs : List Frame) where
@@ -66,34 +66,34 @@ module _ (known : Option (List ℕ)) (bounds : Bounds) (tags contents : List ℕ
       (ap single (held_scalar bytes bounds tags contents fs k number h some) ∙ is))
 
   -- the object of a number is what is decoded at its place
-  pub known_decoded : (number place : ℕ) (told : PlainEvent) (lent : Lent) → Knows
+  pub known_decoded : (number place : ℕ) (told : PlainEvent) (outcome : Outcome) → Knows
       → number < length tags → IsPlaceOf number place → IfSome known (λ bytes.
       bounds.trailer ≤ length bytes → IsDecodedAs
-      (object_in bounds.reference_width (drop place (take bounds.trailer bytes))) told lent)
-      → IfSome known (λ bytes. LentAt bytes bounds number told lent)
-  known_decoded number place told lent k h is decoded =
+      (object_in bounds.reference_width (drop place (take bounds.trailer bytes))) told outcome)
+      → IfSome known (λ bytes. OutcomeAt bytes bounds number told outcome)
+  known_decoded number place told outcome k h is decoded =
       IfSome-both known k decoded (λ bytes k decoded. (
         entry_there bytes bounds tags contents fs k number h,
-        lent_as _ told lent
+        outcome_as _ told outcome
             (rw (place_is bytes bounds tags contents fs k number place h is) at (decoded k.within)),
       ))
 
   -- what holds of it holds then
-  pub known_gains : (number : ℕ) (told : PlainEvent) (lent : Lent)
+  pub known_gains : (number : ℕ) (told : PlainEvent) (outcome : Outcome)
       (P Q : List ℕ → Bounds → Type 0) → Knows
-      → IfSome known (λ bytes. LentAt bytes bounds number told lent)
+      → IfSome known (λ bytes. OutcomeAt bytes bounds number told outcome)
       → ((bytes : List ℕ) (bounds : Bounds) (entry : Entry)
       → IsKnown bytes bounds tags contents fs
-      → slice_get (entries_of bytes bounds) number ≡ Some entry → IsLentAs entry.object told lent
+      → slice_get (entries_of bytes bounds) number ≡ Some entry → IsOutcomeOf entry.object told outcome
       → P bytes bounds × Q bytes bounds)
       → IfSome known (λ bytes. P bytes bounds × Q bytes bounds)
-  known_gains number told lent P Q k there gains = IfSome-both _ k there (λ bytes k there.
+  known_gains number told outcome P Q k there gains = IfSome-both _ k there (λ bytes k there.
       gains _ bounds (entry_of bytes bounds number) k there.0 there.1)
 
 pub known_small : (known : Option (List ℕ)) (bounds : Bounds) (number : ℕ) (told : PlainEvent)
-    (lent : Lent) (X : Type 0) → IfSome known (λ bytes. LentAt bytes bounds number told lent)
-    → ((object : Object) → IsLentAs object told lent → X) → IfSome known (λ bytes. X)
-known_small known bounds number told lent X there kept =
+    (outcome : Outcome) (X : Type 0) → IfSome known (λ bytes. OutcomeAt bytes bounds number told outcome)
+    → ((object : Object) → IsOutcomeOf object told outcome → X) → IfSome known (λ bytes. X)
+known_small known bounds number told outcome X there kept =
     IfSome_then _ there (λ bytes there. kept _ there.1)
 
 -- ---- a child that is entered
@@ -113,7 +113,7 @@ pub known_goes : (known now : Option (List ℕ)) (bounds : Bounds) (tags content
     (fs after : List Frame) (n place index number : ℕ) (answer : Result (Unit {0}) Error)
     (told : PlainEvent) → now ≡ known → n ≡ length fs
     → IfSome known (λ bytes. IsKnown bytes bounds tags contents fs)
-    → AsksAt (Ok number) known bounds place index
+    → ReadsChildAt (Ok number) known bounds place index
     → IfSome now (λ bytes. IsKeptTold (Some number) (Some answer) told new)
     → IfSome now (λ bytes. Entered bytes bounds tags n fs place number answer told after)
     → IfSome known (λ bytes. EntersChild (entries_of bytes bounds) (object_at bounds place bytes)

@@ -1,8 +1,8 @@
 -- Where the faults of a reader are.
-use Rattle.std.proofs.Common.{◌≡◌, ℕ, ◌+◌, ◌≤◌, Option, None, Some, Result, Ok, Err, arith, ap, refl}
+use Rattle.std.proofs.Common.{◌≡◌, ℕ, ◌+◌, ◌≤◌, Option, None, Some, Result, Ok, Err, arith, ap}
 use Rattle.std.specs.Prelude.{⊤}
 use Rattle.plist_base.specs.declared.error.Error.{Error}
-use Rattle.plist_base.specs.Faults.{FaultKind, Fault, MatchFault, UnexpectedEof, Io, OutOfMemory, error_kind_of, fault_at, fault_nowhere, fault_of, kind_of}
+use Rattle.plist_base.specs.Faults.{FaultKind, Fault, MatchFault, UnexpectedEof, Io, OutOfMemory, error_kind_of, fault_at, fault_of, kind_of}
 use Rattle.plist_base.specs.Sources.{CountsIo, FailsReading, IsPlaceWithin, IsReadFault}
 use Rattle.plist_base.proofs.Refusals.{MatchFault-at, MatchFault-weaker}
 use Rattle.plist_binread.specs.Failures.{MatchReader, FailsWithin, ErrWithin}
@@ -56,24 +56,6 @@ from_fault fault kind place s e is other =
     MatchReader-other Io A B h = absurd h
     MatchReader-other OutOfMemory A B h = absurd h
     MatchReader-other kind A B h = h
-
--- want of memory
-pub from_memory : (fault : Fault) (s e : ℕ) → fault ≡ fault_nowhere OutOfMemory
-    → FailsWithin s e fault
-from_memory fault s e is = rw is (record { placed = refl })
-
--- no device failed
-pub counts_inside : (error : Error) (old new : ℕ)
-    → MatchFault (kind_of (error_kind_of error)) ⊥ ⊤ ⊤ → new ≡ old → CountsIo error old new
-counts_inside error old new inside same =
-    MatchFault-weaker (kind_of (error_kind_of error)) (λ none. absurd none) (λ _. same) (λ _. same)
-    inside
-
-pub counts_memory : (error : Error) (old new : ℕ) → fault_of error ≡ fault_nowhere OutOfMemory
-    → new ≡ old → CountsIo error old new
-counts_memory error old new is same =
-    counts_inside error old new
-    (MatchFault-at _ OutOfMemory _ _ _ (ap (λ (f : Fault). f.kind) is) tt) same
 
 -- nor was memory wanted
 pub counts_fault : (error : Error) (old new : ℕ)

@@ -10,10 +10,10 @@ use Rattle.plist_base.specs.Events.{PlainEvent, Single, Item}
 use Rattle.plist_base.specs.Trees.{Scalar}
 use Rattle.plist_base.proofs.Refusals.{MatchFault-at, MatchFault-weaker}
 use Rattle.plist_binread.specs.declared.frames.Frame.{Frame}
-use Rattle.plist_binread.specs.declared.lent.Lent.{Lent}
-use Rattle.plist_binread.specs.declared.lent.Lent.TheVariants.{Scalar as ScalarLent, Collection}
-use Rattle.plist_binread.specs.Lent.{IsLentAs, PaysAnswer}
-use Rattle.plist_binread.specs.Stepping.{ExplainsEntering, WantsRoom}
+use Rattle.plist_binread.specs.declared.front.Outcome.{Outcome}
+use Rattle.plist_binread.specs.declared.front.Outcome.TheVariants.{Scalar as ScalarOutcome, Collection}
+use Rattle.plist_binread.specs.Outcome.{IsOutcomeOf, PaysAnswer}
+use Rattle.plist_binread.specs.Step.{WantsRoom}
 use Rattle.plist_binread.specs.declared.head.Bounds.{Bounds}
 use Rattle.plist_format.specs.Object.{Object, object_in}
 use Rattle.plist_binread.specs.Packed.{is_marked, unmarked, scalar_of, cached, single, IsTextOrData, MayWantMemory, Retagged, Remarked}
@@ -247,34 +247,24 @@ known_refused known bounds tags contents fs n at number place e depth o k h free
     h (entry_there bytes bounds tags contents fs k number h) (sym (o.marks number h) ∙ free) e
     (rw (place_is bytes bounds tags contents fs k number place h is) at (refused k.within)))
 
--- an object that can't be entered
-pub known_unfound : (known : Option (List ℕ)) (bounds : Bounds) (tags contents : List ℕ)
-    (fs : List Frame) (n at number : ℕ) (e : Error) → n ≡ length fs → IsOpen tags fs
-    → IfSome known (λ bytes. IsKnown bytes bounds tags contents fs)
-    → ExplainsEntering tags contents at number e
-    → IfSome known (λ bytes. Explains (until_fault (unfolding_of (entries_of bytes bounds)
-    (length tags - n) (path_of fs) at number ++ owed_by (entries_of bytes bounds) fs)) e)
-known_unfound known bounds tags contents fs n at number e depth o k explains =
-    IfSome_then known k (λ bytes k. rw depth (explains bytes bounds fs o k))
-
--- what is decoded is lent
-pub lent_as : (object : Object) (told : PlainEvent) (lent : Lent) → IsDecodedAs object told lent
-    → IsLentAs object told lent
-lent_as object told ScalarLent h = h
-lent_as object told (Collection count) h = h
-lent_as object told lent h = absurd h
+-- what was decoded without a fault
+pub outcome_as : (object : Object) (told : PlainEvent) (outcome : Outcome) → IsDecodedAs object told outcome
+    → IsOutcomeOf object told outcome
+outcome_as object told ScalarOutcome h = h
+outcome_as object told (Collection count) h = h
+outcome_as object told outcome h = absurd h
 
 -- a collection for which room is wanted
 pub known_full : (known : Option (List ℕ)) (t place : ℕ) (object : List ℕ → Object)
-    (told : PlainEvent) (lent : Lent) (e : Error) → fault_of e ≡ fault_nowhere OutOfMemory
-    → WantsRoom lent
-    → IfSome known (λ bytes. t ≤ length bytes → IsDecodedAs (object bytes) told lent)
+    (told : PlainEvent) (outcome : Outcome) (e : Error) → fault_of e ≡ fault_nowhere OutOfMemory
+    → WantsRoom outcome
+    → IfSome known (λ bytes. t ≤ length bytes → IsDecodedAs (object bytes) told outcome)
     → IfSome known (λ bytes. t ≤ length bytes → IsRefusedAs (object bytes) place e)
-known_full known t place object told lent e memory wanted decoded =
-    IfSome_then known decoded (λ bytes decoded fits. by (object bytes) lent wanted (decoded fits))
+known_full known t place object told outcome e memory wanted decoded =
+    IfSome_then known decoded (λ bytes decoded fits. by (object bytes) outcome wanted (decoded fits))
   where
-    by : (object : Object) (lent : Lent) → WantsRoom lent → IsDecodedAs object told lent
+    by : (object : Object) (outcome : Outcome) → WantsRoom outcome → IsDecodedAs object told outcome
         → IsRefusedAs object place e
-    by object ScalarLent wanted h = absurd wanted
+    by object ScalarOutcome wanted h = absurd wanted
     by object (Collection count) wanted h = refused_memory object place e told count memory h
-    by object lent wanted h = absurd h
+    by object outcome wanted h = absurd h

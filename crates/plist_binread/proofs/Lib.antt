@@ -9,7 +9,7 @@ pub mod Failing
 pub mod Heads
 pub mod Known
 pub mod KnownTurns
-pub mod Lending
+pub mod Seen
 pub mod Markers
 pub mod Marks
 pub mod Opened

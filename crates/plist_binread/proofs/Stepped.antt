@@ -16,8 +16,8 @@ use Rattle.plist_binread.specs.Beginning.{GivesFirst, IsBounded, IsKnownWalk, Ke
 use Rattle.plist_binread.specs.BinaryReader.{told_objects}
 use Rattle.plist_binread.specs.Debt.{AreBoundsOf, IsKnown, entries_of, next_number, owed_by, steps_left, still_owed, walk_steps, walk_weight}
 use Rattle.plist_binread.specs.Failures.{ErrWithin, ItemGivenWithin, ItemWithin}
-use Rattle.plist_binread.specs.Lent.{IsToldEnd, PaysNextTold}
-use Rattle.plist_binread.specs.Stepping.{KeepsItem, LightensNext}
+use Rattle.plist_binread.specs.Outcome.{IsToldEnd, PaysNextTold}
+use Rattle.plist_binread.specs.Step.{KeepsItem, LightensNext}
 use Rattle.plist_binread.specs.Telling.{TellsItem, WalksIn}
 use Rattle.plist_binread.specs.declared.told.Last.{Last}
 use Rattle.plist_binread.specs.declared.told.Refused.{Refused}

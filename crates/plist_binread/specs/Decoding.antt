@@ -6,8 +6,8 @@ use Rattle.plist_base.specs.Events.{PlainEvent, StartArray, StartDictionary, eve
 use Rattle.plist_base.specs.Trees as trees
 use Rattle.plist_base.specs.Trees.{Data, String}
 use Rattle.plist_base.specs.declared.event.Event.{Event}
-use Rattle.plist_binread.specs.declared.lent.Lent.{Lent}
-use Rattle.plist_binread.specs.declared.lent.Lent.TheVariants as lent
+use Rattle.plist_binread.specs.declared.front.Outcome.{Outcome}
+use Rattle.plist_binread.specs.declared.front.Outcome.TheVariants as outcome
 use Rattle.plist_binread.specs.Packed.{is_small_event, single}
 use Rattle.plist_format.specs.Object.{Object, Scalar, Array, Dictionary, Faulty, children_of}
 
@@ -41,19 +41,19 @@ abbrev pub single_in : Object → Option PlainEvent
 single_in object = single (scalar_in object)
 
 -- what was decoded is this object: the scalar that is told, or a collection whose start is told
-abbrev pub IsDecodedAs : Object → (told : PlainEvent) → Lent → Type 0
-IsDecodedAs object told lent.Long = ⊥
-IsDecodedAs object told lent.TooLarge = ⊥
-IsDecodedAs object told lent.Null = ⊥
-IsDecodedAs object told lent.Fill = ⊥
-IsDecodedAs object told (lent.Unknown marker) = ⊥
-IsDecodedAs object told lent.OutOfRange = ⊥
-IsDecodedAs object told lent.NoDate = ⊥
-IsDecodedAs object told lent.NotUtf8 = ⊥
-IsDecodedAs object told lent.NotUtf16 = ⊥
-IsDecodedAs object told lent.NoMemory = ⊥
-IsDecodedAs object told lent.Scalar = single_in object ≡ Some told
-IsDecodedAs object told (lent.Collection count) = IsCollection object told count
+abbrev pub IsDecodedAs : Object → (told : PlainEvent) → Outcome → Type 0
+IsDecodedAs object told outcome.Long = ⊥
+IsDecodedAs object told outcome.TooLarge = ⊥
+IsDecodedAs object told outcome.Null = ⊥
+IsDecodedAs object told outcome.Fill = ⊥
+IsDecodedAs object told (outcome.Unknown marker) = ⊥
+IsDecodedAs object told outcome.OutOfRange = ⊥
+IsDecodedAs object told outcome.NoDate = ⊥
+IsDecodedAs object told outcome.NotUtf8 = ⊥
+IsDecodedAs object told outcome.NotUtf16 = ⊥
+IsDecodedAs object told outcome.NoMemory = ⊥
+IsDecodedAs object told outcome.Scalar = single_in object ≡ Some told
+IsDecodedAs object told (outcome.Collection count) = IsCollection object told count
 
 -- the event isn't one of a small scalar
 abbrev pub IsLarge : Result Event Error → Type 0
@@ -84,9 +84,9 @@ Decodes object place answer =
     (λ e. IsRefusedAs object place e)
 
 -- an object is decoded and told, or refused
-abbrev pub DecodesTold : Object → (place : ℕ) → (told : PlainEvent) → Result Lent Error → Type 0
+abbrev pub DecodesTold : Object → (place : ℕ) → (told : PlainEvent) → Result Outcome Error → Type 0
 DecodesTold object place told answer =
-    MatchResult answer (λ lent. IsDecodedAs object told lent) (λ e. IsRefusedAs object place e)
+    MatchResult answer (λ outcome. IsDecodedAs object told outcome) (λ e. IsRefusedAs object place e)
 
 -- a text or data of this event is decoded, or memory was wanted for it
 abbrev pub DecodesEvent : (told : PlainEvent) → Result Event Error → Type 0

@@ -7,7 +7,7 @@ use Rattle.plist_base.specs.Sources.{ItemCountsIo}
 use Rattle.plist_binread.specs.Failures.{ItemGivenWithin}
 use Rattle.plist_binread.specs.declared.reader.BinaryReader.{BinaryReader}
 use Rattle.plist_binread.specs.declared.counter.DecodeCounter.{Ghosts as CounterGhosts}
-use Rattle.plist_binread.specs.Lent.{IsToldEnd}
+use Rattle.plist_binread.specs.Outcome.{IsToldEnd}
 use Rattle.plist_binread.specs.Told.{event_in, event_with, item_in}
 use Rattle.plist_binread.specs.declared.told.Refused.{Refused}
 use Rattle.plist_binread.specs.declared.told.Told.{Told}

@@ -2,14 +2,14 @@
 
 ghost use Rattle.std.specs.Prelude.{◌≡◌, true, IfSome};
 ghost use Rattle.plist_binread.specs.Turning.{closes};
-ghost use Rattle.plist_binread.specs.Lent.{IsToldEnd};
+ghost use Rattle.plist_binread.specs.Outcome.{IsToldEnd};
 ghost use Rattle.plist_binread.specs.Told.{ItemAnswersIn, event_in, item_in};
 ghost use Rattle.plist_binread.specs.Walking.{IsWalkOf, cached_in, walk_objects, open_in};
 ghost use Rattle.plist_binread.specs.Failures.{ItemWithin};
-ghost use Rattle.plist_binread.specs.Behind.{IsAskedOf};
-ghost use Rattle.plist_binread.specs.Stepping.{KeepsItem, LightensNext, PaysItem};
+ghost use Rattle.plist_binread.specs.Reading.{AreReferencesOf};
+ghost use Rattle.plist_binread.specs.Step.{KeepsItem, LightensNext, PaysItem};
 
-use crate::child::{Asked, read_child};
+use crate::child::{References, read_child};
 use crate::counter::DecodeCounter;
 use crate::enter::enter;
 use crate::head::Bounds;
@@ -26,12 +26,12 @@ pub fn advance<S: Source, C: DecodeCounter>(
     counter: &mut C,
     bounds: &Bounds,
     walk: &mut Walk,
-    asked: &mut Asked,
+    references: &mut References,
     last: &mut Last,
 ) -> Option<Result<(), Refused>>
     requires known { IfSome (S.known source.old) (λ bytes. IsWalkOf bytes bounds.now walk.old) }
     requires counted { C.counts → C.count counter.old ≡ cached_in walk.old }
-    requires asked { IsAskedOf (S.known source.old) bounds.now asked.old }
+    requires references { AreReferencesOf (S.known source.old) bounds.now references.old }
     // The answer.
     ensures pays { PaysItem (S.known source.old) bounds.now walk.old result last.new walk.new }
     ensures closes { closes (open_in walk.old) ≡ true → IsToldEnd result (event_in last.new) }
@@ -41,7 +41,7 @@ pub fn advance<S: Source, C: DecodeCounter>(
     ensures size { walk_objects walk.new ≡ walk_objects walk.old }
     ensures known { IfSome (S.known source.old) (λ bytes. IsWalkOf bytes bounds.now walk.new) }
     ensures counted { C.counts → C.count counter.new ≡ cached_in walk.new }
-    ensures asked { IsAskedOf (S.known source.old) bounds.now asked.new }
+    ensures references { AreReferencesOf (S.known source.old) bounds.now references.new }
     ensures kept { KeepsItem (S.known source.old) bounds.now walk.old result last.new walk.new }
     ensures falls { LightensNext walk.old result walk.new }
     ensures unchanged { S.known source.new ≡ S.known source.old }
@@ -55,7 +55,7 @@ pub fn advance<S: Source, C: DecodeCounter>(
         }
         Turn::Child(object, index) => {
             let at = walk.contents[object as usize];
-            match read_child(source, bounds, asked, at, index, last) {
+            match read_child(source, bounds, references, at, index, last) {
                 Ok(number) => Some(enter(alloc, source, counter, bounds, walk, last, at, number)),
                 Err(refused) => Some(Err(refused)),
             }

@@ -1,22 +1,22 @@
 //! The reference of one child, among those of its collection.
 
 ghost use Rattle.std.specs.Prelude.{◌≡◌, ◌+◌, ◌-◌, ◌^◌, ◌<◌, ◌≤◌, IfErr, IfNone, IfOk, IfSome, OnOk};
-ghost use Rattle.plist_binread.specs.Lent.{slot_place, slot_of};
+ghost use Rattle.plist_binread.specs.Outcome.{slot_place, slot_of};
 ghost use Rattle.plist_binread.specs.Failures.{ErrWithin};
-ghost use Rattle.plist_binread.specs.Behind.{AsksAt, AsksNothing, FindsSlots, HasNoChildren, HasPairs, IsAskedBehind, IsAskedOf, MissesNumber, ReadsNumber, ShowsLength};
-ghost use Rattle.plist_binread.specs.Stepping.{RefusesChildren};
+ghost use Rattle.plist_binread.specs.Reading.{ReadsChildAt, HasNoChild, FindsSlots, HasNoChildren, HasPairs, AreReferencesBehind, AreReferencesOf, MissesNumber, ReadsNumber, ShowsLength};
+ghost use Rattle.plist_binread.specs.Step.{RefusesChildren};
 ghost use Rattle.plist_binread.specs.Told.{AnswersIn, answer_in};
 
+use crate::front::front_length;
 use crate::head::Bounds;
-use crate::lent::lent_length;
 use crate::numbers::{number_at_hand, read_far_number};
 use crate::told::{Last, Refused};
 use plist_base::{Source, read_exact_at};
 
-/// Where the references of the collection stand that was asked last.
+/// Where the references of a collection stand.
 #[derive(Clone, Copy)]
-pub struct Asked {
-    /// The place of the collection, where one was asked.
+pub struct References {
+    /// The place of the collection, if there is one.
     pub place: u64,
     /// How far behind that its references begin.
     pub start: u64,
@@ -24,14 +24,14 @@ pub struct Asked {
     pub pairs: u64,
 }
 
-impl Asked {
+impl References {
     ghost use Rattle.std.specs.Prelude.{◌≡◌, ◌-◌, ◌^◌};
 
-    /// None was asked: no object has this place.
+    /// Those of no collection, since no object has this place.
     pub fn nothing() -> Self
         ensures { result.place ≡ 2 ^ 64 - 1 }
     {
-        Asked {
+        References {
             place: u64::MAX,
             start: 0,
             pairs: 0,
@@ -54,18 +54,18 @@ fn pairs_in(marker: u8, count: u64) -> Option<u64>
 
 // Finds the references of the collection at the front of these bytes, which reach the trailer, so
 // far away, or have all of its length.
-fn ask(seen: &[u8], room: u64, width: usize, place: u64) -> Option<Asked>
+fn references_in(seen: &[u8], room: u64, width: usize, place: u64) -> Option<References>
     requires width { 0 < width }
     requires far { ShowsLength room seen.now }
-    ensures place { IfSome result (λ asked. asked.place ≡ place) }
-    ensures slots { IfSome result (IsAskedBehind width seen.now) }
-    ensures none { IfNone result (AsksNothing width room seen.now) }
+    ensures place { IfSome result (λ references. references.place ≡ place) }
+    ensures slots { IfSome result (AreReferencesBehind width seen.now) }
+    ensures none { IfNone result (HasNoChild width room seen.now) }
 {
     let (marker, rest) = seen.split_first()?;
-    let (count, behind) = lent_length(*marker, rest)?;
+    let (count, behind) = front_length(*marker, rest)?;
     let pairs = pairs_in(*marker, count)?;
     let start = (seen.len() - behind.len()) as u64;
-    Some(Asked {
+    Some(References {
         place,
         start,
         pairs,
@@ -84,11 +84,11 @@ fn read_references<S: Source>(
     place: u64,
     room: u64,
     last: &mut Last,
-) -> Result<Asked, Refused>
+) -> Result<References, Refused>
     requires place { place < bounds.now.trailer }
     requires room { room ≡ bounds.now.trailer - place }
     // The answer.
-    ensures value { IfOk result (λ asked. asked.place ≡ place) }
+    ensures value { IfOk result (λ references. references.place ≡ place) }
     ensures slots { FindsSlots (answer_in result last.new) (S.known source.old) bounds.now place }
     // A refusal.
     ensures fault { ErrWithin place bounds.now.trailer (answer_in result last.new) }
@@ -99,8 +99,8 @@ fn read_references<S: Source>(
     let mut front = [0; LENGTH_END];
     let seen = &mut front[..room.min(LENGTH_END as u64) as usize];
     match read_exact_at(source, place, seen) {
-        Ok(()) => match ask(seen, room, bounds.reference_width, place) {
-            Some(asked) => Ok(asked),
+        Ok(()) => match references_in(seen, room, bounds.reference_width, place) {
+            Some(references) => Ok(references),
             None => Err(last.exceed(place)),
         },
         Err(error) => Err(last.refuse(error)),
@@ -114,9 +114,9 @@ fn find_references<S: Source>(
     bounds: &Bounds,
     place: u64,
     last: &mut Last,
-) -> Result<Asked, Refused>
+) -> Result<References, Refused>
     // The answer.
-    ensures value { IfOk result (λ asked. asked.place ≡ place) }
+    ensures value { IfOk result (λ references. references.place ≡ place) }
     ensures slots { FindsSlots (answer_in result last.new) (S.known source.old) bounds.now place }
     // A refusal.
     ensures fault { ErrWithin place bounds.now.trailer (answer_in result last.new) }
@@ -131,8 +131,8 @@ fn find_references<S: Source>(
     let near = source.near(place);
     if near.len() as u64 >= room.min(LENGTH_END as u64) {
         let seen = &near[..room.min(near.len() as u64) as usize];
-        return match ask(seen, room, bounds.reference_width, place) {
-            Some(asked) => Ok(asked),
+        return match references_in(seen, room, bounds.reference_width, place) {
+            Some(references) => Ok(references),
             None => Err(last.exceed(place)),
         };
     }
@@ -155,39 +155,41 @@ fn slot_of(pairs: u64, index: u64) -> Option<u64>
 
 // Where the reference of a child stands.
 #[inline(always)]
-fn slot_place(asked: &Asked, index: u64, width: usize) -> Option<u64>
+fn slot_place(references: &References, index: u64, width: usize) -> Option<u64>
     requires { 0 < width }
-    ensures value { IfSome result (λ place. place ≡ slot_place asked.now index width) }
-    ensures far { IfNone result (2 ^ 64 ≤ slot_place asked.now index width) }
+    ensures value { IfSome result (λ place. place ≡ slot_place references.now index width) }
+    ensures far { IfNone result (2 ^ 64 ≤ slot_place references.now index width) }
 {
-    let behind = slot_of(asked.pairs, index)?.checked_mul(width as u64)?;
-    asked.place.checked_add(asked.start.checked_add(behind)?)
+    let behind = slot_of(references.pairs, index)?.checked_mul(width as u64)?;
+    references
+        .place
+        .checked_add(references.start.checked_add(behind)?)
 }
 
-// Finds the references of the collection at a place, unless it was asked last.
+// Turns to the references of the collection at a place, if they aren't those of the last one.
 #[inline(always)]
-fn ask_of<S: Source>(
+fn refer_to<S: Source>(
     source: &mut S,
     bounds: &Bounds,
-    asked: &mut Asked,
+    references: &mut References,
     place: u64,
     last: &mut Last,
 ) -> Result<(), Refused>
-    requires asked { IsAskedOf (S.known source.old) bounds.now asked.old }
+    requires references { AreReferencesOf (S.known source.old) bounds.now references.old }
     // The answer.
-    ensures place { OnOk result (asked.new.place ≡ place) }
+    ensures place { OnOk result (references.new.place ≡ place) }
     // A refusal.
     ensures refused { IfErr result (RefusesChildren (S.known source.old) bounds.now place last.new) }
     ensures fault { ErrWithin place bounds.now.trailer (answer_in result last.new) }
     // The state after it.
-    ensures asked { IsAskedOf (S.known source.old) bounds.now asked.new }
+    ensures references { AreReferencesOf (S.known source.old) bounds.now references.new }
     ensures unchanged { S.known source.new ≡ S.known source.old }
     ensures failures { AnswersIn S.failures result last.new source.old source.new }
 {
-    if asked.place == place {
+    if references.place == place {
         return Ok(());
     }
-    *asked = find_references(source, bounds, place, last)?;
+    *references = find_references(source, bounds, place, last)?;
     Ok(())
 }
 
@@ -219,24 +221,24 @@ fn read_reference<S: Source>(
 pub fn read_child<S: Source>(
     source: &mut S,
     bounds: &Bounds,
-    asked: &mut Asked,
+    references: &mut References,
     place: u64,
     index: u64,
     last: &mut Last,
 ) -> Result<u64, Refused>
-    requires asked { IsAskedOf (S.known source.old) bounds.now asked.old }
+    requires references { AreReferencesOf (S.known source.old) bounds.now references.old }
     // The answer.
-    ensures child { AsksAt (answer_in result last.new) (S.known source.old) bounds.now place index }
+    ensures child { ReadsChildAt (answer_in result last.new) (S.known source.old) bounds.now place index }
     // A refusal.
     ensures fault { ErrWithin place bounds.now.trailer (answer_in result last.new) }
     // The state after it.
-    ensures asked { IsAskedOf (S.known source.old) bounds.now asked.new }
+    ensures references { AreReferencesOf (S.known source.old) bounds.now references.new }
     ensures unchanged { S.known source.new ≡ S.known source.old }
     ensures failures { AnswersIn S.failures result last.new source.old source.new }
 {
-    ask_of(source, bounds, asked, place, last)?;
+    refer_to(source, bounds, references, place, last)?;
     let width = bounds.reference_width;
-    match slot_place(asked, index, width) {
+    match slot_place(references, index, width) {
         Some(at) if at < bounds.trailer && width as u64 <= bounds.trailer - at => {
             match number_at_hand(source, at, width) {
                 Some(number) => Ok(number),

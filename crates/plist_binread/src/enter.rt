@@ -6,14 +6,14 @@ ghost use Rattle.plist_binread.specs.Frames.{frame_of};
 ghost use Rattle.plist_binread.specs.Packed.{is_marked};
 ghost use Rattle.plist_binread.specs.Walking.{IsWalkOf, cached_in, walk_objects};
 ghost use Rattle.plist_binread.specs.Failures.{ErrWithin};
-ghost use Rattle.plist_binread.specs.Nearby.{small_told};
-ghost use Rattle.plist_binread.specs.Stepping.{IsFoundAt, IsLighterEntered, IsUnchanged, KeepsEntered, KeepsLent, Meets, OpensLent, RefusesEntering, RefusesInside, WantsRoom};
+ghost use Rattle.plist_binread.specs.Front.{small_told};
+ghost use Rattle.plist_binread.specs.Step.{IsFoundAt, IsLighterEntered, IsUnchanged, KeepsEntered, KeepsOutcome, Meets, OpensOutcome, RefusesEntering, RefusesInside, WantsRoom};
 ghost use Rattle.plist_binread.specs.Told.{AnswersIn, answer_in, event_in};
 
 use crate::counter::DecodeCounter;
 use crate::frames::Frames;
+use crate::front::Outcome;
 use crate::head::Bounds;
-use crate::lent::Lent;
 use crate::object::decode;
 use crate::packed::{keep, mark};
 use crate::told::{Last, Refused};
@@ -78,7 +78,7 @@ fn look_up(
 }
 
 // Opens a collection of so many children, if there is room.
-fn push_near(frames: &mut Frames, object: u64, count: u64) -> bool
+fn open_frame(frames: &mut Frames, object: u64, count: u64) -> bool
     ensures pushed { result ≡ true → frames.new ≡ frames.old ++ frame_of object 0 count ∷ [] }
     ensures unchanged { result ≡ false → frames.new ≡ frames.old }
     ensures small { count < 2 ^ 64 }
@@ -89,31 +89,31 @@ fn push_near(frames: &mut Frames, object: u64, count: u64) -> bool
 // Keeps what was decoded and told where it is a small scalar, and opens it where it is a collection.
 // It answers no, and nothing has changed, where memory for that is wanted.
 #[inline(always)]
-fn open_lent(walk: &mut Walk, number: u64, lent: Lent, last: &Last) -> bool
+fn keep_or_open(walk: &mut Walk, number: u64, outcome: Outcome, last: &Last) -> bool
     requires below { number < walk_objects walk.old }
     requires new { get_or walk.old.tags.items number 0 ≡ 0 }
     // The answer.
-    ensures pays { result ≡ true → OpensLent number (event_in last.now) lent walk.old walk.new }
-    ensures wanted { result ≡ false → WantsRoom lent }
+    ensures pays { result ≡ true → OpensOutcome number (event_in last.now) outcome walk.old walk.new }
+    ensures wanted { result ≡ false → WantsRoom outcome }
     // The state after it.
     ensures size { walk_objects walk.new ≡ walk_objects walk.old }
-    ensures counted { cached_in walk.new ≡ cached_in walk.old + small_told lent last.now }
-    ensures kept { result ≡ true → KeepsLent (event_in last.now) lent number walk.new }
+    ensures counted { cached_in walk.new ≡ cached_in walk.old + small_told outcome last.now }
+    ensures kept { result ≡ true → KeepsOutcome (event_in last.now) outcome number walk.new }
     ensures falls { result ≡ true → IsLighterEntered walk.old walk.new }
     ensures unchanged { result ≡ false → IsUnchanged walk.old walk.new }
 {
-    match lent {
-        Lent::Long
-        | Lent::TooLarge
-        | Lent::Null
-        | Lent::Fill
-        | Lent::Unknown(_)
-        | Lent::OutOfRange
-        | Lent::NoDate
-        | Lent::NotUtf8
-        | Lent::NotUtf16
-        | Lent::NoMemory => false,
-        Lent::Scalar => match last.pack() {
+    match outcome {
+        Outcome::Long
+        | Outcome::TooLarge
+        | Outcome::Null
+        | Outcome::Fill
+        | Outcome::Unknown(_)
+        | Outcome::OutOfRange
+        | Outcome::NoDate
+        | Outcome::NotUtf8
+        | Outcome::NotUtf16
+        | Outcome::NoMemory => false,
+        Outcome::Scalar => match last.pack() {
             Some((tag, content)) => {
                 keep(
                     &mut walk.tags,
@@ -126,8 +126,8 @@ fn open_lent(walk: &mut Walk, number: u64, lent: Lent, last: &Last) -> bool
             }
             None => true,
         },
-        Lent::Collection(count) => {
-            if push_near(&mut walk.frames, number, count) {
+        Outcome::Collection(count) => {
+            if open_frame(&mut walk.frames, number, count) {
                 mark(&mut walk.tags, number as usize);
                 return true;
             }
@@ -173,8 +173,8 @@ pub fn enter<S: Source, C: DecodeCounter>(
     match found {
         None => Ok(()),
         Some(place) => {
-            let lent = decode(alloc, source, counter, bounds, place, last)?;
-            if open_lent(walk, number, lent, last) {
+            let outcome = decode(alloc, source, counter, bounds, place, last)?;
+            if keep_or_open(walk, number, outcome, last) {
                 return Ok(());
             }
             Err(last.want_memory())

@@ -7,53 +7,54 @@ ghost use Rattle.plist_base.specs.Sources.{AnswersIo, CountsIo};
 ghost use Rattle.plist_format.specs.Object.{Faulty, Object};
 ghost use Rattle.plist_binread.specs.Decoding.{IsRefusedAs};
 ghost use Rattle.plist_binread.specs.Failures.{ErrWithin, FailsWithin, MatchReader};
-ghost use Rattle.plist_binread.specs.Lent.{IsLentAs, small_lent};
-ghost use Rattle.plist_binread.specs.Nearby.{CountsFound, EndsIn64Bits, FailsInContent, IsLargeScalar, LendsAt, LongAt, TellsContentAt, TellsObject, is_fault, is_wrong};
+ghost use Rattle.plist_binread.specs.Outcome.{IsOutcomeOf, small_outcome};
+ghost use Rattle.plist_binread.specs.Front.{CountsFound, EndsIn64Bits, FailsInContent, IsLargeScalar, TellsAt, LongAt, TellsContentAt, TellsObject, is_fault, is_wrong};
 ghost use Rattle.plist_binread.specs.Told.{AnswersIn, answer_in};
 
 use crate::counter::DecodeCounter;
+use crate::front::{Outcome, decode_seen};
 use crate::head::Bounds;
-use crate::lent::{Lent, decode_lent};
 use crate::text::read_long;
 use crate::told::{Last, Refused};
 use plist_base::{Error, ErrorKind, Source, read_exact_at};
 use std::alloc::Global;
 
 // What is wrong with an object.
-fn fault_kind(lent: Lent) -> ErrorKind
-    requires { is_wrong lent ≡ true }
-    ensures faulty { (object : Object) (told : PlainEvent) → IsLentAs object told lent
+fn fault_kind(outcome: Outcome) -> ErrorKind
+    requires { is_wrong outcome ≡ true }
+    ensures faulty { (object : Object) (told : PlainEvent) → IsOutcomeOf object told outcome
         → object ≡ Faulty (kind_of result) }
     ensures inside { MatchFault (kind_of result) ⊥ ⊥ ⊤ }
     ensures reader { MatchReader (kind_of result) ⊥ ⊥ ⊤ }
 {
-    match lent {
-        Lent::TooLarge => ErrorKind::ObjectOffsetTooLarge,
-        Lent::Null => ErrorKind::NullObjectUnimplemented,
-        Lent::Fill => ErrorKind::FillObjectUnimplemented,
-        Lent::Unknown(marker) => ErrorKind::UnknownObjectType(marker),
-        Lent::OutOfRange => ErrorKind::IntegerOutOfRange,
-        Lent::NoDate => ErrorKind::OverflowOrNanDate,
-        Lent::NotUtf8 => ErrorKind::InvalidUtf8String,
-        Lent::NotUtf16 => ErrorKind::InvalidUtf16String,
-        Lent::Long | Lent::NoMemory | Lent::Scalar | Lent::Collection(_) => unreachable!(),
+    match outcome {
+        Outcome::TooLarge => ErrorKind::ObjectOffsetTooLarge,
+        Outcome::Null => ErrorKind::NullObjectUnimplemented,
+        Outcome::Fill => ErrorKind::FillObjectUnimplemented,
+        Outcome::Unknown(marker) => ErrorKind::UnknownObjectType(marker),
+        Outcome::OutOfRange => ErrorKind::IntegerOutOfRange,
+        Outcome::NoDate => ErrorKind::OverflowOrNanDate,
+        Outcome::NotUtf8 => ErrorKind::InvalidUtf8String,
+        Outcome::NotUtf16 => ErrorKind::InvalidUtf16String,
+        Outcome::Long | Outcome::NoMemory | Outcome::Scalar | Outcome::Collection(_) =>
+            unreachable!(),
     }
 }
 
 // The fault of the object at a place.
 #[cold]
 #[inline(never)]
-fn object_fault(lent: Lent, place: u64) -> Error
-    requires { is_fault lent ≡ true }
-    ensures refused { (object : Object) (told : PlainEvent) → IsLentAs object told lent
+fn object_fault(outcome: Outcome, place: u64) -> Error
+    requires { is_fault outcome ≡ true }
+    ensures refused { (object : Object) (told : PlainEvent) → IsOutcomeOf object told outcome
         → IsRefusedAs object place result }
     ensures fault { (end : ℕ) → FailsWithin place end (fault_of result) }
     ensures failures { (count : ℕ) → CountsIo result count count }
-    ensures small { (told : PlainEvent) → small_lent lent told ≡ 0 }
+    ensures small { (told : PlainEvent) → small_outcome outcome told ≡ 0 }
 {
-    match lent {
-        Lent::NoMemory => ErrorKind::OutOfMemory.without_position(),
-        _ => fault_kind(lent).with_byte_offset(place),
+    match outcome {
+        Outcome::NoMemory => ErrorKind::OutOfMemory.without_position(),
+        _ => fault_kind(outcome).with_byte_offset(place),
     }
 }
 
@@ -71,11 +72,11 @@ fn read_front<S: Source, C: DecodeCounter>(
     place: u64,
     room: u64,
     last: &mut Last,
-) -> Result<Lent, Refused>
+) -> Result<Outcome, Refused>
     requires place { place < bounds.now.trailer }
     requires room { room ≡ bounds.now.trailer - place }
     // The answer.
-    ensures lent { LendsAt S.known source.old bounds.now place last.new (answer_in result last.new) }
+    ensures outcome { TellsAt S.known source.old bounds.now place last.new (answer_in result last.new) }
     ensures long { LongAt S.known source.old bounds.now place last.new result }
     // A refusal.
     ensures fault { ErrWithin place bounds.now.trailer (answer_in result last.new) }
@@ -87,7 +88,7 @@ fn read_front<S: Source, C: DecodeCounter>(
     let mut front = [0; FRONT];
     let seen = &mut front[..room.min(FRONT as u64) as usize];
     match read_exact_at(source, place, seen) {
-        Ok(()) => Ok(decode_lent(seen, room, bounds.reference_width, counter, last)),
+        Ok(()) => Ok(decode_seen(seen, room, bounds.reference_width, counter, last)),
         Err(error) => Err(last.refuse(error)),
     }
 }
@@ -100,10 +101,10 @@ fn decode_front<S: Source, C: DecodeCounter>(
     bounds: &Bounds,
     place: u64,
     last: &mut Last,
-) -> Result<Lent, Refused>
+) -> Result<Outcome, Refused>
     requires place { place < bounds.now.trailer }
     // The answer.
-    ensures lent { LendsAt S.known source.old bounds.now place last.new (answer_in result last.new) }
+    ensures outcome { TellsAt S.known source.old bounds.now place last.new (answer_in result last.new) }
     ensures long { LongAt S.known source.old bounds.now place last.new result }
     // A refusal.
     ensures fault { ErrWithin place bounds.now.trailer (answer_in result last.new) }
@@ -116,7 +117,7 @@ fn decode_front<S: Source, C: DecodeCounter>(
     let near = source.near(place);
     if near.len() as u64 >= room.min(FRONT as u64) {
         let seen = &near[..room.min(near.len() as u64) as usize];
-        return Ok(decode_lent(seen, room, bounds.reference_width, counter, last));
+        return Ok(decode_seen(seen, room, bounds.reference_width, counter, last));
     }
     read_front(source, counter, bounds, place, room, last)
 }
@@ -129,7 +130,7 @@ fn tell_long<S: Source>(
     source: &mut S,
     place: u64,
     last: &mut Last,
-) -> Result<Lent, Refused>
+) -> Result<Outcome, Refused>
     requires fits { EndsIn64Bits place last.old.content }
     // The answer.
     ensures told { TellsContentAt (S.known source.old) place last.old.content last.new result }
@@ -143,7 +144,7 @@ fn tell_long<S: Source>(
     match read_long(alloc, source, place, last.content) {
         Ok(event) => {
             last.hold(event);
-            Ok(Lent::Scalar)
+            Ok(Outcome::Scalar)
         }
         Err(error) => Err(last.refuse(error)),
     }
@@ -152,15 +153,15 @@ fn tell_long<S: Source>(
 // Holds the fault of the object at a place.
 #[cold]
 #[inline(never)]
-fn refuse_object(lent: Lent, place: u64, last: &mut Last) -> Refused
-    requires { is_fault lent ≡ true }
-    ensures refused { (object : Object) (told : PlainEvent) → IsLentAs object told lent
+fn refuse_object(outcome: Outcome, place: u64, last: &mut Last) -> Refused
+    requires { is_fault outcome ≡ true }
+    ensures refused { (object : Object) (told : PlainEvent) → IsOutcomeOf object told outcome
         → IsRefusedAs object place last.new.fault }
     ensures fault { (end : ℕ) → FailsWithin place end (fault_of last.new.fault) }
     ensures failures { (count : ℕ) → CountsIo last.new.fault count count }
-    ensures small { (told : PlainEvent) → small_lent lent told ≡ 0 }
+    ensures small { (told : PlainEvent) → small_outcome outcome told ≡ 0 }
 {
-    last.refuse(object_fault(lent, place))
+    last.refuse(object_fault(outcome, place))
 }
 
 /// Tells the object at a place, and counts it where it is small.
@@ -172,7 +173,7 @@ pub fn decode<S: Source, C: DecodeCounter>(
     bounds: &Bounds,
     place: u64,
     last: &mut Last,
-) -> Result<Lent, Refused>
+) -> Result<Outcome, Refused>
     // The answer.
     ensures decoded { TellsObject S.known source.old bounds.now place last.new (answer_in result last.new) }
     // A refusal.
@@ -185,10 +186,10 @@ pub fn decode<S: Source, C: DecodeCounter>(
     if place >= bounds.trailer {
         return Err(last.exceed(place));
     }
-    let lent = decode_front(source, counter, bounds, place, last)?;
-    match lent {
-        Lent::Scalar | Lent::Collection(_) => Ok(lent),
-        Lent::Long => tell_long(alloc, source, place, last),
-        _ => Err(refuse_object(lent, place, last)),
+    let outcome = decode_front(source, counter, bounds, place, last)?;
+    match outcome {
+        Outcome::Scalar | Outcome::Collection(_) => Ok(outcome),
+        Outcome::Long => tell_long(alloc, source, place, last),
+        _ => Err(refuse_object(outcome, place, last)),
     }
 }

@@ -4,13 +4,13 @@ ghost use Rattle.std.specs.Prelude.{◌≡◌, ◌<◌, Some, true, false, IfSom
 ghost use Rattle.plist_base.specs.Events.{Single, event_of};
 ghost use Rattle.plist_base.specs.Faults.{ObjectOffsetTooLarge, OutOfMemory, fault_at, fault_nowhere, fault_of};
 ghost use Rattle.plist_base.specs.Trees.{Boolean as BooleanScalar, Integer as IntegerScalar};
-ghost use Rattle.plist_binread.specs.declared.lent.Lent.TheVariants.{Scalar as ScalarLent};
+ghost use Rattle.plist_binread.specs.declared.front.Outcome.TheVariants.{Scalar as ScalarOutcome};
 ghost use Rattle.plist_format.specs.Object.{signed};
 ghost use Rattle.plist_binread.specs.Packed.{MayWantMemory, cached, is_small_event, single};
 ghost use Rattle.plist_binread.specs.Told.{answer_in, event_in, event_with, is_lent};
-ghost use Rattle.plist_binread.specs.Nearby.{PacksEvent, TellsData, TellsText, TellsUnits};
+ghost use Rattle.plist_binread.specs.Front.{PacksEvent, TellsData, TellsText, TellsUnits};
 
-use crate::lent::{Content, Kind, Lent};
+use crate::front::{Content, Kind, Outcome};
 use crate::packed::{is_small, pack, pack_bytes, pack_text};
 use plist_base::{Error, ErrorKind, Event, Integer, OwnedEvent, RealBits, Uid};
 use std::alloc::Global;
@@ -212,29 +212,29 @@ impl Last {
     }
 
     /// Tells the whole number that these 64 bits spell with their sign.
-    pub fn tell_signed(&mut self, bits: u64) -> Lent
+    pub fn tell_signed(&mut self, bits: u64) -> Outcome
         ensures told { event_in self.new ≡ Single (IntegerScalar (signed 64 bits)) }
-        ensures scalar { result ≡ ScalarLent }
+        ensures scalar { result ≡ ScalarOutcome }
     {
         if bits < 1 << 63 {
             self.tell(Told::Unsigned(bits));
         } else {
             self.hold(Event::Integer(Integer::from(bits.cast_signed())));
         }
-        Lent::Scalar
+        Outcome::Scalar
     }
 
     /// Tells this truth value.
-    pub fn tell_boolean(&mut self, value: bool) -> Lent
+    pub fn tell_boolean(&mut self, value: bool) -> Outcome
         ensures told { event_in self.new ≡ Single (BooleanScalar value) }
-        ensures scalar { result ≡ ScalarLent }
+        ensures scalar { result ≡ ScalarOutcome }
     {
         self.tell(Told::Boolean(value));
-        Lent::Scalar
+        Outcome::Scalar
     }
 
     /// Tells the text in these bytes, if they are one and there is room for it.
-    pub fn tell_text(&mut self, bytes: &[u8]) -> Lent
+    pub fn tell_text(&mut self, bytes: &[u8]) -> Outcome
         ensures { TellsText bytes.now self.new result }
     {
         match str::from_utf8(bytes) {
@@ -242,16 +242,16 @@ impl Last {
                 self.text.clear();
                 self.told = Told::Text;
                 match self.text.push_str(text) {
-                    Ok(()) => Lent::Scalar,
-                    Err(_) => Lent::NoMemory,
+                    Ok(()) => Outcome::Scalar,
+                    Err(_) => Outcome::NoMemory,
                 }
             }
-            Err(_) => Lent::NotUtf8,
+            Err(_) => Outcome::NotUtf8,
         }
     }
 
     /// Tells the text in these units, if they are one and there is room for it.
-    pub fn tell_units(&mut self, units: &[u16]) -> Lent
+    pub fn tell_units(&mut self, units: &[u16]) -> Outcome
         ensures { TellsUnits units.now self.new result }
     {
         let made: Result<Result<_, _>, _> = String::from_utf16(self.alloc, units);
@@ -259,22 +259,22 @@ impl Last {
             Ok(Ok(text)) => {
                 self.text = text;
                 self.told = Told::Text;
-                Lent::Scalar
+                Outcome::Scalar
             }
-            Ok(Err(_)) => Lent::NotUtf16,
-            Err(_) => Lent::NoMemory,
+            Ok(Err(_)) => Outcome::NotUtf16,
+            Err(_) => Outcome::NoMemory,
         }
     }
 
     /// Tells this data, if there is room for it.
-    pub fn tell_data(&mut self, bytes: &[u8]) -> Lent
+    pub fn tell_data(&mut self, bytes: &[u8]) -> Outcome
         ensures { TellsData bytes.now self.new result }
     {
         self.data.clear();
         self.told = Told::Data;
         match self.data.extend_from_slice(bytes) {
-            Ok(()) => Lent::Scalar,
-            Err(_) => Lent::NoMemory,
+            Ok(()) => Outcome::Scalar,
+            Err(_) => Outcome::NoMemory,
         }
     }
 

@@ -35,7 +35,7 @@ pub struct Walk {
 }
 
 impl Walk {
-    ghost use Rattle.plist_binread.specs.Stepping.{LightensBy, TurnsWalk};
+    ghost use Rattle.plist_binread.specs.Step.{LightensBy, TurnsWalk};
     ghost use Rattle.plist_binread.specs.Walking.{IsEmpty, cached_in, walk_objects, open_in};
 
     /// No object is held.

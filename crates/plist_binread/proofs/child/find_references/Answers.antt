@@ -1,6 +1,6 @@
 use Rattle.std.proofs.Common.{rules, Err, refl, arith}
-use Rattle.plist_binread.proofs.Children.{known_asks, known_beyond, known_childless}
-use Rattle.plist_binread.proofs.Lending.{known_front, known_prefix}
+use Rattle.plist_binread.proofs.Children.{known_references, known_beyond, known_childless}
+use Rattle.plist_binread.proofs.Seen.{known_front, known_prefix}
 use Rattle.plist_binread.proofs.child.find_references.Goals as goal
 
 pub returns-then-place-bounds-clause-slots : goal.returns-then-place-bounds-clause-slots
@@ -9,7 +9,7 @@ returns-then-place-bounds-clause-slots g c = λ index.
 
 pub returns-in-Some-clause-slots : goal.returns-in-Some-clause-slots
 returns-in-Some-clause-slots g c =
-    known_asks _ c.args.bounds.now _ _ _ c.in-Some.ensures.place
+    known_references _ c.args.bounds.now _ _ _ c.in-Some.ensures.place
     (known_front _ c.near-near.result.now _ _ _ _ (omega arith) (omega arith) refl
     c.near-near.ensures.bytes)
     c.in-Some.ensures.slots

@@ -1,13 +1,13 @@
 use Rattle.std.proofs.Common.{arith, sym, length, ◌-◌, IfSome}
 use Rattle.std.proofs.lemmas.List.{length-reverse}
 use Rattle.std.proofs.lemmas.Result.{err_from_is_err_and}
-use Rattle.plist_binread.proofs.Entering.{LentAt, from_any, known_decoded, known_gains, known_recalled, known_small}
+use Rattle.plist_binread.proofs.Entering.{OutcomeAt, from_any, known_decoded, known_gains, known_recalled, known_small}
 use Rattle.plist_binread.proofs.Known.{first, second, known_refused, known_full}
 use Rattle.plist_binread.proofs.Steps.{steps_positive}
-use Rattle.plist_binread.specs.Behind.{object_at}
+use Rattle.plist_binread.specs.Reading.{object_at}
 use Rattle.plist_binread.specs.Told.{event_in}
 use Rattle.plist_binread.proofs.enter.enter.Goals as goal
-use Rattle.plist_binread.proofs.enter.enter.Goals.{After-open_lent}
+use Rattle.plist_binread.proofs.enter.enter.Goals.{After-keep_or_open}
 
 pub returns-in-None-clause-falls : goal.returns-in-None-clause-falls
 returns-in-None-clause-falls g c =
@@ -26,48 +26,48 @@ returns-in-None-clause-pays g c =
     (rw c.as_slice.ensures.value at c.in_ok-found.ensures.below)
     (rw c.as_slice.ensures.value at c.in_ok-found.ensures.new) found.0 found.1)
 
-pub returns-in_err-lent-in-Some-clause-pays : goal.returns-in_err-lent-in-Some-clause-pays
-returns-in_err-lent-in-Some-clause-pays g c =
-    let p = err_from_is_err_and c.from_residual-in_err-lent-in-Some.result
-    c.from_residual-in_err-lent-in-Some.ensures.1 in
+pub returns-in_err-outcome-in-Some-clause-pays : goal.returns-in_err-outcome-in-Some-clause-pays
+returns-in_err-outcome-in-Some-clause-pays g c =
+    let p = err_from_is_err_and c.from_residual-in_err-outcome-in-Some.result
+    c.from_residual-in_err-outcome-in-Some.ensures.1 in
     rw p.1 (known_refused _ _ _ _ _ _ c.args.at c.args.number
     c.in-Some.place _ (sym (length-reverse c.args.walk.now.frames)) c.args.walk.now.path
     c.requires.known (rw c.as_slice.ensures.value at c.in_ok-found.ensures.below)
     (rw c.as_slice.ensures.value at c.in_ok-found.ensures.new)
     (rw (c.in-Some.is, c.as_slice.ensures.value, c.as_slice-2.ensures.value) at
-    c.in_ok-found.ensures.found) c.in_err-lent-in-Some.ensures.decoded)
+    c.in_ok-found.ensures.found) c.in_err-outcome-in-Some.ensures.decoded)
 
 -- the object is what was decoded
-there : (g : _) (c : After-open_lent g)
-    → IfSome (g.S.Source.known c.args.source.now) (λ bytes. LentAt bytes c.args.bounds.now
-    c.args.number (event_in c.decode.new.last) c.in_ok-lent-in-Some.lent)
+there : (g : _) (c : After-keep_or_open g)
+    → IfSome (g.S.Source.known c.args.source.now) (λ bytes. OutcomeAt bytes c.args.bounds.now
+    c.args.number (event_in c.decode.new.last) c.in_ok-outcome-in-Some.outcome)
 there g c =
     known_decoded _ _ _ _ _ _ _ _ _ c.requires.known
     (rw c.as_slice.ensures.value at c.in_ok-found.ensures.below)
     (rw (c.in-Some.is, c.as_slice.ensures.value, c.as_slice-2.ensures.value) at
-    c.in_ok-found.ensures.found) c.in_ok-lent-in-Some.ensures.decoded
+    c.in_ok-found.ensures.found) c.in_ok-outcome-in-Some.ensures.decoded
 
-pub returns-then-open_lent-clause-known : goal.returns-then-open_lent-clause-known
-returns-then-open_lent-clause-known g c =
+pub returns-then-keep_or_open-clause-known : goal.returns-then-keep_or_open-clause-known
+returns-then-keep_or_open-clause-known g c =
     second _ _ _ (known_gains _ _ _ _ _ _ _ _ _ _
-    c.requires.known (there g (goal.at.returns-then-open_lent-clause-known g c).After-open_lent)
-    (c.open_lent.ensures.pays c.if-open_lent.true))
+    c.requires.known (there g (goal.at.returns-then-keep_or_open-clause-known g c).After-keep_or_open)
+    (c.keep_or_open.ensures.pays c.if-keep_or_open.true))
 
-pub returns-then-open_lent-clause-pays : goal.returns-then-open_lent-clause-pays
-returns-then-open_lent-clause-pays g c =
+pub returns-then-keep_or_open-clause-pays : goal.returns-then-keep_or_open-clause-pays
+returns-then-keep_or_open-clause-pays g c =
     from_any _ _ _ (first _ _ _ (known_gains _ _ _ _ _ _ _ _ _ _
     c.requires.known
-    (there g (goal.at.returns-then-open_lent-clause-pays g c).After-open_lent)
-    (c.open_lent.ensures.pays c.if-open_lent.true)))
+    (there g (goal.at.returns-then-keep_or_open-clause-pays g c).After-keep_or_open)
+    (c.keep_or_open.ensures.pays c.if-keep_or_open.true)))
 
-pub returns-then-open_lent-clause-kept : goal.returns-then-open_lent-clause-kept
-returns-then-open_lent-clause-kept g c =
+pub returns-then-keep_or_open-clause-kept : goal.returns-then-keep_or_open-clause-kept
+returns-then-keep_or_open-clause-kept g c =
     known_small _ c.args.bounds.now c.args.number _ _ _
-    (there g (goal.at.returns-then-open_lent-clause-kept g c).After-open_lent)
-    (c.open_lent.ensures.kept c.if-open_lent.true)
+    (there g (goal.at.returns-then-keep_or_open-clause-kept g c).After-keep_or_open)
+    (c.keep_or_open.ensures.kept c.if-keep_or_open.true)
 
-pub returns-else-open_lent-clause-pays : goal.returns-else-open_lent-clause-pays
-returns-else-open_lent-clause-pays g c =
+pub returns-else-keep_or_open-clause-pays : goal.returns-else-keep_or_open-clause-pays
+returns-else-keep_or_open-clause-pays g c =
     known_refused _ _ _ _ _ _ c.args.at c.args.number
     c.in-Some.place _ (sym (length-reverse c.args.walk.now.frames)) c.args.walk.now.path
     c.requires.known (rw c.as_slice.ensures.value at c.in_ok-found.ensures.below)
@@ -76,5 +76,5 @@ returns-else-open_lent-clause-pays g c =
     c.in_ok-found.ensures.found)
     (known_full _ c.args.bounds.now.trailer c.in-Some.place
     (object_at c.args.bounds.now c.in-Some.place) (event_in c.decode.new.last)
-    c.in_ok-lent-in-Some.lent c.want_memory.new.self.fault c.want_memory.ensures.fault
-    (c.open_lent.ensures.wanted c.if-open_lent.false) c.in_ok-lent-in-Some.ensures.decoded)
+    c.in_ok-outcome-in-Some.outcome c.want_memory.new.self.fault c.want_memory.ensures.fault
+    (c.keep_or_open.ensures.wanted c.if-keep_or_open.false) c.in_ok-outcome-in-Some.ensures.decoded)

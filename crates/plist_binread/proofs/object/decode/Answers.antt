@@ -1,6 +1,6 @@
 use Rattle.std.proofs.Common.{◌∙◌, ◌+◌, ap}
 use Rattle.plist_binread.specs.Told.{answer_in, event_in}
-use Rattle.plist_binread.proofs.Lending.{long_tells, seen_refused}
+use Rattle.plist_binread.proofs.Seen.{long_tells, seen_refused}
 use Rattle.plist_binread.proofs.Markers.{known_beyond}
 use Rattle.plist_binread.proofs.object.decode.Goals as goal
 
@@ -13,18 +13,18 @@ pub returns-in-Long-clause-decoded : goal.returns-in-Long-clause-decoded
 returns-in-Long-clause-decoded g c =
     long_tells _ _ c.args.bounds.now c.args.place c.decode_front.new.last.content
     (event_in c.tell_long.new.last) (answer_in c.tell_long.result c.tell_long.new.last)
-    c.in_ok-lent.ensures.unchanged (rw c.in-Long.is at c.in_ok-lent.ensures.long)
+    c.in_ok-outcome.ensures.unchanged (rw c.in-Long.is at c.in_ok-outcome.ensures.long)
     c.tell_long.ensures.told
 
 pub returns-in_default : goal.returns-in_default
 returns-in_default g c = record {
-  decoded = seen_refused _ c.args.bounds.now c.args.place c.in_ok-lent.lent
-      (event_in c.decode_front.new.last) c.refuse_object.new.last.fault c.in_ok-lent.ensures.lent
+  decoded = seen_refused _ c.args.bounds.now c.args.place c.in_ok-outcome.outcome
+      (event_in c.decode_front.new.last) c.refuse_object.new.last.fault c.in_ok-outcome.ensures.outcome
       c.refuse_object.ensures.refused;
   fault = c.refuse_object.ensures.fault _;
-  counted = λ counts. c.in_ok-lent.ensures.counted counts
+  counted = λ counts. c.in_ok-outcome.ensures.counted counts
       ∙ ap (λ n. g.C.DecodeCounter.count c.args.counter.now + n)
       (c.refuse_object.ensures.small (event_in c.decode_front.new.last));
-  unchanged = c.in_ok-lent.ensures.unchanged;
-  failures = rw c.in_ok-lent.ensures.failures (c.refuse_object.ensures.failures _);
+  unchanged = c.in_ok-outcome.ensures.unchanged;
+  failures = rw c.in_ok-outcome.ensures.failures (c.refuse_object.ensures.failures _);
 }

@@ -1,16 +1,16 @@
 use Rattle.std.proofs.Common.{refl}
 use Rattle.plist_binread.proofs.Contents.{refused_as}
 use Rattle.plist_binread.proofs.Failing.{counts_at, from_fault}
-use Rattle.plist_binread.proofs.Lending.{fault_small}
+use Rattle.plist_binread.proofs.Seen.{fault_small}
 use Rattle.plist_binread.proofs.object.object_fault.Goals as goal
 
 pub returns-in_default : goal.returns-in_default
 returns-in_default c = record {
-  refused = λ object told lent. refused_as object c.args.place _ _ c.with_byte_offset.ensures.fault
-      c.fault_kind.ensures.inside (c.fault_kind.ensures.faulty object told lent);
+  refused = λ object told outcome. refused_as object c.args.place _ _ c.with_byte_offset.ensures.fault
+      c.fault_kind.ensures.inside (c.fault_kind.ensures.faulty object told outcome);
   fault = λ end. from_fault _ _ _ c.args.place end c.with_byte_offset.ensures.fault
       c.fault_kind.ensures.reader;
   failures = λ count. counts_at _ _ _ count count c.with_byte_offset.ensures.fault
       c.fault_kind.ensures.inside refl;
-  small = λ told. fault_small c.args.lent told c.requires;
+  small = λ told. fault_small c.args.outcome told c.requires;
 }

@@ -1,7 +1,7 @@
 use Rattle.std.proofs.Common.{refl, None, Some}
 use Rattle.plist_binread.specs.Told.{event_in}
 use Rattle.plist_binread.proofs.Taken.{closes-ended, walking-ended, holds_none, left_behind, nothing_ended, kept_end}
-use Rattle.plist_binread.proofs.Children.{known_asks_nothing}
+use Rattle.plist_binread.proofs.Children.{known_no_references}
 use Rattle.plist_binread.proofs.Stepped.{first_walks, item_walks, not_fresh, walks_on_ok}
 use Rattle.plist_binread.proofs.reader.BinaryReader.step.Goals as goal
 
@@ -47,7 +47,7 @@ invariant_of-self g c = record {
   bounded = rw c.begin.ensures.unchanged c.begin.ensures.bounded;
   known = λ walking. rw c.begin.ensures.unchanged
       (walks_on_ok c.begin.result _ _ c.state_after-self.ensures c.begin.ensures.known walking);
-  asks = λ _. known_asks_nothing (g.R.Source.known c.begin.new.source) c.begin.new.bounds
+  refers = λ _. known_no_references (g.R.Source.known c.begin.new.source) c.begin.new.bounds
       c.nothing-self.result c.nothing-self.ensures;
 }
 
@@ -58,5 +58,5 @@ invariant_of-self-in-Walking g c = record {
   bounded = rw (c.advance-item.ensures.unchanged, c.advance-item.ensures.size)
       c.args.self.now.bounded;
   known = λ _. rw c.advance-item.ensures.unchanged c.advance-item.ensures.known;
-  asks = λ _. rw c.advance-item.ensures.unchanged c.advance-item.ensures.asked;
+  refers = λ _. rw c.advance-item.ensures.unchanged c.advance-item.ensures.references;
 }

@@ -1,7 +1,0 @@
-use Rattle.plist_binread.specs.declared.lent.Kind.TheVariants.{Text as KindText}
-use Rattle.plist_binread.specs.Nearby.{content_means}
-use Rattle.plist_binread.proofs.lent.lent_text.Goals as goal
-
-pub returns-in-Ok-clause-lent : goal.returns-in-Ok-clause-lent
-returns-in-Ok-clause-lent c = λ more whole.
-    rw (c.in-Ok.ensures.content more whole (content_means KindText)) c.tell_text.ensures.0

@@ -1,0 +1,262 @@
+-- Words for what is decoded of the bytes at an object's front, whatever lies behind them.
+use Rattle.std.specs.Prelude.{◌≡◌, ℕ, ◌+◌, ◌-◌, ◌*◌, ◌^◌, ◌<◌, ◌≤◌, Bool, true, false, List, ◌∷◌, ◌++◌, length, take, drop, Option, None, Some, Result, Ok, Err, IfOk, IfSome, MatchOption, MatchResult, ⊤}
+use Rattle.std.specs.Borrow.{Bor}
+use Rattle.plist_base.specs.declared.error.Error.{Error}
+use Rattle.plist_base.specs.Events.{PlainEvent}
+use Rattle.plist_base.specs.Trees.{String}
+use Rattle.plist_format.specs.Container.{number_of, numbers_spelled}
+use Rattle.plist_binread.specs.Decoding.{Decodes, DecodesTold, IsRefusedAs}
+use Rattle.plist_binread.specs.Failures.{ErrWithin}
+use Rattle.plist_base.specs.declared.event.Event.{Event}
+use Rattle.plist_binread.specs.Reading.{data_of_content, object_at}
+use Rattle.plist_binread.specs.declared.head.Bounds.{Bounds}
+use Rattle.plist_binread.specs.Outcome.{IsOutcomeOf, small_outcome}
+use Rattle.plist_format.specs.Object.{Array, Object, dictionary, length_in, meaning_counted, meaning_of_front, text, text_of_units, wide_text}
+use Rattle.plist_binread.specs.Packed.{content_bytes, is_small_event, scalar_of, single}
+use Rattle.plist_binread.specs.Told.{answer_in, event_in}
+use Rattle.plist_binread.specs.declared.told.Refused.{Refused}
+use Rattle.plist_binread.specs.declared.front.Outcome.{Outcome}
+use Rattle.plist_binread.specs.declared.front.Outcome.TheVariants as outcome
+use Rattle.plist_binread.specs.declared.front.Kind.{Kind}
+use Rattle.plist_binread.specs.declared.front.Kind.TheVariants as kind
+use Rattle.plist_binread.specs.declared.front.Content.{Content}
+use Rattle.plist_binread.specs.declared.told.Last.{Last}
+
+-- ---- what stands at the front of bytes
+
+-- the number that the content of an object of a fixed size spells, and that content
+abbrev pub IsNumber : (width : ℕ) (rest : List ℕ) → ℕ → Type 0
+IsNumber width rest number = (more : List ℕ) (meaning : ℕ → Object) →
+    meaning_of_front width (λ content. meaning (number_of content)) (rest ++ more) ≡ meaning number
+
+abbrev pub IsContent : (size : ℕ) (rest content : List ℕ) → Type 0
+IsContent size rest content = (more : List ℕ) (meaning : List ℕ → Object) →
+    meaning_of_front size meaning (rest ++ more) ≡ meaning content
+
+-- an object's length, and the bytes behind it
+abbrev pub IsLength : (marker : ℕ) (rest : List ℕ) → ℕ × Bor (List ℕ) → Type 0
+IsLength marker rest found =
+    (more : List ℕ) → length_in marker (rest ++ more) ≡ Some (found.0, found.1.now ++ more)
+
+-- a length that isn't all there
+abbrev pub IsLengthCut : (marker : ℕ) (rest : List ℕ) → Type 0
+IsLengthCut marker rest = (length rest < 9) × (length_in marker rest ≡ None)
+
+abbrev pub LiesBehind : (rest : List ℕ) → ℕ × Bor (List ℕ) → Type 0
+LiesBehind rest found = drop (length rest - length found.1.now) rest ≡ found.1.now
+
+-- bytes that reach so far, or are as many as a number and a length need
+abbrev pub ReachesFar : (room : ℕ) (rest : List ℕ) → Type 0
+ReachesFar room rest = length rest < 16 → room ≤ length rest
+
+-- and those of the whole front of an object
+abbrev pub ShowsFront : (room : ℕ) (seen : List ℕ) → Type 0
+ShowsFront room seen = length seen < 26 → room ≤ length seen
+
+-- the content of a text or data, whose elements have this size
+abbrev pub IsCounted : (marker size room : ℕ) (rest : List ℕ) → Bor (List ℕ) → Type 0
+IsCounted marker size room rest found = (more : List ℕ) → length (rest ++ more) ≡ room →
+    (meaning : List ℕ → Object) →
+    meaning_counted size (λ _. meaning) (length_in marker (rest ++ more)) ≡ meaning found.now
+
+-- which is of whole elements
+abbrev pub HasUnits : (size : ℕ) → Bor (List ℕ) → Type 0
+HasUnits size found = (count : ℕ) × (length found.now ≡ count * size)
+
+-- a length, where so many elements lie before the trailer, and what is seen behind it
+abbrev pub IsCount : (marker size room : ℕ) (rest : List ℕ) → ℕ × Bor (List ℕ) → Type 0
+IsCount marker size room rest found = (more : List ℕ) → length (rest ++ more) ≡ room →
+    (length_in marker (rest ++ more) ≡ Some (found.0, found.1.now ++ more))
+    × (found.0 * size ≤ length (found.1.now ++ more))
+
+abbrev pub EndsBefore : (size room : ℕ) (rest : List ℕ) → ℕ × Bor (List ℕ) → Type 0
+EndsBefore size room rest found = length rest - length found.1.now + found.0 * size ≤ room
+
+-- ---- what is decoded
+
+-- an object that all its bytes up to the trailer tell
+abbrev pub TellsWhole : (room : ℕ) → (List ℕ → Object) → (rest : List ℕ) → PlainEvent → Outcome
+    → Type 0
+TellsWhole room object rest told outcome =
+    (more : List ℕ) → length (rest ++ more) ≡ room → IsOutcomeOf (object (rest ++ more)) told outcome
+
+-- an object of a fixed size, or one of so many elements as its length says, whose content means
+-- this
+abbrev pub TellsFront : (room size : ℕ) → (List ℕ → Object) → (rest : List ℕ) → PlainEvent → Outcome
+    → Type 0
+TellsFront room size meaning rest told outcome =
+    TellsWhole room (meaning_of_front size meaning) rest told outcome
+
+-- how many bytes an element of the content has, and what the content means
+abbrev pub unit_size : Kind → ℕ
+unit_size kind.Data = 1
+unit_size kind.Text = 1
+unit_size kind.WideText = 2
+
+abbrev pub content_means : Kind → List ℕ → Object
+content_means kind.Data = data_of_content
+content_means kind.Text = text
+content_means kind.WideText = wide_text
+
+-- an object that has as many elements as its length says
+abbrev pub counted_with : Kind → (marker : ℕ) → List ℕ → Object
+counted_with kind marker rest =
+    meaning_counted (unit_size kind) (λ _. content_means kind) (length_in marker rest)
+
+abbrev pub array_with : (width marker : ℕ) → List ℕ → Object
+array_with width marker rest =
+    meaning_counted width (λ _ content. Array (numbers_spelled width content))
+    (length_in marker rest)
+
+abbrev pub pairs_with : (width marker : ℕ) → List ℕ → Object
+pairs_with width marker rest = meaning_counted (2 * width)
+    (λ count content. dictionary count (numbers_spelled width content)) (length_in marker rest)
+
+-- a collection whose length isn't all there, or which doesn't end before the trailer
+abbrev pub RefusesCounted : (marker size room : ℕ) (rest : List ℕ) → Outcome → Type 0
+RefusesCounted marker size room rest outcome =
+    (meaning : ℕ → List ℕ → Object) (told : PlainEvent) (more : List ℕ)
+    → length (rest ++ more) ≡ room
+    → IsOutcomeOf (meaning_counted size meaning (length_in marker (rest ++ more))) told outcome
+
+-- it isn't a text or data whose content isn't all seen
+abbrev pub IsWhole : Outcome → Type 0
+IsWhole outcome.Long = ⊥
+IsWhole outcome = ⊤
+
+-- or this is so of its content, which is held
+abbrev pub IfLong : Outcome → Last → (Content → Type 0) → Type 0
+IfLong outcome.Long last P = P last.content
+IfLong outcome last P = ⊤
+
+-- its content lies before the trailer, and this is its meaning
+abbrev pub LeavesLong : (room : ℕ) → (List ℕ → Object) → (seen : List ℕ) → Last → Outcome → Type 0
+LeavesLong room object seen last outcome = IfLong outcome last (λ content.
+    (content.start + content.count * unit_size content.kind ≤ room)
+    × ((more : List ℕ) → length (seen ++ more) ≡ room → object (seen ++ more)
+    ≡ content_means content.kind (take (content.count * unit_size content.kind)
+    (drop content.start (seen ++ more)))))
+
+-- the same by what lies behind the marker
+abbrev pub LongBehind : (marker room : ℕ) → (List ℕ → Object) → (rest : List ℕ) → Last → Outcome
+    → Type 0
+LongBehind marker room object rest last outcome =
+    LeavesLong (room + 1) (λ bytes. object (drop 1 bytes)) (marker ∷ rest) last outcome
+
+-- one for a small object that is decoded, by which the counter rises
+abbrev pub small_told : Outcome → Last → ℕ
+small_told outcome last = small_outcome outcome (event_in last)
+
+abbrev pub CountsOutcome : {C : Type 0} → (counts : Type 0) → (count : C → ℕ) → (old new : C) → Outcome
+    → Last → Type 0
+CountsOutcome counts count old new outcome last = counts → count new ≡ count old + small_told outcome last
+
+-- the same of an answer
+abbrev pub small_found : {E : Type 0} → Result Outcome E → Last → ℕ
+small_found (Ok outcome) last = small_told outcome last
+small_found (Err error) last = 0
+
+abbrev pub CountsFound : {C E : Type 0} → (counts : Type 0) → (count : C → ℕ) → (old new : C)
+    → Result Outcome E → Last → Type 0
+CountsFound counts count old new answer last =
+    counts → count new ≡ count old + small_found answer last
+
+-- what was decoded of the object at a place, by its front, or its refusal
+abbrev pub TellsAt : {S : Type 0} → (S → Option (List ℕ)) → S → Bounds → (place : ℕ) → Last
+    → Result Outcome Error → Type 0
+TellsAt known source bounds place last answer = IfSome (known source) (λ bytes.
+    bounds.trailer ≤ length bytes → MatchResult answer
+    (λ outcome. IsOutcomeOf (object_at bounds place bytes) (event_in last) outcome)
+    (λ error. IsRefusedAs (object_at bounds place bytes) place error))
+
+-- a text or data whose content isn't all seen there lies before the trailer, and this is its object
+abbrev pub LongAt : {E S : Type 0} → (S → Option (List ℕ)) → S → Bounds → (place : ℕ) → Last
+    → Result Outcome E → Type 0
+LongAt known source bounds place last answer = IfOk answer (λ outcome. IfLong outcome last (λ content.
+    (place + content.start + content.count * unit_size content.kind ≤ bounds.trailer)
+    × IfSome (known source) (λ bytes. bounds.trailer ≤ length bytes → object_at bounds place bytes
+    ≡ content_means content.kind (take (content.count * unit_size content.kind)
+    (drop (place + content.start) bytes)))))
+
+-- something is wrong with the object, or memory was wanted for it
+abbrev pub is_fault : Outcome → Bool
+is_fault outcome.Long = false
+is_fault outcome.Scalar = false
+is_fault (outcome.Collection count) = false
+is_fault outcome = true
+
+abbrev pub is_wrong : Outcome → Bool
+is_wrong outcome.NoMemory = false
+is_wrong outcome = is_fault outcome
+
+-- the object at a place is told, or refused
+abbrev pub TellsObject : {S : Type 0} → (S → Option (List ℕ)) → S → Bounds → (place : ℕ) → Last
+    → Result Outcome Error → Type 0
+TellsObject known source bounds place last answer = IfSome (known source) (λ bytes.
+    bounds.trailer ≤ length bytes
+    → DecodesTold (object_at bounds place bytes) place (event_in last) answer)
+
+-- ---- a content that is read
+
+-- its end has a place
+abbrev pub EndsIn64Bits : (place : ℕ) → Content → Type 0
+EndsIn64Bits place content =
+    place + content.start + content.count * unit_size content.kind < 2 ^ 64
+
+-- where all of it is there, its event is given, or the object at the place refused
+abbrev pub ReadsContent : (known : Option (List ℕ)) → (place : ℕ) → Content → Result Event Error
+    → Type 0
+ReadsContent known place content answer = IfSome known (λ bytes.
+    place + content.start + content.count * unit_size content.kind ≤ length bytes
+    → Decodes (content_means content.kind (take (content.count * unit_size content.kind)
+    (drop (place + content.start) bytes))) place answer)
+
+-- the same where the event is told
+abbrev pub TellsContentAt : (known : Option (List ℕ)) → (place : ℕ) → Content → Last
+    → Result Outcome Refused → Type 0
+TellsContentAt known place content last answer = IfSome known (λ bytes.
+    place + content.start + content.count * unit_size content.kind ≤ length bytes
+    → DecodesTold (content_means content.kind (take (content.count * unit_size content.kind)
+    (drop (place + content.start) bytes))) place (event_in last) (answer_in answer last))
+
+-- a scalar that isn't small is told
+abbrev pub IsLargeScalar : Last → Outcome → Type 0
+IsLargeScalar last outcome = small_told outcome last ≡ 0
+
+-- a read that fails there fails within the object
+abbrev pub FailsInContent : {A : Type 0} → (place : ℕ) → Content → Result A Error → Type 0
+FailsInContent place content answer =
+    ErrWithin place (place + content.start + content.count * unit_size content.kind) answer
+
+-- ---- what is packed
+
+-- at most eight bytes, with the tag of their number
+abbrev pub PacksBytes : (first : ℕ) (bytes : List ℕ) → Option (ℕ × ℕ) → Type 0
+PacksBytes first bytes packed = MatchOption packed (8 < length bytes)
+    (λ p. (p.0 ≡ first + length bytes) × (length bytes ≤ 8)
+    × (take (length bytes) (content_bytes p.1) ≡ bytes))
+
+-- a text of at most eight bytes, under a tag without its mark
+abbrev pub PacksText : (text : List ℕ) → Option (ℕ × ℕ) → Type 0
+PacksText text packed = MatchOption packed (8 < length text)
+    (λ p. (scalar_of p.0 p.1 ≡ Some (String text)) × (0 < p.0) × (p.0 < 128) × (length text ≤ 8))
+
+-- a scalar's event, if it is small
+abbrev pub PacksEvent : PlainEvent → Option (ℕ × ℕ) → Type 0
+PacksEvent event packed = MatchOption packed (is_small_event event ≡ false)
+    (λ p. single (scalar_of p.0 p.1) ≡ Some event)
+
+-- ---- what is told
+
+-- the object of a content is told, or what is wrong with it
+abbrev pub TellsContent : Object → Last → Outcome → Type 0
+TellsContent object last outcome = IsOutcomeOf object (event_in last) outcome × IsWhole outcome
+
+abbrev pub TellsUnits : (units : List ℕ) → Last → Outcome → Type 0
+TellsUnits units last outcome = TellsContent (text_of_units units) last outcome
+
+abbrev pub TellsText : (bytes : List ℕ) → Last → Outcome → Type 0
+TellsText bytes last outcome = TellsContent (text bytes) last outcome
+
+abbrev pub TellsData : (bytes : List ℕ) → Last → Outcome → Type 0
+TellsData bytes last outcome = TellsContent (data_of_content bytes) last outcome

@@ -1,0 +1,122 @@
+-- Words for what a call makes of known bytes: those of the whole source, those that reach the
+-- trailer, and those of one object.
+use Rattle.std.specs.Prelude.{◌≡◌, ℕ, ◌+◌, ◌*◌, ◌<◌, ◌≤◌, List, [], ◌++◌, length, take, drop, Option, Some, Result, Err, IfSome, MatchResult}
+use Rattle.plist_base.specs.declared.error.Error.{Error}
+use Rattle.plist_base.specs.Outcomes.{DecodesBy, IfRefused}
+use Rattle.plist_base.specs.Sources.{IsIoWithin}
+use Rattle.plist_base.specs.Faults.{Fault, IsFromOutside}
+use Rattle.plist_base.specs.declared.real.RealBits.TheVariants.{Four, Eight}
+use Rattle.plist_base.specs.Trees.{Data, Real, Uid}
+use Rattle.plist_format.specs.Container.{number_at, number_of, numbers_spelled}
+use Rattle.plist_binread.specs.Decoding.{children_in}
+use Rattle.plist_binread.specs.Outcome.{AreReferences, IsSlots}
+use Rattle.plist_format.specs.Object.{Object, Scalar, layout_of, length_in, object_behind, object_in}
+use Rattle.plist_binread.specs.Turning.{ReadsChild}
+use Rattle.plist_binread.specs.declared.child.References.{References}
+use Rattle.std.specs.declared.alloc.Global.{Global}
+use Rattle.std.specs.declared.vec.Vec.{Vec}
+use Rattle.plist_binread.specs.declared.head.Bounds.{Bounds}
+
+-- ---- what is at hand, and what a read gives
+
+-- something is found, and the bytes are known: this is so of them
+abbrev pub IfFound : {A : Type 0} → Option A → (known : Option (List ℕ)) → (List ℕ → A → Type 0)
+    → Type 0
+IfFound found known P = IfSome found (λ value. IfSome known (λ bytes. P bytes value))
+
+-- where all of them are there, a read of `size` bytes from a place on fails by the device, or for
+-- want of memory
+abbrev pub FailsOutside : (place size : ℕ) → List ℕ → Fault → Type 0
+FailsOutside place size bytes fault = place + size ≤ length bytes → IsFromOutside fault.kind
+
+-- this is the number of this width at a place
+abbrev pub IsNumberAt : (place width : ℕ) → List ℕ → ℕ → Type 0
+IsNumberAt place width bytes number = number ≡ number_at bytes place width
+
+-- these are the bytes from a place on
+abbrev pub AreBytesAt : (place size : ℕ) → List ℕ → Vec ℕ Global → Type 0
+AreBytesAt place size bytes found = found.items ≡ take size (drop place bytes)
+
+-- where all of them are there, these are the numbers of one width from a place on
+abbrev pub AreNumbersAt : (place width count : ℕ) → List ℕ → Vec ℕ Global → Type 0
+AreNumbersAt place width count bytes numbers =
+    place + count * width ≤ length bytes
+    → numbers.items ≡ numbers_spelled width (take (count * width) (drop place bytes))
+
+-- the number of this width at a place is read, or where it is there, the device failed
+abbrev pub ReadsNumber : Result ℕ Error → (known : Option (List ℕ)) → (place width : ℕ) → Type 0
+ReadsNumber answer known place width =
+    DecodesBy answer known (λ bytes. number_at bytes place width)
+
+abbrev pub MissesNumber : Result ℕ Error → (known : Option (List ℕ)) → (place width : ℕ) → Type 0
+MissesNumber answer known place width = IfRefused answer known (IsIoWithin place width)
+
+-- ---- what the content of an object of a fixed size means
+
+abbrev pub short_real : List ℕ → Object
+short_real content = Scalar (Real (Four content))
+
+abbrev pub long_real : List ℕ → Object
+long_real content = Scalar (Real (Eight content))
+
+abbrev pub uid_of_content : List ℕ → Object
+uid_of_content content = Scalar (Uid (number_of content))
+
+-- and that of data
+abbrev pub data_of_content : List ℕ → Object
+data_of_content content = Scalar (Data content)
+
+-- ---- an object whose marker was read
+
+-- what the bytes behind its marker mean
+abbrev pub object_with : (width marker : ℕ) → List ℕ → Object
+object_with width marker rest = object_behind marker (layout_of width marker) rest
+
+-- the object at a place
+abbrev pub object_at : Bounds → (place : ℕ) → List ℕ → Object
+object_at bounds place bytes =
+    object_in bounds.reference_width (drop place (take bounds.trailer bytes))
+
+-- ---- what is made of bytes that reach the trailer
+
+-- a child's number is read, where the object has so many
+abbrev pub ReadsChildAt : Result ℕ Error → (known : Option (List ℕ)) → Bounds → (place index : ℕ) → Type 0
+ReadsChildAt answer known bounds place index = IfSome known (λ bytes.
+    bounds.trailer ≤ length bytes → ReadsChild (object_at bounds place bytes) index answer)
+
+-- the references of the children of the collection at their place stand there
+abbrev pub AreReferencesOf : (known : Option (List ℕ)) → Bounds → References → Type 0
+AreReferencesOf known bounds references =
+    IfSome known (λ bytes. bounds.trailer ≤ length bytes → AreReferences bytes bounds references)
+
+-- the same of the object at a place that is read, or no child of it can be
+abbrev pub FindsSlots : Result References Error → (known : Option (List ℕ)) → Bounds → (place : ℕ)
+    → Type 0
+FindsSlots answer known bounds place = MatchResult answer (AreReferencesOf known bounds)
+    (λ error. (index : ℕ) → ReadsChildAt (Err error) known bounds place index)
+
+-- the same whatever lies behind the bytes that were seen
+abbrev pub AreReferencesBehind : (width : ℕ) → (seen : List ℕ) → References → Type 0
+AreReferencesBehind width seen references =
+    (more : List ℕ) → IsSlots width (seen ++ more) references.start references.pairs
+
+-- an object with this marker and length is a collection of so many pairs, or none since it is an
+-- array, and the references of its children stand behind the length
+abbrev pub HasPairs : (marker count pairs : ℕ) → Type 0
+HasPairs marker count pairs = (width start : ℕ) (object rest : List ℕ) → 0 < width
+    → start ≤ length object → object_in width object ≡ object_with width marker rest
+    → length_in marker rest ≡ Some (count, drop start object) → IsSlots width object start pairs
+
+-- no object with this marker has children
+abbrev pub HasNoChildren : (marker : ℕ) → Type 0
+HasNoChildren marker =
+    (width : ℕ) (rest : List ℕ) → children_in (object_with width marker rest) ≡ []
+
+-- no object that begins with these bytes has children
+abbrev pub HasNoChild : (width room : ℕ) → (seen : List ℕ) → Type 0
+HasNoChild width room seen = (more : List ℕ) → length (seen ++ more) ≡ room
+    → children_in (object_in width (seen ++ more)) ≡ []
+
+-- bytes that reach so far, or have all of a marker and a length
+abbrev pub ShowsLength : (room : ℕ) (seen : List ℕ) → Type 0
+ShowsLength room seen = length seen < 10 → room ≤ length seen

@@ -1,0 +1,458 @@
+//! Objects that are decoded by the bytes at their front: all up to the trailer, or at least as many
+//! as tell what isn't a long text or data.
+
+ghost use Rattle.std.specs.Prelude.{◌≡◌, ◌-◌, ◌*◌, ◌%◌, ◌^◌, ◌<◌, ◌≤◌, length, true, Some, IfSome, IfNone, IfOk, IfErr, cond};
+ghost use Rattle.plist_base.specs.declared.real.RealBits.TheVariants.{Eight};
+ghost use Rattle.plist_base.specs.Trees.{Real};
+ghost use Rattle.plist_binread.specs.Outcome.{small_outcome};
+ghost use Rattle.plist_format.specs.Object.{Scalar, Array, date, unsigned_integer, signed_integer, wide_integer, object_in};
+ghost use Rattle.plist_binread.specs.Told.{event_in};
+ghost use Rattle.plist_binread.specs.Front.{CountsOutcome, EndsBefore, HasUnits, IsContent, IsCount, IsCounted, IsLength, IsLengthCut, IsNumber, IsWhole, LeavesLong, TellsFront, TellsWhole, LiesBehind, LongBehind, ReachesFar, RefusesCounted, ShowsFront, array_with, counted_with, pairs_with, unit_size};
+ghost use Rattle.plist_binread.specs.declared.front.Outcome.TheVariants.{Scalar as ScalarOutcome};
+ghost use Rattle.plist_binread.specs.declared.front.Kind.TheVariants.{Data as KindData, Text as KindText, WideText as KindWideText};
+ghost use Rattle.plist_binread.specs.Reading.{short_real, long_real, uid_of_content, object_with};
+
+use crate::counter::DecodeCounter;
+use crate::numbers::{number_from, write_units};
+use crate::told::{Last, Told};
+use plist_base::{Date, Event, RealBits};
+
+/// What the content of a text or data means.
+#[derive(Clone, Copy)]
+pub enum Kind {
+    /// Its bytes are data.
+    Data,
+    /// They are a text.
+    Text,
+    /// They are the units of a text, of two bytes each.
+    WideText,
+}
+
+impl Kind {
+    // How many bytes an element of the content has.
+    fn unit_size(self) -> u64
+        ensures value { result ≡ unit_size self }
+        ensures small { (0 < result) × (result ≤ 2) }
+    {
+        match self {
+            Kind::Data | Kind::Text => 1,
+            Kind::WideText => 2,
+        }
+    }
+}
+
+/// The content of a text or data.
+#[derive(Clone, Copy)]
+pub struct Content {
+    /// What it means.
+    pub kind: Kind,
+    /// How far behind the object's place it begins.
+    pub start: u64,
+    /// How many elements it has.
+    pub count: u64,
+}
+
+/// What the bytes at an object's front tell of it, or what is wrong with it.
+///
+/// It is a tag and a number, and no more, since one is made for each item.
+#[derive(Clone, Copy)]
+pub enum Outcome {
+    /// A text or data whose content isn't all seen there, and is held.
+    Long,
+    /// It doesn't end before the trailer.
+    TooLarge,
+    /// It is a null.
+    Null,
+    /// It is a fill byte.
+    Fill,
+    /// No object has this marker.
+    Unknown(u8),
+    /// The number isn't one of 64 bits without sign.
+    OutOfRange,
+    /// It is no date.
+    NoDate,
+    /// The bytes of a text aren't UTF-8.
+    NotUtf8,
+    /// The units of a text aren't UTF-16.
+    NotUtf16,
+    /// No memory was found for a text or data.
+    NoMemory,
+    /// A scalar, which is told.
+    Scalar,
+    /// A collection of so many children, whose start is told.
+    Collection(u64),
+}
+
+impl Outcome {
+    /// Is it a scalar, which is told?
+    pub fn is_scalar(self) -> bool
+        ensures { result ≡ true → self ≡ ScalarOutcome }
+    {
+        matches!(self, Outcome::Scalar)
+    }
+}
+
+// The number in so many bytes.
+fn front_number(rest: &[u8], width: usize) -> Option<u64>
+    requires { width ≤ 8 }
+    ensures value { IfSome result (IsNumber width rest.now) }
+    ensures small { IfSome result (λ n. n < 256 ^ width) }
+    ensures short { IfNone result (length rest.now < width) }
+{
+    if rest.len() < width {
+        return None;
+    }
+    Some(number_from(&rest[..width]))
+}
+
+// The content of an object of a fixed size.
+fn front_content<const N: usize>(rest: &[u8]) -> Option<[u8; N]>
+    ensures content { IfSome result (IsContent N rest.now) }
+    ensures short { IfNone result (length rest.now < N) }
+{
+    match rest.first_chunk::<N>() {
+        Some(content) => Some(*content),
+        None => None,
+    }
+}
+
+// How many bytes a number has, as the low two bits of the byte before it say.
+fn number_width(byte: u64) -> u64
+    ensures value { result ≡ 2 ^ (byte % 4) }
+    ensures small { result ≤ 8 }
+{
+    match byte % 4 {
+        0 => 1,
+        1 => 2,
+        2 => 4,
+        _ => 8,
+    }
+}
+
+/// The length of an object, and the bytes behind it.
+pub fn front_length(marker: u8, rest: &[u8]) -> Option<(u64, &[u8])>
+    ensures length { IfSome result (IsLength marker rest.now) }
+    ensures short { IfSome result (λ found. length found.1.now ≤ length rest.now) }
+    ensures behind { IfSome result (LiesBehind rest.now) }
+    ensures cut { IfNone result (IsLengthCut marker rest.now) }
+{
+    let low = marker % 16;
+    if low < 15 {
+        return Some((u64::from(low), rest));
+    }
+    let (byte, behind) = rest.split_first()?;
+    let width = number_width(u64::from(*byte)) as usize;
+    if behind.len() < width {
+        return None;
+    }
+    Some((number_from(&behind[..width]), &behind[width..]))
+}
+
+// How many elements of this size an object has that lies before the trailer, which is so far away,
+// and what is seen behind its length.
+fn front_count(marker: u8, rest: &[u8], room: u64, size: u64) -> Result<(u64, &[u8]), Outcome>
+    requires room { length rest.now ≤ room }
+    requires far { ReachesFar room rest.now }
+    ensures count { IfOk result (IsCount marker size room rest.now) }
+    ensures small { IfOk result (λ found. found.0 * size ≤ room) }
+    ensures within { IfOk result (EndsBefore size room rest.now) }
+    ensures behind { IfOk result (LiesBehind rest.now) }
+    ensures refused { IfErr result (RefusesCounted marker size room rest.now) }
+    ensures whole { IfErr result IsWhole }
+{
+    match front_length(marker, rest) {
+        Some((count, behind)) => {
+            let left = room - (rest.len() - behind.len()) as u64;
+            match count.checked_mul(size) {
+                Some(all) if all <= left => Ok((count, behind)),
+                _ => Err(Outcome::TooLarge),
+            }
+        }
+        None => Err(Outcome::TooLarge),
+    }
+}
+
+// The content of a text or data, if all of it is seen and it has at most so many bytes.
+fn front_content_of<'a>(
+    kind: Kind,
+    marker: u8,
+    rest: &'a [u8],
+    room: u64,
+    most: usize,
+    last: &mut Last,
+) -> Result<&'a [u8], Outcome>
+    requires room { length rest.now ≤ room }
+    requires far { ReachesFar room rest.now }
+    ensures content { IfOk result (IsCounted marker (unit_size kind) room rest.now) }
+    ensures size { IfOk result (HasUnits (unit_size kind)) }
+    ensures bound { IfOk result (λ content. length content.now ≤ most) }
+    ensures refused { IfErr result (RefusesCounted marker (unit_size kind) room rest.now) }
+    ensures long { IfErr result (LongBehind marker room (counted_with kind marker) rest.now last.new) }
+{
+    let size = kind.unit_size();
+    let (count, behind) = front_count(marker, rest, room, size)?;
+    let all = count * size;
+    if all > behind.len().min(most) as u64 {
+        let start = 1 + (rest.len() - behind.len()) as u64;
+        last.content = Content { kind, start, count };
+        return Err(Outcome::Long);
+    }
+    Ok(&behind[..all as usize])
+}
+
+fn front_unsigned(rest: &[u8], room: u64, width: usize, last: &mut Last) -> Outcome
+    requires width { width ≤ 8 }
+    requires room { length rest.now ≤ room }
+    requires far { ReachesFar room rest.now }
+    ensures outcome { TellsFront room width unsigned_integer rest.now (event_in last.new) result }
+    ensures whole { IsWhole result }
+{
+    match front_number(rest, width) {
+        Some(number) => {
+            last.tell(Told::Unsigned(number));
+            Outcome::Scalar
+        }
+        None => Outcome::TooLarge,
+    }
+}
+
+fn front_signed(rest: &[u8], room: u64, last: &mut Last) -> Outcome
+    requires room { length rest.now ≤ room }
+    requires far { ReachesFar room rest.now }
+    ensures outcome { TellsFront room 8 signed_integer rest.now (event_in last.new) result }
+    ensures whole { IsWhole result }
+{
+    match front_number(rest, 8) {
+        Some(number) => last.tell_signed(number),
+        None => Outcome::TooLarge,
+    }
+}
+
+// A whole number of sixteen bytes, of which the first eight have to be zero.
+fn front_wide(rest: &[u8], room: u64, last: &mut Last) -> Outcome
+    requires room { length rest.now ≤ room }
+    requires far { ReachesFar room rest.now }
+    ensures outcome { TellsFront room 16 wide_integer rest.now (event_in last.new) result }
+    ensures whole { IsWhole result }
+{
+    if rest.len() < 16 {
+        return Outcome::TooLarge;
+    }
+    let high = number_from(&rest[..8]);
+    let low = number_from(&rest[8..16]);
+    if high != 0 {
+        return Outcome::OutOfRange;
+    }
+    last.tell(Told::Unsigned(low));
+    Outcome::Scalar
+}
+
+fn front_uid(rest: &[u8], room: u64, width: usize, last: &mut Last) -> Outcome
+    requires width { width ≤ 8 }
+    requires room { length rest.now ≤ room }
+    requires far { ReachesFar room rest.now }
+    ensures outcome { TellsFront room width uid_of_content rest.now (event_in last.new) result }
+    ensures whole { IsWhole result }
+{
+    match front_number(rest, width) {
+        Some(number) => {
+            last.tell(Told::Uid(number));
+            Outcome::Scalar
+        }
+        None => Outcome::TooLarge,
+    }
+}
+
+fn front_real(rest: &[u8], room: u64, last: &mut Last) -> Outcome
+    requires room { length rest.now ≤ room }
+    requires far { ReachesFar room rest.now }
+    ensures outcome { TellsFront room 8 long_real rest.now (event_in last.new) result }
+    ensures whole { IsWhole result }
+{
+    match front_content(rest) {
+        Some(bytes) => {
+            last.hold(Event::Real(RealBits::Eight(bytes)));
+            Outcome::Scalar
+        }
+        None => Outcome::TooLarge,
+    }
+}
+
+fn front_short_real(rest: &[u8], room: u64, last: &mut Last) -> Outcome
+    requires room { length rest.now ≤ room }
+    requires far { ReachesFar room rest.now }
+    ensures outcome { TellsFront room 4 short_real rest.now (event_in last.new) result }
+    ensures whole { IsWhole result }
+{
+    match front_content(rest) {
+        Some(bytes) => {
+            last.hold(Event::Real(RealBits::Four(bytes)));
+            Outcome::Scalar
+        }
+        None => Outcome::TooLarge,
+    }
+}
+
+fn front_date(rest: &[u8], room: u64, last: &mut Last) -> Outcome
+    requires room { length rest.now ≤ room }
+    requires far { ReachesFar room rest.now }
+    ensures outcome { TellsFront room 8 date rest.now (event_in last.new) result }
+    ensures whole { IsWhole result }
+{
+    match front_content(rest) {
+        Some(bytes) => match Date::from_plist_real(bytes) {
+            Ok(date) => {
+                last.hold(Event::Date(date));
+                Outcome::Scalar
+            }
+            Err(_) => Outcome::NoDate,
+        },
+        None => Outcome::TooLarge,
+    }
+}
+
+fn front_data(marker: u8, rest: &[u8], room: u64, last: &mut Last) -> Outcome
+    requires room { length rest.now ≤ room }
+    requires far { ReachesFar room rest.now }
+    ensures outcome { TellsWhole room (counted_with KindData marker) rest.now (event_in last.new) result }
+    ensures long { LongBehind marker room (counted_with KindData marker) rest.now last.new result }
+{
+    match front_content_of(Kind::Data, marker, rest, room, usize::MAX, last) {
+        Ok(bytes) => last.tell_data(bytes),
+        Err(outcome) => outcome,
+    }
+}
+
+fn front_text(marker: u8, rest: &[u8], room: u64, last: &mut Last) -> Outcome
+    requires room { length rest.now ≤ room }
+    requires far { ReachesFar room rest.now }
+    ensures outcome { TellsWhole room (counted_with KindText marker) rest.now (event_in last.new) result }
+    ensures long { LongBehind marker room (counted_with KindText marker) rest.now last.new result }
+{
+    match front_content_of(Kind::Text, marker, rest, room, usize::MAX, last) {
+        Ok(bytes) => last.tell_text(bytes),
+        Err(outcome) => outcome,
+    }
+}
+
+// As many units as a text has at most that is told without memory for them.
+const UNITS: usize = 32;
+
+fn front_wide_text(marker: u8, rest: &[u8], room: u64, last: &mut Last) -> Outcome
+    requires room { length rest.now ≤ room }
+    requires far { ReachesFar room rest.now }
+    ensures outcome { TellsWhole room (counted_with KindWideText marker) rest.now (event_in last.new) result }
+    ensures long { LongBehind marker room (counted_with KindWideText marker) rest.now last.new result }
+{
+    match front_content_of(Kind::WideText, marker, rest, room, 2 * UNITS, last) {
+        Ok(bytes) => {
+            let mut all = [0; UNITS];
+            let units = &mut all[..bytes.len() / 2];
+            write_units(bytes, units);
+            last.tell_units(units)
+        }
+        Err(outcome) => outcome,
+    }
+}
+
+fn front_array(marker: u8, rest: &[u8], room: u64, width: usize, last: &mut Last) -> Outcome
+    requires room { length rest.now ≤ room }
+    requires far { ReachesFar room rest.now }
+    requires width { 0 < width }
+    ensures outcome { TellsWhole room (array_with width marker) rest.now (event_in last.new) result }
+    ensures whole { IsWhole result }
+{
+    match front_count(marker, rest, room, width as u64) {
+        Ok((count, _)) => {
+            last.tell(Told::Array(count));
+            Outcome::Collection(count)
+        }
+        Err(outcome) => outcome,
+    }
+}
+
+fn front_dictionary(marker: u8, rest: &[u8], room: u64, width: usize, last: &mut Last) -> Outcome
+    requires room { length rest.now ≤ room }
+    requires far { ReachesFar room rest.now }
+    requires width { (0 < width) × (width ≤ 8) }
+    ensures outcome { TellsWhole room (pairs_with width marker) rest.now (event_in last.new) result }
+    ensures whole { IsWhole result }
+{
+    match front_count(marker, rest, room, 2 * width as u64) {
+        Ok((count, _)) => {
+            last.tell(Told::Dictionary(count));
+            Outcome::Collection(2 * count)
+        }
+        Err(outcome) => outcome,
+    }
+}
+
+// The object behind a marker.
+fn front_behind(marker: u8, rest: &[u8], room: u64, width: usize, last: &mut Last) -> Outcome
+    requires room { length rest.now ≤ room }
+    requires far { ReachesFar room rest.now }
+    requires width { (0 < width) × (width ≤ 8) }
+    ensures outcome { TellsWhole room (object_with width marker) rest.now (event_in last.new) result }
+    ensures long { LongBehind marker room (object_with width marker) rest.now last.new result }
+{
+    match marker {
+        0x00 => Outcome::Null,
+        0x08 => last.tell_boolean(false),
+        0x09 => last.tell_boolean(true),
+        0x0f => Outcome::Fill,
+        0x10 => front_unsigned(rest, room, 1, last),
+        0x11 => front_unsigned(rest, room, 2, last),
+        0x12 => front_unsigned(rest, room, 4, last),
+        0x13 => front_signed(rest, room, last),
+        0x14 => front_wide(rest, room, last),
+        0x22 => front_short_real(rest, room, last),
+        0x23 => front_real(rest, room, last),
+        0x33 => front_date(rest, room, last),
+        0x40..=0x4f => front_data(marker, rest, room, last),
+        0x50..=0x5f => front_text(marker, rest, room, last),
+        0x60..=0x6f => front_wide_text(marker, rest, room, last),
+        0x80..=0x87 => front_uid(rest, room, usize::from(marker - 0x7f), last),
+        0xa0..=0xaf => front_array(marker, rest, room, width, last),
+        0xd0..=0xdf => front_dictionary(marker, rest, room, width, last),
+        other => Outcome::Unknown(other),
+    }
+}
+
+// Is it a scalar that can be cached?
+fn is_small_outcome(outcome: Outcome, last: &Last) -> bool
+    ensures { cond result 1 0 ≡ small_outcome outcome (event_in last.now) }
+{
+    match outcome {
+        Outcome::Scalar => last.is_small(),
+        _ => false,
+    }
+}
+
+/// Decodes the object at the front of these bytes, which reach the trailer, so far away, or are 26
+/// at least, and counts it where it is small. No other function makes a small object of its bytes.
+pub fn decode_seen<C: DecodeCounter>(
+    seen: &[u8],
+    room: u64,
+    width: usize,
+    counter: &mut C,
+    last: &mut Last,
+) -> Outcome
+    requires room { length seen.now ≤ room }
+    requires far { ShowsFront room seen.now }
+    requires some { 0 < room }
+    requires width { (0 < width) × (width ≤ 8) }
+    ensures outcome { TellsWhole room (object_in width) seen.now (event_in last.new) result }
+    ensures long { LeavesLong room (object_in width) seen.now last.new result }
+    ensures counted { CountsOutcome C.counts C.count counter.old counter.new result last.new }
+{
+    match seen.split_first() {
+        Some((marker, rest)) => {
+            let outcome = front_behind(*marker, rest, room - 1, width, last);
+            if is_small_outcome(outcome, last) {
+                counter.raise();
+            }
+            outcome
+        }
+        None => Outcome::TooLarge,
+    }
+}
