@@ -4,3 +4,4 @@ pub mod DateBits
 pub mod Paths
 pub mod Hashing
 pub mod Names
+pub mod Windows

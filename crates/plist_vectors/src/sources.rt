@@ -91,8 +91,7 @@ fn expect_calls(rt: &(impl Abort + AllocGlobal), places: &[u32], calls: u64) {
 }
 
 // Parts of a file in turn are read once each, two in one slot too. A third one of the slot takes
-// the place of the one that was filled first. What is wanted again then is read again, once, and
-// kept.
+// the place of the one that was filled first. What lies over a window's end is held with it.
 #[test]
 fn keeps_its_windows(rt: HostRuntime) {
     expect_calls(&rt, &[0, 8_192, 5, 80_000, 8_200, 3, 80_005], 6);
@@ -104,13 +103,32 @@ fn keeps_its_windows(rt: HostRuntime) {
     expect_calls(&rt, &[0, 524_288, 1_048_576, 1_048_580, 524_288], 6);
     expect_calls(&rt, &[0, 524_288, 1_048_576, 0, 1_048_576], 8);
     expect_calls(&rt, &[0, 32_768, 65_536, 98_304], 8);
-    expect_calls(
-        &rt,
-        &[
-            0, 32_768, 65_536, 98_304, 0, 32_768, 65_536, 98_304, 0, 32_768, 65_536, 98_304, 5,
-        ],
-        12,
-    );
+    expect_calls(&rt, &[8_190, 8_191], 2);
+    expect_calls(&rt, &[8_190, 8_192], 4);
+}
+
+// The calls of the reader under a source, of which so many rounds go over four parts of one slot.
+fn calls_of_rounds(rt: &(impl Abort + AllocGlobal), windows: bool, rounds: u32) -> u64 {
+    let disk = Disk::new(sample(rt, 100_000), u64::MAX);
+    let mut source = match windows {
+        true => Seeking::with_windows(rt.alloc(), disk),
+        false => Seeking::new(disk),
+    };
+    for _ in 0..rounds {
+        for place in [0, 32_768, 65_536, 98_304] {
+            expect_read(rt, &mut source, 100_000, place, 3);
+        }
+    }
+    source.into_inner().calls
+}
+
+// The ninth window that is filled again makes twice as many, in which the four have two slots.
+#[test]
+fn windows_grow(rt: HostRuntime) {
+    assert_eq!(rt; calls_of_rounds(&rt, true, 3), 24);
+    assert_eq!(rt; calls_of_rounds(&rt, true, 4), 32);
+    assert_eq!(rt; calls_of_rounds(&rt, true, 100), 32);
+    assert_eq!(rt; calls_of_rounds(&rt, false, 100), 800);
 }
 
 // Reads three bytes, and tells whether the disk failed.
