@@ -206,6 +206,8 @@ pub struct Disk {
     inner: Cursor<Vec<u8>>,
     /// How many bytes one read gives at most.
     pub most: usize,
+    /// The kind of its error.
+    pub kind: ErrorKind,
     /// How many calls it was asked for.
     pub calls: u64,
     /// How many of them failed.
@@ -219,6 +221,7 @@ impl Disk {
         Disk {
             inner: Cursor::new(bytes),
             most: usize::MAX,
+            kind: ErrorKind::PermissionDenied,
             calls: 0,
             failures: 0,
             fails_at,
@@ -230,7 +233,7 @@ impl Disk {
         self.calls = call.saturating_add(1);
         if call == self.fails_at {
             self.failures = self.failures.saturating_add(1);
-            return Err(io::Error::from(ErrorKind::PermissionDenied));
+            return Err(io::Error::from(self.kind));
         }
         Ok(())
     }
