@@ -105,10 +105,10 @@ Passes old (Ok event) given new ended = MatchResult given
     (λ error. Refuses old (event_of event) (fault_of error) × (ended ≡ true))
 Passes old (Err error) given new ended = (given ≡ Err error) × (ended ≡ true)
 
--- the same, or nothing where nothing comes
+-- the same, or nothing where nothing comes, and then nothing more
 abbrev pub PassesNext : (old : Limiter) → (asked given : Option (Result Event Error))
     → (new : Limiter) → (ended : Bool) → Type 0
-PassesNext old None given new ended = (given ≡ None) × (new ≡ old) × (ended ≡ false)
+PassesNext old None given new ended = (given ≡ None) × (new ≡ old) × (ended ≡ true)
 PassesNext old (Some asked) given new ended =
     MatchOption given ⊥ (λ item. Passes old asked item new ended)
 
@@ -121,7 +121,7 @@ abbrev pub come_of : {I : Type 0} → Limited I → List Item → List Item
 come_of limited items = cond limited.ended [] (under limited.limiter items)
 
 -- one call of `next`: what comes of the next item of the iterator inside, which is asked no more
--- after a fault
+-- after a fault or `None`
 abbrev pub GivesLimited : {I : Type 0} → (I → Option (Result Event Error) → I → Type 0) → Limited I
     → Option (Result Event Error) → Limited I → Type 0
 GivesLimited inner_gives old item new = MatchBool old.ended

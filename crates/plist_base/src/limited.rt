@@ -8,13 +8,13 @@ use crate::{Error, Limiter, Limits, OwnedEvent};
 /// The items of another iterator up to their first fault, under [`Limits`].
 ///
 /// The first event that is one too many, or else a start that would open one collection too many,
-/// is replaced by `LimitReached`, without an offset. A fault stays that fault. After either nothing
-/// more comes, and the other iterator isn't asked again.
+/// is replaced by `LimitReached`, without an offset. A fault stays that fault. After either, and
+/// after the other iterator's `None`, nothing more comes, and it isn't asked again.
 #[derive(Drop)]
 pub struct Limited<I> {
     inner: I,
     limiter: Limiter,
-    // A fault has come.
+    // A fault has come, or `None`.
     ended: bool,
 }
 
@@ -70,7 +70,10 @@ impl<I: Iterator<Item = Result<OwnedEvent, Error>>> Iterator for Limited<I> {
         }
         match self.inner.next() {
             Some(item) => Some(self.pass(item)),
-            None => None,
+            None => {
+                self.ended = true;
+                None
+            }
         }
     }
 }

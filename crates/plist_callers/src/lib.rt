@@ -1,9 +1,9 @@
 //! Proved callers of the property-list crates: small functions, each proved by the clauses of what
 //! it calls alone, so that none of those clauses can say less unnoticed.
 //!
-//! From the lowest layer up: `faults`, `texts`, `dates`, `events`, `sources`, `data`; the readers
-//! `binary`, `ascii` and `either`, and the `writer`; `values` and their `contents`, dictionaries by
-//! `pairs`, `entries` and `iterators`; and `archives`.
+//! From the lowest layer up: `faults`, `texts`, `dates`, `events`, `sources`, `limits`, `data`; the
+//! readers `binary`, `ascii` and `either`, and the `writer`; `values` and their `contents`,
+//! dictionaries by `pairs`, `entries` and `iterators`; and `archives`.
 #![tactic(auto)]
 
 pub mod archives;
@@ -17,6 +17,7 @@ pub mod entries;
 pub mod events;
 pub mod faults;
 pub mod iterators;
+pub mod limits;
 pub mod pairs;
 pub mod sources;
 pub mod texts;
