@@ -68,3 +68,13 @@ pub fn device_again<R: Read + Seek + Drop>(device: R) -> R
 {
     Seeking::new(device).into_inner()
 }
+
+/// The next bytes of a source from its front, with the source, which counts whether its read failed.
+pub fn read_front<S: Source>(source: S, buf: &mut [u8]) -> (io::Result<usize>, S)
+    ensures failures { CountsFailure result.0 (S.failures source) (S.failures result.1) }
+    ensures unchanged { S.known result.1 ≡ S.known source }
+{
+    let mut reader = Sequential::new(source);
+    let answer = reader.read(buf);
+    (answer, reader.into_inner())
+}
