@@ -52,10 +52,16 @@ pub record FailsReading (place size : ℕ) (fault : Fault) : Type 0 where
   pub kind : IsReadFault fault.kind
   pub at : IsPlaceWithin place (place + size) fault.offset
 
--- where the fault is that the bytes end too early, they end at or before its place
-abbrev pub EndsTooEarly : List ℕ → Fault → Type 0
-EndsTooEarly bytes fault =
-    fault.kind ≡ UnexpectedEof → IfSome fault.offset (λ place. length bytes ≤ place)
+-- where the fault is that the bytes end too early, they end at its place, or before the first one
+-- that was asked for
+abbrev pub EndsTooEarly : (start : ℕ) → List ℕ → Fault → Type 0
+EndsTooEarly start bytes fault = fault.kind ≡ UnexpectedEof → IfSome fault.offset
+    (λ place. (length bytes ≤ place) × ((place ≡ start) ⊎ (place ≤ length bytes)))
+
+-- the bytes from `start` on that lie before the fault's place are in the buffer
+abbrev pub FillsUpTo : (start : ℕ) → (buffer bytes : List ℕ) → Fault → Type 0
+FillsUpTo start buffer bytes fault = IfSome fault.offset
+    (λ place. take (place - start) buffer ≡ take (place - start) (drop start bytes))
 
 -- where all of them are there, a read of `size` bytes from a place on fails by the device alone
 abbrev pub IsIoWithin : (place size : ℕ) → List ℕ → Fault → Type 0

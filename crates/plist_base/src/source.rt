@@ -1,7 +1,7 @@
 //! Where a reader takes its bytes from.
 
 ghost use Rattle.std.specs.Prelude.{◌≡◌, ℕ, ◌+◌, ◌-◌, ◌^◌, ◌<◌, ◌≤◌, List, length, drop, Some, Option, IfOk, IfSome, OnOk};
-ghost use Rattle.plist_base.specs.Sources.{CountsFailure, GivesAt, LiesAt, AnswersIo, FailsReading, EndsTooEarly, IsIoWithin};
+ghost use Rattle.plist_base.specs.Sources.{CountsFailure, GivesAt, LiesAt, AnswersIo, FailsReading, FillsUpTo, EndsTooEarly, IsIoWithin};
 ghost use Rattle.plist_base.specs.Outcomes.{DecodesBy, IfFault, IfRead, IfRefused};
 
 use crate::{Error, ErrorKind};
@@ -116,16 +116,17 @@ impl Source for Vec<u8> {
 ///
 /// # Errors
 /// `Io` where a read fails, `UnexpectedEof` where the bytes end too early, each with the place of
-/// that read. The buffer may then hold a beginning of the bytes.
+/// that read. The buffer then holds the bytes before that place.
 pub fn read_exact_at<S: Source>(source: &mut S, place: u64, buf: &mut [u8]) -> Result<(), Error>
     requires { place + length buf.old < 2 ^ 64 }
     // The answer.
     ensures bytes { OnOk result (IfSome (S.known source.old) (λ b. LiesAt b place buf.new)) }
     // A refusal.
     ensures refused { IfRefused result (S.known source.old) (IsIoWithin place (length buf.old)) }
-    ensures short { IfRefused result (S.known source.old) EndsTooEarly }
+    ensures short { IfRefused result (S.known source.old) (EndsTooEarly place) }
     ensures fault { IfFault result (FailsReading place (length buf.old)) }
     // The state after it.
+    ensures filled { IfRefused result (S.known source.old) (FillsUpTo place buf.new) }
     ensures unchanged { S.known source.new ≡ S.known source.old }
     ensures failures { AnswersIo result (S.failures source.old) (S.failures source.new) }
 {

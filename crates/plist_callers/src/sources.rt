@@ -1,7 +1,7 @@
 //! Proved callers of sources: what a read gives, how much there is and is lent, and what becomes of
 //! a device.
 
-ghost use Rattle.std.specs.Prelude.{◌≡◌, ◌+◌, ◌-◌, ◌^◌, ◌<◌, ◌≤◌, IfOk, IsOk, OnOk, Some, drop, length, take};
+ghost use Rattle.std.specs.Prelude.{◌≡◌, ◌+◌, ◌-◌, ◌^◌, ◌<◌, ◌≤◌, IfOk, IfSome, IsOk, OnOk, Some, drop, length, take};
 ghost use Rattle.plist_base.specs.Seeking.{failures_of};
 ghost use Rattle.plist_base.specs.Sources.{CountsFailure, LiesAt};
 
@@ -77,4 +77,19 @@ pub fn read_front<S: Source>(source: S, buf: &mut [u8]) -> (io::Result<usize>, S
     let mut reader = Sequential::new(source);
     let answer = reader.read(buf);
     (answer, reader.into_inner())
+}
+
+/// How many bytes of a slice there are, as far as a read that is refused tells it, and then those
+/// from the place on are in the buffer.
+pub fn end_told(bytes: &[u8], place: u64, buf: &mut [u8]) -> Option<u64>
+    requires fits { place + length buf.old < 2 ^ 64 }
+    requires begins { place ≤ length bytes.now }
+    ensures end { IfSome result (λ end. end ≡ length bytes.now) }
+    ensures filled { IfSome result (λ end. take (end - place) buf.new ≡ drop place bytes.now) }
+{
+    let mut source = bytes;
+    match read_exact_at(&mut source, place, buf) {
+        Ok(()) => None,
+        Err(error) => error.offset(),
+    }
 }
