@@ -2,6 +2,7 @@
 //! text reads back as itself.
 
 ghost use Rattle.std.specs.Prelude.{◌≡◌, ◌<◌, ◌↔◌, IfErr, IfOk, IsTrue, codes, length, slice_get, slice_set, string_bytes};
+ghost use Rattle.plist_data.specs.DataText.{data_text};
 ghost use Rattle.plist_data.specs.declared.data.InvalidXmlData.TheVariants as refusal;
 
 use base64::DecodeError;
@@ -60,6 +61,17 @@ pub fn text_of_no_data(alloc: Global) -> Result<String, AllocError>
     ensures { IfOk result (λ text. string_bytes text ≡ codes "Invalid XML data") }
 {
     InvalidXmlData::Decode(DecodeError::InvalidPadding).to_string(alloc)
+}
+
+/// The text of bytes, as data: base64 in lines of 68 characters.
+///
+/// # Errors
+///
+/// Want of memory.
+pub fn text_of_bytes(alloc: Global, bytes: Vec<u8>) -> Result<String, Error>
+    ensures { IfOk result (λ text. string_bytes text ≡ data_text bytes.items) }
+{
+    Data::from(bytes).to_xml_format(alloc)
 }
 
 /// The data of data's own text, which is that data.

@@ -2,8 +2,9 @@
 //! date that has no text.
 
 ghost use Rattle.std.specs.Prelude.{◌≡◌, IfOk, None, Some, string_bytes};
-ghost use Rattle.plist_base.specs.DateTexts.{IsInUtc, IsRefused, second_of_text};
-ghost use Rattle.plist_base.specs.Faults.{FractionalDate, InvalidDateString};
+ghost use Rattle.plist_base.specs.Date.{IsWhole};
+ghost use Rattle.plist_base.specs.DateTexts.{HasOtherYear, IsInUtc, IsRefused, second_of_text};
+ghost use Rattle.plist_base.specs.Faults.{FractionalDate, InvalidDateString, YearOutOfRange};
 
 use plist_base::{Date, Error, ErrorKind};
 use std::alloc::Global;
@@ -50,6 +51,15 @@ pub fn half_second(alloc: Global) -> Result<String, Error>
         Ok(date) => date.to_xml_format(alloc),
         Err(kind) => Err(kind.without_position()),
     }
+}
+
+/// The text of a date in a year that isn't one from 0 to 9999: there is none.
+pub fn other_year(alloc: Global, date: &Date) -> Result<String, Error>
+    requires whole { IsWhole date.now }
+    requires year { HasOtherYear date.now }
+    ensures { IsRefused YearOutOfRange result }
+{
+    date.to_xml_format(alloc)
 }
 
 /// Why an infinite real is no date.
