@@ -1,9 +1,11 @@
-//! Proved callers of the reader: what becomes of its device.
+//! Proved callers of the reader: what becomes of its device, and that it looks at no byte behind a
+//! bracket.
 
-ghost use Rattle.std.specs.Prelude.{◌≡◌};
-ghost use Rattle.plist_ascii.specs.AsciiReader.{HasEnded, inner_of};
+ghost use Rattle.std.specs.Prelude.{◌≡◌, None, true};
+ghost use Rattle.plist_ascii.specs.AsciiReader.{HasEnded, inner_of, looked_at};
 
 use plist_ascii::{AsciiReader, Bytes};
+use plist_base::Event;
 use std::alloc::Global;
 
 /// A device, by way of a reader that wasn't asked for an item.
@@ -20,4 +22,15 @@ pub fn device_behind_end<R: Bytes + Drop>(reader: AsciiReader<R>) -> R
     let mut reader = reader;
     let _item = reader.next();
     reader.into_inner()
+}
+
+/// Whether the next item is the start or the end of a collection. Then no byte behind it has been
+/// looked at.
+pub fn comes_to_bracket<R: Bytes + Drop>(reader: &mut AsciiReader<R>) -> bool
+    ensures { result ≡ true → looked_at reader.new ≡ None }
+{
+    match reader.next() {
+        Some(Ok(Event::StartArray(_) | Event::StartDictionary(_) | Event::EndCollection)) => true,
+        _ => false,
+    }
 }
