@@ -1,6 +1,6 @@
 //! Pairs in the order of their keys.
 
-ghost use Rattle.std.specs.Prelude.{◌≡◌, ◌≤◌, OnErr, OnOk, [], IsPermutation, IsSorted, length, map, string_cmp};
+ghost use Rattle.std.specs.Prelude.{◌≡◌, ◌≤◌, IfOk, OnErr, OnOk, [], IsPermutation, IsSorted, length, map, string_cmp};
 ghost use Rattle.std.specs.Cmp.Lexicographic.{slice_cmp};
 ghost use Rattle.std.specs.Ordering.{nat_cmp};
 ghost use Rattle.std.specs.List.{IsDistinct};
@@ -9,12 +9,21 @@ ghost use Rattle.std.specs.Str.{bytes_eq};
 ghost use Rattle.std.specs.Vec.{vec_capacity};
 ghost use Rattle.indexmap.specs.IndexSet.{spare};
 ghost use Rattle.plist_pairs.specs.Shown.{shown_owned_pair};
+ghost use Rattle.plist_pairs.specs.inner.Rooms.{HasRoom};
 
 use crate::dictionary::store::Store;
 use indexmap::IndexSet;
 use std::alloc::{AllocError, Global};
 use std::cmp::Ordering;
 use std::mem;
+
+// Room for pairs: in rows, and in the columns of a store.
+#[derive(Drop)]
+pub(crate) struct Room<V> {
+    rows: Vec<(String, V)>,
+    keys: IndexSet<String>,
+    items: Vec<V>,
+}
 
 impl<V: Drop> Store<V> {
     // Sorts the pairs by the bytes of their keys. Memory is taken before the first pair moves.
@@ -23,27 +32,45 @@ impl<V: Drop> Store<V> {
         ensures pairs { OnOk result (IsPermutation self.old self.new) }
         ensures unchanged { OnErr result (self.new ≡ self.old) }
     {
-        let count = self.pair_count();
-        let room = Vec::with_capacity(alloc, count)?;
-        let keys = IndexSet::with_capacity(alloc, count)?;
-        let items = Vec::with_capacity(alloc, count)?;
-        // no memory is taken from here on
-        let mut rows = rows_of(mem::replace(self, Store::new(alloc)), room);
-        rows.sort_unstable_by(
-            |a: &(String, V), b: &(String, V)| -> Ordering
-                ensures { result ≡ string_cmp a.now.0 b.now.0 }
-            { a.0.cmp(&b.0) },
-        );
-        *self = store_of(rows, keys, items);
+        let room = room_for(alloc, self.pair_count())?;
+        *self = sorted(mem::replace(self, Store::new(alloc)), room);
         Ok(())
     }
+}
+
+// Room for so many pairs.
+fn room_for<V: Drop>(alloc: Global, count: usize) -> Result<Room<V>, AllocError>
+    ensures { IfOk result (HasRoom count) }
+{
+    Ok(Room {
+        rows: Vec::with_capacity(alloc, count)?,
+        keys: IndexSet::with_capacity(alloc, count)?,
+        items: Vec::with_capacity(alloc, count)?,
+    })
+}
+
+// The pairs in the order of their keys, in room that is made for them.
+fn sorted<V: Drop>(pairs: Store<V>, room: Room<V>) -> Store<V>
+    requires { HasRoom (length pairs) room }
+    ensures sorted { IsSorted (slice_cmp nat_cmp) (keys_of result) }
+    ensures pairs { IsPermutation pairs result }
+{
+    let Room { rows, keys, items } = room;
+    let mut rows = rows_of(pairs, rows);
+    rows.sort_unstable_by(
+        |a: &(String, V), b: &(String, V)| -> Ordering
+            ensures { result ≡ string_cmp a.now.0 b.now.0 }
+        { a.0.cmp(&b.0) },
+    );
+    store_of(rows, keys, items)
 }
 
 // The pairs by value, in room that is made for them.
 fn rows_of<V: Drop>(pairs: Store<V>, room: Vec<(String, V)>) -> Vec<(String, V)>
     requires empty { room.items ≡ [] }
     requires fits { length pairs ≤ vec_capacity room }
-    ensures { map shown_owned_pair result.items ≡ pairs }
+    ensures rows { map shown_owned_pair result.items ≡ pairs }
+    ensures distinct { IsDistinct bytes_eq (keys_of (map shown_owned_pair result.items)) }
 {
     let mut rows = room;
     for row in pairs.into_pairs() {
