@@ -9,7 +9,14 @@ use std::io;
 
 /// Bytes that can be read at any place.
 ///
-/// A source tells whether its bytes are known, and counts its failures.
+/// A source tells whether its bytes are known, and counts its failures. It is a slice, a vector or
+/// a file:
+///
+/// ```text
+/// Value::from_reader(alloc, bytes.as_slice())
+/// Value::from_reader(alloc, bytes)
+/// Value::from_reader(alloc, Seeking::new(file))
+/// ```
 pub trait Source: Drop {
     /// The bytes, where they are known.
     ghost known: { Self → Option (List ℕ) };

@@ -7,7 +7,7 @@ ghost use Rattle.std.specs.Map.{keys_of};
 ghost use Rattle.plist_base.specs.Outcomes.{OnlyMemory};
 
 use crate::dictionary::Pairs;
-use plist_base::{Error, ErrorKind};
+use plist_base::Error;
 use std::alloc::Global;
 
 impl<V> Pairs<V> {
@@ -48,7 +48,7 @@ impl<V> Pairs<V> {
         while let Some((key, value)) = rest.next() {
             match self.insert(key, value) {
                 Ok(_old) => {}
-                Err(_pair) => return Err(ErrorKind::OutOfMemory.without_position()),
+                Err(pair) => return Err(Error::from(pair)),
             }
         }
         Ok(())
