@@ -4,3 +4,4 @@ pub mod Keeping
 pub mod Retained
 pub mod Extended
 pub mod Rebuilt
+pub mod Among

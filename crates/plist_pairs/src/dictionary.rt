@@ -1,6 +1,6 @@
 //! Dictionaries: pairs of a key and a value, in the order in which the keys came.
 
-ghost use Rattle.std.specs.Prelude.{◌≡◌, ◌↔◌, IsTrue, None, Some, [], length, is_some, string_bytes, IfOk, OnOk, IfErr, OnErr};
+ghost use Rattle.std.specs.Prelude.{◌≡◌, ◌↔◌, IsTrue, None, Some, [], length, is_some, string_bytes, IfOk, IfSome, OnOk, IfErr, OnErr};
 ghost use Rattle.std.specs.Str.{bytes_eq};
 ghost use Rattle.std.specs.Option.{option_copied, option_copied_mut};
 ghost use Rattle.std.specs.Map.{lookup, keys_of, values_of};
@@ -72,8 +72,8 @@ fn put<V>(dest: &mut Option<Box<Store<V>>>, store: Box<Store<V>>)
 
 impl<V> Pairs<V> {
     ghost use Rattle.std.specs.Borrow.{sem};
-    ghost use Rattle.std.specs.List.{IsDistinct};
-    ghost use Rattle.std.specs.Map.Iter.{ShowsInOrder, deref};
+    ghost use Rattle.std.specs.List.{IsAmong, IsDistinct};
+    ghost use Rattle.std.specs.Map.Iter.{ShowsInOrder, ShowsValuesInOrder, deref};
     ghost use Rattle.plist_pairs.specs.Lends.{LendsAtKey};
     ghost use Rattle.plist_pairs.specs.Shown.{shown_key, shown_pair};
 
@@ -99,6 +99,7 @@ impl<V> Pairs<V> {
     /// The value of the key, if it is there.
     pub fn get(&self, key: &str) -> Option<&V>
         ensures value { option_copied result ≡ lookup (bytes_eq key.now) self.now }
+        ensures member { IfSome result (λ value. IsAmong (values_of self.now) value.now) }
     {
         match &self.store {
             None => None,
@@ -186,6 +187,7 @@ impl<V> Pairs<V> {
     pub fn iter(&self) -> Iter<'_, V>
         ensures rest { result ≡ self.now }
         ensures runs { ShowsInOrder (shown_pair {V = V}) }
+        ensures values_run { ShowsValuesInOrder (shown_pair {V = V}) }
         ensures distinct { IsDistinct bytes_eq (keys_of self.now) }
     {
         match &self.store {
@@ -240,7 +242,7 @@ impl<V> Pairs<V> {
 /// The pairs, in their order.
 impl<'a, V> IntoIterator for &'a Pairs<V> {
     ghost use Rattle.std.specs.List.{IsDistinct};
-    ghost use Rattle.std.specs.Map.Iter.{ShowsInOrder};
+    ghost use Rattle.std.specs.Map.Iter.{ShowsInOrder, ShowsValuesInOrder};
     ghost use Rattle.plist_pairs.specs.Shown.{shown_pair};
 
     type Item = (&'a String, &'a V);
@@ -248,7 +250,7 @@ impl<'a, V> IntoIterator for &'a Pairs<V> {
     type IntoIter = Iter<'a, V>;
 
     ghost into_iter_gives = { λ pairs iter. (iter ≡ pairs.now) × ShowsInOrder (shown_pair {V = V})
-        × IsDistinct bytes_eq (keys_of pairs.now) };
+        × ShowsValuesInOrder (shown_pair {V = V}) × IsDistinct bytes_eq (keys_of pairs.now) };
 
     fn into_iter(self) -> Iter<'a, V> {
         self.iter()
@@ -258,7 +260,7 @@ impl<'a, V> IntoIterator for &'a Pairs<V> {
 /// The pairs by value, in their order.
 impl<V: Drop> IntoIterator for Pairs<V> {
     ghost use Rattle.std.specs.List.{IsDistinct};
-    ghost use Rattle.std.specs.Map.Iter.{ShowsInOrder};
+    ghost use Rattle.std.specs.Map.Iter.{ShowsInOrder, ShowsValuesInOrder};
     ghost use Rattle.plist_pairs.specs.Shown.{shown_owned_pair};
 
     type Item = (String, V);
@@ -266,7 +268,7 @@ impl<V: Drop> IntoIterator for Pairs<V> {
     type IntoIter = IntoIter<V>;
 
     ghost into_iter_gives = { λ pairs iter. (iter ≡ pairs) × ShowsInOrder (shown_owned_pair {V = V})
-        × IsDistinct bytes_eq (keys_of pairs) };
+        × ShowsValuesInOrder (shown_owned_pair {V = V}) × IsDistinct bytes_eq (keys_of pairs) };
 
     fn into_iter(self) -> IntoIter<V> {
         self.into_store().into_pairs()

@@ -58,6 +58,8 @@ impl<V> Pairs<V> {
 
 impl<'a, V> OccupiedEntry<'a, V> {
     ghost use Rattle.std.specs.Borrow.{sem};
+    ghost use Rattle.std.specs.List.{IsAmong};
+    ghost use Rattle.std.specs.Map.{values_of};
     ghost use Rattle.plist_pairs.specs.Entry.{IsSameEntry, IsTaken, Occupied, entry_key, entry_lends, entry_pairs, entry_value, occupied_lends, with_value};
 
     /// The key.
@@ -70,7 +72,8 @@ impl<'a, V> OccupiedEntry<'a, V> {
     /// The key's value.
     #[tactic(auto, using(crate::proofs::EntrySteps::entries))]
     pub fn get(&self) -> &V
-        ensures { entry_value (Occupied self.now) ≡ Some result.now }
+        ensures value { entry_value (Occupied self.now) ≡ Some result.now }
+        ensures member { IsAmong (values_of (entry_pairs (Occupied self.now))) result.now }
     {
         self.pairs.pair_at(self.at).1
     }
@@ -87,6 +90,7 @@ impl<'a, V> OccupiedEntry<'a, V> {
     /// The key's value, to be changed for as long as the dictionary is lent.
     pub fn into_mut(self) -> &'a mut V
         ensures value { entry_value (Occupied self.entry) ≡ Some result.now }
+        ensures member { IsAmong (values_of (entry_pairs (Occupied self.entry))) result.now }
         ensures* writes_back { sem 𝓛 (entry_lends V.row (Occupied self.entry) result) }
     {
         let OccupiedEntry { pairs, at } = self;

@@ -1,7 +1,7 @@
 use Rattle.std.proofs.Common.{◌∙◌, subst, bytes_eq}
 use Rattle.std.specs.List.{IsDistinct}
 use Rattle.std.specs.Map.{keys_of}
-use Rattle.std_collections.proofs.IterRuns.{shows_in_order}
+use Rattle.std_collections.proofs.IterRuns.{shows_in_order, shows_values_in_order}
 use Rattle.plist_pairs.specs.Shown.{shown_owned_pair}
 use Rattle.plist_pairs.proofs.dictionary.PairsIntoIterator.into_iter.Goals as goal
 
@@ -12,6 +12,7 @@ returns g c =
         c.into_pairs.ensures.pairs
             ∙ c.into_store.ensures,
         shows_in_order shown_owned_pair,
+        shows_values_in_order shown_owned_pair,
         subst (λ ps. IsDistinct bytes_eq (keys_of ps)) c.into_store.ensures
             c.into_pairs.ensures.distinct,
       );
