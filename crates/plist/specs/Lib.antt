@@ -1,5 +1,6 @@
 pub mod LastWins
 pub mod Views
+pub mod Variants
 pub mod Building
 pub mod Partials
 pub mod Builder

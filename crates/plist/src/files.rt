@@ -1,15 +1,17 @@
 //! Values in files.
 
-ghost use Rattle.std.specs.Prelude.{None, IsSome, OnOk};
+ghost use Rattle.std.specs.Prelude.{None, IfOk, IsSome, OnOk};
 ghost use Rattle.std.specs.Io.{WritesAtMost};
 ghost use Rattle.std.specs.Io.KnownBytes.{WriteAppends};
 ghost use Rattle.plist_base.specs.Outcomes.{IfFault, OnlyDevice};
+ghost use Rattle.plist.specs.Collecting.{built_tree};
+ghost use Rattle.plist.specs.Limiting.{IsWithinLimits};
 ghost use Rattle.plist.specs.SendingValues.{SendsValue};
 ghost use Rattle.plist.specs.Stored.{IsUnstored};
 ghost use Rattle.plist.specs.Views.{tree_of};
 
 use crate::Value;
-use plist_base::{Error, ErrorKind, Seeking};
+use plist_base::{Error, ErrorKind, Limits, Seeking};
 use std::alloc::Global;
 use std::fs::OpenFile;
 use std::io::Write;
@@ -97,11 +99,36 @@ impl Value {
     ///
     /// # Errors
     ///
-    /// - `Io` without an offset where the file can't be opened.
+    /// - `Io` without an offset where the file can't be opened. [`Error::as_io`] has the reason,
+    ///   which the fault's text leaves out.
     /// - Those of [`Value::from_reader`].
     pub fn from_file<R: Files>(rt: &R, alloc: Global, path: &str) -> Result<Value, Error> {
         match fs::open(rt, path) {
             Ok(file) => Value::from_reader(alloc, Seeking::with_windows(alloc, file)),
+            Err(failure) => Err(ErrorKind::Io(failure).without_position()),
+        }
+    }
+
+    /// The same, of no more than these limits let come. The value nests at most `limits.depth`
+    /// collections, and came of at most `limits.items` events.
+    ///
+    /// # Errors
+    ///
+    /// - `LimitReached`, as [`Value::from_reader_with_limits`].
+    /// - Those of [`Value::from_file`].
+    pub fn from_file_with_limits<R: Files>(
+        rt: &R,
+        alloc: Global,
+        path: &str,
+        limits: Limits,
+    ) -> Result<Value, Error>
+        ensures within { IfOk (built_tree result) (IsWithinLimits limits) }
+    {
+        match fs::open(rt, path) {
+            Ok(file) => {
+                let source = Seeking::with_windows(alloc, file);
+                Value::from_reader_with_limits(alloc, source, limits)
+            }
             Err(failure) => Err(ErrorKind::Io(failure).without_position()),
         }
     }

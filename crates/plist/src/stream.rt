@@ -5,8 +5,13 @@ pub mod events;
 
 pub use builder::{AnyEvent, Builder};
 pub use events::Events;
-pub use plist_ascii::AsciiReader;
-pub use plist_base::{Event, OwnedEvent, Seeking, Sequential, Source, Writer};
-pub use plist_binread::BinaryReader;
-pub use plist_binwrite::BinaryWriter;
-pub use plist_reader::Reader;
+pub use plist_ascii::{AsciiReader, Bytes};
+pub use plist_base::{
+    Event, Limited, OwnedEvent, Sealed, Seeking, Sequential, Source, Writer, read_exact_at,
+};
+pub use plist_binread::{BinaryReader, DecodeCounter, Decodings, Told, Uncounted};
+pub use plist_binwrite::{
+    BinaryWriter, EqualScalars, FileWriter, Held, Sharing, classes, complete, complete_by_class,
+    forms, numbers, outlet,
+};
+pub use plist_reader::{Format, Reader, format_of};

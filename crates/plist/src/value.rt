@@ -16,18 +16,21 @@ ghost use Rattle.plist_base.specs.Trees.{Leaf, String};
 ghost use Rattle.plist.specs.LastWins.{AreLastValues, TreePairs, last_values, last_wins};
 ghost use Rattle.plist.specs.Limiting.{IsReadUnder, IsWithinLimits, limited_input};
 ghost use Rattle.plist.specs.Events.{remaining_events};
+ghost use Rattle.plist.specs.Variants.{value_with};
 ghost use Rattle.plist.specs.Views.{item_trees, kind_of_tree, pair_trees, tree_of};
 ghost use Rattle.plist.specs.inner.Weights.{SplitsInto};
 
 mod contents;
 mod dropping;
 mod from;
+mod variant;
 
 use crate::Dictionary;
 use crate::collect::collect;
 use crate::copy::copy;
 use crate::stream::{AnyEvent, Events};
 use crate::value::dropping::joined;
+pub use crate::value::variant::Variant;
 use crate::writing::collect_events;
 use plist_ascii::{AsciiReader, Bytes, Dialect};
 use plist_base::{Date, Error, EventKind, Integer, Limited, Limits, RealBits, Source, Uid};
@@ -39,7 +42,8 @@ use std::io::Write;
 /// A property list: a scalar, an array, or a dictionary.
 ///
 /// A value is dropped without recursion and without memory, however deep it is. So a pattern can't
-/// take the content out of one by value: [`Value::into_array`] and the like do.
+/// take the content out of one by value: [`Value::into_variant`] does, for a pattern on what it
+/// answers, and [`Value::into_array`] and the like for one kind.
 #[derive(Debug)]
 pub enum Value {
     /// Values in order.
@@ -94,6 +98,24 @@ impl Value {
             Value::Integer(_) => None,
             Value::String(_) => None,
             Value::Uid(_) => None,
+        }
+    }
+
+    /// Takes the value apart, into an enum of the same variants on which a pattern moves. The
+    /// content stays as it was, and no memory is taken.
+    pub fn into_variant(self) -> Variant
+        ensures made { self ≡ value_with result }
+    {
+        match self {
+            Value::Array(items) => Variant::Array(items),
+            Value::Dictionary(pairs) => Variant::Dictionary(pairs),
+            Value::Boolean(flag) => Variant::Boolean(flag),
+            Value::Data(bytes) => Variant::Data(bytes),
+            Value::Date(date) => Variant::Date(date),
+            Value::Real(bits) => Variant::Real(bits),
+            Value::Integer(number) => Variant::Integer(number),
+            Value::String(text) => Variant::String(text),
+            Value::Uid(uid) => Variant::Uid(uid),
         }
     }
 
@@ -181,6 +203,14 @@ impl Value {
     /// The value of a source, binary or in ASCII as [`Reader`] chooses. A key that comes again
     /// keeps its first place and takes its last value. A binary file that is written of a value
     /// gives that value, in order.
+    ///
+    /// A source is a slice of bytes, a vector, or anything to read and seek, as a file:
+    ///
+    /// ```text
+    /// Value::from_reader(alloc, bytes.as_slice())
+    /// Value::from_reader(alloc, bytes)
+    /// Value::from_reader(alloc, Seeking::new(file))
+    /// ```
     ///
     /// # Errors
     ///

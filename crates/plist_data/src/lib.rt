@@ -5,4 +5,5 @@
 
 pub mod data;
 
+pub use base64::DecodeError;
 pub use data::{Data, InvalidXmlData};

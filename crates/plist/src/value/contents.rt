@@ -11,11 +11,14 @@ use std::alloc::Global;
 
 impl Value {
     ghost use Rattle.std.specs.Borrow.{sem};
+    ghost use Rattle.plist.specs.declared.value.Value.TheVariants as made;
     ghost use Rattle.plist.specs.Rows.{LendsArray, LendsDictionary, items_lent, pairs_lent};
 
     /// The array, if the value is one.
     pub fn as_array(&self) -> Option<&Vec<Value>>
-        ensures { option_map (λ a. item_trees a.now.items) result ≡ array_in (tree_of self.now) }
+        ensures value { option_map (λ a. item_trees a.now.items) result
+            ≡ array_in (tree_of self.now) }
+        ensures made { IfSome result (λ items. self.now ≡ made.Array items.now) }
     {
         match self {
             Value::Array(array) => Some(array),
@@ -26,6 +29,7 @@ impl Value {
     /// The array, to be changed, if the value is one.
     pub fn as_array_mut(&mut self) -> Option<&mut Vec<Value>>
         ensures value { items_lent result ≡ array_in (tree_of self.old) }
+        ensures made { IfSome result (λ items. self.old ≡ made.Array items.now) }
         ensures* writes_back { sem 𝓛 (LendsArray self.entry result self.old) }
     {
         match self {
@@ -36,7 +40,9 @@ impl Value {
 
     /// The dictionary, if the value is one.
     pub fn as_dictionary(&self) -> Option<&Dictionary>
-        ensures { option_map (λ d. pair_trees d.now) result ≡ dictionary_in (tree_of self.now) }
+        ensures value { option_map (λ d. pair_trees d.now) result
+            ≡ dictionary_in (tree_of self.now) }
+        ensures made { IfSome result (λ pairs. self.now ≡ made.Dictionary pairs.now) }
     {
         match self {
             Value::Dictionary(dictionary) => Some(dictionary),
@@ -47,6 +53,7 @@ impl Value {
     /// The dictionary, to be changed, if the value is one.
     pub fn as_dictionary_mut(&mut self) -> Option<&mut Dictionary>
         ensures value { pairs_lent result ≡ dictionary_in (tree_of self.old) }
+        ensures made { IfSome result (λ pairs. self.old ≡ made.Dictionary pairs.now) }
         ensures* writes_back { sem 𝓛 (LendsDictionary self.entry result self.old) }
     {
         match self {
