@@ -1,0 +1,197 @@
+//! A settings tool. Its words are done in turn: `open=FILE`, `list`, `get=PATH`, `set=PATH=TEXT`,
+//! `delete=PATH` and `save=FILE`. A path is keys with dots between. It is the port of
+//! `examples/settings.rs`, which stands on the Rust crate `plist`.
+#![tactic(auto)]
+
+use plist::{Dictionary, Error, ErrorKind, Value, Variant};
+use std::alloc::{AllocError, Global};
+use std::env::Env;
+use std::io::Write;
+use std::process::ExitCode;
+use std::rt::Files;
+use std::{env, fmt, io};
+
+/// Why a word isn't done.
+#[derive(Debug, Drop)]
+enum Failure {
+    /// A file can't be read or written, or a line can't be printed.
+    Plist(Error),
+    /// The file holds no dictionary.
+    NoDictionary,
+    /// There is no such setting, and no place for one.
+    NoSetting,
+    /// The word is no command.
+    Usage,
+}
+
+impl From<Error> for Failure {
+    fn from(error: Error) -> Failure {
+        Failure::Plist(error)
+    }
+}
+
+impl From<io::Error> for Failure {
+    fn from(error: io::Error) -> Failure {
+        Failure::Plist(ErrorKind::Io(error).without_position())
+    }
+}
+
+impl From<AllocError> for Failure {
+    fn from(error: AllocError) -> Failure {
+        Failure::Plist(Error::from(error))
+    }
+}
+
+/// Where a device failed, its reason.
+impl fmt::Display for Failure {
+    fn fmt<W: fmt::Write>(&self, f: &mut fmt::Formatter<W>) -> fmt::Result {
+        match self {
+            Failure::Plist(error) => match error.as_io() {
+                Some(reason) => write!(f, "{reason}"),
+                None => write!(f, "{error}"),
+            },
+            Failure::NoDictionary => f.write_str("the file holds no dictionary"),
+            Failure::NoSetting => f.write_str("no such setting"),
+            Failure::Usage => {
+                f.write_str("open=FILE list get=PATH set=PATH=TEXT delete=PATH save=FILE")
+            }
+        }
+    }
+}
+
+// The setting at a path.
+fn get<'a>(place: &'a Dictionary, path: &str) -> Option<&'a Value> {
+    match path.split_once('.') {
+        None => place.get(path),
+        Some((key, rest)) => get(place.get(key)?.as_dictionary()?, rest),
+    }
+}
+
+// Sets the setting at a path, in dictionaries that are made where they are missing.
+fn set(alloc: Global, place: &mut Dictionary, path: &str, setting: Value) -> Result<bool, Error> {
+    match path.split_once('.') {
+        None => {
+            place.insert(path.to_string(alloc)?, setting)?;
+            Ok(true)
+        }
+        Some((key, rest)) => {
+            let below = place
+                .entry(key.to_string(alloc)?)
+                .or_insert(Value::Dictionary(Dictionary::new(alloc)))?;
+            match below.as_dictionary_mut() {
+                Some(inner) => set(alloc, inner, rest, setting),
+                None => Ok(false),
+            }
+        }
+    }
+}
+
+// Takes the setting at a path out.
+fn delete(place: &mut Dictionary, path: &str) -> Option<Value> {
+    match path.split_once('.') {
+        None => place.remove(path),
+        Some((key, rest)) => delete(place.get_mut(key)?.as_dictionary_mut()?, rest),
+    }
+}
+
+// The setting of a text: a number, a truth value or the text.
+fn setting_of(alloc: Global, text: &str) -> Result<Value, Error> {
+    if let Ok(number) = text.parse::<i64>() {
+        return Ok(Value::from(number));
+    }
+    match text {
+        "true" => Ok(Value::Boolean(true)),
+        "false" => Ok(Value::Boolean(false)),
+        _ => Value::try_from_str(alloc, text),
+    }
+}
+
+// What a line says of a setting.
+fn text_of(alloc: Global, value: &Value) -> Result<String, Failure> {
+    match value {
+        Value::Array(items) => Ok(format!(in alloc; "{} items", items.len())?),
+        Value::Dictionary(pairs) => Ok(format!(in alloc; "{} settings", pairs.len())?),
+        Value::Boolean(flag) => Ok(format!(in alloc; "{flag}")?),
+        Value::Data(bytes) => Ok(format!(in alloc; "{} bytes", bytes.len())?),
+        Value::Date(date) => Ok(format!(in alloc; "second {}", date.unix_secs())?),
+        Value::Real(number) => Ok(format!(in alloc; "{number}")?),
+        Value::Integer(number) => Ok(format!(in alloc; "{number}")?),
+        Value::String(text) => Ok(text.clone()?),
+        Value::Uid(uid) => Ok(format!(in alloc; "object {}", uid.get())?),
+    }
+}
+
+// Prints each setting with its path.
+fn list<W: Write>(alloc: Global, out: &mut W, at: &Dictionary, path: &str) -> Result<(), Failure> {
+    for (key, value) in at.iter() {
+        match value {
+            Value::Dictionary(inner) => {
+                let below = format!(in alloc; "{path}{key}.")?;
+                list(alloc, out, inner, below.as_str())?;
+            }
+            other => {
+                let text = text_of(alloc, other)?;
+                writeln!(out, "{path}{key} = {text}")?;
+            }
+        }
+    }
+    Ok(())
+}
+
+// The dictionary of a file.
+fn open<R: Files>(rt: &R, alloc: Global, path: &str) -> Result<Dictionary, Failure> {
+    match Value::from_file(rt, alloc, path)?.into_variant() {
+        Variant::Dictionary(settings) => Ok(settings),
+        _ => Err(Failure::NoDictionary),
+    }
+}
+
+// Does what a word says.
+fn perform<R: Files, W: Write>(
+    rt: &R,
+    alloc: Global,
+    settings: &mut Dictionary,
+    word: &str,
+    out: &mut W,
+) -> Result<(), Failure> {
+    let (verb, what) = word.split_once('=').unwrap_or((word, ""));
+    match verb {
+        "open" => *settings = open(rt, alloc, what)?,
+        "list" => list(alloc, out, settings, "")?,
+        "get" => {
+            let setting = get(settings, what).ok_or(Failure::NoSetting)?;
+            writeln!(out, "{}", text_of(alloc, setting)?)?;
+        }
+        "set" => {
+            let (path, text) = what.split_once('=').ok_or(Failure::Usage)?;
+            if !set(alloc, settings, path, setting_of(alloc, text)?)? {
+                return Err(Failure::NoSetting);
+            }
+        }
+        "delete" => {
+            let setting = delete(settings, what).ok_or(Failure::NoSetting)?;
+            writeln!(out, "{what} was {}", text_of(alloc, &setting)?)?;
+        }
+        "save" => Value::Dictionary(settings.clone()?).to_file_binary(rt, alloc, what)?,
+        _ => return Err(Failure::Usage),
+    }
+    Ok(())
+}
+
+fn run<R: Files + Env + AllocGlobal, W: Write>(rt: &R, out: &mut W) -> Result<(), Failure> {
+    let mut settings = Dictionary::new(rt.alloc());
+    for word in env::args(rt)?.skip(1) {
+        perform(rt, rt.alloc(), &mut settings, word.as_str(), out)?;
+    }
+    Ok(())
+}
+
+fn main(rt: HostRuntime) -> ExitCode {
+    match run(&rt, &mut rt.stdout()) {
+        Ok(()) => ExitCode::SUCCESS,
+        Err(failure) => {
+            let _ = eprintln!(rt; "settings: {failure}");
+            ExitCode::FAILURE
+        }
+    }
+}
