@@ -1,0 +1,114 @@
+#!/usr/bin/env python3
+"""Tells whether each public type that a signature of `plist` names can be named through `plist`.
+
+The signatures are those of the calls, fields, variants and impls of all that `plist` passes on,
+whichever crate has them. Ends with status 1 where a name is missing.
+"""
+import pathlib
+import re
+import sys
+
+TOP = pathlib.Path(__file__).resolve().parents[2]
+# What each file has without a line `use`.
+PRELUDE = set("""Self Option Some None Result Ok Err Vec String Box Iterator IntoIterator From Into
+Drop Copy Clone PartialEq Eq PartialOrd Ord ExactSizeIterator Fn FnMut FnOnce Default AsRef AsMut
+AllocGlobal HostRuntime Debug Display Hash Send Sync Sized TryFrom TryInto Extend FromIterator
+ToString""".split())
+NAME = re.compile(r"\b[A-Z]\w*\b")
+
+
+def code_of(path):
+    """A file without its comments and its ghost lines."""
+    text = re.sub(r"//[^\n]*", "", path.read_text())
+    return re.sub(r"(?ms)^\s*ghost [^;]*;\n", "", text)
+
+
+def crates_below(name):
+    lines = dict(
+        re.findall(r"(?m)^(\w+)[^:\n]*: *(.*)$", (TOP / "crates.txt").read_text())
+    )
+    found, left = set(), [name]
+    while left:
+        it = left.pop()
+        if it in lines and it not in found:
+            found.add(it)
+            left += lines[it].split()
+    return found
+
+
+def imported(text, kit):
+    """The names that a file's lines `use` bring in: of the kit's library, or of other crates."""
+    names = set()
+    for whole in re.findall(r"(?ms)^\s*(?:pub )?use ([^;]+);", text):
+        if (whole.split("::")[0] in ("std", "core")) == kit:
+            names |= set(NAME.findall(whole))
+    return names
+
+
+def passed_on(sources):
+    """The names that can be reached through `plist`, and the files that are passed on whole."""
+    names, whole_files = set(), set()
+    for module in ("lib", "dictionary", "stream", "value", "stream/builder", "stream/events", "callers"):
+        text = sources[f"plist/{module}"]
+        names |= set(re.findall(r"(?m)^pub (?:struct|enum|trait|type) (\w+)", text))
+        names |= set(re.findall(r"(?m)^pub fn (\w+)", text))
+        for whole in re.findall(r"(?ms)^pub use ([^;]+);", text):
+            crate, _, these = whole.partition("::")
+            for it in re.findall(r"\w+", these.split("{")[-1]):
+                below = sources.get(f"{crate}/{it}", "")
+                whole_files |= {f"{crate}/{it}"} if below else set()
+                names |= {it, *re.findall(r"(?m)^pub (?:struct|enum|trait|type) (\w+)", below)}
+    return names, whole_files
+
+
+def blocks(text):
+    """Each item at the margin: its head, and what stands in its braces."""
+    for it in re.finditer(r"(?ms)^((?:pub )?(?:impl|struct|enum|trait|type|fn)\b[^{;]*)(\{.*?^\}|;|\{[^\n]*\})", text):
+        yield it[1], it[2]
+
+
+def signatures(text, names, is_whole):
+    """The signatures of what a file has of these names, and of all its functions where it is whole."""
+    for head, body in blocks(text):
+        head = re.split(r"\b(?:ensures|requires)\b", head)[0]
+        made = re.match(r"pub (struct|enum|trait|type|fn) (\w+)", head)
+        if made and (made[2] in names or is_whole and made[1] == "fn"):
+            yield head, head
+            inside = {"trait": r"\bfn [^{;]*", "enum": r"(?s).*", "struct": r"pub \w+: [^,\n]*"}
+            for it in re.findall(inside.get(made[1], r"$^"), body):
+                yield head, re.split(r"\b(?:ensures|requires)\b", it)[0]
+        subject = re.match(r"impl\b(?:<.*?>)? *(?:[\w:]+(?:<.*>)? for )?&?(?:'\w+ )?(?:mut )?(\w+)", head)
+        if subject and subject[1] in names:
+            yield head, head.replace("impl", "", 1)
+            for it in re.findall(r"pub (?:const )?fn [^{;]*|\btype \w+ = [^;]*", body):
+                yield head, re.split(r"\b(?:ensures|requires)\b", it)[0]
+
+
+def parameters(head):
+    """The names that a head or a signature brings in as its own."""
+    return set(re.findall(r"[<,] *(?:const )?([A-Z]\w*)(?= *[:,>=])", head)) | {"Item", "IntoIter", "Output", "Err", "Target"}
+
+
+def main():
+    files = {
+        f"{name}/{path.relative_to(TOP / 'crates' / name / 'src').with_suffix('')}": path
+        for name in crates_below("plist")
+        for path in (TOP / "crates" / name / "src").rglob("*.rt")
+    }
+    sources = {name: code_of(path) for name, path in files.items()}
+    names, whole_files = passed_on(sources)
+    missing = set()
+    for name, text in sources.items():
+        known = PRELUDE | names | imported(text, True)
+        own = set(re.findall(r"(?:struct|enum|trait|type) (\w+)", text)) | imported(text, False)
+        for head, signature in signatures(text, names, name in whole_files):
+            wanted = set(NAME.findall(signature)) & own
+            for it in wanted - known - parameters(head.split("{")[0]) - parameters(signature):
+                missing.add(f"{it}, named by {name}: {' '.join(signature.split())[:100]}")
+    for it in sorted(missing):
+        print(f"plist doesn't pass on {it}")
+    return 1 if missing else 0
+
+
+if __name__ == "__main__":
+    sys.exit(main())
