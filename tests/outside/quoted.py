@@ -1,8 +1,8 @@
 #!/usr/bin/env python3
 """Tells whether the code that README.md and docs/EXAMPLES.md quote stands in the examples' sources.
 
-Each paragraph of a block of Rust has to stand in a file of crates/plist_uses/src, or in the program
-examples/first.rt.in. Ends with status 1 where one doesn't.
+Each paragraph of a block of Rust has to stand in a file of crates/plist_uses/src, or in a program:
+examples/first.rt.in, or crates/plist_settings. Ends with status 1 where one doesn't.
 """
 import pathlib
 import re
@@ -17,7 +17,8 @@ def quoted(path):
 
 
 def main():
-    paths = [*(TOP / "crates/plist_uses/src").glob("*.rt"), TOP / "examples/first.rt.in"]
+    paths = [*(TOP / "crates/plist_uses/src").glob("*.rt"), TOP / "examples/first.rt.in",
+             TOP / "crates/plist_settings/src/main.rt"]
     sources = [path.read_text() for path in paths]
     status = 0
     for path in (TOP / "README.md", TOP / "docs/EXAMPLES.md"):
