@@ -1,14 +1,14 @@
 //! Proved callers of the conversions into values and of the look into them: what was put in is
 //! found as what it is, and as nothing else.
 
-ghost use Rattle.std.specs.Prelude.{◌≡◌, IfOk, IsSome, None, Some, option_map, string_bytes, true};
+ghost use Rattle.std.specs.Prelude.{◌≡◌, IfErr, IfOk, IsSome, None, Some, option_map, string_bytes, true};
 ghost use Rattle.std.specs.Option.{option_copied};
 ghost use Rattle.plist_base.specs.declared.error.EventKind.TheVariants as event_kind;
 ghost use Rattle.plist_base.specs.Trees.{Array, Dictionary as Pairs, NoMembers, NoTrees};
-ghost use Rattle.plist.specs.Contents.{array_in, dictionary_in};
+ghost use Rattle.plist.specs.Contents.{array_in, dictionary_in, text_in};
 ghost use Rattle.plist.specs.Views.{item_trees, kind_of_tree, pair_trees, tree_of};
 
-use plist::{Dictionary, Value, kind_of_value};
+use plist::{Dictionary, Value, Variant, kind_of_value};
 use plist_base::{Date, Error, EventKind, RealBits, Uid};
 use std::alloc::Global;
 
@@ -52,6 +52,24 @@ pub fn text_again(text: String) -> Option<String>
     ensures { option_map string_bytes result ≡ Some (string_bytes text) }
 {
     Value::from(text).into_string()
+}
+
+/// A value that was taken apart and made again, which is the same one.
+pub fn value_again(value: Value) -> Value
+    ensures { result ≡ value }
+{
+    Value::from(value.into_variant())
+}
+
+/// The text of a value, or else the value as it was.
+pub fn text_or_value(value: Value) -> Result<String, Value>
+    ensures text { IfOk result (λ text. text_in (tree_of value) ≡ Some (string_bytes text)) }
+    ensures other { IfErr result (λ other. other ≡ value) }
+{
+    match value.into_variant() {
+        Variant::String(text) => Ok(text),
+        other => Err(Value::from(other)),
+    }
 }
 
 /// The items of an array, by way of a value.

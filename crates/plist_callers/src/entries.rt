@@ -4,10 +4,11 @@
 ghost use Rattle.std.specs.Prelude.{◌≡◌, IfErr, IfOk, OnErr, OnOk, OnSome, string_bytes, unwrap_or};
 ghost use Rattle.std.specs.Map.{lookup};
 ghost use Rattle.std.specs.Str.{bytes_eq};
+ghost use Rattle.plist_base.specs.Outcomes.{OnlyMemory};
 ghost use Rattle.plist_pairs.specs.Keys.{IsSetAt, IsTakenAt};
 
-use plist::Pairs;
 use plist::dictionary::Entry;
+use plist::{Error, Pairs};
 
 /// Whether the entry of a key has this key.
 pub fn entry_has_key<V>(pairs: &mut Pairs<V>, key: String, name: &str) -> bool
@@ -29,6 +30,15 @@ pub fn value_by_entry(pairs: &mut Pairs<u64>, key: String) -> Option<u64>
 /// The count of a key. One that isn't there is added with none.
 pub fn count_of(pairs: &mut Pairs<u64>, key: String) -> Result<u64, (String, u64)>
     ensures { IfOk result (λ n. n ≡ unwrap_or (lookup (bytes_eq (string_bytes key)) pairs.old) 0) }
+{
+    let count = pairs.entry(key).or_insert(0)?;
+    Ok(*count)
+}
+
+/// The same, with want of memory as the fault.
+pub fn count_or_fault(pairs: &mut Pairs<u64>, key: String) -> Result<u64, Error>
+    ensures n { IfOk result (λ n. n ≡ unwrap_or (lookup (bytes_eq (string_bytes key)) pairs.old) 0) }
+    ensures memory { OnlyMemory result }
 {
     let count = pairs.entry(key).or_insert(0)?;
     Ok(*count)

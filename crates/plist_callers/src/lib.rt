@@ -1,9 +1,10 @@
 //! Proved callers of the property-list crates: small functions, each proved by the clauses of what
 //! it calls alone, so that none of those clauses can say less unnoticed.
 //!
-//! From the lowest layer up: `faults`, `texts`, `dates`, `events`, `sources`, `limits`, `data`; the
-//! readers `binary`, `ascii` and `either`, and the `writer`; `values` and their `contents`,
-//! dictionaries by `pairs`, `entries` and `iterators`; and `archives`.
+//! From the lowest layer up: `faults`, `texts`, `dates`, `reals`, `hashes`, `events`, `sources`,
+//! `limits`, `data`; the readers `binary`, `ascii` and `either`, and the `writer`; `values` and their
+//! `contents`, dictionaries by `pairs`, `entries` and `iterators`, and `depths`, the recursions over
+//! them; and `archives`.
 #![tactic(auto)]
 
 pub mod archives;
@@ -12,13 +13,16 @@ pub mod binary;
 pub mod contents;
 pub mod data;
 pub mod dates;
+pub mod depths;
 pub mod either;
 pub mod entries;
 pub mod events;
 pub mod faults;
+pub mod hashes;
 pub mod iterators;
 pub mod limits;
 pub mod pairs;
+pub mod reals;
 pub mod sources;
 pub mod texts;
 pub mod values;

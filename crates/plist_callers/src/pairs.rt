@@ -5,9 +5,10 @@ ghost use Rattle.std.specs.Cmp.Lexicographic.{slice_cmp};
 ghost use Rattle.std.specs.Ordering.{nat_cmp};
 ghost use Rattle.std.specs.Map.{keys_of, lookup, set_value};
 ghost use Rattle.std.specs.Str.{bytes_eq};
+ghost use Rattle.plist_base.specs.Outcomes.{OnlyMemory};
 ghost use Rattle.plist_pairs.specs.Keys.{IsSetAt};
 
-use plist::Pairs;
+use plist::{Error, Pairs};
 use std::mem;
 
 /// Makes this pair the only one.
@@ -52,6 +53,16 @@ pub fn set_where_there<V: Drop>(pairs: &mut Pairs<V>, key: String, value: V) -> 
         Ok(old) => old,
         Err(_) => unreachable!(),
     }
+}
+
+/// Sets a key's value. Without memory the pairs are as they were, and that is the fault.
+pub fn set_or_fault<V: Drop>(pairs: &mut Pairs<V>, key: String, value: V) -> Result<(), Error>
+    ensures done { OnOk result (IsSetAt pairs.old (string_bytes key) value pairs.new) }
+    ensures refused { OnErr result (pairs.new ≡ pairs.old) }
+    ensures memory { OnlyMemory result }
+{
+    let _old = pairs.insert(key, value)?;
+    Ok(())
 }
 
 /// The index of the last pair, if there is one.

@@ -7,11 +7,12 @@ ghost use Rattle.plist_base.specs.Faults.{WriterFailed, fault_nowhere};
 ghost use Rattle.plist_reader.specs.Reader.{items_of_input};
 ghost use Rattle.plist.specs.Collecting.{built_tree};
 ghost use Rattle.plist.specs.Inputs.{IsReadFrom};
+ghost use Rattle.plist.specs.Limiting.{NestsWithin};
 ghost use Rattle.plist.specs.ReadBy.{items_of_text};
-ghost use Rattle.plist.specs.Views.{tree_pairs};
+ghost use Rattle.plist.specs.Views.{tree_of, tree_pairs};
 
 use plist::callers::are_equal;
-use plist::{Builder, Dialect, Dictionary, Value};
+use plist::{Builder, Dialect, Dictionary, Limits, Value};
 use plist_base::{Error, ErrorKind, Event, Writer};
 use std::alloc::Global;
 use std::rt::Files;
@@ -28,6 +29,17 @@ pub fn value_of_tight(alloc: Global, text: &[u8]) -> Result<Value, Error>
     ensures value { IsReadFrom (items_of_text tight text.now) (built_tree result) }
 {
     Value::from_reader_ascii_with_dialect(alloc, text, Dialect::Tight)
+}
+
+/// The value of a file, which nests at most 64 collections.
+pub fn shallow_file<R: Files>(rt: &R, alloc: Global, path: &str) -> Result<Value, Error>
+    ensures shallow { IfOk result (λ value. NestsWithin (tree_of value) 64) }
+{
+    let limits = Limits {
+        depth: 64,
+        items: 100_000,
+    };
+    Value::from_file_with_limits(rt, alloc, path, limits)
 }
 
 /// Whether a builder has no value any more once it gave one.

@@ -1,0 +1,22 @@
+//! Proved callers of reals: the number of a value's bytes, and the value of a number.
+
+ghost use Rattle.std.specs.Prelude.{◌≡◌, Some, option_map};
+ghost use Rattle.plist_base.specs.Reals.{number_in, real_of};
+ghost use Rattle.plist.specs.Contents.{real_in};
+ghost use Rattle.plist.specs.Views.{tree_of};
+
+use plist::{RealBits, Value};
+
+/// The number of a value that is a real.
+pub fn number_in_value(value: &Value) -> Option<f64>
+    ensures { result ≡ option_map number_in (real_in (tree_of value.now)) }
+{
+    Some(value.as_real()?.to_f64())
+}
+
+/// The real of a number, by way of a value.
+pub fn real_of_number(number: f64) -> Option<RealBits>
+    ensures { result ≡ Some (real_of number) }
+{
+    Value::Real(RealBits::from_f64(number)).as_real()
+}
