@@ -65,15 +65,16 @@ wants_memory contents tree fault w is =
     rw is (refl, (tt, refl))
 
 -- a device's failure behind the whole file stops its sending
-stops_behind : {W : Type 0} (tree : Tree) (fault : Fault) (old new : W)
-    → SendsTree (λ w. None) tree (Ok tt) old new → fault ≡ fault_nowhere Io
-    → (fault.offset ≡ None) × StopsSending (λ w. None) fault.kind tree old new
-stops_behind tree fault old new sent is =
-    rw is (refl, (sent.0, sent.1, (sent.0, [], tt, sym (append-nil _))))
+stops_behind : {W : Type 0} (contents : W → Option (List ℕ)) (tree : Tree) (fault : Fault)
+    (old new : W) → SendsTree contents tree (Ok tt) old new → fault ≡ fault_nowhere Io
+    → (fault.offset ≡ None) × StopsSending contents fault.kind tree old new
+stops_behind contents tree fault old new sent is =
+    rw is (refl, (sent.0, sent.1, (sent.0, [], sent.2, sym (append-nil _))))
 
-pub stored : {W : Type 0} (tree : Tree) (answer : Result (Unit {0}) Error) (old new : W)
-    → SendsTree (λ w. None) tree (Ok tt) old new
+pub stored : {W : Type 0} (contents : W → Option (List ℕ)) (tree : Tree)
+    (answer : Result (Unit {0}) Error) (old new : W) → SendsTree contents tree (Ok tt) old new
     → IfErr answer (λ error. fault_of error ≡ fault_nowhere Io)
-    → SendsTree (λ w. None) tree (answer_of answer) old new
-stored tree (Ok done) old new sent is = sent
-stored tree (Err error) old new sent is = stops_behind _ (fault_of error) old new sent is
+    → SendsTree contents tree (answer_of answer) old new
+stored contents tree (Ok done) old new sent is = sent
+stored contents tree (Err error) old new sent is =
+    stops_behind contents _ (fault_of error) old new sent is

@@ -10,6 +10,7 @@ pub mod Inputs
 pub mod ReadingBack
 pub mod Handing
 pub mod SendingValues
+pub mod Outputs
 pub mod Stored
 pub mod ReadBy
 pub mod Same

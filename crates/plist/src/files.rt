@@ -1,11 +1,12 @@
 //! Values in files.
 
-ghost use Rattle.std.specs.Prelude.{None, IfOk, IsSome, OnOk};
+ghost use Rattle.std.specs.Prelude.{IfOk, IsNone, IsSome, OnOk};
 ghost use Rattle.std.specs.Io.{WritesAtMost};
 ghost use Rattle.std.specs.Io.KnownBytes.{WriteAppends};
 ghost use Rattle.plist_base.specs.Outcomes.{IfFault, OnlyDevice};
 ghost use Rattle.plist.specs.Collecting.{built_tree};
 ghost use Rattle.plist.specs.Limiting.{IsWithinLimits};
+ghost use Rattle.plist.specs.Outputs.{WritesFirst, contents_of};
 ghost use Rattle.plist.specs.SendingValues.{SendsValue};
 ghost use Rattle.plist.specs.Stored.{IsUnstored};
 ghost use Rattle.plist.specs.Views.{tree_of};
@@ -28,12 +29,15 @@ pub struct Output<'a, R: Files> {
 }
 
 impl<'a, R: Files> Write for Output<'a, R> {
-    // others may change what a file holds
-    ghost contents = { λ _. None };
+    // those of the file, once there is one
+    ghost contents = { λ output. contents_of R.File.contents output.file };
 
     fn write(&mut self, buf: &[u8]) -> io::Result<usize>
         ensures bound { WritesAtMost result buf.now }
-        ensures bytes { WriteAppends None None result buf.now }
+        ensures bytes { WriteAppends (contents_of R.File.contents self.old.file)
+            (contents_of R.File.contents self.new.file) result buf.now }
+        ensures first { IsNone self.old.file
+            → WritesFirst R.File.contents result buf.now self.new.file }
         ensures kept { OnOk result (IsSome self.new.file) }
     {
         match &mut self.file {
@@ -86,7 +90,8 @@ impl<'a, R: Files> Output<'a, R> {
     // Writes a file of the value and has it stored. Where memory or size refuse, there is no file
     // now where there was none.
     fn store(&mut self, alloc: Global, value: &Value) -> Result<(), Error>
-        ensures { SendsValue (λ _. None) value.now result self.old self.new }
+        ensures { SendsValue (λ output. contents_of R.File.contents output.file) value.now result
+            self.old self.new }
     {
         value.to_writer_binary(alloc, self)?;
         self.sync()
