@@ -63,17 +63,27 @@ took-more items (Ok e) before after (events, is, fine, h) k = (
   holds-more events e before after h k,
 )
 
-pub refused-last : (ends : Type 0) (items : List Item) (item : Item) (built : Built) (fault : Fault)
-    → TookAll items built → RefusesOne built.unfinished item fault
-    → IsBuiltFrom ends (items ++ item ∷ []) (Err fault)
-refused-last ends items (Err error) built fault (events, is, fine, (held, ok, alike, last)) r = (
+pub refused-last : (stops ends : Type 0) (items : List Item) (item : Item) (built : Built)
+    (fault : Fault) → stops → TookAll items built → RefusesOne built.unfinished item fault
+    → IsBuiltFrom stops ends (items ++ item ∷ []) (Err fault)
+refused-last stops ends items (Err error) built fault stop (
+  events,
+  is,
+  fine,
+  (held, ok, alike, last),
+) r = (
   events,
   held,
   ok,
   alike,
-  inl (cc),
+  inl (cc, stop),
 )
-refused-last ends items (Ok e) built fault (events, is, fine, (held, ok, alike, last)) r = (
+refused-last stops ends items (Ok e) built fault stop (
+  events,
+  is,
+  fine,
+  (held, ok, alike, last),
+) r = (
   events,
   held,
   ok,
@@ -81,6 +91,7 @@ refused-last ends items (Ok e) built fault (events, is, fine, (held, ok, alike, 
   inr (inl (
     e,
     ap (λ l. l ++ Ok e ∷ []) is,
+    stop,
     rw (← (ap (λ u. refusal_at u e) last ∙ refusal-last _ e)) r,
   )),
 )
@@ -91,10 +102,10 @@ complete_last NotBegun t p = absurd (none-some t p)
 complete_last (Within c outer) t p = absurd (none-some t p)
 complete_last (Complete w) t p = (w, refl, sym (same_Some _ t p))
 
-ended : (ends : Type 0) (items : List Item) (built : Built) (fault : Fault) (kind : FaultKind)
+ended : (stops ends : Type 0) (items : List Item) (built : Built) (fault : Fault) (kind : FaultKind)
     → fault.kind ≡ kind → ends → TookAll items built → fault.offset ≡ None
-    → IsUnfinishedFor kind built → IsBuiltFrom ends items (Err fault)
-ended ends items built fault UnexpectedEndOfEventStream q end
+    → IsUnfinishedFor kind built → IsBuiltFrom stops ends items (Err fault)
+ended stops ends items built fault UnexpectedEndOfEventStream q end
     (events, is, fine, (held, ok, alike, last)) o k = (
       events,
       held,
@@ -108,21 +119,21 @@ ended ends items built fault UnexpectedEndOfEventStream q end
             (last ∙ ap last_wins_so_far (complete _ t ok (alike ∙ a)))),
       )),
     )
-ended ends items built fault faults.WriterFailed q end (events, is, fine, (held, ok, alike, last)) o
+ended stops ends items built fault faults.WriterFailed q end (events, is, fine, (held, ok, alike, last)) o
     k = absurd (true≢false (cc))
-ended ends items built fault kind q end t o k = absurd k
+ended stops ends items built fault kind q end t o k = absurd k
 
 -- whatever `finish` answers
-pub finished : (ends : Type 0) (items : List Item) (built : Built) (result : Result Value Error)
-    → ends → TookAll items built → IfOk result
+pub finished : (stops ends : Type 0) (items : List Item) (built : Built)
+    (result : Result Value Error) → ends → TookAll items built → IfOk result
     (λ value. complete_tree built.unfinished ≡ Some (tree_of value))
     → IfErr result (λ error. IsUnfinished built (fault_of error))
-    → IsBuiltFrom ends items (built_tree result)
-finished ends items built (Ok value) end (events, is, fine, (held, nested, alike, last)) ok err =
+    → IsBuiltFrom stops ends items (built_tree result)
+finished stops ends items built (Ok value) end (events, is, fine, (held, nested, alike, last)) ok err =
     let w = complete_last held _ (sym (ap complete_tree last) ∙ ok) in
     (events, w.0, is, end, sym alike ∙ ap (λ u. map unhinted (events_so_far u)) w.1, w.2)
-finished ends items built (Err error) end t ok err =
-    ended ends items built (fault_of error) (fault_of error).kind refl end t err.0 err.1
+finished stops ends items built (Err error) end t ok err =
+    ended stops ends items built (fault_of error) (fault_of error).kind refl end t err.0 err.1
 
 -- one more of the items that are seen
 pub seen-more : {E : Type 0} (see : E → Item) (seen : List E) (item : E) (P : List Item → Type 0)

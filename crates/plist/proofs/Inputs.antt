@@ -157,17 +157,17 @@ module _ {E I : Type 0} (plain : E → PlainEvent)
 
   read : (iter : I) (all : List Item) → coming iter ≡ Some all → (answer : Result Tree Fault)
       → Collects plain gives iter answer → IsReadFrom all answer
-  read iter all c (Ok tree) (taken, run, (events, whole, is, (u, (t, y, end)), alike, last)) =
+  read iter all c (Ok tree) (u, (taken, t, y, (events, whole, is, end, alike, last))) =
       (whole, (events, drained events taken iter t u all c y end is, alike), last)
-  read iter all c (Err fault) (taken, (rest, y), (events, held, ok, alike, inl is)) =
-      let b = behind events taken iter rest (Err fault) all c y is in
+  read iter all c (Err fault) (u, (taken, t, y, (events, held, ok, alike, inl (is, stop)))) =
+      let b = behind events taken iter t (Err fault) all c y is in
       stops-there all b.0 b.1 events held (Err fault) fault ok alike b.2 b.3 refl
   read iter all c (Err fault)
-      (taken, (rest, y), (events, held, ok, alike, inr (inl (event, is, r)))) =
-      let b = behind events taken iter rest (Ok event) all c y is in
+      (u, (taken, t, y, (events, held, ok, alike, inr (inl (event, is, stop, r))))) =
+      let b = behind events taken iter t (Ok event) all c y is in
       stops-there all b.0 b.1 events held (Ok event) fault ok alike b.2 b.3 r
   read iter all c (Err fault)
-      (taken, run, (events, held, ok, alike, inr (inr (is, (u, (t, y, end)), why, none)))) =
+      (u, (taken, t, y, (events, held, ok, alike, inr (inr (is, end, why, none))))) =
       let e = drained events taken iter t u all c y end is in
       MatchFault-all fault.kind tt tt (
         (events, [], held, e ∙ sym (append-nil _), ok, alike, (why, none)),

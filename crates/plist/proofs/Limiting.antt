@@ -259,7 +259,7 @@ pub built-within : {I : Type 0} (inner_gives : I → Given → I → Type 0) (li
     (IsWithinLimits limits)
 built-within inner_gives limits limited (Err fault) fresh c = tt
 built-within inner_gives limits limited (Ok tree) fresh
-    (taken, (rest, yields), (events, whole, same, ends, alike, last)) =
+    (after, (taken, rest, yields, (events, whole, same, ends, alike, last))) =
     let came : limited_items limits (map Ok events)
     ≡ map Ok events = ap (λ f. f (map Ok events)) (sym fresh)
     ∙ run-passes inner_gives limited rest taken events yields same in

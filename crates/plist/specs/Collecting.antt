@@ -1,6 +1,6 @@
 -- The value of a list of items.
 use Rattle.std.specs.Prelude.{◌≡◌, ◌⊎◌, false, List, [], ◌∷◌, ◌++◌, Option, Some, None, Result, Ok, Err, map}
-use Rattle.std.specs.Iterator.{Drains, Yields}
+use Rattle.std.specs.Iterator.{Yields}
 use Rattle.plist_base.specs.declared.error.Error.{Error}
 use Rattle.plist_base.specs.Events.{PlainEvent, Item}
 use Rattle.plist_base.specs.Faults.{FaultKind, Fault, fault_of, fault_nowhere, OutOfMemory, UnexpectedEndOfEventStream}
@@ -28,13 +28,14 @@ IsRefusal None fault = fault ≡ fault_nowhere OutOfMemory
 IsRefusal (Some kind) fault = fault ≡ fault_nowhere kind
 
 -- an item is an error, which is the answer
-abbrev pub EndsInError : (events : List PlainEvent) → List Item → Fault → Type 0
-EndsInError events items fault = items ≡ map Ok events ++ Err fault ∷ []
+abbrev pub EndsInError : (stops : Type 0) → (events : List PlainEvent) → List Item → Fault → Type 0
+EndsInError stops events items fault = (items ≡ map Ok events ++ Err fault ∷ []) × stops
 
 -- an event can't come behind what is held, or memory runs out at it
-abbrev pub EndsInRefusal : Unfinished → (events : List PlainEvent) → List Item → Fault → Type 0
-EndsInRefusal held events items fault =
-    (event : PlainEvent) × (items ≡ map Ok events ++ Ok event ∷ [])
+abbrev pub EndsInRefusal : (stops : Type 0) → Unfinished → (events : List PlainEvent) → List Item
+    → Fault → Type 0
+EndsInRefusal stops held events items fault =
+    (event : PlainEvent) × (items ≡ map Ok events ++ Ok event ∷ []) × stops
     × IsRefusal (refusal_at held event) fault
 
 -- the events end, no item comes behind them, and they are no tree's
@@ -46,23 +47,30 @@ EndsUnfinished ends events items fault =
 
 -- What comes of the items that were taken: the tree whose events they are up to lengths, with the
 -- last value of each key, where no item comes behind them; or the fault that ends them, behind
--- events that could follow one another. `ends` is that no item comes behind them.
-abbrev pub IsBuiltFrom : (ends : Type 0) → List Item → Result Tree Fault → Type 0
-IsBuiltFrom ends items (Ok tree) =
+-- events that could follow one another. `stops` is that nothing was asked for behind them, and
+-- `ends` that no item comes there.
+abbrev pub IsBuiltFrom : (stops ends : Type 0) → List Item → Result Tree Fault → Type 0
+IsBuiltFrom stops ends items (Ok tree) =
     (events : List PlainEvent) × (whole : Tree) × (items ≡ map Ok events) × ends
     × AreAlike events (bracketing whole) × (tree ≡ last_wins whole)
-IsBuiltFrom ends items (Err fault) =
+IsBuiltFrom stops ends items (Err fault) =
     (events : List PlainEvent) × (held : Unfinished) × IsNested held
     × AreAlike (events_so_far held) events
-    × (EndsInError events items fault
-    ⊎ (EndsInRefusal held events items fault ⊎ EndsUnfinished ends events items fault))
+    × (EndsInError stops events items fault
+    ⊎ (EndsInRefusal stops held events items fault ⊎ EndsUnfinished ends events items fault))
 
--- the items that were taken of an iterator, in order, and what came of them
-abbrev pub Collects : {E I : Type 0} → (plain : E → PlainEvent)
-    → (I → Option (Result E Error) → I → Type 0) → I → Result Tree Fault → Type 0
-Collects {E} {I} plain next_gives iter answer =
-    (taken : List (Result E Error)) × ((rest : I) × Yields next_gives iter taken rest)
-    × IsBuiltFrom (Drains next_gives iter taken) (map (item_by plain) taken) answer
+module _ {E I : Type 0} (plain : E → PlainEvent)
+    (next_gives : I → Option (Result E Error) → I → Type 0) (iter : I) where
+  -- The items that were taken of an iterator, in order, what came of them, and the iterator then:
+  -- behind one that is an error or is refused it isn't asked again, and at the end just once.
+  abbrev pub CollectsTo : Result Tree Fault → (after : I) → Type 0
+  CollectsTo answer after =
+      (taken : List (Result E Error)) × (left : I) × Yields next_gives iter taken left
+      × IsBuiltFrom (after ≡ left) (next_gives left None after) (map (item_by plain) taken) answer
+
+  -- the same of an iterator that nobody sees behind them
+  abbrev pub Collects : Result Tree Fault → Type 0
+  Collects answer = (after : I) × CollectsTo answer after
 
 -- an item's event is taken
 abbrev pub TakesOne : Built → Item → Built → Type 0

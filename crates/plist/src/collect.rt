@@ -1,13 +1,33 @@
 //! A value from the items of an iterator.
 
 ghost use Rattle.std.specs.Iterator.{IsFinite};
-ghost use Rattle.plist.specs.Collecting.{Collects, built_tree};
+ghost use Rattle.plist.specs.Collecting.{Collects, CollectsTo, built_tree};
 ghost use Rattle.plist.specs.Inputs.{AnswersAsSeen};
 
 use crate::Value;
 use crate::stream::{AnyEvent, Builder};
 use plist_base::Error;
 use std::alloc::Global;
+
+// The value of the items that an iterator gives, up to the first that is an error or that can't
+// come next, behind which none is asked for.
+fn collect_from<E: AnyEvent, I: Iterator<Item = Result<E, Error>>>(
+    alloc: Global,
+    rest: &mut I,
+) -> Result<Value, Error>
+    requires can { I.can_next rest.old }
+    requires ends { IsFinite (I.remaining rest.old) }
+    ensures value { CollectsTo E.plain I.next_gives rest.old (built_tree result) rest.new }
+{
+    let mut builder = Builder::new(alloc);
+    while let Some(item) = rest.next() {
+        match builder.take_item(item) {
+            Ok(()) => {}
+            Err(error) => return Err(error),
+        }
+    }
+    builder.finish()
+}
 
 /// The value of the items that an iterator gives, up to the first that is an error or that can't
 /// come next.
@@ -20,13 +40,6 @@ pub(crate) fn collect<E: AnyEvent, I: Iterator<Item = Result<E, Error>> + Drop>(
     ensures value { Collects E.plain I.next_gives items (built_tree result) }
     ensures shown { AnswersAsSeen E.plain I.next_gives items (built_tree result) }
 {
-    let mut builder = Builder::new(alloc);
     let mut rest = items;
-    while let Some(item) = rest.next() {
-        match builder.take_item(item) {
-            Ok(()) => {}
-            Err(error) => return Err(error),
-        }
-    }
-    builder.finish()
+    collect_from(alloc, &mut rest)
 }
