@@ -1,11 +1,11 @@
 -- A source that is read whole, item by item.
-use Rattle.std.specs.Prelude.{◌≡◌, ℕ, Bool, List, Option, Some, Result, option_map}
+use Rattle.std.specs.Prelude.{◌≡◌, ℕ, Bool, List, Option, None, Some, Result, option_map}
 use Rattle.plist_base.specs.Events.{Item, event_of}
 use Rattle.plist_base.specs.Faults.{Fault}
 use Rattle.plist_base.specs.Trees.{Tree}
 use Rattle.plist_ascii.specs.Ascii.{items_of_ascii}
 use Rattle.plist_ascii.specs.AsciiReader as ascii
-use Rattle.plist_ascii.specs.AsciiReader.{dialect_of, inner_of}
+use Rattle.plist_ascii.specs.AsciiReader.{bytes_left, dialect_of, inner_of, looked_at, place_of, readable}
 use Rattle.plist_ascii.specs.declared.reader.AsciiReader.{AsciiReader}
 use Rattle.plist_ascii.specs.declared.dialect.Dialect.{Dialect}
 use Rattle.plist_reader.specs.Formats.{input_front}
@@ -22,11 +22,13 @@ ComesOfReader {R} known failed source answer =
     × (to_come known reader ≡ option_map items_of_input (known source))
     × Collects event_of (Gives known failed) reader answer
 
--- the same of a reader of ASCII in this dialect
+-- the same of a reader of ASCII in this dialect, which has taken no byte and looked at none
 abbrev pub IsReadAsAscii : {R : Type 0} (known : R → Option (List ℕ)) (failed : R → Option ℕ)
     (source : R) → Dialect → Result Tree Fault → Type 0
 IsReadAsAscii {R} known failed source dialect answer =
     (reader : AsciiReader R) × (inner_of reader ≡ source) × (dialect_of reader ≡ dialect)
+    × (place_of reader ≡ 0) × (looked_at reader ≡ None)
+    × (bytes_left known reader ≡ readable (known source))
     × Collects event_of (ascii.Gives known failed) reader answer
 
 -- the items of an ASCII text
