@@ -9,6 +9,7 @@ pub mod Limiting
 pub mod KeysOnce
 pub mod Shown
 pub mod Handed
+pub mod HandedFiles
 pub mod SameTrees
 pub mod Gathered
 pub mod Dropping

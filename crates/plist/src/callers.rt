@@ -1,7 +1,8 @@
-//! Proved callers whose proofs cite lemmas of this crate: values of events, and `==` with its laws.
-//! Those of pairs stand in `plist_pairs`, and those by clauses alone in `plist_callers`.
+//! Proved callers whose proofs cite lemmas of this crate: values of events, files by way of a value's
+//! events, and `==` with its laws. Those of pairs stand in `plist_pairs`, and those by clauses alone
+//! in `plist_callers`.
 
-ghost use Rattle.std.specs.Prelude.{◌≡◌, true};
+ghost use Rattle.std.specs.Prelude.{◌≡◌, IfOk, true};
 ghost use Rattle.plist_base.specs.Trees.{Tree};
 ghost use Rattle.plist_format.specs.Unfolding.{items_of_file};
 ghost use Rattle.plist.specs.Collecting.{built_tree};
@@ -10,9 +11,10 @@ ghost use Rattle.plist.specs.Same.{same, IsTransitive, TellsScalars, TellsDictio
 ghost use Rattle.plist.specs.Views.{pair_trees, tree_of};
 ghost use Rattle.plist.specs.inner.PutOff.{same_values_at};
 
-use crate::{Dictionary, Value};
+use crate::{Dictionary, Value, write_value};
 use plist_base::{Error, Source};
 use plist_binread::BinaryReader;
+use plist_binwrite::{FileWriter, Sharing};
 pub use plist_pairs::callers::{
     Replaced, insert_each, keep_true, of_list, set_and_take, write_and_take,
 };
@@ -30,6 +32,17 @@ pub fn value_again(alloc: Global, value: &Value) -> Result<Value, Error>
     ensures value { GivesBack (tree_of value.now) (built_tree result) }
 {
     Value::from_events(alloc, value.events(alloc))
+}
+
+/// What a new writer sends of a value's events: a file of its tree, as the sharing says.
+pub fn file_by_events<S: Sharing>(alloc: Global, value: &Value) -> Result<Vec<u8>, Error>
+    ensures file { IfOk result (λ file. S.IsFile (tree_of value.now) file.items) }
+{
+    let mut writer = FileWriter::<Vec<u8>, S>::new(alloc, Vec::new(alloc));
+    match write_value(alloc, value, &mut writer) {
+        Ok(()) => Ok(writer.into_inner()),
+        Err(error) => Err(error),
+    }
 }
 
 /// Whether two values are equal: whether their trees are the same, whatever the order of a
