@@ -25,14 +25,14 @@ struct Numbered {
 }
 
 impl Numbered {
-    ghost use Rattle.std.specs.Prelude.{◌≡◌, ◌^◌, ◌-◌, ◌<◌, [], length, replicate, IfOk, OnOk};
+    ghost use Rattle.std.specs.Prelude.{◌≡◌, ◌<◌, [], length, IfOk, OnOk};
     ghost use Rattle.plist_binwrite.specs.Held.{plain_events};
-    ghost use Rattle.plist_binwrite.specs.inner.Numbering.{BeginsAt, GoesSoFar, HaveIdsOf, IsPlanOf, KeepsNumbers, NumbersAll, NumbersChildren, NumbersHalf, NumbersItem, NumbersItems, RootIsFirst};
+    ghost use Rattle.plist_binwrite.specs.inner.Numbering.{AreMarks, BeginsAt, GoesSoFar, HaveIdsOf, IsPlanOf, KeepsNumbers, NumbersAll, NumbersChildren, NumbersHalf, NumbersItem, NumbersItems, RootIsFirst};
 
     // No numbers so far.
     fn new(alloc: Global, events: &Held<'_>, count: usize) -> Result<Numbered, AllocError>
-        ensures ids { IfOk result (λ r. r.ids ≡ replicate count (2 ^ 64 - 1)) }
-        ensures numbers { IfOk result (λ r. r.numbers ≡ replicate (length (plain_events events.now)) (2 ^ 64 - 1)) }
+        ensures ids { IfOk result (λ r. AreMarks count r.ids) }
+        ensures numbers { IfOk result (λ r. AreMarks (length (plain_events events.now)) r.numbers) }
         ensures firsts { IfOk result (λ r. r.firsts ≡ []) }
     {
         let ids = Numbers::marks(alloc, count)?;

@@ -1,5 +1,5 @@
 -- Words for the numbers that held events have so far, and for what a call does to them.
-use Rattle.std.specs.Prelude.{◌≡◌, ℕ, Bool, false, List, length, get_or}
+use Rattle.std.specs.Prelude.{◌≡◌, ℕ, ◌-◌, ◌^◌, Bool, false, List, length, get_or, replicate}
 use Rattle.std.specs.List.{AllByRecursion}
 use Rattle.plist_base.specs.Bracketing.{shape}
 use Rattle.plist_base.specs.Trees.{Tree, Trees, Members}
@@ -10,6 +10,10 @@ use Rattle.plist_binwrite.specs.declared.numbering.Numbered.{Numbered}
 use Rattle.plist_binwrite.specs.declared.numbering.Numbering.{Numbering}
 use Rattle.plist_binwrite.specs.Held.{plain_events, is_stop, event_at, num_of, item_indices, half_indices, keys_in, values_in, AllNumbered, IsNumbered, Keeps}
 use Rattle.plist_binwrite.specs.inner.PlansBy.{IsPlan, HaveIds}
+
+-- so many numbers, none of which is given yet
+abbrev pub AreMarks : (count : ℕ) → List ℕ → Type 0
+AreMarks count numbers = numbers ≡ replicate count (2 ^ 64 - 1)
 
 -- these numbers go by these classes
 abbrev pub IsNumberingOf : Held → (classes : List ℕ) → Numbering → Type 0
