@@ -1,11 +1,13 @@
 -- A planned file is its tree's, with one object for each class, and sending it sends that file.
 use Rattle.std.proofs.Common.{◌≡◌, ℕ, ◌+◌, ◌-◌, ◌*◌, ◌^◌, ◌<◌, List, [], ◌++◌, length, take, drop, get_or, map, Some, Ok, refl, ap, sym, ◌∙◌, arith, append_assoc, ◌≤◌, Option, None, Result, Err, OnOk, IfSome, subst}
 use Rattle.std.specs.List.{slice_get}
+use Rattle.std.specs.Prelude.{⊤}
 use Rattle.std.specs.Prelude.{option_map}
 use Rattle.std.proofs.lemmas.List.Elements.{All-from_get_or, recursion_from_All}
 use Rattle.std.proofs.lemmas.Option.{slice_get-map, slice_get-get_or}
 use Rattle.plist_base.specs.Bracketing.{bracketing, shape, AreWhole}
 use Rattle.plist_base.specs.Events.{PlainEvent}
+use Rattle.plist_base.specs.Faults.{Fault, MatchFault}
 use Rattle.plist_base.specs.Trees.{Tree}
 use Rattle.plist_format.specs.Container.{magic, Head, head_of}
 use Rattle.plist_format.specs.Object.{Object, object_in}
@@ -29,13 +31,14 @@ use Rattle.plist_binwrite.proofs.ReadingNumbers.{drop_front, width_positive, las
 use Rattle.plist_binwrite.proofs.Sitting.{sits_whole}
 use Rattle.plist_binwrite.proofs.Unfold.{Shows, unfolds_whole, no_fault}
 use Rattle.plist_binwrite.proofs.Widths.{width_holds}
-use Rattle.plist_base.specs.Outcomes.{OnlyDevice}
+use Rattle.plist_base.specs.Outcomes.{IfFault, OnlyDevice}
 use Rattle.plist_base.specs.declared.error.Error.{Error}
 use Rattle.plist_binwrite.specs.declared.held.Held.{Held}
 use Rattle.plist_base.specs.Writing.{Answer, answer_of}
 use Rattle.plist_base.proofs.Grammar.{complete_of_whole}
+use Rattle.plist_binwrite.specs.declared.completion.Draft.{Draft}
 use Rattle.plist_binwrite.specs.declared.completion.Ready.{Ready}
-use Rattle.plist_binwrite.specs.inner.Ending.{numbers_in, file_of, IsReady, IsReadyBy, SendsReady}
+use Rattle.plist_binwrite.specs.inner.Ending.{numbers_in, file_of, IsDraftOf, IsFitting, IsReady, NeedsNoMemory, SendsReady}
 use Rattle.plist_binwrite.specs.Outlets.{IsOut, Empties, EmptiesInPart}
 use Rattle.plist_binwrite.specs.inner.Sizing.{ExceedsWith, FitsWith}
 use Rattle.plist_binwrite.specs.Sizes.{TellsSize, size_with}
@@ -242,6 +245,12 @@ module _ {es : List PlainEvent} {plan : Plan} {order marks : List ℕ} (told : O
           long (all_fit class goes t e);
     }
 
+-- it is too long by the same number of objects
+pub exceeds_same : (told : Option ℕ) {count other : ℕ} → count ≡ other
+    → IfSome told (λ table. ExceedsWith table count)
+    → IfSome told (λ table. ExceedsWith table other)
+exceeds_same told same exceeds = subst (λ k. IfSome told (λ table. ExceedsWith table k)) same exceeds
+
 -- the parts that are put, one behind the other
 pub file_is : (objects : ℕ → Object) (order places : List ℕ) (table width : ℕ)
     → width ≡ reference_width (length places)
@@ -268,24 +277,35 @@ sends_end contents es ready old middle new waiting (Err error) sent front failed
 
 module _ {W : Type 0} (contents : W → Option (List ℕ)) (events : Held) (old new : W)
     (whole : AreWhole (plain_events events)) {class : ℕ → ℕ} {ready : Ready}
-    (b : IsReadyBy (plain_events events) class ready) where
-  abbrev r : IsReady (plain_events events) ready
-  r = b.all
+    (r : IsReady (plain_events events) ready) (goes : GoesBy (plain_events events) class ready.plan)
+  where
+    of : Numbered (plain_events events) (numbers_in ready)
+    of = numbered r.planned
 
-  of : Numbered (plain_events events) (numbers_in ready)
-  of = numbered r.planned
+    is_file : IsFileAs (IsFileBy class) (size_by class) (plain_events events)
+        (file_of ready of.objects)
+    is_file = (
+      complete_of_whole (plain_events events) whole,
+      λ t alike. r.file of.objects of.describes class
+          goes t (plain_shape events t alike),
+    )
 
-  is_file : IsFileAs (IsFileBy class) (size_by class) (plain_events events)
-      (file_of ready of.objects)
-  is_file = (
-    complete_of_whole (plain_events events) whole,
-    λ t alike. r.file of.objects of.describes class
-        b.goes t (plain_shape events t alike),
-  )
+    pub ready_sends : (answer : Answer) → SendsReady contents
+        (plain_events events) ready answer old new
+        → SendsBy class contents (plain_events events) answer old new
+    ready_sends (Ok done) s = (file_of ready of.objects, is_file, s of.objects of.describes)
+    ready_sends (Err fault) s =
+        rw s.0 (refl, (file_of ready of.objects, is_file, s.1 of.objects of.describes))
 
-  pub ready_sends : (answer : Answer) → SendsReady contents
-      (plain_events events) ready answer old new
-      → SendsBy class contents (plain_events events) answer old new
-  ready_sends (Ok done) s = (file_of ready of.objects, is_file, s of.objects of.describes)
-  ready_sends (Err fault) s =
-      rw s.0 (refl, (file_of ready of.objects, is_file, s.1 of.objects of.describes))
+-- sending it wants no memory
+pub ready_needs_none : {W : Type 0} (contents : W → Option (List ℕ)) (es : List PlainEvent)
+    (ready : Ready) (answer : Result (Unit {0}) Error) (old new : W)
+    → SendsReady contents es ready (answer_of answer) old new → IfFault answer NeedsNoMemory
+ready_needs_none contents es ready (Ok done) old new s = tt
+ready_needs_none contents es ready (Err error) old new s =
+    subst (λ k. MatchFault k ⊤ ⊥ ⊤) (sym (ap (λ (f : Fault). f.kind) s.0)) tt
+
+-- a draft that fits is ready
+pub fitting_ready : {es : List PlainEvent} {draft : Draft} {ready : Ready} → IsDraftOf es draft
+    → IsFitting draft ready → IsReady es ready
+fitting_ready {es} of fits = subst (IsReady es) (sym fits.same) (of.ready _ fits.told fits.fits)

@@ -1,13 +1,13 @@
 -- What sending a file does.
-use Rattle.std.proofs.Common.{◌≡◌, inl, inr, ℕ, ◌^◌, ◌<◌, List, Option, Ok, Err, ◌∙◌, subst, refl}
+use Rattle.std.proofs.Common.{◌≡◌, ℕ, ◌^◌, ◌<◌, List, Option, Ok, Err, ◌∙◌, subst, refl}
 use Rattle.plist_binwrite.specs.declared.held.Held.{Held}
 use Rattle.plist_base.specs.Bracketing.{bracketing, shape, AreAlike, AreWhole, AreComplete}
 use Rattle.plist_base.specs.Events.{PlainEvent}
-use Rattle.plist_base.specs.Faults.{FaultKind, Fault, Io, OutOfMemory, PlistTooLarge}
+use Rattle.plist_base.specs.Faults.{FaultKind, Fault, Io, OutOfMemory, PlistTooLarge, fault_nowhere}
 use Rattle.plist_base.specs.Trees.{Tree}
 use Rattle.plist_base.specs.Writing.{Answer}
 use Rattle.plist_base.proofs.Grammar.{complete_of_whole, whole_alike}
-use Rattle.plist_binwrite.specs.Classes.{IsFileBy, IsUnplanned, SendsBy, size_by}
+use Rattle.plist_binwrite.specs.Classes.{IsFileBy, IsOversized, SendsBy, size_by}
 use Rattle.plist_binwrite.specs.Files.{IsFileOf}
 use Rattle.plist_binwrite.specs.Held.{plain_events}
 use Rattle.plist_binwrite.specs.SendingAs.{IsFileAs, FailsAs, SendsAs}
@@ -50,26 +50,24 @@ module _ (One Other : Tree → List ℕ → Type 0) (size other : Tree → ℕ) 
     sends_as (Ok done) old new (file, of, all) = (file, file_as file of, all)
     sends_as (Err fault) old new (nowhere, fails) = (nowhere, fails_as _ old new fails)
 
--- no file was planned, and nothing went out
-module _ {W : Type 0} (contents : W → Option (List ℕ)) (class : ℕ → ℕ) where
-  pub sends_unplanned : (events : Held) (fault : Fault) (old new : W)
-      → IsUnplanned class (plain_events events) fault
-      → AreWhole (plain_events events) → new ≡ old
-      → SendsBy class contents (plain_events events) (Err fault) old new
-  sends_unplanned events fault old new (inl is) whole same =
-      rw is (refl, same)
-  sends_unplanned events fault old new (inr large) whole same =
-      rw large.0 (
-        refl,
-        (
-          (
-            complete_of_whole _ whole,
-            λ t alike. large.1 t
-                (plain_shape events t alike),
-          ),
-          same,
-        ),
-      )
+-- without memory nothing goes out
+pub sends_nothing : {W : Type 0} (contents : W → Option (List ℕ)) (class : ℕ → ℕ) (events : Held)
+    (fault : Fault) (old new : W) → fault ≡ fault_nowhere OutOfMemory → new ≡ old
+    → SendsBy class contents (plain_events events) (Err fault) old new
+sends_nothing contents class events fault old new is same = rw is (refl, same)
+
+-- a file that is too large isn't sent
+pub sends_too_large : {W : Type 0} (contents : W → Option (List ℕ)) (class : ℕ → ℕ) (events : Held)
+    (fault : Fault) (old new : W) → fault ≡ fault_nowhere PlistTooLarge
+    → AreWhole (plain_events events) → IsOversized class (plain_events events) → new ≡ old
+    → SendsBy class contents (plain_events events) (Err fault) old new
+sends_too_large contents class events fault old new is whole large same = rw is (
+  refl,
+  (
+    (complete_of_whole _ whole, λ t alike. large t (plain_shape events t alike)),
+    same,
+  ),
+)
 
 -- ---- a file by the plain writer's classes is the tree's file
 

@@ -1,9 +1,8 @@
 -- Classes of the indices where trees begin, and a file that has one object for each class.
-use Rattle.std.specs.Prelude.{◌≡◌, ◌⊎◌, ℕ, ◌^◌, ◌<◌, ◌≤◌, Bool, List, length, map, nat_eq, Option}
+use Rattle.std.specs.Prelude.{◌≡◌, ℕ, ◌^◌, ◌<◌, ◌≤◌, Bool, List, length, map, nat_eq, Option}
 use Rattle.std.specs.Set.{unique_keys}
 use Rattle.plist_base.specs.Bracketing.{shape}
 use Rattle.plist_base.specs.Events.{PlainEvent}
-use Rattle.plist_base.specs.Faults.{Fault, OutOfMemory, PlistTooLarge, fault_nowhere}
 use Rattle.plist_base.specs.Trees.{Tree}
 use Rattle.plist_base.specs.Writing.{Answer}
 use Rattle.plist_format.specs.Visits.{visits}
@@ -59,12 +58,6 @@ module _ (class : ℕ → ℕ) where
 
   abbrev pub IsOversized : List PlainEvent → Type 0
   IsOversized es = (tree : Tree) → es ≡ shape tree → 2 ^ 64 ≤ size_by tree
-
-  -- why no file is planned: for want of memory, or it doesn't fit
-  abbrev pub IsUnplanned : List PlainEvent → Fault → Type 0
-  IsUnplanned es fault =
-      (fault ≡ fault_nowhere OutOfMemory)
-      ⊎ ((fault ≡ fault_nowhere PlistTooLarge) × IsOversized es)
 
   -- what sending the file of whole events does
   module _ {W : Type 0} (contents : W → Option (List ℕ)) where

@@ -1,19 +1,13 @@
 -- What sending the file of held events does.
 use Rattle.std.specs.Prelude.{ℕ, List, Option, Result}
-use Rattle.plist_base.specs.Faults.{fault_of}
 use Rattle.plist_base.specs.Trees.{Tree}
 use Rattle.plist_base.specs.Writing.{answer_of}
 use Rattle.plist_base.specs.declared.error.Error.{Error}
-use Rattle.plist_binwrite.specs.Classes.{IsUnplanned, SendsBy}
+use Rattle.plist_binwrite.specs.Classes.{SendsBy}
 use Rattle.plist_binwrite.specs.Held.{num_of, plain_events}
 use Rattle.plist_binwrite.specs.SendingAs.{SendsAs}
 use Rattle.plist_binwrite.specs.declared.classes.Classes.{Classes}
 use Rattle.plist_binwrite.specs.declared.held.Held.{Held}
-
--- why no file is planned by these classes
-abbrev pub LacksPlan : Classes → Held → Error → Type 0
-LacksPlan classes held error =
-    IsUnplanned (num_of classes.of) (plain_events held) (fault_of error)
 
 -- with one object for each class
 abbrev pub SendsByClass : {W : Type 0} → Classes → (W → Option (List ℕ)) → Held

@@ -1,15 +1,15 @@
 //! The end of a property list: its file is planned and sent.
 
-ghost use Rattle.std.specs.Prelude.{◌≡◌, [], length, IfOk, IfErr};
-ghost use Rattle.plist_base.specs.Outcomes.{OnlyMemory};
+ghost use Rattle.std.specs.Prelude.{◌≡◌, [], length, IfOk, IfSome, None};
+ghost use Rattle.plist_base.specs.Outcomes.{IfFault, OnlyMemory};
 ghost use Rattle.plist_base.specs.Bracketing.{AreWhole};
 ghost use Rattle.plist_base.specs.Writing.{answer_of};
 ghost use Rattle.plist_binwrite.specs.Classes.{AreClasses};
-ghost use Rattle.plist_binwrite.specs.inner.Ending.{IsReady, IsReadyBy};
+ghost use Rattle.plist_binwrite.specs.inner.Ending.{IsDraftBy, IsDraftOf, IsFitting, IsReady, IsTooLong, NeedsNoMemory};
 ghost use Rattle.plist_binwrite.specs.Held.{plain_events, num_of, AllBelow, IsBracketed};
 ghost use Rattle.plist_binwrite.specs.Sending.{Sends};
-ghost use Rattle.plist_binwrite.specs.Completing.{LacksPlan, SendsByClass};
-ghost use Rattle.plist_binwrite.specs.inner.Putting.{PutsFile, SendsPlanned};
+ghost use Rattle.plist_binwrite.specs.Completing.{SendsByClass};
+ghost use Rattle.plist_binwrite.specs.inner.Putting.{PutsFile, SendsDraft, SendsPlanned};
 
 use crate::classes::{Classes, classes_of};
 use crate::forms::{put_ending, reference_width};
@@ -20,14 +20,24 @@ use crate::objects::put_objects;
 use crate::outlet::{finish, put};
 use crate::plan::{Plan, Planned, plan_by_class};
 use crate::size::{check_size, place_objects};
-use plist_base::Error;
+use plist_base::{Error, ErrorKind};
 use std::alloc::Global;
 use std::io::Write;
 
 // How many bytes wait together at most.
 const ROOM: usize = 1 << 16;
 
-// A planned file: its objects in order with their places, and the place of its offset table.
+// A planned file: its objects in order with their places, and the place of its offset table, none
+// where that is 2^64 or more.
+#[derive(Drop)]
+struct Draft {
+    plan: Plan,
+    order: Numbers,
+    places: Numbers,
+    table: Option<u64>,
+}
+
+// The same of a file that has less than 2^64 bytes.
 #[derive(Drop)]
 struct Ready {
     plan: Plan,
@@ -36,14 +46,16 @@ struct Ready {
     table: usize,
 }
 
-// Plans the file of the events of a tree, with one object for each class.
-fn make_ready(alloc: Global, events: &Held<'_>, classes: Classes) -> Result<Ready, Error>
+// Plans the file of the events of a tree, with one object for each class. Behind it no memory is
+// taken.
+fn draft_file(alloc: Global, events: &Held<'_>, classes: Classes) -> Result<Draft, Error>
     requires whole { IsBracketed (plain_events events.now) }
     requires long { length classes.of ≡ length (plain_events events.now) }
     requires below { AllBelow classes.count classes.of }
     requires classes { AreClasses (plain_events events.now) (num_of classes.of) }
-    ensures ready { IfOk result (IsReadyBy (plain_events events.now) (num_of classes.of)) }
-    ensures refused { IfErr result (LacksPlan classes events.now) }
+    ensures draft { IfOk result (IsDraftOf (plain_events events.now)) }
+    ensures goes { IfOk result (IsDraftBy classes events.now) }
+    ensures memory { OnlyMemory result }
 {
     let plan = plan_by_class(alloc, events, classes)?;
     let layout = order_objects(alloc, events, &plan)?;
@@ -56,15 +68,32 @@ fn make_ready(alloc: Global, events: &Held<'_>, classes: Classes) -> Result<Read
         width: reference_width(count),
     };
     let table = place_objects(&file, &order, &mut places)?;
-    match check_size(table, count) {
-        Ok(table) => Ok(Ready {
-            plan,
-            order,
-            places,
-            table: table as usize,
-        }),
-        Err(error) => Err(error),
-    }
+    Ok(Draft {
+        plan,
+        order,
+        places,
+        table,
+    })
+}
+
+// The planned file, or none where it would have 2^64 bytes or more.
+fn fitting(draft: Draft) -> Option<Ready>
+    ensures ready { IfSome result (IsFitting draft) }
+    ensures oversized { result ≡ None → IsTooLong draft }
+{
+    let table = check_size(draft.table, draft.places.len() as u64)?;
+    let Draft {
+        plan,
+        order,
+        places,
+        ..
+    } = draft;
+    Some(Ready {
+        plan,
+        order,
+        places,
+        table: table as usize,
+    })
 }
 
 // Puts a planned file.
@@ -110,6 +139,25 @@ fn send_file<W: Write>(
     }
 }
 
+// Sends a planned file, or refuses it for its size alone.
+fn send_draft<W: Write>(
+    out: &mut W,
+    room: &mut Vec<u8>,
+    events: &Held<'_>,
+    draft: Draft,
+) -> Result<(), Error>
+    requires whole { AreWhole (plain_events events.now) }
+    requires draft { IsDraftOf (plain_events events.now) draft }
+    requires empty { room.old.items ≡ [] }
+    ensures sent { SendsDraft W.contents events.now draft result out.old out.new }
+    ensures memory { IfFault result NeedsNoMemory }
+{
+    match fitting(draft) {
+        Some(ready) => send_file(out, room, events, &ready),
+        None => Err(ErrorKind::PlistTooLarge.without_position()),
+    }
+}
+
 fn make_room(alloc: Global) -> Result<Vec<u8>, Error>
     ensures empty { IfOk result (λ room. room.items ≡ []) }
     ensures memory { OnlyMemory result }
@@ -140,8 +188,8 @@ pub fn complete_by_class<W: Write>(
     ensures { SendsByClass classes W.contents events.now result writer.old writer.new }
 {
     let mut room = make_room(alloc)?;
-    let ready = make_ready(alloc, events, classes)?;
-    send_file(writer, &mut room, events, &ready)
+    let draft = draft_file(alloc, events, classes)?;
+    send_draft(writer, &mut room, events, draft)
 }
 
 /// Plans the file of the events of a whole property list, sends it and flushes: one object for each

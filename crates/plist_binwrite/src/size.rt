@@ -1,9 +1,8 @@
 //! How many bytes the objects and the file will have, before any byte is sent. A size of 2^64 or
 //! more is `None`.
 
-ghost use Rattle.std.specs.Prelude.{◌≡◌, ◌+◌, ◌^◌, ◌<◌, ◌≤◌, ℕ, length, true, false, IfOk, IfErr, IfSome, OnOk, Some};
-ghost use Rattle.plist_base.specs.Outcomes.{OnlyFault, OnlyMemory};
-ghost use Rattle.plist_base.specs.Faults.{PlistTooLarge, fault_nowhere};
+ghost use Rattle.std.specs.Prelude.{◌≡◌, ◌+◌, ◌^◌, ◌<◌, ◌≤◌, ℕ, length, true, false, IfOk, IfSome, None, OnOk, Some};
+ghost use Rattle.plist_base.specs.Outcomes.{OnlyMemory};
 ghost use Rattle.plist_binwrite.specs.inner.Laying.{IsOrder};
 ghost use Rattle.plist_binwrite.specs.inner.Planning.{IsPlanned, count_of, events_in};
 ghost use Rattle.plist_binwrite.specs.Sizes.{TellsSize, size_with};
@@ -15,7 +14,7 @@ use crate::kinds::Kind;
 use crate::lengths::{add, length_of_collection, length_of_scalar};
 use crate::numbers::Numbers;
 use crate::plan::Planned;
-use plist_base::{Error, ErrorKind};
+use plist_base::Error;
 
 /// The number of items of an array from here on; a key is an item, and so is its value.
 pub fn count_items(events: &Held<'_>, from: usize) -> usize
@@ -113,19 +112,15 @@ fn has_size(table: u64, count: u64) -> bool
     }
 }
 
-/// Tests the size of a file of so many objects, whose offset table lies here. The place of the
-/// table. It takes no memory.
-///
-/// # Errors
-/// `PlistTooLarge`, without an offset, exactly where the file would have 2^64 bytes or more.
-pub fn check_size(table: Option<u64>, count: u64) -> Result<u64, Error>
-    ensures table { IfOk result (λ place. table ≡ Some place) }
-    ensures fits { IfOk result (λ place. FitsWith place count) }
-    ensures kind { OnlyFault result (fault_nowhere PlistTooLarge) }
-    ensures oversized { IfErr result (λ _. IfSome table (λ place. ExceedsWith place count)) }
+/// The place of the offset table of a file of so many objects, or none where the file would have
+/// 2^64 bytes or more. It takes no memory.
+pub fn check_size(table: Option<u64>, count: u64) -> Option<u64>
+    ensures table { IfSome result (λ place. table ≡ Some place) }
+    ensures fits { IfSome result (λ place. FitsWith place count) }
+    ensures oversized { result ≡ None → IfSome table (λ place. ExceedsWith place count) }
 {
     match table {
-        Some(place) if has_size(place, count) => Ok(place),
-        _ => Err(ErrorKind::PlistTooLarge.without_position()),
+        Some(place) if has_size(place, count) => Some(place),
+        _ => None,
     }
 }

@@ -1,18 +1,22 @@
 -- A planned file, and what sending it does.
-use Rattle.std.specs.Prelude.{◌≡◌, ℕ, List, length, Option, Ok, Err}
+use Rattle.std.specs.Prelude.{◌≡◌, ℕ, List, length, Option, Some, Ok, Err, IfSome, ⊤}
 use Rattle.std.specs.Io.KnownBytes.{Appends}
-use Rattle.plist_base.specs.Faults.{Io, fault_nowhere}
+use Rattle.plist_base.specs.Faults.{Fault, Io, MatchFault, fault_nowhere}
 use Rattle.plist_base.specs.Writing.{Answer}
 use Rattle.plist_format.specs.Object.{Object}
+use Rattle.plist_binwrite.specs.declared.classes.Classes.{Classes}
+use Rattle.plist_binwrite.specs.declared.completion.Draft.{Draft}
 use Rattle.plist_binwrite.specs.declared.completion.Ready.{Ready}
-use Rattle.plist_binwrite.specs.Classes.{IsFileBy}
+use Rattle.plist_binwrite.specs.declared.held.Held.{Held}
+use Rattle.plist_binwrite.specs.Classes.{IsFileBy, IsOversized}
 use Rattle.plist_base.specs.Fronts.{AppendsFront}
-use Rattle.plist_binwrite.specs.Held.{AllBelow, Describes}
+use Rattle.plist_binwrite.specs.Held.{AllBelow, Describes, num_of, plain_events}
 use Rattle.plist_binwrite.specs.inner.Laying.{laid_out, closed}
 use Rattle.plist_base.specs.Events.{PlainEvent}
 use Rattle.plist_base.specs.Trees.{Tree}
 use Rattle.plist_base.specs.Bracketing.{shape}
 use Rattle.plist_binwrite.specs.inner.Planning.{IsPlanned, GoesBy, count_of, numbers_of}
+use Rattle.plist_binwrite.specs.inner.Sizing.{ExceedsWith, FitsWith}
 use Rattle.plist_binwrite.specs.Written.{reference_width}
 
 -- by event, the number of its object
@@ -37,10 +41,35 @@ pub record IsReady (es : List PlainEvent) (ready : Ready) : Type 0 where
       → (class : ℕ → ℕ) → GoesBy es class ready.plan → (t : Tree) → es ≡ shape t
       → IsFileBy class t (file_of ready objects)
 
--- the same by these classes
-pub record IsReadyBy (es : List PlainEvent) (class : ℕ → ℕ) (ready : Ready) : Type 0 where
-  pub all : IsReady es ready
-  pub goes : GoesBy es class ready.plan
+-- a planned file whose table lies here
+abbrev pub ready_at : Draft → (table : ℕ) → Ready
+ready_at draft table =
+    record { plan = draft.plan; order = draft.order; places = draft.places; table = table }
+
+-- it has 2^64 bytes or more
+abbrev pub IsTooLong : Draft → Type 0
+IsTooLong draft = IfSome draft.table (λ table. ExceedsWith table (length draft.places))
+
+-- it has less
+pub record IsFitting (draft : Draft) (ready : Ready) : Type 0 where
+  pub same : ready ≡ ready_at draft ready.table
+  pub told : draft.table ≡ Some ready.table
+  pub fits : FitsWith ready.table (length draft.places)
+
+-- the file of the tree whose events these are is planned: where it has less than 2^64 bytes it is
+-- ready, and else it is too large, by any classes that it goes by
+pub record IsDraftOf (es : List PlainEvent) (draft : Draft) : Type 0 where
+  pub ready : (table : ℕ) → draft.table ≡ Some table → FitsWith table (length draft.places)
+      → IsReady es (ready_at draft table)
+  pub oversized : IsTooLong draft → (class : ℕ → ℕ) → GoesBy es class draft.plan
+      → IsOversized class es
+
+abbrev pub IsDraftBy : Classes → Held → Draft → Type 0
+IsDraftBy classes held draft = GoesBy (plain_events held) (num_of classes.of) draft.plan
+
+-- want of memory isn't why
+abbrev pub NeedsNoMemory : Fault → Type 0
+NeedsNoMemory fault = MatchFault fault.kind ⊤ ⊥ ⊤
 
 module _ {W : Type 0} (contents : W → Option (List ℕ)) where
   -- the file goes out; or a device fails, and a beginning of it did

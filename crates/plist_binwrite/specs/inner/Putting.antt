@@ -12,10 +12,13 @@ use Rattle.plist_binwrite.specs.Numberings.{obj_of}
 use Rattle.plist_binwrite.specs.Outlets.{Puts}
 use Rattle.plist_binwrite.specs.Standing.{Sits, SitsItems, SitsPairs}
 use Rattle.plist_binwrite.specs.Written.{bodies}
+use Rattle.plist_binwrite.specs.Classes.{SendsBy}
+use Rattle.plist_binwrite.specs.declared.completion.Draft.{Draft}
 use Rattle.plist_binwrite.specs.declared.completion.Ready.{Ready}
 use Rattle.plist_binwrite.specs.declared.held.Held.{Held}
 use Rattle.plist_binwrite.specs.declared.plan.Planned.{Planned}
 use Rattle.plist_binwrite.specs.inner.Ending.{SendsReady, file_of, numbers_in}
+use Rattle.plist_binwrite.specs.inner.Planning.{GoesBy}
 pub use Rattle.plist_binwrite.specs.inner.Planning.{numbers_of, events_in, numbers_by}
 
 module _ {W : Type 0} (contents : W → Option (List ℕ)) (old : W) (room : Vec ℕ Global) where
@@ -74,3 +77,9 @@ module _ {W : Type 0} (contents : W → Option (List ℕ)) where
   abbrev pub SendsPlanned : Held → Ready → Result (Unit {0}) Error → (old new : W) → Type 0
   SendsPlanned held ready result old new =
       SendsReady contents (plain_events held) ready (answer_of result) old new
+
+  -- or is sent or refused, whatever classes it goes by
+  abbrev pub SendsDraft : Held → Draft → Result (Unit {0}) Error → (old new : W) → Type 0
+  SendsDraft held draft result old new =
+      (class : ℕ → ℕ) → GoesBy (plain_events held) class draft.plan
+      → SendsBy class contents (plain_events held) (answer_of result) old new

@@ -1,13 +1,12 @@
-use Rattle.std.proofs.Common.{inl, rules}
+use Rattle.std.proofs.Common.{rules}
 use Rattle.std.proofs.lemmas.Result.{err_from_is_err_and}
-use Rattle.plist_base.specs.Writing.{answer_of}
+use Rattle.plist_binwrite.specs.Held.{num_of}
+use Rattle.plist_binwrite.proofs.SendingFiles.{sends_nothing}
 use Rattle.plist_binwrite.proofs.Unhinted.{whole_bracketed}
-use Rattle.plist_binwrite.proofs.Readied.{ready_sends}
-use Rattle.plist_binwrite.proofs.SendingFiles.{sends_unplanned}
 use Rattle.plist_binwrite.proofs.completion.complete_by_class.Goals as goal
 
-pub make_ready-requires : goal.make_ready-requires
-make_ready-requires g c = record {
+pub draft_file-requires : goal.draft_file-requires
+draft_file-requires g c = record {
   whole = whole_bracketed c.args.events.now c.requires.whole;
   long = c.requires.long;
   below = c.requires.below;
@@ -15,20 +14,17 @@ make_ready-requires g c = record {
 }
 
 pub returns : goal.returns
-returns g c =
-    ready_sends g.W.Write.contents c.args.events.now _ _ c.requires.whole
-    c.in_ok-ready.ensures.ready (answer_of c.send_file.result) c.send_file.ensures
+returns g c = c.send_draft.ensures.sent (num_of c.args.classes.of) c.in_ok-draft.ensures.goes
 
 pub returns-in_err-room : goal.returns-in_err-room
 returns-in_err-room g c =
     let p = err_from_is_err_and c.from_residual.result c.from_residual.ensures.1 in
-    rw (p.1, p.2) (sends_unplanned _ _ c.args.events.now _ _ _
-    (inl c.in_err-room.ensures.memory) c.requires.whole (search rules))
+    rw (p.1, p.2) (sends_nothing g.W.Write.contents _ c.args.events.now _ _ _
+    c.in_err-room.ensures.memory (search rules))
 
-pub returns-in_err-ready : goal.returns-in_err-ready
-returns-in_err-ready g c =
-    let p = err_from_is_err_and c.from_residual-in_err-ready.result
-    c.from_residual-in_err-ready.ensures.1 in
-    rw (p.1, p.2)
-    (sends_unplanned _ _ c.args.events.now _ _ _
-    c.in_err-ready.ensures.refused c.requires.whole (search rules))
+pub returns-in_err-draft : goal.returns-in_err-draft
+returns-in_err-draft g c =
+    let p = err_from_is_err_and c.from_residual-in_err-draft.result
+    c.from_residual-in_err-draft.ensures.1 in
+    rw (p.1, p.2) (sends_nothing g.W.Write.contents _ c.args.events.now _ _ _
+    c.in_err-draft.ensures.memory (search rules))
