@@ -9,12 +9,13 @@ ghost use Rattle.plist_binwrite.specs.Sizes.{file_size};
 
 use crate::completion;
 use crate::held::Held;
-use plist_base::Error;
+use plist_base::{Error, Sealed};
 use std::alloc::Global;
 use std::io::Write;
 
-/// Which equal trees of a property list are one object of its file.
-pub trait Sharing: Drop {
+/// Which equal trees of a property list are one object of its file. There are no others than those
+/// of this crate and of `plist_share`, as with [`Writer`](plist_base::Writer).
+pub trait Sharing: Sealed + Drop {
     ghost use Rattle.plist_binwrite.specs.Completing.{SendsHeld};
 
     /// What is a file of a tree?
@@ -36,6 +37,8 @@ pub trait Sharing: Drop {
 /// Equal scalars are one object, and each collection is one of its own.
 #[derive(Drop)]
 pub struct EqualScalars;
+
+impl Sealed for EqualScalars {}
 
 impl Sharing for EqualScalars {
     ghost IsFile = { IsFileOf };

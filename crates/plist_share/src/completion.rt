@@ -4,7 +4,7 @@ ghost use Rattle.plist_share.specs.SharedFiles.{IsSharedFileOf};
 ghost use Rattle.plist_share.specs.SharedSizes.{shared_file_size};
 
 use crate::classes::tree_classes;
-use plist_base::Error;
+use plist_base::{Error, Sealed};
 use plist_binwrite::{Held, Sharing, complete_by_class};
 use std::alloc::Global;
 use std::io::Write;
@@ -12,6 +12,8 @@ use std::io::Write;
 /// Equal trees are one object: scalars, arrays and dictionaries.
 #[derive(Drop)]
 pub struct EqualTrees;
+
+impl Sealed for EqualTrees {}
 
 impl Sharing for EqualTrees {
     ghost IsFile = { IsSharedFileOf };
