@@ -6,6 +6,7 @@ use Rattle.std.specs.List.{AllZip, items_where_true}
 use Rattle.std.specs.declared.alloc.Global.{Global}
 use denote.Param.Members.{Shared}
 use Rattle.indexmap.specs.IndexMap.{insert_all}
+use Rattle.plist_pairs.specs.Keys.{IsAbsent}
 use Rattle.plist_pairs.specs.Shown.{shown_owned_pair}
 use Rattle.plist_base.specs.declared.error.Error.{Error}
 
@@ -28,7 +29,7 @@ module _ {F V : Type 0} (g : Shared F (Bor (String Global) × (Bor V × Unit {0}
 
 module _ {I V : Type 0} (next_gives : I → Option (String Global × V) → I → Type 0) (iter : I) where
   -- All pairs of the iterator are inserted in turn. After an error these are the pairs before one
-  -- that was taken, too.
+  -- that was taken, too, and whose key isn't there.
   abbrev pub ExtendsBy : Rows V → Result (Unit {0}) Error → Rows V → Type 0
   ExtendsBy old (Ok _) new =
       (taken : List (String Global × V)) × Drains next_gives iter taken
@@ -37,6 +38,7 @@ module _ {I V : Type 0} (next_gives : I → Option (String Global × V) → I �
       (taken : List (String Global × V)) × (refused : String Global × V)
       × ((rest : I) × Yields next_gives iter (taken ++ refused ∷ []) rest)
       × (new ≡ insert_all bytes_eq old (map shown_owned_pair taken))
+      × IsAbsent (string_bytes refused.0) new
 
   -- all pairs of the iterator, inserted in turn
   abbrev pub IsMadeOf : Rows V → Type 0

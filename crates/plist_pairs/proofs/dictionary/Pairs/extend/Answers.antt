@@ -33,7 +33,13 @@ returns-in-Err-clause-pairs g c =
     (it.said g.I.IntoIter.Iterator.next_gives c.in-Some.is c.next.ensures.steps) in (
       c.into_iter-rest.result,
       c.into_iter-rest.ensures.into_iter_gives,
-      (kept.seen, row, (c.next.new.self, gave), c.in-Err.ensures.unchanged ∙ kept.holds),
+      (
+        kept.seen,
+        row,
+        (c.next.new.self, gave),
+        c.in-Err.ensures.unchanged ∙ kept.holds,
+        rw c.in-Err.ensures.unchanged c.in-Err.ensures.absent,
+      ),
     )
 
 pub returns-clause-pairs : goal.returns-clause-pairs
