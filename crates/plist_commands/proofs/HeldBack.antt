@@ -1,6 +1,7 @@
 -- What a writer holds after some sends.
-use Rattle.std.proofs.Common.{◌≡◌, ℕ, Bool, List, [], ◌∷◌, ◌++◌, ◌⊎◌, inl, inr, Option, None, Some, IfSome, Result, Ok, Err, IfErr, OnErr, ap, refl, subst, sym, ◌∙◌, append_assoc, append-nil}
+use Rattle.std.proofs.Common.{◌≡◌, ℕ, List, [], ◌∷◌, ◌++◌, ◌⊎◌, inl, inr, Option, None, Some, IfSome, Result, Ok, Err, IfErr, OnErr, option_map, ap, refl, subst, sym, ◌∙◌, append_assoc, append-nil}
 use Rattle.std.specs.Prelude.{⊤}
+use Rattle.std.proofs.lemmas.Option.{IfSome_then}
 use Rattle.std.specs.Io.KnownBytes.{Appends}
 use Rattle.std.proofs.KnownBytes.{Appends-nil, Appends-trans}
 use Rattle.plist_base.specs.declared.error.Error.{Error}
@@ -10,16 +11,10 @@ use Rattle.plist_base.specs.Fronts.{AppendsFront}
 use Rattle.plist_base.specs.Sources.{CountsIo, Rises}
 use Rattle.plist_base.proofs.Fronts.{Appends-at}
 use Rattle.plist_base.proofs.Refusals.{MatchFault-all, MatchFault-at, MatchFault-weaker}
-use Rattle.plist_binread.specs.Telling.{TellsItem}
 use Rattle.plist_commands.specs.Fronts.{PassesOn}
+use Rattle.plist_commands.specs.Items.{ComesNext, GivesNext}
 use Rattle.plist_commands.specs.Lines.{line_of, lines_of, first_fault}
 use Rattle.plist_commands.specs.Printing.{CountsReads, IsOwnFault, PrintsAll, PrintsUntil}
-
--- two facts of known bytes together
-pub both_known : {A : Type 0} (o : Option A) {P Q R : A → Type 0} → IfSome o P → IfSome o Q
-    → ((x : A) → P x → Q x → R x) → IfSome o R
-both_known None p q f = tt
-both_known (Some x) p q f = f x p q
 
 -- a beginning of a beginning
 pub front_longer : (a b : Option (List ℕ)) (bytes more : List ℕ) → AppendsFront a b bytes
@@ -32,14 +27,6 @@ pub on_err_of : {T E P : Type 0} (answer : Result T E) → P → OnErr answer P
 on_err_of (Ok value) p = tt
 on_err_of (Err error) p = p
 
--- a line was put behind those that are held back
-pub passes_near : (a : Option (List ℕ)) (all held : List ℕ) → held ≡ all → PassesOn a a all held
-passes_near a all held same = ([], Appends-nil a, sym same)
-
--- nothing went out
-pub front_none : (a : Option (List ℕ)) (bytes : List ℕ) → AppendsFront a a bytes
-front_none a bytes = ([], bytes, Appends-nil a, refl)
-
 -- ---- the writer's failure, and want of memory
 
 pub device_own : (error : Error) → fault_of error ≡ fault_nowhere Io → IsOwnFault error
@@ -49,11 +36,10 @@ device_own error is = (
 )
 
 -- it may come anywhere
-pub own_ends : (known : Option (List ℕ)) (all : List ℕ → List Item) (error : Error)
-    (old new : Option (List ℕ)) → IsOwnFault error
-    → IfSome known (λ bytes. PrintsUntil error (all bytes) old new)
-own_ends None all error old new own = tt
-own_ends (Some bytes) all error old new own =
+pub own_ends : (items : Option (List Item)) (error : Error) (old new : Option (List ℕ))
+    → IsOwnFault error → IfSome items (λ all. PrintsUntil error all old new)
+own_ends None error old new own = tt
+own_ends (Some all) error old new own =
     MatchFault-weaker (kind_of (error_kind_of error)) (λ _. tt) (λ _. tt) (λ none. absurd none)
     own.1
 
@@ -140,106 +126,102 @@ module _ {a b : Option (List ℕ)} {held : List ℕ} {all left : List Item}
       Appends-at a c _ _ (sym (h.lines ∙ ap (λ l. h.sent ++ (held ++ l)) none
       ∙ ap (λ l. h.sent ++ l) (append-nil held))) (Appends-trans a b c _ _ h.appended sent)
 
-  -- the reader gave a fault, and what was held back was sent
-  pub faulted : (c : Option (List ℕ)) (fresh : Bool) (error : Error) (told : PlainEvent)
-      (after : List Item) → Appends b c held
-      → TellsItem {A = Unit {0}} fresh left (Some (Err error)) told after
+  -- a fault came, and what was held back was sent
+  pub faulted : (c : Option (List ℕ)) (error : Error) (last : PlainEvent) (after : List Item)
+      → Appends b c held → GivesNext {A = Unit {0}} left (Some (Err error)) last after
       → PrintsUntil error all a c
-  faulted c fresh error told after sent t =
+  faulted c error last after sent g =
       MatchFault-weaker (kind_of (error_kind_of error)) (λ _. tt) (λ _. tt)
-      (λ w. (h.fault ∙ ap first_fault w, sent_all c (ap lines_of w) sent)) t.1
+      (λ w. (h.fault ∙ ap first_fault w, sent_all c (ap lines_of w) sent)) g
 
--- ---- one call of a reader
+-- ---- one call
 
--- what was passed on so far, and what the call told, where the bytes are known
-pub record HasTold (known : Option (List ℕ)) (all before after : List ℕ → List Item) (fresh : Bool)
-    (item : Option (Result (Unit {0}) Error)) (told : PlainEvent) (old now : Option (List ℕ))
-    (held : List ℕ) : Type 0 where
-  pub so_far : IfSome known (λ bytes. IsPassedUpTo old now held (all bytes) (before bytes))
-  pub tells : IfSome known (λ bytes. TellsItem fresh (before bytes) item told (after bytes))
+-- what was passed on so far of the items that were known to come at first
+abbrev pub HasPassed : (items coming : Option (List Item)) (old now : Option (List ℕ))
+    → (held : List ℕ) → Type 0
+HasPassed items coming old now held =
+    IfSome items (λ all. (left : List Item) × (coming ≡ Some left)
+    × IsPassedUpTo old now held all left)
 
-pub has_told : (known same : Option (List ℕ)) (all before after : List ℕ → List Item)
-    (fresh : Bool) (item : Option (Result (Unit {0}) Error)) (told : PlainEvent)
-    (old now : Option (List ℕ)) (held : List ℕ) → same ≡ known
-    → IfSome known (λ bytes. IsPassedUpTo old now held (all bytes) (before bytes))
-    → IfSome same (λ bytes. TellsItem fresh (before bytes) item told (after bytes))
-    → HasTold known all before after fresh item told old now held
-has_told known same all before after fresh item told old now held is so_far tells = record {
-  so_far = so_far;
-  tells = subst (λ k. IfSome k (λ bytes. TellsItem fresh (before bytes) item told (after bytes))) is
-      tells;
+pub passed_none : (items : Option (List Item)) (old : Option (List ℕ)) (held : List ℕ) → held ≡ []
+    → HasPassed items items old old held
+passed_none None old held none = tt
+passed_none (Some all) old held none = (
+  all,
+  refl,
+  record {
+    sent = [];
+    appended = Appends-nil old;
+    lines = ap (λ l. l ++ lines_of all) (sym none);
+    fault = refl;
+  },
+)
+
+-- and what came then
+pub record Came (items coming after : Option (List Item)) (old now : Option (List ℕ))
+    (held : List ℕ) (item : Option (Result (Unit {0}) Error)) (last : PlainEvent) : Type 0 where
+  pub next : IfSome items (λ all. (left : List Item) × (more : List Item)
+      × IsPassedUpTo old now held all left × (after ≡ Some more) × GivesNext left item last more)
+
+pub came : (items coming after : Option (List Item)) (old now : Option (List ℕ)) (held : List ℕ)
+    (item : Option (Result (Unit {0}) Error)) (last : PlainEvent)
+    → HasPassed items coming old now held → ComesNext coming item last after
+    → Came items coming after old now held item last
+came items coming after old now held item last passed comes = record {
+  next = IfSome_then items passed (λ all (left, is, p).
+      let c = subst (λ o. ComesNext o item last after) is comes in (left, c.0, p, c.1, c.2));
 }
 
--- the item told is an event, whose line is held back or sent, too
-told_next : (known : Option (List ℕ)) (before after : List ℕ → List Item) (fresh : Bool)
-    (item : Option (Result (Unit {0}) Error)) (told : PlainEvent) → item ≡ Some (Ok tt)
-    → IfSome known (λ bytes. TellsItem fresh (before bytes) item told (after bytes))
-    → IfSome known (λ bytes. before bytes ≡ Ok told ∷ after bytes)
-told_next known before after fresh item told is tells =
-    subst (λ i. IfSome known (λ bytes. TellsItem fresh (before bytes) i told (after bytes))) is
-    tells
-
-module _ {known : Option (List ℕ)} {all before after : List ℕ → List Item} {fresh : Bool}
-    {item : Option (Result (Unit {0}) Error)} {told : PlainEvent} {old now : Option (List ℕ)}
-    {held : List ℕ} (h : HasTold known all before after fresh item told old now held) where
+module _ {items coming after : Option (List Item)} {old now : Option (List ℕ)} {held : List ℕ}
+    {item : Option (Result (Unit {0}) Error)} {last : PlainEvent}
+    (h : Came items coming after old now held item last) where
+  -- an event, whose line is held back or sent, too
   pub line_passed : (new : Option (List ℕ)) (kept : List ℕ) → item ≡ Some (Ok tt)
-      → PassesOn now new (held ++ line_of told) kept
-      → IfSome known (λ bytes. IsPassedUpTo old new kept (all bytes) (after bytes))
+      → PassesOn now new (held ++ line_of last) kept → HasPassed items after old new kept
   line_passed new kept is passes =
-      both_known known {P = λ bytes. IsPassedUpTo old now held (all bytes) (before bytes)}
-      {Q = λ bytes. before bytes ≡ Ok told ∷ after bytes}
-      {R = λ bytes. IsPassedUpTo old new kept (all bytes) (after bytes)} h.so_far
-      (told_next known before after fresh item told is h.tells)
-      (λ bytes p next. passed_on (with_line p next) new kept passes)
+      IfSome_then items h.next (λ all (left, next, p, to, g).
+      (next, to, passed_on (with_line p (rw is at g)) new kept passes))
 
   pub line_in_part : (new : Option (List ℕ)) → item ≡ Some (Ok tt)
-      → AppendsFront now new (held ++ line_of told)
-      → IfSome known (λ bytes. AppendsFront old new (lines_of (all bytes)))
+      → AppendsFront now new (held ++ line_of last)
+      → IfSome items (λ all. AppendsFront old new (lines_of all))
   line_in_part new is front =
-      both_known known {P = λ bytes. IsPassedUpTo old now held (all bytes) (before bytes)}
-      {Q = λ bytes. before bytes ≡ Ok told ∷ after bytes}
-      {R = λ bytes. AppendsFront old new (lines_of (all bytes))} h.so_far
-      (told_next known before after fresh item told is h.tells)
-      (λ bytes p next. sent_held (with_line p next) new front)
+      IfSome_then items h.next (λ all (left, next, p, to, g).
+      sent_held (with_line p (rw is at g)) new front)
 
-  -- the item told is a fault, and comes behind what was held back, or a device's comes
+  -- a fault, which comes behind what was held back; or a device's comes
   pub fault_passed : (new : Option (List ℕ)) (error answer : Error) → item ≡ Some (Err error)
       → ((answer ≡ error) × Appends now new held) ⊎ (fault_of answer ≡ fault_nowhere Io)
-      → IfSome known (λ bytes. PrintsUntil answer (all bytes) old new)
+      → IfSome items (λ all. PrintsUntil answer all old new)
   fault_passed new error answer is (inr own) =
-      own_ends known all answer old new (device_own answer own)
+      own_ends items answer old new (device_own answer own)
   fault_passed new error answer is (inl (same, sent)) =
-      both_known known {P = λ bytes. IsPassedUpTo old now held (all bytes) (before bytes)}
-      {Q = λ bytes. TellsItem {A = Unit {0}} fresh (before bytes) (Some (Err error)) told
-      (after bytes)}
-      {R = λ bytes. PrintsUntil answer (all bytes) old new} h.so_far
-      (subst (λ i. IfSome known (λ bytes. TellsItem fresh (before bytes) i told (after bytes))) is
-      h.tells)
-      (λ bytes p t. subst (λ e. PrintsUntil e (all bytes) old new) (sym same)
-      (faulted p new fresh error told (after bytes) sent t))
+      IfSome_then items h.next (λ all (left, next, p, to, g).
+      subst (λ e. PrintsUntil e all old new) (sym same)
+      (faulted p new error last next sent (rw is at g)))
 
-  -- nothing is told, and what was held back was sent
+  -- nothing, and what was held back was sent
   pub all_passed : (new : Option (List ℕ)) → item ≡ None → Appends now new held
-      → IfSome known (λ bytes. PrintsAll (all bytes) old new)
+      → IfSome items (λ all. PrintsAll all old new)
   all_passed new is sent =
-      both_known known {P = λ bytes. IsPassedUpTo old now held (all bytes) (before bytes)}
-      {Q = λ bytes. TellsItem {A = Unit {0}} fresh (before bytes) None told (after bytes)}
-      {R = λ bytes. PrintsAll (all bytes) old new} h.so_far
-      (subst (λ i. IfSome known (λ bytes. TellsItem fresh (before bytes) i told (after bytes))) is
-      h.tells)
-      (λ bytes p t. (
-        p.fault ∙ ap first_fault t.0,
-        sent_all p new (ap lines_of t.0) sent,
-      ))
+      IfSome_then items h.next (λ all (left, next, p, to, g).
+      let none = rw is at g in
+      (p.fault ∙ ap first_fault none, sent_all p new (ap lines_of none) sent))
 
 -- a beginning of all lines, where a beginning of what was held back went out
-pub front_passed : (known : Option (List ℕ)) (all before : List ℕ → List Item)
-    (old now new : Option (List ℕ)) (held : List ℕ)
-    → IfSome known (λ bytes. IsPassedUpTo old now held (all bytes) (before bytes))
-    → AppendsFront now new held
-    → IfSome known (λ bytes. AppendsFront old new (lines_of (all bytes)))
-front_passed None all before old now new held so_far front = tt
-front_passed (Some bytes) all before old now new held so_far front = sent_held so_far new front
+pub front_passed : (items coming : Option (List Item)) (old now new : Option (List ℕ))
+    (held : List ℕ) → HasPassed items coming old now held → AppendsFront now new held
+    → IfSome items (λ all. AppendsFront old new (lines_of all))
+front_passed items coming old now new held passed front =
+    IfSome_then items passed (λ all (left, is, p). sent_held p new front)
+
+-- the fault behind lines is the writer's, or the one that came
+pub whose_fault : (gives : Fault → Type 0) (error answer : Error) {A : Type 0}
+    → gives (fault_of error) → ((answer ≡ error) × A) ⊎ (fault_of answer ≡ fault_nowhere Io)
+    → IsOwnFault answer ⊎ gives (fault_of answer)
+whose_fault gives error answer given (inl (same, sent)) =
+    inr (subst (λ e. gives (fault_of e)) (sym same) given)
+whose_fault gives error answer given (inr own) = inl (device_own answer own)
 
 -- ---- a whole file
 
@@ -247,7 +229,7 @@ front_passed (Some bytes) all before old now new held so_far front = sent_held s
 pub of_file : (known same : Option (List ℕ)) (coming items : List ℕ → List Item)
     (P : List Item → Type 0) → same ≡ known
     → IfSome known (λ bytes. coming bytes ≡ items bytes)
-    → IfSome same (λ bytes. P (coming bytes)) → IfSome known (λ bytes. P (items bytes))
+    → IfSome (option_map coming same) P → IfSome known (λ bytes. P (items bytes))
 of_file None same coming items P is alike h = tt
 of_file (Some bytes) same coming items P is alike h =
-    subst P alike (subst (λ k. IfSome k (λ b. P (coming b))) is h)
+    subst P alike (subst (λ k. IfSome (option_map coming k) P) is h)

@@ -5,13 +5,9 @@ use Rattle.std.specs.declared.alloc.Global.{Global}
 use Rattle.std.specs.declared.vec.Vec.{Vec}
 use Rattle.plist_base.specs.declared.error.Error.{Error}
 use Rattle.plist_base.specs.declared.event.Event.{Event}
-use Rattle.plist_base.specs.declared.source.Source.{Ghosts}
-use Rattle.plist_base.specs.Events.{PlainEvent, event_of}
+use Rattle.plist_base.specs.Events.{event_of}
 use Rattle.plist_base.specs.Faults.{Io, fault_nowhere, fault_of}
 use Rattle.plist_base.specs.Fronts.{AppendsFront}
-use Rattle.plist_binread.specs.Telling.{event_told}
-use Rattle.plist_binread.specs.declared.counter.DecodeCounter.{Ghosts as CounterGhosts}
-use Rattle.plist_binread.specs.declared.reader.BinaryReader.{BinaryReader}
 use Rattle.plist_commands.specs.Lines.{line_of}
 
 -- of the bytes `all`, known bytes grew by a beginning, and the rest of them are `held` back
@@ -38,41 +34,14 @@ EndsBehind contents bytes fault old new answer =
 
 -- ---- one line
 
--- a line went out
-abbrev pub SendsLine : {W : Type 0} → (contents : W → Option (List ℕ)) → W → PlainEvent → W → Type 0
-SendsLine contents old event new = Appends (contents old) (contents new) (line_of event)
-
 module _ {W : Type 0} (contents : W → Option (List ℕ)) where
-  -- it stands behind what was held back, and a beginning of all that went out
-  abbrev pub HoldsLine : W → (held : Vec ℕ Global) → PlainEvent → W → (left : Vec ℕ Global) → Type 0
-  HoldsLine old held event new left =
-      PassesOn (contents old) (contents new) (held.items ++ line_of event) left.items
-
-  -- a beginning of what was held back and of the line went out
-  abbrev pub SendsInPart : W → (held : Vec ℕ Global) → PlainEvent → W → Type 0
-  SendsInPart old held event new = SendsFront contents old (held.items ++ line_of event) new
-
-  -- the same of an event that is lent: the first where the call is done, the second where it fails
+  -- its line stands behind what was held back, and a beginning of all that went out
   abbrev pub PassesLine : Result (Unit {0}) Error → W → (held : Vec ℕ Global) → Event → W
       → (left : Vec ℕ Global) → Type 0
-  PassesLine answer old held event new left =
-      OnOk answer (HoldsLine old held (event_of event) new left)
+  PassesLine answer old held event new left = OnOk answer
+      (PassesOn (contents old) (contents new) (held.items ++ line_of (event_of event)) left.items)
 
+  -- a beginning of what was held back and of the line went out
   abbrev pub SendsLineInPart : W → (held : Vec ℕ Global) → Event → W → Type 0
-  SendsLineInPart old held event new = SendsInPart old held (event_of event) new
-
--- and of the event that a reader told last
-module _ {S C W : Type 0} {g : Ghosts S} {h : CounterGhosts C}
-    (contents : W → Option (List ℕ)) where
-  abbrev pub PassesTold : Result (Unit {0}) Error → W → (held : Vec ℕ Global)
-      → BinaryReader S C g h → W → (left : Vec ℕ Global) → Type 0
-  PassesTold answer old held reader new left =
-      OnOk answer (HoldsLine contents old held (event_told reader) new left)
-
-  abbrev pub SendsToldInPart : W → (held : Vec ℕ Global) → BinaryReader S C g h → W → Type 0
-  SendsToldInPart old held reader new = SendsInPart contents old held (event_told reader) new
-
--- its line was put behind what is held back
-abbrev pub PushesTold : {S C : Type 0} {g : Ghosts S} {h : CounterGhosts C} → (held : Vec ℕ Global)
-    → BinaryReader S C g h → (left : Vec ℕ Global) → Type 0
-PushesTold held reader left = left.items ≡ held.items ++ line_of (event_told reader)
+  SendsLineInPart old held event new =
+      SendsFront contents old (held.items ++ line_of (event_of event)) new

@@ -2,19 +2,17 @@
 use Rattle.std.specs.Prelude.{◌≡◌, ℕ, ◌⊎◌, List, Option, None, Some, ⊤, IfSome, MatchResult, Result}
 use Rattle.std.specs.Io.KnownBytes.{Appends}
 use Rattle.plist_base.specs.declared.error.Error.{Error}
-use Rattle.plist_base.specs.Faults.{MatchFault, IsFromOutside, kind_of, error_kind_of, fault_of, offset_of}
+use Rattle.plist_base.specs.Faults.{Fault, MatchFault, IsFromOutside, kind_of, error_kind_of, fault_of, offset_of}
 use Rattle.plist_base.specs.declared.source.Source.{Ghosts}
 use Rattle.plist_base.specs.Bracketing.{bracketing}
 use Rattle.plist_base.specs.Events.{Item}
 use Rattle.plist_base.specs.Sources.{Rises}
-use Rattle.plist_binread.specs.BinaryReader.{source_of, to_come}
+use Rattle.plist_binread.specs.BinaryReader.{source_of}
 use Rattle.plist_format.specs.Unfolding.{items_of_file}
 use Rattle.plist_binread.specs.declared.counter.DecodeCounter.{Ghosts as CounterGhosts}
 use Rattle.plist_binread.specs.declared.reader.BinaryReader.{BinaryReader}
 use Rattle.plist_base.specs.Fronts.{AppendsFront}
-use Rattle.plist.specs.declared.stream.events.Events.{Events}
 use Rattle.plist.specs.declared.value.Value.{Value}
-use Rattle.plist.specs.Events.{remaining_events}
 use Rattle.plist.specs.Views.{tree_of}
 use Rattle.plist_commands.specs.Lines.{lines_of, lines_of_events, first_fault}
 
@@ -29,22 +27,19 @@ PrintsUntil error items old new =
     MatchFault (kind_of (error_kind_of error)) ⊤ ⊤
     ((first_fault items ≡ Some (fault_of error)) × Appends old new (lines_of items))
 
--- the same of the items that a reader of known bytes has still to give, with the writer before and
--- after
-module _ {S C W : Type 0} {g : Ghosts S} {h : CounterGhosts C} (known : S → Option (List ℕ))
-    (contents : W → Option (List ℕ)) (reader : BinaryReader S C g h) (old new : W) where
-  abbrev pub PrintsRest : Type 0
-  PrintsRest = IfSome (known (source_of reader)) (λ bytes.
-      PrintsAll (to_come bytes reader) (contents old) (contents new))
+-- the same of items that may not be known, with the writer before and after
+module _ {W : Type 0} (contents : W → Option (List ℕ)) (items : Option (List Item)) (old new : W)
+  where
+    abbrev pub PrintsItems : Type 0
+    PrintsItems = IfSome items (λ all. PrintsAll all (contents old) (contents new))
 
-  abbrev pub EndsRest : Error → Type 0
-  EndsRest error = IfSome (known (source_of reader)) (λ bytes.
-      PrintsUntil error (to_come bytes reader) (contents old) (contents new))
+    abbrev pub EndsItems : Error → Type 0
+    EndsItems error = IfSome items (λ all. PrintsUntil error all (contents old) (contents new))
 
-  -- a beginning of their lines went out
-  abbrev pub SendsFrontOfRest : Type 0
-  SendsFrontOfRest = IfSome (known (source_of reader)) (λ bytes.
-      AppendsFront (contents old) (contents new) (lines_of (to_come bytes reader)))
+    -- a beginning of their lines went out
+    abbrev pub SendsFrontOfItems : Type 0
+    SendsFrontOfItems =
+        IfSome items (λ all. AppendsFront (contents old) (contents new) (lines_of all))
 
 -- the same of all the items of a source's file
 module _ {S W : Type 0} (known : S → Option (List ℕ)) (contents : W → Option (List ℕ)) (source : S)
@@ -61,17 +56,7 @@ module _ {S W : Type 0} (known : S → Option (List ℕ)) (contents : W → Opti
   SendsFrontOfFile = IfSome (known source) (λ bytes.
       AppendsFront (contents old) (contents new) (lines_of (items_of_file bytes)))
 
--- the lines of the events that are left went out, or a beginning of them
-module _ {W : Type 0} (contents : W → Option (List ℕ)) (events : Events) (old new : W) where
-  abbrev pub PrintsEvents : Type 0
-  PrintsEvents =
-      Appends (contents old) (contents new) (lines_of_events (remaining_events events))
-
-  abbrev pub SendsFrontOfEvents : Type 0
-  SendsFrontOfEvents =
-      AppendsFront (contents old) (contents new) (lines_of_events (remaining_events events))
-
--- the same of all the events of a value
+-- the lines of all the events of a value went out, or a beginning of them
 module _ {W : Type 0} (contents : W → Option (List ℕ)) (value : Value) (old new : W) where
   abbrev pub PrintsValue : Type 0
   PrintsValue =
@@ -82,8 +67,11 @@ module _ {W : Type 0} (contents : W → Option (List ℕ)) (value : Value) (old 
       AppendsFront (contents old) (contents new) (lines_of_events (bracketing (tree_of value)))
 
 -- the writer's failure, or want of memory for a line: neither has an offset
+abbrev pub IsOwn : Fault → Type 0
+IsOwn fault = (fault.offset ≡ None) × IsFromOutside fault.kind
+
 abbrev pub IsOwnFault : Error → Type 0
-IsOwnFault error = (offset_of error ≡ None) × IsFromOutside (kind_of (error_kind_of error))
+IsOwnFault error = IsOwn (fault_of error)
 
 -- the source failed only where the answer is `Io`, and that without an offset may be the writer's
 abbrev pub CountsReads : {A : Type 0} → Result A Error → (old new : ℕ) → Type 0

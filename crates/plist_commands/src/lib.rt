@@ -8,6 +8,7 @@ pub mod callers;
 mod commands;
 mod convert;
 mod failure;
+mod items;
 mod keyed;
 mod lines;
 mod messages;

@@ -4,12 +4,10 @@ ghost use Rattle.std.specs.Prelude.{◌≡◌, ◌++◌, ◌<◌, codes, length,
 ghost use Rattle.std.specs.Fmt.{decimal, signed_decimal};
 ghost use Rattle.plist_base.specs.Events.{event_of};
 ghost use Rattle.plist_base.specs.Trees.{String};
-ghost use Rattle.plist_binread.specs.Telling.{event_told};
 ghost use Rattle.plist_commands.specs.Lines.{hexadecimal, hexadecimal_digit, stands_for_itself, text_of_byte, text_of_bytes, text_of_data, text_of_date, text_of_real, text_of_start, words_of, words_of_scalar, line_of};
 
 use itoa::{Buffer, write_digits};
-use plist_base::{Date, Event, Integer, RealBits, Source};
-use plist_binread::{BinaryReader, Told};
+use plist_base::{Date, Event, Integer, RealBits};
 use std::alloc::AllocError;
 
 // No number has more digits.
@@ -125,22 +123,6 @@ fn push_real(line: &mut Vec<u8>, real: RealBits) -> Result<(), AllocError>
     }
 }
 
-// An integer behind its word.
-fn push_integer(line: &mut Vec<u8>, integer: Integer) -> Result<(), AllocError>
-    ensures { OnOk result (line.new.items
-        ≡ line.old.items ++ codes "Integer " ++ signed_decimal integer) }
-{
-    line.extend_from_slice(b"Integer ")?;
-    let mut buffer = Buffer::new();
-    match integer.as_signed() {
-        Some(number) => line.extend_from_slice(buffer.format(number).as_bytes()),
-        None => {
-            let number = integer.as_unsigned().unwrap();
-            line.extend_from_slice(buffer.format(number).as_bytes())
-        }
-    }
-}
-
 // How many digits a number has.
 #[tactic(auto, using(crate::proofs::Printed::digits))]
 fn digits_of(number: u64) -> usize
@@ -182,6 +164,24 @@ fn push_number(line: &mut Vec<u8>, word: &[u8], number: u64) -> Result<(), Alloc
     write_digits(number, line.as_mut_slice(), end);
     line.truncate(end);
     Ok(())
+}
+
+// An integer behind its word.
+fn push_integer(line: &mut Vec<u8>, integer: Integer) -> Result<(), AllocError>
+    ensures { OnOk result (line.new.items
+        ≡ line.old.items ++ codes "Integer " ++ signed_decimal integer) }
+{
+    match integer.as_unsigned() {
+        Some(number) => push_number(line, b"Integer ", number),
+        None => {
+            line.extend_from_slice(b"Integer ")?;
+            line.extend_from_slice(
+                Buffer::new()
+                    .format(integer.as_signed().unwrap())
+                    .as_bytes(),
+            )
+        }
+    }
 }
 
 // The word of a start, and its length where that is known.
@@ -241,48 +241,5 @@ pub fn push_line(line: &mut Vec<u8>, event: &Event<'_>) -> Result<(), AllocError
     ensures { OnOk result (line.new.items ≡ line.old.items ++ line_of (event_of event.now)) }
 {
     push_words(line, event)?;
-    line.push(b'\n')?;
-    Ok(())
-}
-
-// The words of the event that a reader told last.
-fn push_told_words<S: Source>(
-    line: &mut Vec<u8>,
-    reader: &BinaryReader<S>,
-) -> Result<(), AllocError>
-    ensures { OnOk result (line.new.items ≡ line.old.items ++ words_of (event_told reader.now)) }
-{
-    match reader.told() {
-        Told::Array(length) => push_start(line, b"StartArray", Some(length)),
-        Told::Dictionary(length) => push_start(line, b"StartDictionary", Some(length)),
-        Told::End => line.extend_from_slice(b"EndCollection"),
-        Told::Boolean(true) => line.extend_from_slice(b"Boolean true"),
-        Told::Boolean(false) => line.extend_from_slice(b"Boolean false"),
-        Told::Unsigned(number) => push_number(line, b"Integer ", number),
-        Told::Uid(number) => push_number(line, b"Uid ", number),
-        Told::Text => push_string(line, reader.text()),
-        Told::Data => push_data(line, reader.data()),
-        Told::Held => push_words(line, &reader.event()),
-    }
-}
-
-/// The line of the event that a reader told last has at most so many bytes, where they are that
-/// many.
-pub fn most_told<S: Source>(reader: &BinaryReader<S>) -> usize {
-    match reader.told() {
-        Told::Text => reader.text().len().saturating_mul(4).saturating_add(64),
-        Told::Data => reader.data().len().saturating_mul(2).saturating_add(64),
-        _ => 64,
-    }
-}
-
-/// Appends the line of the event that a reader told last, with its LF.
-///
-/// # Errors
-/// Where a growth is refused. The buffer may then hold a part of the line.
-pub fn push_told<S: Source>(line: &mut Vec<u8>, reader: &BinaryReader<S>) -> Result<(), AllocError>
-    ensures { OnOk result (line.new.items ≡ line.old.items ++ line_of (event_told reader.now)) }
-{
-    push_told_words(line, reader)?;
     line.extend_from_slice(b"\n")
 }

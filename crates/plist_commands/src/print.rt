@@ -1,21 +1,36 @@
-//! Prints the events of a source.
+//! Prints the events of a source, or of whatever else gives items.
 
-ghost use Rattle.std.specs.Prelude.{◌≡◌, true, false, [], IfErr, IfOk, OnErr, OnOk};
-ghost use Rattle.plist_binread.specs.BinaryReader.{source_of};
-ghost use Rattle.plist_commands.specs.Fronts.{EndsBehind, MakesRoom, SendsFront, PassesLine, PassesTold, PushesTold, SendsLineInPart, SendsToldInPart};
-ghost use Rattle.plist_commands.specs.Printing.{PrintsRest, SendsFrontOfRest, IsOwnFault, EndsRest, PrintsFile, EndsFile, SendsFrontOfFile, CountsReadsOf, LeavesSource};
+ghost use Rattle.std.specs.Prelude.{◌≡◌, ◌⊎◌, [], IfErr, OnErr, OnOk};
+ghost use Rattle.plist_base.specs.Faults.{fault_of};
+ghost use Rattle.plist_commands.specs.Fronts.{EndsBehind, MakesRoom, PassesLine, SendsFront, SendsLineInPart};
+ghost use Rattle.plist_commands.specs.Printing.{CountsReads, EndsFile, EndsItems, IsOwnFault, LeavesSource, PrintsFile, PrintsItems, SendsFrontOfFile, SendsFrontOfItems};
 
-use crate::lines::{most_bytes, most_told, push_line, push_told};
+use crate::items::Items;
+use crate::lines::{most_bytes, push_line};
 use plist_base::send::{flush, send};
 use plist_base::{Error, Event, Source};
 use plist_binread::BinaryReader;
-use std::alloc::{AllocError, Global};
+use std::alloc::Global;
 use std::io::Write;
 
 // Lines are held back until the next one may not fit behind them in so many bytes.
 const FULL: usize = 65536;
 
+// Sends what is held back. It stands apart, since most lines fit.
+#[cold]
+#[inline(never)]
+fn send_held<W: Write>(writer: &mut W, lines: &mut Vec<u8>) -> Result<(), Error>
+    ensures passed { OnOk result (MakesRoom W.contents writer.old lines.old writer.new lines.new) }
+    ensures fault { IfErr result IsOwnFault }
+    ensures front { OnErr result (SendsFront W.contents writer.old lines.old.items writer.new) }
+{
+    send(writer, lines.as_slice())?;
+    lines.clear();
+    Ok(())
+}
+
 // Sends what is held back where a line of so many bytes may not fit behind it.
+#[inline(always)]
 fn make_room<W: Write>(writer: &mut W, lines: &mut Vec<u8>, size: usize) -> Result<(), Error>
     ensures passed { OnOk result (MakesRoom W.contents writer.old lines.old writer.new lines.new) }
     ensures fault { IfErr result IsOwnFault }
@@ -24,14 +39,13 @@ fn make_room<W: Write>(writer: &mut W, lines: &mut Vec<u8>, size: usize) -> Resu
     if size <= FULL.saturating_sub(lines.len()) {
         return Ok(());
     }
-    send(writer, lines.as_slice())?;
-    lines.clear();
-    Ok(())
+    send_held(writer, lines)
 }
 
 // Puts the line of an event behind the lines that are held back, which are sent before that where
 // it may not fit. So only a line that is longer than the buffer wants memory, and none is held back
 // then.
+#[inline(always)]
 fn pass_line<W: Write>(out: &mut W, lines: &mut Vec<u8>, event: &Event<'_>) -> Result<(), Error>
     ensures passed { PassesLine W.contents result out.old lines.old event.now out.new lines.new }
     ensures fault { IfErr result IsOwnFault }
@@ -40,51 +54,6 @@ fn pass_line<W: Write>(out: &mut W, lines: &mut Vec<u8>, event: &Event<'_>) -> R
     make_room(out, lines, most_bytes(event))?;
     push_line(lines, event)?;
     Ok(())
-}
-
-// Puts the line of the event that a reader told last behind the lines that are held back, if it
-// fits there.
-fn push_near<S: Source>(lines: &mut Vec<u8>, reader: &BinaryReader<S>) -> Result<bool, AllocError>
-    ensures pushed { IfOk result (λ fits. fits ≡ true → PushesTold lines.old reader.now lines.new) }
-    ensures unchanged { IfOk result (λ fits. fits ≡ false → lines.new.items ≡ lines.old.items) }
-{
-    if most_told(reader) > FULL.saturating_sub(lines.len()) {
-        return Ok(false);
-    }
-    push_told(lines, reader)?;
-    Ok(true)
-}
-
-// The same of the event that a reader told last. It stands apart, since most lines fit.
-#[cold]
-#[inline(never)]
-fn pass_told<S: Source, W: Write>(
-    out: &mut W,
-    lines: &mut Vec<u8>,
-    reader: &BinaryReader<S>,
-) -> Result<(), Error>
-    ensures passed { PassesTold W.contents result out.old lines.old reader.now out.new lines.new }
-    ensures fault { IfErr result IsOwnFault }
-    ensures front { OnErr result (SendsToldInPart W.contents out.old lines.old reader.now out.new) }
-{
-    pass_line(out, lines, &reader.event())
-}
-
-// The same, whether or not it fits there.
-#[inline(always)]
-fn pass_next<S: Source, W: Write>(
-    out: &mut W,
-    lines: &mut Vec<u8>,
-    reader: &BinaryReader<S>,
-) -> Result<(), Error>
-    ensures passed { PassesTold W.contents result out.old lines.old reader.now out.new lines.new }
-    ensures fault { IfErr result IsOwnFault }
-    ensures front { OnErr result (SendsToldInPart W.contents out.old lines.old reader.now out.new) }
-{
-    if push_near(lines, reader)? {
-        return Ok(());
-    }
-    pass_told(out, lines, reader)
 }
 
 // The fault that comes behind lines, once they are sent; or the one for which they can't be.
@@ -98,28 +67,31 @@ fn fault_behind<W: Write>(writer: &mut W, lines: &[u8], fault: Error) -> Error
     }
 }
 
-// Sends the lines of what a reader has still to give, by way of an empty buffer.
-fn pass_lines<S: Source, W: Write>(
+// Sends the lines of the items that are still to come, by way of an empty buffer.
+fn pass_lines<I: Items, W: Write>(
     lines: &mut Vec<u8>,
-    reader: &mut BinaryReader<S>,
+    items: &mut I,
     writer: &mut W,
 ) -> Result<(), Error>
     requires empty { lines.old.items ≡ [] }
     // The answer.
-    ensures printed { OnOk result (PrintsRest S.known W.contents reader.old writer.old writer.new) }
+    ensures printed { OnOk result
+        (PrintsItems W.contents (I.coming items.old) writer.old writer.new) }
     // A refusal.
-    ensures refused { IfErr result (EndsRest S.known W.contents reader.old writer.old writer.new) }
+    ensures refused { IfErr result
+        (EndsItems W.contents (I.coming items.old) writer.old writer.new) }
+    ensures fault { IfErr result (λ error. IsOwnFault error ⊎ I.gives (fault_of error)) }
     // The state after it.
-    ensures front { SendsFrontOfRest S.known W.contents reader.old writer.old writer.new }
-    ensures unchanged { S.known (source_of reader.new) ≡ S.known (source_of reader.old) }
-    ensures failures { CountsReadsOf S.failures reader.old result reader.new }
+    ensures front { SendsFrontOfItems W.contents (I.coming items.old) writer.old writer.new }
+    ensures unchanged { I.known items.new ≡ I.known items.old }
+    ensures failures { CountsReads result (I.failures items.old) (I.failures items.new) }
 {
-    while let Some(item) = reader.advance() {
+    while let Some(item) = items.go_on() {
         match item {
             Ok(()) => {}
             Err(error) => return Err(fault_behind(writer, lines.as_slice(), error)),
         }
-        match pass_next(writer, lines, reader) {
+        match pass_line(writer, lines, &items.event()) {
             Ok(()) => {}
             Err(error) => return Err(error),
         }
@@ -127,41 +99,43 @@ fn pass_lines<S: Source, W: Write>(
     send(writer, lines.as_slice())
 }
 
-// Sends the lines of what a reader has still to give.
-fn send_lines<S: Source, W: Write>(
-    alloc: Global,
-    reader: &mut BinaryReader<S>,
-    writer: &mut W,
-) -> Result<(), Error>
+// Sends the lines of the items that are still to come.
+fn send_lines<I: Items, W: Write>(alloc: Global, items: &mut I, writer: &mut W) -> Result<(), Error>
     // The answer.
-    ensures printed { OnOk result (PrintsRest S.known W.contents reader.old writer.old writer.new) }
+    ensures printed { OnOk result
+        (PrintsItems W.contents (I.coming items.old) writer.old writer.new) }
     // A refusal.
-    ensures refused { IfErr result (EndsRest S.known W.contents reader.old writer.old writer.new) }
+    ensures refused { IfErr result
+        (EndsItems W.contents (I.coming items.old) writer.old writer.new) }
+    ensures fault { IfErr result (λ error. IsOwnFault error ⊎ I.gives (fault_of error)) }
     // The state after it.
-    ensures front { SendsFrontOfRest S.known W.contents reader.old writer.old writer.new }
-    ensures unchanged { S.known (source_of reader.new) ≡ S.known (source_of reader.old) }
-    ensures failures { CountsReadsOf S.failures reader.old result reader.new }
+    ensures front { SendsFrontOfItems W.contents (I.coming items.old) writer.old writer.new }
+    ensures unchanged { I.known items.new ≡ I.known items.old }
+    ensures failures { CountsReads result (I.failures items.old) (I.failures items.new) }
 {
     let mut lines = Vec::with_capacity(alloc, FULL)?;
-    pass_lines(&mut lines, reader, writer)
+    pass_lines(&mut lines, items, writer)
 }
 
 // The same, and then a flush, whose failure is an error only where nothing failed before it.
-fn print_items<S: Source, W: Write>(
+pub(crate) fn print_items<I: Items, W: Write>(
     alloc: Global,
-    reader: &mut BinaryReader<S>,
+    items: &mut I,
     writer: &mut W,
 ) -> Result<(), Error>
     // The answer.
-    ensures printed { OnOk result (PrintsRest S.known W.contents reader.old writer.old writer.new) }
+    ensures printed { OnOk result
+        (PrintsItems W.contents (I.coming items.old) writer.old writer.new) }
     // A refusal.
-    ensures refused { IfErr result (EndsRest S.known W.contents reader.old writer.old writer.new) }
+    ensures refused { IfErr result
+        (EndsItems W.contents (I.coming items.old) writer.old writer.new) }
+    ensures fault { IfErr result (λ error. IsOwnFault error ⊎ I.gives (fault_of error)) }
     // The state after it.
-    ensures front { SendsFrontOfRest S.known W.contents reader.old writer.old writer.new }
-    ensures unchanged { S.known (source_of reader.new) ≡ S.known (source_of reader.old) }
-    ensures failures { CountsReadsOf S.failures reader.old result reader.new }
+    ensures front { SendsFrontOfItems W.contents (I.coming items.old) writer.old writer.new }
+    ensures unchanged { I.known items.new ≡ I.known items.old }
+    ensures failures { CountsReads result (I.failures items.old) (I.failures items.new) }
 {
-    let sent = send_lines(alloc, reader, writer);
+    let sent = send_lines(alloc, items, writer);
     let flushed = flush(writer);
     sent?;
     flushed

@@ -1,46 +1,54 @@
 //! Prints the events of a value.
 
-ghost use Rattle.std.specs.Prelude.{IfErr, OnOk};
+ghost use Rattle.std.specs.Prelude.{IfErr, None, OnOk, length};
 ghost use Rattle.plist_base.specs.Events.{event_of};
-ghost use Rattle.plist_commands.specs.Fronts.{SendsFront, SendsLine};
-ghost use Rattle.plist_commands.specs.Lines.{line_of};
-ghost use Rattle.plist_commands.specs.Printing.{IsOwnFault, PrintsEvents, SendsFrontOfEvents, PrintsValue, SendsFrontOfValue};
+ghost use Rattle.plist.specs.Events.{remaining_events};
+ghost use Rattle.plist_commands.specs.Items.{items_of_events};
+ghost use Rattle.plist_commands.specs.Printing.{IsOwn, IsOwnFault, PrintsValue, SendsFrontOfValue};
 
-use crate::lines::push_line;
+use crate::items::{Items, lend};
+use crate::print::print_items;
 use plist::Value;
 use plist::stream::{Event, Events};
 use plist_base::Error;
-use plist_base::send::{flush, send};
 use std::alloc::Global;
 use std::io::Write;
 
-// Sends the line of an event. The buffer is made anew for it, and keeps its room.
-fn send_event<W: Write>(writer: &mut W, line: &mut Vec<u8>, event: Event<'_>) -> Result<(), Error>
-    ensures sent { OnOk result (SendsLine W.contents writer.old (event_of event.entry) writer.new) }
-    ensures fault { IfErr result IsOwnFault }
-    ensures front { SendsFront W.contents writer.old (line_of (event_of event.entry)) writer.new }
-{
-    line.clear();
-    push_line(line, &event)?;
-    send(writer, line.as_slice())
+// The events of a value, the last of which is held.
+#[derive(Drop)]
+struct ValueEvents<'a> {
+    events: Events<'a>,
+    last: Event<'a>,
 }
 
-// Sends the lines of the events that are left. One buffer serves all lines.
-fn send_events<W: Write>(
-    alloc: Global,
-    events: &mut Events<'_>,
-    writer: &mut W,
-) -> Result<(), Error>
-    ensures printed { OnOk result (PrintsEvents W.contents events.old writer.old writer.new) }
-    ensures fault { IfErr result IsOwnFault }
-    ensures front { SendsFrontOfEvents W.contents events.old writer.old writer.new }
-{
-    let mut line = Vec::new(alloc);
-    while let Some(item) = events.next() {
-        let event = item?;
-        send_event(writer, &mut line, event)?;
+/// They come from no source.
+impl<'a> Items for ValueEvents<'a> {
+    ghost coming = { λ s. items_of_events s.events };
+
+    ghost last = { λ s. event_of s.last };
+
+    ghost known = { λ _. None };
+
+    ghost failures = { λ _. 0 };
+
+    ghost gives = { IsOwn };
+
+    ghost steps = { λ s. length (remaining_events s.events) };
+
+    fn go_on(&mut self) -> Option<Result<(), Error>> {
+        match self.events.next() {
+            None => None,
+            Some(Ok(event)) => {
+                self.last = event;
+                Some(Ok(()))
+            }
+            Some(Err(error)) => Some(Err(error)),
+        }
     }
-    Ok(())
+
+    fn event(&self) -> Event<'_> {
+        lend(&self.last)
+    }
 }
 
 /// Prints the events of a value, each on a line of its own, and flushes the writer at the end.
@@ -53,9 +61,9 @@ pub fn print_value<W: Write>(alloc: Global, value: &Value, writer: &mut W) -> Re
     ensures fault { IfErr result IsOwnFault }
     ensures front { SendsFrontOfValue W.contents value.now writer.old writer.new }
 {
-    let mut events = value.events(alloc);
-    let sent = send_events(alloc, &mut events, writer);
-    let flushed = flush(writer);
-    sent?;
-    flushed
+    let mut items = ValueEvents {
+        events: value.events(alloc),
+        last: Event::EndCollection,
+    };
+    print_items(alloc, &mut items, writer)
 }

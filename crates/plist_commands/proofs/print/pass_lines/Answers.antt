@@ -1,100 +1,154 @@
-use Rattle.std.proofs.Common.{◌≡◌, Ok, Err, Some, None, rules, ◌∙◌, subst}
+use Rattle.std.proofs.Common.{◌≡◌, Ok, Err, Some, None, IfSome, inl, refl, rules, ◌∙◌, subst}
 use Rattle.std.proofs.lemmas.Result.{IfErr-weaker, on_ok_weaker}
 use Rattle.plist_base.specs.Faults.{Io, fault_nowhere, fault_of}
+use Rattle.plist_base.specs.Outcomes.{IfFault}
 use Rattle.plist_base.specs.Sources.{ItemCountsIo}
-use Rattle.plist_binread.specs.BinaryReader.{is_new, source_of, to_come}
-use Rattle.plist_binread.specs.Telling.{event_told}
-use Rattle.plist_commands.specs.Printing.{EndsRest}
-use Rattle.plist_commands.proofs.HeldBack.{HasTold, has_told, all_passed, device_own, fault_counts, fault_passed, front_passed, line_in_part, line_passed, own_counts, own_ends, sent_counts}
+use Rattle.plist_commands.specs.Printing.{EndsItems}
+use Rattle.plist_commands.proofs.HeldBack.{Came, came, all_passed, device_own, fault_counts, fault_passed, front_passed, line_in_part, line_passed, own_counts, own_ends, passed_none, sent_counts, whose_fault}
 use Rattle.plist_commands.proofs.print.pass_lines.Goals as goal
-use Rattle.plist_commands.proofs.print.pass_lines.Goals.{After-advance}
+use Rattle.plist_commands.proofs.print.pass_lines.Goals.{After-go_on}
 
--- what was passed on so far, and what the call told
-told : (g : _) (c : After-advance g) → HasTold (g.S.Source.known (source_of c.args.reader.now))
-    (λ bytes. to_come bytes c.args.reader.now) (λ bytes. to_come bytes c.loop-item.reader)
-    (λ bytes. to_come bytes c.advance.new.self) (is_new c.loop-item.reader) c.advance.result
-    (event_told c.advance.new.self) (g.W.Write.contents c.args.writer.now)
-    (g.W.Write.contents c.loop-item.writer) c.loop-item.lines.items
-told g c =
-    has_told _ _ _ _ _ _ _ _ _ _ _ c.loop-item.invariant.unchanged c.loop-item.invariant.so_far
-    c.advance.ensures.items
+-- what was passed on so far, and what came
+now : (g : _) (c : After-go_on g) → Came (g.I.Items.coming c.args.items.now)
+    (g.I.Items.coming c.loop-item.items) (g.I.Items.coming c.go_on.new.self)
+    (g.W.Write.contents c.args.writer.now) (g.W.Write.contents c.loop-item.writer)
+    c.loop-item.lines.items c.go_on.result (g.I.Items.last c.go_on.new.self)
+now g c = came _ _ _ _ _ _ _ _ c.loop-item.invariant.so_far c.go_on.ensures.items
+
+pub loop-item-init : goal.loop-item-init
+loop-item-init g c = record {
+  unchanged = refl;
+  failures = refl;
+  so_far = passed_none _ _ _ c.requires.empty;
+}
 
 pub loop-item-preserved : goal.loop-item-preserved
 loop-item-preserved g c =
-    let is : c.advance.result ≡ Some (Ok (tt {0})) = search rules in
+    let is : c.go_on.result ≡ Some (Ok (tt {0})) = search rules in
     record {
       unchanged = search rules;
       failures = search rules;
-      so_far = line_passed (told g (goal.at.loop-item-preserved g c).After-advance) _ _ is
-          c.in-Ok-pass_next.ensures.passed;
+      so_far = line_passed (now g (goal.at.loop-item-preserved g c).After-go_on) _ _ is
+          (rw c.event.ensures at c.in-Ok-pass_line.ensures.passed);
+    }
+
+pub loop-item-preserved-in-Ok-pass_line : goal.loop-item-preserved-in-Ok-pass_line
+loop-item-preserved-in-Ok-pass_line g c =
+    let is : c.go_on.result ≡ Some (Ok (tt {0})) = search rules in
+    record {
+      unchanged = search rules;
+      failures = search rules;
+      so_far = line_passed (now g (goal.at.loop-item-preserved-in-Ok-pass_line g c).After-go_on) _ _ is
+          (rw c.event.ensures at c.in-Ok-pass_line.ensures.passed);
+    }
+
+pub loop-item-preserved-in-Ok-pass_line-2 : goal.loop-item-preserved-in-Ok-pass_line-2
+loop-item-preserved-in-Ok-pass_line-2 g c =
+    let is : c.go_on.result ≡ Some (Ok (tt {0})) = search rules in
+    record {
+      unchanged = search rules;
+      failures = search rules;
+      so_far = line_passed (now g (goal.at.loop-item-preserved-in-Ok-pass_line-2 g c).After-go_on) _ _ is
+          (rw c.event.ensures at c.in-Ok-pass_line.ensures.passed);
+    }
+
+pub loop-item-preserved-in-Ok-pass_line-3 : goal.loop-item-preserved-in-Ok-pass_line-3
+loop-item-preserved-in-Ok-pass_line-3 g c =
+    let is : c.go_on.result ≡ Some (Ok (tt {0})) = search rules in
+    record {
+      unchanged = search rules;
+      failures = search rules;
+      so_far = line_passed (now g (goal.at.loop-item-preserved-in-Ok-pass_line-3 g c).After-go_on) _ _ is
+          (rw c.event.ensures at c.in-Ok-pass_line.ensures.passed);
+    }
+
+pub loop-item-preserved-in-Ok-pass_line-4 : goal.loop-item-preserved-in-Ok-pass_line-4
+loop-item-preserved-in-Ok-pass_line-4 g c =
+    let is : c.go_on.result ≡ Some (Ok (tt {0})) = search rules in
+    record {
+      unchanged = search rules;
+      failures = search rules;
+      so_far = line_passed (now g (goal.at.loop-item-preserved-in-Ok-pass_line-4 g c).After-go_on) _ _ is
+          (rw c.event.ensures at c.in-Ok-pass_line.ensures.passed);
     }
 
 pub returns-in-Err-clause-refused : goal.returns-in-Err-clause-refused
 returns-in-Err-clause-refused g c =
-    let is : c.advance.result ≡ Some (Err c.in-Err.error) = search rules in
-    fault_passed (told g (goal.at.returns-in-Err-clause-refused g c).After-advance) _ c.in-Err.error
+    let is : c.go_on.result ≡ Some (Err c.in-Err.error) = search rules in
+    fault_passed (now g (goal.at.returns-in-Err-clause-refused g c).After-go_on) _ c.in-Err.error
     c.fault_behind.result is (rw c.as_slice.ensures.value at c.fault_behind.ensures.sent)
+
+pub returns-in-Err-clause-fault : goal.returns-in-Err-clause-fault
+returns-in-Err-clause-fault g c =
+    let is : c.go_on.result ≡ Some (Err c.in-Err.error) = search rules in
+    whose_fault g.I.Items.gives c.in-Err.error c.fault_behind.result
+    (subst (λ i. IfSome i (λ answer. IfFault answer g.I.Items.gives)) is c.go_on.ensures.fault)
+    c.fault_behind.ensures.sent
 
 pub returns-in-Err-clause-front : goal.returns-in-Err-clause-front
 returns-in-Err-clause-front g c =
-    front_passed (g.S.Source.known (source_of c.args.reader.now))
-    (λ bytes. to_come bytes c.args.reader.now) (λ bytes. to_come bytes c.loop-item.reader) _ _ _ _
-    c.loop-item.invariant.so_far (rw c.as_slice.ensures.value at c.fault_behind.ensures.front)
+    front_passed _ _ _ _ _ _ c.loop-item.invariant.so_far
+    (rw c.as_slice.ensures.value at c.fault_behind.ensures.front)
 
 pub returns-in-Err-clause-failures : goal.returns-in-Err-clause-failures
 returns-in-Err-clause-failures g c =
-    let is : c.advance.result ≡ Some (Err c.in-Err.error) = search rules in
+    let is : c.go_on.result ≡ Some (Err c.in-Err.error) = search rules in
     fault_counts c.in-Err.error c.fault_behind.result _ _ _ c.loop-item.invariant.failures
-    (subst (λ i. ItemCountsIo i (g.S.Source.failures (source_of c.loop-item.reader))
-    (g.S.Source.failures (source_of c.advance.new.self))) is c.advance.ensures.failures)
+    (subst (λ i. ItemCountsIo i (g.I.Items.failures c.loop-item.items)
+    (g.I.Items.failures c.go_on.new.self)) is c.go_on.ensures.failures)
     c.fault_behind.ensures.sent
 
-pub returns-in-Err-pass_next-clause-refused : goal.returns-in-Err-pass_next-clause-refused
-returns-in-Err-pass_next-clause-refused g c =
-    own_ends (g.S.Source.known (source_of c.args.reader.now))
-    (λ bytes. to_come bytes c.args.reader.now) c.in-Err-pass_next.error _ _
-    c.in-Err-pass_next.ensures.fault
+pub returns-in-Err-pass_line-clause-refused : goal.returns-in-Err-pass_line-clause-refused
+returns-in-Err-pass_line-clause-refused g c =
+    own_ends (g.I.Items.coming c.args.items.now) c.in-Err-pass_line.error _ _
+    c.in-Err-pass_line.ensures.fault
 
-pub returns-in-Err-pass_next-clause-front : goal.returns-in-Err-pass_next-clause-front
-returns-in-Err-pass_next-clause-front g c =
-    let is : c.advance.result ≡ Some (Ok (tt {0})) = search rules in
-    line_in_part (told g (goal.at.returns-in-Err-pass_next-clause-front g c).After-advance) _ is
-    c.in-Err-pass_next.ensures.front
+pub returns-in-Err-pass_line-clause-fault : goal.returns-in-Err-pass_line-clause-fault
+returns-in-Err-pass_line-clause-fault g c = inl c.in-Err-pass_line.ensures.fault
 
-pub returns-in-Err-pass_next-clause-failures : goal.returns-in-Err-pass_next-clause-failures
-returns-in-Err-pass_next-clause-failures g c =
-    let is : c.advance.result ≡ Some (Ok (tt {0})) = search rules in
-    own_counts c.in-Err-pass_next.error _ _ c.in-Err-pass_next.ensures.fault
-    (subst (λ i. ItemCountsIo i (g.S.Source.failures (source_of c.loop-item.reader))
-    (g.S.Source.failures (source_of c.advance.new.self))) is c.advance.ensures.failures
+pub returns-in-Err-pass_line-clause-front : goal.returns-in-Err-pass_line-clause-front
+returns-in-Err-pass_line-clause-front g c =
+    let is : c.go_on.result ≡ Some (Ok (tt {0})) = search rules in
+    line_in_part (now g (goal.at.returns-in-Err-pass_line-clause-front g c).After-go_on) _ is
+    (rw c.event.ensures at c.in-Err-pass_line.ensures.front)
+
+pub returns-in-Err-pass_line-clause-failures : goal.returns-in-Err-pass_line-clause-failures
+returns-in-Err-pass_line-clause-failures g c =
+    let is : c.go_on.result ≡ Some (Ok (tt {0})) = search rules in
+    own_counts c.in-Err-pass_line.error _ _ c.in-Err-pass_line.ensures.fault
+    (subst (λ i. ItemCountsIo i (g.I.Items.failures c.loop-item.items)
+    (g.I.Items.failures c.go_on.new.self)) is c.go_on.ensures.failures
     ∙ c.loop-item.invariant.failures)
 
 pub returns-clause-printed : goal.returns-clause-printed
 returns-clause-printed g c =
-    let is : c.advance.result ≡ None = search rules in
+    let is : c.go_on.result ≡ None = search rules in
     on_ok_weaker c.send.result
-    (λ sent. all_passed (told g (goal.at.returns-clause-printed g c).After-advance) _ is
+    (λ sent. all_passed (now g (goal.at.returns-clause-printed g c).After-go_on) _ is
     (rw c.as_slice-2.ensures.value at sent)) c.send.ensures.sent
 
 pub returns-clause-refused : goal.returns-clause-refused
 returns-clause-refused g c =
     IfErr-weaker c.send.result (λ error. fault_of error ≡ fault_nowhere Io)
-    (EndsRest g.S.Source.known g.W.Write.contents c.args.reader.now c.args.writer.now
+    (EndsItems g.W.Write.contents (g.I.Items.coming c.args.items.now) c.args.writer.now
     c.send.new.writer)
-    (λ error own. own_ends (g.S.Source.known (source_of c.args.reader.now))
-    (λ bytes. to_come bytes c.args.reader.now) error _ _ (device_own error own))
+    (λ error own. own_ends (g.I.Items.coming c.args.items.now) error _ _ (device_own error own))
     c.send.ensures.fault
+
+pub returns-clause-fault : goal.returns-clause-fault
+returns-clause-fault g c =
+    IfErr-weaker c.send.result (λ error. fault_of error ≡ fault_nowhere Io) _
+    (λ error own. inl (device_own error own)) c.send.ensures.fault
 
 pub returns-clause-front : goal.returns-clause-front
 returns-clause-front g c =
-    front_passed (g.S.Source.known (source_of c.args.reader.now))
-    (λ bytes. to_come bytes c.args.reader.now) (λ bytes. to_come bytes c.loop-item.reader) _ _ _ _
-    c.loop-item.invariant.so_far (rw c.as_slice-2.ensures.value at c.send.ensures.front)
+    front_passed _ _ _ _ _ _ c.loop-item.invariant.so_far
+    (rw c.as_slice-2.ensures.value at c.send.ensures.front)
 
 pub returns-clause-failures : goal.returns-clause-failures
 returns-clause-failures g c =
-    let is : c.advance.result ≡ None = search rules in
+    let is : c.go_on.result ≡ None = search rules in
     sent_counts c.send.result _ _ c.send.ensures.fault
-    (subst (λ i. ItemCountsIo i (g.S.Source.failures (source_of c.loop-item.reader))
-    (g.S.Source.failures (source_of c.advance.new.self))) is c.advance.ensures.failures
+    (subst (λ i. ItemCountsIo i (g.I.Items.failures c.loop-item.items)
+    (g.I.Items.failures c.go_on.new.self)) is c.go_on.ensures.failures
     ∙ c.loop-item.invariant.failures)

@@ -1,17 +1,14 @@
-use Rattle.std.proofs.Common.{◌≡◌, IfSome}
-use Rattle.plist_binread.specs.BinaryReader.{source_of, to_come, steps_to_come}
-use Rattle.plist_commands.proofs.HeldBack.{IsPassedUpTo}
+use Rattle.std.proofs.Common.{◌≡◌}
+use Rattle.plist_commands.proofs.HeldBack.{HasPassed}
 use Rattle.plist_commands.proofs.print.pass_lines.Given as goal
 
 abbrev pub invariant-loop-item : goal.invariant-loop-item
 invariant-loop-item g l = record {
-  unchanged : g.S.Source.known (source_of l.reader) ≡ g.S.Source.known (source_of l.initial.reader);
-  failures : g.S.Source.failures (source_of l.reader)
-      ≡ g.S.Source.failures (source_of l.initial.reader);
-  so_far : IfSome (g.S.Source.known (source_of l.initial.reader)) (λ bytes.
-      IsPassedUpTo (g.W.Write.contents l.initial.writer) (g.W.Write.contents l.writer) l.lines.items
-      (to_come bytes l.initial.reader) (to_come bytes l.reader));
+  unchanged : g.I.Items.known l.items ≡ g.I.Items.known l.initial.items;
+  failures : g.I.Items.failures l.items ≡ g.I.Items.failures l.initial.items;
+  so_far : HasPassed (g.I.Items.coming l.initial.items) (g.I.Items.coming l.items)
+      (g.W.Write.contents l.initial.writer) (g.W.Write.contents l.writer) l.lines.items;
 }
 
 abbrev pub decreases-loop-item : goal.decreases-loop-item
-decreases-loop-item g l = steps_to_come l.reader
+decreases-loop-item g l = g.I.Items.steps l.items

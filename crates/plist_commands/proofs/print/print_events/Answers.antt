@@ -3,8 +3,9 @@ use Rattle.std.proofs.lemmas.Result.{IfErr-weaker, on_ok_weaker}
 use Rattle.plist_base.specs.Fronts.{AppendsFront}
 use Rattle.plist_binread.specs.BinaryReader.{source_of, to_come}
 use Rattle.plist_format.specs.Unfolding.{items_of_file}
+use Rattle.plist_commands.specs.Converting.{items_left}
 use Rattle.plist_commands.specs.Lines.{lines_of}
-use Rattle.plist_commands.specs.Printing.{EndsFile, EndsRest, PrintsAll, PrintsUntil}
+use Rattle.plist_commands.specs.Printing.{EndsFile, EndsItems, PrintsAll, PrintsUntil}
 use Rattle.plist_commands.proofs.HeldBack.{of_file}
 use Rattle.plist_commands.proofs.print.print_events.Goals as goal
 
@@ -18,8 +19,9 @@ returns-clause-printed g c =
 
 pub returns-clause-refused : goal.returns-clause-refused
 returns-clause-refused g c =
-    IfErr-weaker c.print_items.result (EndsRest g.S.Source.known g.W.Write.contents
-    c.new-reader.result c.args.writer.now c.print_items.new.writer)
+    IfErr-weaker c.print_items.result (EndsItems g.W.Write.contents
+    (items_left g.S.Source.known c.new-reader.result) c.args.writer.now
+    c.print_items.new.writer)
     (EndsFile g.S.Source.known g.W.Write.contents c.args.source c.args.writer.now
     c.print_items.new.writer)
     (λ error. of_file (g.S.Source.known c.args.source) _
@@ -38,7 +40,7 @@ returns-clause-front g c =
 
 pub returns-clause-failures : goal.returns-clause-failures
 returns-clause-failures g c = (
-  source_of c.print_items.new.reader,
+  source_of c.print_items.new.items,
   (
     rw c.new-reader.ensures.source at c.print_items.ensures.unchanged,
     rw c.new-reader.ensures.source at c.print_items.ensures.failures,

@@ -1,0 +1,85 @@
+-- What comes of a reader, as items that are taken in turn.
+use Rattle.std.proofs.Common.{◌≡◌, ◌⊎◌, inl, inr, ℕ, Bool, ◌<◌, List, [], ◌∷◌, length, Option, None, Some, IfErr, IfSome, Result, Ok, Err, map, option_map, refl, sym, ap, ◌∙◌, arith}
+use Rattle.std.specs.Prelude.{⊤}
+use Rattle.plist_base.specs.declared.error.Error.{Error}
+use Rattle.plist_base.specs.Events.{PlainEvent, Item}
+use Rattle.plist_base.specs.Faults.{Fault, OutOfMemory, error_kind_of, fault_nowhere, fault_of, kind_of}
+use Rattle.plist_base.proofs.Refusals.{MatchFault-at, MatchFault-weaker}
+use Rattle.plist_binread.specs.Telling.{TellsItem}
+use Rattle.plist.specs.Events.{BeginsWithStart}
+use Rattle.plist_commands.specs.Items.{ComesNext, GivesNext}
+use Rattle.plist_commands.specs.Printing.{IsOwnFault}
+
+abbrev Done : Type 0
+Done = Unit {0}
+
+-- nothing is said of a reader's faults
+pub any_fault : (item : Option (Result Done Error))
+    → IfSome item (λ answer. IfErr answer (λ (e : Error). Done))
+any_fault None = tt
+any_fault (Some (Ok done)) = tt
+any_fault (Some (Err error)) = tt
+
+-- ---- a binary reader
+
+told_next : (fresh : Bool) (before after : List Item) (item : Option (Result Done Error))
+    (told : PlainEvent) → TellsItem fresh before item told after
+    → GivesNext before item told after
+told_next fresh before after None told h = h.0
+told_next fresh before after (Some (Ok done)) told h = h
+told_next fresh before after (Some (Err error)) told h =
+    MatchFault-weaker (kind_of (error_kind_of error)) (λ _. tt) (λ _. tt)
+    (λ w. w ∙ ap (λ l. Err (fault_of error) ∷ l) (sym h.0)) h.1
+
+pub told_comes : (k l : Option (List ℕ)) (before after : List ℕ → List Item) (fresh : Bool)
+    (item : Option (Result Done Error)) (told : PlainEvent) → l ≡ k
+    → IfSome k (λ bytes. TellsItem fresh (before bytes) item told (after bytes))
+    → ComesNext (option_map before k) item told (option_map after l)
+told_comes None l before after fresh item told e h = tt
+told_comes (Some bytes) l before after fresh item told e h =
+    (after bytes, ap (option_map after) e, told_next fresh (before bytes) (after bytes) item told h)
+
+-- ---- the events of a value
+
+-- want of memory
+pub memory_own : (error : Error) → fault_of error ≡ fault_nowhere OutOfMemory → IsOwnFault error
+memory_own error is = (
+  ap (λ (f : Fault). f.offset) is,
+  MatchFault-at (kind_of (error_kind_of error)) OutOfMemory ⊤ ⊤ ⊥
+      (ap (λ (f : Fault). f.kind) is) tt,
+)
+
+some_left : (events : List PlainEvent) → BeginsWithStart events → 0 < length events
+some_left [] h = absurd h
+some_left (e ∷ events) h = omega arith
+
+-- what came of a value's events
+pub value_none : (before after : List PlainEvent) (last : PlainEvent) → before ≡ [] → after ≡ []
+    → ComesNext {A = Done} (Some (map Ok before)) None last (Some (map Ok after))
+value_none before after last none rest = (map Ok after, refl, ap (map Ok) none)
+
+pub value_event : (before after : List PlainEvent) (event : PlainEvent) → before ≡ event ∷ after
+    → ComesNext {A = Done} (Some (map Ok before)) (Some (Ok tt)) event (Some (map Ok after))
+value_event before after event is = (map Ok after, refl, ap (map Ok) is)
+
+pub value_fault : (before after : List PlainEvent) (error : Error) (last : PlainEvent)
+    → fault_of error ≡ fault_nowhere OutOfMemory
+    → ComesNext {A = Done} (Some (map Ok before)) (Some (Err error)) last (Some (map Ok after))
+value_fault before after error last is = (
+  map Ok after,
+  refl,
+  MatchFault-at (kind_of (error_kind_of error)) OutOfMemory ⊤ ⊤ _
+      (ap (λ (f : Fault). f.kind) is) tt,
+)
+
+pub value_falls : (before after : List PlainEvent) (event : PlainEvent) → before ≡ event ∷ after
+    → length after < length before
+value_falls before after event is = omega (arith, ap length is)
+
+pub value_ends : (before after : List PlainEvent) → BeginsWithStart before → after ≡ []
+    → length after < length before
+value_ends before after start none = omega (arith, some_left before start, ap length none)
+
+pub own_either : (error : Error) → IsOwnFault error ⊎ IsOwnFault error → IsOwnFault error
+own_either error (inl own) = own
+own_either error (inr own) = own

@@ -1,0 +1,90 @@
+//! What gives the items of a property list in turn, and lends the event that came last.
+
+ghost use Rattle.std.specs.Prelude.{◌≡◌, ◌<◌, ℕ, List, Option, IfSome};
+ghost use Rattle.plist_base.specs.Events.{Item, PlainEvent, event_of};
+ghost use Rattle.plist_base.specs.Faults.{Fault};
+ghost use Rattle.plist_base.specs.Outcomes.{IfFault};
+ghost use Rattle.plist_base.specs.Sources.{ItemCountsIo};
+ghost use Rattle.plist_commands.specs.Items.{ComesNext};
+
+use plist_base::{Error, Event, Source};
+use plist_binread::BinaryReader;
+use std::borrow::{CowSlice, CowStr};
+
+/// Gives the items of a property list, one after the other.
+pub(crate) trait Items {
+    /// Those that are still to come, where they are known.
+    ghost coming: { Self → Option (List Item) };
+    /// The event that came last.
+    ghost last: { Self → PlainEvent };
+    /// The known bytes of the source inside.
+    ghost known: { Self → Option (List ℕ) };
+    /// How many reads of that source failed.
+    ghost failures: { Self → ℕ };
+    /// What is so of each fault.
+    ghost gives: { Fault → Type 0 };
+    /// At most how many items are still to come.
+    ghost steps: { Self → ℕ };
+
+    /// Goes on to the next item.
+    ///
+    /// # Errors
+    /// The fault that comes in the place of an event.
+    fn go_on(&mut self) -> Option<Result<(), Error>>
+        ensures items { ComesNext (coming self.old) result (last self.new) (coming self.new) }
+        ensures fault { IfSome result (λ answer. IfFault answer gives) }
+        ensures unchanged { known self.new ≡ known self.old }
+        ensures failures { ItemCountsIo result (failures self.old) (failures self.new) }
+        ensures falls { IfSome result (λ _. steps self.new < steps self.old) };
+
+    /// The event that came last.
+    fn event(&self) -> Event<'_>
+        ensures { event_of result ≡ last self.now };
+}
+
+/// The same event, whose text or data is lent.
+pub(crate) fn lend<'a>(event: &'a Event<'_>) -> Event<'a>
+    ensures { event_of result ≡ event_of event.now }
+{
+    match event {
+        Event::StartArray(length) => Event::StartArray(*length),
+        Event::StartDictionary(length) => Event::StartDictionary(*length),
+        Event::EndCollection => Event::EndCollection,
+        Event::Boolean(value) => Event::Boolean(*value),
+        Event::Data(bytes) => Event::Data(CowSlice::Borrowed(bytes.as_slice())),
+        Event::Date(date) => Event::Date(*date),
+        Event::Integer(value) => Event::Integer(*value),
+        Event::Real(bits) => Event::Real(*bits),
+        Event::String(text) => Event::String(CowStr::Borrowed(text.as_str())),
+        Event::Uid(uid) => Event::Uid(*uid),
+    }
+}
+
+/// A binary source's.
+impl<S: Source> Items for BinaryReader<S> {
+    ghost use Rattle.plist_binread.specs.BinaryReader.{source_of, steps_to_come};
+    ghost use Rattle.plist_binread.specs.Telling.{event_told};
+    ghost use Rattle.plist_commands.specs.Converting.{items_left};
+
+    ghost coming = { items_left S.known };
+
+    ghost last = { event_told };
+
+    ghost known = { λ reader. S.known (source_of reader) };
+
+    ghost failures = { λ reader. S.failures (source_of reader) };
+
+    ghost gives = { λ _. Unit {0} };
+
+    ghost steps = { steps_to_come };
+
+    #[inline(always)]
+    fn go_on(&mut self) -> Option<Result<(), Error>> {
+        self.advance()
+    }
+
+    #[inline(always)]
+    fn event(&self) -> Event<'_> {
+        BinaryReader::event(self)
+    }
+}
