@@ -1,4 +1,3 @@
-use Rattle.std.proofs.Common.{ap}
 use Rattle.plist_binread.specs.BinaryReader.{is_new, source_of, to_come}
 use Rattle.plist_binread.specs.Telling.{event_told}
 use Rattle.plist_commands.proofs.Coming.{any_fault, told_comes}
