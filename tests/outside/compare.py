@@ -8,7 +8,22 @@ file that `plist_tool convert` makes of either kind the other programs have to r
 file that is named on the command line is compared too; where it isn't binary, plser makes a binary
 one of it first.
 
+What another program can't say is left out:
+- plistutil drops a zero's sign and a date's fraction, and writes a year before 1000 without its
+  zeros; it says no Uid of more than 32 bits and makes none of XML.
+- plser reads no integer of 16 bytes, no Uid of more than two bytes and no length in eight bytes,
+  drops a date's fraction, rounds reals of four bytes, and escapes characters past U+FFFF; it also
+  orders dictionaries anew, so pairs are compared in the order of their keys.
+- XML has no control characters but tab and line ends, of which CR is lost, and no U+FFFE.
+
+Faults aren't compared: where this program finds one, the others differ among themselves. Tried were
+null and fill objects, sets, URLs, a lone surrogate, integers of 16 bytes that don't fit, and dates
+that are no number or out of range. A text of bytes above 127 is UTF-8 for this program, plistutil and
+plser, and plistlib refuses it.
+
 Usage: compare.py [FILE ..]      Ends with status 1 where a line differs or a program fails.
+
+Needs Python 3.8 or later, plistutil and plser.
 """
 import collections
 import datetime
