@@ -42,7 +42,7 @@ SECONDS = 60
 PASSES = 10
 # a program that takes so many seconds isn't run again
 LONG = 2
-# of fewer objects the memory isn't told: up to 1 MiB of windows would count for them
+# of fewer objects the memory isn't told: up to 8.5 MB of windows would count for them
 MANY = 500_000
 
 # ---- the files
@@ -211,7 +211,8 @@ def built(folder, name, crates, uses, words):
 
 def items_program(folder):
     """The program over `BinaryReader`."""
-    return built(folder, "items", ("plist_dates", "plist_base", "plist_binread"), "plist_base plist_binread", ["no_such_file"])
+    return built(folder, "items", ("plist_dates", "plist_base", "plist_format", "plist_binread"),
+                 "plist_base plist_binread", ["no_such_file"])
 
 
 def programs(crate):

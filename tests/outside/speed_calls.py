@@ -18,8 +18,8 @@ import tempfile
 import time
 
 HERE = pathlib.Path(__file__).resolve().parent
-CRATES = ("plist_dates", "plist_base", "plist_data", "plist_binread", "plist_binwrite", "plist_ascii",
-          "plist_reader", "plist_pairs", "plist")
+CRATES = ("plist_dates", "plist_base", "plist_data", "plist_format", "plist_binread", "plist_binwrite",
+          "plist_ascii", "plist_reader", "plist_pairs", "plist")
 RUNS = 5
 KEYS = 100_000
 BYTES = 10_000_000
