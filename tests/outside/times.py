@@ -29,7 +29,7 @@ KEPT = pathlib.Path(os.environ.get("RT_KEPT", "/opt/rattle-kept"))
 
 # A line of a function, and another that does the same.
 CHANGES = {
-    "plist_binread": ("src/extent.rt", "if size <= trailer - start {", "if trailer - start >= size {"),
+    "plist_binread": ("src/trailer.rt", "if end <= trailer =>", "if trailer >= end =>"),
     "plist": ("src/files.rt", "        self.sync()\n", "        let stored = self.sync();\n        stored\n"),
 }
 
