@@ -7,6 +7,7 @@ use Rattle.plist_binread.specs.Reading.{HasPairs, object_at, object_with}
 use Rattle.plist_binread.specs.Front.{IfLong, LeavesLong, TellsWhole, LongBehind, content_means, is_fault, unit_size}
 use Rattle.plist_base.specs.declared.error.Error.{Error}
 use Rattle.plist_binread.specs.declared.told.Last.{Last}
+use Rattle.plist_binread.specs.Told.{event_in}
 use Rattle.plist_binread.specs.declared.front.Outcome.{Outcome}
 use Rattle.plist_binread.specs.declared.head.Bounds.{Bounds}
 use Rattle.plist_base.specs.Events.{PlainEvent}
@@ -87,13 +88,13 @@ fault_small outcome told fault = refl
 module _ (known : Option (List ℕ)) (bounds : Bounds) (place : ℕ) (seen : List ℕ)
     (near : place + length seen ≤ bounds.trailer)
     (is : IfSome known (λ bytes. LiesAt bytes place seen)) (outcome : Outcome) where
-  pub seen_tells : (told : PlainEvent)
-      → TellsWhole (bounds.trailer - place) (object_in bounds.reference_width) seen told outcome
+  pub seen_tells : (last : Last)
+      → TellsWhole (bounds.trailer - place) (object_in bounds.reference_width) seen last outcome
       → IfSome known (λ bytes. bounds.trailer ≤ length bytes
-      → IsOutcomeOf (object_at bounds place bytes) told outcome)
-  seen_tells told means =
+      → IsOutcomeOf (object_at bounds place bytes) (event_in last) outcome)
+  seen_tells last means =
       known_seen known bounds.trailer bounds.reference_width place seen
-      (λ object. IsOutcomeOf object told outcome) near is means
+      (λ object. IsOutcomeOf object (event_in last) outcome) near is means
 
   pub seen_long : (last : Last)
       → LeavesLong (bounds.trailer - place) (object_in bounds.reference_width) seen last outcome

@@ -86,7 +86,8 @@ Decodes object place answer =
 -- an object is decoded and told, or refused
 abbrev pub DecodesTold : Object → (place : ℕ) → (told : PlainEvent) → Result Outcome Error → Type 0
 DecodesTold object place told answer =
-    MatchResult answer (λ outcome. IsDecodedAs object told outcome) (λ e. IsRefusedAs object place e)
+    MatchResult answer (λ outcome. IsDecodedAs object told outcome)
+    (λ error. IsRefusedAs object place error)
 
 -- a text or data of this event is decoded, or memory was wanted for it
 abbrev pub DecodesEvent : (told : PlainEvent) → Result Event Error → Type 0

@@ -75,17 +75,15 @@ EndsBefore size room rest found = length rest - length found.1.now + found.0 * s
 -- ---- what is decoded
 
 -- an object that all its bytes up to the trailer tell
-abbrev pub TellsWhole : (room : ℕ) → (List ℕ → Object) → (rest : List ℕ) → PlainEvent → Outcome
-    → Type 0
-TellsWhole room object rest told outcome =
-    (more : List ℕ) → length (rest ++ more) ≡ room → IsOutcomeOf (object (rest ++ more)) told outcome
+abbrev pub TellsWhole : (room : ℕ) → (List ℕ → Object) → (rest : List ℕ) → Last → Outcome → Type 0
+TellsWhole room object rest last outcome = (more : List ℕ) → length (rest ++ more) ≡ room
+    → IsOutcomeOf (object (rest ++ more)) (event_in last) outcome
 
--- an object of a fixed size, or one of so many elements as its length says, whose content means
--- this
-abbrev pub TellsFront : (room size : ℕ) → (List ℕ → Object) → (rest : List ℕ) → PlainEvent → Outcome
+-- an object of a fixed size whose content means this
+abbrev pub TellsFront : (room size : ℕ) → (List ℕ → Object) → (rest : List ℕ) → Last → Outcome
     → Type 0
-TellsFront room size meaning rest told outcome =
-    TellsWhole room (meaning_of_front size meaning) rest told outcome
+TellsFront room size meaning rest last outcome =
+    TellsWhole room (meaning_of_front size meaning) rest last outcome
 
 -- how many bytes an element of the content has, and what the content means
 abbrev pub unit_size : Kind → ℕ
@@ -143,13 +141,19 @@ abbrev pub LongBehind : (marker room : ℕ) → (List ℕ → Object) → (rest 
 LongBehind marker room object rest last outcome =
     LeavesLong (room + 1) (λ bytes. object (drop 1 bytes)) (marker ∷ rest) last outcome
 
+-- the same of a text or data
+abbrev pub LongCounted : Kind → (marker room : ℕ) → (rest : List ℕ) → Last → Outcome → Type 0
+LongCounted kind marker room rest last outcome =
+    LongBehind marker room (counted_with kind marker) rest last outcome
+
 -- one for a small object that is decoded, by which the counter rises
 abbrev pub small_told : Outcome → Last → ℕ
 small_told outcome last = small_outcome outcome (event_in last)
 
-abbrev pub CountsOutcome : {C : Type 0} → (counts : Type 0) → (count : C → ℕ) → (old new : C) → Outcome
-    → Last → Type 0
-CountsOutcome counts count old new outcome last = counts → count new ≡ count old + small_told outcome last
+abbrev pub CountsOutcome : {C : Type 0} → (counts : Type 0) → (count : C → ℕ) → (old new : C)
+    → Outcome → Last → Type 0
+CountsOutcome counts count old new outcome last =
+    counts → count new ≡ count old + small_told outcome last
 
 -- the same of an answer
 abbrev pub small_found : {E : Type 0} → Result Outcome E → Last → ℕ
@@ -163,16 +167,17 @@ CountsFound counts count old new answer last =
 
 -- what was decoded of the object at a place, by its front, or its refusal
 abbrev pub TellsAt : {S : Type 0} → (S → Option (List ℕ)) → S → Bounds → (place : ℕ) → Last
-    → Result Outcome Error → Type 0
+    → Result Outcome Refused → Type 0
 TellsAt known source bounds place last answer = IfSome (known source) (λ bytes.
-    bounds.trailer ≤ length bytes → MatchResult answer
+    bounds.trailer ≤ length bytes → MatchResult (answer_in answer last)
     (λ outcome. IsOutcomeOf (object_at bounds place bytes) (event_in last) outcome)
     (λ error. IsRefusedAs (object_at bounds place bytes) place error))
 
 -- a text or data whose content isn't all seen there lies before the trailer, and this is its object
 abbrev pub LongAt : {E S : Type 0} → (S → Option (List ℕ)) → S → Bounds → (place : ℕ) → Last
     → Result Outcome E → Type 0
-LongAt known source bounds place last answer = IfOk answer (λ outcome. IfLong outcome last (λ content.
+LongAt known source bounds place last answer = IfOk answer (λ outcome.
+    IfLong outcome last (λ content.
     (place + content.start + content.count * unit_size content.kind ≤ bounds.trailer)
     × IfSome (known source) (λ bytes. bounds.trailer ≤ length bytes → object_at bounds place bytes
     ≡ content_means content.kind (take (content.count * unit_size content.kind)
@@ -191,10 +196,10 @@ is_wrong outcome = is_fault outcome
 
 -- the object at a place is told, or refused
 abbrev pub TellsObject : {S : Type 0} → (S → Option (List ℕ)) → S → Bounds → (place : ℕ) → Last
-    → Result Outcome Error → Type 0
+    → Result Outcome Refused → Type 0
 TellsObject known source bounds place last answer = IfSome (known source) (λ bytes.
     bounds.trailer ≤ length bytes
-    → DecodesTold (object_at bounds place bytes) place (event_in last) answer)
+    → DecodesTold (object_at bounds place bytes) place (event_in last) (answer_in answer last))
 
 -- ---- a content that is read
 

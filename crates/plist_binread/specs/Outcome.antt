@@ -53,7 +53,8 @@ slot_of pairs index =
 
 -- where the reference of a child stands
 abbrev pub slot_place : References → (index width : ℕ) → ℕ
-slot_place references index width = references.place + (references.start + slot_of references.pairs index * width)
+slot_place references index width =
+    references.place + (references.start + slot_of references.pairs index * width)
 
 -- the references of the children of the object at the front of these bytes stand from `start` on
 abbrev pub IsSlots : (width : ℕ) (object : List ℕ) (start pairs : ℕ) → Type 0
@@ -66,8 +67,8 @@ IsSlots width object start pairs =
 -- the same of the collection at the references' place
 abbrev pub AreReferences : (bytes : List ℕ) → Bounds → References → Type 0
 AreReferences bytes bounds references =
-    IsSlots bounds.reference_width (drop references.place (take bounds.trailer bytes)) references.start
-    references.pairs
+    IsSlots bounds.reference_width (drop references.place (take bounds.trailer bytes))
+    references.start references.pairs
 
 -- what is owed begins with the event that is told, and goes on with what is owed afterwards
 abbrev pub PaysTold : List Item → (told : PlainEvent) → List Item → Type 0

@@ -80,7 +80,8 @@ object_at bounds place bytes =
 -- ---- what is made of bytes that reach the trailer
 
 -- a child's number is read, where the object has so many
-abbrev pub ReadsChildAt : Result ℕ Error → (known : Option (List ℕ)) → Bounds → (place index : ℕ) → Type 0
+abbrev pub ReadsChildAt : Result ℕ Error → (known : Option (List ℕ)) → Bounds → (place index : ℕ)
+    → Type 0
 ReadsChildAt answer known bounds place index = IfSome known (λ bytes.
     bounds.trailer ≤ length bytes → ReadsChild (object_at bounds place bytes) index answer)
 

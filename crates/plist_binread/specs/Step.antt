@@ -68,10 +68,16 @@ ExplainsEntering tags contents at number error =
     (unfolding_of (entries_of bytes bounds) (length tags - length frames) (path_of frames)
     at number ++ owed_by (entries_of bytes bounds) frames)) error
 
--- the error of a child that isn't found is held
-abbrev pub RefusesChildren : (known : Option (List ℕ)) → Bounds → (place : ℕ) → Last → Refused
+-- a child's number is found, or the error is held
+abbrev pub FindsChild : Result ℕ Refused → Last → (known : Option (List ℕ)) → Bounds
+    → (place index : ℕ) → Type 0
+FindsChild answer last known bounds place index =
+    ReadsChildAt (answer_in answer last) known bounds place index
+
+-- the error of each child of a collection that isn't found is held
+abbrev pub RefusesEach : (known : Option (List ℕ)) → Bounds → (place : ℕ) → Last → Refused
     → Type 0
-RefusesChildren known bounds place last refused =
+RefusesEach known bounds place last refused =
     (index : ℕ) → ReadsChildAt (Err last.fault) known bounds place index
 
 -- the error of a number that isn't entered is held, and no device failed
@@ -90,8 +96,8 @@ KeepsOutcome told outcome number walk = (object : Object) → IsOutcomeOf object
     is_small_event told ≡ true → 0 < unmarked (get_or walk.tags.items number 0)
 
 -- and its first item is paid
-abbrev pub OpensOutcome : (number : ℕ) (told : PlainEvent) → Outcome → (old new : Walk) → Type 0
-OpensOutcome number told outcome old new = (bytes : List ℕ) (bounds : Bounds) (entry : Entry) →
+abbrev pub Opens : (number : ℕ) (told : PlainEvent) → Outcome → (old new : Walk) → Type 0
+Opens number told outcome old new = (bytes : List ℕ) (bounds : Bounds) (entry : Entry) →
     IsWalkOf bytes bounds old → slice_get (entries_of bytes bounds) number ≡ Some entry →
     IsOutcomeOf entry.object told outcome →
     ((at : ℕ) → PaysTold (owed_entering bytes bounds old at number) told (owed_in bytes bounds new))

@@ -18,7 +18,7 @@ use crate::walk::{Turn, Walk};
 use plist_base::Source;
 use std::alloc::Global;
 
-/// Tells the next item of what the open collections owe.
+/// Tells the next item of the walk.
 #[inline(always)]
 pub fn advance<S: Source, C: DecodeCounter>(
     alloc: Global,

@@ -3,8 +3,8 @@
 ghost use Rattle.std.specs.Prelude.{◌≡◌, ◌+◌, ◌-◌, ◌^◌, ◌<◌, ◌≤◌, IfErr, IfNone, IfOk, IfSome, OnOk};
 ghost use Rattle.plist_binread.specs.Outcome.{slot_place, slot_of};
 ghost use Rattle.plist_binread.specs.Failures.{ErrWithin};
-ghost use Rattle.plist_binread.specs.Reading.{ReadsChildAt, HasNoChild, FindsSlots, HasNoChildren, HasPairs, AreReferencesBehind, AreReferencesOf, MissesNumber, ReadsNumber, ShowsLength};
-ghost use Rattle.plist_binread.specs.Step.{RefusesChildren};
+ghost use Rattle.plist_binread.specs.Reading.{HasNoChild, FindsSlots, HasNoChildren, HasPairs, AreReferencesBehind, AreReferencesOf, MissesNumber, ReadsNumber, ShowsLength};
+ghost use Rattle.plist_binread.specs.Step.{FindsChild, RefusesEach};
 ghost use Rattle.plist_binread.specs.Told.{AnswersIn, answer_in};
 
 use crate::front::front_length;
@@ -52,8 +52,8 @@ fn pairs_in(marker: u8, count: u64) -> Option<u64>
     }
 }
 
-// Finds the references of the collection at the front of these bytes, which reach the trailer, so
-// far away, or have all of its length.
+// Finds the references of the collection that begins these bytes: all up to the trailer, or at
+// least a marker and a length.
 fn references_in(seen: &[u8], room: u64, width: usize, place: u64) -> Option<References>
     requires width { 0 < width }
     requires far { ShowsLength room seen.now }
@@ -75,7 +75,7 @@ fn references_in(seen: &[u8], room: u64, width: usize, place: u64) -> Option<Ref
 // As many bytes as a marker and a length have at most.
 const LENGTH_END: usize = 10;
 
-// Finds those of the collection at a place by bytes that are read there.
+// Finds the references of the collection at a place by bytes that are read there.
 #[cold]
 #[inline(never)]
 fn read_references<S: Source>(
@@ -107,7 +107,7 @@ fn read_references<S: Source>(
     }
 }
 
-// Finds those of the collection at a place.
+// Finds the references of the collection at a place.
 #[inline(never)]
 fn find_references<S: Source>(
     source: &mut S,
@@ -179,7 +179,7 @@ fn refer_to<S: Source>(
     // The answer.
     ensures place { OnOk result (references.new.place ≡ place) }
     // A refusal.
-    ensures refused { IfErr result (RefusesChildren (S.known source.old) bounds.now place last.new) }
+    ensures refused { IfErr result (RefusesEach (S.known source.old) bounds.now place last.new) }
     ensures fault { ErrWithin place bounds.now.trailer (answer_in result last.new) }
     // The state after it.
     ensures references { AreReferencesOf (S.known source.old) bounds.now references.new }
@@ -228,7 +228,7 @@ pub fn read_child<S: Source>(
 ) -> Result<u64, Refused>
     requires references { AreReferencesOf (S.known source.old) bounds.now references.old }
     // The answer.
-    ensures child { ReadsChildAt (answer_in result last.new) (S.known source.old) bounds.now place index }
+    ensures child { FindsChild result last.new (S.known source.old) bounds.now place index }
     // A refusal.
     ensures fault { ErrWithin place bounds.now.trailer (answer_in result last.new) }
     // The state after it.

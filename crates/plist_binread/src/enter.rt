@@ -7,7 +7,7 @@ ghost use Rattle.plist_binread.specs.Packed.{is_marked};
 ghost use Rattle.plist_binread.specs.Walking.{IsWalkOf, cached_in, walk_objects};
 ghost use Rattle.plist_binread.specs.Failures.{ErrWithin};
 ghost use Rattle.plist_binread.specs.Front.{small_told};
-ghost use Rattle.plist_binread.specs.Step.{IsFoundAt, IsLighterEntered, IsUnchanged, KeepsEntered, KeepsOutcome, Meets, OpensOutcome, RefusesEntering, RefusesInside, WantsRoom};
+ghost use Rattle.plist_binread.specs.Step.{IsFoundAt, IsLighterEntered, IsUnchanged, KeepsEntered, KeepsOutcome, Meets, Opens, RefusesEntering, RefusesInside, WantsRoom};
 ghost use Rattle.plist_binread.specs.Told.{AnswersIn, answer_in, event_in};
 
 use crate::counter::DecodeCounter;
@@ -86,14 +86,14 @@ fn open_frame(frames: &mut Frames, object: u64, count: u64) -> bool
     frames.push(object, count).is_ok()
 }
 
-// Keeps what was decoded and told where it is a small scalar, and opens it where it is a collection.
-// It answers no, and nothing has changed, where memory for that is wanted.
+// Keeps what was decoded and told where it is a small scalar, and opens it where it is a
+// collection. It answers no, and nothing has changed, where memory for that is wanted.
 #[inline(always)]
 fn keep_or_open(walk: &mut Walk, number: u64, outcome: Outcome, last: &Last) -> bool
     requires below { number < walk_objects walk.old }
     requires new { get_or walk.old.tags.items number 0 ≡ 0 }
     // The answer.
-    ensures pays { result ≡ true → OpensOutcome number (event_in last.now) outcome walk.old walk.new }
+    ensures pays { result ≡ true → Opens number (event_in last.now) outcome walk.old walk.new }
     ensures wanted { result ≡ false → WantsRoom outcome }
     // The state after it.
     ensures size { walk_objects walk.new ≡ walk_objects walk.old }

@@ -7,7 +7,7 @@ ghost use Rattle.plist_base.specs.Trees.{Real};
 ghost use Rattle.plist_binread.specs.Outcome.{small_outcome};
 ghost use Rattle.plist_format.specs.Object.{Scalar, Array, date, unsigned_integer, signed_integer, wide_integer, object_in};
 ghost use Rattle.plist_binread.specs.Told.{event_in};
-ghost use Rattle.plist_binread.specs.Front.{CountsOutcome, EndsBefore, HasUnits, IsContent, IsCount, IsCounted, IsLength, IsLengthCut, IsNumber, IsWhole, LeavesLong, TellsFront, TellsWhole, LiesBehind, LongBehind, ReachesFar, RefusesCounted, ShowsFront, array_with, counted_with, pairs_with, unit_size};
+ghost use Rattle.plist_binread.specs.Front.{CountsOutcome, EndsBefore, HasUnits, IsContent, IsCount, IsCounted, IsLength, IsLengthCut, IsNumber, IsWhole, LeavesLong, TellsFront, TellsWhole, LiesBehind, LongBehind, LongCounted, ReachesFar, RefusesCounted, ShowsFront, array_with, counted_with, pairs_with, unit_size};
 ghost use Rattle.plist_binread.specs.declared.front.Outcome.TheVariants.{Scalar as ScalarOutcome};
 ghost use Rattle.plist_binread.specs.declared.front.Kind.TheVariants.{Data as KindData, Text as KindText, WideText as KindWideText};
 ghost use Rattle.plist_binread.specs.Reading.{short_real, long_real, uid_of_content, object_with};
@@ -187,7 +187,7 @@ fn front_content_of<'a>(
     ensures size { IfOk result (HasUnits (unit_size kind)) }
     ensures bound { IfOk result (λ content. length content.now ≤ most) }
     ensures refused { IfErr result (RefusesCounted marker (unit_size kind) room rest.now) }
-    ensures long { IfErr result (LongBehind marker room (counted_with kind marker) rest.now last.new) }
+    ensures long { IfErr result (LongCounted kind marker room rest.now last.new) }
 {
     let size = kind.unit_size();
     let (count, behind) = front_count(marker, rest, room, size)?;
@@ -204,7 +204,7 @@ fn front_unsigned(rest: &[u8], room: u64, width: usize, last: &mut Last) -> Outc
     requires width { width ≤ 8 }
     requires room { length rest.now ≤ room }
     requires far { ReachesFar room rest.now }
-    ensures outcome { TellsFront room width unsigned_integer rest.now (event_in last.new) result }
+    ensures outcome { TellsFront room width unsigned_integer rest.now last.new result }
     ensures whole { IsWhole result }
 {
     match front_number(rest, width) {
@@ -219,7 +219,7 @@ fn front_unsigned(rest: &[u8], room: u64, width: usize, last: &mut Last) -> Outc
 fn front_signed(rest: &[u8], room: u64, last: &mut Last) -> Outcome
     requires room { length rest.now ≤ room }
     requires far { ReachesFar room rest.now }
-    ensures outcome { TellsFront room 8 signed_integer rest.now (event_in last.new) result }
+    ensures outcome { TellsFront room 8 signed_integer rest.now last.new result }
     ensures whole { IsWhole result }
 {
     match front_number(rest, 8) {
@@ -232,7 +232,7 @@ fn front_signed(rest: &[u8], room: u64, last: &mut Last) -> Outcome
 fn front_wide(rest: &[u8], room: u64, last: &mut Last) -> Outcome
     requires room { length rest.now ≤ room }
     requires far { ReachesFar room rest.now }
-    ensures outcome { TellsFront room 16 wide_integer rest.now (event_in last.new) result }
+    ensures outcome { TellsFront room 16 wide_integer rest.now last.new result }
     ensures whole { IsWhole result }
 {
     if rest.len() < 16 {
@@ -251,7 +251,7 @@ fn front_uid(rest: &[u8], room: u64, width: usize, last: &mut Last) -> Outcome
     requires width { width ≤ 8 }
     requires room { length rest.now ≤ room }
     requires far { ReachesFar room rest.now }
-    ensures outcome { TellsFront room width uid_of_content rest.now (event_in last.new) result }
+    ensures outcome { TellsFront room width uid_of_content rest.now last.new result }
     ensures whole { IsWhole result }
 {
     match front_number(rest, width) {
@@ -266,7 +266,7 @@ fn front_uid(rest: &[u8], room: u64, width: usize, last: &mut Last) -> Outcome
 fn front_real(rest: &[u8], room: u64, last: &mut Last) -> Outcome
     requires room { length rest.now ≤ room }
     requires far { ReachesFar room rest.now }
-    ensures outcome { TellsFront room 8 long_real rest.now (event_in last.new) result }
+    ensures outcome { TellsFront room 8 long_real rest.now last.new result }
     ensures whole { IsWhole result }
 {
     match front_content(rest) {
@@ -281,7 +281,7 @@ fn front_real(rest: &[u8], room: u64, last: &mut Last) -> Outcome
 fn front_short_real(rest: &[u8], room: u64, last: &mut Last) -> Outcome
     requires room { length rest.now ≤ room }
     requires far { ReachesFar room rest.now }
-    ensures outcome { TellsFront room 4 short_real rest.now (event_in last.new) result }
+    ensures outcome { TellsFront room 4 short_real rest.now last.new result }
     ensures whole { IsWhole result }
 {
     match front_content(rest) {
@@ -296,7 +296,7 @@ fn front_short_real(rest: &[u8], room: u64, last: &mut Last) -> Outcome
 fn front_date(rest: &[u8], room: u64, last: &mut Last) -> Outcome
     requires room { length rest.now ≤ room }
     requires far { ReachesFar room rest.now }
-    ensures outcome { TellsFront room 8 date rest.now (event_in last.new) result }
+    ensures outcome { TellsFront room 8 date rest.now last.new result }
     ensures whole { IsWhole result }
 {
     match front_content(rest) {
@@ -314,8 +314,8 @@ fn front_date(rest: &[u8], room: u64, last: &mut Last) -> Outcome
 fn front_data(marker: u8, rest: &[u8], room: u64, last: &mut Last) -> Outcome
     requires room { length rest.now ≤ room }
     requires far { ReachesFar room rest.now }
-    ensures outcome { TellsWhole room (counted_with KindData marker) rest.now (event_in last.new) result }
-    ensures long { LongBehind marker room (counted_with KindData marker) rest.now last.new result }
+    ensures outcome { TellsWhole room (counted_with KindData marker) rest.now last.new result }
+    ensures long { LongCounted KindData marker room rest.now last.new result }
 {
     match front_content_of(Kind::Data, marker, rest, room, usize::MAX, last) {
         Ok(bytes) => last.tell_data(bytes),
@@ -326,8 +326,8 @@ fn front_data(marker: u8, rest: &[u8], room: u64, last: &mut Last) -> Outcome
 fn front_text(marker: u8, rest: &[u8], room: u64, last: &mut Last) -> Outcome
     requires room { length rest.now ≤ room }
     requires far { ReachesFar room rest.now }
-    ensures outcome { TellsWhole room (counted_with KindText marker) rest.now (event_in last.new) result }
-    ensures long { LongBehind marker room (counted_with KindText marker) rest.now last.new result }
+    ensures outcome { TellsWhole room (counted_with KindText marker) rest.now last.new result }
+    ensures long { LongCounted KindText marker room rest.now last.new result }
 {
     match front_content_of(Kind::Text, marker, rest, room, usize::MAX, last) {
         Ok(bytes) => last.tell_text(bytes),
@@ -335,14 +335,14 @@ fn front_text(marker: u8, rest: &[u8], room: u64, last: &mut Last) -> Outcome
     }
 }
 
-// As many units as a text has at most that is told without memory for them.
+// A text of at most so many units is decoded without memory for its units.
 const UNITS: usize = 32;
 
 fn front_wide_text(marker: u8, rest: &[u8], room: u64, last: &mut Last) -> Outcome
     requires room { length rest.now ≤ room }
     requires far { ReachesFar room rest.now }
-    ensures outcome { TellsWhole room (counted_with KindWideText marker) rest.now (event_in last.new) result }
-    ensures long { LongBehind marker room (counted_with KindWideText marker) rest.now last.new result }
+    ensures outcome { TellsWhole room (counted_with KindWideText marker) rest.now last.new result }
+    ensures long { LongCounted KindWideText marker room rest.now last.new result }
 {
     match front_content_of(Kind::WideText, marker, rest, room, 2 * UNITS, last) {
         Ok(bytes) => {
@@ -359,7 +359,7 @@ fn front_array(marker: u8, rest: &[u8], room: u64, width: usize, last: &mut Last
     requires room { length rest.now ≤ room }
     requires far { ReachesFar room rest.now }
     requires width { 0 < width }
-    ensures outcome { TellsWhole room (array_with width marker) rest.now (event_in last.new) result }
+    ensures outcome { TellsWhole room (array_with width marker) rest.now last.new result }
     ensures whole { IsWhole result }
 {
     match front_count(marker, rest, room, width as u64) {
@@ -375,7 +375,7 @@ fn front_dictionary(marker: u8, rest: &[u8], room: u64, width: usize, last: &mut
     requires room { length rest.now ≤ room }
     requires far { ReachesFar room rest.now }
     requires width { (0 < width) × (width ≤ 8) }
-    ensures outcome { TellsWhole room (pairs_with width marker) rest.now (event_in last.new) result }
+    ensures outcome { TellsWhole room (pairs_with width marker) rest.now last.new result }
     ensures whole { IsWhole result }
 {
     match front_count(marker, rest, room, 2 * width as u64) {
@@ -392,7 +392,7 @@ fn front_behind(marker: u8, rest: &[u8], room: u64, width: usize, last: &mut Las
     requires room { length rest.now ≤ room }
     requires far { ReachesFar room rest.now }
     requires width { (0 < width) × (width ≤ 8) }
-    ensures outcome { TellsWhole room (object_with width marker) rest.now (event_in last.new) result }
+    ensures outcome { TellsWhole room (object_with width marker) rest.now last.new result }
     ensures long { LongBehind marker room (object_with width marker) rest.now last.new result }
 {
     match marker {
@@ -428,8 +428,8 @@ fn is_small_outcome(outcome: Outcome, last: &Last) -> bool
     }
 }
 
-/// Decodes the object at the front of these bytes, which reach the trailer, so far away, or are 26
-/// at least, and counts it where it is small. No other function makes a small object of its bytes.
+/// Decodes the object that begins these bytes, all up to the trailer or at least 26, and counts it
+/// where it is small. No other function makes a small object of its bytes.
 pub fn decode_seen<C: DecodeCounter>(
     seen: &[u8],
     room: u64,
@@ -441,7 +441,7 @@ pub fn decode_seen<C: DecodeCounter>(
     requires far { ShowsFront room seen.now }
     requires some { 0 < room }
     requires width { (0 < width) × (width ≤ 8) }
-    ensures outcome { TellsWhole room (object_in width) seen.now (event_in last.new) result }
+    ensures outcome { TellsWhole room (object_in width) seen.now last.new result }
     ensures long { LeavesLong room (object_in width) seen.now last.new result }
     ensures counted { CountsOutcome C.counts C.count counter.old counter.new result last.new }
 {

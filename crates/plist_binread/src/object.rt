@@ -3,7 +3,7 @@
 ghost use Rattle.std.specs.Prelude.{ℕ, ◌≡◌, ◌-◌, ◌<◌, true, IfOk, ⊤};
 ghost use Rattle.plist_base.specs.Events.{PlainEvent};
 ghost use Rattle.plist_base.specs.Faults.{MatchFault, fault_of, kind_of};
-ghost use Rattle.plist_base.specs.Sources.{AnswersIo, CountsIo};
+ghost use Rattle.plist_base.specs.Sources.{CountsIo};
 ghost use Rattle.plist_format.specs.Object.{Faulty, Object};
 ghost use Rattle.plist_binread.specs.Decoding.{IsRefusedAs};
 ghost use Rattle.plist_binread.specs.Failures.{ErrWithin, FailsWithin, MatchReader};
@@ -76,7 +76,7 @@ fn read_front<S: Source, C: DecodeCounter>(
     requires place { place < bounds.now.trailer }
     requires room { room ≡ bounds.now.trailer - place }
     // The answer.
-    ensures outcome { TellsAt S.known source.old bounds.now place last.new (answer_in result last.new) }
+    ensures outcome { TellsAt S.known source.old bounds.now place last.new result }
     ensures long { LongAt S.known source.old bounds.now place last.new result }
     // A refusal.
     ensures fault { ErrWithin place bounds.now.trailer (answer_in result last.new) }
@@ -104,7 +104,7 @@ fn decode_front<S: Source, C: DecodeCounter>(
 ) -> Result<Outcome, Refused>
     requires place { place < bounds.now.trailer }
     // The answer.
-    ensures outcome { TellsAt S.known source.old bounds.now place last.new (answer_in result last.new) }
+    ensures outcome { TellsAt S.known source.old bounds.now place last.new result }
     ensures long { LongAt S.known source.old bounds.now place last.new result }
     // A refusal.
     ensures fault { ErrWithin place bounds.now.trailer (answer_in result last.new) }
@@ -175,7 +175,7 @@ pub fn decode<S: Source, C: DecodeCounter>(
     last: &mut Last,
 ) -> Result<Outcome, Refused>
     // The answer.
-    ensures decoded { TellsObject S.known source.old bounds.now place last.new (answer_in result last.new) }
+    ensures decoded { TellsObject S.known source.old bounds.now place last.new result }
     // A refusal.
     ensures fault { ErrWithin place bounds.now.trailer (answer_in result last.new) }
     // The state after it.

@@ -22,7 +22,7 @@ use std::mem;
 /// It is as small as it can be, since one is made for each item.
 #[derive(Clone, Copy)]
 pub enum Told {
-    /// A date, a real or a negative number, which is lent.
+    /// Another event, which is lent: a date, a real, a negative number, or a long text or data.
     Held,
     /// A text, which is lent.
     Text,

@@ -2,14 +2,13 @@ use Rattle.std.proofs.Common.{ap, arith, ◌++◌, ℕ}
 use Rattle.std.proofs.lemmas.List.{length-append}
 use Rattle.plist_binread.specs.Front.{TellsWhole}
 use Rattle.plist_format.specs.Object.{object_in}
-use Rattle.plist_binread.specs.Told.{event_in}
 use Rattle.plist_binread.proofs.Seen.{long_behind, object_front}
 use Rattle.plist_binread.proofs.front.decode_seen.Goals as goal
 use Rattle.plist_binread.proofs.front.decode_seen.Goals.{After-front_behind-outcome}
 
 -- what lies behind the first byte tells it of the object
 whole : (g : _) (c : After-front_behind-outcome g) → TellsWhole c.args.room (object_in c.args.width)
-    c.args.seen.now (event_in c.front_behind-outcome.new.last) c.front_behind-outcome.result
+    c.args.seen.now c.front_behind-outcome.new.last c.front_behind-outcome.result
 whole g c = λ more fits.
     let first = c.in-Some.ensures.cases in
     rw (object_front _ _ _ _ (ap (λ xs. xs ++ more) first.0))

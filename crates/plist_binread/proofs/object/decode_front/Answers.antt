@@ -1,5 +1,4 @@
 use Rattle.std.proofs.Common.{rules, arith}
-use Rattle.plist_binread.specs.Told.{event_in}
 use Rattle.plist_binread.proofs.Seen.{known_prefix, seen_tells, seen_long}
 use Rattle.plist_binread.proofs.object.decode_front.Goals as goal
 
@@ -7,7 +6,7 @@ pub returns-then-near-min-clause-outcome : goal.returns-then-near-min-clause-out
 returns-then-near-min-clause-outcome g c =
     seen_tells _ c.args.bounds.now c.args.place _ (search rules)
     (known_prefix _ _ _ _ (omega arith) c.near-near.ensures.bytes) c.decode_seen.result
-    (event_in c.decode_seen.new.last) c.decode_seen.ensures.outcome
+    c.decode_seen.new.last c.decode_seen.ensures.outcome
 
 pub returns-then-near-min-clause-long : goal.returns-then-near-min-clause-long
 returns-then-near-min-clause-long g c =
