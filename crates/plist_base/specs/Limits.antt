@@ -1,5 +1,6 @@
--- Items under limits: how many events come, and how many collections are open at once.
-use Rattle.std.specs.Prelude.{◌≡◌, ℕ, ◌+◌, ◌-◌, Bool, true, false, ◌&&◌, not, nat_le, cond, List, [], ◌∷◌, Option, None, Some, Result, Ok, Err, MatchBool, MatchOption, MatchResult}
+-- Items under limits: how many events come, how many collections are open at once, and how many
+-- bytes all texts and data have.
+use Rattle.std.specs.Prelude.{◌≡◌, ℕ, ◌+◌, ◌-◌, ◌^◌, Bool, true, false, ◌&&◌, not, nat_le, nat_lt, cond, length, List, [], ◌∷◌, Option, None, Some, Result, Ok, Err, MatchBool, MatchOption, MatchResult}
 use Rattle.plist_base.specs.declared.error.Error.{Error}
 use Rattle.plist_base.specs.declared.event.Event.{Event}
 use Rattle.plist_base.specs.declared.limited.Limited.{Limited}
@@ -8,7 +9,8 @@ use Rattle.plist_base.specs.declared.limits.Limit.{Limit}
 use Rattle.plist_base.specs.declared.limits.Limit.TheVariants as limit
 use Rattle.plist_base.specs.declared.limits.Limiter.{Limiter}
 use Rattle.plist_base.specs.Faults.{Fault, LimitReached, fault_nowhere, fault_of}
-use Rattle.plist_base.specs.Events.{PlainEvent, StartArray, StartDictionary, EndCollection, Item, event_of}
+use Rattle.plist_base.specs.Events.{PlainEvent, Single, StartArray, StartDictionary, EndCollection, Item, event_of}
+use Rattle.plist_base.specs.Trees.{String, Data}
 
 -- is it the start of a collection?
 abbrev pub opens : PlainEvent → Bool
@@ -33,36 +35,71 @@ abbrev pub IsTooDeep : (depth level : ℕ) → PlainEvent → Limit → Type 0
 IsTooDeep depth level event reached =
     (reached ≡ limit.Depth) × ((opens event && nat_le depth level) ≡ true)
 
--- why an event can't come where so many have come and so many collections are open: it is one too
--- many, or else it would open one collection too many
-abbrev pub limit_at : Limits → (came level : ℕ) → PlainEvent → Option Limit
-limit_at limits came level event =
-    cond (nat_le limits.items came) (Some limit.Items)
-    (cond (opens event && nat_le limits.depth level) (Some limit.Depth) None)
+-- how many bytes an event's text or data has
+abbrev pub bytes_in : PlainEvent → ℕ
+bytes_in (Single (String text)) = length text
+bytes_in (Single (Data bytes)) = length bytes
+bytes_in event = 0
+
+-- has it more than so many, where there is a limit?
+abbrev pub is_too_long : (left : Option ℕ) → PlainEvent → Bool
+is_too_long None event = false
+is_too_long (Some left) event = nat_lt left (bytes_in event)
+
+-- how many may come behind it
+abbrev pub left_behind : (left : Option ℕ) → PlainEvent → Option ℕ
+left_behind None event = None
+left_behind (Some left) event = Some (left - bytes_in event)
+
+-- so many may come behind an event that hasn't too many
+abbrev pub IsLeftBehind : (left : Option ℕ) → PlainEvent → (behind : Option ℕ) → Type 0
+IsLeftBehind left event behind =
+    (behind ≡ left_behind left event) × (is_too_long left event ≡ false)
+
+-- the event has too many, which is the limit that it reaches
+abbrev pub IsTooLong : (left : Option ℕ) → PlainEvent → Limit → Type 0
+IsTooLong left event reached = (reached ≡ limit.Bytes) × (is_too_long left event ≡ true)
+
+-- why an event can't come where so many have come, so many collections are open, and so many bytes
+-- may come: it has too many bytes, or else is one too many, or else opens one collection too many
+abbrev pub limit_at : Limits → (came level : ℕ) → (left : Option ℕ) → PlainEvent → Option Limit
+limit_at limits came level left event =
+    cond (is_too_long left event) (Some limit.Bytes)
+    (cond (nat_le limits.items came) (Some limit.Items)
+    (cond (opens event && nat_le limits.depth level) (Some limit.Depth) None))
 
 -- an event and what is behind it, or the fault of the limit that it reaches
 abbrev pub event_or_limit : Option Limit → PlainEvent → (behind : List Item) → List Item
 event_or_limit None event behind = Ok event ∷ behind
 event_or_limit (Some limit) event behind = Err (fault_nowhere (LimitReached limit)) ∷ []
 
--- the items behind so many events, while so many collections are open
-abbrev pub limited_from : Limits → (came level : ℕ) → List Item → List Item
-limited_from limits came level [] = []
-limited_from limits came level (Ok event ∷ items) =
-    event_or_limit (limit_at limits came level event) event
-    (limited_from limits (came + 1) (level_behind event level) items)
-limited_from limits came level (Err fault ∷ items) = Err fault ∷ []
+-- the items behind so many events, while so many collections are open and so many bytes may come
+abbrev pub limited_from : Limits → (came level : ℕ) → (left : Option ℕ) → List Item → List Item
+limited_from limits came level left [] = []
+limited_from limits came level left (Ok event ∷ items) =
+    event_or_limit (limit_at limits came level left event) event
+    (limited_from limits (came + 1) (level_behind event level) (left_behind left event) items)
+limited_from limits came level left (Err fault ∷ items) = Err fault ∷ []
 
--- The items up to their first fault, in which the first event that is one too many, or else opens
--- one collection too many, is replaced by the fault of that limit, which ends them.
+-- The items up to their first fault, in which the first event that has a byte too many, or else is
+-- one too many, or else opens one collection too many, is replaced by the fault of that limit,
+-- which ends them.
 abbrev pub limited_items : Limits → List Item → List Item
-limited_items limits items = limited_from limits 0 0 items
+limited_items limits items = limited_from limits 0 0 limits.bytes items
 
 -- ---- what a limiter makes of the items
 
 -- the items that are still to come, of these
 abbrev pub under : Limiter → List Item → List Item
-under limiter = limited_from limiter.limits limiter.came limiter.level
+under limiter = limited_from limiter.limits limiter.came limiter.level limiter.left
+
+-- how many bytes may come, or all that 64 bits can count
+abbrev pub left_or_all : (left : Option ℕ) → ℕ
+left_or_all None = 2 ^ 64 - 1
+left_or_all (Some left) = left
+
+abbrev pub bytes_left : Limiter → ℕ
+bytes_left limiter = left_or_all limiter.left
 
 -- an event comes, and then the others
 abbrev pub Admits : (old : Limiter) → PlainEvent → (new : Limiter) → Type 0

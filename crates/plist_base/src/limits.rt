@@ -4,7 +4,7 @@ ghost use Rattle.std.specs.Prelude.{◌≡◌, IfOk, IfErr, OnOk};
 ghost use Rattle.plist_base.specs.Events.{event_of};
 ghost use Rattle.plist_base.specs.Outcomes.{IfFault};
 ghost use Rattle.plist_base.specs.Faults.{LimitReached, limit_name};
-ghost use Rattle.plist_base.specs.Limits.{Admits, Refuses, level_behind, limited_items, under, IsLevelBehind, IsTooDeep, RefusesBy};
+ghost use Rattle.plist_base.specs.Limits.{Admits, Refuses, bytes_in, level_behind, limited_items, under, IsLeftBehind, IsLevelBehind, IsTooDeep, IsTooLong, RefusesBy, bytes_left};
 
 use crate::{Error, ErrorKind, Event};
 
@@ -15,6 +15,26 @@ pub struct Limits {
     pub depth: u64,
     /// How many events may come.
     pub items: u64,
+    /// How many bytes all texts, keys among them, and all data may have together, or none where any
+    /// number may come. A text's bytes are those of its UTF-8, and one that comes again counts again.
+    pub bytes: Option<u64>,
+}
+
+impl Limits {
+    ghost use Rattle.std.specs.Prelude.{None};
+
+    /// So many collections and events, and any number of bytes.
+    pub fn new(depth: u64, items: u64) -> Limits
+        ensures depth { result.depth ≡ depth }
+        ensures items { result.items ≡ items }
+        ensures bytes { result.bytes ≡ None }
+    {
+        Limits {
+            depth,
+            items,
+            bytes: None,
+        }
+    }
 }
 
 /// Which of the [`Limits`] was reached.
@@ -24,6 +44,8 @@ pub enum Limit {
     Depth,
     /// The items: one event too many would come.
     Items,
+    /// The bytes: a text or data would have one byte too many.
+    Bytes,
 }
 
 impl Limit {
@@ -34,6 +56,7 @@ impl Limit {
         match self {
             Limit::Depth => "Depth",
             Limit::Items => "Items",
+            Limit::Bytes => "Bytes",
         }
     }
 }
@@ -55,6 +78,31 @@ fn level_behind(depth: u64, level: u64, event: &Event<'_>) -> Result<u64, Limit>
     }
 }
 
+// How many bytes an event's text or data has.
+fn bytes_in(event: &Event<'_>) -> u64
+    ensures { result ≡ bytes_in (event_of event.now) }
+{
+    match event {
+        Event::String(text) => text.as_str().len() as u64,
+        Event::Data(bytes) => bytes.as_slice().len() as u64,
+        _ => 0,
+    }
+}
+
+// How many bytes may come behind an event, where so many may come with it.
+fn left_behind(left: Option<u64>, event: &Event<'_>) -> Result<Option<u64>, Limit>
+    ensures value { IfOk result (IsLeftBehind left (event_of event.now)) }
+    ensures refused { IfErr result (IsTooLong left (event_of event.now)) }
+{
+    match left {
+        None => Ok(None),
+        Some(left) => match left.checked_sub(bytes_in(event)) {
+            Some(left) => Ok(Some(left)),
+            None => Err(Limit::Bytes),
+        },
+    }
+}
+
 /// The limits of a reader, with what has come so far.
 #[derive(Clone, Copy)]
 pub struct Limiter {
@@ -63,6 +111,8 @@ pub struct Limiter {
     came: u64,
     // How many collections are open.
     level: u64,
+    // How many bytes of texts and data may still come, where that has a limit.
+    left: Option<u64>,
 }
 
 impl Limiter {
@@ -74,18 +124,30 @@ impl Limiter {
             limits,
             came: 0,
             level: 0,
+            left: limits.bytes,
         }
     }
 
-    // Why an event can't come, if it can't: one that is too many is told first.
+    /// How many bytes of texts and data may still come: all that 64 bits can count where that has
+    /// no limit. A text or data with more is refused.
+    pub fn bytes_left(&self) -> u64
+        ensures { result ≡ bytes_left self.now }
+    {
+        self.left.unwrap_or(u64::MAX)
+    }
+
+    // Why an event can't come, if it can't: bytes that are too many are told first, and then an
+    // event that is.
     fn count(&mut self, event: &Event<'_>) -> Result<(), Limit>
         ensures admitted { OnOk result (Admits self.old (event_of event.now) self.new) }
         ensures refused { IfErr result (RefusesBy self.old (event_of event.now)) }
     {
+        let left = left_behind(self.left, event)?;
         if self.came >= self.limits.items {
             return Err(Limit::Items);
         }
         self.level = level_behind(self.limits.depth, self.level, event)?;
+        self.left = left;
         self.came += 1;
         Ok(())
     }
