@@ -1,6 +1,6 @@
 -- Values under limits.
 use Rattle.std.proofs.lemmas.Bool.Decides.{nat_tests}
-use Rattle.std.proofs.Common.{◌≡◌, ℕ, ◌+◌, ◌-◌, ◌≤◌, ◌<◌, Bool, true, false, cond, List, [], ◌∷◌, ◌++◌, length, map, Option, None, Some, Result, Ok, Err, MatchBool, ◌↔◌, refl, sym, ap, ◌∙◌, subst, arith, append_assoc, append-nil, ◌&&◌, nat_le, IfOk, option_map}
+use Rattle.std.proofs.Common.{◌≡◌, ℕ, ◌+◌, ◌-◌, ◌≤◌, ◌<◌, Bool, true, false, cond, List, [], ◌∷◌, ◌++◌, length, map, Option, None, Some, Result, Ok, Err, MatchBool, ◌↔◌, refl, sym, ap, ◌∙◌, subst, arith, append_assoc, append-nil, ◌&&◌, nat_le, nat_lt, IfOk, option_map}
 use Rattle.std.specs.Prelude.{⊤}
 use Rattle.std.specs.Iterator.{Yields}
 use Rattle.plist_base.specs.declared.error.Error.{Error}
@@ -13,14 +13,15 @@ use Rattle.plist_base.specs.declared.limits.Limiter.{Limiter}
 use Rattle.plist_base.specs.Events as event
 use Rattle.plist_base.specs.Events.{Item, PlainEvent, event_of}
 use Rattle.plist_base.specs.Faults.{Fault, kind_of, error_kind_of}
-use Rattle.plist_base.specs.Limits.{GivesLimited, PassesNext, come_of, event_or_limit, inner_of, level_behind, limit_at, limited_from, limited_items, opens, under}
+use Rattle.plist_base.specs.Limits.{GivesLimited, PassesNext, come_of, event_or_limit, inner_of, level_behind, limit_at, limited_from, limited_items, is_too_long, left_behind, opens, total_bytes, under, bytes_in, HasBytesWithin}
 use Rattle.plist_base.specs.Trees.{Tree, Leaf, Array, Dictionary, Trees, NoTrees, TreeAnd, Members, NoMembers, MemberAnd}
 use Rattle.plist_base.specs.Bracketing.{AreAlike, bracketing, bracketing_of_items, bracketing_of_pairs, unhinted}
 use Rattle.plist.specs.Collecting.{Collects, item_by}
 use Rattle.plist.specs.Inputs.{BeginsWith, BeginsWithIfKnown, Shows}
-use Rattle.plist.specs.Limiting.{IsWithinLimits, NestsWithin, ItemsNestWithin, PairsNestWithin}
+use Rattle.plist.specs.Limiting.{AreWithin, IsWithinLimits, NestsWithin, ItemsNestWithin, PairsNestWithin}
 use Rattle.plist_base.proofs.Refusals.{MatchFault-all, MatchFault-weaker}
 use Rattle.plist.proofs.KeysOnce.{last-nests}
+use Rattle.plist.proofs.Lighter.{lighter-within}
 
 abbrev Given : Type 0
 Given = Option (Result Event Error)
@@ -132,109 +133,149 @@ run-passes inner_gives old rest (x ∷ taken) (event ∷ events) (mid, step, mor
 
 module _ (limits : Limits) where
   -- no event of these reaches a limit
-  abbrev Pass : (came level : ℕ) → List PlainEvent → Type 0
-  Pass came level [] = ⊤
-  Pass came level (e ∷ es) =
-      (limit_at limits came level e ≡ None) × Pass (came + 1) (level_behind e level) es
+  abbrev Pass : (came level : ℕ) (left : Option ℕ) → List PlainEvent → Type 0
+  Pass came level left [] = ⊤
+  Pass came level left (e ∷ es) = (limit_at limits came level left e ≡ None)
+      × Pass (came + 1) (level_behind e level) (left_behind left e) es
 
   pass-choice : (o : Option Limit) (e : PlainEvent) (behind es : List Item)
       → event_or_limit o e behind ≡ Ok e ∷ es → (o ≡ None) × (behind ≡ es)
   pass-choice None e behind es h = (refl, cc h)
   pass-choice (Some limit) e behind es h = absurd (cc h)
 
-  passes : (came level : ℕ) (es : List PlainEvent)
-      → limited_from limits came level (map Ok es) ≡ map Ok es → Pass came level es
-  passes came level [] h = tt
-  passes came level (e ∷ es) h =
+  passes : (came level : ℕ) (left : Option ℕ) (es : List PlainEvent)
+      → limited_from limits came level left (map Ok es) ≡ map Ok es → Pass came level left es
+  passes came level left [] h = tt
+  passes came level left (e ∷ es) h =
       let c = pass-choice _ e
       _ _ h in
-      (c.0, passes (came + 1) _ es c.1)
+      (c.0, passes (came + 1) _ _ es c.1)
 
   -- lengths decide nothing
   next : {P Q R : Type 0} → Q ↔ R → (P × Q) ↔ (P × R)
   next h = (λ p. (p.0, h.0 p.1), λ p. (p.0, h.1 p.1))
 
-  both-pass : (came level : ℕ) (es : List PlainEvent)
-      → Pass came level (map unhinted es) ↔ Pass came level es
-  both-pass came level [] = (λ h. h, λ h. h)
-  both-pass came level (event.StartArray length ∷ es) = next (both-pass (came + 1) _ es)
-  both-pass came level (event.StartDictionary length ∷ es) =
-      next (both-pass _ _ es)
-  both-pass came level (e ∷ es) = next (both-pass _ _ es)
+  both-pass : (came level : ℕ) (left : Option ℕ) (es : List PlainEvent)
+      → Pass came level left (map unhinted es) ↔ Pass came level left es
+  both-pass came level left [] = (λ h. h, λ h. h)
+  both-pass came level None (event.StartArray length ∷ es) =
+      next (both-pass (came + 1) _ _ es)
+  both-pass came level (Some left) (event.StartArray length ∷ es) =
+      next (both-pass (came + 1) _ _ es)
+  both-pass came level None (event.StartDictionary length ∷ es) =
+      next (both-pass (came + 1) _ _ es)
+  both-pass came level (Some left) (event.StartDictionary length ∷ es) =
+      next (both-pass (came + 1) _ _ es)
+  both-pass came level left (e ∷ es) = next (both-pass _ _ _ es)
 
-  alike-passes : (left right : List PlainEvent) → AreAlike left right → Pass 0 0 left
-      → Pass 0 0 right
+  abbrev PassFirst : List PlainEvent → Type 0
+  PassFirst es = Pass 0 0 limits.bytes es
+
+  alike-passes : (left right : List PlainEvent) → AreAlike left right → PassFirst left
+      → PassFirst right
   alike-passes left right alike h =
-      (both-pass 0 0 _).0 (rw (← alike) ((both-pass 0 0 left).1 h))
+      (both-pass 0 0 _ _).0 (rw (← alike) ((both-pass 0 0 _ left).1 h))
 
-  -- an event that passes is within both limits
-  allowed : (a b : Bool) → cond a (Some limit.Items) (cond b (Some limit.Depth) None) ≡ None
-      → (a ≡ false) × (b ≡ false)
-  allowed false false h = (refl, refl)
-  allowed a b h = absurd (cc)
+  -- an event that passes is within all limits
+  allowed : (t a b : Bool) → cond t (Some limit.Bytes) (cond a (Some limit.Items)
+      (cond b (Some limit.Depth) None)) ≡ None → (t ≡ false) × (a ≡ false) × (b ≡ false)
+  allowed false false false h = (refl, refl, refl)
+  allowed t a b h = absurd (cc)
 
   below : (m n : ℕ) → nat_le m n ≡ false → n < m
   below m n h = grind (arith, nat_tests)
 
   -- not more events than may come
-  few : (came level : ℕ) (es : List PlainEvent) → came ≤ limits.items → Pass came level es
-      → came + length es ≤ limits.items
-  few came level [] l h = omega arith
-  few came level (e ∷ es) l h =
-      let less = below _ _
-      (allowed (nat_le limits.items came) (opens e && nat_le limits.depth level) h.0).0 in
+  few : (came level : ℕ) (left : Option ℕ) (es : List PlainEvent) → came ≤ limits.items
+      → Pass came level left es → came + length es ≤ limits.items
+  few came level left [] l h = omega arith
+  few came level left (e ∷ es) l h =
+      let less = below _ _ (allowed (is_too_long left e) (nat_le limits.items came)
+      (opens e && nat_le limits.depth level) h.0).1.0 in
       let more : came + 1 + length es
-      ≤ limits.items = few (came + 1) _ es (omega arith) h.1 in
+      ≤ limits.items = few (came + 1) _ _ es (omega arith) h.1 in
       omega arith
 
+  -- nor more bytes
+  light : (came level left : ℕ) (es : List PlainEvent) → Pass came level (Some left) es
+      → total_bytes es ≤ left
+  light came level left [] h = omega arith
+  light came level left (e ∷ es) h =
+      let fits : bytes_in e ≤ left = not-less _ _ (allowed (is_too_long (Some left) e)
+      (nat_le limits.items came) (opens e && nat_le limits.depth level) h.0).0 in
+      let more = light (came + 1) _ _ es h.1 in
+      omega arith
+    where
+      not-less : (m n : ℕ) → nat_lt m n ≡ false → n ≤ m
+      not-less m n h = grind (arith, nat_tests)
+
+  light-from : (left : Option ℕ) (es : List PlainEvent) → Pass 0 0 left es
+      → HasBytesWithin left es
+  light-from None es h = tt
+  light-from (Some left) es h = light 0 0 left es h
+
   -- a start that passes finds room for its collection
-  room : (came level : ℕ)
-      → limit_at limits came level (event.StartArray None) ≡ None → level < limits.depth
-  room came level h =
-      below _ _ (allowed _ _ h).1
+  room : (came level : ℕ) (left : Option ℕ)
+      → limit_at limits came level left (event.StartArray None) ≡ None → level < limits.depth
+  room came level left h =
+      below _ _ (allowed (is_too_long left (event.StartArray None)) _ _ h).1.1
 
   abbrev PassFrom : (level : ℕ) → List PlainEvent → Type 0
-  PassFrom level es = (came : ℕ) × Pass came level es
+  PassFrom level es = (came : ℕ) × (left : Option ℕ) × Pass came level left es
 
   -- what nests within a collection, nests one level deeper with it
-  around : (P : ℕ → Type 0) (inside rest : List PlainEvent) (came level : ℕ)
-      → limit_at limits came level (event.StartArray None) ≡ None
-      → Pass (came + 1) (level + 1) ((inside ++ event.EndCollection ∷ []) ++ rest)
+  around : (P : ℕ → Type 0) (inside rest : List PlainEvent) (came level : ℕ) (left : Option ℕ)
+      → limit_at limits came level left (event.StartArray None) ≡ None
+      → Pass (came + 1) (level + 1) (left_behind left (event.StartArray None))
+      ((inside ++ event.EndCollection ∷ []) ++ rest)
       → (PassFrom (level + 1) (inside ++ event.EndCollection ∷ rest)
       → P (limits.depth - (level + 1)) × PassFrom (level + 1) (event.EndCollection ∷ rest))
       → ((1 ≤ limits.depth - level) × P (limits.depth - level - 1)) × PassFrom level rest
-  around P inside rest came level h passed nests =
-      let less = room _ _ h in
+  around P inside rest came level left h passed nests =
+      let less = room _ _ _ h in
       let one : limits.depth - (level + 1) ≡ limits.depth - level - 1 = omega arith in
       let same : level + 1 - 1 ≡ level = omega arith in
       let n = nests (
         came + 1,
-        subst (Pass (came + 1) (level + 1))
+        left_behind left (event.StartArray None),
+        subst (Pass (came + 1) (level + 1) (left_behind left (event.StartArray None)))
             (append_assoc inside _ rest) passed,
       )
-      in ((omega arith, rw (← one) n.0), (n.1.0 + 1, rw same at n.1.1.1))
+      in (
+        (omega arith, rw (← one) n.0),
+        (n.1.0 + 1, left_behind n.1.1.0 event.EndCollection, rw same at n.1.1.1.1),
+      )
+
+  same-start : (came level : ℕ) (left : Option ℕ) (length : Option ℕ)
+      → (limit_at limits came level left (event.StartDictionary length)
+      ≡ limit_at limits came level left (event.StartArray None))
+      × (left_behind left (event.StartDictionary length)
+      ≡ left_behind left (event.StartArray None))
+  same-start came level None length = (refl, refl)
+  same-start came level (Some left) length = (refl, refl)
 
   mutual
     tree-nests : (t : Tree) (level : ℕ) (rest : List PlainEvent)
         → PassFrom level (bracketing t ++ rest)
         → NestsWithin t (limits.depth - level) × PassFrom level rest
-    tree-nests (Leaf s) level rest (n, h) = (tt, (n + 1, h.1))
-    tree-nests (Array items) level rest (n, h) =
-        around (ItemsNestWithin items) (bracketing_of_items items) rest n level h.0 h.1
+    tree-nests (Leaf s) level rest (n, left, h) = (tt, (n + 1, left_behind left _, h.1))
+    tree-nests (Array items) level rest (n, left, h) =
+        around (ItemsNestWithin items) (bracketing_of_items items) rest n level left h.0 h.1
         (λ p. items-nest items (level + 1) (event.EndCollection ∷ rest) p)
-    tree-nests (Dictionary pairs) level rest (n, h) =
-        around (PairsNestWithin pairs) (bracketing_of_pairs pairs) rest n level h.0 h.1
+    tree-nests (Dictionary pairs) level rest (n, left, h) =
+        around (PairsNestWithin pairs) (bracketing_of_pairs pairs) rest n level left h.0 h.1
         (λ p. pairs-nest pairs (level + 1) (event.EndCollection ∷ rest) p)
 
     items-nest : (items : Trees) (level : ℕ) (rest : List PlainEvent)
         → PassFrom level (bracketing_of_items items ++ rest)
         → ItemsNestWithin items (limits.depth - level) × PassFrom level rest
     items-nest NoTrees level rest h = (tt, h)
-    items-nest (TreeAnd tree trees) level rest (n, h) =
+    items-nest (TreeAnd tree trees) level rest (n, left, h) =
         let first = tree-nests tree level (bracketing_of_items trees ++ rest) (
           n,
-          subst (Pass n level) (append_assoc (bracketing tree) (bracketing_of_items trees) rest)
-              h,
+          left,
+          subst (Pass n level left)
+              (append_assoc (bracketing tree) (bracketing_of_items trees) rest) h,
         )
         in
         let others = items-nest trees level rest first.1 in ((first.0, others.0), others.1)
@@ -243,10 +284,11 @@ module _ (limits : Limits) where
         → PassFrom level (bracketing_of_pairs pairs ++ rest)
         → PairsNestWithin pairs (limits.depth - level) × PassFrom level rest
     pairs-nest NoMembers level rest h = (tt, h)
-    pairs-nest (MemberAnd key tree members) level rest (n, h) =
+    pairs-nest (MemberAnd key tree members) level rest (n, left, h) =
         let first = tree-nests tree level (bracketing_of_pairs members ++ rest) (
           n + 1,
-          subst (Pass (n + 1) level)
+          left_behind left _,
+          subst (Pass (n + 1) level (left_behind left _))
               (append_assoc (bracketing tree) (bracketing_of_pairs members) rest) h.1,
         ) in
         let others = pairs-nest members level rest first.1 in ((first.0, others.0), others.1)
@@ -263,10 +305,17 @@ built-within inner_gives limits limited (Ok tree) fresh
     let came : limited_items limits (map Ok events)
     ≡ map Ok events = ap (λ f. f (map Ok events)) (sym fresh)
     ∙ run-passes inner_gives limited rest taken events yields same in
-    let pass = alike-passes limits events (bracketing whole) alike (passes limits 0 0 events came)
-    in
+    let pass = alike-passes limits events (bracketing whole) alike
+    (passes limits 0 0 limits.bytes events came) in
     let nests = (tree-nests limits whole 0 []
-    (0, subst (Pass limits 0 0) (sym (append-nil (bracketing whole))) pass)).0 in
+    (0, limits.bytes, subst (Pass limits 0 0 limits.bytes) (sym (append-nil (bracketing whole)))
+    pass)).0 in
     let same : limits.depth - 0 ≡ limits.depth = omega arith in
-    let long = few limits 0 0 (bracketing whole) (omega arith) pass in
-    (rw last (last-nests whole limits.depth (rw same at nests)), (whole, last, omega arith))
+    let long = few limits 0 0 limits.bytes (bracketing whole) (omega arith) pass in
+    let here : AreWithin limits (bracketing whole) =
+    (omega arith, light-from limits limits.bytes (bracketing whole) pass) in
+    (
+      rw last (last-nests whole limits.depth (rw same at nests)),
+      rw last (lighter-within limits whole here),
+      (whole, last, here),
+    )

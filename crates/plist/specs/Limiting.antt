@@ -2,9 +2,9 @@
 use Rattle.std.specs.Prelude.{◌≡◌, ℕ, ◌-◌, ◌≤◌, List, length, Option, Result, ⊤, option_map}
 use Rattle.plist_base.specs.declared.limited.Limited.{Limited}
 use Rattle.plist_base.specs.declared.limits.Limits.{Limits}
-use Rattle.plist_base.specs.Events.{Item, event_of}
+use Rattle.plist_base.specs.Events.{Item, PlainEvent, event_of}
 use Rattle.plist_base.specs.Faults.{Fault}
-use Rattle.plist_base.specs.Limits.{GivesLimited, come_of, inner_of, limited_items}
+use Rattle.plist_base.specs.Limits.{GivesLimited, HasBytesWithin, come_of, inner_of, limited_items}
 use Rattle.plist_base.specs.Trees.{Tree, Leaf, Array, Dictionary, Trees, NoTrees, TreeAnd, Members, NoMembers, MemberAnd}
 use Rattle.plist_base.specs.Bracketing.{bracketing}
 use Rattle.plist_reader.specs.declared.reader.Reader.{Reader}
@@ -28,12 +28,18 @@ abbrev mutual
   PairsNestWithin (MemberAnd key tree members) depth =
       NestsWithin tree depth × PairsNestWithin members depth
 
--- a value's tree nests at most `depth` collections, and came of at most `items` events: those of a
--- tree whose last-value form it is
+-- there are at most so many events, whose texts and data have at most so many bytes
+abbrev pub AreWithin : Limits → List PlainEvent → Type 0
+AreWithin limits events =
+    (length events ≤ limits.items) × HasBytesWithin limits.bytes events
+
+-- a value's tree nests at most `depth` collections, and its events are within these limits, as are
+-- those that it came of: the events of a tree whose last-value form it is
 abbrev pub IsWithinLimits : Limits → Tree → Type 0
 IsWithinLimits limits tree =
     NestsWithin tree limits.depth
-    × ((whole : Tree) × (tree ≡ last_wins whole) × (length (bracketing whole) ≤ limits.items))
+    × AreWithin limits (bracketing tree)
+    × ((whole : Tree) × (tree ≡ last_wins whole) × AreWithin limits (bracketing whole))
 
 -- the items of an input under these limits
 abbrev pub limited_input : Limits → List ℕ → List Item

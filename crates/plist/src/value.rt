@@ -229,12 +229,14 @@ impl Value {
     }
 
     /// The same, of no more than these limits let come. The value nests at most `limits.depth`
-    /// collections, and came of at most `limits.items` events.
+    /// collections, has and came of at most `limits.items` events, and its texts and data have at
+    /// most `limits.bytes` bytes.
     ///
     /// # Errors
     ///
-    /// - `LimitReached` in the place of the first event that is one too many, or else of a start
-    ///   that would open one collection too many, unless an earlier item was refused.
+    /// - `LimitReached` in the place of the first text or data that has a byte too many, or else of
+    ///   an event that is one too many, or else of a start that would open one collection too many,
+    ///   unless an earlier item was refused.
     /// - Those of [`Value::from_reader`].
     pub fn from_reader_with_limits<R: Source>(
         alloc: Global,

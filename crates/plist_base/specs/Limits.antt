@@ -1,6 +1,6 @@
 -- Items under limits: how many events come, how many collections are open at once, and how many
 -- bytes all texts and data have.
-use Rattle.std.specs.Prelude.{◌≡◌, ℕ, ◌+◌, ◌-◌, ◌^◌, Bool, true, false, ◌&&◌, not, nat_le, nat_lt, cond, length, List, [], ◌∷◌, Option, None, Some, Result, Ok, Err, MatchBool, MatchOption, MatchResult}
+use Rattle.std.specs.Prelude.{◌≡◌, ℕ, ◌+◌, ◌-◌, ◌^◌, ◌≤◌, ⊤, Bool, true, false, ◌&&◌, not, nat_le, nat_lt, cond, length, List, [], ◌∷◌, Option, None, Some, Result, Ok, Err, MatchBool, MatchOption, MatchResult}
 use Rattle.plist_base.specs.declared.error.Error.{Error}
 use Rattle.plist_base.specs.declared.event.Event.{Event}
 use Rattle.plist_base.specs.declared.limited.Limited.{Limited}
@@ -41,7 +41,17 @@ bytes_in (Single (String text)) = length text
 bytes_in (Single (Data bytes)) = length bytes
 bytes_in event = 0
 
--- has it more than so many, where there is a limit?
+-- how many bytes the texts and data of these events have
+abbrev pub total_bytes : List PlainEvent → ℕ
+total_bytes [] = 0
+total_bytes (event ∷ events) = bytes_in event + total_bytes events
+
+-- these have at most so many, where there is a limit
+abbrev pub HasBytesWithin : (most : Option ℕ) → List PlainEvent → Type 0
+HasBytesWithin None events = ⊤
+HasBytesWithin (Some most) events = total_bytes events ≤ most
+
+-- has an event more than so many, where there is a limit?
 abbrev pub is_too_long : (left : Option ℕ) → PlainEvent → Bool
 is_too_long None event = false
 is_too_long (Some left) event = nat_lt left (bytes_in event)

@@ -1,4 +1,5 @@
 -- What limits make of one call.
+use Rattle.std.proofs.lemmas.Bool.Decides.{nat_tests}
 use Rattle.std.proofs.Common.{◌≡◌, ℕ, Bool, true, false, cond, List, [], ◌∷◌, length, Option, None, Some, Ok, Err, IfSome, MatchBool, refl, sym, ap, ◌∙◌, arith}
 use Rattle.std.specs.Prelude.{not, ◌&&◌}
 use Rattle.std.specs.Option.{is_some}
@@ -9,7 +10,7 @@ use Rattle.plist_base.specs.declared.limits.Limiter.{Limiter}
 use Rattle.plist_base.specs.Events.{PlainEvent, Item, StartArray, StartDictionary, EndCollection, Single}
 use Rattle.plist_base.specs.Trees.{Data, String}
 use Rattle.plist_base.specs.Faults.{FaultKind, Fault, LimitReached, MatchFault, fault_of, fault_nowhere, kind_of, error_kind_of}
-use Rattle.plist_base.specs.Limits.{AdmitsAny, RefusesAny, event_or_limit, under, under_any}
+use Rattle.plist_base.specs.Limits.{AdmitsAny, RefusesAny, event_or_limit, is_too_long, under, under_any}
 use Rattle.plist_base.specs.Sources.{IsPlaceWithin}
 use Rattle.plist_binread.specs.BinaryReader.{has_room_in}
 use Rattle.plist_binread.specs.Telling.{TellsItem}
@@ -176,10 +177,16 @@ both true true h = (refl, refl)
 both true false h = let no : false ≡ true → (true ≡ true) × (false ≡ true) = λ q. cc in no h
 both false b h = let no : false ≡ true → (false ≡ true) × (b ≡ true) = λ q. cc in no h
 
-end-passes : (b : Bool) (behind : List Item) (fault : Fault) → not b ≡ true
-    → event_or_limit (cond b (Some limit.Items) None) EndCollection behind ≡ Err fault ∷ [] → ⊥
-end-passes true behind fault h e = let no : false ≡ true → ⊥ = λ q. cc in no h
-end-passes false behind fault h e =
+never-long : (left : Option ℕ) → is_too_long left EndCollection ≡ false
+never-long None = refl
+never-long (Some left) = grind (arith, nat_tests)
+
+end-passes : (t b : Bool) (behind : List Item) (fault : Fault) → t ≡ false → not b ≡ true
+    → event_or_limit (cond t (Some limit.Bytes) (cond b (Some limit.Items) None)) EndCollection
+    behind ≡ Err fault ∷ [] → ⊥
+end-passes true b behind fault never h e = let no : true ≡ false → ⊥ = λ q. cc in no never
+end-passes false true behind fault never h e = let no : false ≡ true → ⊥ = λ q. cc in no h
+end-passes false false behind fault never h e =
     let no : ◌≡◌ {A = List Item} (Ok EndCollection ∷ behind) (Err fault ∷ []) → ⊥ = λ q. cc in no e
 
 -- an end is refused only where no event may come
@@ -189,7 +196,7 @@ pub refused-closes : (limiter : Option Limiter) (closing : Bool) (told : PlainEv
 refused-closes None closing told fault r w h = absurd r
 refused-closes (Some limiter) closing told fault r w h =
     let two = both _ _ h in
-    end-passes _ [] fault two.0
+    end-passes _ _ [] fault (never-long limiter.left) two.0
     (ap (λ e. under limiter (Ok e ∷ [])) (sym (w two.1)) ∙ r.2 [])
 
 -- the end comes where the walk's comes

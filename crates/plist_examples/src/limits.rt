@@ -1,6 +1,6 @@
 //! What is read under limits.
 
-use crate::rows::{Row, bytes_given, first_number, unreadable};
+use crate::rows::{Row, bytes_given, limits_given, unreadable};
 use plist_base::Limits;
 use plist_binread::BinaryReader;
 use plist_support::{By, Wrong, expect_on_devices, expect_same, words_over};
@@ -26,16 +26,15 @@ fn expect_count(alloc: Global, limits: Limits, bytes: &[u8], count: &str) -> Res
 
 fn run_check(alloc: Global, row: Row<'_>, limits: Limits, bytes: &[u8]) -> Result<(), Wrong> {
     match row.check {
-        "limited" => expect(alloc, limits, bytes, row.wanted),
+        "limited" | "bounded" => expect(alloc, limits, bytes, row.wanted),
         "counted" => expect_count(alloc, limits, bytes, row.wanted),
         _ => unreadable(alloc, row.check),
     }
 }
 
-/// An example of what is read under limits: the depth, how many items, and the bytes are given.
+/// An example of what is read under limits: these and the bytes are given.
 pub(crate) fn run(alloc: Global, row: Row<'_>) -> Result<(), Wrong> {
-    let (depth, rest) = first_number(alloc, row.given)?;
-    let (items, rest) = first_number(alloc, rest)?;
+    let (limits, rest) = limits_given(alloc, row.check == "bounded", row.given)?;
     let bytes = bytes_given(alloc, rest)?;
-    run_check(alloc, row, Limits { depth, items }, bytes.as_slice())
+    run_check(alloc, row, limits, bytes.as_slice())
 }

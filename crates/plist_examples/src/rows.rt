@@ -4,6 +4,7 @@
 //! `%0a` is the byte of that number, in texts and in what is wanted.
 
 use percent_encoding::percent_decode;
+use plist_base::Limits;
 use plist_support::{Wrong, bytes_of, file, file_of_object, told};
 use std::alloc::Global;
 
@@ -89,4 +90,22 @@ pub(crate) fn bytes_given(alloc: Global, given: &str) -> Result<Vec<u8>, Wrong> 
         "file" => file_given(alloc, rest),
         _ => unreadable(alloc, given),
     }
+}
+
+// The limits that are given, and what is given behind them: the depth, how many items, and, where
+// they are `bounded`, how many bytes of texts and data.
+pub(crate) fn limits_given<'a>(
+    alloc: Global,
+    bounded: bool,
+    given: &'a str,
+) -> Result<(Limits, &'a str), Wrong> {
+    let (depth, rest) = first_number(alloc, given)?;
+    let (items, rest) = first_number(alloc, rest)?;
+    let limits = Limits::new(depth, items);
+    if !bounded {
+        return Ok((limits, rest));
+    }
+    let (bytes, rest) = first_number(alloc, rest)?;
+    let bytes = Some(bytes);
+    Ok((Limits { bytes, ..limits }, rest))
 }

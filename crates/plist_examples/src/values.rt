@@ -1,8 +1,8 @@
 //! Values: what is read as them, which are equal, and what is built of events.
 
-use crate::rows::{Row, bytes_given, first_number, unreadable};
+use crate::rows::{Row, bytes_given, limits_given, unreadable};
 use crate::writes::expect_done;
-use plist::{Builder, Dialect, Limits, Value};
+use plist::{Builder, Dialect, Value};
 use plist_base::{Error, ErrorKind, Event};
 use plist_support::{
     Device, Wrong, add_words, event_of, expect_answers, expect_bytes, expect_io, expect_same,
@@ -84,14 +84,12 @@ fn expect_converted(alloc: Global, bytes: &[u8], wanted: &str) -> Result<(), Wro
     }
 }
 
-// Under limits: the depth, how many items, and the bytes are given.
-fn expect_limited(alloc: Global, given: &str, wanted: &str) -> Result<(), Wrong> {
-    let (depth, rest) = first_number(alloc, given)?;
-    let (items, rest) = first_number(alloc, rest)?;
+// Under limits: these and the bytes are given.
+fn expect_limited(alloc: Global, row: Row<'_>) -> Result<(), Wrong> {
+    let (limits, rest) = limits_given(alloc, row.check == "bounded value", row.given)?;
     let bytes = bytes_given(alloc, rest)?;
-    let limits = Limits { depth, items };
     let answer = Value::from_reader_with_limits(alloc, bytes.as_slice(), limits);
-    expect(alloc, &answer, wanted)
+    expect(alloc, &answer, row.wanted)
 }
 
 // Whether two values are equal.
@@ -183,7 +181,7 @@ pub(crate) fn run(alloc: Global, row: Row<'_>) -> Result<(), Wrong> {
         "kind" => expect_kinds(alloc, row.given, row.wanted),
         "collected" => expect_collected(alloc, row.given, row.wanted),
         "built" => expect_built(alloc, row.given, row.wanted),
-        "value under limits" => expect_limited(alloc, row.given, row.wanted),
+        "value under limits" | "bounded value" => expect_limited(alloc, row),
         _ => {
             let bytes = bytes_given(alloc, row.given)?;
             run_read(alloc, row.check, bytes.as_slice(), row.wanted)
