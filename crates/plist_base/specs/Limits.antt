@@ -51,15 +51,22 @@ abbrev pub HasBytesWithin : (most : Option ℕ) → List PlainEvent → Type 0
 HasBytesWithin None events = ⊤
 HasBytesWithin (Some most) events = total_bytes events ≤ most
 
--- has an event more than so many, where there is a limit?
-abbrev pub is_too_long : (left : Option ℕ) → PlainEvent → Bool
-is_too_long None event = false
-is_too_long (Some left) event = nat_lt left (bytes_in event)
+-- are they more than so many, where there is a limit?
+abbrev pub is_more : (left : Option ℕ) → (bytes : ℕ) → Bool
+is_more None bytes = false
+is_more (Some left) bytes = nat_lt left bytes
 
--- how many may come behind it
+-- how many may come behind them
+abbrev pub left_after : (left : Option ℕ) → (bytes : ℕ) → Option ℕ
+left_after None bytes = None
+left_after (Some left) bytes = Some (left - bytes)
+
+-- the same of an event's text or data
+abbrev pub is_too_long : (left : Option ℕ) → PlainEvent → Bool
+is_too_long left event = is_more left (bytes_in event)
+
 abbrev pub left_behind : (left : Option ℕ) → PlainEvent → Option ℕ
-left_behind None event = None
-left_behind (Some left) event = Some (left - bytes_in event)
+left_behind left event = left_after left (bytes_in event)
 
 -- so many may come behind an event that hasn't too many
 abbrev pub IsLeftBehind : (left : Option ℕ) → PlainEvent → (behind : Option ℕ) → Type 0
@@ -162,6 +169,10 @@ PassesNext old (Some asked) given new ended =
 -- the iterator inside
 abbrev pub inner_of : {I : Type 0} → Limited I → I
 inner_of limited = limited.inner
+
+-- nothing more comes
+abbrev pub HasEndedLimited : {I : Type 0} → Limited I → Type 0
+HasEndedLimited limited = limited.ended ≡ true
 
 -- of the items that the iterator inside has to come, those that come
 abbrev pub come_of : {I : Type 0} → Limited I → List Item → List Item

@@ -16,6 +16,10 @@ use Rattle.plist_format.specs.Unfolding.{table_of, items_of, unfolding_of, until
 use Rattle.plist_binread.specs.declared.head.Bounds.{Bounds}
 use Rattle.plist_binread.specs.Debt.{path_of, owed_by, entries_of, places_with, places_of, IsHeld, IsKnown, IsOwed, WantsMemory}
 use Rattle.plist_binread.specs.Beginning.{RefusesFirst}
+use Rattle.plist_binread.specs.Lengths.{BeginsTooLong, RefusesLong}
+use Rattle.plist_binread.specs.declared.told.Last.{Last}
+use Rattle.plist_binread.specs.declared.told.Refused.{Refused}
+use Rattle.plist_binread.specs.declared.told.Refused.TheVariants as refusal
 use Rattle.plist_binread.specs.Outcome.{PaysAnswer}
 use Rattle.plist_binread.specs.inner.Heads.{head_seen}
 use Rattle.plist_binread.proofs.Steps.{items_beyond, items_step, owed_at}
@@ -150,6 +154,31 @@ known_begun known now head bounds tags fs gs answer told same len count trailer 
     ∙ ap until_fault (sym (append-nil
     (unfolding_of (entries_of bytes bounds) (length head.places.items) [] head.trailer
     head.root)))) pays)
+
+-- the first item of all is refused for its length
+pub first_limits : (answer : Result (Unit {0}) Refused) (left : ℕ) (last : Last)
+    (known now : Option (List ℕ)) (head : code.Head) (bounds : Bounds) (tags : List ℕ)
+    (fs : List Frame) → now ≡ known → length fs ≡ 0 → length tags ≡ length head.places.items
+    → bounds.trailer ≡ head.trailer → bounds.reference_width ≡ head.reference_width
+    → IfSome known (λ bytes. head_of bytes ≡ Ok (head_seen head))
+    → RefusesLong answer left last now (λ bytes. (at : ℕ) → BeginsTooLong left (until_fault
+    (unfolding_of (entries_of bytes bounds) (length tags - length fs) (path_of (reverse fs)) at
+    head.root ++ owed_by (entries_of bytes bounds) (reverse fs))))
+    → RefusesLong answer left last known (λ bytes. BeginsTooLong left (items_of_file bytes))
+first_limits (Ok answer) left last known now head bounds tags fs same len count trailer width value r
+    = tt
+first_limits (Err refusal.Fault) left last known now head bounds tags fs same len count trailer width value
+    r = tt
+first_limits (Err refusal.TooLong) left last known now head bounds tags fs same len count trailer width
+    value r = (
+      r.0,
+      r.1,
+      let whole : length tags - 0 ≡ length head.places.items = omega arith in
+          IfSome-both known value (rw (same, nil_from_length fs len, whole) at r.2)
+          (λ bytes value limited. rw (file_walked bytes head bounds value trailer width
+          ∙ ap until_fault (sym (append-nil (unfolding_of (entries_of bytes bounds)
+          (length head.places.items) [] head.trailer head.root)))) (limited head.trailer)),
+    )
 
 pub known_few : (known : Option (List ℕ)) (tags : List ℕ) → length tags ≡ 0
     → IfSome known (λ bytes. length tags ≤ length (places_of bytes))

@@ -11,6 +11,7 @@ pub mod Known
 pub mod KnownTurns
 pub mod Seen
 pub mod Markers
+pub mod Measured
 pub mod Marks
 pub mod Opened
 pub mod OverKnown
@@ -21,4 +22,5 @@ pub mod Steps
 pub mod Taken
 pub mod Turned
 pub mod Limiting
+pub mod Lengths
 pub mod Entering

@@ -1,19 +1,22 @@
 -- What limits make of one call.
 use Rattle.std.proofs.lemmas.Bool.Decides.{nat_tests}
-use Rattle.std.proofs.Common.{◌≡◌, ℕ, Bool, true, false, cond, List, [], ◌∷◌, length, Option, None, Some, Ok, Err, IfSome, MatchBool, refl, sym, ap, ◌∙◌, arith}
-use Rattle.std.specs.Prelude.{not, ◌&&◌}
+use Rattle.std.proofs.Common.{◌≡◌, ℕ, ◌-◌, ◌^◌, ◌<◌, Bool, true, false, cond, List, [], ◌∷◌, length, Option, None, Some, Ok, Err, IfSome, MatchBool, refl, sym, ap, ◌∙◌, arith}
+use Rattle.std.specs.Prelude.{not, ◌&&◌, nat_lt}
 use Rattle.std.specs.Option.{is_some}
 use Rattle.plist_base.specs.declared.error.Error.{Error}
 use Rattle.plist_base.specs.declared.limits.Limit.{Limit}
 use Rattle.plist_base.specs.declared.limits.Limit.TheVariants as limit
 use Rattle.plist_base.specs.declared.limits.Limiter.{Limiter}
+use Rattle.plist_base.specs.declared.limits.Limits.{Limits}
 use Rattle.plist_base.specs.Events.{PlainEvent, Item, StartArray, StartDictionary, EndCollection, Single}
 use Rattle.plist_base.specs.Trees.{Data, String}
-use Rattle.plist_base.specs.Faults.{FaultKind, Fault, LimitReached, MatchFault, fault_of, fault_nowhere, kind_of, error_kind_of}
-use Rattle.plist_base.specs.Limits.{AdmitsAny, RefusesAny, event_or_limit, is_too_long, under, under_any}
-use Rattle.plist_base.specs.Sources.{IsPlaceWithin}
+use Rattle.plist_base.specs.Faults.{FaultKind, Fault, LimitReached, MatchFault, OutOfMemory, fault_of, fault_nowhere, kind_of, error_kind_of}
+use Rattle.plist_base.specs.Limits.{AdmitsAny, RefusesAny, bytes_in, event_or_limit, is_too_long, left_or_all, limit_at, under, under_any}
+use Rattle.plist_base.specs.Sources.{CountsIo, IsPlaceWithin}
 use Rattle.plist_binread.specs.BinaryReader.{has_room_in}
+use Rattle.plist_binread.specs.Lengths.{BeginsTooLong, left_under}
 use Rattle.plist_binread.specs.Telling.{TellsItem}
+use Rattle.plist_binread.proofs.OverKnown.{IfSome-both}
 use Rattle.plist_binread.specs.Debt.{IsOwed, WantsMemory}
 use Rattle.plist_binread.specs.Failures.{FailsWithin, HasPlace, IsGivenWithin, MatchGiven, MatchReader}
 use Rattle.plist_base.proofs.Refusals.{MatchFault-weaker}
@@ -39,7 +42,7 @@ refused-other None event fault X Y Z r z = absurd r
 refused-other (Some limiter) event fault X Y Z r z =
     rw r.1 z
 
-limit-given : (start end : ℕ) (limited : Bool) (fault : Fault) (limit : Limit) → limited ≡ true
+pub limit-given : (start end : ℕ) (limited : Bool) (fault : Fault) (limit : Limit) → limited ≡ true
     → fault ≡ fault_nowhere (LimitReached limit) → IsGivenWithin start end limited fault
 limit-given start end limited fault limit e is =
     rw is (record { placed = (e, refl) })
@@ -114,6 +117,10 @@ either-under true limiter items h = owed-under limiter items h
 either-under false limiter items h =
     under-of WantsMemory event-wants (λ fault items h. h) (λ limit. tt) limiter items h
 
+limit-refused : (kind : FaultKind) (limit : Limit) (X Y Z : Type 0) → kind ≡ LimitReached limit
+    → Z → MatchFault kind X Y Z
+limit-refused kind limit X Y Z e z = rw e z
+
 module _ (new : Bool) (told : PlainEvent) where
   pub none-told : (known : Option (List ℕ)) (old now : Option Limiter)
       (before after : List ℕ → List Item)
@@ -145,10 +152,6 @@ module _ (new : Bool) (told : PlainEvent) where
   event-told known old now before after x a h =
       IfSome_then known h (λ bytes h. cc (a (after bytes)))
 
-  limit-refused : (kind : FaultKind) (limit : Limit) (X Y Z : Type 0) → kind ≡ LimitReached limit
-      → Z → MatchFault kind X Y Z
-  limit-refused kind limit X Y Z e z = rw e z
-
   limit-item : (old now : Option Limiter) (before after : List Item) (error : Error)
       → RefusesAny old told (fault_of error) → before ≡ Ok told ∷ after
       → TellsItem {A = Unit {0}} new (under_any old before) (Some (Err error)) told
@@ -169,6 +172,56 @@ module _ (new : Bool) (told : PlainEvent) where
       (Some (Err error)) told (under_any now []))
   limit-told known old now before after x error r h =
       IfSome_then _ h (λ bytes h. limit-item old now (before bytes) _ _ r h)
+
+-- ---- a text or data that is refused for its length
+
+-- there are limits where less may come than 64 bits can count
+pub limited-below : (limiter : Option Limiter) → left_under limiter < 2 ^ 64 - 1
+    → is_some limiter ≡ true
+limited-below None small = absurd (omega arith)
+limited-below (Some limiter) small = refl
+
+long-at : (left : Option ℕ) (limits : Limits) (came level : ℕ) (event : PlainEvent)
+    (behind : List Item) → left_or_all left < 2 ^ 64 - 1 → left_or_all left < bytes_in event
+    → event_or_limit (limit_at limits came level left event) event behind
+    ≡ Err (fault_nowhere (LimitReached limit.Bytes)) ∷ []
+long-at None limits came level event behind small long = absurd (omega arith)
+long-at (Some left) limits came level event behind small long =
+    let over : nat_lt left (bytes_in event) ≡ true = grind (arith, nat_tests) in rw over refl
+
+long-under : (limiter : Option Limiter) (items : List Item) → left_under limiter < 2 ^ 64 - 1
+    → BeginsTooLong (left_under limiter) items
+    → under_any limiter items ≡ Err (fault_nowhere (LimitReached limit.Bytes)) ∷ []
+long-under None items small long = absurd (omega arith)
+long-under (Some limiter) [] small long = absurd long
+long-under (Some limiter) (Ok event ∷ items) small long =
+    long-at limiter.left limiter.limits limiter.came limiter.level event _ small long
+long-under (Some limiter) (Err fault ∷ items) small long = absurd long
+
+-- the fault of the limit comes in its place
+pub long-told : (new : Bool) (told mid : PlainEvent) (known : Option (List ℕ))
+    (old now : Option Limiter) (before after : List ℕ → List Item) (error held : Error)
+    → fault_of error ≡ fault_nowhere (LimitReached limit.Bytes)
+    → left_under old < 2 ^ 64 - 1
+    → IfSome known (λ bytes. TellsItem {A = Unit {0}} new (before bytes) (Some (Err held)) mid
+    (after bytes))
+    → IfSome known (λ bytes. BeginsTooLong (left_under old) (before bytes))
+    → IfSome known (λ bytes. TellsItem {A = Unit {0}} new (under_any old (before bytes))
+    (Some (Err error)) told (under_any now (after bytes)))
+long-told new told mid known old now before after error held is small h long =
+    IfSome-both known h long (λ bytes h long. (
+      ap (under_any now) h.0 ∙ none-under now,
+      limit-refused _ limit.Bytes _ _ _ (ap (λ (f : Fault). f.kind) is)
+          (long-under old (before bytes) small long ∙ ap (λ f. Err f ∷ []) (sym is)),
+    ))
+
+-- no device failed, since want of memory was held
+pub limit-counts : (error held : Error) (old now : ℕ)
+    → fault_of error ≡ fault_nowhere (LimitReached limit.Bytes)
+    → fault_of held ≡ fault_nowhere OutOfMemory → CountsIo held old now → CountsIo error old now
+limit-counts error held old now is want h =
+    let kind = ap (λ (f : Fault). f.kind) want in
+    limit-refused _ limit.Bytes _ _ _ (ap (λ (f : Fault). f.kind) is) (rw kind at h)
 
 -- ---- an end that comes
 

@@ -145,6 +145,12 @@ module _ {R C : Type 0} {g : Ghosts R} {h : CounterGhosts C} where
       → BinaryReader R C g h → Type 0
   HasToCome known items reader = IfSome known (λ bytes. to_come bytes reader ≡ items bytes)
 
+-- limits stay, and so does the number of objects once the first item came
+abbrev pub KeepsCounts : {R C : Type 0} {g : Ghosts R} {h : CounterGhosts C}
+    → (old new : BinaryReader R C g h) → Type 0
+KeepsCounts old new =
+    (is_limited new ≡ is_limited old) × (is_new old ≡ false → object_count new ≡ object_count old)
+
 -- what a call leaves behind, whatever came of it
 pub record Leaves {R C : Type 0} {g : Ghosts R} {h : CounterGhosts C} (known : R → Option (List ℕ))
     (counts : Type 0) (count : C → ℕ) (old new : BinaryReader R C g h) : Type 0 where
@@ -171,3 +177,4 @@ pub record Gives {R C : Type 0} {g : Ghosts R} {h : CounterGhosts C} (known : R 
   pub cached : IfSome (known (source_of old))
       (λ bytes. CachesItem (number_to_come bytes old) item new)
   pub leaves : Leaves known counts count old new
+  pub kept : KeepsCounts old new

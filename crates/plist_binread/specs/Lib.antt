@@ -7,6 +7,8 @@ pub mod Failures
 pub mod Frames
 pub mod Outcome
 pub mod Front
+pub mod Lengths
+pub mod Measuring
 pub mod Packed
 pub mod Step
 pub mod Telling

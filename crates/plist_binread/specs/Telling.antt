@@ -7,6 +7,7 @@ use Rattle.plist_base.specs.Sources.{ItemCountsIo}
 use Rattle.plist_binread.specs.Failures.{ItemGivenWithin}
 use Rattle.plist_binread.specs.declared.reader.BinaryReader.{BinaryReader}
 use Rattle.plist_binread.specs.declared.counter.DecodeCounter.{Ghosts as CounterGhosts}
+use Rattle.plist_binread.specs.Lengths.{BeginsTooLong, RefusesLong, left_under}
 use Rattle.plist_binread.specs.Outcome.{IsToldEnd}
 use Rattle.plist_binread.specs.Told.{event_in, event_with, item_in}
 use Rattle.plist_binread.specs.declared.told.Refused.{Refused}
@@ -62,6 +63,14 @@ pub record TellsBy {A R C : Type 0} {g : Ghosts R} {h : CounterGhosts C}
       (λ bytes. CachesTold (number_to_come bytes old) item new)
   pub leaves : Leaves known counts count old new
   pub falls : IfSome item (λ _. steps_to_come new < steps_to_come old)
+
+-- a step that is refused for a length comes to a text or data of more bytes than may come, and ends
+abbrev pub LimitsStep : {A R C : Type 0} {g : Ghosts R} {h : CounterGhosts C}
+    → (R → Option (List ℕ)) → (old : BinaryReader R C g h) → Option (Result A Refused)
+    → (new : BinaryReader R C g h) → Type 0
+LimitsStep known old item new = IfSome item (λ answer.
+    RefusesLong answer (left_under old.limiter) new.last (known (source_of old)) (λ bytes.
+    BeginsTooLong (left_under old.limiter) (walk_to_come bytes old)))
 
 module _ {R C : Type 0} {g : Ghosts R} {h : CounterGhosts C} (known : R → Option (List ℕ))
     (failed : R → ℕ) (counts : Type 0) (count : C → ℕ) (old : BinaryReader R C g h) where

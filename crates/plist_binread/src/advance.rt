@@ -6,6 +6,7 @@ ghost use Rattle.plist_binread.specs.Outcome.{IsToldEnd};
 ghost use Rattle.plist_binread.specs.Told.{ItemAnswersIn, event_in, item_in};
 ghost use Rattle.plist_binread.specs.Walking.{IsWalkOf, cached_in, walk_objects, open_in};
 ghost use Rattle.plist_binread.specs.Failures.{ItemWithin};
+ghost use Rattle.plist_binread.specs.Lengths.{LimitsItem};
 ghost use Rattle.plist_binread.specs.Reading.{AreReferencesOf};
 ghost use Rattle.plist_binread.specs.Step.{KeepsItem, LightensNext, PaysItem};
 
@@ -18,7 +19,8 @@ use crate::walk::{Turn, Walk};
 use plist_base::Source;
 use std::alloc::Global;
 
-/// Tells the next item of the walk.
+/// Tells the next item of the walk. A text or data of more than `left` bytes is refused before memory
+/// is taken for it, unless it is short.
 #[inline(always)]
 pub fn advance<S: Source, C: DecodeCounter>(
     alloc: Global,
@@ -28,6 +30,7 @@ pub fn advance<S: Source, C: DecodeCounter>(
     walk: &mut Walk,
     references: &mut References,
     last: &mut Last,
+    left: u64,
 ) -> Option<Result<(), Refused>>
     requires known { IfSome (S.known source.old) (λ bytes. IsWalkOf bytes bounds.now walk.old) }
     requires counted { C.counts → C.count counter.old ≡ cached_in walk.old }
@@ -36,6 +39,7 @@ pub fn advance<S: Source, C: DecodeCounter>(
     ensures pays { PaysItem (S.known source.old) bounds.now walk.old result last.new walk.new }
     ensures closes { closes (open_in walk.old) ≡ true → IsToldEnd result (event_in last.new) }
     // A refusal.
+    ensures limit { LimitsItem (S.known source.old) bounds.now walk.old result left last.new }
     ensures fault { ItemWithin 0 bounds.now.trailer (item_in result last.new) }
     // The state after it.
     ensures size { walk_objects walk.new ≡ walk_objects walk.old }
@@ -56,8 +60,10 @@ pub fn advance<S: Source, C: DecodeCounter>(
         Turn::Child(object, index) => {
             let at = walk.contents[object as usize];
             match read_child(source, bounds, references, at, index, last) {
-                Ok(number) => Some(enter(alloc, source, counter, bounds, walk, last, at, number)),
-                Err(refused) => Some(Err(refused)),
+                Ok(number) => Some(enter(
+                    alloc, source, counter, bounds, walk, last, at, number, left,
+                )),
+                Err(_) => Some(Err(Refused::Fault)),
             }
         }
     }

@@ -6,6 +6,7 @@ ghost use Rattle.plist_binread.specs.Debt.{walk_steps};
 ghost use Rattle.plist_binread.specs.Failures.{ErrWithin};
 ghost use Rattle.plist_binread.specs.Told.{AnswersIn, answer_in};
 ghost use Rattle.plist_binread.specs.Walking.{IsEmpty, cached_in, walk_objects, weight_in};
+ghost use Rattle.plist_binread.specs.Lengths.{LimitsFirst};
 ghost use Rattle.plist_binread.specs.Beginning.{GivesFirst, IsBounded, IsKnownWalk, KeepsRoot};
 
 use crate::counter::DecodeCounter;
@@ -25,7 +26,8 @@ fn no_tags(alloc: Global, count: usize) -> Result<Vec<u8>, Error>
     Ok(tags)
 }
 
-/// Tells the first item of all.
+/// Tells the first item of all, unless it is a text or data of more than `left` bytes that isn't
+/// short.
 #[cold]
 #[inline(never)]
 pub fn begin<S: Source, C: DecodeCounter>(
@@ -35,12 +37,14 @@ pub fn begin<S: Source, C: DecodeCounter>(
     bounds: &mut Bounds,
     walk: &mut Walk,
     last: &mut Last,
+    left: u64,
 ) -> Result<(), Refused>
     requires empty { IsEmpty walk.old }
     requires counted { C.counts → C.count counter.old ≡ cached_in walk.old }
     // The answer.
     ensures pays { IfSome (S.known source.old) (GivesFirst result bounds.new last.new walk.new) }
     // A refusal.
+    ensures limit { LimitsFirst (S.known source.old) result left last.new }
     ensures fault { ErrWithin 0 (2 ^ 64) (answer_in result last.new) }
     // The state after it.
     ensures counted { C.counts → C.count counter.new ≡ cached_in walk.new }
@@ -65,5 +69,7 @@ pub fn begin<S: Source, C: DecodeCounter>(
     };
     walk.tags = none;
     walk.contents = places;
-    enter(alloc, source, counter, bounds, walk, last, trailer, root)
+    enter(
+        alloc, source, counter, bounds, walk, last, trailer, root, left,
+    )
 }

@@ -7,8 +7,10 @@ ghost use Rattle.plist_binread.specs.Packed.{is_marked};
 ghost use Rattle.plist_binread.specs.Walking.{IsWalkOf, cached_in, walk_objects};
 ghost use Rattle.plist_binread.specs.Failures.{ErrWithin};
 ghost use Rattle.plist_binread.specs.Front.{small_told};
+ghost use Rattle.plist_binread.specs.Lengths.{LimitsEntered};
 ghost use Rattle.plist_binread.specs.Step.{IsFoundAt, IsLighterEntered, IsUnchanged, KeepsEntered, KeepsOutcome, Meets, Opens, RefusesEntering, RefusesInside, WantsRoom};
 ghost use Rattle.plist_binread.specs.Told.{AnswersIn, answer_in, event_in};
+ghost use Rattle.plist_binread.specs.declared.told.Refused.TheVariants.{Fault};
 
 use crate::counter::DecodeCounter;
 use crate::frames::Frames;
@@ -25,7 +27,8 @@ use std::alloc::Global;
 #[cold]
 #[inline(never)]
 fn refuse_number(last: &mut Last, at: u64) -> Refused
-    ensures { fault_of last.new.fault ≡ fault_at ObjectReferenceTooLarge at }
+    ensures fault { fault_of last.new.fault ≡ fault_at ObjectReferenceTooLarge at }
+    ensures held { result ≡ Fault }
 {
     last.refuse(ErrorKind::ObjectReferenceTooLarge.with_byte_offset(at))
 }
@@ -34,7 +37,8 @@ fn refuse_number(last: &mut Last, at: u64) -> Refused
 #[cold]
 #[inline(never)]
 fn refuse_open(last: &mut Last, place: u64) -> Refused
-    ensures { fault_of last.new.fault ≡ fault_at RecursiveObject place }
+    ensures fault { fault_of last.new.fault ≡ fault_at RecursiveObject place }
+    ensures held { result ≡ Fault }
 {
     last.refuse(ErrorKind::RecursiveObject.with_byte_offset(place))
 }
@@ -55,6 +59,7 @@ fn look_up(
     // A refusal.
     ensures refused { IfErr result (RefusesEntering tags.now contents.now at number last.new) }
     ensures kinds { IfErr result (RefusesInside last.new) }
+    ensures held { IfErr result (λ refused. refused ≡ Fault) }
     ensures fault { ErrWithin 0 0 (answer_in result last.new) }
     // The state after it.
     ensures below { IfOk result (λ _. number < length tags.now) }
@@ -136,7 +141,8 @@ fn keep_or_open(walk: &mut Walk, number: u64, outcome: Outcome, last: &Last) -> 
     }
 }
 
-/// Tells the first item of an object, referred to from `at`. A collection is then open.
+/// Tells the first item of an object, referred to from `at`. A collection is then open. A text or
+/// data of more than `left` bytes is refused before memory is taken for it, unless it is short.
 #[inline(always)]
 pub fn enter<S: Source, C: DecodeCounter>(
     alloc: Global,
@@ -147,12 +153,14 @@ pub fn enter<S: Source, C: DecodeCounter>(
     last: &mut Last,
     at: u64,
     number: u64,
+    left: u64,
 ) -> Result<(), Refused>
     requires known { IfSome (S.known source.old) (λ bytes. IsWalkOf bytes bounds.now walk.old) }
     requires counted { C.counts → C.count counter.old ≡ cached_in walk.old }
     // The answer.
     ensures pays { Meets S.known source.old bounds.now walk.old at number result last.new walk.new }
     // A refusal.
+    ensures limit { LimitsEntered S.known source.old bounds.now walk.old number result left last.new }
     ensures fault { ErrWithin 0 bounds.now.trailer (answer_in result last.new) }
     // The state after it.
     ensures size { walk_objects walk.new ≡ walk_objects walk.old }
@@ -173,7 +181,7 @@ pub fn enter<S: Source, C: DecodeCounter>(
     match found {
         None => Ok(()),
         Some(place) => {
-            let outcome = decode(alloc, source, counter, bounds, place, last)?;
+            let outcome = decode(alloc, source, counter, bounds, place, left, last)?;
             if keep_or_open(walk, number, outcome, last) {
                 return Ok(());
             }

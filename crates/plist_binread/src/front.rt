@@ -178,7 +178,7 @@ fn front_content_of<'a>(
     marker: u8,
     rest: &'a [u8],
     room: u64,
-    most: usize,
+    most: u64,
     last: &mut Last,
 ) -> Result<&'a [u8], Outcome>
     requires room { length rest.now ≤ room }
@@ -192,7 +192,7 @@ fn front_content_of<'a>(
     let size = kind.unit_size();
     let (count, behind) = front_count(marker, rest, room, size)?;
     let all = count * size;
-    if all > behind.len().min(most) as u64 {
+    if all > (behind.len() as u64).min(most) {
         let start = 1 + (rest.len() - behind.len()) as u64;
         last.content = Content { kind, start, count };
         return Err(Outcome::Long);
@@ -311,25 +311,28 @@ fn front_date(rest: &[u8], room: u64, last: &mut Last) -> Outcome
     }
 }
 
-fn front_data(marker: u8, rest: &[u8], room: u64, last: &mut Last) -> Outcome
+// A text or data of at most so many bytes is decoded whatever number may come.
+const SHORT: u64 = 96;
+
+fn front_data(marker: u8, rest: &[u8], room: u64, left: u64, last: &mut Last) -> Outcome
     requires room { length rest.now ≤ room }
     requires far { ReachesFar room rest.now }
     ensures outcome { TellsWhole room (counted_with KindData marker) rest.now last.new result }
     ensures long { LongCounted KindData marker room rest.now last.new result }
 {
-    match front_content_of(Kind::Data, marker, rest, room, usize::MAX, last) {
+    match front_content_of(Kind::Data, marker, rest, room, left.max(SHORT), last) {
         Ok(bytes) => last.tell_data(bytes),
         Err(outcome) => outcome,
     }
 }
 
-fn front_text(marker: u8, rest: &[u8], room: u64, last: &mut Last) -> Outcome
+fn front_text(marker: u8, rest: &[u8], room: u64, left: u64, last: &mut Last) -> Outcome
     requires room { length rest.now ≤ room }
     requires far { ReachesFar room rest.now }
     ensures outcome { TellsWhole room (counted_with KindText marker) rest.now last.new result }
     ensures long { LongCounted KindText marker room rest.now last.new result }
 {
-    match front_content_of(Kind::Text, marker, rest, room, usize::MAX, last) {
+    match front_content_of(Kind::Text, marker, rest, room, left.max(SHORT), last) {
         Ok(bytes) => last.tell_text(bytes),
         Err(outcome) => outcome,
     }
@@ -344,7 +347,7 @@ fn front_wide_text(marker: u8, rest: &[u8], room: u64, last: &mut Last) -> Outco
     ensures outcome { TellsWhole room (counted_with KindWideText marker) rest.now last.new result }
     ensures long { LongCounted KindWideText marker room rest.now last.new result }
 {
-    match front_content_of(Kind::WideText, marker, rest, room, 2 * UNITS, last) {
+    match front_content_of(Kind::WideText, marker, rest, room, 2 * UNITS as u64, last) {
         Ok(bytes) => {
             let mut all = [0; UNITS];
             let units = &mut all[..bytes.len() / 2];
@@ -387,8 +390,16 @@ fn front_dictionary(marker: u8, rest: &[u8], room: u64, width: usize, last: &mut
     }
 }
 
-// The object behind a marker.
-fn front_behind(marker: u8, rest: &[u8], room: u64, width: usize, last: &mut Last) -> Outcome
+// The object behind a marker. A text or data of more than `left` bytes isn't all told, unless it is
+// short.
+fn front_behind(
+    marker: u8,
+    rest: &[u8],
+    room: u64,
+    width: usize,
+    left: u64,
+    last: &mut Last,
+) -> Outcome
     requires room { length rest.now ≤ room }
     requires far { ReachesFar room rest.now }
     requires width { (0 < width) × (width ≤ 8) }
@@ -408,8 +419,8 @@ fn front_behind(marker: u8, rest: &[u8], room: u64, width: usize, last: &mut Las
         0x22 => front_short_real(rest, room, last),
         0x23 => front_real(rest, room, last),
         0x33 => front_date(rest, room, last),
-        0x40..=0x4f => front_data(marker, rest, room, last),
-        0x50..=0x5f => front_text(marker, rest, room, last),
+        0x40..=0x4f => front_data(marker, rest, room, left, last),
+        0x50..=0x5f => front_text(marker, rest, room, left, last),
         0x60..=0x6f => front_wide_text(marker, rest, room, last),
         0x80..=0x87 => front_uid(rest, room, usize::from(marker - 0x7f), last),
         0xa0..=0xaf => front_array(marker, rest, room, width, last),
@@ -429,11 +440,13 @@ fn is_small_outcome(outcome: Outcome, last: &Last) -> bool
 }
 
 /// Decodes the object that begins these bytes, all up to the trailer or at least 26, and counts it
-/// where it is small. No other function makes a small object of its bytes.
+/// where it is small. No other function makes a small object of its bytes. A text or data of more
+/// than `left` bytes isn't all told, unless it is short.
 pub fn decode_seen<C: DecodeCounter>(
     seen: &[u8],
     room: u64,
     width: usize,
+    left: u64,
     counter: &mut C,
     last: &mut Last,
 ) -> Outcome
@@ -447,7 +460,7 @@ pub fn decode_seen<C: DecodeCounter>(
 {
     match seen.split_first() {
         Some((marker, rest)) => {
-            let outcome = front_behind(*marker, rest, room - 1, width, last);
+            let outcome = front_behind(*marker, rest, room - 1, width, left, last);
             if is_small_outcome(outcome, last) {
                 counter.raise();
             }

@@ -1,9 +1,11 @@
 //! The event that was told last.
 
-ghost use Rattle.std.specs.Prelude.{◌≡◌, ◌<◌, Some, true, false, IfSome};
+ghost use Rattle.std.specs.Prelude.{◌≡◌, ◌<◌, Some, true, false, IfErr, IfSome};
 ghost use Rattle.plist_base.specs.Events.{Single, event_of};
-ghost use Rattle.plist_base.specs.Faults.{ObjectOffsetTooLarge, OutOfMemory, fault_at, fault_nowhere, fault_of};
+ghost use Rattle.plist_base.specs.Faults.{LimitReached, ObjectOffsetTooLarge, OutOfMemory, fault_at, fault_nowhere, fault_of};
+ghost use Rattle.plist_base.specs.declared.limits.Limit.TheVariants.{Bytes};
 ghost use Rattle.plist_base.specs.Trees.{Boolean as BooleanScalar, Integer as IntegerScalar};
+ghost use Rattle.plist_binread.specs.declared.told.Refused.TheVariants.{Fault};
 ghost use Rattle.plist_binread.specs.declared.front.Outcome.TheVariants.{Scalar as ScalarOutcome};
 ghost use Rattle.plist_format.specs.Object.{signed};
 ghost use Rattle.plist_binread.specs.Packed.{MayWantMemory, cached, is_small_event, single};
@@ -12,7 +14,7 @@ ghost use Rattle.plist_binread.specs.Front.{PacksEvent, TellsData, TellsText, Te
 
 use crate::front::{Content, Kind, Outcome};
 use crate::packed::{is_small, pack, pack_bytes, pack_text};
-use plist_base::{Error, ErrorKind, Event, Integer, OwnedEvent, RealBits, Uid};
+use plist_base::{Error, ErrorKind, Event, Integer, Limit, OwnedEvent, RealBits, Uid};
 use std::alloc::Global;
 use std::borrow::{CowSlice, CowStr};
 use std::mem;
@@ -63,11 +65,17 @@ impl Told {
     }
 }
 
-/// A step was refused: the error is the fault of [`Last`].
+/// Why a step was refused.
 ///
 /// It is this small since an error isn't, and what a function may answer is cleared at each call.
 #[derive(Clone, Copy)]
-pub struct Refused;
+pub enum Refused {
+    /// The error is the fault of [`Last`].
+    Fault,
+    /// A text or data has more bytes than may come, so that no memory is taken for it. The fault is
+    /// want of memory.
+    TooLong,
+}
 
 /// The event that was told last, or the error. The rooms for its text and data serve all events in
 /// turn.
@@ -129,10 +137,11 @@ impl Last {
     #[cold]
     pub fn refuse(&mut self, error: Error) -> Refused
         ensures fault { self.new.fault ≡ error }
+        ensures held { result ≡ Fault }
         ensures unchanged { event_in self.new ≡ event_in self.old }
     {
         self.fault = error;
-        Refused
+        Refused::Fault
     }
 
     /// Holds that memory was wanted.
@@ -140,6 +149,7 @@ impl Last {
     #[inline(never)]
     pub fn want_memory(&mut self) -> Refused
         ensures fault { fault_of self.new.fault ≡ fault_nowhere OutOfMemory }
+        ensures held { result ≡ Fault }
         ensures unchanged { event_in self.new ≡ event_in self.old }
     {
         self.refuse(ErrorKind::OutOfMemory.without_position())
@@ -150,14 +160,27 @@ impl Last {
     #[inline(never)]
     pub fn exceed(&mut self, place: u64) -> Refused
         ensures fault { fault_of self.new.fault ≡ fault_at ObjectOffsetTooLarge place }
+        ensures held { result ≡ Fault }
         ensures unchanged { event_in self.new ≡ event_in self.old }
     {
         self.refuse(ErrorKind::ObjectOffsetTooLarge.with_byte_offset(place))
     }
 
+    /// Holds that the next text or data has more bytes than may come.
+    #[cold]
+    #[inline(never)]
+    pub fn reach_limit(&mut self) -> Refused
+        ensures fault { fault_of self.new.fault ≡ fault_nowhere (LimitReached Bytes) }
+        ensures held { result ≡ Fault }
+        ensures unchanged { event_in self.new ≡ event_in self.old }
+    {
+        self.refuse(ErrorKind::LimitReached(Limit::Bytes).without_position())
+    }
+
     /// The same answer, whose error is held here if it is one.
     pub fn note<T>(&mut self, answer: Result<T, Error>) -> Result<T, Refused>
         ensures answer { answer_in result self.new ≡ answer }
+        ensures held { IfErr result (λ refused. refused ≡ Fault) }
         ensures unchanged { event_in self.new ≡ event_in self.old }
     {
         match answer {

@@ -4,6 +4,7 @@ use Rattle.std.proofs.lemmas.Result.{on_ok_weaker}
 use Rattle.plist_binread.specs.declared.walk.Turn.TheVariants.{Child}
 use Rattle.plist_binread.specs.Told.{answer_in}
 use Rattle.plist_binread.specs.Walking.{weight_in}
+use Rattle.plist_binread.proofs.Lengths.{child_limits}
 use Rattle.plist_binread.proofs.Steps.{steps_positive}
 use Rattle.plist_binread.proofs.KnownTurns.{Turned, known_turned, known_after, known_child_failed}
 use Rattle.plist_binread.proofs.Entering.{GoesOn, known_child_goes, known_goes}
@@ -84,3 +85,11 @@ pub returns-in-Ok-clause-kept : goal.returns-in-Ok-clause-kept
 returns-in-Ok-clause-kept g c =
     let t = goal.at.returns-in-Ok-clause-kept g c in
     second _ _ _ (goes g t.After-enter (place g t.After-read_child))
+
+pub returns-in-Ok-clause-limit : goal.returns-in-Ok-clause-limit
+returns-in-Ok-clause-limit g c =
+    let t = goal.at.returns-in-Ok-clause-limit g c in
+    child_limits c.enter.result c.args.left c.enter.new.last _ _ _ _ _ _ _ _ _ c.in-Child.index
+    c.in-Ok.number c.in-Ok.ensures.unchanged (sym (length-reverse c.turn.new.self.frames))
+    c.in-Child.ensures.within.0 c.in-Child.ensures.within.1 (child g t.In-Child)
+    (rw (place g t.After-read_child) at c.in-Ok.ensures.child) c.enter.ensures.limit

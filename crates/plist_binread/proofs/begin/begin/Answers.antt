@@ -4,7 +4,7 @@ use Rattle.std.proofs.lemmas.Result.{err_from_is_err_and}
 use Rattle.plist_binread.specs.declared.head.Bounds.{Bounds}
 use Rattle.plist_binread.specs.Told.{answer_in}
 use Rattle.plist_binread.proofs.Opened.{IsOpen-none, cached_count-none, cached_count-empty}
-use Rattle.plist_binread.proofs.Begun.{known_unread, known_wanted, known_opens, known_begun}
+use Rattle.plist_binread.proofs.Begun.{first_limits, known_unread, known_wanted, known_opens, known_begun}
 use Rattle.plist_binread.proofs.begin.begin.Goals as goal
 
 pub returns-in_err-head-clause-pays : goal.returns-in_err-head-clause-pays
@@ -57,3 +57,20 @@ returns-clause-pays g c =
     (ap length (rw (← c.in_ok-none.ensures.answer) at c.no_tags.ensures.tags) ∙ length-replicate c.len.result 0 ∙ c.len.ensures
     ∙ c.in_ok-head.head.places.ok.0) refl refl (rw (← c.in_ok-head.ensures.answer) at c.read.ensures.value)
     c.enter.ensures.pays
+
+pub returns-clause-limit : goal.returns-clause-limit
+returns-clause-limit g c =
+    let bounds : Bounds = record {
+      trailer = c.in_ok-head.head.trailer;
+      reference_width =
+          c.in_ok-head.head.reference_width;
+      width = c.in_ok-head.head.width;
+      small = omega arith;
+    } in
+    first_limits c.enter.result c.args.left c.enter.new.last
+    (g.S.Source.known c.args.source.now) (g.S.Source.known c.read.new.source)
+    c.in_ok-head.head bounds c.in_ok-none.none.items c.args.walk.now.frames
+    c.read.ensures.unchanged c.requires.empty.1
+    (ap length (rw (← c.in_ok-none.ensures.answer) at c.no_tags.ensures.tags)
+    ∙ length-replicate c.len.result 0 ∙ c.len.ensures ∙ c.in_ok-head.head.places.ok.0) refl refl
+    (rw (← c.in_ok-head.ensures.answer) at c.read.ensures.value) c.enter.ensures.limit

@@ -3,6 +3,7 @@ use Rattle.std.proofs.lemmas.List.{length-reverse}
 use Rattle.std.proofs.lemmas.Result.{err_from_is_err_and}
 use Rattle.plist_binread.proofs.Entering.{OutcomeAt, from_any, known_decoded, known_gains, known_recalled, known_small}
 use Rattle.plist_binread.proofs.Known.{first, second, known_refused, known_full}
+use Rattle.plist_binread.proofs.Lengths.{entered_limits}
 use Rattle.plist_binread.proofs.Steps.{steps_positive}
 use Rattle.plist_binread.specs.Reading.{object_at}
 use Rattle.plist_binread.specs.Told.{event_in}
@@ -36,6 +37,17 @@ returns-in_err-outcome-in-Some-clause-pays g c =
     (rw c.as_slice.ensures.value at c.in_ok-found.ensures.new)
     (rw (c.in-Some.is, c.as_slice.ensures.value, c.as_slice-2.ensures.value) at
     c.in_ok-found.ensures.found) c.in_err-outcome-in-Some.ensures.decoded)
+
+pub returns-in_err-outcome-in-Some-clause-limit : goal.returns-in_err-outcome-in-Some-clause-limit
+returns-in_err-outcome-in-Some-clause-limit g c =
+    let p = err_from_is_err_and c.from_residual-in_err-outcome-in-Some.result
+    c.from_residual-in_err-outcome-in-Some.ensures.1 in
+    rw (p.1, p.2) (entered_limits _ c.args.left c.decode.new.last _ _ _ _ _ _ c.args.number c.in-Some.place
+    (sym (length-reverse c.args.walk.now.frames)) c.args.walk.now.path c.requires.known
+    (rw c.as_slice.ensures.value at c.in_ok-found.ensures.below)
+    (rw c.as_slice.ensures.value at c.in_ok-found.ensures.new)
+    (rw (c.in-Some.is, c.as_slice.ensures.value, c.as_slice-2.ensures.value) at
+    c.in_ok-found.ensures.found) c.in_err-outcome-in-Some.ensures.limit)
 
 -- the object is what was decoded
 there : (g : _) (c : After-keep_or_open g)

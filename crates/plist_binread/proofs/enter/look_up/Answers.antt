@@ -7,12 +7,12 @@ use Rattle.plist_binread.proofs.enter.look_up.Goals as goal
 pub returns-then-number-tags-clause-refused : goal.returns-then-number-tags-clause-refused
 returns-then-number-tags-clause-refused c = λ bytes bounds fs o k.
     unfound_beyond _ _ _ _ fs k o _ _ c.refuse_number.new.last.fault
-    (omega arith) c.refuse_number.ensures
+    (omega arith) c.refuse_number.ensures.fault
 
 pub returns-then-tag-ge128-clause-refused : goal.returns-then-tag-ge128-clause-refused
 returns-then-tag-ge128-clause-refused c = λ bytes bounds fs o k.
     unfound_open _ _ _ _ fs k o _ _ c.refuse_open.new.last.fault
-    (omega arith) (le-leb 128 _ c.if-tag-ge128.true) c.refuse_open.ensures
+    (omega arith) (le-leb 128 _ c.if-tag-ge128.true) c.refuse_open.ensures.fault
 
 pub returns-clause-refused : goal.returns-clause-refused
 returns-clause-refused c = λ bytes bounds fs o k.

@@ -1,15 +1,16 @@
 use Rattle.std.proofs.Common.{◌≡◌, ◌^◌, refl, subst, arith}
+use Rattle.plist_base.specs.declared.limits.Limit.TheVariants as limit
 use Rattle.plist_base.specs.Faults.{fault_of}
 use Rattle.plist_base.specs.Limits.{AdmitsAny, RefusesAny}
 use Rattle.plist_base.specs.Sources.{Rises}
 use Rattle.plist_binread.specs.BinaryReader.{is_limited, is_new, number_to_come, source_of, walk_closes, walk_to_come}
 use Rattle.plist_binread.specs.Told.{event_in}
-use Rattle.plist_binread.proofs.Limiting.{event-told, fault-told, limit-told, none-told, refused-closes, refused-given, refused-other, still-given, walk-closes}
+use Rattle.plist_binread.proofs.Limiting.{event-told, fault-told, limit-counts, limit-given, limit-told, limited-below, long-told, none-told, refused-closes, refused-given, refused-other, still-given, walk-closes}
 use Rattle.plist_binread.proofs.Taken.{holds_none, kept_fault}
 use Rattle.plist_binread.proofs.reader.BinaryReader.step_within.Goals as goal
 
-pub returns-in-Ok : goal.returns-in-Ok
-returns-in-Ok g c =
+pub returns-in-Ok-clause-told : goal.returns-in-Ok-clause-told
+returns-in-Ok-clause-told g c =
     let old = c.args.self.now in
     let mid = c.step.new.self in
     let told = event_in c.admit.new.last in
@@ -24,8 +25,8 @@ returns-in-Ok g c =
     let cached = rw (← same) at w.cached in
     search (w, closes, items, cached, walk-closes old.limiter (walk_closes old))
 
-pub returns-in-Err : goal.returns-in-Err
-returns-in-Err g c =
+pub returns-in-Err-clause-told : goal.returns-in-Err-clause-told
+returns-in-Err-clause-told g c =
     let old = c.args.self.now in
     let mid = c.step.new.self in
     let w = rw c.in-Some-Ok.field-0-is at c.in-Some-Ok.ensures.walks in
@@ -59,11 +60,11 @@ returns-in-Err g c =
       falls = let falls = w.falls in omega (arith, falls);
     }
 
-pub returns-in-Some-Err : goal.returns-in-Some-Err
-returns-in-Some-Err g c =
+pub returns-in-Some-Err-Fault-clause-told : goal.returns-in-Some-Err-Fault-clause-told
+returns-in-Some-Err-Fault-clause-told g c =
     let old = c.args.self.now in
     let new = c.step.new.self in
-    let w = rw c.in-Some-Err.field-0-is at c.in-Some-Err.ensures.walks in
+    let w = rw c.in-Some-Err-Fault.field-0-is at c.in-Some-Err-Fault.ensures.walks in
     let items = fault-told (is_new old) (event_in new.last) (g.R.Source.known (source_of old))
     old.limiter new.limiter (λ bytes. walk_to_come bytes old) (λ bytes. walk_to_come bytes new)
     new.last.fault w.items in
@@ -75,8 +76,41 @@ returns-in-Some-Err g c =
       still-given 0 (2 ^ 64) (is_limited old) (fault_of new.last.fault) w.faults,
     )
 
-pub returns-in-None : goal.returns-in-None
-returns-in-None g c =
+pub returns-in-Some-Err-TooLong-clause-told : goal.returns-in-Some-Err-TooLong-clause-told
+returns-in-Some-Err-TooLong-clause-told g c =
+    let old = c.args.self.now in
+    let mid = c.step.new.self in
+    let error = c.reach_limit.new.self.fault in
+    let w = rw c.in-Some-Err-TooLong.field-0-is at c.in-Some-Err-TooLong.ensures.walks in
+    let long = rw (c.in-Some-Err-TooLong.field-0-is, c.in-Some-Err-TooLong.field-0-0-is) at
+    c.in-Some-Err-TooLong.ensures.limit in
+    record {
+      unchanged = w.unchanged;
+      items = long-told (is_new old) (event_in c.reach_limit.new.self) (event_in mid.last)
+          (g.R.Source.known (source_of old)) old.limiter mid.limiter
+          (λ bytes. walk_to_come bytes old) (λ bytes. walk_to_come bytes mid) error mid.last.fault
+          c.reach_limit.ensures.fault long.1 w.items long.2;
+      failures = limit-counts error mid.last.fault _ _ c.reach_limit.ensures.fault long.0 w.failures;
+      ended = λ e. (let no = w.ended e in absurd (cc));
+      ends = w.ends;
+      begun = w.begun;
+      faults = limit-given 0 (2 ^ 64) (is_limited old) (fault_of error) limit.Bytes
+          (limited-below old.limiter long.1) c.reach_limit.ensures.fault;
+      closes = λ h. absurd (w.closes (walk-closes old.limiter (walk_closes old) h));
+      head = w.head;
+      cached = kept_fault _ (λ bytes. number_to_come bytes old) mid.walk.tags.items error
+          (event_in c.reach_limit.new.self);
+      leaves = record {
+        nested = w.leaves.nested;
+        marked = w.leaves.marked;
+        counted = w.leaves.counted;
+        lists = w.leaves.lists;
+      };
+      falls = w.falls;
+    }
+
+pub returns-in-None-clause-told : goal.returns-in-None-clause-told
+returns-in-None-clause-told g c =
     let old = c.args.self.now in
     let new = c.step.new.self in
     let w = c.in-None.ensures.walks in

@@ -1,0 +1,128 @@
+-- What is refused since a text or data has more bytes than may come.
+use Rattle.std.proofs.Common.{◌≡◌, ℕ, ◌+◌, ◌-◌, ◌*◌, ◌<◌, ◌≤◌, false, List, ◌∷◌, ◌++◌, length, take, drop, reverse, get_or, Option, None, Some, Result, Ok, Err, IfSome, MatchOption, refl, sym, ap, ◌∙◌, arith}
+use Rattle.std.specs.List.{slice_get}
+use Rattle.std.proofs.lemmas.Option.{IfSome_then}
+use Rattle.plist_base.specs.declared.error.Error.{Error}
+use Rattle.plist_base.specs.Events.{PlainEvent, Item}
+use Rattle.plist_base.specs.Limits.{bytes_in}
+use Rattle.plist_format.specs.Object.{Object, object_in}
+use Rattle.plist_format.specs.Unfolding.{items_of_file, unfolding_of, until_fault}
+use Rattle.plist_binread.specs.declared.frames.Frame.{Frame}
+use Rattle.plist_binread.specs.declared.front.Content.{Content}
+use Rattle.plist_binread.specs.declared.front.Outcome.{Outcome}
+use Rattle.plist_binread.specs.declared.head.Bounds.{Bounds}
+use Rattle.plist_binread.specs.declared.told.Last.{Last}
+use Rattle.plist_binread.specs.declared.told.Refused.{Refused}
+use Rattle.plist_binread.specs.declared.told.Refused.TheVariants.{Fault, TooLong}
+use Rattle.plist_binread.specs.declared.walk.Turn.TheVariants.{Child}
+use Rattle.plist_binread.specs.Debt.{IsKnown, IsOpen, children_at, entries_of, owed_by, path_of}
+use Rattle.plist_binread.specs.Decoding.{IsRefusedAs, single_in}
+use Rattle.plist_binread.specs.Front.{content_means, unit_size}
+use Rattle.plist_binread.specs.Lengths.{BeginsTooLong, IsTooLong, LimitsContent, LimitsObject, RefusesLong, object_of_content}
+use Rattle.plist_binread.specs.Measuring.{Measures, MeasuresContent}
+use Rattle.plist_binread.specs.Packed.{is_marked, unmarked}
+use Rattle.plist_binread.specs.Reading.{ReadsChildAt, object_at}
+use Rattle.plist_binread.proofs.Known.{as_many, entry_of, entry_there, place_is}
+use Rattle.plist_binread.proofs.KnownTurns.{Turned, child_is}
+use Rattle.plist_binread.proofs.OverKnown.{IfSome-both}
+use Rattle.plist_binread.proofs.Steps.{pays_scalar}
+
+-- the object of a content that isn't all seen with its front
+pub long_limits : {A : Type 0} (answer : Result A Refused) (left : ℕ) (last : Last)
+    (known now : Option (List ℕ)) (bounds : Bounds) (place : ℕ) (content : Content) → now ≡ known
+    → (place + content.start + content.count * unit_size content.kind ≤ bounds.trailer)
+    × IfSome known (λ bytes. bounds.trailer ≤ length bytes → object_at bounds place bytes
+    ≡ content_means content.kind (take (content.count * unit_size content.kind)
+    (drop (place + content.start) bytes)))
+    → LimitsContent answer left last now place content
+    → LimitsObject answer left last known bounds place
+long_limits (Ok value) left last known now bounds place content same long h = tt
+long_limits (Err Fault) left last known now bounds place content same long h = tt
+long_limits (Err TooLong) left last known now bounds place content same long h = (
+  h.0,
+  h.1,
+  IfSome-both known long.1 (rw same at h.2) (λ bytes is limited fits.
+      rw (is fits) (limited (omega (arith, long.0, fits)))),
+)
+
+-- the event of a text or data that is too long
+too-long-event : (left : ℕ) (object : Object) → IsTooLong left object
+    → (event : PlainEvent) × (single_in object ≡ Some event) × (left < bytes_in event)
+too-long-event left object h = by (single_in object) refl h
+  where
+    by : (found : Option PlainEvent) → single_in object ≡ found
+        → MatchOption found ⊥ (λ event. left < bytes_in event)
+        → (event : PlainEvent) × (single_in object ≡ Some event) × (left < bytes_in event)
+    by None is h = absurd h
+    by (Some event) is h = (event, is, h)
+
+begins : (left : ℕ) (event : PlainEvent) (items others : List Item) → items ≡ Ok event ∷ others
+    → left < bytes_in event → BeginsTooLong left items
+begins left event items others is h = rw is h
+
+-- its number is entered
+pub entered_limits : (refused : Refused) (left : ℕ) (last : Last) (known : Option (List ℕ))
+    (bounds : Bounds) (tags contents : List ℕ) (fs : List Frame) (n number place : ℕ)
+    → n ≡ length fs → IsOpen tags fs
+    → IfSome known (λ bytes. IsKnown bytes bounds tags contents fs) → number < length tags
+    → is_marked (get_or tags number 0) ≡ false
+    → (unmarked (get_or tags number 0) ≡ 0) × (place ≡ get_or contents number 0)
+    → LimitsObject {A = Outcome} (Err refused) left last known bounds place
+    → RefusesLong {A = Unit {0}} (Err refused) left last known (λ bytes. (at : ℕ) →
+    BeginsTooLong left (until_fault (unfolding_of (entries_of bytes bounds) (length tags - n)
+    (path_of fs) at number ++ owed_by (entries_of bytes bounds) fs)))
+entered_limits Fault left last known bounds tags contents fs n number place depth o k h free is r =
+    tt
+entered_limits TooLong left last known bounds tags contents fs n number place depth o k h free is
+    r = (
+      r.0,
+      r.1,
+      IfSome-both known k r.2 (λ bytes k limited at.
+          let found = too-long-event left (entry_of bytes bounds number).object
+          (rw (place_is bytes bounds tags contents fs k number place h is) at (limited k.within)) in
+          begins left found.0 _ _ (pays_scalar (entries_of bytes bounds) tags
+          (as_many bytes bounds tags contents fs k) n fs at number (entry_of bytes bounds number) depth o
+          h (entry_there bytes bounds tags contents fs k number h) (sym (o.marks number h) ∙ free)
+          found.0 found.1) found.2),
+    )
+
+-- a content that is no text
+pub no_text_refused : (known : Option (List ℕ)) (place : ℕ) (content : Content) (error : Error)
+    → MeasuresContent known place content (Ok None)
+    → ((object : Object) → Measures content.kind object None → IsRefusedAs object place error)
+    → IfSome known (λ bytes.
+    place + content.start + content.count * unit_size content.kind ≤ length bytes
+    → IsRefusedAs (object_of_content bytes place content) place error)
+no_text_refused known place content error measured refused =
+    IfSome_then known measured (λ bytes none within. refused _ (none within))
+
+-- a child is entered
+pub child_limits : (answer : Result (Unit {0}) Refused) (left : ℕ) (last : Last)
+    (known now : Option (List ℕ)) (bounds : Bounds) (tags contents : List ℕ)
+    (fs gs : List Frame) (n object index number : ℕ) → now ≡ known → n ≡ length gs
+    → object < length tags → unmarked (get_or tags object 0) ≡ 0
+    → IfSome known (λ bytes. Turned bytes bounds tags contents fs (Child object index) gs)
+    → ReadsChildAt (Ok number) known bounds (get_or contents object 0) index
+    → RefusesLong answer left last now (λ bytes. (at : ℕ) → BeginsTooLong left (until_fault
+    (unfolding_of (entries_of bytes bounds) (length tags - n) (path_of gs) at number
+    ++ owed_by (entries_of bytes bounds) gs)))
+    → RefusesLong answer left last known (λ bytes. BeginsTooLong left (until_fault
+    (owed_by (entries_of bytes bounds) fs)))
+child_limits (Ok value) left last known now bounds tags contents fs gs n object index number same
+    depth h none turned reads r = tt
+child_limits (Err Fault) left last known now bounds tags contents fs gs n object index number same
+    depth h none turned reads r = tt
+child_limits (Err TooLong) left last known now bounds tags contents fs gs n object index number same
+    depth h none turned reads r = (
+      r.0,
+      r.1,
+      IfSome-both known child_found (rw (same, depth) at r.2) (λ bytes found limited.
+          rw (found.0.0.0, as_many bytes bounds tags contents gs found.0.1, ← found.1) (limited _)),
+    )
+  where
+    child_found : IfSome known (λ bytes. Turned bytes bounds tags contents fs (Child object index) gs
+        × (number ≡ get_or (children_at (slice_get (entries_of bytes bounds) object)) index 0))
+    child_found = IfSome-both known turned reads (λ bytes turned reads. (
+      turned,
+      child_is bytes bounds tags contents fs gs object index h none turned (Ok number) reads,
+    ))

@@ -1,0 +1,440 @@
+-- The size of a text, told piece by piece or unit by unit.
+use Rattle.std.proofs.Common.{◌≡◌, ℕ, suc, ◌+◌, ◌-◌, ◌*◌, ◌^◌, ◌<◌, ◌≤◌, ◌⊎◌, inl, inr, Bool, true, false, List, [], ◌∷◌, ◌++◌, length, take, drop, map, get_or, min, not, is_some, Option, None, Some, IfSome, refl, ap, sym, subst, ◌∙◌, arith, zero-add}
+use Rattle.std.specs.Prelude.{if◌then◌else◌}
+use Rattle.std.specs.Char.{len_utf8}
+use Rattle.std.specs.Char.Utf16.{has_unpaired_surrogate, lone_unit_char, surrogate_pair_char, utf16_chars, utf16_lossy_chars}
+use Rattle.std.specs.List.{list_any, range_with_len}
+use Rattle.std.specs.Option.{unwrap_or}
+use Rattle.std.specs.Str.{IsCharBoundary, IsUtf8, IsValidUpTo, encode_utf8_all}
+use Rattle.std.proofs.lemmas.Bool.{lt-ltb, le-ltb, lt-leb, le-leb}
+use Rattle.std.proofs.lemmas.List.{drop-drop, drop-take, length-append, length-drop, length-take, take-take}
+use Rattle.std.proofs.Math.Seq.{take-add, take-length}
+use Rattle.std.proofs.lemmas.Option.{IfSome_then}
+use Rattle.std.proofs.lemmas.Str.{IsCharBoundary-from_take, IsCharBoundary-past_char, IsUtf8-append, IsUtf8-drop, IsUtf8-nil, IsUtf8-take, len_utf8_bounds, length-encode, utf16_chars-nil, utf16_chars_lone, utf16_chars_pair}
+use Rattle.std.proofs.Math.Utf8.{encode}
+use Rattle.plist_base.specs.Sources.{LiesAt}
+use Rattle.plist_base.specs.Trees.{Data, String}
+use Rattle.plist_base.specs.Events.{Single}
+use Rattle.plist_base.specs.Faults.{FaultKind, InvalidUtf16String, IsIo}
+use Rattle.plist_binread.specs.Decoding.{single_in}
+use Rattle.plist_binread.specs.declared.front.Kind.TheVariants.{Data as DataKind, Text, WideText}
+use Rattle.plist_binread.specs.Reading.{data_of_content}
+use Rattle.plist_binread.specs.Measuring.{IsHigh, IsTextFront, IsTextPart, Measures, TakesUnit, counted, longer, waiting, wide_size}
+use Rattle.plist_binread.proofs.Columns.{numbers_of-reads}
+use Rattle.plist_binread.proofs.Contents.{text-not_utf8, text-utf8}
+use Rattle.plist_binread.proofs.OverKnown.{IfSome-all, IfSome-both}
+use Rattle.plist_format.specs.Container.{number_at}
+use Rattle.plist_format.specs.Object.{Faulty, Scalar, text, text_of_units, wide_text}
+
+-- ---- pieces of a text
+
+-- a text that isn't empty begins with a character of at most four bytes
+first_character : (rest : List ℕ) → IsUtf8 rest → 0 < length rest
+    → (more : ℕ) × (0 < more) × (more ≤ 4) × (more ≤ length rest) × IsUtf8 (take more rest)
+first_character rest is some = by is.0 is.1.1
+  where
+    by : (chars : List ℕ) → encode_utf8_all chars ≡ rest
+        → (more : ℕ) × (0 < more) × (more ≤ 4) × (more ≤ length rest) × IsUtf8 (take more rest)
+    by [] e = absurd (omega (arith, ap length e))
+    by (c ∷ chars) e =
+        let behind : IsCharBoundary rest (0 + len_utf8 c) =
+        IsCharBoundary-past_char rest (encode_utf8_all chars) 0 c (omega arith) is (sym e) in
+        let here : IsCharBoundary rest (len_utf8 c) =
+        subst (IsCharBoundary rest) (zero-add (len_utf8 c)) behind in
+        let bounds = len_utf8_bounds c in (
+          len_utf8 c,
+          omega (arith, bounds.0),
+          bounds.1,
+          here.0,
+          IsUtf8-take rest (len_utf8 c) is here,
+        )
+
+-- a piece that is all characters, or up to some place
+pub whole_piece : (piece : List ℕ) → 0 < length piece → IsUtf8 piece
+    → IsTextFront piece (length piece)
+whole_piece piece some is = (
+  subst IsUtf8 (sym (take-length piece)) is,
+  λ nothing more m u. absurd (omega arith),
+)
+
+pub valid_piece : (piece : List ℕ) (size : ℕ) → IsValidUpTo piece size → IsTextFront piece size
+valid_piece piece size valid = (valid.front, λ nothing more m. valid.longest more (omega arith))
+
+-- where no character is whole in a piece of what is left, that is no text
+no_text : (xs : List ℕ) (left size : ℕ) → 0 < length (take left xs) → size ≡ min left 1024
+    → ((more : ℕ) → 0 < more → IsUtf8 (take more (take size xs)) → ⊥)
+    → IsUtf8 (take left xs) → ⊥
+no_text xs left size some is_size none is =
+    let first = first_character (take left xs) is some in
+    let most : length (take left xs) ≤ left = omega (arith, length-take left xs) in
+    let e : take first.0 (take left xs) ≡ take first.0 xs =
+    take-take first.0 left xs (omega (arith, first.3)) in
+    let e' : take first.0 (take size xs) ≡ take first.0 xs =
+    take-take first.0 size xs (omega (arith, first.2, first.3)) in
+    none first.0 first.1 (subst IsUtf8 (e ∙ sym e') first.4)
+
+part_of_piece : (bytes piece : List ℕ) (place left size : ℕ) → 0 < left
+    → length piece ≡ min left 1024 → LiesAt bytes place piece → size ≤ length piece
+    → IsTextFront piece size → IsTextPart (take left (drop place bytes)) size
+part_of_piece bytes piece place left size some is_size lies within front =
+    let e : take size (take left (drop place bytes)) ≡ take size piece =
+    take-take size left (drop place bytes) (omega arith)
+    ∙ sym (take-take size (length piece) (drop place bytes) within) ∙ ap (take size) (sym lies) in
+    let there : 0 < length (take left (drop place bytes)) =
+    omega (
+      arith,
+      ap length lies,
+      length-take (length piece) (drop place bytes),
+      length-take left (drop place bytes),
+    ) in (
+      subst IsUtf8 (sym e) front.0,
+      λ nothing. no_text (drop place bytes) left (length piece) there
+          is_size (λ more m u. front.1 nothing more m (subst (λ l. IsUtf8 (take more l)) (sym lies) u)),
+    )
+
+-- a piece that is read is part of what is left
+pub piece_read : (known : Option (List ℕ)) (piece : List ℕ) (place left size : ℕ) → 0 < left
+    → length piece ≡ min left 1024 → size ≤ length piece → IsTextFront piece size
+    → IfSome known (λ bytes. LiesAt bytes place piece)
+    → IfSome known (λ bytes. IsTextPart (take left (drop place bytes)) size)
+piece_read known piece place left size some is_size within front lies =
+    IfSome_then known lies (λ bytes lies. part_of_piece bytes piece place left size some is_size
+    lies within front)
+
+-- where all of them are there, the device failed, and so it did at a part of them
+pub io_within : (known now : Option (List ℕ)) (kind : FaultKind) (end all : ℕ) → now ≡ known
+    → end ≤ all → IfSome now (λ bytes. end ≤ length bytes → IsIo kind)
+    → IfSome known (λ bytes. all ≤ length bytes → IsIo kind)
+io_within known now kind end all same within refused =
+    let refused' = rw same at refused in
+    IfSome_then known refused' (λ bytes io fits. io (omega arith))
+
+behind : (bytes : List ℕ) (start done : ℕ)
+    → drop (start + done) bytes ≡ drop done (drop start bytes)
+behind bytes start done = sym (drop-drop done start bytes)
+
+-- where so much of a text has passed
+module _ (bytes : List ℕ) (start size done : ℕ) (within : done ≤ size)
+    (passed : IsUtf8 (take done (drop start bytes))) where
+  -- the next piece
+  pass_piece : (more : ℕ) → more ≤ size - done
+      → IsTextPart (take (size - done) (drop (start + done) bytes)) more
+      → IsUtf8 (take (done + more) (drop start bytes))
+  pass_piece more few part =
+      let e : take more (take (size - done) (drop (start + done) bytes))
+      ≡ take more (drop done (drop start bytes)) =
+      take-take more (size - done) (drop (start + done) bytes) few
+      ∙ ap (take more) (behind bytes start done) in
+      subst IsUtf8 (sym (take-add done more (drop start bytes)))
+      (IsUtf8-append (take done (drop start bytes)) (take more (drop done (drop start bytes)))
+      passed (subst IsUtf8 e part.0))
+
+  -- or nothing more
+  pass_nothing : start + size ≤ length bytes
+      → (IsUtf8 (take (size - done) (drop (start + done) bytes)) → ⊥)
+      → Measures Text (text (take size (drop start bytes))) None
+  pass_nothing fits none = text-not_utf8 (take size (drop start bytes)) (λ is.
+      let long : length (take size (drop start bytes)) ≡ size =
+      omega (arith, length-take size (drop start bytes), length-drop start bytes) in
+      let front : IsUtf8 (take done (take size (drop start bytes))) =
+      subst IsUtf8 (sym (take-take done size (drop start bytes) within)) passed in
+      let cut =
+      IsCharBoundary-from_take (take size (drop start bytes)) done is (omega arith) front in
+      let n : size ≡ done + (size - done) = omega arith in
+      let e : drop done (take size (drop start bytes))
+      ≡ take (size - done) (drop (start + done) bytes) =
+      ap (λ k. drop done (take k (drop start bytes))) n
+      ∙ drop-take done (size - done) (drop start bytes)
+      ∙ ap (take (size - done)) (sym (behind bytes start done)) in
+      none (subst IsUtf8 e (IsUtf8-drop (take size (drop start bytes)) done is cut)))
+
+-- so much of a text has passed
+abbrev pub HasPassed : (known : Option (List ℕ)) (start done : ℕ) → Type 0
+HasPassed known start done = IfSome known (λ bytes. IsUtf8 (take done (drop start bytes)))
+
+-- what is known of all of it
+abbrev pub MeasuresText : (known : Option (List ℕ)) (start size : ℕ) → Option ℕ → Type 0
+MeasuresText known start size answer = IfSome known (λ bytes. start + size ≤ length bytes
+    → Measures Text (text (take size (drop start bytes))) answer)
+
+pub text_begun : (known : Option (List ℕ)) (start : ℕ) → HasPassed known start 0
+text_begun known start = IfSome-all known (λ bytes. IsUtf8-nil)
+
+pub text_more : (known now : Option (List ℕ)) (start size done more : ℕ) → now ≡ known
+    → done ≤ size → more ≤ size - done → HasPassed known start done
+    → IfSome now (λ bytes. IsTextPart (take (size - done) (drop (start + done) bytes)) more)
+    → HasPassed known start (done + more)
+text_more known now start size done more same within few passed part =
+    let part' = rw same at part in
+    IfSome-both known passed part' (λ bytes passed part.
+    pass_piece bytes start size done within passed more few part)
+
+pub text_fails : (known now : Option (List ℕ)) (start size done more : ℕ) → now ≡ known
+    → done ≤ size → more ≡ 0 → HasPassed known start done
+    → IfSome now (λ bytes. IsTextPart (take (size - done) (drop (start + done) bytes)) more)
+    → MeasuresText known start size None
+text_fails known now start size done more same within nothing passed part =
+    let part' = rw same at part in
+    IfSome-both known passed part' (λ bytes passed part fits.
+    pass_nothing bytes start size done within passed fits (part.1 nothing))
+
+pub text_done : (known : Option (List ℕ)) (start size done : ℕ) → done ≡ size → size < 2 ^ 64
+    → HasPassed known start done → MeasuresText known start size (Some size)
+text_done known start size done end small passed =
+    let passed' = rw end at passed in
+    IfSome_then known passed' (λ bytes passed fits.
+    let e : size ≡ counted (length (take size (drop start bytes))) =
+    omega (arith, length-take size (drop start bytes), length-drop start bytes) in (
+      Single (String (take size (drop start bytes))),
+      ap single_in (text-utf8 (take size (drop start bytes)) passed),
+      e,
+    ))
+
+-- data has as many bytes as its content has elements
+pub data_told : (known : Option (List ℕ)) (place start count : ℕ)
+    → place + start + count * 1 < 2 ^ 64
+    → IfSome known (λ bytes. place + start + count * 1 ≤ length bytes
+    → Measures DataKind (data_of_content (take (count * 1) (drop (place + start) bytes)))
+    (Some count))
+data_told known place start count small = IfSome-all known (λ bytes fits.
+    let e : count ≡ counted (length (take (count * 1) (drop (place + start) bytes))) =
+    omega (
+      arith,
+      length-take (count * 1) (drop (place + start) bytes),
+      length-drop (place + start) bytes,
+    ) in
+    (Single (Data (take (count * 1) (drop (place + start) bytes))), refl, e))
+
+-- ---- units of a text
+
+-- the same by what the units spell
+abbrev size_of : List (Option ℕ) → Option ℕ
+size_of chars = if list_any (λ c. not (is_some c)) chars then None else Some
+    (counted (length (encode_utf8_all (map (λ c. unwrap_or c 0xFFFD) chars))))
+
+-- sums that stop at the top
+min_more : (top all more size : ℕ) → all ≡ size + more
+    → min all top ≡ min (size + min more top) top
+min_more top all more size e = omega arith
+
+min_twice : (top size more rest : ℕ)
+    → min (size + min (more + rest) top) top ≡ min (min (size + more) top + rest) top
+min_twice top size more rest = omega arith
+
+min_none : (top size : ℕ) → size ≤ top → min (size + min 0 top) top ≡ size
+min_none top size h = omega arith
+
+longer_by : (test : Bool) (all more size : ℕ) → all ≡ size + more
+    → (if test then None else Some (counted all))
+    ≡ longer size (if test then None else Some (counted more))
+longer_by true all more size e = refl
+longer_by false all more size e = ap Some (min_more (2 ^ 64 - 1) all more size e)
+
+encoded : (c : ℕ) (rest : List ℕ) → length (encode c ++ rest) ≡ len_utf8 c + length rest
+encoded c rest = omega (arith, length-append (encode c) rest, length-encode c)
+
+-- one character more
+one_more : (c : ℕ) (chars : List (Option ℕ))
+    → size_of (Some c ∷ chars) ≡ longer (len_utf8 c) (size_of chars)
+one_more c chars =
+    longer_by (list_any (λ o. not (is_some o)) chars) _ _ _
+    (encoded c (encode_utf8_all (map (λ o. unwrap_or o 0xFFFD) chars)))
+
+longer_twice : (size more : ℕ) (rest : Option ℕ)
+    → longer size (longer more rest) ≡ longer (counted (size + more)) rest
+longer_twice size more None = refl
+longer_twice size more (Some rest) = ap Some (min_twice (2 ^ 64 - 1) size more rest)
+
+-- no character more
+longer_none : (units : List ℕ) → longer 0 (wide_size units) ≡ wide_size units
+longer_none units =
+    by (has_unpaired_surrogate units) (length (encode_utf8_all (utf16_lossy_chars units)))
+  where
+    by : (test : Bool) (size : ℕ) → longer 0 (if test then None else Some (counted size))
+        ≡ (if test then None else Some (counted size))
+    by true size = refl
+    by false size = ap Some (sym (min_more (2 ^ 64 - 1) size size 0 (sym (zero-add size))))
+
+-- these are the surrogates of a pair
+abbrev ArePair : ℕ → ℕ → Type 0
+ArePair u v = (0xD800 ≤ u) × (u < 0xDC00) × (0xDC00 ≤ v) × (v < 0xE000)
+
+unit_below : (unit : ℕ) → unit < 0xD800 → lone_unit_char unit ≡ Some unit
+unit_below unit h = rw (lt-leb 0xD800 unit h) refl
+
+unit_above : (unit : ℕ) → 0xE000 ≤ unit → lone_unit_char unit ≡ Some unit
+unit_above unit h =
+    let past : 0xD800 ≤ unit = omega arith in
+    rw (le-leb 0xD800 unit past, le-ltb unit 0xE000 h) refl
+
+no_unit : (unit : ℕ) → 0xD800 ≤ unit → unit < 0xE000 → lone_unit_char unit ≡ None
+no_unit unit low high = rw (le-leb 0xD800 unit low, lt-ltb unit 0xE000 high) refl
+
+-- a unit in no pair, which is a character or a surrogate
+lone : (unit size : ℕ) (units : List ℕ) → (ArePair unit (get_or units 0 0) → ⊥)
+    → lone_unit_char unit ≡ Some unit → len_utf8 unit ≡ size
+    → wide_size (unit ∷ units) ≡ longer size (wide_size units)
+lone unit size units apart is long =
+    ap size_of (utf16_chars_lone unit units apart ∙ ap (λ c. c ∷ utf16_chars units) is)
+    ∙ one_more unit (utf16_chars units) ∙ ap (λ n. longer n (wide_size units)) long
+
+lone_surrogate : (unit : ℕ) (units : List ℕ) → (ArePair unit (get_or units 0 0) → ⊥)
+    → 0xD800 ≤ unit → unit < 0xE000 → wide_size (unit ∷ units) ≡ None
+lone_surrogate unit units apart low high =
+    ap size_of (utf16_chars_lone unit units apart
+    ∙ ap (λ c. c ∷ utf16_chars units) (no_unit unit low high))
+
+four : (c : ℕ) → 0x1_0000 ≤ c → len_utf8 c ≡ 4
+four c h =
+    let past : 0x80 ≤ c = omega arith in
+    let past' : 0x800 ≤ c = omega arith in
+    rw (le-ltb c 0x80 past, le-ltb c 0x800 past', le-ltb c 0x1_0000 h) refl
+
+pub takes_pair : (high unit : ℕ) → IsHigh (Some high) → 0xDC00 ≤ unit → unit < 0xE000
+    → TakesUnit (Some high) unit (Some (4, None))
+takes_pair high unit is low below units =
+    ap size_of (utf16_chars_pair high unit units (is.0, is.1, low, below))
+    ∙ one_more (surrogate_pair_char high unit) (utf16_chars units)
+    ∙ ap (λ n. longer n (wide_size units)) (four (surrogate_pair_char high unit) (omega arith))
+
+pub lacks_second : (high unit : ℕ) → IsHigh (Some high) → (unit < 0xDC00) ⊎ (0xE000 ≤ unit)
+    → TakesUnit (Some high) unit None
+lacks_second high unit is other units =
+    lone_surrogate high (unit ∷ units) (apart other) is.0 (omega (arith, is.1))
+  where
+    apart : (unit < 0xDC00) ⊎ (0xE000 ≤ unit) → ArePair high unit → ⊥
+    apart (inl h) pair = omega (arith, pair.2)
+    apart (inr h) pair = omega (arith, pair.3)
+
+pub lacks_first : (unit : ℕ) → 0xDC00 ≤ unit → unit < 0xE000 → TakesUnit None unit None
+lacks_first unit low high units =
+    lone_surrogate unit units (λ pair. omega (arith, pair.1)) (omega arith) high
+
+pub takes_first : (unit : ℕ) → TakesUnit None unit (Some (0, Some unit))
+takes_first unit units = sym (longer_none (unit ∷ units))
+
+pub takes_one : (unit : ℕ) → unit < 0x80 → TakesUnit None unit (Some (1, None))
+takes_one unit small units = lone unit 1 units (λ pair. omega (arith, pair.0))
+    (unit_below unit (omega arith)) (rw (lt-ltb unit 0x80 small) refl)
+
+pub takes_two : (unit : ℕ) → 0x80 ≤ unit → unit < 0x800 → TakesUnit None unit (Some (2, None))
+takes_two unit low high units = lone unit 2 units (λ pair. omega (arith, pair.0))
+    (unit_below unit (omega arith))
+    (rw (le-ltb unit 0x80 low, lt-ltb unit 0x800 high) refl)
+
+three : (unit : ℕ) → 0x800 ≤ unit → unit < 0x1_0000 → len_utf8 unit ≡ 3
+three unit low high =
+    let past : 0x80 ≤ unit = omega arith in
+    rw (le-ltb unit 0x80 past, le-ltb unit 0x800 low, lt-ltb unit 0x1_0000 high) refl
+
+pub takes_three : (unit : ℕ) → 0x800 ≤ unit → (unit < 0xD800) ⊎ (0xE000 ≤ unit) → unit < 0x1_0000
+    → TakesUnit None unit (Some (3, None))
+takes_three unit low (inl h) high units = lone unit 3 units
+    (λ pair. omega (arith, pair.0)) (unit_below unit h) (three unit low high)
+takes_three unit low (inr h) high units = lone unit 3 units
+    (λ pair. omega (arith, pair.1)) (unit_above unit h) (three unit low high)
+
+none_gone : (count : ℕ) → count ≡ count - 0
+none_gone count = omega arith
+
+none_left : (i count : ℕ) → i ≡ count → count - i ≡ 0
+none_left i count end = omega arith
+
+-- the units from one on
+abbrev pub units_from : (bytes : List ℕ) (start i n : ℕ) → List ℕ
+units_from bytes start i n = map (λ k. number_at bytes (start + k * 2) 2) (range_with_len i n)
+
+-- so much is measured of a text
+abbrev pub IsMeasured : (known : Option (List ℕ)) (start count i size : ℕ) (high : Option ℕ)
+    → Type 0
+IsMeasured known start count i size high = IfSome known (λ bytes.
+    wide_size (units_from bytes start 0 count)
+    ≡ longer size (wide_size (waiting high ++ units_from bytes start i (count - i))))
+
+-- nothing at first
+pub measure_begun : (known : Option (List ℕ)) (start count : ℕ)
+    → IsMeasured known start count 0 0 None
+measure_begun known start count =
+    IfSome-all known (λ bytes. sym (longer_none (units_from bytes start 0 count))
+    ∙ ap (λ n. longer 0 (wide_size (units_from bytes start 0 n))) (none_gone count))
+
+first_left : (bytes : List ℕ) (start count i : ℕ) → i < count → units_from bytes start i (count - i)
+    ≡ number_at bytes (start + i * 2) 2 ∷ units_from bytes start (i + 1) (count - (i + 1))
+first_left bytes start count i h =
+    let n : count - i ≡ suc (count - (i + 1)) = omega arith in
+    ap (units_from bytes start i) n
+
+-- one unit more
+pub measure_more : (known now : Option (List ℕ)) (start count i size more unit : ℕ)
+    (high next : Option ℕ) → now ≡ known → i < count
+    → IsMeasured known start count i size high
+    → IfSome now (λ bytes. unit ≡ number_at bytes (start + i * 2) 2)
+    → TakesUnit high unit (Some (more, next))
+    → IsMeasured known start count (i + 1) (counted (size + more)) next
+measure_more known now start count i size more unit high next same h so_far reads takes =
+    let reads' = rw same at reads in
+    IfSome-both known so_far reads' (λ bytes so_far is. so_far
+    ∙ ap (λ us. longer size (wide_size (waiting high ++ us))) (first_left bytes start count i h)
+    ∙ ap (λ u. longer size (wide_size (waiting high
+    ++ u ∷ units_from bytes start (i + 1) (count - (i + 1))))) (sym is)
+    ∙ ap (longer size) (takes (units_from bytes start (i + 1) (count - (i + 1))))
+    ∙ longer_twice size more (wide_size (waiting next
+    ++ units_from bytes start (i + 1) (count - (i + 1)))))
+
+-- the size of all units is that of their text
+measures_units : (units : List ℕ) → Measures WideText (text_of_units units) (wide_size units)
+measures_units units =
+    by (has_unpaired_surrogate units) (encode_utf8_all (utf16_lossy_chars units))
+  where
+    by : (test : Bool) (bytes : List ℕ) → Measures WideText
+        (if test then Faulty InvalidUtf16String else Scalar (String bytes))
+        (if test then None else Some (counted (length bytes)))
+    by true bytes = refl
+    by false bytes = (Single (String bytes), refl, refl)
+
+whole : (bytes : List ℕ) (start count : ℕ) (answer : Option ℕ)
+    → start + count * 2 ≤ length bytes
+    → wide_size (units_from bytes start 0 count) ≡ answer
+    → Measures WideText (wide_text (take (count * 2) (drop start bytes))) answer
+whole bytes start count answer fits is =
+    subst (λ units. Measures WideText (text_of_units units) answer)
+    (numbers_of-reads bytes start 2 count (omega arith) fits)
+    (subst (Measures WideText (text_of_units (units_from bytes start 0 count))) is
+    (measures_units (units_from bytes start 0 count)))
+
+-- a unit without its partner
+pub measure_fails : (known now : Option (List ℕ)) (start count i size unit : ℕ) (high : Option ℕ)
+    → now ≡ known → i < count → IsMeasured known start count i size high
+    → IfSome now (λ bytes. unit ≡ number_at bytes (start + i * 2) 2)
+    → TakesUnit high unit None
+    → IfSome known (λ bytes. start + count * 2 ≤ length bytes
+    → Measures WideText (wide_text (take (count * 2) (drop start bytes))) None)
+measure_fails known now start count i size unit high same h so_far reads takes =
+    let reads' = rw same at reads in
+    IfSome-both known so_far reads' (λ bytes so_far is fits.
+    whole bytes start count None fits (so_far
+    ∙ ap (λ us. longer size (wide_size (waiting high ++ us))) (first_left bytes start count i h)
+    ∙ ap (λ u. longer size (wide_size (waiting high
+    ++ u ∷ units_from bytes start (i + 1) (count - (i + 1))))) (sym is)
+    ∙ ap (longer size) (takes (units_from bytes start (i + 1) (count - (i + 1))))))
+
+-- all of them
+pub measure_done : (known : Option (List ℕ)) (start count i size : ℕ) → i ≡ count
+    → size < 2 ^ 64 → IsMeasured known start count i size None
+    → IfSome known (λ bytes. start + count * 2 ≤ length bytes
+    → Measures WideText (wide_text (take (count * 2) (drop start bytes))) (Some size))
+measure_done known start count i size end small so_far =
+    IfSome_then known so_far (λ bytes so_far fits. whole bytes start count (Some size) fits (so_far
+    ∙ ap (λ n. longer size (wide_size (units_from bytes start i n))) (none_left i count end)
+    ∙ ap (longer size) (ap size_of utf16_chars-nil)
+    ∙ ap Some (min_none (2 ^ 64 - 1) size (omega arith))))
+
+pub measure_waits : (known : Option (List ℕ)) (start count i size high : ℕ) → i ≡ count
+    → IsHigh (Some high) → IsMeasured known start count i size (Some high)
+    → IfSome known (λ bytes. start + count * 2 ≤ length bytes
+    → Measures WideText (wide_text (take (count * 2) (drop start bytes))) None)
+measure_waits known start count i size high end is so_far =
+    IfSome_then known so_far (λ bytes so_far fits. whole bytes start count None fits (so_far
+    ∙ ap (λ n. longer size (wide_size (high ∷ units_from bytes start i n))) (none_left i count end)
+    ∙ ap (longer size)
+    (lone_surrogate high [] (λ pair. omega (arith, pair.2)) is.0 (omega (arith, is.1)))))

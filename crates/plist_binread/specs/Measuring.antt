@@ -1,0 +1,85 @@
+-- The size of a text or data, told before memory is taken for it.
+use Rattle.std.specs.Prelude.{◌≡◌, ℕ, ◌+◌, ◌-◌, ◌*◌, ◌^◌, ◌<◌, ◌≤◌, List, [], ◌∷◌, ◌++◌, length, take, drop, min, Option, None, Some, Result, IfSome, MatchResult, if◌then◌else◌}
+use Rattle.std.specs.Char.Utf16.{has_unpaired_surrogate, utf16_lossy_chars}
+use Rattle.std.specs.Str.{IsUtf8, encode_utf8_all}
+use Rattle.plist_base.specs.declared.error.Error.{Error}
+use Rattle.plist_base.specs.Events.{PlainEvent}
+use Rattle.plist_base.specs.Faults.{InvalidUtf8String, InvalidUtf16String, IsIo, error_kind_of, kind_of}
+use Rattle.plist_base.specs.Limits.{bytes_in}
+use Rattle.plist_binread.specs.Decoding.{single_in}
+use Rattle.plist_binread.specs.Front.{content_means, unit_size}
+use Rattle.plist_binread.specs.declared.front.Content.{Content}
+use Rattle.plist_binread.specs.declared.front.Kind.{Kind}
+use Rattle.plist_binread.specs.declared.front.Kind.TheVariants as kind
+use Rattle.plist_format.specs.Object.{Object, Faulty}
+
+-- so many bytes, or all that 64 bits can count
+abbrev pub counted : ℕ → ℕ
+counted size = min size (2 ^ 64 - 1)
+
+-- the object is the fault that a content of this kind can have
+abbrev pub IsNoText : Kind → Object → Type 0
+IsNoText kind.Data object = ⊥
+IsNoText kind.Text object = object ≡ Faulty InvalidUtf8String
+IsNoText kind.WideText object = object ≡ Faulty InvalidUtf16String
+
+-- the object is a text or data of this size, or none since it is a fault
+abbrev pub Measures : Kind → Object → (size : Option ℕ) → Type 0
+Measures kind object None = IsNoText kind object
+Measures kind object (Some size) =
+    (event : PlainEvent) × (single_in object ≡ Some event) × (size ≡ counted (bytes_in event))
+
+-- the size of so many bytes from a place on is told where they are there, or the device failed
+abbrev pub MeasuresAt : (known : Option (List ℕ)) → (start : ℕ) → Kind → (size : ℕ)
+    → Result (Option ℕ) Error → Type 0
+MeasuresAt known start kind size answer = IfSome known (λ bytes. start + size ≤ length bytes
+    → MatchResult answer (Measures kind (content_means kind (take size (drop start bytes))))
+    (λ error. IsIo (kind_of (error_kind_of error))))
+
+-- the same of a content
+abbrev pub MeasuresContent : (known : Option (List ℕ)) → (place : ℕ) → Content
+    → Result (Option ℕ) Error → Type 0
+MeasuresContent known place content answer =
+    MeasuresAt known (place + content.start) content.kind
+    (content.count * unit_size content.kind) answer
+
+-- ---- pieces of a text
+
+-- so many bytes at the front are UTF-8, and none only where no character is whole there
+abbrev pub IsTextFront : List ℕ → (size : ℕ) → Type 0
+IsTextFront piece size = IsUtf8 (take size piece)
+    × (size ≡ 0 → (more : ℕ) → 0 < more → IsUtf8 (take more piece) → ⊥)
+
+-- the same of the bytes of a text that are left, whose beginning is UTF-8 or which aren't
+abbrev pub IsTextPart : List ℕ → (size : ℕ) → Type 0
+IsTextPart rest size = IsUtf8 (take size rest) × (size ≡ 0 → IsUtf8 rest → ⊥)
+
+-- ---- units of a text
+
+-- how many bytes the text of these units has in UTF-8, and none where a surrogate has no partner
+abbrev pub wide_size : List ℕ → Option ℕ
+wide_size units = if has_unpaired_surrogate units then None else Some
+    (counted (length (encode_utf8_all (utf16_lossy_chars units))))
+
+-- so many bytes come before them
+abbrev pub longer : (size : ℕ) → Option ℕ → Option ℕ
+longer size None = None
+longer size (Some more) = Some (counted (size + more))
+
+-- the first surrogate of a pair that waits for its second, if there is one
+abbrev pub IsHigh : Option ℕ → Type 0
+IsHigh high = IfSome high (λ unit. (0xD800 ≤ unit) × (unit < 0xDC00))
+
+abbrev pub waiting : Option ℕ → List ℕ
+waiting None = []
+waiting (Some high) = high ∷ []
+
+-- what a unit adds, and what waits behind it, and then these; or nothing is a text
+abbrev pub behind_unit : Option (ℕ × Option ℕ) → (units : List ℕ) → Option ℕ
+behind_unit None units = None
+behind_unit (Some step) units = longer step.0 (wide_size (waiting step.1 ++ units))
+
+-- a unit behind what waits adds so many bytes, and leaves what waits then; or there is no text
+abbrev pub TakesUnit : (high : Option ℕ) → (unit : ℕ) → Option (ℕ × Option ℕ) → Type 0
+TakesUnit high unit answer =
+    (units : List ℕ) → wide_size (waiting high ++ unit ∷ units) ≡ behind_unit answer units
