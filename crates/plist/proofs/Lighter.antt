@@ -15,7 +15,8 @@ around : (start first inside less all fewer end : ℕ) → first ≡ start → l
     → all ≡ inside + end → fewer ≡ less + end → first + fewer ≤ start + all
 around start first inside less all fewer end s l a f = omega arith
 
-within : (rows inside last back : ℕ) → rows ≤ inside → last ≤ rows → back ≡ last → back ≤ inside
+within : (rows inside last back : ℕ) → rows ≤ inside → last ≤ 0 + rows → back ≡ last
+    → back ≤ inside
 within rows inside last back i l b = omega arith
 
 both : (t s first rest all fewer : ℕ) → t ≤ first → s ≤ rest → all ≡ first + rest
@@ -36,7 +37,7 @@ module _ (w : PlainEvent → ℕ) (arrays : (k l : Option ℕ) → w (StartArray
     (pairs : (k l : Option ℕ) → w (StartDictionary k) ≡ w (StartDictionary l)) where
   append-weighs : (es fs : List PlainEvent)
       → weight_of w (es ++ fs) ≡ weight_of w es + weight_of w fs
-  append-weighs [] fs = refl
+  append-weighs [] fs = omega arith
   append-weighs (e ∷ es) fs =
       let rest = append-weighs es fs in omega arith
 

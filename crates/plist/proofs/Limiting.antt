@@ -14,8 +14,9 @@ use Rattle.plist_base.specs.Events as event
 use Rattle.plist_base.specs.Events.{Item, PlainEvent, event_of}
 use Rattle.plist_base.specs.Faults.{Fault, kind_of, error_kind_of}
 use Rattle.plist_base.specs.Limits.{GivesLimited, PassesNext, come_of, event_or_limit, inner_of, level_behind, limit_at, limited_from, limited_items, is_too_long, left_behind, opens, total_bytes, under, bytes_in, HasBytesWithin}
-use Rattle.plist_base.specs.Trees.{Tree, Leaf, Array, Dictionary, Trees, NoTrees, TreeAnd, Members, NoMembers, MemberAnd}
+use Rattle.plist_base.specs.Trees.{Tree, Leaf, Array, Dictionary, Trees, NoTrees, TreeAnd, Members, NoMembers, MemberAnd, String}
 use Rattle.plist_base.specs.Bracketing.{AreAlike, bracketing, bracketing_of_items, bracketing_of_pairs, unhinted}
+use Rattle.plist_reader.specs.Reader.{limited_input}
 use Rattle.plist.specs.Collecting.{Collects, item_by}
 use Rattle.plist.specs.Inputs.{BeginsWith, BeginsWithIfKnown, Shows}
 use Rattle.plist.specs.Limiting.{AreWithin, IsWithinLimits, NestsWithin, ItemsNestWithin, PairsNestWithin}
@@ -158,14 +159,8 @@ module _ (limits : Limits) where
   both-pass : (came level : ℕ) (left : Option ℕ) (es : List PlainEvent)
       → Pass came level left (map unhinted es) ↔ Pass came level left es
   both-pass came level left [] = (λ h. h, λ h. h)
-  both-pass came level None (event.StartArray length ∷ es) =
-      next (both-pass (came + 1) _ _ es)
-  both-pass came level (Some left) (event.StartArray length ∷ es) =
-      next (both-pass (came + 1) _ _ es)
-  both-pass came level None (event.StartDictionary length ∷ es) =
-      next (both-pass (came + 1) _ _ es)
-  both-pass came level (Some left) (event.StartDictionary length ∷ es) =
-      next (both-pass (came + 1) _ _ es)
+  both-pass came level left (event.StartArray length ∷ es) = next (both-pass (came + 1) _ _ es)
+  both-pass came level left (event.StartDictionary length ∷ es) = next (both-pass _ _ _ es)
   both-pass came level left (e ∷ es) = next (both-pass _ _ _ es)
 
   abbrev PassFirst : List PlainEvent → Type 0
@@ -191,7 +186,7 @@ module _ (limits : Limits) where
   few came level left [] l h = omega arith
   few came level left (e ∷ es) l h =
       let less = below _ _ (allowed (is_too_long left e) (nat_le limits.items came)
-      (opens e && nat_le limits.depth level) h.0).1.0 in
+      (opens e && nat_le limits.depth level) h.0).1 in
       let more : came + 1 + length es
       ≤ limits.items = few (came + 1) _ _ es (omega arith) h.1 in
       omega arith
@@ -218,7 +213,7 @@ module _ (limits : Limits) where
   room : (came level : ℕ) (left : Option ℕ)
       → limit_at limits came level left (event.StartArray None) ≡ None → level < limits.depth
   room came level left h =
-      below _ _ (allowed (is_too_long left (event.StartArray None)) _ _ h).1.1
+      below _ _ (allowed (is_too_long left (event.StartArray None)) _ _ h).2
 
   abbrev PassFrom : (level : ℕ) → List PlainEvent → Type 0
   PassFrom level es = (came : ℕ) × (left : Option ℕ) × Pass came level left es
@@ -232,7 +227,7 @@ module _ (limits : Limits) where
       → P (limits.depth - (level + 1)) × PassFrom (level + 1) (event.EndCollection ∷ rest))
       → ((1 ≤ limits.depth - level) × P (limits.depth - level - 1)) × PassFrom level rest
   around P inside rest came level left h passed nests =
-      let less = room _ _ _ h in
+      let less : level < limits.depth = room came level left h in
       let one : limits.depth - (level + 1) ≡ limits.depth - level - 1 = omega arith in
       let same : level + 1 - 1 ≡ level = omega arith in
       let n = nests (
@@ -243,22 +238,14 @@ module _ (limits : Limits) where
       )
       in (
         (omega arith, rw (← one) n.0),
-        (n.1.0 + 1, left_behind n.1.1.0 event.EndCollection, rw same at n.1.1.1.1),
+        (n.1.0 + 1, left_behind n.1.1 event.EndCollection, rw same at n.1.2.1),
       )
-
-  same-start : (came level : ℕ) (left : Option ℕ) (length : Option ℕ)
-      → (limit_at limits came level left (event.StartDictionary length)
-      ≡ limit_at limits came level left (event.StartArray None))
-      × (left_behind left (event.StartDictionary length)
-      ≡ left_behind left (event.StartArray None))
-  same-start came level None length = (refl, refl)
-  same-start came level (Some left) length = (refl, refl)
 
   mutual
     tree-nests : (t : Tree) (level : ℕ) (rest : List PlainEvent)
         → PassFrom level (bracketing t ++ rest)
         → NestsWithin t (limits.depth - level) × PassFrom level rest
-    tree-nests (Leaf s) level rest (n, left, h) = (tt, (n + 1, left_behind left _, h.1))
+    tree-nests (Leaf s) level rest (n, left, h) = (tt, (n + 1, left_behind left (event.Single s), h.1))
     tree-nests (Array items) level rest (n, left, h) =
         around (ItemsNestWithin items) (bracketing_of_items items) rest n level left h.0 h.1
         (λ p. items-nest items (level + 1) (event.EndCollection ∷ rest) p)
@@ -287,11 +274,40 @@ module _ (limits : Limits) where
     pairs-nest (MemberAnd key tree members) level rest (n, left, h) =
         let first = tree-nests tree level (bracketing_of_pairs members ++ rest) (
           n + 1,
-          left_behind left _,
-          subst (Pass (n + 1) level (left_behind left _))
+          left_behind left (event.Single (String key)),
+          subst (Pass (n + 1) level (left_behind left (event.Single (String key))))
               (append_assoc (bracketing tree) (bracketing_of_pairs members) rest) h.1,
         ) in
         let others = pairs-nest members level rest first.1 in ((first.0, others.0), others.1)
+
+-- ---- limits twice
+
+-- what limits let come, they let come again
+limited-twice : (limits : Limits) (came level : ℕ) (left : Option ℕ) (items : List Item)
+    → limited_from limits came level left (limited_from limits came level left items)
+    ≡ limited_from limits came level left items
+limited-twice limits came level left [] = refl
+limited-twice limits came level left (Ok e ∷ items) =
+    by (limit_at limits came level left e) refl
+    (limited-twice limits (came + 1) (level_behind e level) (left_behind left e) items)
+  where
+    by : (reached : Option Limit) → limit_at limits came level left e ≡ reached
+        → limited_from limits (came + 1) (level_behind e level) (left_behind left e)
+        (limited_from limits (came + 1) (level_behind e level) (left_behind left e) items)
+        ≡ limited_from limits (came + 1) (level_behind e level) (left_behind left e) items
+        → limited_from limits came level left (event_or_limit reached e
+        (limited_from limits (came + 1) (level_behind e level) (left_behind left e) items))
+        ≡ event_or_limit reached e
+        (limited_from limits (came + 1) (level_behind e level) (left_behind left e) items)
+    by None is again = rw is (ap (λ items. Ok e ∷ items) again)
+    by (Some limit) is again = refl
+limited-twice limits came level left (Err fault ∷ items) = refl
+
+pub input-twice : (limits : Limits) (known : Option (List ℕ))
+    → option_map (limited_items limits) (option_map (limited_input limits) known)
+    ≡ option_map (limited_input limits) known
+input-twice limits None = refl
+input-twice limits (Some bytes) = ap Some (limited-twice limits 0 0 limits.bytes _)
 
 -- ---- the value
 

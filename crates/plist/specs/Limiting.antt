@@ -8,7 +8,7 @@ use Rattle.plist_base.specs.Limits.{GivesLimited, HasBytesWithin, come_of, inner
 use Rattle.plist_base.specs.Trees.{Tree, Leaf, Array, Dictionary, Trees, NoTrees, TreeAnd, Members, NoMembers, MemberAnd}
 use Rattle.plist_base.specs.Bracketing.{bracketing}
 use Rattle.plist_reader.specs.declared.reader.Reader.{Reader}
-use Rattle.plist_reader.specs.Reader.{Gives, items_of_input, to_come}
+use Rattle.plist_reader.specs.Reader.{Gives, limited_input, to_come}
 use Rattle.plist.specs.Collecting.{Collects}
 use Rattle.plist.specs.LastWins.{last_wins}
 
@@ -41,16 +41,12 @@ IsWithinLimits limits tree =
     × AreWithin limits (bracketing tree)
     × ((whole : Tree) × (tree ≡ last_wins whole) × AreWithin limits (bracketing whole))
 
--- the items of an input under these limits
-abbrev pub limited_input : Limits → List ℕ → List Item
-limited_input limits bytes = limited_items limits (items_of_input bytes)
-
 -- the answer comes of the run, under these limits, of a reader that has all items of this source to
--- give
+-- give that they let come
 abbrev pub IsReadUnder : {R : Type 0} → Limits
     → (known : R → Option (List ℕ)) (failed : R → ℕ) (source : R) → Result Tree Fault → Type 0
 IsReadUnder {R} limits known failed source answer =
     (limited : Limited (Reader R (record { known = known; failures = failed })))
     × (come_of limited ≡ limited_items limits)
-    × (to_come known (inner_of limited) ≡ option_map items_of_input (known source))
+    × (to_come known (inner_of limited) ≡ option_map (limited_input limits) (known source))
     × Collects event_of (GivesLimited (Gives known failed)) limited answer

@@ -10,11 +10,11 @@ ghost use Rattle.plist_pairs.specs.Bulk.{Ends};
 ghost use Rattle.plist.specs.ReadBy.{IsReadAsAscii, ComesOfReader, items_of_text};
 ghost use Rattle.plist.specs.ReadingBack.{ReadsBackIn};
 ghost use Rattle.plist_ascii.specs.Texts.{ends_bare, lax};
-ghost use Rattle.plist_reader.specs.Reader.{items_of_input};
+ghost use Rattle.plist_reader.specs.Reader.{items_of_input, limited_input};
 ghost use Rattle.plist_base.specs.Outcomes.{OnlyMemory};
 ghost use Rattle.plist_base.specs.Trees.{Leaf, String};
 ghost use Rattle.plist.specs.LastWins.{AreLastValues, TreePairs, last_values, last_wins};
-ghost use Rattle.plist.specs.Limiting.{IsReadUnder, IsWithinLimits, limited_input};
+ghost use Rattle.plist.specs.Limiting.{IsReadUnder, IsWithinLimits};
 ghost use Rattle.plist.specs.Events.{remaining_events};
 ghost use Rattle.plist.specs.Variants.{value_with};
 ghost use Rattle.plist.specs.Views.{item_trees, kind_of_tree, pair_trees, tree_of};
@@ -230,7 +230,8 @@ impl Value {
 
     /// The same, of no more than these limits let come. The value nests at most `limits.depth`
     /// collections, has and came of at most `limits.items` events, and its texts and data have at
-    /// most `limits.bytes` bytes.
+    /// most `limits.bytes` bytes. The first of these that has a byte too many takes no memory where
+    /// the source is binary, unless it is short.
     ///
     /// # Errors
     ///
@@ -247,7 +248,8 @@ impl Value {
         ensures within { IfOk (built_tree result) (IsWithinLimits limits) }
         ensures read { IsReadUnder limits R.known R.failures source (built_tree result) }
     {
-        collect(alloc, Limited::new(Reader::new(alloc, source), limits))
+        let reader = Reader::with_limits(alloc, source, limits);
+        collect(alloc, Limited::new(reader, limits))
     }
 
     /// The value of an ASCII property list, by the rules of [`Value::from_reader`]. Bytes past the

@@ -10,12 +10,12 @@ use Rattle.std.proofs.lemmas.Bool.{lt-ltb, le-ltb, lt-leb, le-leb}
 use Rattle.std.proofs.lemmas.List.{drop-drop, drop-take, length-append, length-drop, length-take, take-take}
 use Rattle.std.proofs.Math.Seq.{take-add, take-length}
 use Rattle.std.proofs.lemmas.Option.{IfSome_then}
-use Rattle.std.proofs.lemmas.Str.{IsCharBoundary-from_take, IsCharBoundary-past_char, IsUtf8-append, IsUtf8-drop, IsUtf8-nil, IsUtf8-take, len_utf8_bounds, length-encode, utf16_chars-nil, utf16_chars_lone, utf16_chars_pair}
+use Rattle.std.proofs.lemmas.Str.{IsCharBoundary-from_take, IsCharBoundary-past_char, IsUtf8-append, IsUtf8-drop, IsUtf8-take, len_utf8_bounds, length-encode, utf16_chars-nil, utf16_chars_lone, utf16_chars_pair}
 use Rattle.std.proofs.Math.Utf8.{encode}
 use Rattle.plist_base.specs.Sources.{LiesAt}
 use Rattle.plist_base.specs.Trees.{Data, String}
 use Rattle.plist_base.specs.Events.{Single}
-use Rattle.plist_base.specs.Faults.{FaultKind, InvalidUtf16String, IsIo}
+use Rattle.plist_base.specs.Faults.{InvalidUtf16String}
 use Rattle.plist_binread.specs.Decoding.{single_in}
 use Rattle.plist_binread.specs.declared.front.Kind.TheVariants.{Data as DataKind, Text, WideText}
 use Rattle.plist_binread.specs.Reading.{data_of_content}
@@ -86,10 +86,12 @@ part_of_piece bytes piece place left size some is_size lies within front =
       ap length lies,
       length-take (length piece) (drop place bytes),
       length-take left (drop place bytes),
-    ) in (
+    ) in
+    let back : (more : ℕ) → IsUtf8 (take more (take (length piece) (drop place bytes)))
+    → IsUtf8 (take more piece) = λ more u. subst (λ l. IsUtf8 (take more l)) (sym lies) u in (
       subst IsUtf8 (sym e) front.0,
       λ nothing. no_text (drop place bytes) left (length piece) there
-          is_size (λ more m u. front.1 nothing more m (subst (λ l. IsUtf8 (take more l)) (sym lies) u)),
+          is_size (λ more m u. front.1 nothing more m (back more u)),
     )
 
 -- a piece that is read is part of what is left
@@ -100,14 +102,6 @@ pub piece_read : (known : Option (List ℕ)) (piece : List ℕ) (place left size
 piece_read known piece place left size some is_size within front lies =
     IfSome_then known lies (λ bytes lies. part_of_piece bytes piece place left size some is_size
     lies within front)
-
--- where all of them are there, the device failed, and so it did at a part of them
-pub io_within : (known now : Option (List ℕ)) (kind : FaultKind) (end all : ℕ) → now ≡ known
-    → end ≤ all → IfSome now (λ bytes. end ≤ length bytes → IsIo kind)
-    → IfSome known (λ bytes. all ≤ length bytes → IsIo kind)
-io_within known now kind end all same within refused =
-    let refused' = rw same at refused in
-    IfSome_then known refused' (λ bytes io fits. io (omega arith))
 
 behind : (bytes : List ℕ) (start done : ℕ)
     → drop (start + done) bytes ≡ drop done (drop start bytes)
@@ -156,9 +150,6 @@ HasPassed known start done = IfSome known (λ bytes. IsUtf8 (take done (drop sta
 abbrev pub MeasuresText : (known : Option (List ℕ)) (start size : ℕ) → Option ℕ → Type 0
 MeasuresText known start size answer = IfSome known (λ bytes. start + size ≤ length bytes
     → Measures Text (text (take size (drop start bytes))) answer)
-
-pub text_begun : (known : Option (List ℕ)) (start : ℕ) → HasPassed known start 0
-text_begun known start = IfSome-all known (λ bytes. IsUtf8-nil)
 
 pub text_more : (known now : Option (List ℕ)) (start size done more : ℕ) → now ≡ known
     → done ≤ size → more ≤ size - done → HasPassed known start done

@@ -45,12 +45,12 @@ MeasuresContent known place content answer =
 
 -- ---- pieces of a text
 
--- so many bytes at the front are UTF-8, and none only where no character is whole there
+-- the first so many bytes are UTF-8, and they are none only where no front of the piece is
 abbrev pub IsTextFront : List ℕ → (size : ℕ) → Type 0
 IsTextFront piece size = IsUtf8 (take size piece)
     × (size ≡ 0 → (more : ℕ) → 0 < more → IsUtf8 (take more piece) → ⊥)
 
--- the same of the bytes of a text that are left, whose beginning is UTF-8 or which aren't
+-- the same of what is left of a text, and they are none only where that is no text
 abbrev pub IsTextPart : List ℕ → (size : ℕ) → Type 0
 IsTextPart rest size = IsUtf8 (take size rest) × (size ≡ 0 → IsUtf8 rest → ⊥)
 
@@ -66,15 +66,16 @@ abbrev pub longer : (size : ℕ) → Option ℕ → Option ℕ
 longer size None = None
 longer size (Some more) = Some (counted (size + more))
 
--- the first surrogate of a pair that waits for its second, if there is one
+-- the first surrogate of a pair, where one waits for its second
 abbrev pub IsHigh : Option ℕ → Type 0
 IsHigh high = IfSome high (λ unit. (0xD800 ≤ unit) × (unit < 0xDC00))
 
+-- the units that wait
 abbrev pub waiting : Option ℕ → List ℕ
 waiting None = []
 waiting (Some high) = high ∷ []
 
--- what a unit adds, and what waits behind it, and then these; or nothing is a text
+-- the size of a text whose next unit adds so many bytes and leaves what waits, before these
 abbrev pub behind_unit : Option (ℕ × Option ℕ) → (units : List ℕ) → Option ℕ
 behind_unit None units = None
 behind_unit (Some step) units = longer step.0 (wide_size (waiting step.1 ++ units))

@@ -1,22 +1,24 @@
 -- What the chosen reader gives.
-use Rattle.std.proofs.Common.{◌≡◌, ℕ, ◌-◌, ◌^◌, ◌<◌, Bool, true, false, List, [], ◌∷◌, ◌++◌, length, Option, None, Some, Ok, Err, IfSome, OnErr, MatchBool, MatchOption, refl, ap, sym, ◌∙◌, subst, arith}
-use Rattle.std.specs.Option.{option_map}
+use Rattle.std.proofs.Common.{◌≡◌, ℕ, ◌+◌, ◌-◌, ◌^◌, ◌<◌, Bool, true, false, cond, List, [], ◌∷◌, ◌++◌, length, Option, None, Some, Ok, Err, IfSome, OnErr, MatchBool, MatchOption, refl, ap, sym, ◌∙◌, subst, arith}
+use Rattle.std.specs.Option.{is_some, option_map}
 use Rattle.std.specs.Prelude.{Result}
 use Rattle.std.proofs.lemmas.List.{take-take}
 use Rattle.plist_base.specs.declared.error.Error.{Error}
 use Rattle.plist_base.specs.declared.event.Event.{Event}
 use Rattle.plist_base.specs.declared.source.Source.{Ghosts}
 use Rattle.plist_reader.specs.declared.bytes.SourceBytes.{SourceBytes}
-use Rattle.plist_base.specs.Events.{Item}
+use Rattle.plist_base.specs.Events.{Item, PlainEvent, event_of}
 use Rattle.std.specs.Prelude.{⊤}
-use Rattle.plist_base.specs.Faults.{FaultKind, Io, OutOfMemory, MatchFault, kind_of, error_kind_of, fault_of}
+use Rattle.plist_base.specs.declared.limited.Limited.{Limited}
+use Rattle.plist_base.specs.declared.limits.Limit.{Limit}
+use Rattle.plist_base.specs.declared.limits.Limits.{Limits}
+use Rattle.plist_base.specs.declared.limits.Limiter.{Limiter}
+use Rattle.plist_base.specs.Limits.{GivesLimited, PassesNext, come_of, event_or_limit, inner_of, left_behind, level_behind, limit_at, limited_from, limited_items, under}
+use Rattle.plist_base.specs.Faults.{FaultKind, Fault, Io, UnexpectedEof, OutOfMemory, InvalidMagic, InvalidTrailerObjectOffsetSize, InvalidTrailerObjectReferenceSize, ObjectOffsetTooLarge, ObjectReferenceTooLarge, RecursiveObject, NullObjectUnimplemented, FillObjectUnimplemented, UnknownObjectType, IntegerOutOfRange, OverflowOrNanDate, InvalidUtf8String, InvalidUtf16String, UnclosedString, IncompleteComment, InvalidUtf8AsciiStream, InvalidOctalString, LimitReached, MatchFault, XmlUnsupported, IsIo, fault_at, fault_nowhere, kind_of, error_kind_of, fault_of}
 use Rattle.plist_base.specs.Sequential.{from_place}
 use Rattle.plist_reader.specs.Streams.{bytes_left, source_of, place_of, held}
 use Rattle.plist_base.specs.Sources.{ItemCountsIo, IsPlaceWithin}
 use Rattle.plist_base.proofs.Refusals.{MatchFault-weaker, MatchFault-all}
-use Rattle.plist_binread.specs.declared.reader.BinaryReader.{BinaryReader}
-use Rattle.plist_binread.specs.declared.counter.Uncounted.{Uncounted}
-use Rattle.plist_binread.specs.contracts.counter.UncountedDecodeCounter.TheImpl.{ghosts}
 use Rattle.plist_binread.specs.BinaryReader as binary
 use Rattle.plist_binread.specs.Failures.{HasPlace, MatchGiven, ItemGivenWithin}
 use Rattle.plist_binread.specs.Debt.{IsOwed, WantsMemory}
@@ -24,22 +26,19 @@ use Rattle.plist_format.specs.Unfolding.{items_of_file}
 use Rattle.plist_ascii.specs.declared.reader.AsciiReader.{AsciiReader}
 use Rattle.plist_ascii.specs.Ascii.{items_of_ascii, items_in, BeginsWithText}
 use Rattle.plist_ascii.specs.AsciiReader as ascii
+use Rattle.plist_ascii.specs.Kinds.{IsAsciiFault, IsAsciiItem}
 use Rattle.plist_ascii.specs.Incoming as incoming
 use Rattle.plist_ascii.specs.declared.dialect.Dialect.TheVariants.{Lax}
 use Rattle.plist_ascii.specs.Texts.{lax, ends_bare}
 use Rattle.plist_reader.specs.declared.reader.State.{State}
 use Rattle.plist_reader.specs.declared.reader.State.TheVariants as state
-use Rattle.plist_reader.specs.Reader.{coming, items_by, items_of_input, GivesItem, GivesIfKnown, EndsAfter, StateGives, HoldsSource, HasItsPlace, source_in}
+use Rattle.plist_reader.specs.Reader.{BeginsInside, FileGives, MatchText, OfFile, OfText, TextGives, coming, file_within, input_within, is_limited_in, items_by, items_of_input, text_to_come, GivesItem, GivesIfKnown, EndsAfter, IsReaderFault, IsReaderItem, IsRefusedKind, StateGives, HoldsSource, HasItsPlace, source_in}
 use Rattle.plist_reader.specs.declared.format.Format.TheVariants as format
 use Rattle.plist_reader.specs.Formats.{format_of, input_front}
 use Rattle.plist_reader.proofs.Fronts.{within-placed}
 
 abbrev pub Given : Type 0
 Given = Option (Result Event Error)
-
--- the binary reader, which counts nothing
-abbrev pub PlainReader : (R : Type 0) → Ghosts R → Type 0
-PlainReader R g = BinaryReader R Uncounted g ghosts
 
 -- ---- where memory is wanted something is to come
 
@@ -106,11 +105,81 @@ ascii-goes stops (Some bytes) l p q item h =
       ascii-item _ _ r.0 p q _ r.2,
     )
 
+text-or-all : (kind : FaultKind) (E : Type 0) → E → MatchText kind ⊤ E
+text-or-all UnclosedString E h = tt
+text-or-all IncompleteComment E h = tt
+text-or-all InvalidUtf8AsciiStream E h = tt
+text-or-all InvalidOctalString E h = tt
+text-or-all InvalidUtf16String E h = tt
+text-or-all kind E h = h
+
 over-ends : (E : Type 0) (item : Given) → MatchOption item E (λ answer. OnErr answer E)
     → EndsAfter item E
 over-ends E None h = h
 over-ends E (Some (Ok event)) h = tt
-over-ends E (Some (Err error)) h = MatchFault-all _ h h tt
+over-ends E (Some (Err error)) h = text-or-all _ E h
+
+ascii-ends : (E : Type 0) (item : Given) → ascii.EndsAfter item E → IsAsciiItem item
+    → EndsAfter item E
+ascii-ends E None h k = h
+ascii-ends E (Some (Ok event)) h k = tt
+ascii-ends E (Some (Err error)) h k = by (kind_of (error_kind_of error)) h k
+  where
+    by : (kind : FaultKind) → MatchFault kind E E ⊤ → IsAsciiFault kind → MatchText kind ⊤ E
+    by Io h k = h
+    by OutOfMemory h k = h
+    by UnclosedString h k = tt
+    by IncompleteComment h k = tt
+    by InvalidUtf8AsciiStream h k = tt
+    by InvalidOctalString h k = tt
+    by InvalidUtf16String h k = tt
+    by kind h k = absurd k
+
+-- ---- which faults come
+
+binary-kinds : (limited : Bool) (item : Given) → ItemGivenWithin 0 (2 ^ 64) limited item
+    → IsReaderItem limited item
+binary-kinds limited None h = tt
+binary-kinds limited (Some (Ok event)) h = tt
+binary-kinds limited (Some (Err error)) h =
+    by (kind_of (error_kind_of error)) (fault_of error).offset h.placed
+  where
+    by : (kind : FaultKind) (offset : Option ℕ)
+        → MatchGiven kind (IsPlaceWithin 0 (2 ^ 64) offset) (offset ≡ None) (HasPlace offset)
+        ((limited ≡ true) × (offset ≡ None)) → IsReaderFault limited kind
+    by (LimitReached limit) offset h = h.0
+    by Io offset h = tt
+    by UnexpectedEof offset h = tt
+    by OutOfMemory offset h = tt
+    by InvalidMagic offset h = tt
+    by InvalidTrailerObjectOffsetSize offset h = tt
+    by InvalidTrailerObjectReferenceSize offset h = tt
+    by ObjectOffsetTooLarge offset h = tt
+    by ObjectReferenceTooLarge offset h = tt
+    by RecursiveObject offset h = tt
+    by NullObjectUnimplemented offset h = tt
+    by FillObjectUnimplemented offset h = tt
+    by (UnknownObjectType marker) offset h = tt
+    by IntegerOutOfRange offset h = tt
+    by OverflowOrNanDate offset h = tt
+    by InvalidUtf8String offset h = tt
+    by InvalidUtf16String offset h = tt
+    by kind offset h = absurd h
+
+ascii-kinds : (limited : Bool) (item : Given) → IsAsciiItem item → IsReaderItem limited item
+ascii-kinds limited None h = tt
+ascii-kinds limited (Some (Ok event)) h = tt
+ascii-kinds limited (Some (Err error)) h = by (kind_of (error_kind_of error)) h
+  where
+    by : (kind : FaultKind) → IsAsciiFault kind → IsReaderFault limited kind
+    by Io h = tt
+    by OutOfMemory h = tt
+    by UnclosedString h = tt
+    by IncompleteComment h = tt
+    by InvalidUtf8AsciiStream h = tt
+    by InvalidOctalString h = tt
+    by InvalidUtf16String h = tt
+    by kind h = absurd h
 
 same-count : (a b : ℕ) → Some b ≡ Some a → b ≡ a
 same-count a b e = cc
@@ -146,11 +215,15 @@ told-failures a b (Some (Err error)) h =
     MatchFault-weaker (kind_of (error_kind_of error)) (λ r. r) (same-count a b) (same-count a b) h
 
 -- the items to come before the first one is asked for
-same-items : (k l : Option (List ℕ)) (f : List ℕ → List Item) → l ≡ k
-    → IfSome k (λ bytes. f bytes ≡ items_of_input bytes)
-    → option_map f l ≡ option_map items_of_input k
-same-items None l f e h = rw e refl
-same-items (Some bytes) l f e h = rw e (ap Some h)
+same-items : (k l : Option (List ℕ)) (f g : List ℕ → List Item) → l ≡ k
+    → IfSome k (λ bytes. f bytes ≡ g bytes) → option_map f l ≡ option_map g k
+same-items None l f g e h = rw e refl
+same-items (Some bytes) l f g e h = rw e (ap Some h)
+
+file-input : (limits : Option Limits) (bytes : List ℕ) → format.Binary ≡ format_of bytes
+    → file_within limits bytes ≡ input_within limits bytes
+file-input None bytes is = ap (λ f. items_by f bytes) is
+file-input (Some limits) bytes is = ap (λ f. limited_items limits (items_by f bytes)) is
 
 take-twice : (bytes : List ℕ) → input_front (input_front bytes) ≡ input_front bytes
 take-twice bytes = take-take (2 ^ 64 - 1) (2 ^ 64 - 1) bytes (omega arith)
@@ -163,9 +236,179 @@ ascii-items None l e is = rw e refl
 ascii-items (Some bytes) l e is =
     rw (e, take-twice bytes) (ap (λ f. Some (items_by f bytes)) is)
 
+-- ---- under limits
+
+abbrev come : Bool → Limiter → List Item → List Item
+come ended limiter items = cond ended [] (under limiter items)
+
+limit-other : (kind : FaultKind) (limit : Limit) (X Y Z : Type 0) → kind ≡ LimitReached limit → Z
+    → MatchFault kind X Y Z
+limit-other kind limit X Y Z is z = rw is z
+
+reached-owed : (reached : Option Limit) (event : PlainEvent) (behind : List Item)
+    → IsOwed (event_or_limit reached event behind)
+reached-owed None event behind = one-owed {A = Item} (Ok event) behind
+reached-owed (Some limit) event behind =
+    one-owed {A = Item} (Err (fault_nowhere (LimitReached limit))) []
+
+limits-owed : (limiter : Limiter) (items : List Item) → IsOwed items → IsOwed (under limiter items)
+limits-owed limiter [] h = h
+limits-owed limiter (Ok event ∷ items) h = reached-owed _ _ _
+limits-owed limiter (Err fault ∷ items) h = one-owed {A = Item} (Err fault) []
+
+limited-item : (was now : Bool) (old new : Limiter) (before after : List Item) (asked item : Given)
+    → was ≡ false → GivesItem before asked after → PassesNext old asked item new now
+    → GivesItem (come was old before) item (come now new after)
+limited-item was now old new before after None item w g p =
+    rw (p.0, w, g.0, p.2) (refl, refl)
+limited-item was now old new before after (Some (Ok asked)) None w g p = absurd p
+limited-item was now old new before after (Some (Ok asked)) (Some (Ok passed)) w g p =
+    rw (w, p.2) (ap (under old) g ∙ p.1 after
+    ∙ ap (λ v. Ok (event_of v) ∷ under new after) (sym p.0))
+limited-item was now old new before after (Some (Ok asked)) (Some (Err error)) w g p =
+    rw (w, p.1) (limit-other (fault_of error).kind p.0.0 _ _ _ (ap (λ (f : Fault). f.kind) p.0.1)
+    (ap (under old) g ∙ p.0.2 after))
+limited-item was now old new before after (Some (Err fault)) None w g p = absurd p
+limited-item was now old new before after (Some (Err fault)) (Some given) w g p =
+    rw (p.0, w, p.1) (MatchFault-weaker (kind_of (error_kind_of fault)) (λ _. refl)
+    (λ m. (refl, limits-owed old before m.1)) (λ b. ap (under old) b) g)
+
+limited-goes : (was now : Bool) (old new : Limiter) (k l : Option (List Item)) (asked item : Given)
+    → was ≡ false → GivesIfKnown k asked l → PassesNext old asked item new now
+    → GivesIfKnown (option_map (come was old) k) item (option_map (come now new) l)
+limited-goes was now old new None l asked item w g p = tt
+limited-goes was now old new (Some all) l asked item w g p = (
+  come now new g.0,
+  ap (option_map (come now new)) g.1,
+  limited-item was now old new all g.0 asked item w g.2 p,
+)
+
+module _ (now : Bool) (old new : Limiter) where
+  passes-count : (asked item : Given) (a b : ℕ) → ItemCountsIo asked a b
+      → PassesNext old asked item new now → ItemCountsIo item a b
+  passes-count None item a b h p = rw p.0 h
+  passes-count (Some (Ok asked)) None a b h p = absurd p
+  passes-count (Some (Ok asked)) (Some (Ok passed)) a b h p = h
+  passes-count (Some (Ok asked)) (Some (Err error)) a b h p =
+      limit-other (fault_of error).kind p.0.0 _ _ _ (ap (λ (f : Fault). f.kind) p.0.1) h
+  passes-count (Some (Err fault)) None a b h p = absurd p
+  passes-count (Some (Err fault)) (Some given) a b h p = rw p.0 h
+
+  passes-placed : (asked item : Given) → HasItsPlace asked → PassesNext old asked item new now
+      → HasItsPlace item
+  passes-placed None item h p = rw p.0 tt
+  passes-placed (Some (Ok asked)) None h p = absurd p
+  passes-placed (Some (Ok asked)) (Some (Ok passed)) h p = tt
+  passes-placed (Some (Ok asked)) (Some (Err error)) h p =
+      limit-other (fault_of error).kind p.0.0 _ _ _ (ap (λ (f : Fault). f.kind) p.0.1) tt
+  passes-placed (Some (Err fault)) None h p = absurd p
+  passes-placed (Some (Err fault)) (Some given) h p = rw p.0 h
+
+  passes-kinds : (asked item : Given) → IsReaderItem true asked
+      → PassesNext old asked item new now → IsReaderItem true item
+  passes-kinds None item h p = rw p.0 tt
+  passes-kinds (Some (Ok asked)) None h p = absurd p
+  passes-kinds (Some (Ok asked)) (Some (Ok passed)) h p = tt
+  passes-kinds (Some (Ok asked)) (Some (Err error)) h p =
+      rw (ap (λ (f : Fault). f.kind) p.0.1) refl
+  passes-kinds (Some (Err fault)) None h p = absurd p
+  passes-kinds (Some (Err fault)) (Some given) h p = rw p.0 h
+
+  passes-ends : (asked item : Given) → PassesNext old asked item new now
+      → EndsAfter item (now ≡ true)
+  passes-ends None item p = rw p.0 p.2
+  passes-ends (Some (Ok asked)) None p = absurd p
+  passes-ends (Some (Ok asked)) (Some (Ok passed)) p = tt
+  passes-ends (Some (Ok asked)) (Some (Err error)) p = text-or-all _ (now ≡ true) p.1
+  passes-ends (Some (Err fault)) None p = absurd p
+  passes-ends (Some (Err fault)) (Some given) p = rw p.0 (text-or-all _ (now ≡ true) p.1)
+
+-- a reader of ASCII that has given nothing has all items of its source to give
+fresh-text : {R : Type 0} (known : R → Option (List ℕ)) (source : R) (sequence : SourceBytes R) (reader : OfText R)
+    → source_of sequence ≡ source → place_of sequence ≡ 0 → held sequence ≡ []
+    → IfSome (known source) (λ bytes. format.Ascii ≡ format_of bytes)
+    → ascii.bytes_left (bytes_left known) reader
+    ≡ option_map input_front (bytes_left known sequence)
+    → ascii.place_of reader ≡ 0 → ascii.dialect_of reader ≡ Lax
+    → text_to_come known reader ≡ option_map items_of_input (known source)
+fresh-text known source sequence reader from at none is bytes place dialect =
+    ap (λ d. option_map (λ b. items_of_ascii (ends_bare d) b (ascii.place_of reader))
+    (ascii.bytes_left (bytes_left known) reader)) dialect
+    ∙ (λ i. option_map (λ b. items_of_ascii lax b (place i)) (bytes i))
+    ∙ ap (λ p. option_map (λ b. items_of_ascii lax b 0)
+    (option_map input_front (option_map (λ bytes. held sequence ++ from_place p bytes)
+    (known (source_of sequence))))) at
+    ∙ ap (λ w. option_map (λ b. items_of_ascii lax b 0)
+    (option_map input_front (option_map (λ bytes. w ++ from_place 0 bytes)
+    (known (source_of sequence))))) none
+    ∙ ascii-items _ (known (source_of sequence)) (ap known from) is
+
+joined : (limits : Limits) (k : Option (List ℕ)) → option_map (limited_items limits)
+    (option_map items_of_input k) ≡ option_map (input_within (Some limits)) k
+joined limits None = refl
+joined limits (Some bytes) = refl
+
+refused-kind : (limited : Bool) (kind : FaultKind) → IsRefusedKind kind → IsReaderFault limited kind
+refused-kind limited XmlUnsupported h = tt
+refused-kind limited Io h = tt
+refused-kind limited kind h = absurd h
+
+xml-other : (kind : FaultKind) (X Y Z : Type 0) → kind ≡ XmlUnsupported → Z → MatchFault kind X Y Z
+xml-other kind X Y Z is z = rw is z
+
+-- XML is the one item
+pub xml-items : (k : Option (List ℕ)) (limits : Option Limits) (place : ℕ) (error : Error)
+    → fault_of error ≡ fault_at XmlUnsupported place
+    → IfSome k (λ bytes. format.Xml place ≡ format_of bytes)
+    → IfSome k (λ bytes. GivesItem (input_within limits bytes) (Some (Err error)) [])
+xml-items None limits place error is h = tt
+xml-items (Some bytes) limits place error is h =
+    xml-other _ _ _ _ (ap (λ (f : Fault). f.kind) is)
+    (within limits ∙ ap (λ f. Err f ∷ []) (sym is))
+  where
+    within : (limits : Option Limits)
+        → input_within limits bytes ≡ Err (fault_at XmlUnsupported place) ∷ []
+    within None = ap (λ f. items_by f bytes) (sym h)
+    within (Some limits) = ap (λ f. limited_items limits (items_by f bytes)) (sym h)
+
+pub xml-kind : (place : ℕ) (error : Error) → fault_of error ≡ fault_at XmlUnsupported place
+    → IsRefusedKind (kind_of (error_kind_of error))
+xml-kind place error is = let kind = ap (λ (f : Fault). f.kind) is in rw kind tt
+
+pub xml-counts : (place a b : ℕ) (error : Error) → fault_of error ≡ fault_at XmlUnsupported place
+    → b ≡ a → ItemCountsIo {A = Event} (Some (Err error)) a b
+xml-counts place a b error is same =
+    let kind = ap (λ (f : Fault). f.kind) is in rw kind same
+
+pub xml-place : (place : ℕ) (error : Error) → fault_of error ≡ fault_at XmlUnsupported place
+    → HasItsPlace (Some (Err error))
+xml-place place error is = let kind = ap (λ (f : Fault). f.kind) is in rw kind tt
+
+-- a read failed
+pub io-items : (k : Option (List ℕ)) (limits : Option Limits) (error : Error)
+    → IsIo (kind_of (error_kind_of error))
+    → IfSome k (λ bytes. GivesItem (input_within limits bytes) (Some (Err error)) [])
+io-items None limits error io = tt
+io-items (Some bytes) limits error io =
+    MatchFault-weaker (kind_of (error_kind_of error)) (λ _. refl) (λ none. absurd none)
+    (λ none. absurd none) io
+
+pub io-kind : (error : Error) → IsIo (kind_of (error_kind_of error))
+    → IsRefusedKind (kind_of (error_kind_of error))
+io-kind error io = by (kind_of (error_kind_of error)) io
+  where
+    by : (kind : FaultKind) → IsIo kind → IsRefusedKind kind
+    by Io io = tt
+    by kind io = absurd io
+
+pub io-place : (error : Error) → IsIo (kind_of (error_kind_of error))
+    → HasPlace (fault_of error).offset → HasItsPlace (Some (Err error))
+io-place error io place =
+    MatchFault-weaker (kind_of (error_kind_of error)) (λ _. place) (λ none. absurd none)
+    (λ none. absurd none) io
+
 module _ {R : Type 0} {g : Ghosts R} (known : R → Option (List ℕ)) (failed : R → ℕ) where
-  pub binary-gives : {counts : Type 0} {count : Uncounted → ℕ} (old new : PlainReader R g)
-      (item : Given) → binary.Gives known failed counts count old item new
+  pub binary-gives : (old new : OfFile R g) (item : Given) → FileGives {g = g} known failed old item new
       → StateGives known failed (state.Binary old) item (state.Binary new)
   binary-gives old new item h = record {
     items = binary-goes (known (binary.source_of old)) (known (binary.source_of new))
@@ -175,10 +418,13 @@ module _ {R : Type 0} {g : Ghosts R} (known : R → Option (List ℕ)) (failed :
     offset = binary-placed (binary.is_limited old) item h.faults;
     ended = h.ended;
     ends = over-ends (binary.HasEnded new) item h.ends;
+    kinds = binary-kinds (binary.is_limited old) item h.faults;
+    limits = λ none. h.kept.0 ∙ none;
+    inside = (new, refl, h);
   }
 
-  pub ascii-gives : (old new : AsciiReader (SourceBytes R)) (item : Given)
-      → ascii.Gives (bytes_left known) (λ s. Some (failed (source_of s))) old item new
+  pub ascii-gives : (old new : OfText R) (item : Given)
+      → TextGives known failed old item new
       → StateGives {R = R} {g = g} known failed (state.Ascii old) item (state.Ascii new)
   ascii-gives old new item h = record {
     items = subst (λ d. GivesIfKnown ((let before : State R g = state.Ascii old in coming known
@@ -192,68 +438,174 @@ module _ {R : Type 0} {g : Ghosts R} (known : R → Option (List ℕ)) (failed :
         (failed (source_of (ascii.inner_of new))) item h.failures;
     offset = ascii-placed (ascii.place_of new) item h.offset;
     ended = h.ended;
-    ends = h.ends;
+    ends = ascii-ends (ascii.HasEnded new) item h.ends h.kinds;
+    kinds = ascii-kinds false item h.kinds;
+    limits = λ none. refl;
+    inside = (new, refl, h);
   }
+
+  -- nothing more comes
+  over-gives : (old : Limited (OfText R)) → old.ended ≡ true
+      → StateGives {R = R} {g = g} known failed (state.Limited old) None (state.Limited old)
+  over-gives old over = record {
+    items = stays (text_to_come known (inner_of old));
+    failures = refl;
+    offset = tt;
+    ended = λ _. refl;
+    ends = over;
+    kinds = tt;
+    limits = λ none. none;
+    inside = (old, refl, rw over (refl, refl));
+  }
+    where
+      stays : (k : Option (List Item))
+          → GivesIfKnown (option_map (come_of old) k) None (option_map (come_of old) k)
+      stays None = tt
+      stays (Some all) = (come_of old all, refl, rw over (refl, refl))
+
+  pub limited-gives : (old new : Limited (OfText R)) (item : Given)
+      → GivesLimited (TextGives known failed) old item new
+      → StateGives {R = R} {g = g} known failed (state.Limited old) item (state.Limited new)
+  limited-gives old new item h = by old.ended refl h
+    where
+      by : (b : Bool) → old.ended ≡ b → MatchBool b ((item ≡ None) × (new ≡ old))
+          ((asked : Given) × TextGives known failed old.inner asked new.inner
+          × PassesNext old.limiter asked item new.limiter new.ended)
+          → StateGives {R = R} {g = g} known failed (state.Limited old) item (state.Limited new)
+      by true over (none, same) = rw (same, none) (over-gives old over)
+      by false going (asked, gave, passes) =
+          let inner = ascii-gives old.inner new.inner asked gave in
+          record {
+            items = limited-goes old.ended new.ended old.limiter new.limiter
+                (text_to_come known old.inner) (text_to_come known new.inner) asked
+                item going inner.items passes;
+            failures = passes-count new.ended old.limiter new.limiter asked item
+                (failed (source_of (ascii.inner_of old.inner)))
+                (failed (source_of (ascii.inner_of new.inner))) inner.failures passes;
+            offset = passes-placed new.ended old.limiter new.limiter asked item inner.offset passes;
+            ended = λ over. (let no : false ≡ true → item ≡ None = λ q. cc in no (cc));
+            ends = passes-ends new.ended old.limiter new.limiter asked item passes;
+            kinds = passes-kinds new.ended old.limiter new.limiter asked item
+                (ascii-kinds true asked gave.kinds) passes;
+            limits = λ none. none;
+            inside = (new, refl, h);
+          }
 
   -- ---- the first item
 
   -- a state that stands as the source before the choice goes on as that
-  chosen-gives : (source : R) (old new : State R g) (item : Given)
-      → coming known old ≡ option_map items_of_input (known source)
+  chosen-gives : (source : R) (limits : Option Limits) (old new : State R g) (item : Given)
+      → coming known old ≡ option_map (input_within limits) (known source)
+      → is_limited_in old ≡ is_some limits
       → HoldsSource failed (Some source) item (source_in new)
-      → StateGives known failed old item new
-      → StateGives known failed (state.Unread source) item new
-  chosen-gives source old new item same count h = record {
+      → BeginsInside known failed limits item new → StateGives known failed old item new
+      → StateGives known failed (state.Unread source limits) item new
+  chosen-gives source limits old new item same limited count inside h = record {
     items = subst (λ o. GivesIfKnown o item (coming known new)) same h.items;
     failures = count;
     offset = h.offset;
     ended = λ e. absurd e;
     ends = h.ends;
+    kinds = subst (λ b. IsReaderItem b item) limited h.kinds;
+    limits = λ none. h.limits (limited ∙ none);
+    inside = inside;
   }
 
-  binary-items : (k l : Option (List ℕ)) (reader : PlainReader R g) → l ≡ k
+  -- another state of the source
+  pub other-source : (source other : R) (limits : Option Limits) (new : State R g) (item : Given)
+      → known other ≡ known source → failed other ≡ failed source
+      → StateGives known failed (state.Unread other limits) item new
+      → StateGives known failed (state.Unread source limits) item new
+  other-source source other limits new item e f h =
+      chosen-gives source limits (state.Unread other limits) new item
+      (ap (option_map (input_within limits)) e) refl (held (source_in new) h.failures) h.inside h
+    where
+      held : (kept : Option R) → HoldsSource failed (Some other) item kept
+          → HoldsSource failed (Some source) item kept
+      held None h = h
+      held (Some kept) h = subst (λ n. ItemCountsIo item n (failed kept)) f h
+
+  binary-items : (limits : Option Limits) (k : Option (List ℕ)) (reader : OfFile R g)
       → IfSome k (λ bytes. format.Binary ≡ format_of bytes)
-      → IfSome l (λ bytes. binary.to_come bytes reader ≡ items_of_file bytes)
-      → IfSome k (λ bytes. binary.to_come bytes reader ≡ items_of_input bytes)
-  binary-items None l reader e is h = tt
-  binary-items (Some bytes) l reader e is h =
-      (rw e at h) ∙ ap (λ f. items_by f bytes) is
+      → IfSome k (λ bytes. binary.to_come bytes reader ≡ file_within limits bytes)
+      → IfSome k (λ bytes. binary.to_come bytes reader ≡ input_within limits bytes)
+  binary-items limits None reader is h = tt
+  binary-items limits (Some bytes) reader is h = h ∙ file-input limits bytes is
 
-  pub begun-binary : {counts : Type 0} {count : Uncounted → ℕ} (source inner : R)
-      (old new : PlainReader R g) (item : Given) → binary.source_of old ≡ inner
-      → known inner ≡ known source → failed inner ≡ failed source
+  pub begun-binary : (source : R) (limits : Option Limits) (old new : OfFile R g) (item : Given)
+      → binary.source_of old ≡ source → binary.is_new old ≡ true
+      → binary.is_limited old ≡ is_some limits
       → IfSome (known source) (λ bytes. format.Binary ≡ format_of bytes)
-      → IfSome (known inner) (λ bytes. binary.to_come bytes old ≡ items_of_file bytes)
-      → binary.Gives known failed counts count old item new
-      → StateGives known failed (state.Unread source) item (state.Binary new)
-  begun-binary source inner old new item at e f is fresh h =
-      chosen-gives _ (state.Binary _) _ _
-      (same-items _ _ (λ bytes. binary.to_come bytes old)
-      (ap known at ∙ e) (binary-items _ _ old e is fresh))
-      (subst (λ n. ItemCountsIo item n (failed (binary.source_of new))) (ap failed at ∙ f)
-      h.failures) (binary-gives _ _ _ h)
+      → IfSome (known source) (λ bytes. binary.to_come bytes old ≡ file_within limits bytes)
+      → FileGives {g = g} known failed old item new
+      → StateGives known failed (state.Unread source limits) item (state.Binary new)
+  begun-binary source limits old new item at fresh limited is begins h =
+      chosen-gives source limits (state.Binary old) (state.Binary new) item
+      (same-items (known source) (known (binary.source_of old)) (λ bytes. binary.to_come bytes old)
+      (input_within limits) (ap known at) (binary-items limits (known source) old is begins))
+      limited
+      (subst (λ n. ItemCountsIo item n (failed (binary.source_of new))) (ap failed at) h.failures)
+      (old, fresh, limited, h) (binary-gives old new item h)
 
-  pub begun-ascii : (source inner : R) (sequence : SourceBytes R)
-      (old new : AsciiReader (SourceBytes R)) (item : Given) → source_of sequence ≡ inner
-      → known inner ≡ known source → failed inner ≡ failed source → ascii.inner_of old ≡ sequence
-      → place_of sequence ≡ 0 → held sequence ≡ []
-      → IfSome (known source) (λ bytes. format.Ascii ≡ format_of bytes)
+  pub begun-ascii : (source : R) (sequence : SourceBytes R) (old new : OfText R) (item : Given)
+      → source_of sequence ≡ source → ascii.inner_of old ≡ sequence → place_of sequence ≡ 0
+      → held sequence ≡ [] → IfSome (known source) (λ bytes. format.Ascii ≡ format_of bytes)
       → ascii.bytes_left (bytes_left known) old ≡ option_map input_front (bytes_left known sequence)
       → ascii.place_of old ≡ 0 → ascii.dialect_of old ≡ Lax
-      → ascii.Gives (bytes_left known) (λ s. Some (failed (source_of s))) old item new
-      → StateGives {R = R} {g = g} known failed (state.Unread source) item (state.Ascii new)
-  begun-ascii source inner sequence old new item from e f inside at none is bytes place dialect h =
-      chosen-gives source (state.Ascii old) (state.Ascii _) item
-      (ap (λ d. option_map (λ b. items_of_ascii (ends_bare d) b (ascii.place_of old))
-      (ascii.bytes_left (bytes_left known) old)) dialect
-      ∙ (λ i. option_map (λ b. items_of_ascii lax b (place i)) (bytes i))
-      ∙ ap (λ p. option_map (λ b. items_of_ascii lax b 0)
-      (option_map input_front (option_map (λ bytes. held sequence ++ from_place p bytes)
-      (known (source_of sequence))))) at
-      ∙ ap (λ w. option_map (λ b. items_of_ascii lax b 0)
-      (option_map input_front (option_map (λ bytes. w ++ from_place 0 bytes)
-      (known (source_of sequence))))) none
-      ∙ ascii-items _ (known (source_of sequence)) (ap known from ∙ e) is)
+      → TextGives known failed old item new
+      → StateGives {R = R} {g = g} known failed (state.Unread source None) item (state.Ascii new)
+  begun-ascii source sequence old new item from inside at none is bytes place dialect h =
+      chosen-gives source None (state.Ascii old) (state.Ascii new) item
+      (fresh-text known source sequence old from at none is bytes place dialect) refl
       (subst (λ n. ItemCountsIo item n (failed (source_of (ascii.inner_of new))))
-      (ap (λ s. failed (source_of s)) inside ∙ ap failed from ∙ f)
-      (told-failures _ _ item h.failures)) (ascii-gives old _ item h)
+      (ap (λ s. failed (source_of s)) inside ∙ ap failed from) (told-failures _ _ item h.failures))
+      (old, place, refl, h) (ascii-gives old new item h)
+
+  pub begun-limited : (source : R) (limits : Limits) (sequence : SourceBytes R) (fresh : OfText R)
+      (old new : Limited (OfText R)) (item : Given) → come_of old ≡ limited_items limits
+      → inner_of old ≡ fresh → source_of sequence ≡ source → ascii.inner_of fresh ≡ sequence
+      → place_of sequence ≡ 0 → held sequence ≡ []
+      → IfSome (known source) (λ bytes. format.Ascii ≡ format_of bytes)
+      → ascii.bytes_left (bytes_left known) fresh
+      ≡ option_map input_front (bytes_left known sequence)
+      → ascii.place_of fresh ≡ 0 → ascii.dialect_of fresh ≡ Lax
+      → GivesLimited (TextGives known failed) old item new
+      → StateGives {R = R} {g = g} known failed (state.Unread source (Some limits)) item
+      (state.Limited new)
+  begun-limited source limits sequence fresh old new item come is-fresh from inside at none is bytes
+      place dialect h =
+      let gives = limited-gives old new item h in
+      chosen-gives source (Some limits) (state.Limited old) (state.Limited new) item
+      ((λ i. option_map (come i) (text_to_come known (is-fresh i)))
+      ∙ ap (option_map (limited_items limits))
+      (fresh-text known source sequence fresh from at none is bytes place dialect)
+      ∙ joined limits (known source)) refl
+      (subst (λ n. ItemCountsIo item n (failed (source_of (ascii.inner_of (inner_of new)))))
+      (ap (λ r. failed (source_of (ascii.inner_of r))) is-fresh
+      ∙ ap (λ s. failed (source_of s)) inside ∙ ap failed from) gives.failures)
+      (old, ap ascii.place_of is-fresh ∙ place, refl, h) gives
+
+  -- the source is refused
+  pub refused-gives : (source other : R) (limits : Option Limits) (error : Error)
+      → IfSome (known source) (λ bytes. GivesItem (input_within limits bytes) (Some (Err error)) [])
+      → IsRefusedKind (kind_of (error_kind_of error))
+      → ItemCountsIo {A = Event} (Some (Err error)) (failed source) (failed other)
+      → HasItsPlace (Some (Err error))
+      → StateGives {R = R} {g = g} known failed (state.Unread source limits) (Some (Err error))
+      (state.Refused other)
+  refused-gives source other limits error items kind count place = record {
+    items = empty (known source) items;
+    failures = count;
+    offset = place;
+    ended = λ e. absurd e;
+    ends = text-or-all _ ⊤ tt;
+    kinds = refused-kind (is_some limits) (kind_of (error_kind_of error)) kind;
+    limits = λ none. refl;
+    inside = kind;
+  }
+    where
+      empty : (k : Option (List ℕ))
+          → IfSome k (λ bytes. GivesItem (input_within limits bytes) (Some (Err error)) [])
+          → GivesIfKnown (option_map (input_within limits) k) (Some (Err error)) (Some [])
+      empty None h = tt
+      empty (Some bytes) h = ([], refl, h)

@@ -1,18 +1,26 @@
 -- What contracts see of a reader of either format: the items that it has still to give.
-use Rattle.std.specs.Prelude.{◌≡◌, ℕ, ◌+◌, ◌^◌, ◌<◌, List, [], ◌∷◌, Option, None, Some, Result, Ok, Err, MatchOption, MatchResult, IfSome, ⊤}
-use Rattle.std.specs.Option.{option_map}
+use Rattle.std.specs.Prelude.{◌≡◌, ℕ, ◌+◌, ◌^◌, ◌<◌, Bool, true, false, List, [], ◌∷◌, Option, None, Some, Result, Ok, Err, MatchOption, MatchResult, IfSome, ⊤}
+use Rattle.std.specs.Option.{is_some, option_map}
 use Rattle.plist_base.specs.declared.error.Error.{Error}
 use Rattle.plist_base.specs.declared.event.Event.{Event}
 use Rattle.plist_base.specs.declared.source.Source.{Ghosts}
-use Rattle.plist_base.specs.Faults.{MatchFault, XmlUnsupported, kind_of, error_kind_of, fault_of, offset_of, fault_at}
+use Rattle.plist_base.specs.declared.limited.Limited.{Limited}
+use Rattle.plist_base.specs.declared.limits.Limits.{Limits}
+use Rattle.plist_base.specs.Limits.{GivesLimited, HasEndedLimited, come_of, inner_of, limited_items}
+use Rattle.plist_base.specs.Faults.{FaultKind, Io, IncompleteComment, InvalidOctalString, InvalidUtf16String, InvalidUtf8AsciiStream, MatchFault, UnclosedString, XmlUnsupported, kind_of, error_kind_of, fault_of, offset_of, fault_at}
 use Rattle.plist_base.specs.Events.{Item, event_of}
 use Rattle.plist_base.specs.Sources.{ItemCountsIo}
 use Rattle.plist_binread.specs.BinaryReader as binary
-use Rattle.plist_binread.specs.Failures.{HasPlace}
+use Rattle.plist_binread.specs.declared.reader.BinaryReader.{BinaryReader}
+use Rattle.plist_binread.specs.declared.counter.Uncounted.{Uncounted}
+use Rattle.plist_binread.specs.contracts.counter.UncountedDecodeCounter.TheImpl.{ghosts}
+use Rattle.plist_binread.specs.Failures.{HasPlace, MatchGiven}
 use Rattle.plist_binread.specs.Debt.{IsOwed, walk_steps}
 use Rattle.plist_format.specs.Unfolding.{items_of_file}
 use Rattle.plist_ascii.specs.Ascii.{items_of_ascii}
 use Rattle.plist_ascii.specs.AsciiReader as ascii
+use Rattle.plist_ascii.specs.declared.reader.AsciiReader.{AsciiReader}
+use Rattle.plist_reader.specs.declared.bytes.SourceBytes.{SourceBytes}
 use Rattle.plist_ascii.specs.Texts.{lax}
 use Rattle.plist_reader.specs.declared.format.Format.{Format}
 use Rattle.plist_reader.specs.declared.format.Format.TheVariants as format
@@ -33,16 +41,42 @@ items_by format.Ascii bytes = items_of_ascii lax (input_front bytes) 0
 abbrev pub items_of_input : List ℕ → List Item
 items_of_input bytes = items_by (format_of bytes) bytes
 
+-- those of them that these limits let come
+abbrev pub limited_input : Limits → List ℕ → List Item
+limited_input limits bytes = limited_items limits (items_of_input bytes)
+
+-- the same where there may be no limits, of an input and of a binary file
+abbrev pub input_within : Option Limits → List ℕ → List Item
+input_within None bytes = items_of_input bytes
+input_within (Some limits) bytes = limited_input limits bytes
+
+abbrev pub file_within : Option Limits → List ℕ → List Item
+file_within None bytes = items_of_file bytes
+file_within (Some limits) bytes = limited_items limits (items_of_file bytes)
+
+-- the reader of a binary source, which counts nothing, and that of one in ASCII
+abbrev pub OfFile : (R : Type 0) → Ghosts R → Type 0
+OfFile R g = BinaryReader R Uncounted g ghosts
+
+abbrev pub OfText : Type 0 → Type 0
+OfText R = AsciiReader (SourceBytes R)
+
+-- what a reader of ASCII has still to give
+abbrev pub text_to_come : {R : Type 0} (known : R → Option (List ℕ)) → OfText R
+    → Option (List Item)
+text_to_come known reader =
+    option_map (λ bytes. items_of_ascii (ascii.stops_of reader) bytes (ascii.place_of reader))
+    (ascii.bytes_left (bytes_left known) reader)
+
 module _ {R : Type 0} {g : Ghosts R} (known : R → Option (List ℕ)) where
   -- the items still to come, where the source's bytes are known: before the choice those of the
   -- source, then those of the reader that was chosen
   abbrev pub coming : State R g → Option (List Item)
-  coming (state.Unread source) = option_map items_of_input (known source)
+  coming (state.Unread source limits) = option_map (input_within limits) (known source)
   coming (state.Binary reader) =
       option_map (λ bytes. binary.to_come bytes reader) (known (binary.source_of reader))
-  coming (state.Ascii reader) =
-      option_map (λ bytes. items_of_ascii (ascii.stops_of reader) bytes (ascii.place_of reader))
-      (ascii.bytes_left (bytes_left known) reader)
+  coming (state.Ascii reader) = text_to_come known reader
+  coming (state.Limited reader) = option_map (come_of reader) (text_to_come known (inner_of reader))
   coming (state.Refused source) = Some []
   coming state.Moved = Some []
 
@@ -51,9 +85,10 @@ module _ {R : Type 0} {g : Ghosts R} (known : R → Option (List ℕ)) where
 
 -- the source
 abbrev pub source_in : {R : Type 0} {g : Ghosts R} → State R g → Option R
-source_in (state.Unread source) = Some source
+source_in (state.Unread source limits) = Some source
 source_in (state.Binary reader) = Some (binary.source_of reader)
 source_in (state.Ascii reader) = Some (stream.source_of (ascii.inner_of reader))
+source_in (state.Limited reader) = Some (stream.source_of (ascii.inner_of (inner_of reader)))
 source_in (state.Refused source) = Some source
 source_in state.Moved = None
 
@@ -63,14 +98,27 @@ source_of reader = source_in reader.state
 
 -- the reader gives nothing more
 abbrev pub IsOver : {R : Type 0} {g : Ghosts R} → State R g → Type 0
-IsOver (state.Unread source) = ⊥
+IsOver (state.Unread source limits) = ⊥
 IsOver (state.Binary reader) = binary.HasEnded reader
 IsOver (state.Ascii reader) = ascii.HasEnded reader
+IsOver (state.Limited reader) = HasEndedLimited reader
 IsOver (state.Refused source) = ⊤
 IsOver state.Moved = ⊤
 
 abbrev pub HasEnded : {R : Type 0} {g : Ghosts R} → Reader R g → Type 0
 HasEnded reader = IsOver reader.state
+
+-- are there limits?
+abbrev pub is_limited_in : {R : Type 0} {g : Ghosts R} → State R g → Bool
+is_limited_in (state.Unread source limits) = is_some limits
+is_limited_in (state.Binary reader) = binary.is_limited reader
+is_limited_in (state.Ascii reader) = false
+is_limited_in (state.Limited reader) = true
+is_limited_in (state.Refused source) = false
+is_limited_in state.Moved = false
+
+abbrev pub is_limited : {R : Type 0} {g : Ghosts R} → Reader R g → Bool
+is_limited reader = is_limited_in reader.state
 
 -- What was to come begins with this item and goes on with what is to come then; nothing comes only
 -- where nothing was to come. After a device's fault and want of memory nothing is to come, and want
@@ -89,11 +137,29 @@ abbrev pub GivesIfKnown : (before : Option (List Item)) → Option (Result Event
 GivesIfKnown before item after =
     IfSome before (λ all. (left : List Item) × (after ≡ Some left) × GivesItem all item left)
 
--- where nothing comes, and after a fault from outside, nothing comes for good
+-- a fact for a fault that an ASCII text can have, and one for every other fault
+abbrev pub MatchText : FaultKind → (text other : Type 0) → Type 0
+MatchText UnclosedString text other = text
+MatchText IncompleteComment text other = text
+MatchText InvalidUtf8AsciiStream text other = text
+MatchText InvalidOctalString text other = text
+MatchText InvalidUtf16String text other = text
+MatchText kind text other = other
+
+-- where nothing comes, and after a fault that no ASCII text can have, nothing comes for good
 abbrev pub EndsAfter : Option (Result Event Error) → Type 0 → Type 0
 EndsAfter item ended =
     MatchOption item ended (λ answer. MatchResult answer (λ _. ⊤)
-    (λ error. MatchFault (kind_of (error_kind_of error)) ended ended ⊤))
+    (λ error. MatchText (kind_of (error_kind_of error)) ⊤ ended))
+
+-- a fault that one of the readers can give, where there are limits that of a limit too
+abbrev pub IsReaderFault : (limited : Bool) → FaultKind → Type 0
+IsReaderFault limited XmlUnsupported = ⊤
+IsReaderFault limited kind = MatchText kind ⊤ (MatchGiven kind ⊤ ⊤ ⊤ (limited ≡ true))
+
+abbrev pub IsReaderItem : (limited : Bool) → Option (Result Event Error) → Type 0
+IsReaderItem limited item = MatchOption item ⊤ (λ answer. MatchResult answer (λ _. ⊤)
+    (λ error. IsReaderFault limited (kind_of (error_kind_of error))))
 
 -- the source is still held, and `Io` came only where its count of failures rose
 abbrev pub HoldsSource : {R : Type 0} (failed : R → ℕ) (old : Option R)
@@ -102,12 +168,58 @@ HoldsSource failed old item new =
     MatchOption old ⊤ (λ source. MatchOption new ⊥
     (λ kept. ItemCountsIo item (failed source) (failed kept)))
 
+-- the fault of a source that is for no reader, or that couldn't be read
+abbrev pub IsRefusedKind : FaultKind → Type 0
+IsRefusedKind XmlUnsupported = ⊤
+IsRefusedKind Io = ⊤
+IsRefusedKind kind = ⊥
+
+abbrev pub IsRefusal : Option (Result Event Error) → Type 0
+IsRefusal item = MatchOption item ⊥ (λ answer. MatchResult answer (λ _. ⊥)
+    (λ error. IsRefusedKind (kind_of (error_kind_of error))))
+
 -- a device's fault has a place, and want of memory has none
 abbrev pub HasItsPlace : Option (Result Event Error) → Type 0
 HasItsPlace item =
     MatchOption item ⊤ (λ answer. MatchResult answer (λ _. ⊤)
     (λ error. MatchFault (kind_of (error_kind_of error)) (HasPlace (offset_of error))
     (offset_of error ≡ None) ⊤))
+
+-- one call of a reader that was chosen
+abbrev pub FileGives : {R : Type 0} {g : Ghosts R} (known : R → Option (List ℕ)) (failed : R → ℕ)
+    → OfFile R g → Option (Result Event Error) → OfFile R g → Type 0
+FileGives known failed = binary.Gives known failed ⊥ (λ _. 0)
+
+abbrev pub TextGives : {R : Type 0} (known : R → Option (List ℕ)) (failed : R → ℕ)
+    → OfText R → Option (Result Event Error) → OfText R → Type 0
+TextGives known failed =
+    ascii.Gives (bytes_left known) (λ bytes. Some (failed (stream.source_of bytes)))
+
+module _ {R : Type 0} {g : Ghosts R} (known : R → Option (List ℕ)) (failed : R → ℕ) where
+  -- the first item is that of a reader that has given none, or the source is refused
+  abbrev pub BeginsInside : Option Limits → Option (Result Event Error) → State R g → Type 0
+  BeginsInside limits item (state.Binary new) = (fresh : OfFile R g)
+      × (binary.is_new fresh ≡ true) × (binary.is_limited fresh ≡ is_some limits)
+      × FileGives known failed fresh item new
+  BeginsInside limits item (state.Ascii new) = (fresh : OfText R)
+      × (ascii.place_of fresh ≡ 0) × (limits ≡ None) × TextGives known failed fresh item new
+  BeginsInside limits item (state.Limited new) = (fresh : Limited (OfText R))
+      × (ascii.place_of (inner_of fresh) ≡ 0) × (is_some limits ≡ true)
+      × GivesLimited (TextGives known failed) fresh item new
+  BeginsInside limits item (state.Refused source) = IsRefusal item
+  BeginsInside limits item new = ⊥
+
+  -- the reader that was chosen gives the item, and stays chosen
+  abbrev pub GivesInside : (old : State R g) → Option (Result Event Error) → (new : State R g)
+      → Type 0
+  GivesInside (state.Unread source limits) item new = BeginsInside limits item new
+  GivesInside (state.Binary old) item new =
+      (reader : OfFile R g) × (new ≡ state.Binary reader) × FileGives known failed old item reader
+  GivesInside (state.Ascii old) item new =
+      (reader : OfText R) × (new ≡ state.Ascii reader) × TextGives known failed old item reader
+  GivesInside (state.Limited old) item new = (reader : Limited (OfText R))
+      × (new ≡ state.Limited reader) × GivesLimited (TextGives known failed) old item reader
+  GivesInside old item new = (item ≡ None) × (new ≡ old)
 
 -- one call of `next`
 pub record StateGives {R : Type 0} {g : Ghosts R} (known : R → Option (List ℕ)) (failed : R → ℕ)
@@ -117,6 +229,9 @@ pub record StateGives {R : Type 0} {g : Ghosts R} (known : R → Option (List �
   pub offset : HasItsPlace item
   pub ended : IsOver old → item ≡ None
   pub ends : EndsAfter item (IsOver new)
+  pub kinds : IsReaderItem (is_limited_in old) item
+  pub limits : is_limited_in old ≡ false → is_limited_in new ≡ false
+  pub inside : GivesInside known failed old item new
 
 abbrev pub Gives : {R : Type 0} {g : Ghosts R} (known : R → Option (List ℕ)) (failed : R → ℕ)
     (old : Reader R g) (item : Option (Result Event Error)) (new : Reader R g) → Type 0
@@ -128,19 +243,21 @@ all_steps = walk_steps (2 ^ 64) + 1 + 2 ^ 64
 
 -- more than the items that are still to come
 abbrev pub steps_in_state : {R : Type 0} {g : Ghosts R} → State R g → ℕ
-steps_in_state (state.Unread source) = all_steps
+steps_in_state (state.Unread source limits) = all_steps
 steps_in_state (state.Binary reader) = binary.steps_to_come reader
 steps_in_state (state.Ascii reader) = ascii.steps_to_come reader
+steps_in_state (state.Limited reader) = ascii.steps_to_come (inner_of reader)
 steps_in_state (state.Refused source) = 0
 steps_in_state state.Moved = 0
 
 -- where nothing was asked for yet, this is the first item, and the state behind it
 abbrev pub GivesFirst : {R : Type 0} {g : Ghosts R} (known : R → Option (List ℕ)) (failed : R → ℕ)
     → State R g → Option (Result Event Error) → State R g → Type 0
-GivesFirst {R} known failed old item new = (source : R) → old ≡ state.Unread source
-    → StateGives known failed (state.Unread source) item new
+GivesFirst {R} known failed old item new = (source : R) (limits : Option Limits)
+    → old ≡ state.Unread source limits
+    → StateGives known failed (state.Unread source limits) item new
 
 -- where nothing was asked for yet and an item comes, fewer steps are left
 abbrev pub FirstFalls : {R A : Type 0} {g : Ghosts R} → State R g → Option A → State R g → Type 0
-FirstFalls {R} old item new = (source : R) → old ≡ state.Unread source
-    → IfSome item (λ _. steps_in_state new < all_steps)
+FirstFalls {R} old item new = (source : R) (limits : Option Limits)
+    → old ≡ state.Unread source limits → IfSome item (λ _. steps_in_state new < all_steps)

@@ -1,12 +1,15 @@
 //! The reader of property lists of either format.
 
-ghost use Rattle.std.specs.Prelude.{◌≡◌, ◌<◌, IfSome, Some};
-ghost use Rattle.plist_reader.specs.Reader.{StateGives, all_steps, steps_in_state};
+ghost use Rattle.std.specs.Prelude.{◌≡◌, ◌<◌, IfSome, Some, true};
+ghost use Rattle.std.specs.Option.{is_some};
+ghost use Rattle.plist_binread.specs.BinaryReader.{HasToCome, is_limited as is_limited_file, is_new, source_of as source_of_file};
+ghost use Rattle.plist_reader.specs.Formats.{format_of};
+ghost use Rattle.plist_reader.specs.Reader.{StateGives, all_steps, file_within, steps_in_state};
 
 use crate::bytes::SourceBytes;
 use crate::format::{Format, format_of};
 use plist_ascii::AsciiReader;
-use plist_base::{Error, ErrorKind, OwnedEvent, Source};
+use plist_base::{Error, ErrorKind, Limited, Limits, OwnedEvent, Source};
 use plist_binread::BinaryReader;
 use std::alloc::Global;
 use std::mem;
@@ -15,35 +18,85 @@ use std::mem;
 #[derive(Drop)]
 pub(crate) enum State<R: Source> {
     // No item has been asked for.
-    Unread(R),
+    Unread(R, Option<Limits>),
     Binary(BinaryReader<R>),
     Ascii(AsciiReader<SourceBytes<R>>),
+    // The same under limits.
+    Limited(Limited<AsciiReader<SourceBytes<R>>>),
     // The source is for no reader, or a read failed before that was known.
     Refused(R),
     // While the first item is made.
     Moved,
 }
 
+// The reader of a binary source.
+fn binary_reader<R: Source>(alloc: Global, source: R, limits: Option<Limits>) -> BinaryReader<R>
+    ensures items { HasToCome (R.known source) (file_within limits) result }
+    ensures source { source_of_file result ≡ source }
+    ensures new { is_new result ≡ true }
+    ensures limited { is_limited_file result ≡ is_some limits }
+{
+    match limits {
+        None => BinaryReader::new(alloc, source),
+        Some(limits) => BinaryReader::with_limits(alloc, source, limits),
+    }
+}
+
+// Asks the reader of a binary source for its first item.
+fn begin_binary<R: Source>(
+    alloc: Global,
+    source: R,
+    limits: Option<Limits>,
+) -> (State<R>, Option<Result<OwnedEvent, Error>>)
+    requires { IfSome (R.known source) (λ bytes. Format.Binary ≡ format_of bytes) }
+    ensures gives { StateGives R.known R.failures (State.Unread source limits) result.1 result.0 }
+    ensures falls { IfSome result.1 (λ _. steps_in_state result.0 < all_steps) }
+{
+    let mut reader = binary_reader(alloc, source, limits);
+    let item = reader.next();
+    (State::Binary(reader), item)
+}
+
+// Asks the reader of a source in ASCII for its first item.
+fn begin_ascii<R: Source>(
+    alloc: Global,
+    source: R,
+    limits: Option<Limits>,
+) -> (State<R>, Option<Result<OwnedEvent, Error>>)
+    requires { IfSome (R.known source) (λ bytes. Format.Ascii ≡ format_of bytes) }
+    ensures gives { StateGives R.known R.failures (State.Unread source limits) result.1 result.0 }
+    ensures falls { IfSome result.1 (λ _. steps_in_state result.0 < all_steps) }
+{
+    let mut reader = AsciiReader::new(alloc, SourceBytes::new(source));
+    match limits {
+        None => {
+            let item = reader.next();
+            (State::Ascii(reader), item)
+        }
+        Some(limits) => {
+            let mut limited = Limited::new(reader, limits);
+            let item = limited.next();
+            (State::Limited(limited), item)
+        }
+    }
+}
+
 // Chooses the reader, and asks it for its first item.
-fn begin<R: Source>(alloc: Global, mut source: R) -> (State<R>, Option<Result<OwnedEvent, Error>>)
-    ensures gives { StateGives R.known R.failures (State.Unread source) result.1 result.0 }
+fn begin<R: Source>(
+    alloc: Global,
+    mut source: R,
+    limits: Option<Limits>,
+) -> (State<R>, Option<Result<OwnedEvent, Error>>)
+    ensures gives { StateGives R.known R.failures (State.Unread source limits) result.1 result.0 }
     ensures falls { IfSome result.1 (λ _. steps_in_state result.0 < all_steps) }
 {
     match format_of(&mut source) {
-        Ok(Format::Binary) => {
-            let mut reader = BinaryReader::new(alloc, source);
-            let item = reader.next();
-            (State::Binary(reader), item)
-        }
+        Ok(Format::Binary) => begin_binary(alloc, source, limits),
         Ok(Format::Xml(place)) => (
             State::Refused(source),
             Some(Err(ErrorKind::XmlUnsupported.with_byte_offset(place))),
         ),
-        Ok(Format::Ascii) => {
-            let mut reader = AsciiReader::new(alloc, SourceBytes::new(source));
-            let item = reader.next();
-            (State::Ascii(reader), item)
-        }
+        Ok(Format::Ascii) => begin_ascii(alloc, source, limits),
         Err(error) => (State::Refused(source), Some(Err(error))),
     }
 }
@@ -59,7 +112,8 @@ fn begin<R: Source>(alloc: Global, mut source: R) -> (State<R>, Option<Result<Ow
 /// `XmlUnsupported`, after which nothing comes. `Io` where a read failed while it chose, with the
 /// place of that read: then nothing comes either. Once it has chosen, those of the reader chosen,
 /// which stands then as that one says: a binary reader has ended after each of its faults, an ASCII
-/// one goes on behind those of its bytes.
+/// one goes on behind those of its bytes. `LimitReached` where there are limits
+/// ([`Reader::with_limits`]).
 #[derive(Drop)]
 pub struct Reader<R: Source> {
     alloc: Global,
@@ -67,18 +121,36 @@ pub struct Reader<R: Source> {
 }
 
 impl<R: Source> Reader<R> {
-    ghost use Rattle.std.specs.Prelude.{◌≡◌};
+    ghost use Rattle.std.specs.Prelude.{◌≡◌, true, false};
     ghost use Rattle.std.specs.Option.{option_map};
-    ghost use Rattle.plist_reader.specs.Reader.{FirstFalls, GivesFirst, to_come, items_of_input, source_of};
+    ghost use Rattle.plist_reader.specs.Reader.{FirstFalls, GivesFirst, is_limited, items_of_input, limited_input, to_come, source_of};
 
     /// A reader over a source. It reads nothing before its first item is asked for.
     pub fn new(alloc: Global, source: R) -> Self
         ensures items { to_come R.known result ≡ option_map items_of_input (R.known source) }
         ensures source { source_of result ≡ Some source }
+        ensures limited { is_limited result ≡ false }
     {
         Reader {
             alloc,
-            state: State::Unread(source),
+            state: State::Unread(source, None),
+        }
+    }
+
+    /// A reader that gives no more than these limits let come, and ends at its first fault: the first
+    /// text or data that has a byte too many, or else an event that is one too many, or else a start
+    /// that would open one collection too many, is replaced by `LimitReached`, without an offset.
+    ///
+    /// Of a binary source no memory is taken for a text or data that is refused, unless it is short;
+    /// a text in ASCII is read before it is counted, and takes at most the bytes that it has there.
+    pub fn with_limits(alloc: Global, source: R, limits: Limits) -> Self
+        ensures items { to_come R.known result ≡ option_map (limited_input limits) (R.known source) }
+        ensures source { source_of result ≡ Some source }
+        ensures limited { is_limited result ≡ true }
+    {
+        Reader {
+            alloc,
+            state: State::Unread(source, Some(limits)),
         }
     }
 
@@ -88,8 +160,8 @@ impl<R: Source> Reader<R> {
         ensures falls { FirstFalls self.old.state result self.new.state }
     {
         match mem::replace(&mut self.state, State::Moved) {
-            State::Unread(source) => {
-                let (state, item) = begin(self.alloc, source);
+            State::Unread(source, limits) => {
+                let (state, item) = begin(self.alloc, source, limits);
                 self.state = state;
                 item
             }
@@ -115,8 +187,9 @@ impl<R: Source> Iterator for Reader<R> {
         match &mut self.state {
             State::Binary(reader) => reader.next(),
             State::Ascii(reader) => reader.next(),
+            State::Limited(reader) => reader.next(),
             State::Refused(_) | State::Moved => None,
-            State::Unread(_) => self.first(),
+            State::Unread(_, _) => self.first(),
         }
     }
 }

@@ -1,21 +1,36 @@
-use Rattle.plist_reader.proofs.Giving.{begun-binary, begun-ascii}
+use Rattle.plist_reader.proofs.Giving.{io-items, io-kind, io-place, other-source, refused-gives, xml-counts, xml-items, xml-kind, xml-place}
 use Rattle.plist_reader.proofs.reader.begin.Goals as goal
 
 pub returns-in-Ok-Binary-clause-gives : goal.returns-in-Ok-Binary-clause-gives
 returns-in-Ok-Binary-clause-gives g c =
-    begun-binary g.R.Source.known g.R.Source.failures c.args.source c.format_of.new.source
-    c.new-reader.result c.next-item.new.self c.next-item.result c.new-reader.ensures.source
-    c.format_of.ensures.unchanged c.in-Ok-Binary.ensures.failures
-    (rw c.in-Ok-Binary.field-0-is at c.in-Ok-Binary.ensures.format) c.new-reader.ensures.items
-    c.next-item.ensures.steps
+    other-source g.R.Source.known g.R.Source.failures c.args.source c.format_of.new.source
+    c.args.limits _ _ c.format_of.ensures.unchanged c.in-Ok-Binary.ensures.failures
+    c.begin_binary.ensures.gives
 
 pub returns-in-Ok-Ascii-clause-gives : goal.returns-in-Ok-Ascii-clause-gives
 returns-in-Ok-Ascii-clause-gives g c =
-    begun-ascii g.R.Source.known g.R.Source.failures c.args.source c.format_of.new.source
-    c.new.result c.new-reader-in-Ok-Ascii.result c.next-item-in-Ok-Ascii.new.self
-    c.next-item-in-Ok-Ascii.result c.new.ensures.source c.format_of.ensures.unchanged
-    c.in-Ok-Ascii.ensures.failures c.new-reader-in-Ok-Ascii.ensures.inner c.new.ensures.place
-    c.new.ensures.held
-    (rw c.in-Ok-Ascii.field-0-is at c.in-Ok-Ascii.ensures.format)
-    c.new-reader-in-Ok-Ascii.ensures.bytes c.new-reader-in-Ok-Ascii.ensures.place
-    c.new-reader-in-Ok-Ascii.ensures.dialect c.next-item-in-Ok-Ascii.ensures.steps
+    other-source g.R.Source.known g.R.Source.failures c.args.source c.format_of.new.source
+    c.args.limits _ _ c.format_of.ensures.unchanged c.in-Ok-Ascii.ensures.failures
+    c.begin_ascii.ensures.gives
+
+pub returns-in-Ok-Xml-clause-gives : goal.returns-in-Ok-Xml-clause-gives
+returns-in-Ok-Xml-clause-gives g c =
+    let place = c.in-Ok-Xml.place in
+    let error = c.with_byte_offset.result in
+    let known = g.R.Source.known c.args.source in
+    refused-gives g.R.Source.known g.R.Source.failures c.args.source c.format_of.new.source
+    c.args.limits error
+    (xml-items known c.args.limits place error c.with_byte_offset.ensures.fault
+    (rw c.in-Ok-Xml.field-0-is at c.in-Ok-Xml.ensures.format))
+    (xml-kind place error c.with_byte_offset.ensures.fault)
+    (xml-counts place _ _ error c.with_byte_offset.ensures.fault c.in-Ok-Xml.ensures.failures)
+    (xml-place place error c.with_byte_offset.ensures.fault)
+
+pub returns-in-Err-clause-gives : goal.returns-in-Err-clause-gives
+returns-in-Err-clause-gives g c =
+    let error = c.in-Err.error in
+    refused-gives g.R.Source.known g.R.Source.failures c.args.source c.format_of.new.source
+    c.args.limits error
+    (io-items (g.R.Source.known c.args.source) c.args.limits error c.in-Err.ensures.refused)
+    (io-kind error c.in-Err.ensures.refused) c.in-Err.ensures.failures
+    (io-place error c.in-Err.ensures.refused c.in-Err.ensures.offset)

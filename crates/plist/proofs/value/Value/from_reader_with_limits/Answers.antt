@@ -1,32 +1,32 @@
-use Rattle.plist_base.specs.Limits.{come_of, inner_of, limited_items}
+use Rattle.plist_base.specs.Limits.{come_of, inner_of}
 use Rattle.std.proofs.Common.{ap, ◌∙◌, option_map}
-use Rattle.plist_reader.specs.Reader.{Gives, items_of_input, to_come}
+use Rattle.plist_reader.specs.Reader.{Gives, limited_input, to_come}
 use Rattle.plist.specs.Collecting.{built_tree}
-use Rattle.plist.proofs.Shown.{joined, of-items, reader-shows}
-use Rattle.plist.proofs.Limiting.{built-within, limited-shows}
+use Rattle.plist.proofs.Shown.{of-items, reader-shows}
+use Rattle.plist.proofs.Limiting.{built-within, input-twice, limited-shows}
 use Rattle.plist.proofs.value.Value.from_reader_with_limits.Goals as goal
 
 pub returns-clause-value : goal.returns-clause-value
 returns-clause-value g c =
     let known = g.R.Source.known in
-    of-items (λ bytes. limited_items c.args.limits (items_of_input bytes)) _ _
-    (built_tree c.collect.result)
-    ((λ j. option_map (c.new-2.ensures.items j)
-    ((ap (to_come known) c.new-2.ensures.inner ∙ c.new.ensures.items) j)) ∙ joined _ _ _)
+    of-items (limited_input c.args.limits) _ _ (built_tree c.collect.result)
+    ((λ j. option_map (c.new.ensures.items j)
+    ((ap (to_come known) c.new.ensures.inner ∙ c.with_limits-reader.ensures.items) j))
+    ∙ input-twice c.args.limits _)
     (c.collect.ensures.shown (λ l. option_map (come_of l) (to_come known (inner_of l)))
     (limited-shows (Gives known g.R.Source.failures) (to_come known)
     (λ old item new gives. reader-shows _ _ item gives.items)))
 
 pub returns-clause-within : goal.returns-clause-within
 returns-clause-within g c =
-    built-within (Gives g.R.Source.known g.R.Source.failures) c.args.limits c.new-2.result
-    (built_tree c.collect.result) c.new-2.ensures.items c.collect.ensures.value
+    built-within (Gives g.R.Source.known g.R.Source.failures) c.args.limits c.new.result
+    (built_tree c.collect.result) c.new.ensures.items c.collect.ensures.value
 
 pub returns-clause-read : goal.returns-clause-read
 returns-clause-read g c = (
-  c.new-2.result,
-  c.new-2.ensures.items,
-  ap (to_come _) c.new-2.ensures.inner
-      ∙ c.new.ensures.items,
+  c.new.result,
+  c.new.ensures.items,
+  ap (to_come _) c.new.ensures.inner
+      ∙ c.with_limits-reader.ensures.items,
   c.collect.ensures.value,
 )

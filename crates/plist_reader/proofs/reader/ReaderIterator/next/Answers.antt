@@ -1,7 +1,7 @@
 use Rattle.std.proofs.Common.{sym, subst}
 use Rattle.plist_reader.specs.Reader.{StateGives}
-use Rattle.plist_reader.specs.declared.reader.State.TheVariants.{Binary, Ascii}
-use Rattle.plist_reader.proofs.Giving.{binary-gives, ascii-gives}
+use Rattle.plist_reader.specs.declared.reader.State.TheVariants.{Binary, Ascii, Limited}
+use Rattle.plist_reader.proofs.Giving.{binary-gives, ascii-gives, limited-gives}
 use Rattle.plist_reader.proofs.reader.ReaderIterator.next.Goals as goal
 
 pub returns-in-Binary-clause-steps : goal.returns-in-Binary-clause-steps
@@ -18,8 +18,15 @@ returns-in-Ascii-clause-steps g c =
     (ascii-gives g.R.Source.known g.R.Source.failures c.in-Ascii.reader c.next-in-Ascii.new.self
     c.next-in-Ascii.result c.next-in-Ascii.ensures.steps)
 
+pub returns-in-Limited-clause-steps : goal.returns-in-Limited-clause-steps
+returns-in-Limited-clause-steps g c =
+    subst (λ s. StateGives g.R.Source.known g.R.Source.failures s c.next-in-Limited.result
+    (Limited c.next-in-Limited.new.self)) (sym c.in-Limited.is)
+    (limited-gives g.R.Source.known g.R.Source.failures c.in-Limited.reader
+    c.next-in-Limited.new.self c.next-in-Limited.result c.next-in-Limited.ensures.steps)
+
 pub returns-in-Unread-clause-steps : goal.returns-in-Unread-clause-steps
 returns-in-Unread-clause-steps g c =
     subst (λ s. StateGives g.R.Source.known g.R.Source.failures s c.first.result
     c.first.new.self.state) (sym c.in-Unread.is)
-    (c.first.ensures.gives c.in-Unread.field-0 c.in-Unread.is)
+    (c.first.ensures.gives c.in-Unread.field-0 c.in-Unread.field-1 c.in-Unread.is)
