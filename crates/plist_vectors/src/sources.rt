@@ -107,28 +107,42 @@ fn keeps_its_windows(rt: HostRuntime) {
     expect_calls(&rt, &[8_190, 8_192], 4);
 }
 
-// The calls of the reader under a source, of which so many rounds go over four parts of one slot.
-fn calls_of_rounds(rt: &(impl Abort + AllocGlobal), windows: bool, rounds: u32) -> u64 {
-    let disk = Disk::new(sample(rt, 100_000), u64::MAX);
+// The calls of the reader under a source, of which so many rounds go over these places.
+fn calls_of_rounds(
+    rt: &(impl Abort + AllocGlobal),
+    windows: bool,
+    places: [u32; 4],
+    rounds: u32,
+) -> u64 {
+    let disk = Disk::new(sample(rt, 300_000), u64::MAX);
     let mut source = match windows {
         true => Seeking::with_windows(rt.alloc(), disk),
         false => Seeking::new(disk),
     };
     for _ in 0..rounds {
-        for place in [0, 32_768, 65_536, 98_304] {
-            expect_read(rt, &mut source, 100_000, place, 3);
+        for place in places {
+            expect_read(rt, &mut source, 300_000, place, 3);
         }
     }
     source.into_inner().calls
 }
 
-// The ninth window that is filled again makes twice as many, in which the four have two slots.
+// Four parts of one slot, of which two share one where there are twice as many.
+const OF_ONE: [u32; 4] = [0, 32_768, 65_536, 98_304];
+
+// Four parts of the last slot, also where there are twice as many.
+const OF_LAST: [u32; 4] = [57_344, 122_880, 188_416, 253_952];
+
+// The ninth window that is filled again makes twice as many, in which the four have two slots. Of
+// the last slot they have them once the seventeenth behind that makes twice as many again.
 #[test]
 fn windows_grow(rt: HostRuntime) {
-    assert_eq!(rt; calls_of_rounds(&rt, true, 3), 24);
-    assert_eq!(rt; calls_of_rounds(&rt, true, 4), 32);
-    assert_eq!(rt; calls_of_rounds(&rt, true, 100), 32);
-    assert_eq!(rt; calls_of_rounds(&rt, false, 100), 800);
+    assert_eq!(rt; calls_of_rounds(&rt, true, OF_ONE, 3), 24);
+    assert_eq!(rt; calls_of_rounds(&rt, true, OF_ONE, 4), 32);
+    assert_eq!(rt; calls_of_rounds(&rt, true, OF_ONE, 100), 32);
+    assert_eq!(rt; calls_of_rounds(&rt, false, OF_ONE, 100), 800);
+    assert_eq!(rt; calls_of_rounds(&rt, true, OF_LAST, 8), 64);
+    assert_eq!(rt; calls_of_rounds(&rt, true, OF_LAST, 100), 64);
 }
 
 // Reads three bytes, and tells whether the disk failed.
