@@ -5,108 +5,25 @@ Files that Python's plistlib, and where they are there plistutil (libplist) and 
 are mutated, and ASCII texts are made of pieces at random. `print` and `convert` run on each; what they
 print, their status, and the file that `convert` makes have to be what the second reader and writer say.
 
-Usage: fuzz.py [CASES [SEED [WORKERS]]]      Ends with its counts, and status 1 where anything differs.
+Usage: fuzz.py [CASES [SEED [WORKERS]]]      CASES in whole hundreds for each worker
+
+Needs the built `plist_tool` and a C compiler. Ends with its counts, and status 1 where anything differs.
 """
 import collections
-import datetime
 import multiprocessing
-import os
 import pathlib
-import plistlib
 import random
-import shutil
-import subprocess
 import sys
 import tempfile
 
+import bounded
+import mutations
 import second
 
 PROGRAM = pathlib.Path(__file__).resolve().parents[2] / "crates/plist_tool/out/plist_tool"
 MOST_ITEMS = 3000
-PIECES = [b"(", b")", b"{", b"}", b"=", b";", b",", b" ", b"\n", b"\t", b"\r", b"'", b'"', b"\\", b"/", b"*",
-          b"//", b"/*", b"*/", b"a", b"key", b"0x", b"0x1F", b"12", b"-5", b"+7", b"18446744073709551615",
-          b"18446744073709551616", b"\\n", b"\\U", b"\\U00e9", b"\\UD83D", b"\\UDCA9", b"\\u1234", b"\\200",
-          b"\\377", b"\\4", b"\\477", b"\\8", b"\xc3\xa9", b"\xe2\x82\xac", b"\xff", b"\x00", b"<", b"<00ff>",
-          b"\xef\xbb\xbf", b'"text"', b"'other'", b"key = value;", b"{ a = 1; }", b"(1, 2)", b"bplist00"]
-
-
-# ---- files to begin with
-
-def some_value(chance, depth=0):
-    kind = chance.randrange(9 if depth < 3 else 7)
-    if kind == 0:
-        return chance.random() < 0.5
-    if kind == 1:
-        return chance.choice([0, 5, 255, 256, 65536, -1, 1 << 32, (1 << 64) - 1, -(1 << 63)])
-    if kind == 2:
-        return chance.choice([0.0, 1.5, -2.25, 1e300])
-    if kind == 3:
-        return chance.choice(["", "a", "b", "text", "é", "\U0001F4A9", "x" * 20])
-    if kind == 4:
-        return bytes(chance.randrange(256) for _ in range(chance.choice([0, 1, 8, 9, 20])))
-    if kind == 5:
-        return datetime.datetime(2001, 1, 1) + datetime.timedelta(seconds=chance.randrange(-10 ** 9, 10 ** 9))
-    if kind == 6:
-        return plistlib.UID(chance.choice([0, 1, 255, 256, 1 << 40]))
-    below = [some_value(chance, depth + 1) for _ in range(chance.randrange(5))]
-    return below if kind == 7 else {chance.choice("abcdef") + str(i): value for i, value in enumerate(below)}
-
-
-def from_others(chance, folder):
-    """Files that other programs make of a value, as far as they are there."""
-    value = some_value(chance)
-    yield plistlib.dumps(value, fmt=plistlib.FMT_BINARY, sort_keys=False)
-    try:
-        xml = folder / "value.xml"
-        xml.write_bytes(plistlib.dumps(value, sort_keys=False))
-    except TypeError:
-        return
-    for words in (["plistutil", "-i", xml, "-f", "bin", "-o", folder / "made"],
-                  ["plistutil", "-i", xml, "-f", "openstep", "-o", folder / "made"],
-                  ["plser", xml, folder / "made", "-o", "binary"], ["plser", xml, folder / "made", "-o", "openstep"]):
-        if shutil.which(words[0]) and not subprocess.run(words, capture_output=True).returncode:
-            made = folder / "made"
-            if made.exists():
-                yield made.read_bytes()
-                made.unlink()
-
-
-# ---- mutations
-
-def mutated(chance, data):
-    data = bytearray(data)
-    for _ in range(chance.choice([1, 1, 1, 2, 3, 5])):
-        if not data:
-            break
-        at = chance.randrange(len(data))
-        kind = chance.randrange(8)
-        if kind == 0:
-            data[at] ^= 1 << chance.randrange(8)
-        elif kind == 1:
-            data[at] = chance.choice([0, 1, 2, 3, 8, 9, 15, 0x13, 0x33, 0x4F, 0x5F, 0x6F, 0x80, 0xA1, 0xD1, 0xFF])
-        elif kind == 2:
-            data[at] = chance.randrange(256)
-        elif kind == 3:
-            del data[at:at + chance.choice([1, 1, 2, 8])]
-        elif kind == 4:
-            data[at:at] = bytes(chance.randrange(256) for _ in range(chance.choice([1, 1, 2, 8])))
-        elif kind == 5:
-            other = chance.randrange(len(data))
-            data[at], data[other] = data[other], data[at]
-        elif kind == 6 and len(data) >= 32:
-            data[len(data) - chance.randrange(1, 27)] = chance.choice([0, 1, 2, 3, 4, 5, 8, 9, 40, 255])
-        else:
-            size = chance.randrange(1, 9)
-            other = chance.randrange(len(data))
-            data[at:at + size] = data[other:other + size]
-    return bytes(data)
-
-
-def some_file(chance, pool):
-    if chance.random() < 0.4:
-        return b"".join(chance.choice(PIECES) for _ in range(chance.randrange(14)))
-    data = chance.choice(pool)
-    return data if chance.random() < 0.02 else mutated(chance, data)
+# so many files are run together, each with so much processor time
+BATCH, SECONDS = 100, 60
 
 
 # ---- what has to come
@@ -128,45 +45,68 @@ def to_convert(data):
         return 1, None, told(fault)
 
 
-def run(*words):
-    done = subprocess.run(words, capture_output=True, timeout=60)
-    return done.returncode, done.stdout, done.stderr
+class Case:
+    """Bytes, what has to come of them, and where the commands read and write."""
+
+    def __init__(self, folder, data):
+        self.data, self.printed, self.converted = data, to_print(data), to_convert(data)
+        self.source, self.made = folder / "in", folder / "made"
+        self.told = {command: (folder / f"{command}.shown", folder / f"{command}.error")
+                     for command in ("print", "convert")}
+        folder.mkdir(exist_ok=True)
+
+    def begin(self):
+        """Writes the file, and says what is to be run."""
+        self.source.write_bytes(self.data)
+        self.made.unlink(missing_ok=True)
+        return [([PROGRAM, command, self.source, *output], 0, SECONDS, *self.told[command])
+                for command, output in (("print", []), ("convert", [self.made]))]
+
+    def found(self, command, ended):
+        """The status, or a signal below 0, and what was written to standard output and standard error."""
+        return -ended.signal or ended.status, *(path.read_bytes() for path in self.told[command])
+
+    def differences(self, first, second_one):
+        """What differs, by how the two commands ended."""
+        if (found := self.found("print", first)) != self.printed:
+            yield "print", found, self.printed
+        status, silent, error = self.found("convert", second_one)
+        found = status, self.made.read_bytes() if self.made.exists() else None, error
+        if found != self.converted or silent:
+            yield "convert", found, self.converted
 
 
-def differences(data, folder):
-    """What differs on these bytes, and what was counted."""
-    path, made = folder / "in", folder / "out"
-    path.write_bytes(data)
-    printed, converted = to_print(data), to_convert(data)
-    if (found := run(PROGRAM, "print", path)) != printed:
-        yield "print", found, printed
-    made.unlink(missing_ok=True)
-    status, silent, error = run(PROGRAM, "convert", path, made)
-    found = status, made.read_bytes() if made.exists() else None, error
-    if found != converted or silent:
-        yield "convert", found, converted
+def some_cases(chance, folder, pool, counts):
+    """Some cases; those of too many items are only counted."""
+    for number in range(BATCH):
+        try:
+            yield Case(folder / str(number), mutations.some_file(chance, pool))
+        except second.TooMany:
+            counts["too many items, left out"] += 1
+
+
+def judge(case, ended, counts):
+    counts["binary" if case.data.startswith(second.MAGIC) else "other"] += 1
+    counts["converted"] += case.made.exists()
+    for command, what, expected in case.differences(next(ended), next(ended)):
+        counts["different"] += 1
+        print(f"{command} of {case.data.hex()}: {what!r} in place of {expected!r}", flush=True)
 
 
 def work(words):
-    cases, seed = words
-    chance = random.Random(seed)
-    counts = collections.Counter()
+    count, seed = words
+    chance, counts = random.Random(seed), collections.Counter()
     with tempfile.TemporaryDirectory() as name:
-        folder, pool = pathlib.Path(name), []
-        for case in range(cases):
-            if case % 2000 == 0:
-                pool = [data for _ in range(20) for data in from_others(chance, folder)]
-            data = some_file(chance, pool)
-            try:
-                found = list(differences(data, folder))
-            except second.TooMany:
-                counts["too many items, left out"] += 1
-                continue
-            counts["binary" if data.startswith(second.MAGIC) else "other"] += 1
-            counts["converted"] += (folder / "out").exists()
-            for command, what, expected in found:
-                counts["different"] += 1
-                print(f"{command} of {data.hex()}: {what!r} in place of {expected!r}")
+        folder = pathlib.Path(name)
+        starter = bounded.Starter(folder)
+        for start in range(0, count, BATCH):
+            if start % (20 * BATCH) == 0:
+                pool = [data for _ in range(20) for data in mutations.from_others(chance, folder)]
+            cases = list(some_cases(chance, folder, pool, counts))
+            ended = iter(starter.run_all([run for case in cases for run in case.begin()]))
+            for case in cases:
+                judge(case, ended, counts)
+        starter.close()
     return counts
 
 
