@@ -1,0 +1,261 @@
+#!/usr/bin/env python3
+"""Runs `plist_tool` on mutated files under a small bound on its address space, as `ulimit -v` sets it.
+
+`print`, `convert` and `keyed` run on each file. The bound is the smallest one under which each of the
+files before mutation does in all three as with ample memory: one for files of some hundred bytes,
+which is little more than what the program needs to start with its call stack, and one for files of
+some 200 kB. Both are looked for first. Half of the larger files run under less, down to the first
+bound, so that memory is refused here and there. Each run has to end with status 0, 1 or 2, and never
+by a signal:
+
+- status 0 says nothing on standard error, 1 tells a fault on it, in one line;
+- OUT of `convert` is as it was before, or, with status 0, a whole binary property list, its table of
+  offsets right before its trailer. In a tenth of the cases IN is OUT;
+- what went out before memory was refused is a beginning of what goes out with ample memory.
+
+Usage: fuzz_memory.py [CASES [SEED [WORKERS [KIB]]]]      10,000 cases where none are told; KIB is the bound.
+
+Needs the built `plist_tool` and a C compiler. Ends with its counts, and status 1 where a run does
+otherwise.
+"""
+import collections
+import multiprocessing
+import pathlib
+import plistlib
+import random
+import re
+import sys
+import tempfile
+import time
+
+import bounded
+import mutations
+import second
+import speed
+
+OLDER = b"an older file"
+TOLD = re.compile(rb"Error: [^\n]+\n")
+SHORT_OF_MEMORY = b"Error: OutOfMemory"
+# what a file may take that is run with ample memory, in KiB and seconds
+AMPLE, SECONDS = 1 << 20, 20
+MOST_ROOM = 64 << 10
+COMMANDS = ("print", "keyed", "convert")
+# so many files are run together
+BATCH = 100
+# what part of the files is large
+LARGE = 0.02
+
+
+# ---- files to begin with
+
+def archive(chance):
+    """A keyed archive whose objects refer to later ones, and sometimes to others, also in rounds."""
+    count, objects = chance.randrange(3, 9), ["$null"]
+
+    def uid():
+        later = min(count - 1, len(objects) + chance.randrange(1, 3))
+        return plistlib.UID(later if chance.random() < 0.95 else chance.randrange(count))
+
+    while len(objects) < count - 1:
+        objects.append(chance.choice([
+            lambda: [uid() for _ in range(3)], lambda: {"NS.objects": [uid(), uid()], "$class": uid()},
+            lambda: {"next": uid(), "name": "one"}, lambda: chance.choice(["a text", 5, 1.5, b"data"]),
+        ])())
+    return mutations.archive_of([*objects, "end"], 1)
+
+
+def small_files(chance, folder):
+    """Files of some hundred bytes."""
+    examples = speed.PLIST_TOOL.parent / "examples"
+    yield (examples / "settings.plist").read_bytes()
+    yield (examples / "archive.plist").read_bytes()
+    for _ in range(20):
+        yield from mutations.from_others(chance, folder)
+        yield archive(chance)
+
+
+def large_files():
+    """Files of some 200 kB, as the shapes that are measured have them."""
+    for shape in (speed.integers, speed.distinct_texts, speed.repeated_texts, speed.settings, speed.blobs,
+                  speed.settings_by_plistlib):
+        yield shape(200_000)
+    yield speed.levels(20_000)
+    yield b"(" * 20_000 + b")" * 20_000
+    yield b"{ list = (" + b"(one, two, 3, { key = \"a text\"; }),\n" * 5000 + b"); }"
+
+
+# ---- runs
+
+class Case:
+    """A file, what it is run under, and where its commands read and write."""
+
+    def __init__(self, folder, data, room, in_place=False):
+        self.data, self.room, self.in_place = data, room, in_place
+        self.source, self.target = folder / "in", folder / "out"
+        self.told = {command: (folder / f"{command}.shown", folder / f"{command}.error") for command in COMMANDS}
+        folder.mkdir(exist_ok=True)
+
+    def words(self, command):
+        output = self.source if self.in_place else self.target
+        return [command, self.source, *{"keyed": ["root"], "convert": [output]}.get(command, [])]
+
+    def begin(self):
+        """Writes the files, and says what is to be run."""
+        self.source.write_bytes(self.data)
+        self.target.write_bytes(OLDER)
+        return [([speed.PROGRAM, *self.words(command)], self.room, SECONDS, *self.told[command])
+                for command in COMMANDS]
+
+    def what_was_told(self, command):
+        return [path.read_bytes() for path in self.told[command]]
+
+    def output(self):
+        """What OUT of `convert` has now, and had before."""
+        path = self.source if self.in_place else self.target
+        return path.read_bytes(), self.data if self.in_place else OLDER
+
+
+class Cases:
+    """Runs the commands on files, and counts how they end."""
+
+    def __init__(self, folder):
+        self.starter, self.counts, self.bad = bounded.Starter(folder), collections.Counter(), 0
+        self.folder, self.seconds = folder, 0.0
+
+    def answers(self, data, room):
+        """How each command ends on these bytes, and what it shows, tells and writes."""
+        case = Case(self.folder / "looked", data, room)
+        ended = self.starter.run_all(case.begin())
+        return [(one.status, case.what_was_told(command)) for one, command in zip(ended, COMMANDS)], case.output()
+
+    def least_room(self, pool, low):
+        """The smallest bound, in KiB, under which the commands do on these files as with ample memory."""
+        for data in pool:
+            ample = self.answers(data, AMPLE)
+            if self.answers(data, low) == ample:
+                continue
+            high = MOST_ROOM
+            while high - low > 4:
+                middle = (low + high) // 2
+                low, high = (low, middle) if self.answers(data, middle) == ample else (middle, high)
+            low = high
+        return low
+
+    def batch(self, cases):
+        """Runs all three commands on each of these cases."""
+        runs = [run for case in cases for run in case.begin()]
+        ended = iter(self.starter.run_all(runs))
+        for case in cases:
+            for command in COMMANDS:
+                self.judge(case, command, next(ended))
+
+    def judge(self, case, command, ended):
+        shown, error = case.what_was_told(command)
+        is_short = error.startswith(SHORT_OF_MEMORY)
+        what = f"signal {ended.signal}" if ended.signal else f"status {ended.status}"
+        self.counts[command, what + (", OutOfMemory" if is_short else "")] += 1
+        self.seconds += ended.seconds
+        faults = list(fault_of_run(ended, error))
+        if command == "convert":
+            faults += fault_of_output(ended, *case.output())
+        elif is_short and not self.is_front(case, command, shown):
+            faults.append("no beginning of what is shown with ample memory")
+        for why in faults:
+            self.bad += 1
+            front, size = case.data[:2000].hex(), len(case.data)
+            print(f"{command} under {case.room} KiB: {why}: {ended}, of {size} bytes, {front}", flush=True)
+
+    def is_front(self, case, command, shown):
+        """Whether ample memory shows the same and more; what takes too much isn't compared."""
+        path, _ = case.told[command]
+        whole, error = path.with_suffix(".whole"), path.with_suffix(".fault")
+        ended = self.starter.run([speed.PROGRAM, *case.words(command)], AMPLE, SECONDS, whole, error)
+        if ended.signal or error.read_bytes().startswith(SHORT_OF_MEMORY):
+            self.counts[command, "not compared"] += 1
+            return True
+        return whole.read_bytes().startswith(shown)
+
+
+def fault_of_run(ended, error):
+    """What is wrong with how a run ended and what it told."""
+    if ended.signal or ended.status not in (0, 1, 2):
+        yield "it didn't end by itself"
+    elif ended.status == 2:
+        yield "its words aren't wrong"
+    elif ended.status == 0 and error or ended.status == 1 and not TOLD.fullmatch(error):
+        yield f"standard error has {error!r}"
+
+
+def fault_of_output(ended, after, before):
+    """What is wrong with the file that `convert` had to write, or to leave as it was."""
+    if ended.status == 0 and not ended.signal:
+        if not is_whole(after):
+            yield f"OUT is no whole file, of {len(after)} bytes"
+    elif after != before:
+        yield f"OUT was changed, to {len(after)} bytes"
+
+
+def is_whole(data):
+    """Whether these bytes are a binary property list to its end."""
+    try:
+        container = second.Container(data)
+    except second.Fault:
+        return False
+    table, width = int.from_bytes(data[-8:], "big"), data[-26]
+    return table + len(container.places) * width == container.end
+
+
+def bounds(cases, small, large, room):
+    """The bounds under which these files work, in KiB."""
+    least = room or cases.least_room(small, 1)
+    most = room or cases.least_room(large, least)
+    print(f"files of at most {max(map(len, small)):,} bytes work under {least} KiB, "
+          f"of at most {max(map(len, large)):,} under {most} KiB", flush=True)
+    return least, most
+
+
+def some_case(chance, folder, small, large, least, most):
+    in_place = chance.random() < 0.1
+    if chance.random() < LARGE:
+        enough = most if chance.random() < 0.5 else chance.randint(least, most)
+        return Case(folder, mutations.mutated(chance, chance.choice(large)), enough, in_place)
+    return Case(folder, mutations.some_file(chance, small), least, in_place)
+
+
+def run_cases(words):
+    """Runs so many cases, by a seed, under these bounds."""
+    count, seed, room = words
+    chance, large = random.Random(seed), list(large_files())
+    with tempfile.TemporaryDirectory() as name:
+        folder = pathlib.Path(name)
+        cases = Cases(folder)
+        for start in range(0, count, BATCH):
+            if start % (20 * BATCH) == 0:
+                small = list(small_files(chance, folder))
+            names = range(min(BATCH, count - start))
+            cases.batch([some_case(chance, folder / str(i), small, large, *room) for i in names])
+        cases.starter.close()
+    return cases.counts, cases.bad, cases.seconds
+
+
+def main():
+    words = sys.argv[1:] + ["10000", "1", "1", "0"][len(sys.argv) - 1:]
+    count, seed, workers, room = (int(word) for word in words)
+    started = time.monotonic()
+    with tempfile.TemporaryDirectory() as name:
+        folder = pathlib.Path(name)
+        cases = Cases(folder)
+        room = bounds(cases, list(small_files(random.Random(seed), folder)), list(large_files()), room)
+        cases.starter.close()
+    with multiprocessing.Pool(workers) as pool:
+        shares = [(count // workers + (i < count % workers), seed * 1000 + i, room) for i in range(workers)]
+        counts, bad, seconds = zip(*pool.map(run_cases, shares, chunksize=1))
+    for (command, what), times in sorted(sum(counts, collections.Counter()).items()):
+        print(f"{command}: {times:,} {what}")
+    print(f"{count:,} files: {sum(bad)} runs did otherwise; {sum(seconds):.0f} seconds of the program, "
+          f"{time.monotonic() - started:.0f} in all")
+    return 1 if sum(bad) else 0
+
+
+if __name__ == "__main__":
+    sys.exit(main())
