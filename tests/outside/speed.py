@@ -18,6 +18,7 @@ Usage: speed.py [MEGABYTES ..]      1, 10 and 50 where none are named
        speed.py --plot FILE         the picture of the printed tables that stand in a file, as SVG
 """
 import datetime
+import itertools
 import math
 import os
 import pathlib
@@ -146,23 +147,89 @@ def doubling(depth):
     return file.bytes(inner)
 
 
-def settings_by_plistlib(size):
-    """Settings as plistlib lays them out, with 5,000 texts that they share."""
+def texts_beyond_ascii(size):
+    file, items = File(), []
+    while file.size + 4 * len(items) < size:
+        content = f"ein Text für sich, № {len(items)}".encode("utf-16-be")
+        items.append(file.add(file.head(6, len(content) // 2) + content))
+    return file.bytes(file.array(items))
+
+
+def some_settings(count):
+    """Settings as Python's values, with 5,000 texts that they share."""
     rng, start = random.Random(1), datetime.datetime(2001, 1, 1)
     shared = [f"value {n}" for n in range(5000)]
-    items = [{
+    return [{
         "name": f"setting {number}", "enabled": rng.random() < 0.5, "count": number, "path": rng.choice(shared),
         "modified": start + datetime.timedelta(seconds=rng.randrange(10**9)), "icon": rng.randbytes(24),
         "tags": rng.choices(shared, k=4), "options": {rng.choice(shared): False, "name": rng.choice(shared)},
-    } for number in range(size // 185)]
-    return plistlib.dumps(items, fmt=plistlib.FMT_BINARY, sort_keys=False)
+    } for number in range(count)]
+
+
+def settings_by_plistlib(size):
+    """Settings as plistlib lays them out."""
+    return plistlib.dumps(some_settings(size // 185), fmt=plistlib.FMT_BINARY, sort_keys=False)
+
+
+def settings_by_plistutil(size):
+    """Settings as libplist lays them out."""
+    xml = plistlib.dumps(some_settings(size // 185), sort_keys=False)
+    return subprocess.run(["plistutil", "-f", "bin"], input=xml, capture_output=True, check=True).stdout
+
+
+def references_of(content, width):
+    """Where the references of an object begin and how many there are, none of a scalar."""
+    kind, count, start = content[0] >> 4, content[0] & 15, 1
+    if kind not in (10, 13):
+        return 0, 0
+    if count == 15:
+        start = 2 + (1 << (content[1] & 15))
+        count = int.from_bytes(content[2:start], "big")
+    return start, count * (2 if kind == 13 else 1)
+
+
+def renumbered(data, are_moved):
+    """The same property list with numbers for its objects at random; if they are moved, they stand in that order."""
+    rng, (width, reference) = random.Random(1), data[-26:-24]
+    count, root, table = (int.from_bytes(data[i:i + 8], "big") for i in range(len(data) - 24, len(data), 8))
+    places = [int.from_bytes(data[i:i + width], "big") for i in range(table, table + count * width, width)]
+    ends = dict(zip(sorted(places), [*sorted(places)[1:], table]))
+    number_of = list(range(count))
+    rng.shuffle(number_of)
+    objects = []
+    for place in places:
+        content = data[place:ends[place]]
+        start, many = references_of(content, reference)
+        rest = [int.from_bytes(content[i:i + reference], "big") for i in range(start, start + many * reference, reference)]
+        moved = b"".join(number_of[child].to_bytes(reference, "big") for child in rest)
+        objects.append(content[:start] + moved + content[start + len(moved):])
+    order = sorted(range(count), key=number_of.__getitem__ if are_moved else places.__getitem__)
+    starts = itertools.accumulate((len(objects[i]) for i in order), initial=8)
+    offsets = [b""] * count
+    for i, start in zip(order, starts):
+        offsets[number_of[i]] = start.to_bytes(width, "big")
+    numbers = b"".join(n.to_bytes(8, "big") for n in (count, number_of[root], table))
+    return (b"bplist00" + b"".join(objects[i] for i in order) + b"".join(offsets) + bytes(6)
+            + bytes([width, reference]) + numbers)
+
+
+def renumbered_settings(size):
+    return renumbered(settings_by_plistlib(size), False)
+
+
+def scattered_settings(size):
+    return renumbered(settings_by_plistlib(size), True)
 
 
 SHAPES = {"integers": integers, "distinct texts": distinct_texts, "repeated texts": repeated_texts,
-          "settings": settings, "blobs": blobs}
+          "settings": settings, "blobs": blobs, "texts beyond ASCII": texts_beyond_ascii,
+          "settings by plistlib": settings_by_plistlib, "these, renumbered": renumbered_settings,
+          "these, scattered": scattered_settings}
+if shutil.which("plistutil"):
+    SHAPES["settings by plistutil"] = settings_by_plistutil
 LEVELS = {"10^5 levels": lambda: levels(10**5), "10^6 levels": lambda: levels(10**6)}
 SHARING = {"doubling, 2^17 arrays": lambda: doubling(16), "doubling, 2^20 arrays": lambda: doubling(19)}
-OTHERS = {**LEVELS, **SHARING, "settings by plistlib": lambda: settings_by_plistlib(10_000_000)}
+OTHERS = {**LEVELS, **SHARING}
 
 
 def make(path, shape, *size):
@@ -367,20 +434,25 @@ def print_items(path, size, known):
 
 
 def calls_of(words, path):
-    """The system calls of a program, where they can be counted."""
-    if shutil.which("strace") is None:
-        return None
+    """How often a program made each system call."""
     counts = path.with_name("calls")
     subprocess.run(["strace", "-f", "-c", "-o", counts, *words, path], stdout=subprocess.DEVNULL, check=True)
-    last = counts.read_text().split("\n")[-2].split()
-    return int(last[3])
+    lines = [line.split() for line in counts.read_text().splitlines()[2:]]
+    return {line[-1]: int(line[3]) for line in lines if len(line) > 4 and line[3].isdigit() and line[-1] != "total"}
 
 
-def print_calls(path, words):
-    make(path, "settings by plistlib")
-    calls = calls_of(words, path)
-    if calls is not None:
-        print(f"\nSystem calls of `plist_tool print` on settings that plistlib wrote, with 5,000 texts that they share, {path.stat().st_size:,} bytes: {calls:,}.")
+def print_calls(path, size, words):
+    """The system calls of `print` where reads cost most: objects that refer to each other all over the file."""
+    if shutil.which("strace") is None:
+        return
+    print("\nSystem calls of `plist_tool print`:\n")
+    heading(["shape", "bytes", "calls", "reads", "seeks"])
+    for shape in SHAPES:
+        if shape.startswith(("settings", "these")):
+            make(path, shape, size)
+            calls = calls_of(words, path)
+            reads = sum(calls.get(name, 0) for name in ("read", "pread64", "readv"))
+            print(f"| {shape} | {path.stat().st_size:,} | {sum(calls.values()):,} | {reads:,} | {calls.get('lseek', 0):,} |", flush=True)
 
 
 def main(words):
@@ -391,7 +463,7 @@ def main(words):
         crate = peer(folder)
         known = dict(programs(crate))
         print_table(path, sizes, known)
-        print_calls(path, known["plist_tool"])
+        print_calls(path, max(sizes), known["plist_tool"])
         items = items_program(folder)
         if items:
             print_items(path, min(sizes, key=lambda size: abs(size - 10)), {"BinaryReader": [items], **({"the crate": [crate, "items"]} if crate else {})})

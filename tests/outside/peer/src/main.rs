@@ -1,54 +1,138 @@
 //! The Rust crate `plist` on the command line: `peer print FILE` prints a binary property list's events,
 //! `peer items FILE TIMES` only counts them, so many times, `peer events FILE` hands them to a writer
 //! over memory and prints how many bytes it wrote, `peer convert IN OUT` reads a value and writes it.
+//!
+//! It prints as fast as it can: lines go into one buffer, digits come from tables.
 use plist::stream::{BinaryReader, BinaryWriter, Event, Writer};
-use std::io::{BufWriter, Cursor, Write};
+use plist::Integer;
+use std::io::{Cursor, Write};
+use std::time::{Duration, SystemTime};
 use std::{env, fs, io};
 
-fn print_text(out: &mut impl Write, text: &str) -> io::Result<()> {
-    out.write_all(b"String \"")?;
-    for byte in text.bytes() {
-        match byte {
-            0x20..=0x7e if byte != b'\\' && byte != b'"' => out.write_all(&[byte])?,
-            _ => write!(out, "\\x{byte:02x}")?,
-        }
+/// Both hexadecimal digits of each byte.
+static PAIRS: [[u8; 2]; 256] = pairs();
+
+/// Where dates begin, in seconds since 1970.
+const EPOCH: u64 = 978_307_200;
+
+/// So many bytes of lines go out together.
+const FULL: usize = 1 << 16;
+
+const fn pairs() -> [[u8; 2]; 256] {
+    let digits = b"0123456789abcdef";
+    let mut table = [[0; 2]; 256];
+    let mut byte = 0;
+    while byte < 256 {
+        table[byte] = [digits[byte >> 4], digits[byte & 15]];
+        byte += 1;
     }
-    out.write_all(b"\"\n")
+    table
 }
 
-fn print_event(out: &mut impl Write, event: &Event) -> io::Result<()> {
-    match event {
-        Event::StartArray(Some(length)) => writeln!(out, "StartArray {length}"),
-        Event::StartDictionary(Some(length)) => writeln!(out, "StartDictionary {length}"),
-        Event::EndCollection => out.write_all(b"EndCollection\n"),
-        Event::Boolean(value) => writeln!(out, "Boolean {value}"),
-        Event::Data(bytes) => {
-            out.write_all(b"Data ")?;
-            for byte in bytes.iter() {
-                write!(out, "{byte:02x}")?;
-            }
-            out.write_all(b"\n")
+fn push_hexadecimal(lines: &mut Vec<u8>, bytes: &[u8]) {
+    lines.reserve(2 * bytes.len());
+    lines.extend(bytes.iter().flat_map(|&byte| PAIRS[byte as usize]));
+}
+
+fn push_text(lines: &mut Vec<u8>, text: &str) {
+    let mut rest = text.as_bytes();
+    lines.extend_from_slice(b"String \"");
+    while !rest.is_empty() {
+        let is_plain = |&byte: &u8| matches!(byte, 0x20..=0x7e) && byte != b'\\' && byte != b'"';
+        let plain = rest.iter().position(|byte| !is_plain(byte)).unwrap_or(rest.len());
+        lines.extend_from_slice(&rest[..plain]);
+        rest = &rest[plain..];
+        if let Some((&byte, behind)) = rest.split_first() {
+            lines.extend_from_slice(b"\\x");
+            lines.extend_from_slice(&PAIRS[byte as usize]);
+            rest = behind;
         }
-        Event::Date(date) => writeln!(out, "Date {date:?}"),
-        Event::Integer(value) => writeln!(out, "Integer {value}"),
-        Event::Real(value) => writeln!(out, "Real {:016x}", value.to_bits()),
-        Event::String(text) => print_text(out, text),
-        Event::Uid(uid) => writeln!(out, "Uid {}", uid.get()),
-        _ => Ok(()),
     }
+    lines.push(b'"');
+}
+
+fn push_number(lines: &mut Vec<u8>, number: impl itoa::Integer) {
+    lines.extend_from_slice(itoa::Buffer::new().format(number).as_bytes());
+}
+
+fn push_integer(lines: &mut Vec<u8>, value: Integer) {
+    match (value.as_unsigned(), value.as_signed()) {
+        (Some(number), _) => push_number(lines, number),
+        (_, Some(number)) => push_number(lines, number),
+        _ => {}
+    }
+}
+
+// The whole second, rounded down.
+fn push_date(lines: &mut Vec<u8>, date: SystemTime) {
+    match date.duration_since(SystemTime::UNIX_EPOCH + Duration::from_secs(EPOCH)) {
+        Ok(behind) => push_number(lines, behind.as_secs()),
+        Err(before) => {
+            let before = before.duration();
+            let part = i64::from(before.subsec_nanos() > 0);
+            push_number(lines, -(before.as_secs() as i64) - part);
+        }
+    }
+}
+
+fn push_line(lines: &mut Vec<u8>, event: &Event) {
+    match event {
+        Event::StartArray(Some(length)) => {
+            lines.extend_from_slice(b"StartArray ");
+            push_number(lines, *length);
+        }
+        Event::StartDictionary(Some(length)) => {
+            lines.extend_from_slice(b"StartDictionary ");
+            push_number(lines, *length);
+        }
+        Event::EndCollection => lines.extend_from_slice(b"EndCollection"),
+        Event::Boolean(true) => lines.extend_from_slice(b"Boolean true"),
+        Event::Boolean(false) => lines.extend_from_slice(b"Boolean false"),
+        Event::Data(bytes) => {
+            lines.extend_from_slice(b"Data ");
+            push_hexadecimal(lines, bytes);
+        }
+        Event::Date(date) => {
+            lines.extend_from_slice(b"Date ");
+            push_date(lines, (*date).into());
+        }
+        Event::Integer(value) => {
+            lines.extend_from_slice(b"Integer ");
+            push_integer(lines, *value);
+        }
+        Event::Real(value) => {
+            lines.extend_from_slice(b"Real ");
+            push_hexadecimal(lines, &value.to_bits().to_be_bytes());
+        }
+        Event::String(text) => push_text(lines, text),
+        Event::Uid(uid) => {
+            lines.extend_from_slice(b"Uid ");
+            push_number(lines, uid.get());
+        }
+        _ => {}
+    }
+    lines.push(b'\n');
+}
+
+fn print(bytes: Vec<u8>) -> Result<(), Box<dyn std::error::Error>> {
+    let mut out = io::stdout().lock();
+    let mut lines = Vec::with_capacity(2 * FULL);
+    for event in BinaryReader::new(Cursor::new(bytes)) {
+        push_line(&mut lines, &event?);
+        if lines.len() >= FULL {
+            out.write_all(&lines)?;
+            lines.clear();
+        }
+    }
+    out.write_all(&lines)?;
+    Ok(out.flush()?)
 }
 
 fn main() -> Result<(), Box<dyn std::error::Error>> {
     let words: Vec<String> = env::args().skip(1).collect();
     let bytes = fs::read(&words[1])?;
     match words[0].as_str() {
-        "print" => {
-            let mut out = BufWriter::new(io::stdout().lock());
-            for event in BinaryReader::new(Cursor::new(bytes)) {
-                print_event(&mut out, &event?)?;
-            }
-            out.flush()?;
-        }
+        "print" => print(bytes)?,
         "items" => {
             let mut count = 0u64;
             for _ in 0..words[2].parse::<u64>()? {
