@@ -6,14 +6,14 @@
 Each word is a measurement, in a fresh clone of HEAD; without words all but the gate are made:
 first     ./plist_tool print of an example, from nothing: to its first line, which isn't proved yet,
           and to its end, with the proved program
-function  one changed function of some crates, checked again over the built clone
-user      the first program of the README, checked as a crate of its own over the built clone
+function  one changed function of some crates, checked again over what a check of these kept
+user      the first program of the README, checked as a crate of its own over the built libraries
 gate      .ci/run, from nothing
 
 A line has seconds of wall clock, and seconds of processor time (user and system) of all processes.
 Where much of a machine's time is given to others, only the second tells something; the share that
 was is in the last column. `rt` takes over what runs in other checkouts kept on the same machine:
-`RT_KEPT` names the folder where it keeps that, which is moved away meanwhile.
+`RT_KEPT` names the folder where it keeps that, which is moved away for what is measured from nothing.
 """
 import os
 import pathlib
@@ -26,11 +26,13 @@ import time
 
 TOP = pathlib.Path(__file__).resolve().parents[2]
 KEPT = pathlib.Path(os.environ.get("RT_KEPT", "/opt/rattle-kept"))
+FROM_NOTHING = {"first", "gate"}
 
 # A line of a function, and another that does the same.
 CHANGES = {
     "plist_binread": ("src/trailer.rt", "if end <= trailer =>", "if trailer >= end =>"),
-    "plist": ("src/files.rt", "        self.sync()\n", "        let stored = self.sync();\n        stored\n"),
+    "plist_pairs": ("src/dictionary/store.rt", "        self.keys.contains(key)\n",
+                    "        let found = self.keys.contains(key);\n        found\n"),
 }
 
 
@@ -112,13 +114,13 @@ def main(words):
     words = words or ["first", "function", "user"]
     print(f"{'':40} {'wall':>8} {'processor':>8}  stolen")
     aside = KEPT.with_name(KEPT.name + ".aside")
-    if KEPT.exists():
+    if KEPT.exists() and FROM_NOTHING & {*words}:
         KEPT.rename(aside)
     try:
         with tempfile.TemporaryDirectory(prefix="times-") as room:
             clone = pathlib.Path(room) / "clone"
             run(["git", "clone", "-q", str(TOP), str(clone)], room)
-            if {"first", "function", "user"} & {*words}:
+            if "first" in words:
                 first(clone)
             if "function" in words:
                 function(clone)
@@ -129,8 +131,8 @@ def main(words):
                 run(["git", "clone", "-q", str(TOP), str(clean)], room)
                 gate(clean)
     finally:
-        shutil.rmtree(KEPT, ignore_errors=True)
         if aside.exists():
+            shutil.rmtree(KEPT, ignore_errors=True)
             aside.rename(KEPT)
 
 
