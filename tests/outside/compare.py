@@ -21,7 +21,9 @@ null and fill objects, sets, URLs, a lone surrogate, integers of 16 bytes that d
 that are no number or out of range. A text of bytes above 127 is UTF-8 for this program, plistutil and
 plser, and plistlib refuses it.
 
-Usage: compare.py [FILE ..]      Ends with status 1 where a line differs or a program fails.
+Usage: compare.py [--trees N] [FILE ..]      150 trees by chance of each kind where no number is told.
+
+Ends with status 1 where a line differs or a program fails.
 
 Needs Python 3.8 or later, plistutil and plser.
 """
@@ -36,7 +38,9 @@ import subprocess
 import sys
 import tempfile
 
-PLIST_TOOL = pathlib.Path(__file__).resolve().parents[2] / "plist_tool"
+TOP = pathlib.Path(__file__).resolve().parents[2]
+# the script builds the program where that is needed
+PLIST_TOOL, PROGRAM = TOP / "plist_tool", TOP / "crates/plist_tool/out/plist_tool"
 TREES_OF_A_KIND = 150
 EPOCH = datetime.datetime(2001, 1, 1)
 SECOND = datetime.timedelta(seconds=1)
@@ -91,13 +95,13 @@ def with_long_real(line):
 
 
 def printed(path):
-    return [with_long_real(line) for line in run(PLIST_TOOL, "print", path).decode("ascii").splitlines()]
+    return [with_long_real(line) for line in run(PROGRAM, "print", path).decode("ascii").splitlines()]
 
 
 def converted(path):
     made = path.with_suffix(".converted")
     made.unlink(missing_ok=True)
-    run(PLIST_TOOL, "convert", path, made)
+    run(PROGRAM, "convert", path, made)
     return made
 
 
@@ -213,23 +217,23 @@ def tree(rng, scalars, depth):
     return {rng.choice(keys) + str(place % 20): child for place, child in enumerate(children)}
 
 
-def values_of(rng, scalars):
+def values_of(rng, scalars, trees):
     """All the scalars, long collections, and trees by chance."""
     yield scalars
     for length in (255, 256, 65_536):
         yield list(range(length))
         yield {f"key {number}": number for number in range(length)}
     short = [scalar for scalar in scalars if not isinstance(scalar, (str, bytes)) or len(scalar) < 300]
-    for _ in range(TREES_OF_A_KIND):
+    for _ in range(trees):
         yield [tree(rng, short, 4) for _ in range(3)]
 
 
-def files_of(names, folder):
+def files_of(names, folder, trees):
     """For each file its writer, its path, and which programs are to read it."""
     rng, scalars = random.Random(1), []
     for readers, more in SCALARS:
         scalars += more
-        for value in values_of(rng, scalars):
+        for value in values_of(rng, scalars, trees):
             for writer in readers:
                 yield writer, PROGRAMS[writer].write(value, folder / "value.xml"), readers
     yield "hand", container(BY_HAND), ["plistlib", "plistutil"]
@@ -268,10 +272,10 @@ def ascii_of(rng, value):
     return gap + '"' + "".join(ESCAPES.get(letter, letter) for letter in value) + '"'
 
 
-def ascii_files_of(folder):
+def ascii_files_of(folder, trees):
     """For each ASCII file its writer, its bytes, and the value that it says."""
     rng = random.Random(2)
-    for _ in range(TREES_OF_A_KIND):
+    for _ in range(trees):
         value = [text_tree(rng, 4) for _ in range(3)]
         yield "hand (ASCII)", ascii_of(rng, value).encode(), value
         yield "plser (ASCII)", plser(xml_of(value, folder / "value.xml", None), "OpenStep"), value
@@ -288,8 +292,11 @@ def difference(ours, theirs, keeps_order):
     return None
 
 
-def main(names):
-    counts = collections.Counter()
+def main(words):
+    counts, trees = collections.Counter(), TREES_OF_A_KIND
+    if words[:1] == ["--trees"]:
+        trees, words = int(words[1]), words[2:]
+    subprocess.run([PLIST_TOOL], capture_output=True)
 
     def note(number, writer, reader, action, found):
         counts[action, writer, reader, "DIFFER" if found else "are the same"] += 1
@@ -298,7 +305,7 @@ def main(names):
 
     with tempfile.TemporaryDirectory() as folder:
         path = pathlib.Path(folder) / "file.plist"
-        for number, (writer, content, readers) in enumerate(files_of(names, path.parent)):
+        for number, (writer, content, readers) in enumerate(files_of(words, path.parent, trees)):
             path.write_bytes(content)
             ours, made = printed(path), converted(path)
             for name in readers:
@@ -307,7 +314,7 @@ def main(names):
                 note(number, writer, name, "print", difference(ours, theirs, reader.keeps_order))
                 again = lines_of(reader.read(made))
                 note(number, writer, name, "convert", difference(again, theirs, reader.keeps_order))
-        for number, (writer, content, value) in enumerate(ascii_files_of(path.parent)):
+        for number, (writer, content, value) in enumerate(ascii_files_of(path.parent, trees)):
             path.write_bytes(content)
             made = converted(path)
             theirs = lines_of(from_xml(plser(path, "XML")))
