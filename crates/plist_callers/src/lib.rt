@@ -3,8 +3,8 @@
 //!
 //! From the lowest layer up: `faults`, `texts`, `dates`, `reals`, `hashes`, `events`, `sources`,
 //! `limits`, `data`; the readers `binary`, `ascii` and `either`, and the `writer`; `values` and their
-//! `contents`, dictionaries by `pairs`, `entries` and `iterators`, and `depths`, the recursions over
-//! them; and `archives`.
+//! `contents`, what `writers` send of them, dictionaries by `pairs`, `entries` and `iterators`, and
+//! `depths`, the recursions over them; and `archives`.
 #![tactic(auto)]
 
 pub mod archives;
@@ -27,3 +27,4 @@ pub mod sources;
 pub mod texts;
 pub mod values;
 pub mod writer;
+pub mod writers;

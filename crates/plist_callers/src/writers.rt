@@ -1,0 +1,60 @@
+//! Proved callers of what writers send of a value to a vector: it is a file of the value, as each
+//! writer says, and the value comes back of it.
+
+ghost use Rattle.std.specs.Prelude.{◌≡◌, IfErr, IfOk};
+ghost use Rattle.plist_base.specs.Faults.{error_kind_of, kind_of};
+ghost use Rattle.plist_binwrite.specs.Files.{IsFileOf};
+ghost use Rattle.plist_binwrite.specs.ObjectCounts.{HasObjects};
+ghost use Rattle.plist_share.specs.Distinct.{IsLeastOfAll, distinct_subtrees};
+ghost use Rattle.plist_share.specs.SharedFiles.{IsSharedFileOf};
+ghost use Rattle.plist.specs.Views.{tree_of};
+ghost use Rattle.plist_callers.specs.Writers.{KeepsFromBack};
+
+use plist::callers::file_by_events;
+use plist::{Error, Value};
+use plist_binwrite::EqualScalars;
+use plist_share::EqualTrees;
+use std::alloc::Global;
+
+/// The value of a value's own file, which is that value.
+///
+/// # Errors
+///
+/// `PlistTooLarge` where the file would have 2^64 bytes or more; `OutOfMemory`, or `Io` where the
+/// vector has no memory for it.
+pub fn write_back(alloc: Global, value: &Value) -> Result<Value, Error>
+    ensures same { IfOk result (λ again. tree_of again ≡ tree_of value.now) }
+    ensures refused { IfErr result
+        (λ e. KeepsFromBack (kind_of (error_kind_of e)) (tree_of value.now)) }
+{
+    let mut bytes = Vec::new(alloc);
+    match value.to_writer_binary(alloc, &mut bytes) {
+        Ok(()) => Value::from_reader(alloc, bytes),
+        Err(error) => Err(error),
+    }
+}
+
+/// The file that a plain writer sends of a value's events.
+///
+/// # Errors
+///
+/// Those of [`BinaryWriter`](plist_binwrite::BinaryWriter).
+pub fn plain_file(alloc: Global, value: &Value) -> Result<Vec<u8>, Error>
+    ensures file { IfOk result (λ file. IsFileOf (tree_of value.now) file.items) }
+{
+    file_by_events::<EqualScalars>(alloc, value)
+}
+
+/// The file that a sharing writer sends of them: as many objects as the value has different
+/// subtrees, and no file of the same events has fewer.
+///
+/// # Errors
+///
+/// Those of [`SharingWriter`](plist_share::SharingWriter).
+pub fn shared_file(alloc: Global, value: &Value) -> Result<Vec<u8>, Error>
+    ensures file { IfOk result (λ file. IsSharedFileOf (tree_of value.now) file.items) }
+    ensures count { IfOk result (λ f. HasObjects f.items (distinct_subtrees (tree_of value.now))) }
+    ensures least { IfOk result (λ _. IsLeastOfAll (tree_of value.now)) }
+{
+    file_by_events::<EqualTrees>(alloc, value)
+}
