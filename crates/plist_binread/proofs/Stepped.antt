@@ -1,5 +1,6 @@
 -- One step of a reader that knows no limits.
 use Rattle.std.proofs.Common.{◌≡◌, ℕ, ◌^◌, ◌<◌, ◌≤◌, true, false, List, ◌∷◌, length, reverse, Option, None, Some, Result, Ok, Err, IfSome, refl, ap, sym, arith}
+use Rattle.std.specs.Option.{is_some}
 use Rattle.std.specs.Prelude.{MatchOption, MatchResult, OnErr, OnOk}
 use Rattle.plist_base.specs.declared.error.Error.{Error}
 use Rattle.plist_base.specs.declared.source.Source.{Ghosts}
@@ -204,7 +205,8 @@ falls_in (Some (Err refused)) last P Q h = (h.0, tt)
 module _ {R C : Type 0} {g : Ghosts R} {h : CounterGhosts C} (known : R → Option (List ℕ))
     (failed : R → ℕ) (counts : Type 0) (count : C → ℕ) (old new : BinaryReader R C g h)
     (same : known new.source ≡ known old.source)
-    (counted : counts → count new.counter ≡ cached_in new.walk) where
+    (counted : counts → count new.counter ≡ cached_in new.walk)
+    (limiter : new.limiter ≡ old.limiter) where
   pub first_walks : (noted : Result (Unit {0}) Refused) → old.state ≡ Fresh
       → new.state ≡ state_after (Some noted)
       → IfSome (known old.source) (GivesFirst noted new.bounds new.last new.walk)
@@ -234,6 +236,7 @@ module _ {R C : Type 0} {g : Ghosts R} {h : CounterGhosts C} (known : R → Opti
         cached = first_kept old.state new.walk.tags.items (event_in new.last) (known old.source)
             old.bounds old.walk.frames answer fresh kept;
         leaves = left_behind known counts count old new new.walk.path new.walk.same counted bounded;
+        kept = (ap is_some limiter, λ begun. absurd (cc (ap is_fresh fresh)));
         falls = first_falls old.state new.state old.walk.frames new.walk.frames answer after
             (walk_objects new.walk) (walk_objects old.walk) fresh
             (omega (arith, new.walk.tags.ok, new.walk.tags.small)) (ok_in noted new.last _ falls);
@@ -270,6 +273,7 @@ module _ {R C : Type 0} {g : Ghosts R} {h : CounterGhosts C} (known : R → Opti
             old.bounds old.walk.frames item walking kept;
         leaves = left_behind known counts count old new new.walk.path new.walk.same counted
             (rw size bounded);
+        kept = (ap is_some limiter, λ _. size);
         falls = item_falls old.state new.state old.walk.frames new.walk.frames item after
             (walk_objects old.walk) (walk_objects new.walk) walking size
             (falls_in noted new.last _ _ falls);

@@ -14,7 +14,7 @@ use Rattle.plist_binread.specs.declared.told.Refused.{Refused}
 use Rattle.plist_binread.specs.declared.told.Told.{Told}
 use Rattle.std.specs.String.{string_bytes}
 use Rattle.plist_binread.specs.Turning.{IsKeptTold}
-use Rattle.plist_binread.specs.BinaryReader.{EndsAfter, GivesAs, HasEnded, HoldsHead, Leaves, end_comes, is_limited, is_new, number_to_come, source_of, steps_to_come, to_come, walk_closes, walk_to_come}
+use Rattle.plist_binread.specs.BinaryReader.{EndsAfter, GivesAs, HasEnded, HoldsHead, KeepsCounts, Leaves, end_comes, is_limited, is_new, number_to_come, source_of, steps_to_come, to_come, walk_closes, walk_to_come}
 
 module _ {R C : Type 0} {g : Ghosts R} {h : CounterGhosts C} where
   -- the event that was told last
@@ -62,6 +62,7 @@ pub record TellsBy {A R C : Type 0} {g : Ghosts R} {h : CounterGhosts C}
   pub cached : IfSome (known (source_of old))
       (λ bytes. CachesTold (number_to_come bytes old) item new)
   pub leaves : Leaves known counts count old new
+  pub kept : KeepsCounts old new
   pub falls : IfSome item (λ _. steps_to_come new < steps_to_come old)
 
 -- a step that is refused for a length comes to a text or data of more bytes than may come, and ends

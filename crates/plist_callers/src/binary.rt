@@ -1,9 +1,9 @@
 //! Proved callers of a reader: how many objects it tells of a file, and what comes behind a fault.
 
-ghost use Rattle.std.specs.Prelude.{◌≡◌, ◌≤◌, None};
+ghost use Rattle.std.specs.Prelude.{◌≡◌, ◌≤◌, None, false};
 ghost use Rattle.plist_binread.specs.BinaryReader.{told_objects};
 
-use plist_base::{Error, OwnedEvent, Source};
+use plist_base::{Error, ErrorKind, OwnedEvent, Source};
 use plist_binread::BinaryReader;
 use std::alloc::Global;
 
@@ -29,4 +29,30 @@ pub fn next_behind_a_fault<R: Source>(
         Some(Err(_)) => reader.next(),
         _ => None,
     }
+}
+
+/// Whether a reader without limits reaches one, at its first item or at the second: never, whatever
+/// the source does.
+pub fn reaches_a_limit<R: Source>(alloc: Global, source: R) -> bool
+    ensures { result ≡ false }
+{
+    let mut reader = BinaryReader::new(alloc, source);
+    match reader.next() {
+        Some(Ok(_)) => match reader.next() {
+            Some(Err(error)) => matches!(error.kind(), ErrorKind::LimitReached(_)),
+            _ => false,
+        },
+        Some(Err(error)) => matches!(error.kind(), ErrorKind::LimitReached(_)),
+        None => false,
+    }
+}
+
+/// How many objects a reader that has given an item tells behind the next one: as many as before.
+pub fn count_again<R: Source>(reader: &mut BinaryReader<R>) -> (usize, usize)
+    ensures { result.0 ≡ result.1 }
+{
+    let _ = reader.next();
+    let before = reader.object_count();
+    let _ = reader.next();
+    (before, reader.object_count())
 }

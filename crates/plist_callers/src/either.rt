@@ -2,8 +2,9 @@
 
 ghost use Rattle.std.specs.Prelude.{◌≡◌, false, true};
 
-use plist_base::Source;
+use plist_base::{ErrorKind, Source};
 use plist_reader::Reader;
+use std::alloc::Global;
 
 /// Whether something comes behind the end, or behind a device's failure.
 pub fn comes_behind_end<R: Source>(reader: &mut Reader<R>) -> bool
@@ -23,5 +24,45 @@ pub fn has_its_place<R: Source>(reader: &mut Reader<R>) -> bool
     match reader.next() {
         Some(Err(error)) => !error.is_io() || error.offset().is_some(),
         _ => true,
+    }
+}
+
+/// Whether something comes behind XML, or behind a collection that contains itself.
+pub fn comes_behind_refusal<R: Source>(reader: &mut Reader<R>) -> bool
+    ensures { result ≡ false }
+{
+    match reader.next() {
+        Some(Err(error)) => match error.kind() {
+            ErrorKind::XmlUnsupported | ErrorKind::RecursiveObject => reader.next().is_some(),
+            _ => false,
+        },
+        _ => false,
+    }
+}
+
+/// Whether a reader gives a fault that only a writer has.
+pub fn fails_as_a_writer<R: Source>(reader: &mut Reader<R>) -> bool
+    ensures { result ≡ false }
+{
+    match reader.next() {
+        Some(Err(error)) => {
+            matches!(error.kind(), ErrorKind::WriterFailed | ErrorKind::PlistTooLarge)
+        }
+        _ => false,
+    }
+}
+
+/// Whether a reader without limits reaches one, at its first item or at the second.
+pub fn reaches_a_limit<R: Source>(alloc: Global, source: R) -> bool
+    ensures { result ≡ false }
+{
+    let mut reader = Reader::new(alloc, source);
+    match reader.next() {
+        Some(Ok(_)) => match reader.next() {
+            Some(Err(error)) => matches!(error.kind(), ErrorKind::LimitReached(_)),
+            _ => false,
+        },
+        Some(Err(error)) => matches!(error.kind(), ErrorKind::LimitReached(_)),
+        None => false,
     }
 }

@@ -1,3 +1,6 @@
+use Rattle.std.proofs.lemmas.Result.{err_from_is_err_and}
+use Rattle.std.proofs.Common.{ℕ, List, None, Option, Some, IfSome}
+use Rattle.std.specs.Prelude.{⊤}
 use Rattle.plist_reader.specs.Reader.{to_come}
 use Rattle.plist_uses.proofs.Tallies.{begun, counted, all-counted}
 use Rattle.plist_uses.proofs.counting.count.Goals as goal
@@ -18,4 +21,15 @@ returns g c = record {
       (to_come g.R.Source.known c.loop-item.reader) (to_come g.R.Source.known c.next.new.self)
       c.loop-item.counts c.new-reader.ensures.items c.loop-item.invariant
       c.in_default.ensures.steps.items;
+}
+
+asks-nothing : (known : Option (List ℕ)) → IfSome known (λ _. ⊤)
+asks-nothing None = tt
+asks-nothing (Some bytes) = tt
+
+pub returns-in_err-take : goal.returns-in_err-take
+returns-in_err-take g c = record {
+  value =
+      let p = err_from_is_err_and c.from_residual.result c.from_residual.ensures.1 in
+      rw p.1 (asks-nothing (g.R.Source.known c.args.source));
 }

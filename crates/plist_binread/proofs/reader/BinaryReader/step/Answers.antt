@@ -22,19 +22,20 @@ returns-in-Ended-clause-walks g c = record {
       (event_in c.args.self.now.last));
   leaves = left_behind _ _ _ _ _ c.args.self.now.walk.path c.args.self.now.walk.same
       c.args.self.now.counted c.args.self.now.bounded;
+  kept = (refl, λ _. refl);
   falls = tt;
 }
 
 pub returns-in-Fresh-clause-walks : goal.returns-in-Fresh-clause-walks
 returns-in-Fresh-clause-walks g c =
-    first_walks _ _ _ _ c.args.self.now _ c.begin.ensures.unchanged c.begin.ensures.counted
+    first_walks _ _ _ _ c.args.self.now _ c.begin.ensures.unchanged c.begin.ensures.counted refl
     c.begin.result c.in-Fresh.is c.state_after-self.ensures c.begin.ensures.pays c.begin.ensures.fault
     c.begin.ensures.bounded c.begin.ensures.known c.begin.ensures.kept c.begin.ensures.falls
     c.begin.ensures.failures
 
 pub returns-in-Walking-clause-walks : goal.returns-in-Walking-clause-walks
 returns-in-Walking-clause-walks g c =
-    item_walks _ _ _ _ c.args.self.now _ c.advance-item.ensures.unchanged c.advance-item.ensures.counted
+    item_walks _ _ _ _ c.args.self.now _ c.advance-item.ensures.unchanged c.advance-item.ensures.counted refl
     c.advance-item.result c.in-Walking.is c.state_after-self-in-Walking.ensures c.advance-item.ensures.pays
     c.advance-item.ensures.closes c.advance-item.ensures.fault c.advance-item.ensures.size
     c.args.self.now.bounded c.advance-item.ensures.known c.advance-item.ensures.kept

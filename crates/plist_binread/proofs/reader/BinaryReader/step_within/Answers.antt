@@ -1,4 +1,4 @@
-use Rattle.std.proofs.Common.{◌≡◌, ◌^◌, refl, subst, arith}
+use Rattle.std.proofs.Common.{◌≡◌, ◌^◌, ◌∙◌, refl, subst, arith}
 use Rattle.plist_base.specs.declared.limits.Limit.TheVariants as limit
 use Rattle.plist_base.specs.Faults.{fault_of}
 use Rattle.plist_base.specs.Limits.{AdmitsAny, RefusesAny}
@@ -9,8 +9,8 @@ use Rattle.plist_binread.proofs.Limiting.{event-told, fault-told, limit-counts, 
 use Rattle.plist_binread.proofs.Taken.{holds_none, kept_fault}
 use Rattle.plist_binread.proofs.reader.BinaryReader.step_within.Goals as goal
 
-pub returns-in-Ok-clause-told : goal.returns-in-Ok-clause-told
-returns-in-Ok-clause-told g c =
+pub returns-in-Ok : goal.returns-in-Ok
+returns-in-Ok g c =
     let old = c.args.self.now in
     let mid = c.step.new.self in
     let told = event_in c.admit.new.last in
@@ -23,10 +23,11 @@ returns-in-Ok-clause-told g c =
     (λ bytes. walk_to_come bytes mid) tt admitted (rw (← same) at w.items) in
     let closes = rw (← same) at w.closes in
     let cached = rw (← same) at w.cached in
-    search (w, closes, items, cached, walk-closes old.limiter (walk_closes old))
+    let limited = c.admit.ensures.limited ∙ w.kept.0 in
+    search (w, closes, items, cached, limited, walk-closes old.limiter (walk_closes old))
 
-pub returns-in-Err-clause-told : goal.returns-in-Err-clause-told
-returns-in-Err-clause-told g c =
+pub returns-in-Err : goal.returns-in-Err
+returns-in-Err g c =
     let old = c.args.self.now in
     let mid = c.step.new.self in
     let w = rw c.in-Some-Ok.field-0-is at c.in-Some-Ok.ensures.walks in
@@ -57,11 +58,12 @@ returns-in-Err-clause-told g c =
         counted = w.leaves.counted;
         lists = w.leaves.lists;
       };
+      kept = (c.admit.ensures.limited ∙ w.kept.0, w.kept.1);
       falls = let falls = w.falls in omega (arith, falls);
     }
 
-pub returns-in-Some-Err-Fault-clause-told : goal.returns-in-Some-Err-Fault-clause-told
-returns-in-Some-Err-Fault-clause-told g c =
+pub returns-in-Some-Err-Fault : goal.returns-in-Some-Err-Fault
+returns-in-Some-Err-Fault g c =
     let old = c.args.self.now in
     let new = c.step.new.self in
     let w = rw c.in-Some-Err-Fault.field-0-is at c.in-Some-Err-Fault.ensures.walks in
@@ -76,8 +78,8 @@ returns-in-Some-Err-Fault-clause-told g c =
       still-given 0 (2 ^ 64) (is_limited old) (fault_of new.last.fault) w.faults,
     )
 
-pub returns-in-Some-Err-TooLong-clause-told : goal.returns-in-Some-Err-TooLong-clause-told
-returns-in-Some-Err-TooLong-clause-told g c =
+pub returns-in-Some-Err-TooLong : goal.returns-in-Some-Err-TooLong
+returns-in-Some-Err-TooLong g c =
     let old = c.args.self.now in
     let mid = c.step.new.self in
     let error = c.reach_limit.new.self.fault in
@@ -106,11 +108,12 @@ returns-in-Some-Err-TooLong-clause-told g c =
         counted = w.leaves.counted;
         lists = w.leaves.lists;
       };
+      kept = w.kept;
       falls = w.falls;
     }
 
-pub returns-in-None-clause-told : goal.returns-in-None-clause-told
-returns-in-None-clause-told g c =
+pub returns-in-None : goal.returns-in-None
+returns-in-None g c =
     let old = c.args.self.now in
     let new = c.step.new.self in
     let w = c.in-None.ensures.walks in
