@@ -4,12 +4,14 @@ use Rattle.std.proofs.lemmas.List.{drop-drop}
 use Rattle.plist_base.specs.Faults.{FaultKind, Fault, fault_at}
 use Rattle.plist_base.specs.Events.{PlainEvent, Item}
 use Rattle.plist_ascii.specs.Texts.{Token}
-use Rattle.plist_ascii.specs.Ascii.{PlacedItem, placed, item_then, items_in, items_of_ascii, placed_items, token, token_by, lead_of, IsTextToken, BeginsWithText}
+use Rattle.plist_ascii.specs.declared.token.Lead.{Lead}
+use Rattle.plist_ascii.specs.declared.token.Lead.TheVariants as lead
+use Rattle.plist_ascii.specs.Ascii.{PlacedItem, placed, item_then, items_in, items_of_ascii, placed_items, token, token_by, lead_of, IsTextToken, BeginsWithText, FirstIsQuoted}
 use Rattle.plist_ascii.specs.AsciiReader.{BeginsWithItem}
 
-then_same : (q : ℕ) (g : Result (Option PlainEvent) FaultKind) (xs ys : List PlacedItem) → xs ≡ ys
-    → item_then q g xs ≡ item_then q g ys
-then_same q g xs ys e = search rules
+then_same : (l : Lead) (q : ℕ) (g : Result (Option PlainEvent) FaultKind) (xs ys : List PlacedItem)
+    → xs ≡ ys → item_then l q g xs ≡ item_then l q g ys
+then_same l q g xs ys e = search rules
 
 items_nil : (stops : ℕ → Bool) (r p : ℕ) → items_in stops r [] p ≡ []
 unfolding items_in
@@ -25,20 +27,21 @@ items_room stops (suc r) zero (c ∷ cs) p l m = absurd (let none : ⊥ = omega 
 items_room stops (suc r) (suc s) (c ∷ cs) p l m =
     let b = token_by _ _ c cs in
     let short : length (drop b.bytes cs) ≤ length cs = rw length-drop (omega arith) in
-    then_same (p + suc b.bytes) b.gives _ _
+    then_same (lead_of c) (p + suc b.bytes) b.gives _ _
     (items_room _ r s _ _ (omega arith) (omega arith))
 
 items_cons : (stops : ℕ → Bool) (c : ℕ) (cs : List ℕ) (p q : ℕ) → let b =
     token_by stops (lead_of c) c cs in q ≡ p + suc b.bytes
-    → placed_items stops (c ∷ cs) p ≡ item_then q b.gives (placed_items stops (drop b.bytes cs) q)
+    → placed_items stops (c ∷ cs) p
+    ≡ item_then (lead_of c) q b.gives (placed_items stops (drop b.bytes cs) q)
 unfolding items_in token
 items_cons stops c cs p q e =
     let b = token_by stops (lead_of c) c cs in
     let short : length (drop b.bytes cs) ≤ length cs = rw length-drop (omega arith) in
     let room = items_room stops (length cs) (length (drop b.bytes cs)) (drop b.bytes cs)
     (p + suc b.bytes) short (omega arith) in
-    then_same (p + suc b.bytes) b.gives _ _ room
-    ∙ ap (λ q. item_then q b.gives
+    then_same (lead_of c) (p + suc b.bytes) b.gives _ _ room
+    ∙ ap (λ q. item_then (lead_of c) q b.gives
     (items_in stops (length (drop b.bytes cs)) (drop b.bytes cs) q)) (sym e)
 
 -- from xs and place p on the items are those from ys and place q on
@@ -56,14 +59,15 @@ going_start stops xs p =
           ≡ p - p = omega arith in ap (λ n. drop n xs) none;
     }
 
-begins : (stops : ℕ → Bool) (xs : List ℕ) (p : ℕ) (x : Item) (ys : List ℕ) (q : ℕ)
-    → placed_items stops xs p ≡ placed q x ∷ placed_items stops ys q → ys ≡ drop (q - p) xs
+begins : (stops : ℕ → Bool) (xs : List ℕ) (p : ℕ) (l : Lead) (x : Item) (ys : List ℕ) (q : ℕ)
+    → placed_items stops xs p ≡ placed l q x ∷ placed_items stops ys q → ys ≡ drop (q - p) xs
     → BeginsWithItem stops xs p x ys q
-begins stops xs p x ys q e d = record { items = ap (map (λ i. i.item)) e; ends = e; rest = d }
+begins stops xs p l x ys q e d =
+    record { items = ap (map (λ i. i.item)) e; lead = l; ends = e; rest = d }
 
-text_first : (q : ℕ) (g : Result (Option PlainEvent) FaultKind) (more : List PlacedItem)
-    → IsTextToken g → BeginsWithText (map (λ i. i.item) (item_then q g more))
-text_first q g more h = search rules
+text_first : (l : Lead) (q : ℕ) (g : Result (Option PlainEvent) FaultKind) (more : List PlacedItem)
+    → IsTextToken g → BeginsWithText (map (λ i. i.item) (item_then l q g more))
+text_first l q g more h = search rules
 
 module _ {stops : ℕ → Bool} {xs : List ℕ} {p : ℕ} {ys : List ℕ} {m c : ℕ} {cs : List ℕ}
     (h : Going stops xs p ys m) (e : ys ≡ c ∷ cs) where
@@ -74,19 +78,19 @@ module _ {stops : ℕ → Bool} {xs : List ℕ} {p : ℕ} {ys : List ℕ} {m c :
   behind q = placed_items stops (drop token_here.bytes cs) q
 
   going_all : (q : ℕ) → q ≡ m + suc token_here.bytes
-      → placed_items stops xs p ≡ item_then q token_here.gives (behind q)
+      → placed_items stops xs p ≡ item_then (lead_of c) q token_here.gives (behind q)
   going_all q s = cc (items_cons _ c cs m q s)
 
   -- whatever the token takes
   pub going_text : IsTextToken token_here.gives → BeginsWithText (items_of_ascii stops xs p)
   going_text w =
       let P : List PlacedItem → Type 0 = λ is. BeginsWithText (map (λ i. i.item) is) in
-      subst P (sym (going_all _ refl)) (text_first _ token_here.gives _ w)
+      subst P (sym (going_all _ refl)) (text_first _ _ token_here.gives _ w)
 
   -- its first byte ends at n, and it at q
   module _ {n q : ℕ} (t : n ≡ m + 1) (s : q ≡ n + token_here.bytes) where
     going_by : (g : Result (Option PlainEvent) FaultKind) → token_here.gives ≡ g
-        → placed_items stops xs p ≡ item_then q g (behind q)
+        → placed_items stops xs p ≡ item_then (lead_of c) q g (behind q)
     going_by g is = cc (going_all q (omega arith))
 
     going_rest : drop token_here.bytes cs ≡ drop (q - p) xs
@@ -106,12 +110,17 @@ module _ {stops : ℕ → Bool} {xs : List ℕ} {p : ℕ} {ys : List ℕ} {m c :
 
     pub going_event : {x : PlainEvent} → token_here.gives ≡ Ok (Some x)
         → BeginsWithItem stops xs p (Ok x) (drop token_here.bytes cs) q
-    going_event g = begins stops xs p _ _ q (going_by _ g) going_rest
+    going_event g = begins stops xs p _ _ _ q (going_by _ g) going_rest
 
     pub going_fault : {k : FaultKind} {f : Fault} → f ≡ fault_at k q
         → token_here.gives ≡ Err k → BeginsWithItem stops xs p (Err f) (drop token_here.bytes cs) q
-    going_fault i g = begins stops xs p _ _ q
-        (going_by _ g ∙ ap (λ f. placed q (Err f) ∷ behind q) (sym i)) going_rest
+    going_fault i g = begins stops xs p _ _ _ q
+        (going_by _ g ∙ ap (λ f. placed (lead_of c) q (Err f) ∷ behind q) (sym i)) going_rest
+
+    -- a quoted text comes first only where a quote stands here
+    pub going_quoted : {x : PlainEvent} → token_here.gives ≡ Ok (Some x)
+        → FirstIsQuoted (placed_items stops xs p) → lead_of c ≡ lead.Quote
+    going_quoted g first = subst FirstIsQuoted (going_by _ g) first
 
 pub going_none : {stops : ℕ → Bool} {xs : List ℕ} {p : ℕ} {ys : List ℕ} {m : ℕ}
     → Going stops xs p ys m → ys ≡ [] → items_of_ascii stops xs p ≡ []

@@ -44,19 +44,21 @@ OnlyBareTextsDiffer =
     (c : ℕ) (rest : List ℕ) → ((stops : ℕ → Bool) → token stops c rest ≡ token lax c rest)
     ⊎ ((stops : ℕ → Bool) → token stops c rest ≡ past_one (bare stops c rest))
 
--- an item, and how many bytes are taken up to its end
+-- an item, what its first byte begins, and how many bytes are taken up to its end
 pub record PlacedItem : Type 0 where
+  pub lead : Lead
   pub end : ℕ
   pub item : Item
 
-abbrev pub placed : ℕ → Item → PlacedItem
-placed end item = record { end = end; item = item }
+abbrev pub placed : Lead → ℕ → Item → PlacedItem
+placed lead end item = record { lead = lead; end = end; item = item }
 
 -- a token's item, if it gives one, and then the others; a fault stands at the token's end
-abbrev pub item_then : ℕ → Result (Option PlainEvent) FaultKind → List PlacedItem → List PlacedItem
-item_then end (Ok None) more = more
-item_then end (Ok (Some event)) more = placed end (Ok event) ∷ more
-item_then end (Err kind) more = placed end (Err (fault_at kind end)) ∷ more
+abbrev pub item_then : Lead → ℕ → Result (Option PlainEvent) FaultKind → List PlacedItem
+    → List PlacedItem
+item_then lead end (Ok None) more = more
+item_then lead end (Ok (Some event)) more = placed lead end (Ok event) ∷ more
+item_then lead end (Err kind) more = placed lead end (Err (fault_at kind end)) ∷ more
 
 -- token by token; `room` is at least the number of bytes
 unfoldable pub items_in : (stops : ℕ → Bool) → (room : ℕ) → List ℕ → ℕ → List PlacedItem
@@ -64,10 +66,10 @@ items_in stops zero bytes place = []
 items_in stops (suc room) [] place = []
 items_in stops (suc room) (c ∷ rest) place =
     let t = token stops c rest in
-    item_then (place + t.bytes) t.gives
+    item_then (lead_of c) (place + t.bytes) t.gives
     (items_in stops room (drop t.bytes (c ∷ rest)) (place + t.bytes))
 
--- the items of some bytes, with their ends, where the first byte stands at this place
+-- the items of some bytes, with their leads and ends, where the first byte stands at this place
 abbrev pub placed_items : (stops : ℕ → Bool) → List ℕ → (place : ℕ) → List PlacedItem
 placed_items stops bytes place = items_in stops (length bytes) bytes place
 
@@ -98,3 +100,10 @@ BeginsWithText (Ok (Single (String text)) ∷ items) = ⊤
 BeginsWithText (Ok (Single (Integer number)) ∷ items) = ⊤
 BeginsWithText (Err fault ∷ items) = IsTextFault fault.kind
 BeginsWithText items = ⊥
+
+-- ---- what stands behind an item
+
+-- the first item is a quoted text
+abbrev pub FirstIsQuoted : List PlacedItem → Type 0
+FirstIsQuoted [] = ⊥
+FirstIsQuoted (p ∷ items) = p.lead ≡ lead.Quote

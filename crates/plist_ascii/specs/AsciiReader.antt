@@ -9,7 +9,8 @@ use Rattle.plist_base.specs.Events.{Item, event_of}
 use Rattle.plist_ascii.specs.declared.reader.AsciiReader.{AsciiReader}
 use Rattle.plist_ascii.specs.declared.dialect.Dialect.{Dialect}
 use Rattle.plist_ascii.specs.Texts.{ends_bare}
-use Rattle.plist_ascii.specs.Ascii.{placed, placed_items, items_of_ascii, BeginsWithText}
+use Rattle.plist_ascii.specs.declared.token.Lead.{Lead}
+use Rattle.plist_ascii.specs.Ascii.{PlacedItem, placed, placed_items, items_of_ascii, BeginsWithText, FirstIsQuoted}
 use Rattle.plist_ascii.specs.Kinds.{IsAsciiItem, ItemBehindBracket}
 use Rattle.plist_ascii.specs.Incoming.{ItemCountsIoIfTold}
 use Rattle.plist_ascii.specs.Unread.{within, unread, Known, IsAt}
@@ -56,7 +57,8 @@ HoldsLeft reader known inner = IfSome (known inner) (λ bytes.
 pub record BeginsWithItem (stops : ℕ → Bool) (bytes : List ℕ) (p : ℕ) (item : Item) (left : List ℕ)
     (q : ℕ) : Type 0 where
   pub items : items_of_ascii stops bytes p ≡ item ∷ items_of_ascii stops left q
-  pub ends : placed_items stops bytes p ≡ placed q item ∷ placed_items stops left q
+  pub lead : Lead
+  pub ends : placed_items stops bytes p ≡ placed lead q item ∷ placed_items stops left q
   pub rest : left ≡ drop (q - p) bytes
 
 -- The first item came, and left the rest; nothing only where there is none. After a fault from
@@ -83,6 +85,11 @@ FaultIsAt item place =
     MatchOption item ⊤ (λ answer. MatchResult answer (λ _. ⊤)
     (λ error. IsAt (fault_of error) place))
 
+-- this holds, where the event is a quoted text, the first of these items
+abbrev pub BehindQuoted : List PlacedItem → Option (Result Event Error) → (behind : Type 0) → Type 0
+BehindQuoted items item behind =
+    MatchOption item ⊤ (λ answer. MatchResult answer (λ _. FirstIsQuoted items → behind) (λ _. ⊤))
+
 -- after a fault from outside, and where nothing comes, nothing comes for good
 abbrev pub EndsAfter : Option (Result Event Error) → Type 0 → Type 0
 EndsAfter item ended =
@@ -90,7 +97,8 @@ EndsAfter item ended =
     (λ error. MatchFault (kind_of (error_kind_of error)) ended ended ⊤))
 
 -- one call of `next`: the item is the first of those that the bytes not yet taken give; once ended,
--- the reader inside is asked no more, and behind a start or an end no byte has been looked at
+-- the reader inside is asked no more, and behind a start, an end or a quoted text no byte has been
+-- looked at
 pub record Gives {R : Type 0} (known : R → Option (List ℕ)) (failed : R → Option ℕ)
     (old : AsciiReader R) (item : Option (Result Event Error)) (new : AsciiReader R) : Type 0 where
   pub items : Known (bytes_left known old) (λ bytes. (rest : List ℕ)
@@ -101,6 +109,9 @@ pub record Gives {R : Type 0} (known : R → Option (List ℕ)) (failed : R → 
   pub offset : FaultIsAt item (place_of new)
   pub kinds : IsAsciiItem item
   pub brackets : ItemBehindBracket item (looked_at new ≡ None)
+  pub quotes : Known (bytes_left known old)
+      (λ bytes. BehindQuoted (placed_items (stops_of old) bytes (place_of old)) item
+      (looked_at new ≡ None))
   pub failures : ItemCountsIoIfTold item (failed (inner_of old)) (failed (inner_of new))
   pub ended : HasEnded old → item ≡ None
   pub unasked : HasEnded old → inner_of new ≡ inner_of old

@@ -49,11 +49,13 @@ impl<R: Bytes> Input<R> {
         Ok(None)
     }
 
-    /// Takes a comment up to and with its `*/`, whose opening has been taken.
+    /// Takes a comment up to and with its `*/`, whose opening has been taken. No byte behind it is
+    /// looked at.
     pub fn block_comment(&mut self) -> Result<Option<OwnedEvent>, Error>
         ensures answers { GivesToken R.remaining block_comment self.old result self.new }
         ensures memory { IfErr result (λ error. kind_of (error_kind_of error) ≢ OutOfMemory) }
         ensures nothing { IfOk result (λ event. event ≡ None) }
+        ensures looked { IfOk result (λ _. self.new.peeked ≡ None) }
         ensures failures { CountsFailed R.failures self.old result self.new }
     {
         let mut star = false;

@@ -275,6 +275,7 @@ impl<R: Bytes> Input<R> {
         // A refusal.
         ensures fault { IfErr result (IsUnclosedText R.remaining self.old self.new) }
         // The state after it.
+        ensures looked { IfOk result (λ _. self.new.peeked ≡ None) }
         ensures place { OnOk result (IsOneOn self.old self.new) }
         ensures unchanged { IfErr result (λ _. self.new.taken ≡ self.old.taken) }
         ensures failures { CountsFailed R.failures self.old result self.new }

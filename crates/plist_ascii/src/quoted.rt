@@ -1,6 +1,6 @@
 //! Quoted texts.
 
-ghost use Rattle.std.specs.Prelude.{◌≡◌, ◌+◌, ◌<◌, ◌++◌, Some, Ok, Err, true, false, IfOk, IfErr, OnOk};
+ghost use Rattle.std.specs.Prelude.{◌≡◌, ◌+◌, ◌<◌, ◌++◌, None, Some, Ok, Err, true, false, IfOk, IfErr, OnOk};
 ghost use Rattle.plist_base.specs.Outcomes.{OnlyMemory};
 ghost use Rattle.plist_base.specs.Events.{event_of};
 ghost use Rattle.plist_ascii.specs.Quoted.{quoted, quoted_token};
@@ -37,6 +37,7 @@ impl<R: Bytes> Input<R> {
         ensures value { IfOk result (TakesEnd R.remaining quote self.old self.new) }
         ensures fault { IfErr result (FailsBehind R.remaining (EndFails quote) self.old self.new) }
         ensures rises { OnOk result (IsFurther self.old self.new) }
+        ensures looked { IfOk result (λ piece. piece ≡ None → self.new.peeked ≡ None) }
         ensures failures { CountsFailed R.failures self.old result self.new }
     {
         if self.must_take()? == quote {
@@ -51,6 +52,7 @@ impl<R: Bytes> Input<R> {
         ensures value { IfOk result (Quotes R.remaining quote self.old text.old self.new text.new) }
         ensures fault { IfErr result (FailsBehind R.remaining (PartFails quote) self.old self.new) }
         ensures rises { OnOk result (IsFurther self.old self.new) }
+        ensures looked { IfOk result (λ closed. closed ≡ true → self.new.peeked ≡ None) }
         ensures failures { CountsFailed R.failures self.old result self.new }
     {
         self.take_run(Stop::Quoted(quote), text)?;
@@ -66,6 +68,7 @@ impl<R: Bytes> Input<R> {
     // Takes the bytes of a text up to and with its closing quote.
     fn quoted(&mut self, alloc: Global, quote: u8) -> Result<Vec<u8>, Error>
         ensures answers { GivesText R.remaining (quoted quote) self.old result self.new }
+        ensures looked { IfOk result (λ _. self.new.peeked ≡ None) }
         ensures failures { CountsFailed R.failures self.old result self.new }
     {
         let mut text = Vec::new(alloc);
@@ -76,10 +79,11 @@ impl<R: Bytes> Input<R> {
         }
     }
 
-    /// Takes a quoted text, whose opening quote has been taken.
+    /// Takes a quoted text, whose opening quote has been taken. No byte behind it is looked at.
     pub fn quoted_text(&mut self, alloc: Global, quote: u8) -> Result<OwnedEvent, Error>
         ensures answers { GivesOne R.remaining (quoted_token quote) self.old result self.new }
         ensures kinds { IfOk result (λ event. IsTextEvent (event_of event)) }
+        ensures looked { IfOk result (λ _. self.new.peeked ≡ None) }
         ensures failures { CountsFailed R.failures self.old result self.new }
     {
         let text = self.quoted(alloc, quote)?;

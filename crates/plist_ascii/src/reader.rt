@@ -5,7 +5,7 @@ ghost use Rattle.plist_base.specs.Faults.{kind_of, error_kind_of};
 ghost use Rattle.plist_ascii.specs.Kinds.{IsAsciiItem, ItemBehindBracket};
 ghost use Rattle.plist_ascii.specs.Unread.{is_from_outside};
 ghost use Rattle.plist_ascii.specs.AsciiReader.{TakesBytes, FaultIsAt, EndsAfter, readable, HoldsLeft};
-ghost use Rattle.plist_ascii.specs.inner.Inputs.{ItemCountsFailed, GivesFirst, to_come_of};
+ghost use Rattle.plist_ascii.specs.inner.Inputs.{ItemCountsFailed, GivesFirst, StopsAtQuote, to_come_of};
 
 use crate::bytes::Bytes;
 use crate::dialect::Dialect;
@@ -27,6 +27,7 @@ impl<R: Bytes> Input<R> {
         ensures items { GivesFirst R.remaining stop self.old result self.new }
         ensures kinds { IsAsciiItem result }
         ensures brackets { ItemBehindBracket result (self.new.peeked ≡ None) }
+        ensures quotes { StopsAtQuote R.remaining stop self.old result self.new }
         // A refusal.
         ensures offset { FaultIsAt result self.new.taken }
         // The state after it.

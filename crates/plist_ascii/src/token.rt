@@ -1,6 +1,6 @@
 //! Tokens.
 
-ghost use Rattle.std.specs.Prelude.{◌≡◌, None, Some, IfErr};
+ghost use Rattle.std.specs.Prelude.{◌≡◌, None, Some, IfErr, IfOk};
 ghost use Rattle.plist_base.specs.Events.{event_of};
 ghost use Rattle.plist_ascii.specs.Comments.{slash};
 ghost use Rattle.plist_ascii.specs.Ascii.{lead_of, token_by};
@@ -86,6 +86,7 @@ impl<R: Bytes> Input<R> {
         ensures memory { IfErr result (WantsForText R.remaining (token_until stop byte) self.old) }
         // The state after it.
         ensures brackets { self.old.peeked ≡ None → IfCame result (StopsAtBracket self.new) }
+        ensures quotes { lead_of byte ≡ Lead.Quote → IfOk result (λ _. self.new.peeked ≡ None) }
         ensures failures { CountsFailed R.failures self.old result self.new }
     {
         match lead_of(byte) {

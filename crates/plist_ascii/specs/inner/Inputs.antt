@@ -13,11 +13,11 @@ use Rattle.plist_ascii.specs.declared.input.Input.{Input}
 use Rattle.plist_ascii.specs.declared.input.Stop.{Stop}
 use Rattle.plist_ascii.specs.Taken.{Taken, run}
 use Rattle.plist_ascii.specs.Texts.{Token, bare}
-use Rattle.plist_ascii.specs.Ascii.{lead_of, token_by, IsTextToken}
+use Rattle.plist_ascii.specs.Ascii.{lead_of, token_by, placed_items, IsTextToken}
 use Rattle.plist_ascii.specs.Kinds.{BehindBracket}
 use Rattle.plist_ascii.specs.Incoming.{AnswersIoIfTold, ItemCountsIoIfTold}
 use Rattle.plist_ascii.specs.Unread.{unread, Known, first, stops, IsAt, is_from_outside, FirstIsTaken, TakesPart, Answers}
-use Rattle.plist_ascii.specs.AsciiReader.{GivesItem, bytes_to_come}
+use Rattle.plist_ascii.specs.AsciiReader.{GivesItem, BehindQuoted, bytes_to_come}
 use Rattle.plist_ascii.specs.inner.Parts.{piece_bytes, Parts, EndsRun}
 
 -- ---- failures
@@ -211,3 +211,8 @@ module _ {R : Type 0} (known : R → Option (List ℕ)) where
   GivesFirst stop old item new = Known (unread known old) (λ xs. (ys : List ℕ)
       × (unread known new ≡ Some ys)
       × GivesItem (stops stop) xs old.taken item ys new.taken)
+
+  -- behind a quoted text no byte has been looked at
+  abbrev pub StopsAtQuote : Stop → Input R → Option (Result Event Error) → Input R → Type 0
+  StopsAtQuote stop old item new = Known (unread known old) (λ xs.
+      BehindQuoted (placed_items (stops stop) xs old.taken) item (new.peeked ≡ None))

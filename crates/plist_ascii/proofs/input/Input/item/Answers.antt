@@ -1,7 +1,7 @@
 use Rattle.std.proofs.Common.{arith, [], sym, ◌∙◌, refl}
 use Rattle.plist_ascii.proofs.Loops.{since_on}
 use Rattle.plist_ascii.proofs.Unread.{ended_unread}
-use Rattle.plist_ascii.proofs.Items.{going_start, going_skip, going_event, going_fault, going_none, going_text}
+use Rattle.plist_ascii.proofs.Items.{going_start, going_skip, going_event, going_fault, going_none, going_quoted, going_text}
 use Rattle.plist_base.specs.Faults.{kind_of, error_kind_of}
 use Rattle.plist_ascii.proofs.Answering.{inside_gets, outside_gets, inside_is}
 use Rattle.plist_ascii.proofs.input.Input.item.Goals as goal
@@ -22,6 +22,17 @@ returns-in-Ok-Some-token_by-clause-items g c =
     let t = some i.0 i.1 in
     let k = a.1 t.0 t.2 in
     (_, k.1, going_event i.2 t.1 place.0 k.2 k.0)
+
+pub returns-in-Ok-Some-token_by-clause-quotes : goal.returns-in-Ok-Some-token_by-clause-quotes
+returns-in-Ok-Some-token_by-clause-quotes g c =
+    let some = rw c.in-Ok-Some.field-0-is at c.in-Ok-Some.ensures.some in
+    let place = rw c.in-Ok-Some.field-0-is at c.in-Ok-Some.ensures.place in
+    let a = rw c.in-Ok-Some-token_by.field-0-is at c.in-Ok-Some-token_by.ensures.answers in
+    λ xs e first.
+    let i = c.tokens.invariant.goes xs e in
+    let t = some i.0 i.1 in
+    let k = a.1 t.0 t.2 in
+    c.in-Ok-Some-token_by.ensures.quotes (going_quoted i.2 t.1 place.0 k.2 k.0 first)
 
 pub tokens-preserved : goal.tokens-preserved
 tokens-preserved g c =
