@@ -1,5 +1,5 @@
 -- Steps of sending through a room.
-use Rattle.std.proofs.Common.{◌≡◌, ◌+◌, ◌<◌, ℕ, List, [], ◌++◌, length, get_or, map, take, drop, Option, Ok, Err, refl, sym, ap, ◌∙◌, append_assoc, append-nil}
+use Rattle.std.proofs.Common.{◌≡◌, ◌+◌, ◌<◌, ◌≤◌, ℕ, List, [], ◌++◌, length, get_or, map, take, drop, Option, Ok, Err, refl, sym, ap, ◌∙◌, append_assoc, append-nil, arith}
 use Rattle.std.specs.List.{flat_map}
 use Rattle.std.proofs.lemmas.Grind.{flat_map-append}
 use Rattle.std.proofs.lemmas.List.{take-append-drop, take_more}
@@ -9,7 +9,7 @@ use Rattle.plist_base.specs.Faults.{Fault, Io, fault_nowhere}
 use Rattle.plist_base.specs.Writing.{Answer}
 use Rattle.plist_base.specs.Fronts.{AppendsFront}
 use Rattle.plist_binwrite.specs.Forms.{table_form}
-use Rattle.plist_binwrite.specs.Outlets.{IsOut, PutsBytes}
+use Rattle.plist_binwrite.specs.Outlets.{IsOut, PutsBytes, room_size}
 
 -- a beginning of some bytes is one of more
 pub front_more : (a b : Option (List ℕ)) (xs ys : List ℕ) → AppendsFront a b xs
@@ -18,7 +18,19 @@ front_more a b xs ys f = (f.0, f.1 ++ ys, f.2, cc (append_assoc f.0 f.1 ys))
 
 -- nothing yet
 pub puts_none : {a : Option (List ℕ)} {held : List ℕ} → PutsBytes a held [] (Ok tt) a held
-puts_none = record { follow = λ first done out. rw append-nil out }
+puts_none = record { follow = λ first done out. rw append-nil out; waits = λ w. w }
+
+-- bytes wait behind those that did
+pub puts_waiting : {a : Option (List ℕ)} {held xs h : List ℕ} → h ≡ held ++ xs
+    → length h ≤ room_size → PutsBytes a held xs (Ok tt) a h
+puts_waiting {held} {xs} e w = record {
+  follow = λ first done out. record {
+    sent = out.sent;
+    went = out.went;
+    is = rw e (ap (λ l. l ++ xs) out.is ∙ append_assoc out.sent held xs);
+  };
+  waits = λ _. w;
+}
 
 -- bytes, and then more
 pub puts_then : {a b c : Option (List ℕ)} {held h k xs ys : List ℕ} {answer : Answer}
@@ -28,6 +40,7 @@ puts_then {xs} {ys} {answer = Ok u} p q =
     record {
       follow = λ first done out. rw (← append_assoc done xs ys)
           (q.follow first (done ++ xs) (p.follow first done out));
+      waits = λ w. q.waits (p.waits w);
     }
 puts_then {xs} {ys} {answer = Err fault} p q =
     record {
@@ -36,6 +49,7 @@ puts_then {xs} {ys} {answer = Err fault} p q =
         λ first done out. rw (← append_assoc done xs ys)
             (q.follow.1 first (done ++ xs) (p.follow first done out)),
       );
+      waits = λ w. q.waits (p.waits w);
     }
 
 -- what failed fails the whole
@@ -48,6 +62,7 @@ puts_front {b} {xs} ys p =
         λ first done out. rw (← append_assoc done xs ys)
             (front_more first b (done ++ xs) ys (p.follow.1 first done out)),
       );
+      waits = p.waits;
     }
 
 pub puts_as : {a b : Option (List ℕ)} {held k xs ys : List ℕ} {answer : Answer} → xs ≡ ys
@@ -70,6 +85,7 @@ puts_out a b held xs h = record {
     is = ap (λ l. l ++ xs) out.is ∙ append_assoc out.sent held xs
         ∙ sym (append-nil (out.sent ++ (held ++ xs)));
   };
+  waits = λ _. omega arith;
 }
 
 -- a beginning of what waited goes out
@@ -85,8 +101,8 @@ out_front first a b held done f out = (
 -- or of it and the bytes
 pub puts_broken : (a b : Option (List ℕ)) (held xs h : List ℕ) (fault : Fault)
     → fault ≡ fault_nowhere Io → AppendsFront a b (held ++ xs)
-    → PutsBytes a held xs (Err fault) b h
-puts_broken a b held xs h fault io f = record {
+    → (length held ≤ room_size → length h ≤ room_size) → PutsBytes a held xs (Err fault) b h
+puts_broken a b held xs h fault io f waits = record {
   follow = (
     io,
     λ first done out. out_front first a b (held ++ xs) (done ++ xs) f (record {
@@ -95,6 +111,7 @@ puts_broken a b held xs h fault io f = record {
       is = ap (λ l. l ++ xs) out.is ∙ append_assoc out.sent held xs;
     }),
   );
+  waits = waits;
 }
 
 -- ---- bytes of each of some numbers

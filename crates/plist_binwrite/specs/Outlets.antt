@@ -1,5 +1,5 @@
 -- Bytes on their way to a writer: some went out, and some wait in a room.
-use Rattle.std.specs.Prelude.{◌≡◌, ℕ, List, ◌++◌, Option, Result, Ok, Err}
+use Rattle.std.specs.Prelude.{◌≡◌, ℕ, ◌^◌, ◌≤◌, List, ◌++◌, length, Option, Result, Ok, Err}
 use Rattle.std.specs.Io.KnownBytes.{Appends}
 use Rattle.std.specs.declared.alloc.Global.{Global}
 use Rattle.std.specs.declared.vec.Vec.{Vec}
@@ -28,10 +28,16 @@ Follow old held bytes (Err fault) new holds = (fault ≡ fault_nowhere Io)
     × ((first : Option (List ℕ)) (done : List ℕ) → IsOut first old held done
     → AppendsFront first new (done ++ bytes))
 
--- what a call that puts some bytes does: before it `held` waited, and `holds` waits after it
+-- how many bytes wait at most
+abbrev pub room_size : ℕ
+room_size = 2 ^ 16
+
+-- what a call that puts some bytes does: before it `held` waited, and `holds` waits after it, which
+-- is no more than the room holds
 pub record PutsBytes (old : Option (List ℕ)) (held bytes : List ℕ) (answer : Answer)
     (new : Option (List ℕ)) (holds : List ℕ) : Type 0 where
   pub follow : Follow old held bytes answer new holds
+  pub waits : length held ≤ room_size → length holds ≤ room_size
 
 module _ {W : Type 0} (contents : W → Option (List ℕ)) where
   -- the same of a writer and of the room before it

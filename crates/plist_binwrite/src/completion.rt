@@ -1,12 +1,13 @@
 //! The end of a property list: its file is planned and sent.
 
-ghost use Rattle.std.specs.Prelude.{◌≡◌, [], length, IfOk, IfSome, None};
+ghost use Rattle.std.specs.Prelude.{◌≡◌, [], length, IfOk, IfSome, None, vec_capacity};
 ghost use Rattle.plist_base.specs.Outcomes.{IfFault, OnlyMemory};
 ghost use Rattle.plist_base.specs.Bracketing.{AreWhole};
 ghost use Rattle.plist_base.specs.Writing.{answer_of};
 ghost use Rattle.plist_binwrite.specs.Classes.{AreClasses};
 ghost use Rattle.plist_binwrite.specs.inner.Ending.{IsDraftBy, IsDraftOf, IsFitting, IsReady, IsTooLong, NeedsNoMemory};
 ghost use Rattle.plist_binwrite.specs.Held.{plain_events, num_of, AllBelow, IsBracketed};
+ghost use Rattle.plist_binwrite.specs.Outlets.{room_size};
 ghost use Rattle.plist_binwrite.specs.Sending.{Sends};
 ghost use Rattle.plist_binwrite.specs.Completing.{SendsByClass};
 ghost use Rattle.plist_binwrite.specs.inner.Putting.{PutsFile, SendsDraft, SendsPlanned};
@@ -17,15 +18,12 @@ use crate::held::Held;
 use crate::layout::order_objects;
 use crate::numbers::Numbers;
 use crate::objects::put_objects;
-use crate::outlet::{finish, put};
+use crate::outlet::{ROOM, finish, put};
 use crate::plan::{Plan, Planned, plan_by_class};
 use crate::size::{check_size, place_objects};
 use plist_base::{Error, ErrorKind};
 use std::alloc::Global;
 use std::io::Write;
-
-// How many bytes wait together at most.
-const ROOM: usize = 1 << 16;
 
 // A planned file: its objects in order with their places, and the place of its offset table, none
 // where that is 2^64 or more.
@@ -160,6 +158,7 @@ fn send_draft<W: Write>(
 
 fn make_room(alloc: Global) -> Result<Vec<u8>, Error>
     ensures empty { IfOk result (λ room. room.items ≡ []) }
+    ensures size { IfOk result (λ room. vec_capacity room ≡ room_size) }
     ensures memory { OnlyMemory result }
 {
     let room = Vec::with_capacity(alloc, ROOM)?;

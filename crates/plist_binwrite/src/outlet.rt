@@ -1,19 +1,24 @@
 //! Sends bytes part by part, through a room of fixed size.
 
-ghost use Rattle.std.specs.Prelude.{◌≡◌, ◌++◌, true, false, OnOk};
+ghost use Rattle.std.specs.Prelude.{◌≡◌, ◌≤◌, ◌++◌, true, false, length, OnOk};
 ghost use Rattle.plist_base.specs.Outcomes.{OnlyDevice};
-ghost use Rattle.plist_binwrite.specs.Outlets.{Puts, Empties, EmptiesInPart};
+ghost use Rattle.plist_binwrite.specs.Outlets.{Puts, Empties, EmptiesInPart, room_size};
 
 use plist_base::Error;
 use plist_base::send::{send, send_whole};
 use std::io::Write;
 
+/// How many bytes wait together at most.
+pub const ROOM: usize = 1 << 16;
+
 // Has bytes wait, where they fit into the room.
 fn hold(room: &mut Vec<u8>, bytes: &[u8]) -> bool
     ensures yes { result ≡ true → room.new.items ≡ room.old.items ++ bytes.now }
+    ensures waits { result ≡ true → length room.new.items ≤ room_size }
     ensures no { result ≡ false → room.new.items ≡ room.old.items }
 {
-    if bytes.len() > room.capacity() - room.len() {
+    let waiting = room.len();
+    if waiting > ROOM || bytes.len() > ROOM - waiting {
         return false;
     }
     room.extend_from_slice(bytes).is_ok()
@@ -36,12 +41,13 @@ fn pass_on<W: Write>(out: &mut W, room: &mut Vec<u8>, bytes: &[u8]) -> Result<()
     }
 }
 
-/// Bytes that fit wait in the room; where they don't, those that wait go out, and then these. The
-/// room never grows, so memory can't run out.
+/// Bytes that fit wait in the room; where they don't, those that wait go out, and then these. No
+/// more than [`ROOM`] bytes ever wait, so a room of that size never grows.
 ///
 /// # Errors
 /// `Io` without an offset where a write fails or takes no byte; a beginning of all that was put
 /// went out.
+#[tactic(auto, using(crate::proofs::Outgoing::puts_waiting))]
 pub fn put<W: Write>(out: &mut W, room: &mut Vec<u8>, bytes: &[u8]) -> Result<(), Error>
     ensures { Puts W.contents out.old room.old bytes.now result out.new room.new }
 {
@@ -54,11 +60,11 @@ pub fn put<W: Write>(out: &mut W, room: &mut Vec<u8>, bytes: &[u8]) -> Result<()
 // Has bytes wait and others behind them, where all of them fit into the room.
 fn hold_both(room: &mut Vec<u8>, first: &[u8], second: &[u8]) -> bool
     ensures yes { result ≡ true → room.new.items ≡ room.old.items ++ first.now ++ second.now }
+    ensures waits { result ≡ true → length room.new.items ≤ room_size }
     ensures no { result ≡ false → room.new.items ≡ room.old.items }
 {
     let before = room.len();
-    let free = room.capacity() - before;
-    if first.len() > free || second.len() > free - first.len() || !hold(room, first) {
+    if !hold(room, first) {
         return false;
     }
     if hold(room, second) {
@@ -88,6 +94,7 @@ fn pass_both<W: Write>(
 ///
 /// # Errors
 /// Those of `put`.
+#[tactic(auto, using(crate::proofs::Outgoing::puts_waiting))]
 pub fn put_both<W: Write>(
     out: &mut W,
     room: &mut Vec<u8>,

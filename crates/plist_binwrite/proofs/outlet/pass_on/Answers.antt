@@ -1,4 +1,4 @@
-use Rattle.std.proofs.Common.{refl}
+use Rattle.std.proofs.Common.{refl, arith}
 use Rattle.std.proofs.KnownBytes.{Appends-trans}
 use Rattle.plist_binwrite.proofs.Outgoing.{front_more, out_front, puts_broken, puts_out}
 use Rattle.plist_binwrite.proofs.outlet.pass_on.Goals as goal
@@ -6,7 +6,7 @@ use Rattle.plist_binwrite.proofs.outlet.pass_on.Goals as goal
 pub returns-in-Err : goal.returns-in-Err
 returns-in-Err g c =
     puts_broken _ _ _ _ _ _ c.in-Err.ensures.fault (front_more _ _ _ _
-    (rw c.as_slice.ensures.value at c.in-Err.ensures.front))
+    (rw c.as_slice.ensures.value at c.in-Err.ensures.front)) (λ w. w)
 
 pub returns-in-Ok-send : goal.returns-in-Ok-send
 returns-in-Ok-send g c =
@@ -22,3 +22,4 @@ returns-in-Err-send g c =
       went = rw c.as_slice.ensures.value at c.in-Ok.ensures.sent;
       is = refl;
     }))
+    (λ _. rw c.clear.ensures.items (omega arith))
