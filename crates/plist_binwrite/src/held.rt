@@ -40,12 +40,18 @@ impl<'e> Held<'e> {
         }
     }
 
-    /// Makes room for so many more different scalars, where there is memory for that. It is a hint:
-    /// more can come, or fewer.
-    pub fn expect_scalars(&mut self, count: usize)
+    /// Where no more different scalars have room and this many are expected in all, makes room for
+    /// more of these: for sixteen times as many as there are, and a thousand. So a wrong hint costs
+    /// no more than that. Where memory for it is refused the room grows as it fills.
+    pub fn expect_scalars(&mut self, expected: usize)
         ensures events { plain_events self.new ≡ plain_events self.old }
     {
-        let _ = self.scalars.reserve(count);
+        let held = self.scalars.len();
+        if held < self.scalars.capacity() || held >= expected {
+            return;
+        }
+        let more = held.saturating_mul(15).saturating_add(1000);
+        let _ = self.scalars.reserve(more.min(expected - held));
     }
 
     /// How many events there are.

@@ -17,6 +17,7 @@ pub struct Pending {
     held: Held<'static>,
     wants: Vec<Want>,
     whole: bool,
+    expected: usize,
     ghost wanted: { AreWanted (plain_events held) whole wants.items } by { Prim.hlevel props },
 }
 
@@ -37,16 +38,17 @@ impl Pending {
             held: Held::new(alloc),
             wants: Vec::new(alloc),
             whole: false,
+            expected: 0,
         }
     }
 
-    /// Makes room for so many more different scalars, where there is memory for that. It is a hint:
-    /// more can come, or fewer.
+    /// So many different scalars are expected. It is a hint, by which room for them grows in larger
+    /// steps than without: more can come, or fewer, and it takes no memory by itself.
     pub fn expect_scalars(&mut self, count: usize)
         ensures events { events_held self.new ≡ events_held self.old }
         ensures whole { is_whole self.new ≡ is_whole self.old }
     {
-        self.held.expect_scalars(count);
+        self.expected = count;
     }
 
     // The fault of an event that can't follow those held.
@@ -71,6 +73,7 @@ impl Pending {
         ensures memory { OnlyMemory result }
     {
         self.wants.reserve(1)?;
+        self.held.expect_scalars(self.expected);
         self.held.push_copy(alloc, event)?;
         put(&mut self.wants, change);
         self.whole = self.wants.is_empty();

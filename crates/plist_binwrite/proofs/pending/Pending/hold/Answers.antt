@@ -11,7 +11,8 @@ invariant_of-self-2 c =
     let s = c.args.self.now in
     let now = c.put.new.wants in
     record {
-      wanted = ap wanted_after c.in_ok-push_copy.ensures.events
+      wanted = ap wanted_after
+          (rw c.expect_scalars.ensures.events at c.in_ok-push_copy.ensures.events)
           ∙ same_wants (events_held s) (event_of c.args.event)
           ∙ took s (event_of c.args.event) c.args.change c.requires.still refl c.requires.change
           c.reserve.new.self.items now.items c.requires.accepted c.in_ok-reserve.ensures.items
@@ -26,7 +27,7 @@ returns c =
     let now = c.put.new.wants in
     record {
       taken = (
-        c.in_ok-push_copy.ensures.events,
+        rw c.expect_scalars.ensures.events at c.in_ok-push_copy.ensures.events,
         tells_whole _ (stack_of now.items) c.is_empty-self.result
             (took s (event_of c.args.event) c.args.change c.requires.still refl c.requires.change
             c.reserve.new.self.items now.items c.requires.accepted c.in_ok-reserve.ensures.items
