@@ -1,3 +1,4 @@
+pub mod Blocks
 pub mod Coming
 pub mod HeldBack
 pub mod Printed

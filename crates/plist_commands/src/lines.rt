@@ -13,6 +13,7 @@ use std::alloc::AllocError;
 // No number has more digits.
 const MOST_DIGITS: usize = 20;
 
+#[inline(always)]
 fn hexadecimal_digit_of(value: u8) -> u8
     requires { value < 16 }
     ensures { result ≡ hexadecimal_digit value }
@@ -68,8 +69,8 @@ fn push_text(line: &mut Vec<u8>, text: &[u8]) -> Result<(), AllocError>
     Ok(())
 }
 
-// Two hexadecimal digits a byte.
-fn push_hexadecimal(line: &mut Vec<u8>, bytes: &[u8]) -> Result<(), AllocError>
+// Two hexadecimal digits a byte, of few bytes.
+fn push_digits(line: &mut Vec<u8>, bytes: &[u8]) -> Result<(), AllocError>
     ensures { OnOk result (line.new.items ≡ line.old.items ++ hexadecimal bytes.now) }
 {
     for &byte in bytes {
@@ -78,6 +79,30 @@ fn push_hexadecimal(line: &mut Vec<u8>, bytes: &[u8]) -> Result<(), AllocError>
         line.extend_from_slice(&[high, low])?;
     }
     Ok(())
+}
+
+// The digits of a block, which are made by arithmetic of many bytes at once.
+#[inline(always)]
+fn digits_of_block(bytes: &[u8; 64]) -> [u8; 128]
+    ensures { result ≡ hexadecimal bytes.now }
+{
+    let mut digits = [0; 128];
+    for index in 0..64 {
+        digits[2 * index] = hexadecimal_digit_of(bytes[index] / 16);
+        digits[2 * index + 1] = hexadecimal_digit_of(bytes[index] % 16);
+    }
+    digits
+}
+
+// Two hexadecimal digits a byte.
+fn push_hexadecimal(line: &mut Vec<u8>, bytes: &[u8]) -> Result<(), AllocError>
+    ensures { OnOk result (line.new.items ≡ line.old.items ++ hexadecimal bytes.now) }
+{
+    let (blocks, rest) = bytes.as_chunks::<64>();
+    for block in blocks {
+        line.extend_from_slice(&digits_of_block(block))?;
+    }
+    push_digits(line, rest)
 }
 
 // Data behind its word.
