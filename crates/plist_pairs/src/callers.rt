@@ -24,10 +24,7 @@ pub fn insert_each<V: Drop>(to: &mut Pairs<V>, all: Vec<(String, V)>) -> Result<
 pub fn of_list<V: Drop>(alloc: Global, all: Vec<(String, V)>) -> Result<Pairs<V>, Error>
     ensures { IfOk result (λ made. made ≡ insert_all bytes_eq [] (map shown_owned_pair all.items)) }
 {
-    match Pairs::from_pairs(alloc, all) {
-        Ok(made) => Ok(made),
-        Err(error) => Err(error),
-    }
+    Pairs::from_pairs(alloc, all)
 }
 
 /// Keeps the pairs whose value is `true`.

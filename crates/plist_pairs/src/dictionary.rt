@@ -120,6 +120,7 @@ impl<V> Pairs<V> {
     /// The value of the key, to be changed, if it is there.
     pub fn get_mut(&mut self, key: &str) -> Option<&mut V>
         ensures value { option_copied_mut result ≡ lookup (bytes_eq key.now) self.old }
+        ensures member { IfSome result (λ lent. IsAmong (values_of self.old) lent.now) }
         ensures* writes_back { sem 𝓛 (LendsAtKey V.row self.entry key.now result) }
     {
         match &mut self.store {

@@ -46,10 +46,7 @@ impl<V> Pairs<V> {
     {
         let mut rest = more.into_iter();
         while let Some((key, value)) = rest.next() {
-            match self.insert(key, value) {
-                Ok(_old) => {}
-                Err(pair) => return Err(Error::from(pair)),
-            }
+            let _old = self.insert(key, value)?;
         }
         Ok(())
     }
@@ -70,10 +67,8 @@ impl<V> Pairs<V> {
         ensures memory { OnlyMemory result }
     {
         let mut made = Pairs::new(alloc);
-        match made.extend(pairs) {
-            Ok(()) => Ok(made),
-            Err(error) => Err(error),
-        }
+        made.extend(pairs)?;
+        Ok(made)
     }
 
     /// Sorts the pairs by the bytes of their keys.

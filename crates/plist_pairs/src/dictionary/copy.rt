@@ -20,18 +20,16 @@ pub trait TryCopy: Sized {
         ensures { IfOk result (λ copy. shown copy ≡ shown self.now) };
 }
 
-fn copy_pairs<V: TryCopy + Drop>(alloc: Global, pairs: &Pairs<V>) -> Result<Pairs<V>, AllocError>
-    ensures { IfOk result (λ copies. with_shown V.shown copies ≡ with_shown V.shown pairs.now) }
+fn copy_pairs<V: TryCopy + Drop>(alloc: Global, pairs: &Pairs<V>) -> Result<Pairs<V>, Error>
+    ensures copy { IfOk result (λ copy. with_shown V.shown copy ≡ with_shown V.shown pairs.now) }
+    ensures memory { OnlyMemory result }
 {
     let mut copies = Pairs::new(alloc);
     let count = pairs.pair_count();
     for i in 0..count {
         let (key, value) = pairs.pair_at(i);
         let name = String::from_str(alloc, key)?;
-        match copies.insert(name, value.try_copy(alloc)?) {
-            Ok(_) => {}
-            Err(_) => return Err(AllocError),
-        }
+        let _old = copies.insert(name, value.try_copy(alloc)?)?;
     }
     Ok(copies)
 }
@@ -46,6 +44,6 @@ impl<V: TryCopy + Drop> Pairs<V> {
         ensures copy { IfOk result (λ copy. with_shown V.shown copy ≡ with_shown V.shown self.now) }
         ensures memory { OnlyMemory result }
     {
-        Ok(copy_pairs(self.alloc, self)?)
+        copy_pairs(self.alloc, self)
     }
 }

@@ -1,5 +1,7 @@
-use Rattle.std.proofs.Common.{refl, ◌∙◌, String, Global}
+use Rattle.std.proofs.Common.{refl, ◌∙◌, subst, sym, String, Global}
+use Rattle.std.proofs.lemmas.Result.{err_from_is_err_and}
 use Rattle.std.proofs.iter.Next as it
+use Rattle.plist_pairs.specs.Bulk.{ExtendsBy}
 use Rattle.plist_pairs.proofs.Extended.{inserted-more}
 use Rattle.plist_pairs.proofs.dictionary.Pairs.extend.Goals as goal
 
@@ -8,13 +10,13 @@ loop-key-init g c =
     let asked = c.requires.asked _ c.into_iter-rest.ensures.into_iter_gives in
     it.begun asked.0 asked.1 refl
 
-pub loop-key-preserved-in-Ok : goal.loop-key-preserved-in-Ok
-loop-key-preserved-in-Ok g c =
+pub loop-key-preserved-in_ok-_old : goal.loop-key-preserved-in_ok-_old
+loop-key-preserved-in_ok-_old g c =
     let kept = c.loop-key.invariant in
     let row : String Global × g.row.V.Denot = (c.in-Some.key, c.in-Some.value) in
     it.again kept row c.in-Some.is (c.next.ensures.steps, c.next.ensures.goes)
     (inserted-more c.args.self.now c.loop-key.self c.insert.new.self kept.seen row kept.holds
-    c.in-Ok.ensures.pairs)
+    c.in_ok-_old.ensures.pairs)
 
 pub loop-key-preserved : goal.loop-key-preserved
 loop-key-preserved g c =
@@ -22,24 +24,26 @@ loop-key-preserved g c =
     let row : String Global × g.row.V.Denot = (c.in-Some.key, c.in-Some.value) in
     it.again kept row c.in-Some.is (c.next.ensures.steps, c.next.ensures.goes)
     (inserted-more c.args.self.now c.loop-key.self c.insert.new.self kept.seen row kept.holds
-    c.in-Ok.ensures.pairs)
+    c.in_ok-_old.ensures.pairs)
 
-pub returns-in-Err-clause-pairs : goal.returns-in-Err-clause-pairs
-returns-in-Err-clause-pairs g c =
+pub returns-in_err-_old-clause-pairs : goal.returns-in_err-_old-clause-pairs
+returns-in_err-_old-clause-pairs g c =
     let kept = c.loop-key.invariant in
     let row : String Global × g.row.V.Denot = (c.in-Some.key, c.in-Some.value) in
     let gave = it.Yields-more g.I.IntoIter.Iterator.next_gives c.into_iter-rest.result kept.seen
     c.loop-key.rest row c.next.new.self kept.gave
-    (it.said g.I.IntoIter.Iterator.next_gives c.in-Some.is c.next.ensures.steps) in (
+    (it.said g.I.IntoIter.Iterator.next_gives c.in-Some.is c.next.ensures.steps) in
+    let refused = err_from_is_err_and c.from_residual.result c.from_residual.ensures.1 in (
       c.into_iter-rest.result,
       c.into_iter-rest.ensures.into_iter_gives,
-      (
-        kept.seen,
-        row,
-        (c.next.new.self, gave),
-        c.in-Err.ensures.unchanged ∙ kept.holds,
-        rw c.in-Err.ensures.unchanged c.in-Err.ensures.absent,
-      ),
+      subst (λ r. ExtendsBy g.I.IntoIter.Iterator.next_gives c.into_iter-rest.result
+          c.args.self.now r c.insert.new.self) (sym refused.1) (
+            kept.seen,
+            row,
+            (c.next.new.self, gave),
+            c.in_err-_old.ensures.unchanged ∙ kept.holds,
+            rw c.in_err-_old.ensures.unchanged c.in_err-_old.ensures.absent,
+          ),
     )
 
 pub returns-clause-pairs : goal.returns-clause-pairs

@@ -18,7 +18,7 @@ loop-i-preserved g c =
     let name = c.in_ok-name.name in
     let copied = c.in_ok-try_copy.field-0 in
     let one : suc i ≡ i + 1 = omega arith in
-    ap (with_shown shown) c.in-Ok.ensures.pairs
+    ap (with_shown shown) c.in_ok-_old.ensures.pairs
     ∙ values-insert shown (string_bytes name) copied c.loop-i.copies
     ∙ ap (λ l. insert_entry bytes_eq l (string_bytes name) (shown copied)) c.loop-i.invariant
     ∙ (λ j. insert_entry bytes_eq (take i (with_shown shown ps)) (c.in_ok-name.ensures.ok j)
@@ -28,8 +28,8 @@ loop-i-preserved g c =
     (get-map _ ps i (k, v) c.pair_at.ensures)
     ∙ ap (λ n. take n (with_shown shown ps)) one
 
-pub returns : goal.returns
-returns g c =
+pub returns-clause-copy : goal.returns-clause-copy
+returns-clause-copy g c =
     let shown = g.V.TryCopy.shown in
     let ps = c.args.pairs.now in
     c.loop-i.invariant ∙ take_all c.loop-i.i (with_shown shown ps)
