@@ -5,7 +5,9 @@ Files that Python's plistlib, and where they are there plistutil (libplist) and 
 are mutated, and ASCII texts are made of pieces at random. `print` and `convert` run on each; what they
 print, their status, and the file that `convert` makes have to be what the second reader and writer say.
 
-Usage: fuzz.py [CASES [SEED [WORKERS]]]      CASES in whole hundreds for each worker
+Where files are stored on a disk, waiting for it takes most of the time: `TMPDIR=/dev/shm` spares that.
+
+Usage: fuzz.py [CASES [SEED [WORKERS]]]
 
 Needs the built `plist_tool` and a C compiler. Ends with its counts, and status 1 where anything differs.
 """
@@ -76,9 +78,9 @@ class Case:
             yield "convert", found, self.converted
 
 
-def some_cases(chance, folder, pool, counts):
-    """Some cases; those of too many items are only counted."""
-    for number in range(BATCH):
+def some_cases(chance, folder, pool, count, counts):
+    """So many cases; those of too many items are only counted."""
+    for number in range(count):
         try:
             yield Case(folder / str(number), mutations.some_file(chance, pool))
         except second.TooMany:
@@ -102,7 +104,7 @@ def work(words):
         for start in range(0, count, BATCH):
             if start % (20 * BATCH) == 0:
                 pool = [data for _ in range(20) for data in mutations.from_others(chance, folder)]
-            cases = list(some_cases(chance, folder, pool, counts))
+            cases = list(some_cases(chance, folder, pool, min(BATCH, count - start), counts))
             ended = iter(starter.run_all([run for case in cases for run in case.begin()]))
             for case in cases:
                 judge(case, ended, counts)

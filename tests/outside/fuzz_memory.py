@@ -13,6 +13,8 @@ by a signal:
   offsets right before its trailer. In a tenth of the cases IN is OUT;
 - what went out before memory was refused is a beginning of what goes out with ample memory.
 
+Where OUT is stored on a disk, waiting for it takes most of the time: `TMPDIR=/dev/shm` spares that.
+
 Usage: fuzz_memory.py [CASES [SEED [WORKERS [KIB]]]]      10,000 cases where none are told; KIB is the bound.
 
 Needs the built `plist_tool` and a C compiler. Ends with its counts, and status 1 where a run does

@@ -7,14 +7,13 @@ Beside it stand `BinaryReader` alone over the same bytes in memory, without thes
 `tests/outside/items`, which is proved and built in a copy of its crates where it isn't named).
 
 The second table is of `convert` and `keyed`, which have no limits: what the dearest files take of
-memory for each event and for each byte. Each runs again under `ulimit -v` of half its peak: then it has
-to tell want of memory with status 1, and OUT of `convert` stays as it was. So do files that unfold to
-2^42 events, under 256 MiB.
+memory for each event and for each byte. Each runs again under `ulimit -v` of 4 MiB and half its peak:
+then it has to tell want of memory with status 1, and OUT of `convert` stays as it was. So do files that
+unfold to 2^42 events, under 256 MiB.
 
 Usage: peak_memory.py [ITEMS]
 
-Needs the built `plist_tool` and a C compiler. Ends with status 1 where a run does otherwise; a peak
-above its bound is shown.
+Needs the built `plist_tool` and a C compiler. Ends with status 1 where a run does otherwise.
 """
 import itertools
 import pathlib
@@ -32,6 +31,8 @@ OLDER = b"an older file"
 MEGABYTE = 1 << 20
 OBJECT, WINDOWS = 12, 2 * MEGABYTE
 UNBOUNDED, ROOM = 42, 256 << 10
+# the program and its call stack take so many KiB of address space
+START = 4 << 10
 # no run takes more than so many KiB, whatever it would
 MOST_ROOM = 4 << 20
 
@@ -235,7 +236,7 @@ class Tables:
         if ended.status:
             self.bad += 1
             name += f", OTHERWISE: {ended}, {self.error.read_bytes()!r}"
-        short = self.ends_short(self.words(command), ended.peak // 2048)
+        short = self.ends_short(self.words(command), START + max(0, peak) // 2048)
         print(f"| `{command}`, {name} | {len(content):,} | {events:,} | {peak / 1e6:.1f} MB | {peak / events:.1f} "
               f"| {peak / len(content):,.1f} | {ended.seconds:.2f} | {short} |", flush=True)
 
@@ -256,7 +257,7 @@ def main(words):
             tables.printed(shape, make())
         print()
         speed.heading(["shape", "bytes", "events", "peak", "bytes an event", "bytes a byte", "seconds",
-                       "with half its peak"])
+                       "with half of it"])
         for command, shapes in (("convert", CONVERTED), ("keyed", KEYED)):
             for shape, (make, events) in shapes.items():
                 tables.held(command, shape, make(), events)
