@@ -29,6 +29,8 @@ mod told;
 #[cfg(test)]
 mod values;
 #[cfg(test)]
+mod vast;
+#[cfg(test)]
 mod whole;
 #[cfg(test)]
 mod writing;

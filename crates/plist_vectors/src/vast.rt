@@ -1,0 +1,70 @@
+//! A file that no memory holds, and what limits make of it.
+
+use crate::support::must;
+use plist_base::{Limits, Source};
+use plist_binread::BinaryReader;
+use plist_support::words_of;
+use std::io;
+
+// The magic, and the front of data of 2^62 bytes.
+const FRONT: &[u8; 18] = b"bplist00\x4f\x13\x40\0\0\0\0\0\0\0";
+
+// The table, and a trailer that tells one object.
+const BACK: &[u8; 33] =
+    b"\x08\0\0\0\0\0\0\x01\x01\0\0\0\0\0\0\0\x01\0\0\0\0\0\0\0\0\x40\0\0\0\0\0\0\x12";
+
+// Where the table lies.
+const TABLE: u64 = (1 << 62) + 18;
+
+/// A file of data whose bytes are all zero.
+#[derive(Drop)]
+struct Vast;
+
+// What lies at a place of it.
+fn byte_at(place: u64) -> Option<u8> {
+    if place >= TABLE {
+        return BACK.get((place - TABLE) as usize).copied();
+    }
+    Some(FRONT.get(place as usize).copied().unwrap_or(0))
+}
+
+impl Source for Vast {
+    ghost known = { λ _. None };
+
+    ghost failures = { λ _. 0 };
+
+    fn size(&mut self) -> Result<u64, io::Error> {
+        Ok(TABLE + BACK.len() as u64)
+    }
+
+    fn read_at(&mut self, place: u64, buf: &mut [u8]) -> Result<usize, io::Error> {
+        if buf.is_empty() {
+            return Ok(0);
+        }
+        match byte_at(place) {
+            Some(byte) => {
+                buf[0] = byte;
+                Ok(1)
+            }
+            None => Ok(0),
+        }
+    }
+}
+
+// Data that is too long is refused before memory for it is asked for.
+#[test]
+fn refuses_data_before_memory_is_taken(rt: HostRuntime) {
+    let bytes = Some(1 << 20);
+    let limits = Limits {
+        bytes,
+        ..Limits::new(9, 9)
+    };
+    let limited = BinaryReader::with_limits(rt.alloc(), Vast, limits);
+    let found = must(&rt, words_of(rt.alloc(), limited));
+    assert_eq!(rt; found.as_str(), "LimitReached(Bytes)");
+    let found = must(
+        &rt,
+        words_of(rt.alloc(), BinaryReader::new(rt.alloc(), Vast)),
+    );
+    assert_eq!(rt; found.as_str(), "OutOfMemory");
+}
