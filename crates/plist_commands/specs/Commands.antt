@@ -6,7 +6,6 @@ use Rattle.plist_commands.specs.declared.failure.Failure.{Failure}
 use Rattle.plist_commands.specs.Messages.{Said, Fault}
 use Rattle.plist_commands.specs.declared.commands.Command.{Command}
 use Rattle.plist_commands.specs.declared.commands.Command.TheVariants as command
-use Rattle.plist_commands.specs.declared.commands.Streams.{Streams}
 
 -- what the program can be asked to do
 pub data Asked : Type 0 where
@@ -44,11 +43,10 @@ EndsWith tells (Err complaint) status old new =
 abbrev pub EndsBy : {O E : Type 0}
     → (answers : Asked → Option (List ℕ) → Outcome → Option (List ℕ) → Type 0)
     → (contents : O → Option (List ℕ)) → (tells : E → Said → Bool → E → Type 0)
-    → (words : List (String Global)) → (old new : Streams O E) → (status : ℕ) → Type 0
-EndsBy answers contents tells words old new status =
+    → (words : List (String Global)) → (status : ℕ) → (old new : O) → (err told : E) → Type 0
+EndsBy answers contents tells words status old new err told =
     status ≢ 2 → (asked : Asked) × (answer : Outcome) × (map string_bytes words ≡ words_for asked)
-    × answers asked (contents old.out) answer (contents new.out)
-    × EndsWith tells answer status old.err new.err
+    × answers asked (contents old) answer (contents new) × EndsWith tells answer status err told
 
 -- the command may have answered so, and an output that tells its bytes then holds these
 abbrev pub Performs : {O A : Type 0} → (answers : Asked → Option (List ℕ) → Outcome

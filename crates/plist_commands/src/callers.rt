@@ -10,7 +10,7 @@ ghost use Rattle.plist_commands.specs.Printing.{PrintsAll, PrintsUntil};
 ghost use Rattle.plist_commands.specs.declared.convert.Streamed.TheVariants.{NeedsValue, Sent};
 ghost use Rattle.plist_format.specs.Unfolding.{items_of_file};
 
-use crate::commands::{Commands, Streams, run_words};
+use crate::commands::{Commands, run_words};
 use crate::convert::{Streamed, convert_binary};
 use crate::failure::Failure;
 use crate::messages::{Message, Messages};
@@ -61,9 +61,10 @@ pub fn text_of_failure(alloc: Global, failure: &Failure) -> Option<Vec<u8>>
 pub fn status_of_no_words<R: Commands, O: Write, E: Messages>(
     rt: &R,
     alloc: Global,
-    to: &mut Streams<O, E>,
+    out: &mut O,
+    err: &mut E,
 ) -> u8
     ensures { result ≡ 2 }
 {
-    run_words(rt, alloc, &[], to)
+    run_words(rt, alloc, &[], out, err)
 }

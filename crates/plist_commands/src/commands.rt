@@ -93,15 +93,6 @@ fn print_file<R: Files, O: Write>(
     print_events(alloc, source, out)
 }
 
-/// Where a run's lines and its messages go.
-#[derive(Drop)]
-pub struct Streams<O: Write, E: Messages> {
-    /// Takes the lines.
-    pub out: O,
-    /// Takes what is said beside them.
-    pub err: E,
-}
-
 /// Does what the words after the program's name ask for, and answers the status: 0 where it is
 /// done, 1 after a fault, which is then told on `err`, and 2 for wrong words, for which `err` gets
 /// the usage.
@@ -111,21 +102,23 @@ pub fn run_words<R: Commands, O: Write, E: Messages>(
     rt: &R,
     alloc: Global,
     words: &[String],
-    to: &mut Streams<O, E>,
+    out: &mut O,
+    err: &mut E,
 ) -> u8
     ensures wrong { (result ≡ 2) ↔ IsWrong (map string_bytes words.now) }
-    ensures silent { result ≡ 2 → to.new.out ≡ to.old.out }
-    ensures usage { result ≡ 2 → (told : Bool) × E.tells to.old.err Usage told to.new.err }
-    ensures ends { EndsBy (R.answers rt.now) O.contents E.tells words.now to.old to.new result }
+    ensures silent { result ≡ 2 → out.new ≡ out.old }
+    ensures usage { result ≡ 2 → (told : Bool) × E.tells err.old Usage told err.new }
+    ensures ends { EndsBy (R.answers rt.now) O.contents E.tells words.now result out.old out.new
+        err.old err.new }
 {
     let Some(command) = command_of(words) else {
-        let _ = to.err.tell(Message::Usage);
+        let _ = err.tell(Message::Usage);
         return 2;
     };
-    match rt.perform(alloc, command, &mut to.out) {
+    match rt.perform(alloc, command, out) {
         Ok(()) => 0,
         Err(failure) => {
-            let _ = to.err.tell(Message::Fault(&failure));
+            let _ = err.tell(Message::Fault(&failure));
             1
         }
     }

@@ -15,11 +15,13 @@ mod messages;
 mod open;
 mod print;
 mod values;
+mod words;
 
-pub use commands::{Command, Commands, Streams, command_of, run_words};
+pub use commands::{Command, Commands, command_of, run_words};
 pub use convert::{Streamed, convert_binary, convert_file};
 pub use failure::Failure;
 pub use keyed::keyed_file;
 pub use messages::{Message, Messages};
 pub use print::print_events;
 pub use values::print_value;
+pub use words::words_given;

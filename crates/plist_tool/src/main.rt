@@ -8,36 +8,25 @@ ghost use Rattle.std.specs.Process.{exit_status};
 ghost use Rattle.plist_base.specs.Outcomes.{OnlyMemory};
 ghost use Rattle.plist_tool.specs.Exits.{IsStatusOf, TellsFault};
 
-use plist_base::{Error, ErrorKind};
-use plist_commands::{Failure, Message, Messages, Streams, run_words};
+use plist_base::Error;
+use plist_commands::{Failure, Message, Messages, run_words, words_given};
 use std::env::Env;
+use std::io;
 use std::io::Write;
 use std::process::ExitCode;
 use std::rt::Files;
-use std::{env, io};
-
-// The words after the program's name; none if one of them isn't UTF-8, since neither a command nor
-// a path has such a word here.
-fn words_given<R: Env + AllocGlobal>(rt: &R) -> Result<Vec<String>, Error>
-    ensures { OnlyMemory result }
-{
-    match env::args(rt) {
-        Ok(all) => Ok(all.skip(1).collect(rt.alloc())?),
-        Err(error) if error.kind() == io::ErrorKind::InvalidData => Ok(Vec::new(rt.alloc())),
-        Err(_) => Err(ErrorKind::OutOfMemory.without_position()),
-    }
-}
 
 // Runs the command of the words given.
 fn run<R: Files + Env + AllocGlobal, O: Write, E: Messages>(
     rt: &R,
-    to: &mut Streams<O, E>,
+    out: &mut O,
+    err: &mut E,
 ) -> Result<u8, Error>
     ensures status { IfOk result (λ status. status ≤ 2) }
     ensures memory { OnlyMemory result }
 {
-    let words = words_given(rt)?;
-    Ok(run_words(rt, rt.alloc(), words.as_slice(), to))
+    let words = words_given(rt, rt.alloc())?;
+    Ok(run_words(rt, rt.alloc(), words.as_slice(), out, err))
 }
 
 // The exit code of a run: its status, or 1 where there was no memory to begin, which is then told.
@@ -56,10 +45,8 @@ fn exit_code<E: Messages>(answer: Result<u8, Error>, err: &mut E) -> ExitCode
 
 // Standard output, to which a command sends its lines many at a time, and standard error.
 fn main(rt: HostRuntime) -> ExitCode {
-    let mut streams = Streams {
-        out: io::writer(&rt),
-        err: rt.stderr(),
-    };
-    let answer = run(&rt, &mut streams);
-    exit_code(answer, &mut streams.err)
+    let mut out = io::writer(&rt);
+    let mut err = rt.stderr();
+    let answer = run(&rt, &mut out, &mut err);
+    exit_code(answer, &mut err)
 }

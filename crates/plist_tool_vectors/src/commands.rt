@@ -1,15 +1,15 @@
 //! What the words ask for: the status, what is printed, and what is said on standard error.
 
-use crate::support::{RECURSIVE, expect_fault, expect_run, failing, put, run};
-use plist_commands::Streams;
+use crate::support::{RECURSIVE, expect_fault, expect_given, expect_run, failing, put, run};
 use std::env::Env;
 use std::io::ErrorKind;
 use std::process::Abort;
 use std::rt::Files;
 
+const USAGE: &[u8] = b"Usage: plist_tool print FILE | convert IN OUT | keyed FILE KEY\n";
+
 fn expect_usage(rt: &(impl Abort + AllocGlobal + Env + Files), line: &str) {
-    let usage = b"Usage: plist_tool print FILE | convert IN OUT | keyed FILE KEY\n";
-    expect_run(rt, line, b"", usage, 2);
+    expect_run(rt, line, b"", USAGE, 2);
 }
 
 #[test]
@@ -25,6 +25,15 @@ fn wrong_words(rt: HostRuntime) {
     expect_usage(&rt, "keyed one two three");
 }
 
+// A word that is no text is a wrong one, and the program's name is no word.
+#[test]
+fn words_that_are_no_text(rt: HostRuntime) {
+    let path = b"no_such_folder/\xff".as_slice();
+    expect_given(&rt, &[b"plist_tool", b"print", path], USAGE, 2);
+    let path = b"no_such_folder/in".as_slice();
+    expect_given(&rt, &[b"plist_\xff", b"print", path], b"Error: Io\n", 1);
+}
+
 #[test]
 fn a_missing_file(rt: HostRuntime) {
     expect_fault(
@@ -36,12 +45,11 @@ fn a_missing_file(rt: HostRuntime) {
 
 // Standard error takes four bytes of what is said.
 fn expect_status(rt: &(impl Abort + AllocGlobal + Env + Files), line: &str, status: u8) {
-    let mut streams = Streams {
-        out: Vec::new(rt.alloc()),
-        err: failing(rt, 4, ErrorKind::PermissionDenied),
-    };
-    assert_eq!(rt; run(rt, line, &mut streams), status, "at {line}");
-    assert_eq!(rt; streams.err.bytes.len(), 4, "at {line}");
+    let mut out = Vec::new(rt.alloc());
+    let mut err = failing(rt, 4, ErrorKind::PermissionDenied);
+    assert_eq!(rt; run(rt, line, &mut out, &mut err), status, "at {line}");
+    assert_eq!(rt; err.bytes.len(), 4, "at {line}");
+    assert_eq!(rt; err.calls, 5, "at {line}");
 }
 
 #[test]
@@ -65,11 +73,9 @@ fn a_fault_after_its_lines(rt: HostRuntime) {
 #[test]
 fn a_failing_output(rt: HostRuntime) {
     put(&rt, "failing_output", RECURSIVE);
-    let mut streams = Streams {
-        out: failing(&rt, 5, ErrorKind::PermissionDenied),
-        err: Vec::new(rt.alloc()),
-    };
-    assert_eq!(rt; run(&rt, "print @failing_output", &mut streams), 1);
-    assert_eq!(rt; streams.out.bytes.as_slice(), b"Start".as_slice());
-    assert_eq!(rt; streams.err.as_slice(), b"Error: Io\n".as_slice());
+    let mut out = failing(&rt, 5, ErrorKind::PermissionDenied);
+    let mut err = Vec::new(rt.alloc());
+    assert_eq!(rt; run(&rt, "print @failing_output", &mut out, &mut err), 1);
+    assert_eq!(rt; out.bytes.as_slice(), b"Start".as_slice());
+    assert_eq!(rt; err.as_slice(), b"Error: Io\n".as_slice());
 }

@@ -6,7 +6,7 @@ mod runs;
 
 pub(crate) use devices::{Stuck, broken_file, expect_taken, failing, sound};
 pub(crate) use files::{RECURSIVE, expect_holds, expect_missing, put, remove};
-pub(crate) use runs::{expect_done, expect_fault, expect_run, run};
+pub(crate) use runs::{expect_done, expect_fault, expect_given, expect_run, run};
 use std::fmt::Debug;
 use std::process::Abort;
 

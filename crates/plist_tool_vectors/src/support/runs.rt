@@ -2,8 +2,8 @@
 
 use crate::support::files::path_of;
 use crate::support::must;
-use plist_commands::{Messages, Streams, run_words};
-use std::env::Env;
+use plist_commands::{Messages, run_words, words_given};
+use std::env::{Env, FillError};
 use std::io::Write;
 use std::process::Abort;
 use std::rt::Files;
@@ -20,13 +20,58 @@ fn word_of(rt: &(impl Abort + AllocGlobal + Env), word: &str) -> String {
 pub(crate) fn run<O: Write, E: Messages>(
     rt: &(impl Abort + AllocGlobal + Env + Files),
     line: &str,
-    to: &mut Streams<O, E>,
+    out: &mut O,
+    err: &mut E,
 ) -> u8 {
     let mut words = Vec::new(rt.alloc());
     for word in line.split_whitespace() {
         must(rt, words.push(word_of(rt, word)));
     }
-    run_words(rt, rt.alloc(), words.as_slice(), to)
+    run_words(rt, rt.alloc(), words.as_slice(), out, err)
+}
+
+// The arguments of a run, the first of which is the program's name.
+#[derive(Drop)]
+struct Given<'a> {
+    words: &'a [&'a [u8]],
+}
+
+impl<'a> Env for Given<'a> {
+    fn arg(&self, i: usize, buf: &mut [u8]) -> Result<usize, FillError> {
+        if i >= self.words.len() {
+            return Err(FillError::NotPresent);
+        }
+        let word = self.words[i];
+        if word.len() > buf.len() {
+            return Err(FillError::TooLong);
+        }
+        buf[..word.len()].copy_from_slice(word);
+        Ok(word.len())
+    }
+
+    fn var(&self, _name: &str, _buf: &mut [u8]) -> Result<usize, FillError> {
+        Err(FillError::NotPresent)
+    }
+
+    fn var_at(&self, _i: usize, _buf: &mut [u8]) -> Result<usize, FillError> {
+        Err(FillError::NotPresent)
+    }
+}
+
+// A run of these arguments prints nothing, says this on standard error, and ends with this status.
+pub(crate) fn expect_given(
+    rt: &(impl Abort + AllocGlobal + Env + Files),
+    words: &[&[u8]],
+    said: &[u8],
+    status: u8,
+) {
+    let given = must(rt, words_given(&Given { words }, rt.alloc()));
+    let mut out = Vec::new(rt.alloc());
+    let mut err = Vec::new(rt.alloc());
+    let found = run_words(rt, rt.alloc(), given.as_slice(), &mut out, &mut err);
+    assert_eq!(rt; err.as_slice(), said);
+    assert_eq!(rt; out.len(), 0);
+    assert_eq!(rt; found, status);
 }
 
 // A run of these words prints this, says that on standard error, and ends with this status.
@@ -37,13 +82,11 @@ pub(crate) fn expect_run(
     said: &[u8],
     status: u8,
 ) {
-    let mut streams = Streams {
-        out: Vec::new(rt.alloc()),
-        err: Vec::new(rt.alloc()),
-    };
-    let found = run(rt, line, &mut streams);
-    assert_eq!(rt; streams.err.as_slice(), said, "at {line}");
-    assert_eq!(rt; streams.out.as_slice(), printed, "at {line}");
+    let mut out = Vec::new(rt.alloc());
+    let mut err = Vec::new(rt.alloc());
+    let found = run(rt, line, &mut out, &mut err);
+    assert_eq!(rt; err.as_slice(), said, "at {line}");
+    assert_eq!(rt; out.as_slice(), printed, "at {line}");
     assert_eq!(rt; found, status, "at {line}");
 }
 

@@ -1,0 +1,46 @@
+//! The words that the program was given.
+
+ghost use Rattle.plist_base.specs.Outcomes.{OnlyMemory};
+
+use plist_base::{Error, ErrorKind};
+use std::alloc::Global;
+use std::env::{Env, FillError};
+use std::{env, io};
+
+// The arguments behind the program's name.
+#[derive(Drop)]
+struct Behind<'a, R: Env> {
+    rt: &'a R,
+}
+
+impl<'a, R: Env> Env for Behind<'a, R> {
+    fn arg(&self, i: usize, buf: &mut [u8]) -> Result<usize, FillError> {
+        match i.checked_add(1) {
+            Some(next) => self.rt.arg(next, buf),
+            None => Err(FillError::NotPresent),
+        }
+    }
+
+    fn var(&self, name: &str, buf: &mut [u8]) -> Result<usize, FillError> {
+        self.rt.var(name, buf)
+    }
+
+    fn var_at(&self, i: usize, buf: &mut [u8]) -> Result<usize, FillError> {
+        self.rt.var_at(i, buf)
+    }
+}
+
+/// The words behind the program's name, which need be no text; none if one of them isn't UTF-8,
+/// since neither a command nor a path has such a word here.
+///
+/// # Errors
+/// `OutOfMemory`, without an offset.
+pub fn words_given<R: Env>(rt: &R, alloc: Global) -> Result<Vec<String>, Error>
+    ensures { OnlyMemory result }
+{
+    match env::args(&(Behind { rt }, alloc)) {
+        Ok(all) => Ok(all.collect(alloc)?),
+        Err(error) if error.kind() == io::ErrorKind::InvalidData => Ok(Vec::new(alloc)),
+        Err(_) => Err(ErrorKind::OutOfMemory.without_position()),
+    }
+}
