@@ -22,6 +22,6 @@ pub use convert::{Streamed, convert_binary, convert_file};
 pub use failure::Failure;
 pub use keyed::keyed_file;
 pub use messages::{Message, Messages};
-pub use print::print_events;
+pub use print::{print_events, print_reader};
 pub use values::print_value;
 pub use words::words_given;

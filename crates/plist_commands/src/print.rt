@@ -2,8 +2,10 @@
 
 ghost use Rattle.std.specs.Prelude.{◌≡◌, ◌⊎◌, [], IfErr, OnErr, OnOk};
 ghost use Rattle.plist_base.specs.Faults.{fault_of};
+ghost use Rattle.plist_binread.specs.BinaryReader.{source_of};
+ghost use Rattle.plist_commands.specs.Converting.{items_left};
 ghost use Rattle.plist_commands.specs.Fronts.{EndsBehind, MakesRoom, PassesLine, SendsFront, SendsLineInPart};
-ghost use Rattle.plist_commands.specs.Printing.{CountsReads, EndsFile, EndsItems, IsOwnFault, LeavesSource, PrintsFile, PrintsItems, SendsFrontOfFile, SendsFrontOfItems};
+ghost use Rattle.plist_commands.specs.Printing.{CountsReads, CountsReadsOf, EndsFile, EndsItems, IsOwnFault, LeavesSource, PrintsFile, PrintsItems, SendsFrontOfFile, SendsFrontOfItems};
 
 use crate::items::Items;
 use crate::lines::{most_bytes, push_line};
@@ -141,6 +143,30 @@ pub(crate) fn print_items<I: Items, W: Write>(
     flushed
 }
 
+/// Prints the events that a reader has still to give, as [`print_events`] does those of a source.
+///
+/// # Errors
+/// Those of [`print_events`].
+pub fn print_reader<S: Source, W: Write>(
+    alloc: Global,
+    reader: &mut BinaryReader<S>,
+    writer: &mut W,
+) -> Result<(), Error>
+    // The answer.
+    ensures printed { OnOk result
+        (PrintsItems W.contents (items_left S.known reader.old) writer.old writer.new) }
+    // A refusal.
+    ensures refused { IfErr result
+        (EndsItems W.contents (items_left S.known reader.old) writer.old writer.new) }
+    // The state after it.
+    ensures front { SendsFrontOfItems W.contents (items_left S.known reader.old)
+        writer.old writer.new }
+    ensures unchanged { S.known (source_of reader.new) ≡ S.known (source_of reader.old) }
+    ensures failures { CountsReadsOf S.failures reader.old result reader.new }
+{
+    print_items(alloc, reader, writer)
+}
+
 /// Prints the events of a source, each on a line of its own, up to the first fault, and flushes the
 /// writer at the end.
 ///
@@ -160,5 +186,5 @@ pub fn print_events<S: Source, W: Write>(
     ensures failures { (left : S) × LeavesSource S.known S.failures source result left }
 {
     let mut reader = BinaryReader::new(alloc, source);
-    print_items(alloc, &mut reader, writer)
+    print_reader(alloc, &mut reader, writer)
 }

@@ -2,7 +2,7 @@
 
 use crate::support::{broken_file, expect_taken, failing, must, sound};
 use plist_commands::print_events;
-use plist_support::{expect_io, front};
+use plist_support::{Device, Fault, expect_io, front};
 use std::io::ErrorKind;
 use std::process::Abort;
 
@@ -79,6 +79,25 @@ fn a_read_that_fails(rt: HostRuntime) {
         must(&rt, expect_io(answer, ErrorKind::PermissionDenied, Some(0)));
         expect_taken(&rt, &writer, b"", 1, 0);
     }
+}
+
+// What was held back goes out before the failure: the last read is that of the second reference,
+// behind two lines.
+#[test]
+fn a_later_read_that_fails(rt: HostRuntime) {
+    let mut sent = 0;
+    for call in 0..200 {
+        let bytes = must(&rt, Vec::from_slice(rt.alloc(), TWO_TEXTS));
+        let device = Device::with_fault(bytes, call, Fault::Fails(ErrorKind::TimedOut));
+        let mut out = Vec::new(rt.alloc());
+        if print_events(rt.alloc(), device, &mut out).is_ok() {
+            assert_eq!(rt; out.as_slice(), LINES);
+            break;
+        }
+        assert_eq!(rt; out.as_slice(), front(LINES, out.len()));
+        sent = out.len();
+    }
+    assert_eq!(rt; sent, b"StartArray 2\nString \"a\"\n".len());
 }
 
 fn expect_lines(rt: &(impl Abort + AllocGlobal), file: &[u8], lines: &[u8]) {

@@ -11,38 +11,38 @@ use Rattle.plist_commands.proofs.print.print_events.Goals as goal
 
 pub returns-clause-printed : goal.returns-clause-printed
 returns-clause-printed g c =
-    on_ok_weaker c.print_items.result
+    on_ok_weaker c.print_reader.result
     (of_file (g.S.Source.known c.args.source) _ (λ bytes. to_come bytes c.new-reader.result)
     items_of_file (λ items. PrintsAll items (g.W.Write.contents c.args.writer.now)
-    (g.W.Write.contents c.print_items.new.writer)) (ap g.S.Source.known c.new-reader.ensures.source)
-    c.new-reader.ensures.items) c.print_items.ensures.printed
+    (g.W.Write.contents c.print_reader.new.writer)) (ap g.S.Source.known c.new-reader.ensures.source)
+    c.new-reader.ensures.items) c.print_reader.ensures.printed
 
 pub returns-clause-refused : goal.returns-clause-refused
 returns-clause-refused g c =
-    IfErr-weaker c.print_items.result (EndsItems g.W.Write.contents
+    IfErr-weaker c.print_reader.result (EndsItems g.W.Write.contents
     (items_left g.S.Source.known c.new-reader.result) c.args.writer.now
-    c.print_items.new.writer)
+    c.print_reader.new.writer)
     (EndsFile g.S.Source.known g.W.Write.contents c.args.source c.args.writer.now
-    c.print_items.new.writer)
+    c.print_reader.new.writer)
     (λ error. of_file (g.S.Source.known c.args.source) _
     (λ bytes. to_come bytes c.new-reader.result) items_of_file
     (λ items. PrintsUntil error items (g.W.Write.contents c.args.writer.now)
-    (g.W.Write.contents c.print_items.new.writer)) (ap g.S.Source.known c.new-reader.ensures.source)
-    c.new-reader.ensures.items) c.print_items.ensures.refused
+    (g.W.Write.contents c.print_reader.new.writer)) (ap g.S.Source.known c.new-reader.ensures.source)
+    c.new-reader.ensures.items) c.print_reader.ensures.refused
 
 pub returns-clause-front : goal.returns-clause-front
 returns-clause-front g c =
     of_file (g.S.Source.known c.args.source) _ (λ bytes. to_come bytes c.new-reader.result)
     items_of_file (λ items. AppendsFront (g.W.Write.contents c.args.writer.now)
-    (g.W.Write.contents c.print_items.new.writer) (lines_of items))
+    (g.W.Write.contents c.print_reader.new.writer) (lines_of items))
     (ap g.S.Source.known c.new-reader.ensures.source) c.new-reader.ensures.items
-    c.print_items.ensures.front
+    c.print_reader.ensures.front
 
 pub returns-clause-failures : goal.returns-clause-failures
 returns-clause-failures g c = (
-  source_of c.print_items.new.items,
+  source_of c.print_reader.new.reader,
   (
-    rw c.new-reader.ensures.source at c.print_items.ensures.unchanged,
-    rw c.new-reader.ensures.source at c.print_items.ensures.failures,
+    rw c.new-reader.ensures.source at c.print_reader.ensures.unchanged,
+    rw c.new-reader.ensures.source at c.print_reader.ensures.failures,
   ),
 )
