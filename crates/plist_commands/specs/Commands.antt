@@ -37,6 +37,16 @@ EndsWith tells (Ok done) status old new = (status ≡ 0) × (new ≡ old)
 EndsWith tells (Err complaint) status old new =
     (status ≡ 1) × ((told : Bool) × tells old (Fault complaint) told new)
 
+-- the words ask for a command that may have answered so, and an output that tells its bytes then
+-- holds these
+abbrev pub Answered : {O : Type 0}
+    → (answers : Asked → Option (List ℕ) → Outcome → Option (List ℕ) → Type 0)
+    → (contents : O → Option (List ℕ)) → (words : List (String Global)) → (old : O) → Outcome
+    → (new : O) → Type 0
+Answered answers contents words old answer new =
+    (asked : Asked) × (map string_bytes words ≡ words_for asked)
+    × answers asked (contents old) answer (contents new)
+
 -- Unless the status is that of wrong words, the words ask for a command that may have answered so,
 -- an output that tells its bytes then holds these, and the program ends as it does behind that
 -- answer.

@@ -1,11 +1,13 @@
-//! Proved callers: what the commands make of known bytes, and send to a vector, and of no
-//! words.
+//! Proved callers: what the commands make of known bytes, and send to a vector; what is told of no
+//! words, and how a run ends.
 
-ghost use Rattle.std.specs.Prelude.{◌≡◌, ◌++◌, IfErr, IfSome, OnOk, Some, codes};
+ghost use Rattle.std.specs.Prelude.{◌≡◌, ◌++◌, Bool, Err, IfErr, IfSome, Ok, OnOk, Some, codes, false, true};
 ghost use Rattle.plist_base.specs.Fronts.{AppendsFront};
-ghost use Rattle.plist_commands.specs.Failures.{complaint_of, text_of_complaint};
+ghost use Rattle.plist_commands.specs.Commands.{Answered};
+ghost use Rattle.plist_commands.specs.Failures.{Complaint, complaint_of, text_of_complaint};
 ghost use Rattle.plist_commands.specs.Converting.{IfOkIs, LeavesToValue, SendsBytes};
 ghost use Rattle.plist_commands.specs.Lines.{lines_of};
+ghost use Rattle.plist_commands.specs.Messages.{Fault, Usage};
 ghost use Rattle.plist_commands.specs.Printing.{PrintsAll, PrintsUntil};
 ghost use Rattle.plist_commands.specs.declared.convert.Streamed.TheVariants.{NeedsValue, Sent};
 ghost use Rattle.plist_format.specs.Unfolding.{items_of_file};
@@ -57,14 +59,54 @@ pub fn text_of_failure(alloc: Global, failure: &Failure) -> Option<Vec<u8>>
     }
 }
 
-/// The status of no words, which is that of wrong ones.
+/// Whether printing bytes met a read that failed, which has a place: it never does.
+pub fn meets_a_failed_read(alloc: Global, bytes: &[u8], out: &mut Vec<u8>) -> bool
+    ensures { result ≡ false }
+{
+    match print_events(alloc, bytes, out) {
+        Ok(()) => false,
+        Err(error) => error.is_io() && error.offset().is_some(),
+    }
+}
+
+/// The status of no words, which is that of wrong ones: no line is printed, and the usage is told.
 pub fn status_of_no_words<R: Commands, O: Write, E: Messages>(
     rt: &R,
     alloc: Global,
     out: &mut O,
     err: &mut E,
 ) -> u8
-    ensures { result ≡ 2 }
+    ensures wrong { result ≡ 2 }
+    ensures silent { to.new.out ≡ to.old.out }
+    ensures usage { (told : Bool) × E.tells to.old.err Usage told to.new.err }
 {
     run_words(rt, alloc, &[], out, err)
+}
+
+/// Whether a run is done: then its command may have answered so, and nothing is told.
+pub fn is_done<R: Commands, O: Write, E: Messages>(
+    rt: &R,
+    alloc: Global,
+    words: &[String],
+    to: &mut Streams<O, E>,
+) -> bool
+    ensures answer { result ≡ true
+        → Answered (R.answers rt.now) O.contents words.now to.old.out (Ok tt) to.new.out }
+    ensures silent { result ≡ true → to.new.err ≡ to.old.err }
+{
+    run_words(rt, alloc, words, to) == 0
+}
+
+/// Whether a run is refused: then its command may have answered why, and that is told.
+pub fn is_refused<R: Commands, O: Write, E: Messages>(
+    rt: &R,
+    alloc: Global,
+    words: &[String],
+    to: &mut Streams<O, E>,
+) -> bool
+    ensures { result ≡ true → (complaint : Complaint)
+        × Answered (R.answers rt.now) O.contents words.now to.old.out (Err complaint) to.new.out
+        × (told : Bool) × E.tells to.old.err (Fault complaint) told to.new.err }
+{
+    run_words(rt, alloc, words, to) == 1
 }
