@@ -77,8 +77,8 @@ pub fn status_of_no_words<R: Commands, O: Write, E: Messages>(
     err: &mut E,
 ) -> u8
     ensures wrong { result ≡ 2 }
-    ensures silent { to.new.out ≡ to.old.out }
-    ensures usage { (told : Bool) × E.tells to.old.err Usage told to.new.err }
+    ensures silent { out.new ≡ out.old }
+    ensures usage { (told : Bool) × E.tells err.old Usage told err.new }
 {
     run_words(rt, alloc, &[], out, err)
 }
@@ -88,13 +88,14 @@ pub fn is_done<R: Commands, O: Write, E: Messages>(
     rt: &R,
     alloc: Global,
     words: &[String],
-    to: &mut Streams<O, E>,
+    out: &mut O,
+    err: &mut E,
 ) -> bool
     ensures answer { result ≡ true
-        → Answered (R.answers rt.now) O.contents words.now to.old.out (Ok tt) to.new.out }
-    ensures silent { result ≡ true → to.new.err ≡ to.old.err }
+        → Answered (R.answers rt.now) O.contents words.now out.old (Ok tt) out.new }
+    ensures silent { result ≡ true → err.new ≡ err.old }
 {
-    run_words(rt, alloc, words, to) == 0
+    run_words(rt, alloc, words, out, err) == 0
 }
 
 /// Whether a run is refused: then its command may have answered why, and that is told.
@@ -102,11 +103,12 @@ pub fn is_refused<R: Commands, O: Write, E: Messages>(
     rt: &R,
     alloc: Global,
     words: &[String],
-    to: &mut Streams<O, E>,
+    out: &mut O,
+    err: &mut E,
 ) -> bool
     ensures { result ≡ true → (complaint : Complaint)
-        × Answered (R.answers rt.now) O.contents words.now to.old.out (Err complaint) to.new.out
-        × (told : Bool) × E.tells to.old.err (Fault complaint) told to.new.err }
+        × Answered (R.answers rt.now) O.contents words.now out.old (Err complaint) out.new
+        × (told : Bool) × E.tells err.old (Fault complaint) told err.new }
 {
-    run_words(rt, alloc, words, to) == 1
+    run_words(rt, alloc, words, out, err) == 1
 }
