@@ -19,7 +19,7 @@ use crate::generated::{Reading, write_readings};
 use crate::settings::{Settings, SettingsError};
 use crate::strangers::read_upload;
 use plist::stream::{Source, Writer};
-use plist::{Error, ErrorKind, Value};
+use plist::{Error, Value};
 use plist_keyed::KeyedError;
 use std::alloc::Global;
 
@@ -47,10 +47,7 @@ pub fn changed<R: Source>(
     ensures file { IfOk result (λ f. IsChanged (R.known file) (string_bytes name) setting f.items) }
 {
     let mut settings = Settings::open(alloc, file)?;
-    match settings.set(name, setting) {
-        Ok(()) => {}
-        Err(_) => return Err(SettingsError::Fault(ErrorKind::OutOfMemory.without_position())),
-    }
+    settings.set(name, setting)?;
     let mut bytes = Vec::new(alloc);
     settings.save(alloc, &mut bytes)?;
     Ok(bytes)

@@ -4,6 +4,7 @@ ghost use Rattle.std.specs.Prelude.{◌≡◌, IfOk, OnErr, OnOk, string_bytes};
 ghost use Rattle.std.specs.Map.{lookup};
 ghost use Rattle.std.specs.Option.{option_copied};
 ghost use Rattle.std.specs.Str.{bytes_eq};
+ghost use Rattle.plist_base.specs.Outcomes.{OnlyMemory};
 ghost use Rattle.plist_base.specs.Writing.{answer_of};
 ghost use Rattle.plist.specs.SendingValues.{SendsTree};
 ghost use Rattle.plist.specs.Views.{tree_of};
@@ -75,9 +76,10 @@ impl Settings {
     ///
     /// # Errors
     ///
-    /// Name and setting come back where memory is wanting, and nothing changes.
-    pub fn set(&mut self, name: String, setting: Value) -> Result<(), (String, Value)>
+    /// `OutOfMemory`, and nothing changes; name and setting are dropped.
+    pub fn set(&mut self, name: String, setting: Value) -> Result<(), Error>
         ensures done { OnOk result (Sets self.old (string_bytes name) setting self.new) }
+        ensures memory { OnlyMemory result }
         ensures unchanged { OnErr result (pairs_of self.new ≡ pairs_of self.old) }
     {
         let _old = self.pairs.insert(name, setting)?;
