@@ -32,8 +32,8 @@ pub enum Streamed {
     NeedsValue,
 }
 
-// Before the first event, makes room for as many different scalars as the file has objects: tables
-// that grow as they fill would cost a fifth of the time of a large file.
+// Before the first event, tells how many different scalars can come, so that room for them grows in
+// larger steps: tables that double as they fill cost a fifth of the time of a large file.
 fn make_room<S: Source>(reader: &BinaryReader<S>, pending: &mut Pending)
     ensures events { events_held pending.new ≡ events_held pending.old }
     ensures whole { is_whole pending.new ≡ is_whole pending.old }
