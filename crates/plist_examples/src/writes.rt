@@ -1,9 +1,9 @@
 //! What a writer sends to devices: that take one byte a call, fail at each call in turn, or take
 //! nothing.
 
-use plist::Value;
+use plist::{Value, write_value};
 use plist_base::{Error, Writer};
-use plist_binwrite::BinaryWriter;
+use plist_binwrite::{FileWriter, Sharing};
 use plist_support::{
     Device, Fault, Wrong, event_of, expect_answers, expect_bytes, expect_io, expect_that, front,
     told, write_all,
@@ -11,15 +11,27 @@ use plist_support::{
 use std::alloc::Global;
 use std::io::ErrorKind;
 
-// What is sent: the events of these words, and their value; it is this file, and the device has
-// this fault.
+// By which calls something is sent: event by event, by `write_value`, or by `to_writer_binary`.
+#[derive(Clone, Copy)]
+pub(crate) enum Way {
+    Events,
+    Handed,
+    Whole,
+}
+
+// What is sent: the events of these words, or their value; it is this file, and the device has this
+// fault.
 #[derive(Clone, Copy)]
 pub(crate) struct Sending<'a> {
     pub words: &'a str,
     pub value: &'a Value,
     pub bytes: &'a [u8],
     pub fault: Fault,
+    pub ways: &'a [Way],
 }
+
+// How many bytes of small forms wait at most before some are sent.
+const ROOM: usize = 65_536;
 
 // An event of each kind.
 const LATER: &str = "[ { end true <00> date:0 1 real:00000000 'a' uid:1";
@@ -44,19 +56,52 @@ fn last_answer<W: Writer>(
     Ok(writer.write(event))
 }
 
-// The answer of a device's writer to the last of these events. After a refusal every event is
-// refused.
-fn answer_to_last(
+// After a refusal every event is refused.
+fn expect_ended<W: Writer>(
+    alloc: Global,
+    writer: &mut W,
+    answer: Result<(), Error>,
+) -> Result<Result<(), Error>, Wrong> {
+    if answer.is_err() {
+        expect_answers(alloc, writer, LATER, ALL_REFUSED)?;
+    }
+    Ok(answer)
+}
+
+// The answer of a device's writer to the last of these events.
+fn answer_to_last<S: Sharing>(
     alloc: Global,
     words: &str,
     device: &mut Device,
 ) -> Result<Result<(), Error>, Wrong> {
-    let mut writer = BinaryWriter::new(alloc, device);
+    let mut writer = FileWriter::<&mut Device, S>::new(alloc, device);
     let answer = last_answer(alloc, &mut writer, words)?;
-    if answer.is_err() {
-        expect_answers(alloc, &mut writer, LATER, ALL_REFUSED)?;
+    expect_ended(alloc, &mut writer, answer)
+}
+
+// The answer where a value is handed to a device's writer.
+fn answer_to_value<S: Sharing>(
+    alloc: Global,
+    value: &Value,
+    device: &mut Device,
+) -> Result<Result<(), Error>, Wrong> {
+    let mut writer = FileWriter::<&mut Device, S>::new(alloc, device);
+    let answer = write_value(alloc, value, &mut writer);
+    expect_ended(alloc, &mut writer, answer)
+}
+
+// The answer where something is sent to a device.
+fn answer_by<S: Sharing>(
+    alloc: Global,
+    sending: Sending<'_>,
+    way: Way,
+    device: &mut Device,
+) -> Result<Result<(), Error>, Wrong> {
+    match way {
+        Way::Events => answer_to_last::<S>(alloc, sending.words, device),
+        Way::Handed => answer_to_value::<S>(alloc, sending.value, device),
+        Way::Whole => Ok(sending.value.to_writer_binary(alloc, device)),
     }
-    Ok(answer)
 }
 
 // The event is accepted.
@@ -68,12 +113,12 @@ pub(crate) fn expect_done(alloc: Global, answer: Result<(), Error>) -> Result<()
 }
 
 // No call of the device is made for the events before the last.
-fn expect_nothing_before_last(alloc: Global, words: &str) -> Result<(), Wrong> {
+fn expect_nothing_before_last<S: Sharing>(alloc: Global, words: &str) -> Result<(), Wrong> {
     let Some((before, _)) = words.rsplit_once(' ') else {
         return Ok(());
     };
     let mut device = Device::new(Vec::new(alloc), 0);
-    expect_done(alloc, answer_to_last(alloc, before, &mut device)?)?;
+    expect_done(alloc, answer_to_last::<S>(alloc, before, &mut device)?)?;
     expect_that(
         alloc,
         device.calls == 0,
@@ -88,7 +133,7 @@ fn kind_of(fault: Fault) -> ErrorKind {
     }
 }
 
-// The file went out, a byte a call, and a flush behind it.
+// The file went out, a byte a call, and one flush behind it.
 fn expect_whole(alloc: Global, device: &Device, bytes: &[u8]) -> Result<(), Wrong> {
     expect_bytes(alloc, device.bytes.as_slice(), bytes)?;
     let calls = (bytes.len() as u64).saturating_add(1);
@@ -96,7 +141,12 @@ fn expect_whole(alloc: Global, device: &Device, bytes: &[u8]) -> Result<(), Wron
     expect_that(
         alloc,
         is_flushed,
-        "a call for each byte, and a flush behind them",
+        "a call for each byte, and one flush behind them",
+    )?;
+    expect_that(
+        alloc,
+        device.longest <= ROOM,
+        "no more than the room holds is sent at once",
     )
 }
 
@@ -125,45 +175,56 @@ fn expect_answer(
     Ok(true)
 }
 
-// The events are sent to a device with the fault at this call. Tells whether it failed.
-fn expect_events(alloc: Global, sending: Sending<'_>, call: u64) -> Result<bool, Wrong> {
+// It is sent to a device with the fault at this call. Tells whether that failed.
+fn expect_by<S: Sharing>(
+    alloc: Global,
+    sending: Sending<'_>,
+    way: Way,
+    call: u64,
+) -> Result<bool, Wrong> {
     let mut device = Device::with_fault(Vec::new(alloc), call, sending.fault);
-    let answer = answer_to_last(alloc, sending.words, &mut device)?;
+    let answer = answer_by::<S>(alloc, sending, way, &mut device)?;
     expect_answer(alloc, sending, &device, answer, call)
 }
 
-// So is the value.
-fn expect_value(alloc: Global, sending: Sending<'_>, call: u64) -> Result<bool, Wrong> {
-    let mut device = Device::with_fault(Vec::new(alloc), call, sending.fault);
-    let answer = sending.value.to_writer_binary(alloc, &mut device);
-    expect_answer(alloc, sending, &device, answer, call)
+// By each way the device fails at this call, or doesn't, as is said.
+fn expect_sent<S: Sharing>(
+    alloc: Global,
+    sending: Sending<'_>,
+    call: u64,
+    fails: bool,
+) -> Result<(), Wrong> {
+    for way in sending.ways {
+        let failed = expect_by::<S>(alloc, sending, *way, call)?;
+        expect_that(
+            alloc,
+            failed == fails,
+            "it fails where a call does, and only there",
+        )?;
+    }
+    Ok(())
 }
 
-// Both are sent, and fail or don't, as is said.
-fn expect_sent(alloc: Global, sending: Sending<'_>, call: u64, fails: bool) -> Result<(), Wrong> {
-    let (events, value) = (
-        expect_events(alloc, sending, call)?,
-        expect_value(alloc, sending, call)?,
-    );
-    let is_so = events == fails && value == fails;
-    expect_that(alloc, is_so, "both fail where a call does, and only there")
+// Whether this call is made to fail: of a large file the last byte's, and one before and one behind
+// the byte at which what waits is sent.
+fn is_tried(call: u64, size: usize) -> bool {
+    size < 200 || call.saturating_add(1) == size as u64 || call == 65_535 || call == 65_537
 }
 
-// The first call at which a file of so many bytes is made to fail: of a large one that of the
-// flush.
-fn first_call(size: usize) -> u64 {
-    if size < 200 { 0 } else { size as u64 }
-}
-
-// The file goes whole to a device that takes one byte a call. With a fault at each call in turn a
-// beginning of it does, until a run meets none.
-pub(crate) fn expect_file_on_devices(alloc: Global, sending: Sending<'_>) -> Result<(), Wrong> {
-    expect_nothing_before_last(alloc, sending.words)?;
+// The file goes whole to a device that takes one byte a call. With a fault at a call a beginning of
+// it does; the flush is one more call.
+pub(crate) fn expect_file_on_devices<S: Sharing>(
+    alloc: Global,
+    sending: Sending<'_>,
+) -> Result<(), Wrong> {
+    expect_nothing_before_last::<S>(alloc, sending.words)?;
     let flush = sending.bytes.len() as u64;
-    for call in first_call(sending.bytes.len())..flush {
-        expect_sent(alloc, sending, call, true)?;
+    for call in 0..flush {
+        if is_tried(call, sending.bytes.len()) {
+            expect_sent::<S>(alloc, sending, call, true)?;
+        }
     }
     let flush_fails = matches!(sending.fault, Fault::Fails(_));
-    expect_sent(alloc, sending, flush, flush_fails)?;
-    expect_sent(alloc, sending, flush.saturating_add(1), false)
+    expect_sent::<S>(alloc, sending, flush, flush_fails)?;
+    expect_sent::<S>(alloc, sending, flush.saturating_add(1), false)
 }

@@ -1,12 +1,14 @@
 //! What `BinaryWriter` and `SharingWriter` write, byte by byte, and what is read of that.
 
 use crate::rows::{Row, bytes_given, first_number, first_word, unreadable};
-use crate::writes::{Sending, expect_done, expect_file_on_devices};
-use plist::{Value, write_value};
+use crate::writes::{Sending, Way, expect_done, expect_file_on_devices};
+use plist::{Builder, Value, write_value};
 use plist_binread::BinaryReader;
-use plist_binwrite::{BinaryWriter, FileWriter, Sharing};
-use plist_share::SharingWriter;
-use plist_support::{Fault, Wrong, expect_answers, expect_bytes, expect_same, words_of, write_all};
+use plist_binwrite::{BinaryWriter, EqualScalars, FileWriter, Sharing};
+use plist_share::{EqualTrees, SharingWriter};
+use plist_support::{
+    Fault, Wrong, expect_answers, expect_bytes, expect_same, told, words_of, write_all,
+};
 use plist_value_support::{value_of, words_of_answer};
 use std::alloc::Global;
 use std::io::ErrorKind;
@@ -53,19 +55,36 @@ fn expect_events(alloc: Global, words: &str, bytes: &[u8]) -> Result<(), Wrong> 
     expect_read(alloc, bytes, words)
 }
 
-// The events, and their value, are sent to devices with a fault.
-fn expect_sent(alloc: Global, words: &str, bytes: &[u8], fault: Fault) -> Result<(), Wrong> {
+// The events, or their value, are sent to devices with a fault, by each of these ways.
+fn expect_sent<S: Sharing>(
+    alloc: Global,
+    words: &str,
+    bytes: &[u8],
+    fault: Fault,
+    ways: &[Way],
+) -> Result<(), Wrong> {
     let value = value_of(alloc, words)?;
-    let value = &value;
-    expect_file_on_devices(
-        alloc,
-        Sending {
-            words,
-            value,
-            bytes,
-            fault,
-        },
-    )
+    let sending = Sending {
+        words,
+        value: &value,
+        bytes,
+        fault,
+        ways,
+    };
+    expect_file_on_devices::<S>(alloc, sending)
+}
+
+const INTERRUPTED: Fault = Fault::Fails(ErrorKind::Interrupted);
+
+// The ways by which the plain writer sends, and the sharing one.
+const PLAIN: [Way; 3] = [Way::Events, Way::Handed, Way::Whole];
+
+const SHARED: [Way; 2] = [Way::Events, Way::Handed];
+
+// Events that are no value's give this file, which gives them; and on devices it is sent alike.
+fn expect_repeating(alloc: Global, words: &str, bytes: &[u8]) -> Result<(), Wrong> {
+    expect_events(alloc, words, bytes)?;
+    expect_sent::<EqualScalars>(alloc, words, bytes, INTERRUPTED, &[Way::Events])
 }
 
 // They give this file, and so does their value; the file gives them and their value; and on devices
@@ -74,7 +93,7 @@ fn expect_file(alloc: Global, words: &str, bytes: &[u8]) -> Result<(), Wrong> {
     expect_events(alloc, words, bytes)?;
     expect_value_read(alloc, bytes, words)?;
     expect_value_written(alloc, &value_of(alloc, words)?, bytes)?;
-    expect_sent(alloc, words, bytes, Fault::Fails(ErrorKind::Interrupted))
+    expect_sent::<EqualScalars>(alloc, words, bytes, INTERRUPTED, &PLAIN)
 }
 
 // A value is shared as this file.
@@ -95,12 +114,26 @@ fn expect_shared_again(alloc: Global, words: &str, bytes: &[u8]) -> Result<(), W
 }
 
 // The events of these words are shared as this file; the file gives them, its value has them in
-// order, and is shared as the same file.
+// order, and is shared as the same file; and on devices it is sent alike.
 fn expect_shared(alloc: Global, words: &str, bytes: &[u8]) -> Result<(), Wrong> {
     let writer = SharingWriter::new(alloc, Vec::new(alloc));
     expect_written(alloc, writer, words, bytes)?;
     expect_read(alloc, bytes, words)?;
-    expect_shared_again(alloc, words, bytes)
+    expect_shared_again(alloc, words, bytes)?;
+    expect_sent::<EqualTrees>(alloc, words, bytes, INTERRUPTED, &SHARED)
+}
+
+// A value of an ASCII property list is handed to a builder, which gives it back.
+fn expect_rebuilt(alloc: Global, row: Row<'_>) -> Result<(), Wrong> {
+    let bytes = bytes_given(alloc, row.given)?;
+    let value = match Value::from_reader_ascii(alloc, bytes.as_slice()) {
+        Ok(value) => value,
+        Err(error) => return told(error.to_string(alloc)),
+    };
+    let mut builder = Builder::new(alloc);
+    expect_done(alloc, write_value(alloc, &value, &mut builder))?;
+    let again = builder.finish();
+    expect_same(alloc, words_of_answer(alloc, &again)?.as_str(), row.wanted)
 }
 
 // The fault of this name.
@@ -116,10 +149,15 @@ fn fault_of(alloc: Global, name: &str) -> Result<Fault, Wrong> {
 }
 
 // The events behind the name of a fault are sent to devices with that.
-fn expect_faulty(alloc: Global, given: &str, bytes: &[u8]) -> Result<(), Wrong> {
+fn expect_faulty<S: Sharing>(
+    alloc: Global,
+    given: &str,
+    bytes: &[u8],
+    ways: &[Way],
+) -> Result<(), Wrong> {
     let (name, words) = first_word(given);
     let fault = fault_of(alloc, name)?;
-    expect_sent(alloc, words, bytes, fault)
+    expect_sent::<S>(alloc, words, bytes, fault, ways)
 }
 
 // What stands before, within and behind the first parentheses.
@@ -146,12 +184,13 @@ fn repeated(alloc: Global, field: &str) -> Result<String, Wrong> {
     Ok(whole)
 }
 
-// An example with parentheses in the words and in the file.
+// An example with parentheses in the words and in the file, which both writers send.
 fn expect_repeated(alloc: Global, row: Row<'_>) -> Result<(), Wrong> {
     let words = repeated(alloc, row.given)?;
     let file = repeated(alloc, row.wanted)?;
     let bytes = bytes_given(alloc, file.as_str())?;
-    expect_file(alloc, words.as_str(), bytes.as_slice())
+    expect_file(alloc, words.as_str(), bytes.as_slice())?;
+    expect_shared(alloc, words.as_str(), bytes.as_slice())
 }
 
 // A writer gives these answers to the events, and what was sent then are these bytes.
@@ -175,9 +214,10 @@ fn run_check(alloc: Global, row: Row<'_>) -> Result<(), Wrong> {
     let (words, bytes) = (row.given, bytes.as_slice());
     match row.check {
         "written" => expect_file(alloc, words, bytes),
-        "written of events" => expect_events(alloc, words, bytes),
+        "written of events" => expect_repeating(alloc, words, bytes),
         "hinted" => expect_hinted(alloc, words, bytes),
-        "faulty" => expect_faulty(alloc, words, bytes),
+        "faulty" => expect_faulty::<EqualScalars>(alloc, words, bytes, &PLAIN),
+        "sharing faulty" => expect_faulty::<EqualTrees>(alloc, words, bytes, &SHARED),
         "shared" => expect_shared(alloc, words, bytes),
         _ => unreadable(alloc, row.check),
     }
@@ -187,6 +227,7 @@ fn run_check(alloc: Global, row: Row<'_>) -> Result<(), Wrong> {
 pub(crate) fn run(alloc: Global, row: Row<'_>) -> Result<(), Wrong> {
     match row.check {
         "repeated" => expect_repeated(alloc, row),
+        "rebuilt" => expect_rebuilt(alloc, row),
         "answered" => {
             let writer = BinaryWriter::new(alloc, Vec::new(alloc));
             expect_answered(alloc, writer, row.given, row.wanted)

@@ -39,6 +39,8 @@ pub struct Device {
     pub place: u64,
     /// How many it had taken at its last flush.
     pub flushed: usize,
+    /// How many bytes a `write` was handed at most.
+    pub longest: usize,
     /// How many calls it was asked for.
     pub calls: u64,
     /// How many of them failed.
@@ -60,6 +62,7 @@ impl Device {
             moved: 0,
             place: 0,
             flushed: 0,
+            longest: 0,
             calls: 0,
             failures: 0,
             faulty_call,
@@ -140,6 +143,7 @@ impl Read for Device {
 
 impl Write for Device {
     fn write(&mut self, buf: &[u8]) -> io::Result<usize> {
+        self.longest = self.longest.max(buf.len());
         if !self.call(self.moved as u64)? {
             self.failures = self.failures.saturating_add(1);
             return Ok(0);
