@@ -4,6 +4,7 @@
 
 mod archives;
 mod limits;
+mod porting;
 mod reading;
 mod rows;
 mod scalars;
@@ -14,17 +15,19 @@ mod writing;
 
 use crate::rows::{Row, row_of, unreadable};
 use plist_support::Wrong;
-use std::alloc::{AllocError, Global};
+use std::alloc::AllocError;
+use std::rt::Files;
 use std::{fs, io};
 
 // The tables, in the order in which they are run.
-const TABLES: [&str; 13] = [
+const TABLES: [&str; 14] = [
     "reading", "hostile", "bits", "ascii", "dialects", "whole", "limits", "told", "scalars",
-    "writing", "sharing", "values", "archives",
+    "writing", "sharing", "values", "archives", "porting",
 ];
 
 // Runs an example of a table.
-fn run(alloc: Global, table: &str, row: Row<'_>) -> Result<(), Wrong> {
+fn run<R: Files + AllocGlobal>(rt: &R, table: &str, row: Row<'_>) -> Result<(), Wrong> {
+    let alloc = rt.alloc();
     match table {
         "reading" | "hostile" | "bits" | "ascii" | "dialects" | "whole" => {
             reading::run(alloc, row)
@@ -35,24 +38,29 @@ fn run(alloc: Global, table: &str, row: Row<'_>) -> Result<(), Wrong> {
         "writing" | "sharing" => writing::run(alloc, row),
         "values" => values::run(alloc, row),
         "archives" => archives::run(alloc, row),
+        "porting" => porting::run(rt, alloc, row),
         _ => unreadable(alloc, table),
     }
 }
 
 // The line of an example.
-fn line_of(alloc: Global, table: &str, row: Row<'_>) -> Result<String, AllocError> {
+fn line_of<R: Files + AllocGlobal>(
+    rt: &R,
+    table: &str,
+    row: Row<'_>,
+) -> Result<String, AllocError> {
     let (check, name) = (row.check, row.name);
-    match run(alloc, table, row) {
-        Ok(()) => format!(in alloc; "{check} | {name}: ok"),
-        Err(wrong) => format!(in alloc; "{check} | {name}: {wrong:?}"),
+    match run(rt, table, row) {
+        Ok(()) => format!(in rt.alloc(); "{check} | {name}: ok"),
+        Err(wrong) => format!(in rt.alloc(); "{check} | {name}: {wrong:?}"),
     }
 }
 
 // Runs a table. Empty lines of it and those that begin with `#` hold no example.
-fn run_table(rt: &(impl Print + AllocGlobal), table: &str, text: &str) -> io::Result<()> {
+fn run_table(rt: &(impl Files + Print + AllocGlobal), table: &str, text: &str) -> io::Result<()> {
     for line in text.lines() {
         match row_of(line) {
-            Some(row) => println!(rt; "{}", line_of(rt.alloc(), table, row)?)?,
+            Some(row) => println!(rt; "{}", line_of(rt, table, row)?)?,
             None if line.is_empty() || line.starts_with('#') => {}
             None => println!(rt; "no example: {line}")?,
         }

@@ -1,0 +1,44 @@
+//! Calls that go by a file's name under limits, values taken apart, and the texts of reals.
+
+use crate::rows::{Row, first_number, unreadable};
+use plist::{Limits, RealBits, Value, Variant};
+use plist_support::{Wrong, expect_same};
+use plist_value_support::{value_of, words_of_answer};
+use std::alloc::Global;
+use std::rt::Files;
+
+// What comes of a file under limits: the depth, how many items, and the file's name are given.
+fn words_in_file<R: Files>(rt: &R, alloc: Global, given: &str) -> Result<String, Wrong> {
+    let (depth, rest) = first_number(alloc, given)?;
+    let (items, path) = first_number(alloc, rest)?;
+    let limits = Limits { depth, items };
+    let answer = Value::from_file_with_limits(rt, alloc, path, limits);
+    Ok(words_of_answer(alloc, &answer)?)
+}
+
+// The text of a value that is one, taken out of it.
+fn text_in(alloc: Global, words: &str) -> Result<String, Wrong> {
+    match value_of(alloc, words)?.into_variant() {
+        Variant::String(text) => Ok(text),
+        other => Ok(words_of_answer(alloc, &Ok(Value::from(other)))?),
+    }
+}
+
+// The text of a real of four bytes.
+fn real_text(alloc: Global, digits: &str) -> Result<String, Wrong> {
+    match u32::from_str_radix(digits, 16) {
+        Ok(bits) => Ok(format!(in alloc; "{}", RealBits::Four(bits.to_be_bytes()))?),
+        Err(_) => unreadable(alloc, digits),
+    }
+}
+
+/// An example of what a program calls that comes from the crate.
+pub(crate) fn run<R: Files>(rt: &R, alloc: Global, row: Row<'_>) -> Result<(), Wrong> {
+    let text = match row.check {
+        "file under limits" => words_in_file(rt, alloc, row.given)?,
+        "taken apart" => text_in(alloc, row.given)?,
+        "text of four bytes" => real_text(alloc, row.given)?,
+        _ => return unreadable(alloc, row.check),
+    };
+    expect_same(alloc, text.as_str(), row.wanted)
+}
