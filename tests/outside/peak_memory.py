@@ -151,8 +151,8 @@ PRINTED = {
     "10^6 levels of dictionaries": lambda: levels_of_pairs(10**6),
     "10^7 offsets of one object": lambda: one_place(10**7),
     "10^7 offsets of one object, each referred to": lambda: one_place_each(10**7),
-    "2^40 objects in 43 bytes": lambda: huge_count(1 << 40),
-    "2^64 - 1 objects in 43 bytes": lambda: huge_count((1 << 64) - 1),
+    "2^40 objects in 42 bytes": lambda: huge_count(1 << 40),
+    "2^64 - 1 objects in 42 bytes": lambda: huge_count((1 << 64) - 1),
     "5,000 texts 8 KiB apart, 10^6 references": lambda: far_apart(5000, 10**6),
 }
 
@@ -172,7 +172,6 @@ CONVERTED = {
     "ASCII, 10^6 empty dictionaries": (lambda: b"(" + b"{}," * 10**6 + b")", 2 * 10**6 + 2),
     "ASCII, 10^6 dictionaries of a pair": (lambda: b"(" + b"{a =b;}," * 10**6 + b")", 4 * 10**6 + 2),
     "ASCII, 10^6 equal texts": (lambda: b"(" + b"a," * 10**6 + b")", 10**6 + 2),
-    "ASCII, 10^6 pairs of one key": (lambda: b"{" + b"a =b;" * 10**6 + b"}", 2 * 10**6 + 2),
 }
 KEYED = {
     "archive, doubling, 2^18 arrays": (lambda: archive(18), 3 * 2**18 - 2),

@@ -213,6 +213,7 @@ def renumbered(data, are_moved):
             + bytes([width, reference]) + numbers)
 
 
+# Those that plistlib made, renumbered where they stand, and in the order of their new numbers.
 def renumbered_settings(size):
     return renumbered(settings_by_plistlib(size), False)
 
@@ -223,8 +224,8 @@ def scattered_settings(size):
 
 SHAPES = {"integers": integers, "distinct texts": distinct_texts, "repeated texts": repeated_texts,
           "settings": settings, "blobs": blobs, "texts beyond ASCII": texts_beyond_ascii,
-          "settings by plistlib": settings_by_plistlib, "these, renumbered": renumbered_settings,
-          "these, scattered": scattered_settings}
+          "settings by plistlib": settings_by_plistlib, "settings, renumbered": renumbered_settings,
+          "settings, scattered": scattered_settings}
 if shutil.which("plistutil"):
     SHAPES["settings by plistutil"] = settings_by_plistutil
 LEVELS = {"10^5 levels": lambda: levels(10**5), "10^6 levels": lambda: levels(10**6)}
@@ -448,7 +449,7 @@ def print_calls(path, size, words):
     print("\nSystem calls of `plist_tool print`:\n")
     heading(["shape", "bytes", "calls", "reads", "seeks"])
     for shape in SHAPES:
-        if shape.startswith(("settings", "these")):
+        if shape.startswith("settings"):
             make(path, shape, size)
             calls = calls_of(words, path)
             reads = sum(calls.get(name, 0) for name in ("read", "pread64", "readv"))
