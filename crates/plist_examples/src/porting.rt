@@ -11,7 +11,7 @@ use std::rt::Files;
 fn words_in_file<R: Files>(rt: &R, alloc: Global, given: &str) -> Result<String, Wrong> {
     let (depth, rest) = first_number(alloc, given)?;
     let (items, path) = first_number(alloc, rest)?;
-    let limits = Limits { depth, items };
+    let limits = Limits::new(depth, items);
     let answer = Value::from_file_with_limits(rt, alloc, path, limits);
     Ok(words_of_answer(alloc, &answer)?)
 }
