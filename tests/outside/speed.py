@@ -15,7 +15,6 @@ beside the crate's. It is of one pass: what a run of many passes takes more than
 out among them. Between the tables system calls are counted, by `strace` where it is there.
 
 Usage: speed.py [MEGABYTES ..]      1, 10 and 50 where none are named
-       speed.py --plot FILE         the picture of the printed tables that stand in a file, as SVG
 """
 import datetime
 import itertools
@@ -30,7 +29,6 @@ import sys
 import tempfile
 import time
 
-import plot
 
 HERE = pathlib.Path(__file__).resolve().parent
 PLIST_TOOL = HERE.parents[1] / "plist_tool"
@@ -473,7 +471,5 @@ def main(words):
 if __name__ == "__main__":
     if sys.argv[1:2] == ["--make"]:
         made(*sys.argv[2:])
-    elif sys.argv[1:2] == ["--plot"]:
-        print(plot.picture(pathlib.Path(sys.argv[2]).read_text()), end="")
     else:
         main(sys.argv[1:])
