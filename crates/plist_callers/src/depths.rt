@@ -111,3 +111,11 @@ pub fn levels_by_entry(alloc: Global, pairs: &mut Dictionary, key: &str) -> Resu
         Entry::Vacant(_entry) => Ok(0),
     }
 }
+
+/// The same by what the dictionary lends to be changed.
+pub fn levels_by_get_mut(pairs: &mut Dictionary, key: &str) -> u64 {
+    match pairs.get_mut(key) {
+        Some(Value::Dictionary(inner)) => one_more(levels_by_get_mut(inner, key)),
+        _ => 0,
+    }
+}
