@@ -9,7 +9,10 @@ use Rattle.plist_base.specs.Events.{PlainEvent, Item, event_of, item_of}
 use Rattle.plist.proofs.Inputs.{event-more}
 use Rattle.plist_reader.specs.Reader.{GivesIfKnown, items_of_input}
 use Rattle.plist_uses.specs.declared.counting.Counts.{Counts}
-use Rattle.plist_uses.specs.Counting.{count_passing, one_more, Tell, AreCountsOf, CountsItem, CountsOne, nothing}
+use Rattle.plist_base.specs.Faults.{MatchFault, error_kind_of, fault_of, kind_of}
+use Rattle.plist_base.proofs.Refusals.{MatchFault-weaker}
+use Rattle.std.specs.Prelude.{⊤}
+use Rattle.plist_uses.specs.Counting.{StopAt, count_passing, one_more, Tell, AreCountsOf, CountsItem, CountsOne, nothing}
 
 stopped-more : (n old new : ℕ) → old ≡ min n (2 ^ 64 - 1) → new ≡ min (old + 1) (2 ^ 64 - 1)
     → new ≡ min (n + 1) (2 ^ 64 - 1)
@@ -84,3 +87,17 @@ all-counted (Some bytes) all before after counts from so_far gives =
       split ∙ ap (λ xs. map Ok taken ++ xs) goes.2.0 ∙ append-nil (map Ok taken),
       tell,
     )
+
+-- the first fault of the items stopped it, or one from outside
+pub stopped : (known : Option (List ℕ)) (all before after : Option (List Item))
+    (item : Result Event Error) (error : Error) (counts : Counts)
+    → all ≡ option_map items_of_input known → CountedSoFar all before counts
+    → GivesIfKnown before (Some item) after → item ≡ Err error → IfSome known (λ bytes.
+    MatchFault (kind_of (error_kind_of error)) ⊤ ⊤
+    (StopAt (items_of_input bytes) (fault_of error)))
+stopped None all before after item error counts from so_far gives failed = tt
+stopped (Some bytes) all before after item error counts from so_far gives failed =
+    let (taken, left, is, split, tell) = rw from at so_far in
+    let goes = rw (is, failed) at gives in
+    MatchFault-weaker (kind_of (error_kind_of error)) (λ _. tt) (λ _. tt)
+    (λ first. (taken, goes.0, split ∙ ap (λ xs. map Ok taken ++ xs) first)) goes.2

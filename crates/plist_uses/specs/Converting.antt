@@ -1,12 +1,14 @@
 -- What a conversion reads, and what it sends.
-use Rattle.std.specs.Prelude.{ℕ, List, Option, Result, Ok, IfOk, IfSome}
+use Rattle.std.specs.Prelude.{◌≡◌, ◌⊎◌, ℕ, List, Option, Result, Ok, Err, IfOk, IfSome}
 use Rattle.std.specs.Io.KnownBytes.{Appends}
 use Rattle.plist_base.specs.declared.error.Error.{Error}
+use Rattle.plist_base.specs.Faults.{fault_of}
 use Rattle.plist_base.specs.Trees.{Tree}
 use Rattle.plist_binwrite.specs.Files.{IsFileOf}
 use Rattle.plist_reader.specs.Reader.{items_of_input}
 use Rattle.plist.specs.declared.value.Value.{Value}
 use Rattle.plist.specs.Inputs.{IsReadFrom}
+use Rattle.plist.specs.SendingValues.{SendsValue}
 use Rattle.plist.specs.Views.{tree_of}
 
 -- where the bytes of a source are known, their items are those of the value
@@ -19,6 +21,13 @@ abbrev pub SendsFileOf : {W : Type 0} → (contents : W → Option (List ℕ)) �
     → Type 0
 SendsFileOf contents value old new = (file : List ℕ) × IsFileOf (tree_of value) file
     × Appends (contents old) (contents new) file
+
+-- the source was refused, and the writer is as it was; or the value's file was, once it was read
+abbrev pub RefusesConverting : {W : Type 0} → (known : Option (List ℕ))
+    → (contents : W → Option (List ℕ)) → (old new : W) → Error → Type 0
+RefusesConverting known contents old new error =
+    (IfSome known (λ bytes. IsReadFrom (items_of_input bytes) (Err (fault_of error))) × (new ≡ old))
+    ⊎ ((value : Value) × IsReadBy known (Ok value) × SendsValue contents value (Err error) old new)
 
 -- the bytes are a file of what an input holds
 abbrev pub IsFileOfInput : (input bytes : List ℕ) → Type 0

@@ -1,6 +1,7 @@
 -- What the counts of a property list are.
-use Rattle.std.specs.Prelude.{◌≡◌, ℕ, ◌+◌, ◌-◌, ◌^◌, min, Bool, true, false, cond, List, Result, Ok, Err, IfOk, length, map, filter}
+use Rattle.std.specs.Prelude.{◌≡◌, ℕ, ◌+◌, ◌-◌, ◌^◌, min, Bool, true, false, cond, List, ◌∷◌, ◌++◌, Result, Ok, Err, IfOk, IfErr, length, map, filter, ⊤}
 use Rattle.plist_base.specs.declared.error.Error.{Error}
+use Rattle.plist_base.specs.Faults.{Fault, MatchFault, error_kind_of, fault_of, kind_of}
 use Rattle.plist_base.specs.Events.{PlainEvent, Item, StartArray, StartDictionary, Single}
 use Rattle.plist_base.specs.Trees.{String}
 use Rattle.plist_uses.specs.declared.counting.Counts.{Counts}
@@ -41,6 +42,16 @@ AreCountsOf items counts = (events : List PlainEvent) × (items ≡ map Ok event
 -- the same of what was answered, where it is no fault
 abbrev pub AreCountedOf : List Item → Result Counts Error → Type 0
 AreCountedOf items answer = IfOk answer (AreCountsOf items)
+
+-- the items are events up to this fault
+abbrev pub StopAt : List Item → Fault → Type 0
+StopAt items fault = (events : List PlainEvent) × (behind : List Item)
+    × (items ≡ map Ok events ++ Err fault ∷ behind)
+
+-- an error is a device's or want of memory, or the first fault of the items
+abbrev pub IsRefusedBy : List Item → Result Counts Error → Type 0
+IsRefusedBy items answer = IfErr answer (λ error.
+    MatchFault (kind_of (error_kind_of error)) ⊤ ⊤ (StopAt items (fault_of error)))
 
 abbrev pub nothing : Counts
 nothing = record { arrays = 0; dictionaries = 0; texts = 0; others = 0 }

@@ -1,8 +1,10 @@
 -- What the root of an archive is.
-use Rattle.std.specs.Prelude.{◌≡◌, ℕ, List, Ok, Some, codes, map}
+use Rattle.std.specs.Prelude.{◌≡◌, ◌⊎◌, ℕ, List, Ok, Some, codes, map}
 use Rattle.plist_base.specs.Trees.{Tree}
 use Rattle.plist_keyed.specs.Archives.{resolved_tree}
-use Rattle.plist_keyed.specs.Contents.{IsArchiveOf, IsUidAt}
+use Rattle.plist_keyed.specs.Contents.{IsArchiveOf, IsNoArchive, IsUidAt}
+use Rattle.plist_keyed.specs.Errors.{IsFaultOf}
+use Rattle.plist_keyed.specs.declared.error.KeyedError.{KeyedError}
 use Rattle.plist.specs.declared.value.Value.{Value}
 use Rattle.plist.specs.Contents.{text_in}
 use Rattle.plist.specs.Views.{tree_of}
@@ -13,6 +15,22 @@ IsRootOf archive root =
     (objects : List Value) × (names : List (List ℕ × Value)) × (uid : ℕ)
     × IsArchiveOf archive objects names × IsUidAt (codes "root") names uid
     × (resolved_tree (map tree_of objects) uid ≡ Ok root)
+
+-- the archive names no Uid `root`
+abbrev pub HasNoRoot : (archive : Value) → Type 0
+HasNoRoot archive = (objects : List Value) × (names : List (List ℕ × Value))
+    × IsArchiveOf archive objects names × ((uid : ℕ) → IsUidAt (codes "root") names uid → ⊥)
+
+-- the fault of the Uid that it names, whose tree can't be had
+abbrev pub HasFaultyRoot : (archive : Value) → KeyedError → Type 0
+HasFaultyRoot archive error =
+    (objects : List Value) × (names : List (List ℕ × Value)) × (uid : ℕ)
+    × IsArchiveOf archive objects names × IsUidAt (codes "root") names uid
+    × IsFaultOf (resolved_tree (map tree_of objects) uid) error
+
+-- it is no archive, or its root has that fault
+abbrev pub RefusesRoot : (archive : Value) → KeyedError → Type 0
+RefusesRoot archive error = IsNoArchive archive error ⊎ HasFaultyRoot archive error
 
 -- the archive's root is this text
 abbrev pub IsRootText : (archive : Value) → (text : List ℕ) → Type 0

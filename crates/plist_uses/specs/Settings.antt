@@ -1,12 +1,15 @@
 -- What contracts see of settings.
-use Rattle.std.specs.Prelude.{◌≡◌, ℕ, List, Option, Ok, IfSome, option_and_then}
+use Rattle.std.specs.Prelude.{◌≡◌, ℕ, List, Option, None, Ok, Err, IfSome, option_and_then}
 use Rattle.std.specs.Map.{lookup}
 use Rattle.std.specs.Str.{bytes_eq}
 use Rattle.indexmap.specs.IndexMap.{insert_entry}
+use Rattle.plist_base.specs.Faults.{Fault, fault_of}
 use Rattle.plist_base.specs.Trees.{Tree, Dictionary}
+use Rattle.plist_uses.specs.declared.settings.SettingsError.{SettingsError}
+use Rattle.plist_uses.specs.declared.settings.SettingsError.TheVariants as settings_error
 use Rattle.plist_binwrite.specs.Files.{IsFileOf}
 use Rattle.plist.specs.declared.value.Value.{Value}
-use Rattle.plist.specs.Contents.{text_in}
+use Rattle.plist.specs.Contents.{dictionary_in, text_in}
 use Rattle.plist.specs.Inputs.{IsReadFrom}
 use Rattle.plist.specs.Views.{pair_trees, tree_of}
 use Rattle.plist_reader.specs.Reader.{items_of_input}
@@ -23,6 +26,16 @@ tree_in settings = Dictionary (pair_trees settings.pairs)
 -- where the bytes of a file are known, their items are those of this property list
 abbrev pub IsReadOf : (known : Option (List ℕ)) → Tree → Type 0
 IsReadOf known tree = IfSome known (λ bytes. IsReadFrom (items_of_input bytes) (Ok tree))
+
+-- it is the fault of a device or want of memory, or that of those items
+abbrev pub IsFaultOfFile : (known : Option (List ℕ)) → Fault → Type 0
+IsFaultOfFile known fault = IfSome known (λ bytes. IsReadFrom (items_of_input bytes) (Err fault))
+
+-- why a file has no settings: its fault, or what it holds is no dictionary
+abbrev pub RefusesOpening : (known : Option (List ℕ)) → SettingsError → Type 0
+RefusesOpening known (settings_error.Fault error) = IsFaultOfFile known (fault_of error)
+RefusesOpening known settings_error.NoDictionary =
+    (tree : Tree) × IsReadOf known tree × (dictionary_in tree ≡ None)
 
 -- the name has this setting; the others and their order are left
 abbrev pub Sets : Settings → (name : List ℕ) → (setting : Value) → Settings → Type 0

@@ -1,8 +1,8 @@
 //! The root of a keyed archive.
 
-ghost use Rattle.std.specs.Prelude.{IfOk, IfSome};
+ghost use Rattle.std.specs.Prelude.{IfErr, IfNone, IfOk, IfSome};
 ghost use Rattle.plist.specs.Views.{tree_of};
-ghost use Rattle.plist_uses.specs.Roots.{IsRootOf};
+ghost use Rattle.plist_uses.specs.Roots.{HasNoRoot, IsRootOf, RefusesRoot};
 
 use plist::Value;
 use plist_keyed::{Archive, KeyedError};
@@ -16,6 +16,8 @@ use std::alloc::Global;
 /// Those of [`Archive::open`] and [`Archive::tree`].
 pub fn root_of(alloc: Global, archive: &Value) -> Result<Option<Value>, KeyedError>
     ensures root { IfOk result (λ top. IfSome top (λ root. IsRootOf archive.now (tree_of root))) }
+    ensures none { IfOk result (λ top. IfNone top (HasNoRoot archive.now)) }
+    ensures refused { IfErr result (RefusesRoot archive.now) }
 {
     let opened = Archive::open(archive)?;
     match opened.top("root") {

@@ -1,7 +1,7 @@
 //! A converter: a property list of either format to a binary one.
 
-ghost use Rattle.std.specs.Prelude.{IfOk};
-ghost use Rattle.plist_uses.specs.Converting.{IsReadBy, SendsFileOf};
+ghost use Rattle.std.specs.Prelude.{IfErr, IfOk};
+ghost use Rattle.plist_uses.specs.Converting.{IsReadBy, RefusesConverting, SendsFileOf};
 
 use plist::stream::Source;
 use plist::{Error, Value};
@@ -21,6 +21,8 @@ pub fn convert<R: Source, W: Write>(
 ) -> Result<Value, Error>
     ensures read { IsReadBy (R.known source) result }
     ensures sent { IfOk result (λ value. SendsFileOf W.contents value writer.old writer.new) }
+    ensures refused { IfErr result
+        (RefusesConverting (R.known source) W.contents writer.old writer.new) }
 {
     let value = Value::from_reader(alloc, source)?;
     value.to_writer_binary(alloc, writer)?;

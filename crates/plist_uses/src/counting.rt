@@ -1,9 +1,9 @@
 //! Counting what a file holds, with no value of it in memory.
 
-ghost use Rattle.std.specs.Prelude.{◌≡◌, IfSome, OnOk};
+ghost use Rattle.std.specs.Prelude.{◌≡◌, Err, IfErr, IfSome, OnOk};
 ghost use Rattle.plist_base.specs.Events.{event_of, item_of};
 ghost use Rattle.plist_reader.specs.Reader.{items_of_input};
-ghost use Rattle.plist_uses.specs.Counting.{AreCountedOf, CountsItem, CountsOne, nothing};
+ghost use Rattle.plist_uses.specs.Counting.{AreCountedOf, CountsItem, CountsOne, IsRefusedBy, nothing};
 
 use plist::Error;
 use plist::stream::{OwnedEvent, Reader, Source};
@@ -33,7 +33,8 @@ impl Counts {
 
     // Counts an item's event, or passes its fault on.
     fn take(&mut self, item: Result<OwnedEvent, Error>) -> Result<(), Error>
-        ensures { OnOk result (CountsItem (item_of item.entry) self.old self.new) }
+        ensures counted { OnOk result (CountsItem (item_of item.entry) self.old self.new) }
+        ensures refused { IfErr result (λ error. item.entry ≡ Err error) }
     {
         let event = item?;
         self.count(&event);
@@ -68,6 +69,7 @@ impl Counts {
 /// The first fault, as [`Reader`] tells it.
 pub fn count<R: Source>(alloc: Global, source: R) -> Result<Counts, Error>
     ensures value { IfSome (R.known source) (λ bytes. AreCountedOf (items_of_input bytes) result) }
+    ensures refused { IfSome (R.known source) (λ bytes. IsRefusedBy (items_of_input bytes) result) }
 {
     let mut counts = Counts::none();
     let mut reader = Reader::new(alloc, source);

@@ -1,6 +1,7 @@
 //! A settings store: one dictionary in a file.
 
-ghost use Rattle.std.specs.Prelude.{◌≡◌, IfOk, OnErr, OnOk, string_bytes};
+ghost use Rattle.plist_base.specs.Faults.{fault_of};
+ghost use Rattle.std.specs.Prelude.{◌≡◌, IfErr, IfOk, OnErr, OnOk, string_bytes};
 ghost use Rattle.std.specs.Map.{lookup};
 ghost use Rattle.std.specs.Option.{option_copied};
 ghost use Rattle.std.specs.Str.{bytes_eq};
@@ -8,7 +9,7 @@ ghost use Rattle.plist_base.specs.Outcomes.{OnlyMemory};
 ghost use Rattle.plist_base.specs.Writing.{answer_of};
 ghost use Rattle.plist.specs.SendingValues.{SendsTree};
 ghost use Rattle.plist.specs.Views.{tree_of};
-ghost use Rattle.plist_uses.specs.Settings.{IsReadOf, Sets, pairs_of, tree_in};
+ghost use Rattle.plist_uses.specs.Settings.{IsFaultOfFile, IsReadOf, RefusesOpening, Sets, pairs_of, tree_in};
 
 use plist::stream::Source;
 use plist::{Dictionary, Error, Value};
@@ -44,6 +45,7 @@ impl From<Error> for SettingsError {
 // The value of a file.
 fn value_in<R: Source>(alloc: Global, file: R) -> Result<Value, Error>
     ensures read { IfOk result (λ value. IsReadOf (R.known file) (tree_of value)) }
+    ensures refused { IfErr result (λ error. IsFaultOfFile (R.known file) (fault_of error)) }
 {
     let value = Value::from_reader(alloc, file)?;
     Ok(value)
@@ -57,6 +59,7 @@ impl Settings {
     /// `Fault` with the error of [`Value::from_reader`], and `NoDictionary`.
     pub fn open<R: Source>(alloc: Global, file: R) -> Result<Settings, SettingsError>
         ensures opened { IfOk result (λ settings. IsReadOf (R.known file) (tree_in settings)) }
+        ensures refused { IfErr result (RefusesOpening (R.known file)) }
     {
         let value = value_in(alloc, file)?;
         match value.into_dictionary() {
