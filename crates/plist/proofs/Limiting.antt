@@ -323,14 +323,16 @@ built-within inner_gives limits limited (Ok tree) fresh
     ∙ run-passes inner_gives limited rest taken events yields same in
     let pass = alike-passes limits events (bracketing whole) alike
     (passes limits 0 0 limits.bytes events came) in
-    let nests = (tree-nests limits whole 0 []
-    (0, limits.bytes, subst (Pass limits 0 0 limits.bytes) (sym (append-nil (bracketing whole)))
-    pass)).0 in
+    let nests = (tree-nests limits whole 0 [] (
+      0,
+      limits.bytes,
+      subst (Pass limits 0 0 limits.bytes) (sym (append-nil (bracketing whole)))
+          pass,
+    )).0 in
     let same : limits.depth - 0 ≡ limits.depth = omega arith in
     let long = few limits 0 0 limits.bytes (bracketing whole) (omega arith) pass in
     let here : AreWithin limits (bracketing whole) =
-    (omega arith, light-from limits limits.bytes (bracketing whole) pass) in
-    (
+    (omega arith, light-from limits limits.bytes (bracketing whole) pass) in (
       rw last (last-nests whole limits.depth (rw same at nests)),
       rw last (lighter-within limits whole here),
       (whole, last, here),

@@ -46,7 +46,10 @@ pub fn fails_as_a_writer<R: Source>(reader: &mut Reader<R>) -> bool
 {
     match reader.next() {
         Some(Err(error)) => {
-            matches!(error.kind(), ErrorKind::WriterFailed | ErrorKind::PlistTooLarge)
+            matches!(
+                error.kind(),
+                ErrorKind::WriterFailed | ErrorKind::PlistTooLarge
+            )
         }
         _ => false,
     }
