@@ -1,0 +1,85 @@
+#!/usr/bin/env python3
+"""Peak memory of `Value::from_file_with_limits` on files that would make values of far more.
+
+An array refers to one text again and again: 99,998 times to one of 1 MiB, 100 times to one of 100,000
+bytes, and to a wide text and data. Under limits of 64 collections, 100,000 items and so many bytes each
+has to end in `LimitReached(Bytes)`, and to hold at most 2 MiB beyond these bytes and what an empty array
+takes. At the bound it has a value.
+
+Usage: limits.py [PROGRAM]
+
+The program is `tests/outside/limits`, proved and built in a copy of the crates where it isn't named.
+Needs a C compiler. Ends with status 1 where a run does otherwise.
+"""
+import pathlib
+import sys
+import tempfile
+
+import bounded
+import peak_memory
+import speed
+
+BEYOND = 2 << 20
+CRATES = ("plist_dates", "plist_base", "plist_format", "plist_binread", "plist_binwrite", "plist_ascii",
+          "plist_data", "plist_pairs", "plist_reader", "plist")
+REACHED = b"LimitReached(Bytes)\n"
+VALUE = b"a value\n"
+
+
+def with_length(kind, count):
+    return bytes([kind << 4 | 15, 0x12]) + count.to_bytes(4, "big")
+
+
+def data(count):
+    return with_length(4, count) + bytes(count)
+
+
+def shared(content, times):
+    """An array of so many references of one byte to one object."""
+    return peak_memory.container([with_length(10, times) + b"\1" * times, content], reference=1)
+
+
+def runs():
+    """A name, a file, how many bytes are allowed, and what the program has to print."""
+    text, wide = peak_memory.text, peak_memory.wide_text
+    most = 16 << 20
+    yield "99,998 references to a text of 1 MiB", shared(text(1 << 20), 99_998), most, REACHED
+    yield "99,998 references to data of 1 MiB", shared(data(1 << 20), 99_998), most, REACHED
+    yield "99,998 references to a wide text of 1 MiB", shared(wide(1 << 19), 99_998), most, REACHED
+    yield "2,000 references to a text of 100,000 bytes", shared(text(100_000), 2_000), 10_000_000, REACHED
+    yield "100 references to a text of 100,000 bytes", shared(text(100_000), 100), 10_000_000, VALUE
+    yield "a text of 64 MiB", shared(text(64 << 20), 1), 1 << 20, REACHED
+    yield "data of 64 MiB", shared(data(64 << 20), 1), 1 << 20, REACHED
+    yield "a wide text of 64 MiB", shared(wide(32 << 20), 1), 1 << 20, REACHED
+
+
+def main():
+    bad = 0
+    with tempfile.TemporaryDirectory() as name:
+        folder = pathlib.Path(name)
+        program = pathlib.Path(sys.argv[1]).resolve() if sys.argv[1:] else speed.built(
+            folder, "limits", CRATES, "plist", ["no_such_file"])
+        starter = bounded.Starter(folder)
+        source, out = folder / "file.plist", folder / "out"
+
+        def run(file, most):
+            source.write_bytes(file)
+            ended = starter.run([program, source, 64, 100_000, most], seconds=60, out=out)
+            return ended, out.read_bytes()
+
+        start = run(peak_memory.container([b"\xa0"]), 0)[0].peak
+        print("| file | bytes allowed | printed | peak beyond an empty array | beyond what is allowed | seconds |")
+        print("|---|---|---|---|---|---|")
+        for shape, file, most, wanted in runs():
+            ended, printed = run(file, most)
+            peak = ended.peak - start
+            fine = printed == wanted and ended.status == 0 and peak <= most + BEYOND
+            bad += not fine
+            print(f"| {shape} | {most:,} | {printed.decode().strip()} | {peak:,} | {max(peak - most, 0):,} | "
+                  f"{ended.seconds:.2f} |{'' if fine else ' OTHERWISE'}")
+        starter.close()
+    return 1 if bad else 0
+
+
+if __name__ == "__main__":
+    sys.exit(main())
