@@ -1,5 +1,7 @@
 //! A file that no memory holds, and what limits make of it.
 
+ghost use Rattle.std.specs.Prelude.{None};
+
 use crate::support::must;
 use plist_base::{Limits, Source};
 use plist_binread::BinaryReader;
