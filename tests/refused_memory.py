@@ -14,7 +14,7 @@ import subprocess
 import sys
 import tempfile
 
-REPOSITORY = pathlib.Path(__file__).resolve().parents[2]
+REPOSITORY = pathlib.Path(__file__).resolve().parents[1]
 PROGRAM = REPOSITORY / "crates/plist_tool/out/plist_tool"
 SETTINGS, ARCHIVE = REPOSITORY / "examples/settings.plist", REPOSITORY / "examples/archive.plist"
 ASCII = b'{ name = "caf\\U00e9"; list = (1, two, { deep = "x y z, and a longer text"; }); }\n'

@@ -1,0 +1,164 @@
+#!/usr/bin/env python3
+"""Refuses each request for memory of the libraries' public calls in turn, until a run meets none.
+
+The program of `tests/calls` makes one call, or a few of one kind, between two marks. There requests
+for memory are refused: one alone, then all from one on. The answer and what stands behind it then
+have to be those of ample memory, or want of memory in the form and with the state that is promised;
+both stand in `call_tables.py`. Calls that promise to take no memory run with every request refused,
+and must make none. Files that lie about themselves may take no more memory than a hundred times
+their size.
+
+Usage: refused_calls.py
+
+The kit runs the program unproved, with its checks of each access, in a copy of the crates. Needs a C
+compiler. Ends with its counts, and status 1 where a run does otherwise.
+"""
+import collections
+import os
+import pathlib
+import shutil
+import subprocess
+import sys
+import tempfile
+
+# no file of bytecode stays behind
+sys.dont_write_bytecode = True
+import call_tables
+
+HERE = pathlib.Path(__file__).resolve().parent
+CRATES = HERE.parent / "crates"
+STANDS_ON = ("plist_base plist_data plist_binread plist_binwrite plist_share plist_ascii plist_reader "
+             "plist_support plist plist_value_support plist_keyed plist_callers plist_uses hex")
+
+
+def below(lines, names):
+    """These crates and all below them, of those that `crates.txt` has lines for."""
+    found = {}
+    for name in names:
+        if name in lines:
+            found.update(below(lines, lines[name].split()))
+            found[name] = lines[name]
+    return found
+
+
+def output_of(folder, given):
+    """What the program writes for these lines, run unproved in a repository of its own."""
+    every = (CRATES.parent / "crates.txt").read_text().splitlines()
+    lines = dict(line.split(":", 1) for line in every if ":" in line and line[0] != "#")
+    crates = below(lines, STANDS_ON.split())
+    for name in crates:
+        shutil.copytree(CRATES / name, folder / "crates" / name, ignore=shutil.ignore_patterns("out"))
+    crate = folder / "crates/calls"
+    (crate / "src").mkdir(parents=True)
+    (crate / "c").mkdir()
+    shutil.copy(HERE / "calls/refuse.c", crate / "c")
+    for file in (HERE / "calls").glob("*.rt.in"):
+        shutil.copy(file, crate / "src" / file.stem)
+    listed = [f"{name}:{stands_on}" for name, stands_on in {**crates, "calls": f" {STANDS_ON}"}.items()]
+    (folder / "crates.txt").write_text("\n".join(listed) + "\n")
+    (folder / "given").write_text(given)
+    with open(folder / "given", encoding="utf-8") as file:
+        done = subprocess.run(["rt", "try", "--seconds", "300"], cwd=crate, stdin=file, text=True,
+                              stdout=subprocess.PIPE, stderr=subprocess.PIPE,
+                              env={**os.environ, "RT_ALLOW_C": "calls"})
+    if done.returncode or not done.stdout.endswith("\nall\n"):
+        sys.exit(f"{done.stdout[-2000:]}{done.stderr}the calls ended with status {done.returncode}")
+    return done.stdout.removesuffix("all\n")
+
+
+def runs_of(output):
+    """The runs of each call: what was told, how many requests there were, for how many bytes."""
+    calls, told = [], []
+    for line in output.splitlines():
+        if line == ">":
+            calls.append([])
+        elif line.startswith("= "):
+            count, asked = map(int, line[2:].split())
+            calls[-1].append(("\n".join(told), count, asked))
+            told = []
+        else:
+            told.append(line)
+    return calls
+
+
+class Calls:
+    """Calls, what has to come of them, and what came."""
+
+    def __init__(self):
+        self.lines, self.tests, self.names = [], [], set()
+        self.all, self.most = collections.Counter(), 0
+
+    def add(self, way, name, given, test):
+        given = given.hex() if isinstance(given, bytes) else given
+        self.names.add(name)
+        self.lines.append(f"{way}\t{name}\t{given}\n")
+        self.tests.append((f"{name} {given!r}", test))
+
+    def bad(self, text):
+        self.all["otherwise"] += 1
+        print(text)
+
+    def sweep(self, name, given, ample, wants):
+        """Each request refused alone, and with all behind it. `wants` are the forms of want of memory."""
+        self.add("sweep", name, given, lambda call, runs: self.test_sweep(call, runs, ample, wants))
+
+    def test_sweep(self, call, runs, ample, wants):
+        found, requests, _ = next(runs)
+        self.all["requests"] += requests
+        if found != ample:
+            self.bad(f"{call}, with ample memory: {found!r} for {ample!r}")
+        for _ in ("alone", "with all behind it"):
+            number, count = 0, 0
+            while count >= number:
+                number += 1
+                found, count, _ = next(runs)
+                if found == ample:
+                    self.all["as with ample memory"] += count >= number
+                elif count >= number and found in wants:
+                    self.all["want of memory"] += 1
+                else:
+                    self.bad(f"{call}, request {number} of {requests}: {found!r}")
+
+    def still(self, name, given, ample):
+        """Every request refused, of which none is made."""
+        self.add("still", name, given, lambda call, runs: self.test_still(call, runs, ample))
+
+    def test_still(self, call, runs, ample):
+        for found, requests, _ in (next(runs), next(runs)):
+            if found != ample or requests:
+                self.bad(f"{call} takes no memory: {found!r} for {ample!r}, {requests} requests")
+        self.all["calls that take no memory"] += 1
+
+    def bounded(self, name, file, ample):
+        """All requests together are for at most a hundred times as many bytes as the file has."""
+        self.add("once", name, file, lambda call, runs: self.test_bounded(call, runs, file, ample))
+
+    def test_bounded(self, call, runs, file, ample):
+        found, _, asked = next(runs)
+        self.most = max(self.most, asked / len(file))
+        if found != ample or asked > 100 * len(file):
+            self.bad(f"{call}, {len(file)} bytes: {found!r} for {ample!r}, {asked} bytes of memory")
+        self.all["files that lie"] += 1
+
+    def look_at(self, calls):
+        for (call, test), runs in zip(self.tests, calls, strict=True):
+            runs = iter(runs)
+            test(call, runs)
+            if list(runs):
+                self.bad(f"{call}: more runs")
+
+
+def main():
+    calls = Calls()
+    call_tables.run(calls)
+    with tempfile.TemporaryDirectory() as name:
+        output = output_of(pathlib.Path(name), "".join(calls.lines))
+    calls.look_at(runs_of(output))
+    print(f"{calls.most:.0f} bytes of memory for each byte of a file that lies, at most")
+    told = ", ".join(f"{number} {what}" for what, number in sorted(calls.all.items()))
+    print(f"{len(calls.names)} kinds of calls: {told}")
+    return 1 if calls.all["otherwise"] else 0
+
+
+if __name__ == "__main__":
+    sys.exit(main())
