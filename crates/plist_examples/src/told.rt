@@ -49,21 +49,22 @@ fn told_word<C: DecodeCounter>(
     }
 }
 
-// Adds what is told next, behind a blank.
+// Adds what is told next, or the text of the fault that comes in its place, behind a blank.
 fn add_told<C: DecodeCounter>(
     alloc: Global,
     words: &mut String,
     reader: &mut BinaryReader<&[u8], C>,
 ) -> Result<(), AllocError> {
-    if let Some(Ok(())) = reader.advance() {
-        let word = told_word(alloc, reader)?;
-        words.push(' ')?;
-        words.push_str(word.as_str())?;
-    }
-    Ok(())
+    let word = match reader.advance() {
+        None => return Ok(()),
+        Some(Ok(())) => told_word(alloc, reader)?,
+        Some(Err(error)) => error.to_string(alloc)?,
+    };
+    words.push(' ')?;
+    words.push_str(word.as_str())
 }
 
-// What is told of these bytes, each word behind a blank.
+// What eight calls tell of these bytes, each word behind a blank.
 fn told_words(alloc: Global, bytes: &[u8], tally: &mut Tally) -> Result<String, AllocError> {
     let mut reader = BinaryReader::with_counter(alloc, bytes, tally);
     let mut words = String::new(alloc);
@@ -80,19 +81,22 @@ fn twice(alloc: Global, object: &str) -> Result<Vec<u8>, Wrong> {
     file(alloc, body.as_str(), [1, 1], [2, 0, table])
 }
 
-// Of the object this is told each time, and so many small scalars are decoded.
-fn expect(alloc: Global, bytes: &[u8], told: &str, decoded: u64) -> Result<(), Wrong> {
-    let mut tally = Tally { raised: 0 };
-    let words = told_words(alloc, bytes, &mut tally)?;
-    let found = format!(in alloc; "{}{}", tally.raised, words.as_str())?;
-    let wanted = format!(in alloc; "{decoded} array:2 {told} {told} end")?;
-    expect_same(alloc, found.as_str(), wanted.as_str())
+// What is told of a file, behind how many small scalars are decoded.
+fn wanted_of(alloc: Global, check: &str, told: &str) -> Result<String, AllocError> {
+    match check {
+        "kept" => format!(in alloc; "1 array:2 {told} {told} end"),
+        "anew" => format!(in alloc; "0 array:2 {told} {told} end"),
+        _ => format!(in alloc; "0 array:2 {told}"),
+    }
 }
 
 /// An example of an object: `kept` is a small scalar, decoded once and told again of what was kept;
-/// what isn't small is read `anew` each time.
+/// what isn't small is read `anew` each time; behind a `fault` nothing comes.
 pub(crate) fn run(alloc: Global, row: Row<'_>) -> Result<(), Wrong> {
     let bytes = twice(alloc, row.given)?;
-    let decoded = if row.check == "kept" { 1 } else { 0 };
-    expect(alloc, bytes.as_slice(), row.wanted, decoded)
+    let mut tally = Tally { raised: 0 };
+    let words = told_words(alloc, bytes.as_slice(), &mut tally)?;
+    let found = format!(in alloc; "{}{}", tally.raised, words.as_str())?;
+    let wanted = wanted_of(alloc, row.check, row.wanted)?;
+    expect_same(alloc, found.as_str(), wanted.as_str())
 }

@@ -235,11 +235,17 @@ fn scalars_in_values(rt: HostRuntime) {
     assert!(rt; Value::from(true).into_uid().is_none());
     let data = value_of(&rt, "<00ff>");
     assert_eq!(rt; data.as_data(), Some([0, 255].as_slice()));
-    assert!(rt; data.into_data().is_some());
+    match data.into_data() {
+        None => panic!(rt; "data"),
+        Some(bytes) => assert_eq!(rt; bytes.as_slice(), [0, 255].as_slice()),
+    }
     assert!(rt; Value::from(true).into_data().is_none());
     let value = Value::from(text(&rt, "a"));
     assert_eq!(rt; value.as_string(), Some("a"));
-    assert!(rt; value.into_string().is_some());
+    match value.into_string() {
+        None => panic!(rt; "a text"),
+        Some(text) => assert_eq!(rt; text.as_str(), "a"),
+    }
     assert!(rt; Value::from(true).into_string().is_none());
 }
 

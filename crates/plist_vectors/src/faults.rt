@@ -31,6 +31,26 @@ fn texts_of_kinds(rt: HostRuntime) {
     expect_text(&rt, end.without_position(), text);
 }
 
+// Those that no file can show; the others stand in the tables.
+#[test]
+fn texts_of_writers_kinds(rt: HostRuntime) {
+    expect_text(
+        &rt,
+        ErrorKind::OutOfMemory.without_position(),
+        "OutOfMemory",
+    );
+    expect_text(
+        &rt,
+        ErrorKind::WriterFailed.without_position(),
+        "WriterFailed",
+    );
+    expect_text(
+        &rt,
+        ErrorKind::PlistTooLarge.without_position(),
+        "PlistTooLarge",
+    );
+}
+
 #[test]
 fn texts_with_an_offset(rt: HostRuntime) {
     let magic = ErrorKind::InvalidMagic.with_byte_offset(0);
@@ -50,7 +70,23 @@ fn expect_kind(rt: &(impl Abort + AllocGlobal), kind: EventKind, texts: &str) {
 #[test]
 fn texts_of_event_kinds(rt: HostRuntime) {
     expect_kind(&rt, EventKind::StartArray, "StartArray StartArray");
+    expect_kind(
+        &rt,
+        EventKind::StartDictionary,
+        "StartDictionary StartDictionary",
+    );
+    expect_kind(&rt, EventKind::EndCollection, "EndCollection EndCollection");
+    expect_kind(&rt, EventKind::Boolean, "Boolean Boolean");
+    expect_kind(&rt, EventKind::Data, "Data Data");
+    expect_kind(&rt, EventKind::Date, "Date Date");
+    expect_kind(&rt, EventKind::Integer, "Integer Integer");
+    expect_kind(&rt, EventKind::Real, "Real Real");
+    expect_kind(&rt, EventKind::String, "String String");
     expect_kind(&rt, EventKind::Uid, "Uid Uid");
+}
+
+#[test]
+fn texts_of_places_for_events(rt: HostRuntime) {
     expect_kind(
         &rt,
         EventKind::ValueOrStartCollection,

@@ -3,8 +3,9 @@
 ghost use Rattle.std.specs.Prelude.{◌≡◌, ◌<ℤ◌, ◌↔◌, IsTrue};
 
 use crate::support::must;
-use plist_base::{Integer, InvalidInteger, RealBits, Uid};
+use plist_base::{Date, Integer, InvalidInteger, RealBits, Uid};
 use std::cmp::Ordering;
+use std::hash::{DefaultHasher, Hash, Hasher};
 use std::process::Abort;
 
 // What the number is, and its two texts.
@@ -99,4 +100,41 @@ fn reals(rt: HostRuntime) {
     assert!(rt; zero != RealBits::Four([0; 4]));
     let nan = RealBits::Four([127, 192, 0, 0]);
     assert!(rt; nan == nan);
+}
+
+fn hash_of<T: Hash>(value: &T) -> u64 {
+    let mut state = DefaultHasher::new();
+    value.hash(&mut state);
+    state.finish()
+}
+
+// Two that are equal have one hash, and another has another one.
+fn expect_hashes<T: Hash + Eq>(rt: &impl Abort, value: &T, same: &T, other: &T) {
+    assert!(rt; value == same);
+    assert_eq!(rt; hash_of(value), hash_of(same));
+    assert!(rt; value != other);
+    assert!(rt; hash_of(value) != hash_of(other));
+}
+
+#[test]
+fn hashes_of_numbers(rt: HostRuntime) {
+    let (seven, again) = (Integer::from(7u8), Integer::from(7i64));
+    expect_hashes(&rt, &seven, &again, &Integer::from(-7i64));
+    // the same 64 bits as -1
+    let greatest = Integer::from(u64::MAX);
+    expect_hashes(&rt, &greatest, &greatest, &Integer::from(-1i64));
+    expect_hashes(&rt, &Uid::new(5), &Uid::new(5), &Uid::new(6));
+    // as of the one field of the Rust crate's
+    assert_eq!(rt; hash_of(&Uid::new(5)), hash_of(&5u64));
+}
+
+#[test]
+fn hashes_of_bytes(rt: HostRuntime) {
+    let zero = RealBits::Four([0; 4]);
+    expect_hashes(&rt, &zero, &zero, &RealBits::Four([128, 0, 0, 0]));
+    let zero = RealBits::Eight([0; 8]);
+    let below = RealBits::Eight([128, 0, 0, 0, 0, 0, 0, 0]);
+    expect_hashes(&rt, &zero, &zero, &below);
+    let (date, again) = (Date::from_plist_secs(5), Date::from_unix_secs(978307205));
+    expect_hashes(&rt, &date, &again, &Date::from_plist_secs(6));
 }

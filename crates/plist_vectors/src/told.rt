@@ -1,4 +1,5 @@
-//! That a ledger can count what a reader decodes.
+//! That a ledger can be the counter of a reader. Its count is no number at run time: `told` of the
+//! examples looks at counts.
 
 ghost use Rattle.std.specs.Prelude.{◌≡◌, ◌<◌};
 
@@ -23,7 +24,7 @@ fn items_counted<L: Ledger>(alloc: Global, bytes: &[u8], blank: Blank) -> u64
 }
 
 #[test]
-fn a_ledger_counts(rt: HostRuntime) {
+fn all_items_come_while_a_ledger_counts(rt: HostRuntime) {
     let bytes = must(
         &rt,
         file(rt.alloc(), "a30101 02 5161 09 080c0e", [1, 1], [3, 0, 15]),
