@@ -117,24 +117,32 @@ fn expect_hashes<T: Hash + Eq>(rt: &impl Abort, value: &T, same: &T, other: &T) 
 }
 
 #[test]
-fn hashes_of_numbers(rt: HostRuntime) {
+fn hashes_of_integers(rt: HostRuntime) {
     let (seven, again) = (Integer::from(7u8), Integer::from(7i64));
     expect_hashes(&rt, &seven, &again, &Integer::from(-7i64));
     // the same 64 bits as -1
     let greatest = Integer::from(u64::MAX);
     expect_hashes(&rt, &greatest, &greatest, &Integer::from(-1i64));
+}
+
+// As of the one field of the Rust crate's.
+#[test]
+fn hashes_of_uids(rt: HostRuntime) {
     expect_hashes(&rt, &Uid::new(5), &Uid::new(5), &Uid::new(6));
-    // as of the one field of the Rust crate's
     assert_eq!(rt; hash_of(&Uid::new(5)), hash_of(&5u64));
 }
 
 #[test]
-fn hashes_of_bytes(rt: HostRuntime) {
+fn hashes_of_reals(rt: HostRuntime) {
     let zero = RealBits::Four([0; 4]);
     expect_hashes(&rt, &zero, &zero, &RealBits::Four([128, 0, 0, 0]));
     let zero = RealBits::Eight([0; 8]);
     let below = RealBits::Eight([128, 0, 0, 0, 0, 0, 0, 0]);
     expect_hashes(&rt, &zero, &zero, &below);
+}
+
+#[test]
+fn hashes_of_dates(rt: HostRuntime) {
     let (date, again) = (Date::from_plist_secs(5), Date::from_unix_secs(978307205));
     expect_hashes(&rt, &date, &again, &Date::from_plist_secs(6));
 }
