@@ -10,8 +10,8 @@ their size.
 
 Usage: refused_calls.py
 
-The kit runs the program unproved, with its checks of each access, in a copy of the crates. Needs a C
-compiler. Ends with its counts, and status 1 where a run does otherwise.
+The kit runs the program unproved, with its checks of each access, in a copy of the crates. Needs a
+C compiler. Ends with its counts, and status 1 where a run does otherwise.
 """
 import collections
 import os
@@ -27,8 +27,9 @@ import call_tables
 
 HERE = pathlib.Path(__file__).resolve().parent
 CRATES = HERE.parent / "crates"
-STANDS_ON = ("plist_base plist_data plist_binread plist_binwrite plist_share plist_ascii plist_reader "
-             "plist_support plist plist_value_support plist_keyed plist_callers plist_uses hex")
+STANDS_ON = ("plist_base plist_data plist_binread plist_binwrite plist_share plist_ascii "
+             "plist_reader plist_support plist plist_value_support plist_keyed plist_callers "
+             "plist_uses hex")
 
 
 def below(lines, names):
@@ -46,16 +47,18 @@ def output_of(folder, given):
     every = (CRATES.parent / "crates.txt").read_text().splitlines()
     lines = dict(line.split(":", 1) for line in every if ":" in line and line[0] != "#")
     crates = below(lines, STANDS_ON.split())
+    without = shutil.ignore_patterns("out")
     for name in crates:
-        shutil.copytree(CRATES / name, folder / "crates" / name, ignore=shutil.ignore_patterns("out"))
+        shutil.copytree(CRATES / name, folder / "crates" / name, ignore=without)
     crate = folder / "crates/calls"
     (crate / "src").mkdir(parents=True)
     (crate / "c").mkdir()
     shutil.copy(HERE / "calls/refuse.c", crate / "c")
     for file in (HERE / "calls").glob("*.rt.in"):
         shutil.copy(file, crate / "src" / file.stem)
-    listed = [f"{name}:{stands_on}" for name, stands_on in {**crates, "calls": f" {STANDS_ON}"}.items()]
-    (folder / "crates.txt").write_text("\n".join(listed) + "\n")
+    crates["calls"] = STANDS_ON
+    listed = [f"{name}: {stands_on}\n" for name, stands_on in crates.items()]
+    (folder / "crates.txt").write_text("".join(listed))
     (folder / "given").write_text(given)
     with open(folder / "given", encoding="utf-8") as file:
         done = subprocess.run(["rt", "try", "--seconds", "300"], cwd=crate, stdin=file, text=True,
@@ -99,7 +102,7 @@ class Calls:
         print(text)
 
     def sweep(self, name, given, ample, wants):
-        """Each request refused alone, and with all behind it. `wants` are the forms of want of memory."""
+        """Each request refused alone, and with all behind it; `wants` are wants of memory."""
         self.add("sweep", name, given, lambda call, runs: self.test_sweep(call, runs, ample, wants))
 
     def test_sweep(self, call, runs, ample, wants):

@@ -6,13 +6,20 @@ use plist_base::{ErrorKind, Source};
 use plist_reader::Reader;
 use std::alloc::Global;
 
-/// Whether something comes behind the end, or behind a device's failure.
+/// Whether something comes behind the end, or behind a fault that no text in ASCII has.
 pub fn comes_behind_end<R: Source>(reader: &mut Reader<R>) -> bool
     ensures { result ≡ false }
 {
     match reader.next() {
         None => reader.next().is_some(),
-        Some(Err(error)) => error.is_io() && reader.next().is_some(),
+        Some(Err(error)) => match error.kind() {
+            ErrorKind::UnclosedString
+            | ErrorKind::IncompleteComment
+            | ErrorKind::InvalidUtf8AsciiStream
+            | ErrorKind::InvalidOctalString
+            | ErrorKind::InvalidUtf16String => false,
+            _ => reader.next().is_some(),
+        },
         Some(Ok(_event)) => false,
     }
 }
