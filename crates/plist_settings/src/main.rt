@@ -3,6 +3,8 @@
 //! `examples/settings.rs`, which stands on the Rust crate `plist`.
 #![tactic(auto)]
 
+mod idioms;
+
 use plist::{Dictionary, Error, ErrorKind, Value, Variant};
 use std::alloc::{AllocError, Global};
 use std::env::Env;
@@ -147,7 +149,7 @@ fn open<R: Files>(rt: &R, alloc: Global, path: &str) -> Result<Dictionary, Failu
 }
 
 // Does what a word says.
-fn perform<R: Files, W: Write>(
+fn perform<R: Files + AllocGlobal, W: Write>(
     rt: &R,
     alloc: Global,
     settings: &mut Dictionary,
@@ -172,6 +174,7 @@ fn perform<R: Files, W: Write>(
             let setting = delete(settings, what).ok_or(Failure::NoSetting)?;
             writeln!(out, "{what} was {}", text_of(alloc, &setting)?)?;
         }
+        "idioms" => idioms::print(rt, alloc, what, out)?,
         "save" => Value::Dictionary(settings.clone()?).to_file_binary(rt, alloc, what)?,
         _ => return Err(Failure::Usage),
     }

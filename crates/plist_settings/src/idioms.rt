@@ -1,56 +1,30 @@
-//! The idioms of `docs/PORTING.md`, which `crate.rs` has on the Rust crate `plist`: each run once,
-//! on `settings.plist` where it wants a file. `idioms` has their names and what each gives;
-//! `tests/outside/idioms.py` runs this program and compares.
-#![tactic(auto)]
+//! The idioms of `docs/PORTING.md`, which `examples/idioms.rs` has on the Rust crate `plist`: each
+//! run once, on `settings.plist` where it wants a file. The lines of `stdout` with two bars are
+//! what the crate gives.
 
+use crate::Failure;
 use plist::stream::{BinaryWriter, Event, Reader, Seeking, Writer, format_of};
-use plist::{Date, Dictionary, Error, ErrorKind, Limits, RealBits, Value, Variant};
+use plist::{Date, Dictionary, Error, Limits, RealBits, Value, Variant};
 use std::alloc::{AllocError, Global};
 use std::borrow::CowStr;
+use std::fs;
+use std::io::Write;
 use std::rt::Files;
-use std::{fs, io};
 
 const FILE: &str = "settings.plist";
-
-// Why an idiom gives nothing.
-#[derive(Debug, Drop)]
-enum Stop {
-    // A call has this fault.
-    Fault(Error),
-    // There is no such value.
-    NoValue,
-}
-
-impl From<Error> for Stop {
-    fn from(error: Error) -> Stop {
-        Stop::Fault(error)
-    }
-}
-
-impl From<io::Error> for Stop {
-    fn from(error: io::Error) -> Stop {
-        Stop::Fault(ErrorKind::Io(error).without_position())
-    }
-}
-
-impl From<AllocError> for Stop {
-    fn from(error: AllocError) -> Stop {
-        Stop::Fault(Error::from(error))
-    }
-}
 
 // What a dictionary has under a key, as a number.
 fn number_at(value: &Value, key: &str) -> Option<i64> {
     value.as_dictionary()?.get(key)?.as_signed_integer()
 }
 
-fn version_of(alloc: Global, value: &Value) -> Result<String, Stop> {
-    let version = number_at(value, "Version").ok_or(Stop::NoValue)?;
+fn version_of(alloc: Global, value: &Value) -> Result<String, Failure> {
+    let version = number_at(value, "Version").ok_or(Failure::NoSetting)?;
     Ok(format!(in alloc; "{version}")?)
 }
 
 // How many events come, up to the first fault.
-fn count_of<R: Files + AllocGlobal>(rt: &R, alloc: Global) -> Result<u64, Stop> {
+fn count_of<R: Files + AllocGlobal>(rt: &R, alloc: Global) -> Result<u64, Failure> {
     let mut count: u64 = 0;
     for event in Reader::new(alloc, Seeking::new(fs::open(rt, FILE)?)) {
         let _event = event?;
@@ -60,21 +34,22 @@ fn count_of<R: Files + AllocGlobal>(rt: &R, alloc: Global) -> Result<u64, Stop> 
 }
 
 // Files: by each call that opens one.
-fn opened<R: Files + AllocGlobal>(rt: &R, alloc: Global, name: &str) -> Result<Value, Stop> {
-    let enough = Limits {
-        depth: 3,
-        items: 100,
-    };
-    let few = Limits {
-        depth: 1,
-        items: 100,
-    };
+fn opened<R: Files + AllocGlobal>(rt: &R, alloc: Global, name: &str) -> Result<Value, Failure> {
     match name {
         "from_file" => Ok(Value::from_file(rt, alloc, FILE)?),
         "a missing file" => Ok(Value::from_file(rt, alloc, "missing.plist")?),
-        "a stranger's file" => Ok(Value::from_file_with_limits(rt, alloc, FILE, enough)?),
-        "a deep file" => Ok(Value::from_file_with_limits(rt, alloc, FILE, few)?),
-        "from_reader of bytes" => Ok(Value::from_reader(alloc, fs::read(rt, FILE)?)?),
+        "a stranger's file" => {
+            let limits = Limits::new(3, 100);
+            Ok(Value::from_file_with_limits(rt, alloc, FILE, limits)?)
+        }
+        "a deep file" => {
+            let limits = Limits::new(1, 100);
+            Ok(Value::from_file_with_limits(rt, alloc, FILE, limits)?)
+        }
+        "from_reader of bytes" => {
+            let bytes = fs::read(rt, FILE)?;
+            Ok(Value::from_reader(alloc, bytes.as_slice())?)
+        }
         "from_reader of a file" => {
             let file = fs::open(rt, FILE)?;
             Ok(Value::from_reader(alloc, Seeking::new(file))?)
@@ -83,12 +58,19 @@ fn opened<R: Files + AllocGlobal>(rt: &R, alloc: Global, name: &str) -> Result<V
             Value::from_file(rt, alloc, FILE)?.to_file_binary(rt, alloc, "copy.plist")?;
             Ok(Value::from_file(rt, alloc, "copy.plist")?)
         }
-        _ => Err(Stop::NoValue),
+        _ => Err(Failure::NoSetting),
     }
 }
 
+// The length of a file of one text.
+fn written(alloc: Global) -> Result<usize, Error> {
+    let mut writer = BinaryWriter::new(alloc, Vec::new(alloc));
+    writer.write(Event::String(CowStr::Borrowed("text")))?;
+    Ok(writer.into_inner().len())
+}
+
 // Files and streams.
-fn streamed<R: Files + AllocGlobal>(rt: &R, alloc: Global, name: &str) -> Result<String, Stop> {
+fn streamed<R: Files + AllocGlobal>(rt: &R, alloc: Global, name: &str) -> Result<String, Failure> {
     match name {
         "stream::Reader" => Ok(format!(in alloc; "{}", count_of(rt, alloc)?)?),
         "to_writer_binary" => {
@@ -100,12 +82,7 @@ fn streamed<R: Files + AllocGlobal>(rt: &R, alloc: Global, name: &str) -> Result
             let events = Reader::new(alloc, fs::read(rt, FILE)?);
             version_of(alloc, &Value::from_events(alloc, events)?)
         }
-        "BinaryWriter" => {
-            let mut out = Vec::new(alloc);
-            let mut writer = BinaryWriter::new(alloc, &mut out);
-            writer.write(Event::String(CowStr::Borrowed("text")))?;
-            Ok(format!(in alloc; "{}", out.len())?)
-        }
+        "BinaryWriter" => Ok(format!(in alloc; "{}", written(alloc)?)?),
         "format_of" => {
             let mut source = fs::read(rt, FILE)?;
             Ok(format!(in alloc; "{:?}", format_of(&mut source)?)?)
@@ -141,6 +118,7 @@ fn taken(alloc: Global, value: Value, name: &str) -> Option<String> {
             Variant::String(text) => Some(text),
             _ => None,
         },
+        "into_string" => settings.remove("Name")?.into_string(),
         "into_array" => {
             let items = settings.remove("Offsets")?.into_array()?;
             format!(in alloc; "{}", items.len()).ok()
@@ -206,7 +184,7 @@ fn sorted(alloc: Global) -> Result<Dictionary, Error> {
 }
 
 // Dictionaries, made in each way.
-fn changed(alloc: Global, name: &str) -> Result<String, Stop> {
+fn changed(alloc: Global, name: &str) -> Result<String, Failure> {
     let settings = match name {
         "insert" => made(alloc)?,
         "entry" => with_entries(alloc)?,
@@ -214,31 +192,31 @@ fn changed(alloc: Global, name: &str) -> Result<String, Stop> {
         "from_pairs" => Dictionary::from_pairs(alloc, made(alloc)?)?,
         "clone of a dictionary" => made(alloc)?.clone()?,
         "iteration by value" => return Ok(keys_out_of(alloc, made(alloc)?)?),
-        _ => return Err(Stop::NoValue),
+        _ => return Err(Failure::NoSetting),
     };
     Ok(keys_of(alloc, &settings)?)
 }
 
 // Makes values of what they hold.
-fn built(alloc: Global, name: &str) -> Result<Value, Stop> {
+fn built(alloc: Global, name: &str) -> Result<Value, Failure> {
     match name {
         "a text" => Ok(Value::try_from_str(alloc, "text")?),
         "a number" => Ok(Value::from(7_i64)),
         "a truth value" => Ok(Value::Boolean(true)),
         "a real" => Ok(Value::Real(RealBits::from_f64(0.1))),
         "data" => Ok(Value::Data(Vec::from_slice(alloc, &[0, 255])?)),
-        "a date" => Ok(Value::Date(Date::from_unix_secs(0).ok_or(Stop::NoValue)?)),
+        "a date" => Ok(Value::Date(Date::from_unix_secs(0).ok_or(Failure::NoSetting)?)),
         "clone of a value" => Ok(Value::Dictionary(made(alloc)?).clone(alloc)?),
         "from_reader_ascii" => {
             let text: &[u8] = b"{ b = 7; a = x; }";
             Ok(Value::from_reader_ascii(alloc, text)?)
         }
-        _ => Err(Stop::NoValue),
+        _ => Err(Failure::NoSetting),
     }
 }
 
 // What a value holds, in words.
-fn content_of(alloc: Global, value: &Value) -> Result<String, Stop> {
+fn content_of(alloc: Global, value: &Value) -> Result<String, Failure> {
     match value {
         Value::String(text) => Ok(text.clone()?),
         Value::Integer(number) => Ok(format!(in alloc; "{number}")?),
@@ -246,28 +224,32 @@ fn content_of(alloc: Global, value: &Value) -> Result<String, Stop> {
         Value::Real(number) => Ok(format!(in alloc; "{number}")?),
         Value::Data(bytes) => Ok(format!(in alloc; "{} bytes", bytes.len())?),
         Value::Dictionary(settings) => Ok(keys_of(alloc, settings)?),
-        _ => Err(Stop::NoValue),
+        _ => Err(Failure::NoSetting),
     }
 }
 
 // The text of a date.
-fn date_text(alloc: Global, value: &Value) -> Result<String, Stop> {
-    let date = value.as_date().ok_or(Stop::NoValue)?;
+fn date_text(alloc: Global, value: &Value) -> Result<String, Failure> {
+    let date = value.as_date().ok_or(Failure::NoSetting)?;
     Ok(date.to_xml_format(alloc)?)
 }
 
 // What an idiom gives, as a text.
-fn text_of<R: Files + AllocGlobal>(rt: &R, group: &str, name: &str) -> Result<String, Stop> {
-    let alloc = rt.alloc();
+fn text_of<R: Files + AllocGlobal>(
+    rt: &R,
+    alloc: Global,
+    group: &str,
+    name: &str,
+) -> Result<String, Failure> {
     match group {
         "stream" => streamed(rt, alloc, name),
         "look" => {
             let value = Value::from_file(rt, alloc, FILE)?;
-            seen(alloc, &value, name).ok_or(Stop::NoValue)
+            seen(alloc, &value, name).ok_or(Failure::NoSetting)
         }
         "take" => {
             let value = Value::from_file(rt, alloc, FILE)?;
-            taken(alloc, value, name).ok_or(Stop::NoValue)
+            taken(alloc, value, name).ok_or(Failure::NoSetting)
         }
         "change" => changed(alloc, name),
         "text" => date_text(alloc, &built(alloc, name)?),
@@ -275,26 +257,31 @@ fn text_of<R: Files + AllocGlobal>(rt: &R, group: &str, name: &str) -> Result<St
     }
 }
 
-// The line of an idiom. Where a device failed, the text is its reason.
-fn line_of<R: Files + AllocGlobal>(rt: &R, group: &str, name: &str) -> Result<String, AllocError> {
-    let alloc = rt.alloc();
-    let text = match text_of(rt, group, name) {
-        Ok(text) => text,
-        Err(Stop::NoValue) => "nothing".to_string(alloc)?,
-        Err(Stop::Fault(error)) => match error.as_io() {
-            Some(reason) => format!(in alloc; "{reason}")?,
-            None => error.to_string(alloc)?,
-        },
-    };
-    format!(in alloc; "{group} | {name} | {}", text.as_str().trim_end())
+// The text of an idiom, or why there is none.
+fn told<R: Files + AllocGlobal>(
+    rt: &R,
+    alloc: Global,
+    group: &str,
+    name: &str,
+) -> Result<String, AllocError> {
+    match text_of(rt, alloc, group, name) {
+        Ok(text) => Ok(text),
+        Err(failure) => failure.to_string(alloc),
+    }
 }
 
-fn main(rt: HostRuntime) -> io::Result<()> {
-    let idioms = fs::read_to_string(&rt, "idioms")?;
+/// Prints a line for each idiom that the file of this name has.
+pub fn print<R: Files + AllocGlobal, W: Write>(
+    rt: &R,
+    alloc: Global,
+    file: &str,
+    out: &mut W,
+) -> Result<(), Failure> {
+    let idioms = fs::read_to_string(rt, file)?;
     for line in idioms.as_str().lines() {
-        let mut words = line.split(" | ");
-        if let (Some(group), Some(name)) = (words.next(), words.next()) {
-            println!(rt; "{}", line_of(&rt, group, name)?)?;
+        if let Some((group, name)) = line.split_once(" | ") {
+            let text = told(rt, alloc, group, name)?;
+            writeln!(out, "{line} | {}", text.as_str().trim_end())?;
         }
     }
     Ok(())
