@@ -1,14 +1,17 @@
 -- What comes of a reader, as items that are taken in turn.
-use Rattle.std.proofs.Common.{◌≡◌, ◌⊎◌, inl, inr, ℕ, Bool, ◌<◌, List, [], ◌∷◌, length, Option, None, Some, IfErr, IfSome, Result, Ok, Err, map, option_map, refl, sym, ap, ◌∙◌, arith}
-use Rattle.std.specs.Prelude.{⊤}
+use Rattle.std.proofs.Common.{◌≡◌, ◌⊎◌, inl, inr, ℕ, Bool, true, ◌<◌, List, [], ◌∷◌, length, Option, None, Some, IfErr, IfSome, Result, Ok, Err, map, option_map, refl, sym, ap, ◌∙◌, arith}
+use Rattle.std.specs.Prelude.{is_some, ⊤}
 use Rattle.plist_base.specs.declared.error.Error.{Error}
-use Rattle.plist_base.specs.Events.{PlainEvent, Item}
+use Rattle.plist_base.specs.declared.event.Event.{Event}
+use Rattle.plist_base.specs.Events.{PlainEvent, Item, event_of}
 use Rattle.plist_base.specs.Faults.{Fault, OutOfMemory, error_kind_of, fault_nowhere, fault_of, kind_of}
 use Rattle.plist_base.proofs.Refusals.{MatchFault-at, MatchFault-weaker}
+use Rattle.plist_base.specs.Sources.{ItemCountsIo}
 use Rattle.plist_binread.specs.Telling.{TellsItem}
+use Rattle.plist_reader.specs.Reader.{GivesIfKnown, HoldsSource}
 use Rattle.plist.specs.Events.{BeginsWithStart}
-use Rattle.plist_commands.specs.Items.{ComesNext, GivesNext}
-use Rattle.plist_commands.specs.Printing.{IsOwnFault}
+use Rattle.plist_commands.specs.Items.{ComesNext, GivesNext, failures_if_held}
+use Rattle.plist_commands.specs.Printing.{CountsReads, IsOwnFault}
 
 abbrev Done : Type 0
 Done = Unit {0}
@@ -38,6 +41,51 @@ pub told_comes : (k l : Option (List ℕ)) (before after : List ℕ → List Ite
 told_comes None l before after fresh item told e h = tt
 told_comes (Some bytes) l before after fresh item told e h =
     (after bytes, ap (option_map after) e, told_next fresh (before bytes) (after bytes) item told h)
+
+-- ---- a reader of either format
+
+-- what came of it
+pub reader_event : (before after : Option (List Item)) (event : Event)
+    → GivesIfKnown before (Some (Ok event)) after
+    → ComesNext {A = Done} before (Some (Ok tt)) (event_of event) after
+reader_event None after event h = tt
+reader_event (Some all) after event h = h
+
+pub reader_none : (before after : Option (List Item)) (last : PlainEvent)
+    → GivesIfKnown before None after → ComesNext {A = Done} before None last after
+reader_none None after last h = tt
+reader_none (Some all) after last (left, is, none) = (left, is, none.0)
+
+pub reader_fault : (before after : Option (List Item)) (error : Error) (last : PlainEvent)
+    → GivesIfKnown before (Some (Err error)) after
+    → ComesNext {A = Done} before (Some (Err error)) last after
+reader_fault None after error last h = tt
+reader_fault (Some all) after error last (left, is, gives) = (
+  left,
+  is,
+  MatchFault-weaker (kind_of (error_kind_of error)) (λ _. tt) (λ _. tt) (λ same. same) gives,
+)
+
+-- its source is held
+module _ {S : Type 0} (failures : S → ℕ) where
+  pub still_held : (old new : Option S) (item : Option (Result Event Error)) → is_some old ≡ true
+      → HoldsSource failures old item new → is_some new ≡ true
+  still_held None new item some h = absurd (cc)
+  still_held (Some source) None item some h = absurd h
+  still_held (Some source) (Some kept) item some h = refl
+
+  pub source_counts : (old new : Option S) (item : Option (Result Event Error))
+      → is_some old ≡ true → HoldsSource failures old item new
+      → ItemCountsIo item (failures_if_held failures old) (failures_if_held failures new)
+  source_counts None new item some h = absurd (cc)
+  source_counts (Some source) None item some h = absurd h
+  source_counts (Some source) (Some kept) item some h = h
+
+  pub source_left : {A : Type 0} (held : Option S) (answer : Result A Error) (before : ℕ)
+      → is_some held ≡ true → CountsReads answer before (failures_if_held failures held)
+      → (left : S) × CountsReads answer before (failures left)
+  source_left None answer before some h = absurd (cc)
+  source_left (Some left) answer before some h = (left, h)
 
 -- ---- the events of a value
 

@@ -1,9 +1,8 @@
 -- What is held of the items that a reader has told.
-use Rattle.std.proofs.Common.{◌≡◌, ◌↔◌, ℕ, Bool, true, false, List, [], ◌∷◌, ◌++◌, Option, Some, None, Result, Ok, Err, IfErr, IfSome, inl, map, refl, sym, ap, ◌∙◌, subst, append-nil}
+use Rattle.std.specs.Prelude.{⊤}
+use Rattle.std.proofs.Common.{◌≡◌, ◌↔◌, ℕ, Bool, true, false, List, [], ◌∷◌, ◌++◌, Option, Some, None, Result, Ok, Err, IfErr, IfSome, inl, map, refl, sym, ap, ◌∙◌, append-nil}
 use Rattle.std.specs.Option.{option_map}
-use Rattle.std.proofs.lemmas.Option.{same_Some, IfSome_then}
 use Rattle.plist_base.specs.declared.error.Error.{Error}
-use Rattle.plist_base.specs.declared.source.Source.{Ghosts}
 use Rattle.plist_base.specs.Bracketing.{bracketing, unhinted, AreAlike, AreWhole, CanContinue}
 use Rattle.plist_base.specs.Events.{PlainEvent, Item}
 use Rattle.plist_base.specs.Faults.{Fault, MatchFault, error_kind_of, kind_of, offset_of}
@@ -11,15 +10,10 @@ use Rattle.plist_base.specs.Trees.{Tree, Leaf, Array, Dictionary}
 use Rattle.plist_base.proofs.Grammar.{alike_last, alike_with, complete_of_whole, continue_alike, whole_alike}
 use Rattle.plist_base.proofs.Refusals.{MatchFault-all}
 use Rattle.plist_base.specs.Writing.{Answer}
-use Rattle.plist_binread.specs.BinaryReader.{is_new, source_of, to_come}
-use Rattle.plist_binread.specs.Telling.{TellsItem, event_told}
 use Rattle.plist_format.specs.Unfolding.{items_of_file}
-use Rattle.plist_binread.specs.declared.counter.DecodeCounter.{Ghosts as CounterGhosts}
-use Rattle.plist_binread.specs.declared.reader.BinaryReader.{BinaryReader}
 use Rattle.plist_binwrite.specs.Keys.{HasKeysOnce}
 use Rattle.plist_binwrite.specs.Pendings.{TellsWhole}
 use Rattle.plist_binwrite.specs.Sending.{Sends}
-use Rattle.plist_reader.specs.declared.format.Format.{Format}
 use Rattle.plist_reader.specs.declared.format.Format.TheVariants as format
 use Rattle.plist_reader.specs.Formats.{format_of}
 use Rattle.plist_reader.specs.Reader.{items_by, items_of_input}
@@ -32,7 +26,8 @@ use Rattle.plist.proofs.Inputs.{all-events, event-more, no-events, stops-there}
 use Rattle.plist.proofs.KeysOnce.{keys-once}
 use Rattle.plist_keyed.proofs.Told.{same_of}
 use Rattle.plist_commands.specs.Printing.{CountsReads}
-use Rattle.plist_commands.specs.Converting.{HoldsTree, AreNoTree, IsDirect, IsNoBinaryTree, SendsRead, items_left, items_of_known}
+use Rattle.plist_commands.specs.Converting.{HoldsTree, AreNoTree, IsDirect, SendsRead, items_of_known}
+use Rattle.plist_commands.specs.Items.{ComesNext, GivesNext}
 
 -- of the items these events were taken, which are alike to those held, and these items are to come
 abbrev TookOf : (all coming : List Item) → (held : List PlainEvent) → Type 0
@@ -51,41 +46,19 @@ taken_none None coming held e h = tt
 taken_none (Some all) coming held e h =
     (all, e, ([], NotBegun, refl, tt, refl, ap (map unhinted) (sym h)))
 
-told_there : {A : Type 0} (k l : Option (List ℕ)) (before after : List ℕ → List Item)
-    (fresh : Bool) (item : Option (Result A Error)) (told : PlainEvent) (left : List Item)
-    → option_map before k ≡ Some left → l ≡ k
-    → IfSome k (λ bytes. TellsItem fresh (before bytes) item told (after bytes))
-    → (next : List Item) × (option_map after l ≡ Some next) × TellsItem fresh left item told next
-told_there None l before after fresh item told left is e h = absurd (cc)
-told_there (Some bytes) l before after fresh item told left is e h = (
-  after bytes,
-  ap (option_map after) e,
-  subst (λ b. TellsItem fresh b item told (after bytes)) (same_Some _ _ is) h,
-)
+-- a call: what was left of all items, what is left now, and what the call gave
+abbrev pub Came : (items now : Option (List Item)) (held : List PlainEvent)
+    (item : Option (Result (Unit {0}) Error)) (told : PlainEvent) → Type 0
+Came items now held item told = IfSome items (λ all.
+    (left : List Item) × (next : List Item) × TookOf all left held × (now ≡ Some next)
+    × GivesNext left item told next)
 
--- a call of a reader: what was left of all items, what is left now, and what the call gave
-abbrev pub Came : {S C : Type 0} {g : Ghosts S} {h : CounterGhosts C} (known : S → Option (List ℕ))
-    (before after : BinaryReader S C g h) (item : Option (Result (Unit {0}) Error))
-    (items : Option (List Item)) (held : List PlainEvent) → Type 0
-Came known before after item items held = IfSome items (λ all.
-    (left : List Item) × (next : List Item) × TookOf all left held
-    × (items_left known after ≡ Some next)
-    × TellsItem (is_new before) left item (event_told after) next)
-
-pub told_next : {S C : Type 0} {g : Ghosts S} {h : CounterGhosts C} (known : S → Option (List ℕ))
-    (before after : BinaryReader S C g h) (item : Option (Result (Unit {0}) Error))
-    (items : Option (List Item)) (held : List PlainEvent)
-    → HasTaken items (items_left known before) held
-    → known (source_of after) ≡ known (source_of before)
-    → IfSome (known (source_of before)) (λ bytes. TellsItem (is_new before) (to_come bytes before)
-    item (event_told after) (to_come bytes after))
-    → Came known before after item items held
-told_next known before after item items held taken same tells =
-    IfSome_then items taken (λ all (left, is, took).
-    let t = told_there (known (source_of before)) (known (source_of after))
-    (λ bytes. to_come bytes before) (λ bytes. to_come bytes after) (is_new before) item
-    (event_told after) left is same tells in
-    (left, t.0, took, t.1, t.2))
+pub came_next : (items before now : Option (List Item)) (held : List PlainEvent)
+    (item : Option (Result (Unit {0}) Error)) (told : PlainEvent)
+    → HasTaken items before held → ComesNext before item told now → Came items now held item told
+came_next None before now held item told taken comes = tt
+came_next (Some all) before now held item told (left, is, took) comes =
+    let (next, to, gives) = rw is at comes in (left, next, took, to, gives)
 
 -- ---- whether the events held are a tree's
 
@@ -130,12 +103,11 @@ module _ (all before : List Item) (held : List PlainEvent) (took : TookOf all be
       )
 
   -- the reader's fault
-  pub took_fault : (fault : Fault)
-      → MatchFault fault.kind (Unit {0}) (Unit {0}) (before ≡ Err fault ∷ [])
-      → IsReadFrom all (Err fault)
-  took_fault fault b =
+  pub took_fault : (after : List Item) (fault : Fault)
+      → MatchFault fault.kind ⊤ ⊤ (before ≡ Err fault ∷ after) → IsReadFrom all (Err fault)
+  took_fault after fault b =
       let (events, u, is, ok, alike, like) = took in
-      stops-there all before [] events u (Err fault) fault ok alike is b refl
+      stops-there all before after events u (Err fault) fault ok alike is b refl
 
   first_of : (e : PlainEvent) (more : List Item) (es : List PlainEvent) → Ok e ∷ more ≡ map Ok es
       → (rest : List PlainEvent) × (es ≡ e ∷ rest)
@@ -182,22 +154,14 @@ module _ (all before : List Item) (held : List PlainEvent) (took : TookOf all be
 
 -- ---- the format
 
-pub no_binary_tree : (known : Option (List ℕ)) → AreNoTree (items_of_known known)
-    → IsNoBinaryTree known
-no_binary_tree None h = tt
-no_binary_tree (Some bytes) h = λ binary. h
-
 -- a binary file's items are those of the input
-pub binary_items : (known given inner : Option (List ℕ)) (found : Format)
-    (coming : List ℕ → List Item) → inner ≡ given → given ≡ known
-    → IfSome known (λ bytes. found ≡ format_of bytes) → found ≡ format.Binary
-    → IfSome given (λ bytes. coming bytes ≡ items_of_file bytes)
+pub binary_items : (known inner : Option (List ℕ)) (coming : List ℕ → List Item) → inner ≡ known
+    → IfSome known (λ bytes. format.Binary ≡ format_of bytes)
+    → IfSome known (λ bytes. coming bytes ≡ items_of_file bytes)
     → option_map coming inner ≡ items_of_known known
-binary_items None given inner found coming d e is binary h = ap (option_map coming) (d ∙ e)
-binary_items (Some bytes) given inner found coming d e is binary h =
-    ap (option_map coming) (d ∙ e)
-    ∙ ap Some (subst (λ k. IfSome k (λ b. coming b ≡ items_of_file b)) e h
-    ∙ ap (λ f. items_by f bytes) (sym binary ∙ is))
+binary_items None inner coming e is h = ap (option_map coming) e
+binary_items (Some bytes) inner coming e is h =
+    ap (option_map coming) e ∙ ap Some (h ∙ ap (λ f. items_by f bytes) is)
 
 -- ---- what goes out
 
@@ -207,7 +171,7 @@ pub not_direct : (known : Option (List ℕ)) (held : List PlainEvent)
     → (repeats ≡ false → ⊥) → IfSome known (λ bytes. IsDirect bytes → ⊥)
 not_direct None held h repeats once repeated = tt
 not_direct (Some bytes) held (_, (t, are, alike)) repeats once repeated =
-    λ (binary, (tree, of, last)).
+    λ (tree, of, last).
     let same : t ≡ tree = same_of (items_of_input bytes) t tree are of in
     repeated ((once t alike).1 ((keys-once t).1 (ap last_wins same ∙ last ∙ sym same)))
 
@@ -231,8 +195,8 @@ counts_sent (Ok value) old new nowhere same = same
 counts_sent (Err error) old new nowhere same =
     MatchFault-all (kind_of (error_kind_of error)) (inl (nowhere, same)) same same
 
--- known bytes are no such file
-pub not_binary : (known : Option (List ℕ)) → IsNoBinaryTree known
+-- known bytes are no such list
+pub not_read : (known : Option (List ℕ)) → AreNoTree (items_of_known known)
     → IfSome known (λ bytes. IsDirect bytes → ⊥)
-not_binary None h = tt
-not_binary (Some bytes) h = λ (binary, (tree, of, last)). h binary tree of
+not_read None h = tt
+not_read (Some bytes) h = λ (tree, of, last). h tree of

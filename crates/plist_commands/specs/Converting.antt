@@ -11,21 +11,15 @@ use Rattle.plist_base.specs.Writing.{Answer}
 use Rattle.plist_binread.specs.BinaryReader.{source_of, to_come}
 use Rattle.plist_binread.specs.declared.counter.DecodeCounter.{Ghosts as CounterGhosts}
 use Rattle.plist_binread.specs.declared.reader.BinaryReader.{BinaryReader}
-use Rattle.plist_binwrite.specs.declared.pending.Pending.{Pending}
 use Rattle.plist_binwrite.specs.Files.{IsFileOf}
-use Rattle.plist_binwrite.specs.Pendings.{CanTake, HoldsNext, events_held, is_whole}
-use Rattle.plist_reader.specs.declared.format.Format.TheVariants.{Binary}
-use Rattle.plist_reader.specs.Formats.{format_of}
 use Rattle.plist_reader.specs.Reader.{items_of_input}
 use Rattle.plist.specs.Inputs.{AreOf, IsReadFrom, IsReadIfKnown}
 use Rattle.plist.specs.LastWins.{last_wins}
 use Rattle.plist.specs.SendingValues.{SendsTree}
 
--- the bytes are a binary file of a tree that is its own last-value form
+-- the bytes are a property list in which no dictionary has a key twice
 abbrev pub IsDirect : List ℕ → Type 0
-IsDirect bytes =
-    (format_of bytes ≡ Binary)
-    × ((tree : Tree) × AreOf (items_of_input bytes) tree × (last_wins tree ≡ tree))
+IsDirect bytes = (tree : Tree) × AreOf (items_of_input bytes) tree × (last_wins tree ≡ tree)
 
 -- the items of known bytes
 abbrev pub items_of_known : (known : Option (List ℕ)) → Option (List Item)
@@ -35,7 +29,7 @@ items_of_known known = option_map items_of_input known
 abbrev pub IsReadAs : (known : Option (List ℕ)) → Result Tree Fault → Type 0
 IsReadAs known answer = IsReadIfKnown (items_of_known known) answer
 
--- nothing went out, and known bytes are no such file
+-- nothing went out, and known bytes are no such list
 abbrev pub LeavesToValue : {W : Type 0} → (known : Option (List ℕ)) → (old new : W) → Type 0
 LeavesToValue known old new = (new ≡ old) × IfSome known (λ bytes. IsDirect bytes → ⊥)
 
@@ -82,8 +76,9 @@ HoldsTree items held =
     × IfSome items (λ all. (tree : Tree) × AreOf all tree × AreAlike held (bracketing tree))
 
 -- the same where the answer is that they are
-abbrev pub FindsTree : (items : Option (List Item)) → Result Bool Error → Pending → Type 0
-FindsTree items answer pending = IfOkIs answer true (HoldsTree items (events_held pending))
+abbrev pub FindsTree : (items : Option (List Item)) → Result Bool Error → (held : List PlainEvent)
+    → Type 0
+FindsTree items answer held = IfOkIs answer true (HoldsTree items held)
 
 -- whatever known bytes have such items, this is so of them
 abbrev pub OfHeld : (held : List PlainEvent) → (Option (List ℕ) → Type 0) → Type 0
@@ -93,20 +88,6 @@ OfHeld held P = (known : Option (List ℕ)) → HoldsTree (items_of_known known)
 abbrev pub IsRefusedFor : {A : Type 0} → (items : Option (List Item)) → Result A Error → Type 0
 IsRefusedFor items answer = IfErr answer (λ error. IsReadIfKnown items (Err (fault_of error)))
 
--- the event can follow those held, and is taken
-abbrev pub Takes : Pending → PlainEvent → Pending → Type 0
-Takes before event after = CanTake before event × HoldsNext before event after
-
--- nothing is held
-abbrev pub IsEmpty : Pending → Type 0
-IsEmpty pending = (events_held pending ≡ []) × (is_whole pending ≡ false)
-
 -- the items are no tree's
 abbrev pub AreNoTree : (items : Option (List Item)) → Type 0
 AreNoTree items = IfSome items (λ all. (tree : Tree) → AreOf all tree → ⊥)
-
--- known bytes are no binary file of a tree
-abbrev pub IsNoBinaryTree : (known : Option (List ℕ)) → Type 0
-IsNoBinaryTree known =
-    IfSome known (λ bytes. format_of bytes ≡ Binary → (tree : Tree)
-    → AreOf (items_of_input bytes) tree → ⊥)

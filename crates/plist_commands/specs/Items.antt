@@ -1,8 +1,11 @@
 -- What gives the items of a property list in turn.
-use Rattle.std.specs.Prelude.{◌≡◌, List, [], ◌∷◌, Option, Some, Result, Ok, Err, IfSome, MatchOption, MatchResult, map, ⊤}
+use Rattle.std.specs.Prelude.{◌≡◌, ℕ, List, [], ◌∷◌, Option, None, Some, Result, Ok, Err, IfSome, MatchOption, MatchResult, map, ⊤}
 use Rattle.plist_base.specs.declared.error.Error.{Error}
+use Rattle.plist_base.specs.declared.source.Source.{Ghosts}
 use Rattle.plist_base.specs.Events.{PlainEvent, Item}
 use Rattle.plist_base.specs.Faults.{MatchFault, error_kind_of, fault_of, kind_of}
+use Rattle.plist_reader.specs.Reader.{source_of, to_come}
+use Rattle.plist_commands.specs.declared.stream.ReaderEvents.{ReaderEvents}
 use Rattle.plist.specs.declared.stream.events.Events.{Events}
 use Rattle.plist.specs.Events.{remaining_events}
 
@@ -19,6 +22,20 @@ abbrev pub ComesNext : {A : Type 0} → (before : Option (List Item)) → Option
     → (told : PlainEvent) → (after : Option (List Item)) → Type 0
 ComesNext before item told after =
     IfSome before (λ all. (left : List Item) × (after ≡ Some left) × GivesNext all item told left)
+
+-- the items that are still to come of a reader whose last event is held
+abbrev pub items_to_come : {S : Type 0} {g : Ghosts S} → (known : S → Option (List ℕ))
+    → ReaderEvents S g → Option (List Item)
+items_to_come known events = to_come known events.reader
+
+-- how many reads of a source failed, if there is one
+abbrev pub failures_if_held : {S : Type 0} → (failures : S → ℕ) → Option S → ℕ
+failures_if_held failures None = 0
+failures_if_held failures (Some source) = failures source
+
+-- the same of its source
+abbrev pub failures_of : {S : Type 0} {g : Ghosts S} → (failures : S → ℕ) → ReaderEvents S g → ℕ
+failures_of failures events = failures_if_held failures (source_of events.reader)
 
 -- the items that the events left of a value are
 abbrev pub items_of_events : Events → Option (List Item)

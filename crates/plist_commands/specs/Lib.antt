@@ -8,3 +8,4 @@ pub mod Commands
 pub mod Failures
 pub mod Archives
 pub mod Converting
+pub mod Holding

@@ -1,17 +1,19 @@
 //! Writes a property list as a binary one.
 
-ghost use Rattle.std.specs.Prelude.{◌≡◌, true, false, IfErr, None};
+ghost use Rattle.std.specs.Prelude.{◌≡◌, true, false, IfErr, IfSome, None};
 ghost use Rattle.plist_base.specs.Bracketing.{AreWhole};
 ghost use Rattle.plist_base.specs.Faults.{offset_of};
-ghost use Rattle.plist_base.specs.Outcomes.{OnlyMemory};
-ghost use Rattle.plist_binread.specs.BinaryReader.{source_of};
-ghost use Rattle.plist_binread.specs.Telling.{event_told};
-ghost use Rattle.plist_binwrite.specs.Pendings.{CanTake, TellsWhole, events_held, is_whole};
-ghost use Rattle.plist_commands.specs.Converting.{AreNoTree, FindsTree, IfOkIs, IsEmpty, IsNoBinaryTree, IsRefusedFor, IsStoppedFor, LeavesToValue, OfHeld, SendsAll, Takes, items_left, items_of_known};
-ghost use Rattle.plist_commands.specs.Printing.{CountsReadsOf, LeavesSource};
+ghost use Rattle.plist_binwrite.specs.Pendings.{events_held, is_whole};
+ghost use Rattle.plist_reader.specs.Formats.{format_of};
+ghost use Rattle.plist_commands.specs.Converting.{AreNoTree, FindsTree, IfOkIs, IsRefusedFor, IsStoppedFor, LeavesToValue, OfHeld, SendsAll, items_of_known};
+ghost use Rattle.plist_commands.specs.Holding.{IsEmpty};
+ghost use Rattle.plist_commands.specs.Printing.{CountsReads};
 ghost use Rattle.plist_commands.specs.declared.convert.Streamed.TheVariants.{NeedsValue, Sent};
 
+use crate::holder::Holder;
+use crate::items::Items;
 use crate::open::open_source;
+use crate::stream::ReaderEvents;
 use plist::{Output, Value};
 use plist_base::{Error, Source};
 use plist_binread::BinaryReader;
@@ -28,91 +30,79 @@ use std::rt::Files;
 pub enum Streamed {
     /// Its file went out.
     Sent,
-    /// Nothing went out: it isn't binary, or no tree whose keys stand once.
+    /// Nothing went out: a key stands twice in a dictionary, or its events are no property list's.
     NeedsValue,
 }
 
-// Before the first event, tells how many different scalars can come, so that room for them grows in
-// larger steps: tables that double as they fill cost a fifth of the time of a large file.
-fn make_room<S: Source>(reader: &BinaryReader<S>, pending: &mut Pending)
-    ensures events { events_held pending.new ≡ events_held pending.old }
-    ensures whole { is_whole pending.new ≡ is_whole pending.old }
-{
-    if pending.events().len() == 0 {
-        pending.expect_scalars(reader.object_count());
-    }
-}
-
-// Holds the event to which a reader went last, or tells that it can't come here.
-fn hold_event<S: Source>(
+// Holds the events that are still to come, and tells whether they are those of a tree.
+fn hold_events<I: Items, H: Holder>(
     alloc: Global,
-    reader: &BinaryReader<S>,
-    pending: &mut Pending,
+    items: &mut I,
+    holder: &mut H,
 ) -> Result<bool, Error>
-    requires told { TellsWhole (is_whole pending.old) (events_held pending.old) }
-    ensures taken { IfOkIs result true (Takes pending.old (event_told reader.now) pending.new) }
-    ensures refused { IfOkIs result false (CanTake pending.old (event_told reader.now) → ⊥) }
-    ensures accepted { IfErr result (λ _. CanTake pending.old (event_told reader.now)) }
-    ensures memory { OnlyMemory result }
-{
-    if pending.is_whole() {
-        return Ok(false);
-    }
-    make_room(reader, pending);
-    match pending.offer(alloc, reader.event()) {
-        Ok(None) => Ok(true),
-        Ok(Some(_)) => Ok(false),
-        Err(error) => Err(error),
-    }
-}
-
-// Holds the events that a reader has still to give, and tells whether they are those of a tree.
-fn hold_events<S: Source>(
-    alloc: Global,
-    reader: &mut BinaryReader<S>,
-    pending: &mut Pending,
-) -> Result<bool, Error>
-    requires empty { IsEmpty pending.old }
+    requires empty { IsEmpty (H.whole holder.old) (H.held holder.old) }
     // The answer.
-    ensures held { FindsTree (items_left S.known reader.old) result pending.new }
-    ensures none { IfOkIs result false (AreNoTree (items_left S.known reader.old)) }
+    ensures held { FindsTree (I.coming items.old) result (H.held holder.new) }
+    ensures none { IfOkIs result false (AreNoTree (I.coming items.old)) }
     // A refusal.
-    ensures refused { IsRefusedFor (items_left S.known reader.old) result }
+    ensures refused { IsRefusedFor (I.coming items.old) result }
     // The state after it.
-    ensures unchanged { S.known (source_of reader.new) ≡ S.known (source_of reader.old) }
-    ensures failures { CountsReadsOf S.failures reader.old result reader.new }
+    ensures failures { CountsReads result (I.failures items.old) (I.failures items.new) }
 {
-    while let Some(item) = reader.advance() {
+    while let Some(item) = items.go_on() {
         match item {
             Ok(()) => {}
             Err(error) => return Err(error),
         }
-        match hold_event(alloc, reader, pending) {
+        match holder.take(alloc, items.event(), items.scalars_expected()) {
             Ok(true) => {}
             Ok(false) => return Ok(false),
             Err(error) => return Err(error),
         }
     }
-    Ok(pending.is_whole())
+    Ok(holder.is_whole())
 }
 
-// Holds the events of a binary file, and tells whether they are those of a tree. The source isn't
-// needed then.
-fn hold_file<S: Source>(alloc: Global, source: S, pending: &mut Pending) -> Result<bool, Error>
-    requires empty { IsEmpty pending.old }
-    ensures held { FindsTree (items_of_known (S.known source)) result pending.new }
-    ensures none { IfOkIs result false (IsNoBinaryTree (S.known source)) }
+// Holds the events of a binary source.
+fn hold_binary<S: Source>(alloc: Global, source: S, pending: &mut Pending) -> Result<bool, Error>
+    requires empty { IsEmpty (is_whole pending.old) (events_held pending.old) }
+    requires binary { IfSome (S.known source) (λ bytes. Format.Binary ≡ format_of bytes) }
+    ensures held { FindsTree (items_of_known (S.known source)) result (events_held pending.new) }
+    ensures none { IfOkIs result false (AreNoTree (items_of_known (S.known source))) }
     ensures refused { IsRefusedFor (items_of_known (S.known source)) result }
-    ensures failures { (left : S) × LeavesSource S.known S.failures source result left }
+    ensures failures { (left : S) × CountsReads result (S.failures source) (S.failures left) }
+{
+    let mut reader = BinaryReader::new(alloc, source);
+    hold_events(alloc, &mut reader, pending)
+}
+
+// Holds the events of a source of any format.
+fn hold_any<S: Source>(alloc: Global, source: S, pending: &mut Pending) -> Result<bool, Error>
+    requires empty { IsEmpty (is_whole pending.old) (events_held pending.old) }
+    ensures held { FindsTree (items_of_known (S.known source)) result (events_held pending.new) }
+    ensures none { IfOkIs result false (AreNoTree (items_of_known (S.known source))) }
+    ensures refused { IsRefusedFor (items_of_known (S.known source)) result }
+    ensures failures { (left : S) × CountsReads result (S.failures source) (S.failures left) }
+{
+    let mut events = ReaderEvents::new(alloc, source);
+    hold_events(alloc, &mut events, pending)
+}
+
+// Holds the events of a source, and tells whether they are those of a tree. The source isn't needed
+// then.
+fn hold_source<S: Source>(alloc: Global, source: S, pending: &mut Pending) -> Result<bool, Error>
+    requires empty { IsEmpty (is_whole pending.old) (events_held pending.old) }
+    ensures held { FindsTree (items_of_known (S.known source)) result (events_held pending.new) }
+    ensures none { IfOkIs result false (AreNoTree (items_of_known (S.known source))) }
+    ensures refused { IsRefusedFor (items_of_known (S.known source)) result }
+    ensures failures { (left : S) × CountsReads result (S.failures source) (S.failures left) }
 {
     let mut source = source;
     match format_of(&mut source) {
-        Ok(Format::Binary) => {}
-        Ok(_) => return Ok(false),
-        Err(error) => return Err(error),
+        Ok(Format::Binary) => hold_binary(alloc, source, pending),
+        Ok(_) => hold_any(alloc, source, pending),
+        Err(error) => Err(error),
     }
-    let mut reader = BinaryReader::new(alloc, source);
-    hold_events(alloc, &mut reader, pending)
 }
 
 // Sends the events of a tree as a file, where no key stands twice in a dictionary.
@@ -138,10 +128,9 @@ fn send_held<W: Write>(alloc: Global, pending: &Pending, writer: &mut W) -> Resu
     }
 }
 
-/// Sends the property list of a binary source as a binary file, without a value, where no key
-/// stands twice in a dictionary. All of the source is read before the first byte goes out, and what
-/// goes out is what [`Value::to_writer_binary`] sends of the value that [`Value::from_reader`]
-/// gives.
+/// Sends the property list of a source as a binary file, without a value, where no key stands twice
+/// in a dictionary. All of the source is read before the first byte goes out, and what goes out is
+/// what [`Value::to_writer_binary`] sends of the value that [`Value::from_reader`] gives.
 ///
 /// # Errors
 /// Those of [`Value::from_reader`], and nothing went out; those of [`Value::to_writer_binary`],
@@ -154,10 +143,11 @@ pub fn convert_binary<S: Source, W: Write>(
     ensures sent { IfOkIs result Sent (SendsAll W.contents (S.known source) writer.old writer.new) }
     ensures left { IfOkIs result NeedsValue (LeavesToValue (S.known source) writer.old writer.new) }
     ensures refused { IsStoppedFor W.contents (S.known source) result writer.old writer.new }
-    ensures failures { (left : S) × LeavesSource S.known S.failures source result left }
+    // `left` is the source as the call left it
+    ensures failures { (left : S) × CountsReads result (S.failures source) (S.failures left) }
 {
     let mut pending = Pending::new(alloc);
-    match hold_file(alloc, source, &mut pending) {
+    match hold_source(alloc, source, &mut pending) {
         Ok(true) => send_held(alloc, &pending, writer),
         Ok(false) => Ok(Streamed::NeedsValue),
         Err(error) => Err(error),

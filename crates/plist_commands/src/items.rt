@@ -40,6 +40,9 @@ pub(crate) trait Items {
     /// The event that came last.
     fn event(&self) -> Event<'_>
         ensures { event_of result ≡ last self.now };
+
+    /// How many different scalars can come, where the source has told that, else 0.
+    fn scalars_expected(&self) -> usize;
 }
 
 /// The same event, whose text or data is lent.
@@ -86,5 +89,9 @@ impl<S: Source> Items for BinaryReader<S> {
     #[inline(always)]
     fn event(&self) -> Event<'_> {
         BinaryReader::event(self)
+    }
+
+    fn scalars_expected(&self) -> usize {
+        self.object_count()
     }
 }

@@ -8,12 +8,14 @@ pub mod callers;
 mod commands;
 mod convert;
 mod failure;
+mod holder;
 mod items;
 mod keyed;
 mod lines;
 mod messages;
 mod open;
 mod print;
+mod stream;
 mod values;
 mod words;
 

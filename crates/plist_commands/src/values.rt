@@ -49,6 +49,10 @@ impl<'a> Items for ValueEvents<'a> {
     fn event(&self) -> Event<'_> {
         lend(&self.last)
     }
+
+    fn scalars_expected(&self) -> usize {
+        0
+    }
 }
 
 /// Prints the events of a value, each on a line of its own, and flushes the writer at the end.

@@ -109,15 +109,15 @@ fn an_integer_is_no_key(rt: HostRuntime) {
     expect_missing(&rt, "of_integer_key");
 }
 
-// What is sent without a value goes out as it is, and a flush behind it.
-fn expect_sent(rt: &(impl Abort + AllocGlobal), bytes: &[u8]) {
+// What is sent without a value is this, with a flush behind it.
+fn expect_sent(rt: &(impl Abort + AllocGlobal), bytes: &[u8], wanted: &[u8]) {
     let mut writer = sound(rt);
     let done = must(rt, convert_binary(rt.alloc(), bytes, &mut writer));
     assert!(rt; matches!(done, Streamed::Sent));
-    expect_taken(rt, &writer, bytes, bytes.len() as u64 + 1, bytes.len());
+    expect_taken(rt, &writer, wanted, wanted.len() as u64 + 1, wanted.len());
 }
 
-// Anything else leaves the writer.
+// What needs a value leaves the writer.
 fn expect_left(rt: &(impl Abort + AllocGlobal), bytes: &[u8]) {
     let mut writer = sound(rt);
     let done = must(rt, convert_binary(rt.alloc(), bytes, &mut writer));
@@ -127,10 +127,12 @@ fn expect_left(rt: &(impl Abort + AllocGlobal), bytes: &[u8]) {
 
 #[test]
 fn tells_how_it_was_converted(rt: HostRuntime) {
-    expect_sent(&rt, CONVERTED);
-    expect_sent(&rt, EMPTY);
+    expect_sent(&rt, CONVERTED, CONVERTED);
+    expect_sent(&rt, EMPTY, EMPTY);
+    expect_sent(&rt, SETTINGS, CONVERTED);
     expect_left(&rt, REPEATED);
-    expect_left(&rt, SETTINGS);
+    expect_left(&rt, b"{ a = 1; a = 2; }");
+    expect_left(&rt, b"( a");
 }
 
 #[test]

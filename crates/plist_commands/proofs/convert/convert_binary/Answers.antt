@@ -1,5 +1,5 @@
 use Rattle.std.proofs.Common.{refl}
-use Rattle.plist_commands.proofs.Streaming.{counts_sent, not_binary}
+use Rattle.plist_commands.proofs.Streaming.{counts_sent, not_read}
 use Rattle.plist_commands.proofs.convert.convert_binary.Goals as goal
 
 pub send_held-requires : goal.send_held-requires
@@ -22,12 +22,12 @@ returns-in-Ok-true-clause-refused g c =
 
 pub returns-in-Ok-true-clause-failures : goal.returns-in-Ok-true-clause-failures
 returns-in-Ok-true-clause-failures g c =
-    let (left, (known, same)) = c.in-Ok-true.ensures.failures in
-    (left, (known, counts_sent c.send_held.result _ _ c.send_held.ensures.nowhere same))
+    let (left, same) = c.in-Ok-true.ensures.failures in
+    (left, counts_sent c.send_held.result _ _ c.send_held.ensures.nowhere same)
 
 pub returns-in-Ok-false-clause-left : goal.returns-in-Ok-false-clause-left
 returns-in-Ok-false-clause-left g c = λ e. (
   refl,
-  not_binary (g.S.Source.known c.args.source)
+  not_read (g.S.Source.known c.args.source)
       (c.in-Ok-false.ensures.none c.in-Ok-false.field-0-test),
 )

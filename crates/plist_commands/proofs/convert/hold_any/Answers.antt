@@ -1,0 +1,31 @@
+use Rattle.std.proofs.Common.{false, subst}
+use Rattle.plist_reader.specs.Reader.{source_of}
+use Rattle.plist_binwrite.specs.Pendings.{events_held}
+use Rattle.plist_commands.specs.Converting.{AreNoTree, FindsTree, IfOkIs, IsRefusedFor}
+use Rattle.plist_commands.specs.Items.{failures_of}
+use Rattle.plist_commands.specs.Printing.{CountsReads}
+use Rattle.plist_commands.proofs.Coming.{source_left}
+use Rattle.plist_commands.proofs.convert.hold_any.Goals as goal
+
+pub returns-clause-held : goal.returns-clause-held
+returns-clause-held g c =
+    subst (λ items. FindsTree items c.hold_events.result (events_held c.hold_events.new.holder))
+    c.new-events.ensures.items c.hold_events.ensures.held
+
+pub returns-clause-none : goal.returns-clause-none
+returns-clause-none g c =
+    subst (λ items. IfOkIs c.hold_events.result false (AreNoTree items)) c.new-events.ensures.items
+    c.hold_events.ensures.none
+
+pub returns-clause-refused : goal.returns-clause-refused
+returns-clause-refused g c =
+    subst (λ items. IsRefusedFor items c.hold_events.result) c.new-events.ensures.items
+    c.hold_events.ensures.refused
+
+pub returns-clause-failures : goal.returns-clause-failures
+returns-clause-failures g c =
+    source_left g.S.Source.failures (source_of c.hold_events.new.items.reader)
+    c.hold_events.result (g.S.Source.failures c.args.source) c.hold_events.new.items.held
+    (subst (λ n. CountsReads c.hold_events.result n
+    (failures_of g.S.Source.failures c.hold_events.new.items)) c.new-events.ensures.failures
+    c.hold_events.ensures.failures)

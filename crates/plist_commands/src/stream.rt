@@ -1,0 +1,75 @@
+//! The items of a source of any format, the last of which is held.
+
+ghost use Rattle.std.specs.Prelude.{◌≡◌, true};
+ghost use Rattle.std.proofs.Props.{props};
+ghost use Rattle.std.specs.Option.{is_some};
+ghost use Rattle.plist_reader.specs.Reader.{source_of};
+
+use crate::items::{Items, lend};
+use plist_base::{Error, Event, OwnedEvent, Source};
+use plist_reader::Reader;
+use std::alloc::Global;
+
+/// The events of a source of either format, the last of which is held.
+#[derive(Drop)]
+pub(crate) struct ReaderEvents<S: Source> {
+    reader: Reader<S>,
+    last: OwnedEvent,
+    ghost held: { is_some (source_of reader) ≡ true } by { Prim.hlevel props },
+}
+
+impl<S: Source> ReaderEvents<S> {
+    ghost use Rattle.std.specs.Prelude.{◌≡◌};
+    ghost use Rattle.plist_commands.specs.Items.{failures_of, items_to_come};
+    ghost use Rattle.plist_commands.specs.Converting.{items_of_known};
+
+    /// None has been asked for.
+    pub(crate) fn new(alloc: Global, source: S) -> Self
+        ensures items { items_to_come S.known result ≡ items_of_known (S.known source) }
+        ensures failures { failures_of S.failures result ≡ S.failures source }
+    {
+        ReaderEvents {
+            reader: Reader::new(alloc, source),
+            last: Event::EndCollection,
+        }
+    }
+}
+
+/// What its source's bytes are isn't told.
+impl<S: Source> Items for ReaderEvents<S> {
+    ghost use Rattle.std.specs.Prelude.{None};
+    ghost use Rattle.plist_base.specs.Events.{event_of};
+    ghost use Rattle.plist_reader.specs.Reader.{steps_in_state};
+    ghost use Rattle.plist_commands.specs.Items.{failures_of, items_to_come};
+
+    ghost coming = { items_to_come S.known };
+
+    ghost last = { λ s. event_of s.last };
+
+    ghost known = { λ _. None };
+
+    ghost failures = { failures_of S.failures };
+
+    ghost gives = { λ _. Unit {0} };
+
+    ghost steps = { λ s. steps_in_state s.reader.state };
+
+    fn go_on(&mut self) -> Option<Result<(), Error>> {
+        match self.reader.next() {
+            None => None,
+            Some(Ok(event)) => {
+                self.last = event;
+                Some(Ok(()))
+            }
+            Some(Err(error)) => Some(Err(error)),
+        }
+    }
+
+    fn event(&self) -> Event<'_> {
+        lend(&self.last)
+    }
+
+    fn scalars_expected(&self) -> usize {
+        0
+    }
+}
