@@ -1,15 +1,14 @@
 -- What is held of the items that a reader has told.
-use Rattle.std.proofs.Common.{◌≡◌, ◌↔◌, ℕ, Bool, true, false, List, [], ◌∷◌, ◌++◌, Option, Some, None, Result, Ok, Err, IfErr, IfSome, inl, map, refl, sym, ap, ◌∙◌, subst, append-nil}
+use Rattle.std.proofs.Common.{◌≡◌, ◌↔◌, ℕ, Bool, true, false, List, [], ◌∷◌, ◌++◌, Option, Some, None, Result, Ok, Err, IfSome, map, refl, sym, ap, ◌∙◌, subst, append-nil}
 use Rattle.std.specs.Option.{option_map}
 use Rattle.std.proofs.lemmas.Option.{same_Some, IfSome_then}
 use Rattle.plist_base.specs.declared.error.Error.{Error}
 use Rattle.plist_base.specs.declared.source.Source.{Ghosts}
 use Rattle.plist_base.specs.Bracketing.{bracketing, unhinted, AreAlike, AreWhole, CanContinue}
 use Rattle.plist_base.specs.Events.{PlainEvent, Item}
-use Rattle.plist_base.specs.Faults.{Fault, MatchFault, error_kind_of, kind_of, offset_of}
+use Rattle.plist_base.specs.Faults.{Fault, MatchFault}
 use Rattle.plist_base.specs.Trees.{Tree, Leaf, Array, Dictionary}
 use Rattle.plist_base.proofs.Grammar.{alike_last, alike_with, complete_of_whole, continue_alike, whole_alike}
-use Rattle.plist_base.proofs.Refusals.{MatchFault-all}
 use Rattle.plist_base.specs.Writing.{Answer}
 use Rattle.plist_binread.specs.BinaryReader.{is_new, source_of, to_come}
 use Rattle.plist_binread.specs.Telling.{TellsItem, event_told}
@@ -31,7 +30,6 @@ use Rattle.plist.proofs.Gathered.{sends_tree}
 use Rattle.plist.proofs.Inputs.{all-events, event-more, no-events, stops-there}
 use Rattle.plist.proofs.KeysOnce.{keys-once}
 use Rattle.plist_keyed.proofs.Told.{same_of}
-use Rattle.plist_commands.specs.Printing.{CountsReads}
 use Rattle.plist_commands.specs.Converting.{HoldsTree, AreNoTree, IsDirect, IsNoBinaryTree, SendsRead, items_left, items_of_known}
 
 -- of the items these events were taken, which are alike to those held, and these items are to come
@@ -223,13 +221,6 @@ sends_read (Some bytes) held (_, (t, are, alike)) contents answer old new once s
   (t, are, sym ((keys-once t).0 (once t alike))),
   sends_tree t held alike contents old new answer sent,
 )
-
--- the source's count of failures, where only the sending can have failed
-pub counts_sent : {A : Type 0} (answer : Result A Error) (old new : ℕ)
-    → IfErr answer (λ error. offset_of error ≡ None) → new ≡ old → CountsReads answer old new
-counts_sent (Ok value) old new nowhere same = same
-counts_sent (Err error) old new nowhere same =
-    MatchFault-all (kind_of (error_kind_of error)) (inl (nowhere, same)) same same
 
 -- known bytes are no such file
 pub not_binary : (known : Option (List ℕ)) → IsNoBinaryTree known

@@ -8,7 +8,8 @@ ghost use Rattle.plist_binread.specs.BinaryReader.{source_of};
 ghost use Rattle.plist_binread.specs.Telling.{event_told};
 ghost use Rattle.plist_binwrite.specs.Pendings.{CanTake, TellsWhole, events_held, is_whole};
 ghost use Rattle.plist_commands.specs.Converting.{AreNoTree, FindsTree, IfOkIs, IsEmpty, IsNoBinaryTree, IsRefusedFor, IsStoppedFor, LeavesToValue, OfHeld, SendsAll, Takes, items_left, items_of_known};
-ghost use Rattle.plist_commands.specs.Printing.{CountsReadsOf, LeavesSource};
+ghost use Rattle.plist_commands.specs.Printing.{CountsReadsOf};
+ghost use Rattle.plist_commands.specs.Runs.{ConvertsSource, HoldsRun, ReadsSource};
 ghost use Rattle.plist_commands.specs.declared.convert.Streamed.TheVariants.{NeedsValue, Sent};
 
 use crate::open::open_source;
@@ -76,6 +77,8 @@ fn hold_events<S: Source>(
     // The answer.
     ensures held { FindsTree (items_left S.known reader.old) result pending.new }
     ensures none { IfOkIs result false (AreNoTree (items_left S.known reader.old)) }
+    ensures answers { HoldsRun S.known S.failures reader.old result reader.new
+        (events_held pending.new) }
     // A refusal.
     ensures refused { IsRefusedFor (items_left S.known reader.old) result }
     // The state after it.
@@ -102,8 +105,8 @@ fn hold_file<S: Source>(alloc: Global, source: S, pending: &mut Pending) -> Resu
     requires empty { IsEmpty pending.old }
     ensures held { FindsTree (items_of_known (S.known source)) result pending.new }
     ensures none { IfOkIs result false (IsNoBinaryTree (S.known source)) }
+    ensures answers { ReadsSource S.known S.failures source result (events_held pending.new) }
     ensures refused { IsRefusedFor (items_of_known (S.known source)) result }
-    ensures failures { (left : S) × LeavesSource S.known S.failures source result left }
 {
     let mut source = source;
     match format_of(&mut source) {
@@ -153,8 +156,8 @@ pub fn convert_binary<S: Source, W: Write>(
 ) -> Result<Streamed, Error>
     ensures sent { IfOkIs result Sent (SendsAll W.contents (S.known source) writer.old writer.new) }
     ensures left { IfOkIs result NeedsValue (LeavesToValue (S.known source) writer.old writer.new) }
+    ensures answers { ConvertsSource S.known S.failures source result }
     ensures refused { IsStoppedFor W.contents (S.known source) result writer.old writer.new }
-    ensures failures { (left : S) × LeavesSource S.known S.failures source result left }
 {
     let mut pending = Pending::new(alloc);
     match hold_file(alloc, source, &mut pending) {

@@ -5,6 +5,7 @@ use Rattle.plist_base.proofs.Refusals.{MatchFault-weaker}
 use Rattle.plist_binread.specs.Telling.{event_told}
 use Rattle.plist_binwrite.specs.Pendings.{events_held, is_whole}
 use Rattle.plist_commands.specs.Converting.{items_left}
+use Rattle.plist_commands.proofs.Runs.{held_faulted, held_more, held_none, held_refused, held_stopped, held_whole}
 use Rattle.plist_commands.proofs.Streaming.{Came, told_next, tells_none, tells_next, taken_none, took_event, took_fault, goes_on, held_at_end, whole_at_end}
 use Rattle.plist_commands.proofs.convert.hold_events.Goals as goal
 use Rattle.plist_commands.proofs.convert.hold_events.Goals.{After-advance}
@@ -23,6 +24,7 @@ loop-item-init g c = record {
   failures = refl;
   told = tells_none _ _ c.requires.empty.1 c.requires.empty.0;
   so_far = taken_none _ _ _ refl c.requires.empty.0;
+  ran = held_none g.S.Source.known g.S.Source.failures _ _ c.requires.empty.0;
 }
 
 pub returns-in-Err-clause-refused : goal.returns-in-Err-clause-refused
@@ -33,6 +35,26 @@ returns-in-Err-clause-refused g c =
     (λ all (left, next, took, to, t). took_fault all left _ took (fault_of c.in-Err.error)
     (MatchFault-weaker (kind_of (error_kind_of c.in-Err.error)) (λ _. tt) (λ _. tt) (λ b. b)
     (rw is at t).1))
+
+pub returns-in-Err-clause-answers : goal.returns-in-Err-clause-answers
+returns-in-Err-clause-answers g c =
+    let is : c.advance.result ≡ Some (Err c.in-Err.error) = search rules in
+    held_faulted g.S.Source.known g.S.Source.failures _ _ _ _ (events_held c.loop-item.pending)
+    c.in-Err.error
+    c.loop-item.invariant.ran (rw is at c.advance.ensures)
+
+pub returns-in-Err-hold_event-clause-answers : goal.returns-in-Err-hold_event-clause-answers
+returns-in-Err-hold_event-clause-answers g c =
+    let is : c.advance.result ≡ Some (Ok c.in-Ok.field-0) = search rules in
+    held_stopped g.S.Source.known g.S.Source.failures _ _ _ _ (events_held c.loop-item.pending)
+    c.in-Err-hold_event.error c.loop-item.invariant.ran (rw is at c.advance.ensures)
+    c.in-Err-hold_event.ensures.memory
+
+pub returns-in-Ok-false-clause-answers : goal.returns-in-Ok-false-clause-answers
+returns-in-Ok-false-clause-answers g c =
+    let is : c.advance.result ≡ Some (Ok c.in-Ok.field-0) = search rules in
+    held_refused g.S.Source.known g.S.Source.failures _ _ _ _ _ c.loop-item.invariant.ran
+    (rw is at c.advance.ensures)
 
 pub returns-in-Ok-false-clause-none : goal.returns-in-Ok-false-clause-none
 returns-in-Ok-false-clause-none g c = λ e.
@@ -57,6 +79,8 @@ loop-item-preserved g c =
           (came g (goal.at.loop-item-preserved g c).After-advance)
           (λ all (left, next, took, to, t).
           (next, to, took_event all left _ took next _ _ (rw is at t) taken.0 taken.1.0));
+      ran = held_more g.S.Source.known g.S.Source.failures _ _ _ _ _ c.loop-item.invariant.ran
+          (rw is at c.advance.ensures) taken.1.0;
     }
 
 pub returns-clause-held : goal.returns-clause-held
@@ -77,3 +101,9 @@ returns-clause-none g c = λ e.
     (λ all (left, next, took, to, t) tree of.
     (rw (sym c.is_whole.ensures ∙ e) at c.loop-item.invariant.told)
     (whole_at_end all left _ took (rw is at t).0 tree of))
+
+pub returns-clause-answers : goal.returns-clause-answers
+returns-clause-answers g c =
+    let is : c.advance.result ≡ None = search rules in
+    held_whole g.S.Source.known g.S.Source.failures _ _ _ _ _ c.loop-item.invariant.ran
+    (rw is at c.advance.ensures)

@@ -1,8 +1,8 @@
-use Rattle.std.proofs.Common.{◌≡◌, false, rules, ap, ◌∙◌, subst}
+use Rattle.std.proofs.Common.{◌≡◌, false, inl, inr, rules, ap, subst}
 use Rattle.std.proofs.lemmas.Result.{IfOk-weaker}
-use Rattle.plist_binread.specs.BinaryReader.{source_of, to_come}
+use Rattle.plist_binread.specs.BinaryReader.{to_come}
 use Rattle.plist_commands.specs.Converting.{AreNoTree, FindsTree, IsRefusedFor, items_left, items_of_known}
-use Rattle.plist_commands.specs.Printing.{CountsReads}
+use Rattle.plist_commands.proofs.Runs.{io_rises}
 use Rattle.plist_commands.proofs.Streaming.{binary_items, no_binary_tree}
 use Rattle.plist_commands.proofs.convert.hold_file.Goals as goal
 use Rattle.plist_commands.proofs.convert.hold_file.Goals.{After-hold_events}
@@ -35,15 +35,30 @@ returns-clause-refused g c =
     (same_items g (goal.at.returns-clause-refused g c).After-hold_events)
     c.hold_events.ensures.refused
 
-pub returns-clause-failures : goal.returns-clause-failures
-returns-clause-failures g c = (
-  source_of c.hold_events.new.reader,
-  (
-    c.hold_events.ensures.unchanged
-        ∙ ap g.S.Source.known c.new-reader.ensures.source ∙ c.format_of.ensures.unchanged,
-    subst (λ n. CountsReads c.hold_events.result n
-        (g.S.Source.failures (source_of c.hold_events.new.reader)))
-        (ap g.S.Source.failures c.new-reader.ensures.source ∙ c.in-Ok-Binary.ensures.failures)
-        c.hold_events.ensures.failures,
+pub returns-clause-answers : goal.returns-clause-answers
+returns-clause-answers g c = (
+  c.format_of.new.source,
+  c.format_of.ensures.unchanged,
+  inr (
+    c.in-Ok-Binary.ensures.failures,
+    (
+      c.new-reader.result,
+      c.hold_events.new.reader,
+      c.new-reader.ensures.source,
+      c.new-reader.ensures.new,
+      c.hold_events.ensures.answers,
+      c.hold_events.ensures.failures,
+    ),
+  ),
+)
+
+pub returns-in-Err-clause-answers : goal.returns-in-Err-clause-answers
+returns-in-Err-clause-answers g c = (
+  c.format_of.new.source,
+  c.format_of.ensures.unchanged,
+  inl (
+    c.in-Err.ensures.refused,
+    c.in-Err.ensures.offset,
+    io_rises c.in-Err.error _ _ c.in-Err.ensures.refused c.in-Err.ensures.failures,
   ),
 )
