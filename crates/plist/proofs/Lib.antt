@@ -5,6 +5,7 @@ pub mod Itself
 pub mod Starts
 pub mod Collected
 pub mod Inputs
+pub mod ReadFaults
 pub mod Lighter
 pub mod Limiting
 pub mod KeysOnce

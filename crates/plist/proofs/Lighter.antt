@@ -1,5 +1,5 @@
 -- A tree's last-value form has no more events than the tree, and its texts and data no more bytes.
-use Rattle.std.proofs.Common.{◌≡◌, ℕ, ◌+◌, ◌≤◌, Bool, true, false, List, [], ◌∷◌, ◌++◌, length, Option, None, Some, refl, sym, ap, ◌∙◌, subst, arith, bytes_eq, if◌then◌else◌}
+use Rattle.std.proofs.Common.{◌≡◌, ℕ, ◌+◌, ◌≤◌, Bool, true, false, List, [], ◌∷◌, ◌++◌, length, Option, None, Some, refl, arith, bytes_eq, if◌then◌else◌}
 use Rattle.plist_base.specs.declared.limits.Limits.{Limits}
 use Rattle.plist_base.specs.Events.{PlainEvent, Single, StartArray, StartDictionary, EndCollection}
 use Rattle.plist_base.specs.Limits.{HasBytesWithin, bytes_in, total_bytes}

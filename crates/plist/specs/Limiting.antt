@@ -1,15 +1,10 @@
 -- What limits say of a value.
-use Rattle.std.specs.Prelude.{◌≡◌, ℕ, ◌-◌, ◌≤◌, List, length, Option, Result, ⊤, option_map}
-use Rattle.plist_base.specs.declared.limited.Limited.{Limited}
+use Rattle.std.specs.Prelude.{◌≡◌, ℕ, ◌-◌, ◌≤◌, List, length, ⊤}
 use Rattle.plist_base.specs.declared.limits.Limits.{Limits}
-use Rattle.plist_base.specs.Events.{Item, PlainEvent, event_of}
-use Rattle.plist_base.specs.Faults.{Fault}
-use Rattle.plist_base.specs.Limits.{GivesLimited, HasBytesWithin, come_of, inner_of, limited_items}
+use Rattle.plist_base.specs.Events.{PlainEvent}
+use Rattle.plist_base.specs.Limits.{HasBytesWithin}
 use Rattle.plist_base.specs.Trees.{Tree, Leaf, Array, Dictionary, Trees, NoTrees, TreeAnd, Members, NoMembers, MemberAnd}
 use Rattle.plist_base.specs.Bracketing.{bracketing}
-use Rattle.plist_reader.specs.declared.reader.Reader.{Reader}
-use Rattle.plist_reader.specs.Reader.{Gives, limited_input, to_come}
-use Rattle.plist.specs.Collecting.{Collects}
 use Rattle.plist.specs.LastWins.{last_wins}
 
 -- at most so many collections of a tree stand within one another
@@ -40,13 +35,3 @@ IsWithinLimits limits tree =
     NestsWithin tree limits.depth
     × AreWithin limits (bracketing tree)
     × ((whole : Tree) × (tree ≡ last_wins whole) × AreWithin limits (bracketing whole))
-
--- the answer comes of the run, under these limits, of a reader that has all items of this source to
--- give that they let come
-abbrev pub IsReadUnder : {R : Type 0} → Limits
-    → (known : R → Option (List ℕ)) (failed : R → ℕ) (source : R) → Result Tree Fault → Type 0
-IsReadUnder {R} limits known failed source answer =
-    (limited : Limited (Reader R (record { known = known; failures = failed })))
-    × (come_of limited ≡ limited_items limits)
-    × (to_come known (inner_of limited) ≡ option_map (limited_input limits) (known source))
-    × Collects event_of (GivesLimited (Gives known failed)) limited answer

@@ -1,12 +1,13 @@
 //! Values in files.
 
-ghost use Rattle.std.specs.Prelude.{IfOk, IsNone, IsSome, OnOk};
+ghost use Rattle.std.specs.Prelude.{IfOk, IsNone, IsSome, OnOk, false, true};
 ghost use Rattle.std.specs.Io.{WritesAtMost};
 ghost use Rattle.std.specs.Io.KnownBytes.{WriteAppends};
 ghost use Rattle.plist_base.specs.Outcomes.{IfFault, OnlyDevice};
 ghost use Rattle.plist.specs.Collecting.{built_tree};
 ghost use Rattle.plist.specs.Limiting.{IsWithinLimits};
 ghost use Rattle.plist.specs.Outputs.{WritesFirst, contents_of};
+ghost use Rattle.plist.specs.ReadBy.{ComesOfFile, ComesOfFileUnder, IsFileFault};
 ghost use Rattle.plist.specs.SendingValues.{SendsValue};
 ghost use Rattle.plist.specs.Stored.{IsUnstored};
 ghost use Rattle.plist.specs.Views.{tree_of};
@@ -61,7 +62,9 @@ impl<'a, R: Files> Write for Output<'a, R> {
 
 impl<'a, R: Files> Output<'a, R> {
     /// The file of this name, which nothing is done to yet.
-    pub fn new(rt: &'a R, path: &'a str) -> Self {
+    pub fn new(rt: &'a R, path: &'a str) -> Self
+        ensures fresh { IsNone result.file }
+    {
         Output {
             rt,
             path,
@@ -87,11 +90,14 @@ impl<'a, R: Files> Output<'a, R> {
         }
     }
 
-    // Writes a file of the value and has it stored. Where memory or size refuse, there is no file
-    // now where there was none.
-    fn store(&mut self, alloc: Global, value: &Value) -> Result<(), Error>
-        ensures { SendsValue (λ output. contents_of R.File.contents output.file) value.now result
-            self.old self.new }
+    /// Writes a file of the value and has it stored.
+    ///
+    /// # Errors
+    ///
+    /// Those of [`Value::to_writer_binary`]. Where memory or size refuse, no file is created or cut.
+    pub fn store(&mut self, alloc: Global, value: &Value) -> Result<(), Error>
+        ensures sent { SendsValue (λ output. contents_of R.File.contents output.file) value.now
+            result self.old self.new }
     {
         value.to_writer_binary(alloc, self)?;
         self.sync()
@@ -107,7 +113,10 @@ impl Value {
     /// - `Io` without an offset where the file can't be opened. [`Error::as_io`] has the reason,
     ///   which the fault's text leaves out.
     /// - Those of [`Value::from_reader`].
-    pub fn from_file<R: Files>(rt: &R, alloc: Global, path: &str) -> Result<Value, Error> {
+    pub fn from_file<R: Files>(rt: &R, alloc: Global, path: &str) -> Result<Value, Error>
+        ensures read { ComesOfFile R.File (built_tree result) }
+        ensures fault { IfFault result (IsFileFault false) }
+    {
         match fs::open(rt, path) {
             Ok(file) => Value::from_reader(alloc, Seeking::with_windows(alloc, file)),
             Err(failure) => Err(ErrorKind::Io(failure).without_position()),
@@ -127,6 +136,8 @@ impl Value {
         path: &str,
         limits: Limits,
     ) -> Result<Value, Error>
+        ensures read { ComesOfFileUnder R.File limits (built_tree result) }
+        ensures fault { IfFault result (IsFileFault true) }
         ensures within { IfOk (built_tree result) (IsWithinLimits limits) }
     {
         match fs::open(rt, path) {

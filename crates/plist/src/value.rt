@@ -1,20 +1,20 @@
 //! Values of property lists.
 
-ghost use Rattle.std.specs.Prelude.{◌≡◌, ◌+◌, IfOk, IfSome, option_map, string_bytes};
+ghost use Rattle.std.specs.Prelude.{◌≡◌, ◌+◌, IfOk, IfSome, false, option_map, string_bytes, true};
 ghost use Rattle.plist_base.specs.Bracketing.{bracketing};
 ghost use Rattle.plist.specs.SendingValues.{SendsValue};
 ghost use Rattle.plist.specs.Collecting.{built_tree};
 ghost use Rattle.plist.specs.Contents.{array_in, data_in, dictionary_in, text_in};
 ghost use Rattle.plist.specs.Inputs.{AnswersOf, CollectsOf, ReadsItems, TellsTrees};
 ghost use Rattle.plist_pairs.specs.Bulk.{Ends};
-ghost use Rattle.plist.specs.ReadBy.{IsReadAsAscii, ComesOfReader, items_of_text};
+ghost use Rattle.plist.specs.ReadBy.{ComesOfReader, ComesUnderLimits, IsReadAsAscii, IsReadingFault, items_of_text};
 ghost use Rattle.plist.specs.ReadingBack.{ReadsBackIn};
 ghost use Rattle.plist_ascii.specs.Texts.{ends_bare, lax};
 ghost use Rattle.plist_reader.specs.Reader.{items_of_input, limited_input};
-ghost use Rattle.plist_base.specs.Outcomes.{OnlyMemory};
+ghost use Rattle.plist_base.specs.Outcomes.{IfFault, OnlyMemory};
 ghost use Rattle.plist_base.specs.Trees.{Leaf, String};
 ghost use Rattle.plist.specs.LastWins.{AreLastValues, TreePairs, last_values, last_wins};
-ghost use Rattle.plist.specs.Limiting.{IsReadUnder, IsWithinLimits};
+ghost use Rattle.plist.specs.Limiting.{IsWithinLimits};
 ghost use Rattle.plist.specs.Events.{remaining_events};
 ghost use Rattle.plist.specs.Variants.{value_with};
 ghost use Rattle.plist.specs.Views.{item_trees, kind_of_tree, pair_trees, tree_of};
@@ -222,6 +222,7 @@ impl Value {
     pub fn from_reader<R: Source>(alloc: Global, source: R) -> Result<Value, Error>
         ensures value { ReadsItems items_of_input (R.known source) result }
         ensures read { ComesOfReader R.known R.failures source (built_tree result) }
+        ensures fault { IfFault result (IsReadingFault false) }
         ensures reads_back { ReadsBackIn (R.known source) result }
     {
         let reader = Reader::new(alloc, source);
@@ -245,8 +246,9 @@ impl Value {
         limits: Limits,
     ) -> Result<Value, Error>
         ensures value { ReadsItems (limited_input limits) (R.known source) result }
+        ensures read { ComesUnderLimits limits R.known R.failures source (built_tree result) }
+        ensures fault { IfFault result (IsReadingFault true) }
         ensures within { IfOk (built_tree result) (IsWithinLimits limits) }
-        ensures read { IsReadUnder limits R.known R.failures source (built_tree result) }
     {
         let reader = Reader::with_limits(alloc, source, limits);
         collect(alloc, Limited::new(reader, limits))

@@ -65,6 +65,7 @@ impl Pending {
     }
 
     // Holds an event that can follow those held, where this is what it does to the stack.
+    #[inline(always)]
     fn hold(&mut self, alloc: Global, event: Event<'_>, change: Change) -> Result<(), Error>
         requires still { is_whole self.old ≡ false }
         requires accepted { CanTake self.old (event_of event) }

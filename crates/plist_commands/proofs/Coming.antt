@@ -11,7 +11,7 @@ use Rattle.plist_binread.specs.Telling.{TellsItem}
 use Rattle.plist_reader.specs.Reader.{GivesIfKnown, HoldsSource}
 use Rattle.plist.specs.Events.{BeginsWithStart}
 use Rattle.plist_commands.specs.Items.{ComesNext, GivesNext, failures_if_held}
-use Rattle.plist_commands.specs.Printing.{CountsReads, IsOwnFault}
+use Rattle.plist_commands.specs.Printing.{IsOwnFault}
 
 abbrev Done : Type 0
 Done = Unit {0}
@@ -80,12 +80,6 @@ module _ {S : Type 0} (failures : S → ℕ) where
   source_counts None new item some h = absurd (cc)
   source_counts (Some source) None item some h = absurd h
   source_counts (Some source) (Some kept) item some h = h
-
-  pub source_left : {A : Type 0} (held : Option S) (answer : Result A Error) (before : ℕ)
-      → is_some held ≡ true → CountsReads answer before (failures_if_held failures held)
-      → (left : S) × CountsReads answer before (failures left)
-  source_left None answer before some h = absurd (cc)
-  source_left (Some left) answer before some h = (left, h)
 
 -- ---- the events of a value
 

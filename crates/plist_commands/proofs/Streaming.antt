@@ -8,7 +8,6 @@ use Rattle.plist_base.specs.Events.{PlainEvent, Item}
 use Rattle.plist_base.specs.Faults.{Fault, MatchFault, error_kind_of, kind_of, offset_of}
 use Rattle.plist_base.specs.Trees.{Tree, Leaf, Array, Dictionary}
 use Rattle.plist_base.proofs.Grammar.{alike_last, alike_with, complete_of_whole, continue_alike, whole_alike}
-use Rattle.plist_base.proofs.Refusals.{MatchFault-all}
 use Rattle.plist_base.specs.Writing.{Answer}
 use Rattle.plist_format.specs.Unfolding.{items_of_file}
 use Rattle.plist_binwrite.specs.Keys.{HasKeysOnce}
@@ -25,7 +24,6 @@ use Rattle.plist.proofs.Gathered.{sends_tree}
 use Rattle.plist.proofs.Inputs.{all-events, event-more, no-events, stops-there}
 use Rattle.plist.proofs.KeysOnce.{keys-once}
 use Rattle.plist_keyed.proofs.Told.{same_of}
-use Rattle.plist_commands.specs.Printing.{CountsReads}
 use Rattle.plist_commands.specs.Converting.{HoldsTree, AreNoTree, IsDirect, SendsRead, items_of_known}
 use Rattle.plist_commands.specs.Items.{ComesNext, GivesNext}
 
@@ -187,13 +185,6 @@ sends_read (Some bytes) held (_, (t, are, alike)) contents answer old new once s
   (t, are, sym ((keys-once t).0 (once t alike))),
   sends_tree t held alike contents old new answer sent,
 )
-
--- the source's count of failures, where only the sending can have failed
-pub counts_sent : {A : Type 0} (answer : Result A Error) (old new : ℕ)
-    → IfErr answer (λ error. offset_of error ≡ None) → new ≡ old → CountsReads answer old new
-counts_sent (Ok value) old new nowhere same = same
-counts_sent (Err error) old new nowhere same =
-    MatchFault-all (kind_of (error_kind_of error)) (inl (nowhere, same)) same same
 
 -- known bytes are no such list
 pub not_read : (known : Option (List ℕ)) → AreNoTree (items_of_known known)

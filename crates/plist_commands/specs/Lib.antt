@@ -2,6 +2,7 @@ pub mod Lines
 pub mod Examples
 pub mod Fronts
 pub mod Printing
+pub mod Runs
 pub mod Items
 pub mod Messages
 pub mod Commands

@@ -84,9 +84,3 @@ abbrev pub CountsReadsOf : {S C A : Type 0} {g : Ghosts S} {h : CounterGhosts C}
     → (failures : S → ℕ) → BinaryReader S C g h → Result A Error → BinaryReader S C g h → Type 0
 CountsReadsOf failures old answer new =
     CountsReads answer (failures (source_of old)) (failures (source_of new))
-
--- the same of a source that the call has left so, with its known bytes
-abbrev pub LeavesSource : {S A : Type 0} → (known : S → Option (List ℕ)) → (failures : S → ℕ) → S
-    → Result A Error → S → Type 0
-LeavesSource known failures source answer left =
-    (known left ≡ known source) × CountsReads answer (failures source) (failures left)

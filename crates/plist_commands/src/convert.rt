@@ -8,6 +8,7 @@ ghost use Rattle.plist_reader.specs.Formats.{format_of};
 ghost use Rattle.plist_commands.specs.Converting.{AreNoTree, FindsTree, IfOkIs, IsRefusedFor, IsStoppedFor, LeavesToValue, OfHeld, SendsAll, items_of_known};
 ghost use Rattle.plist_commands.specs.Holding.{IsEmpty};
 ghost use Rattle.plist_commands.specs.Printing.{CountsReads};
+ghost use Rattle.plist_commands.specs.Runs.{ConvertsSource, HoldsBinary, HoldsOther, HoldsRun, ReadsSource};
 ghost use Rattle.plist_commands.specs.declared.convert.Streamed.TheVariants.{NeedsValue, Sent};
 
 use crate::holder::Holder;
@@ -44,6 +45,7 @@ fn hold_events<I: Items, H: Holder>(
     // The answer.
     ensures held { FindsTree (I.coming items.old) result (H.held holder.new) }
     ensures none { IfOkIs result false (AreNoTree (I.coming items.old)) }
+    ensures answers { HoldsRun I.goes I.last items.old result items.new (H.held holder.new) }
     // A refusal.
     ensures refused { IsRefusedFor (I.coming items.old) result }
     // The state after it.
@@ -70,7 +72,7 @@ fn hold_binary<S: Source>(alloc: Global, source: S, pending: &mut Pending) -> Re
     ensures held { FindsTree (items_of_known (S.known source)) result (events_held pending.new) }
     ensures none { IfOkIs result false (AreNoTree (items_of_known (S.known source))) }
     ensures refused { IsRefusedFor (items_of_known (S.known source)) result }
-    ensures failures { (left : S) × CountsReads result (S.failures source) (S.failures left) }
+    ensures answers { HoldsBinary S.known S.failures source result (events_held pending.new) }
 {
     let mut reader = BinaryReader::new(alloc, source);
     hold_events(alloc, &mut reader, pending)
@@ -82,7 +84,7 @@ fn hold_any<S: Source>(alloc: Global, source: S, pending: &mut Pending) -> Resul
     ensures held { FindsTree (items_of_known (S.known source)) result (events_held pending.new) }
     ensures none { IfOkIs result false (AreNoTree (items_of_known (S.known source))) }
     ensures refused { IsRefusedFor (items_of_known (S.known source)) result }
-    ensures failures { (left : S) × CountsReads result (S.failures source) (S.failures left) }
+    ensures answers { HoldsOther S.known S.failures source result (events_held pending.new) }
 {
     let mut events = ReaderEvents::new(alloc, source);
     hold_events(alloc, &mut events, pending)
@@ -95,7 +97,7 @@ fn hold_source<S: Source>(alloc: Global, source: S, pending: &mut Pending) -> Re
     ensures held { FindsTree (items_of_known (S.known source)) result (events_held pending.new) }
     ensures none { IfOkIs result false (AreNoTree (items_of_known (S.known source))) }
     ensures refused { IsRefusedFor (items_of_known (S.known source)) result }
-    ensures failures { (left : S) × CountsReads result (S.failures source) (S.failures left) }
+    ensures answers { ReadsSource S.known S.failures source result (events_held pending.new) }
 {
     let mut source = source;
     match format_of(&mut source) {
@@ -142,9 +144,8 @@ pub fn convert_binary<S: Source, W: Write>(
 ) -> Result<Streamed, Error>
     ensures sent { IfOkIs result Sent (SendsAll W.contents (S.known source) writer.old writer.new) }
     ensures left { IfOkIs result NeedsValue (LeavesToValue (S.known source) writer.old writer.new) }
+    ensures answers { ConvertsSource S.known S.failures source result }
     ensures refused { IsStoppedFor W.contents (S.known source) result writer.old writer.new }
-    // `left` is the source as the call left it
-    ensures failures { (left : S) × CountsReads result (S.failures source) (S.failures left) }
 {
     let mut pending = Pending::new(alloc);
     match hold_source(alloc, source, &mut pending) {

@@ -6,6 +6,7 @@ ghost use Rattle.plist_base.specs.Faults.{Fault};
 ghost use Rattle.plist_base.specs.Outcomes.{IfFault};
 ghost use Rattle.plist_base.specs.Sources.{ItemCountsIo};
 ghost use Rattle.plist_commands.specs.Items.{ComesNext};
+ghost use Rattle.plist_commands.specs.Runs.{Gone};
 
 use plist_base::{Error, Event, Source};
 use plist_binread::BinaryReader;
@@ -23,6 +24,8 @@ pub(crate) trait Items {
     ghost failures: { Self → ℕ };
     /// What is so of each fault.
     ghost gives: { Fault → Type 0 };
+    /// What one call of `go_on` does.
+    ghost goes: { Self → Gone → Self → Type 0 };
     /// At most how many items are still to come.
     ghost steps: { Self → ℕ };
 
@@ -32,6 +35,7 @@ pub(crate) trait Items {
     /// The fault that comes in the place of an event.
     fn go_on(&mut self) -> Option<Result<(), Error>>
         ensures items { ComesNext (coming self.old) result (last self.new) (coming self.new) }
+        ensures answers { goes self.old result self.new }
         ensures fault { IfSome result (λ answer. IfFault answer gives) }
         ensures unchanged { known self.new ≡ known self.old }
         ensures failures { ItemCountsIo result (failures self.old) (failures self.new) }
@@ -68,6 +72,7 @@ impl<S: Source> Items for BinaryReader<S> {
     ghost use Rattle.plist_binread.specs.BinaryReader.{source_of, steps_to_come};
     ghost use Rattle.plist_binread.specs.Telling.{event_told};
     ghost use Rattle.plist_commands.specs.Converting.{items_left};
+    ghost use Rattle.plist_commands.specs.Runs.{GoesOn};
 
     ghost coming = { items_left S.known };
 
@@ -78,6 +83,8 @@ impl<S: Source> Items for BinaryReader<S> {
     ghost failures = { λ reader. S.failures (source_of reader) };
 
     ghost gives = { λ _. Unit {0} };
+
+    ghost goes = { GoesOn S.known S.failures };
 
     ghost steps = { steps_to_come };
 

@@ -31,8 +31,17 @@ fn tree_at(alloc: Global, root: &Value, key: &str) -> Result<Value, Failure>
     }
 }
 
-// Prints the tree of the object that an archive names by this key.
-fn print_at<O: Write>(alloc: Global, root: &Value, key: &str, out: &mut O) -> Result<(), Failure>
+/// Prints the tree of the object that the archive which a value is names by this key.
+///
+/// # Errors
+/// Where the value is no archive, or that has no such key, or no such tree; and where the tree can't
+/// be printed, as [`print_value`].
+pub fn print_at<O: Write>(
+    alloc: Global,
+    root: &Value,
+    key: &str,
+    out: &mut O,
+) -> Result<(), Failure>
     ensures printed { OnOk result (PrintsTreeAt O.contents root.now key.now out.old out.new) }
     ensures refused { IfErr result (λ error. IsUnprintedAt root.now key.now (complaint_of error)) }
 {

@@ -22,7 +22,7 @@ mod words;
 pub use commands::{Command, Commands, command_of, run_words};
 pub use convert::{Streamed, convert_binary, convert_file};
 pub use failure::Failure;
-pub use keyed::keyed_file;
+pub use keyed::{keyed_file, print_at};
 pub use messages::{Message, Messages};
 pub use print::{print_events, print_reader};
 pub use values::print_value;

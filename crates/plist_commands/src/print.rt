@@ -5,7 +5,8 @@ ghost use Rattle.plist_base.specs.Faults.{fault_of};
 ghost use Rattle.plist_binread.specs.BinaryReader.{source_of};
 ghost use Rattle.plist_commands.specs.Converting.{items_left};
 ghost use Rattle.plist_commands.specs.Fronts.{EndsBehind, MakesRoom, PassesLine, SendsFront, SendsLineInPart};
-ghost use Rattle.plist_commands.specs.Printing.{CountsReads, CountsReadsOf, EndsFile, EndsItems, IsOwnFault, LeavesSource, PrintsFile, PrintsItems, SendsFrontOfFile, SendsFrontOfItems};
+ghost use Rattle.plist_commands.specs.Printing.{CountsReads, CountsReadsOf, EndsFile, EndsItems, IsOwnFault, PrintsFile, PrintsItems, SendsFrontOfFile, SendsFrontOfItems};
+ghost use Rattle.plist_commands.specs.Runs.{PrintsReader, PrintsRun, PrintsSource};
 
 use crate::items::Items;
 use crate::lines::{most_bytes, push_line};
@@ -79,6 +80,8 @@ fn pass_lines<I: Items, W: Write>(
     // The answer.
     ensures printed { OnOk result
         (PrintsItems W.contents (I.coming items.old) writer.old writer.new) }
+    ensures answers { PrintsRun I.goes I.last items.old result items.new
+        (W.contents writer.old) (W.contents writer.new) }
     // A refusal.
     ensures refused { IfErr result
         (EndsItems W.contents (I.coming items.old) writer.old writer.new) }
@@ -106,6 +109,8 @@ fn send_lines<I: Items, W: Write>(alloc: Global, items: &mut I, writer: &mut W) 
     // The answer.
     ensures printed { OnOk result
         (PrintsItems W.contents (I.coming items.old) writer.old writer.new) }
+    ensures answers { PrintsRun I.goes I.last items.old result items.new
+        (W.contents writer.old) (W.contents writer.new) }
     // A refusal.
     ensures refused { IfErr result
         (EndsItems W.contents (I.coming items.old) writer.old writer.new) }
@@ -128,6 +133,8 @@ pub(crate) fn print_items<I: Items, W: Write>(
     // The answer.
     ensures printed { OnOk result
         (PrintsItems W.contents (I.coming items.old) writer.old writer.new) }
+    ensures answers { PrintsRun I.goes I.last items.old result items.new
+        (W.contents writer.old) (W.contents writer.new) }
     // A refusal.
     ensures refused { IfErr result
         (EndsItems W.contents (I.coming items.old) writer.old writer.new) }
@@ -155,6 +162,8 @@ pub fn print_reader<S: Source, W: Write>(
     // The answer.
     ensures printed { OnOk result
         (PrintsItems W.contents (items_left S.known reader.old) writer.old writer.new) }
+    ensures answers { PrintsReader S.known S.failures reader.old result reader.new
+        (W.contents writer.old) (W.contents writer.new) }
     // A refusal.
     ensures refused { IfErr result
         (EndsItems W.contents (items_left S.known reader.old) writer.old writer.new) }
@@ -180,10 +189,10 @@ pub fn print_events<S: Source, W: Write>(
     writer: &mut W,
 ) -> Result<(), Error>
     ensures printed { OnOk result (PrintsFile S.known W.contents source writer.old writer.new) }
+    ensures answers { PrintsSource S.known S.failures source result (W.contents writer.old)
+        (W.contents writer.new) }
     ensures refused { IfErr result (EndsFile S.known W.contents source writer.old writer.new) }
     ensures front { SendsFrontOfFile S.known W.contents source writer.old writer.new }
-    // `left` is the source as the call left it
-    ensures failures { (left : S) × LeavesSource S.known S.failures source result left }
 {
     let mut reader = BinaryReader::new(alloc, source);
     print_reader(alloc, &mut reader, writer)

@@ -19,13 +19,16 @@ pub(crate) struct ReaderEvents<S: Source> {
 }
 
 impl<S: Source> ReaderEvents<S> {
-    ghost use Rattle.std.specs.Prelude.{◌≡◌};
+    ghost use Rattle.std.specs.Prelude.{Some, false};
+    ghost use Rattle.plist_reader.specs.Reader.{is_limited};
     ghost use Rattle.plist_commands.specs.Items.{failures_of, items_to_come};
     ghost use Rattle.plist_commands.specs.Converting.{items_of_known};
 
     /// None has been asked for.
     pub(crate) fn new(alloc: Global, source: S) -> Self
         ensures items { items_to_come S.known result ≡ items_of_known (S.known source) }
+        ensures source { source_of result.reader ≡ Some source }
+        ensures limited { is_limited result.reader ≡ false }
         ensures failures { failures_of S.failures result ≡ S.failures source }
     {
         ReaderEvents {
@@ -41,6 +44,7 @@ impl<S: Source> Items for ReaderEvents<S> {
     ghost use Rattle.plist_base.specs.Events.{event_of};
     ghost use Rattle.plist_reader.specs.Reader.{steps_in_state};
     ghost use Rattle.plist_commands.specs.Items.{failures_of, items_to_come};
+    ghost use Rattle.plist_commands.specs.Runs.{GoesOnReading};
 
     ghost coming = { items_to_come S.known };
 
@@ -51,6 +55,8 @@ impl<S: Source> Items for ReaderEvents<S> {
     ghost failures = { failures_of S.failures };
 
     ghost gives = { λ _. Unit {0} };
+
+    ghost goes = { GoesOnReading S.known S.failures };
 
     ghost steps = { λ s. steps_in_state s.reader.state };
 

@@ -33,6 +33,8 @@ impl<'a> Items for ValueEvents<'a> {
 
     ghost gives = { IsOwn };
 
+    ghost goes = { λ _ _ _. Unit {0} };
+
     ghost steps = { λ s. length (remaining_events s.events) };
 
     fn go_on(&mut self) -> Option<Result<(), Error>> {

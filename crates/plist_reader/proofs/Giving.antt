@@ -1,5 +1,5 @@
 -- What the chosen reader gives.
-use Rattle.std.proofs.Common.{◌≡◌, ℕ, ◌+◌, ◌-◌, ◌^◌, ◌<◌, Bool, true, false, cond, List, [], ◌∷◌, ◌++◌, length, Option, None, Some, Ok, Err, IfSome, OnErr, MatchBool, MatchOption, refl, ap, sym, ◌∙◌, subst, arith}
+use Rattle.std.proofs.Common.{◌≡◌, ℕ, ◌-◌, ◌^◌, ◌<◌, Bool, true, false, cond, List, [], ◌∷◌, ◌++◌, length, Option, None, Some, Ok, Err, IfSome, OnErr, MatchBool, MatchOption, refl, ap, sym, ◌∙◌, subst, arith}
 use Rattle.std.specs.Option.{is_some, option_map}
 use Rattle.std.specs.Prelude.{Result}
 use Rattle.std.proofs.lemmas.List.{take-take}
@@ -13,26 +13,24 @@ use Rattle.plist_base.specs.declared.limited.Limited.{Limited}
 use Rattle.plist_base.specs.declared.limits.Limit.{Limit}
 use Rattle.plist_base.specs.declared.limits.Limits.{Limits}
 use Rattle.plist_base.specs.declared.limits.Limiter.{Limiter}
-use Rattle.plist_base.specs.Limits.{GivesLimited, PassesNext, come_of, event_or_limit, inner_of, left_behind, level_behind, limit_at, limited_from, limited_items, under}
+use Rattle.plist_base.specs.Limits.{GivesLimited, PassesNext, come_of, event_or_limit, inner_of, limited_items, under}
 use Rattle.plist_base.specs.Faults.{FaultKind, Fault, Io, UnexpectedEof, OutOfMemory, InvalidMagic, InvalidTrailerObjectOffsetSize, InvalidTrailerObjectReferenceSize, ObjectOffsetTooLarge, ObjectReferenceTooLarge, RecursiveObject, NullObjectUnimplemented, FillObjectUnimplemented, UnknownObjectType, IntegerOutOfRange, OverflowOrNanDate, InvalidUtf8String, InvalidUtf16String, UnclosedString, IncompleteComment, InvalidUtf8AsciiStream, InvalidOctalString, LimitReached, MatchFault, XmlUnsupported, IsIo, fault_at, fault_nowhere, kind_of, error_kind_of, fault_of}
 use Rattle.plist_base.specs.Sequential.{from_place}
 use Rattle.plist_reader.specs.Streams.{bytes_left, source_of, place_of, held}
 use Rattle.plist_base.specs.Sources.{ItemCountsIo, IsPlaceWithin}
-use Rattle.plist_base.proofs.Refusals.{MatchFault-weaker, MatchFault-all}
+use Rattle.plist_base.proofs.Refusals.{MatchFault-weaker}
 use Rattle.plist_binread.specs.BinaryReader as binary
 use Rattle.plist_binread.specs.Failures.{HasPlace, MatchGiven, ItemGivenWithin}
 use Rattle.plist_binread.specs.Debt.{IsOwed, WantsMemory}
-use Rattle.plist_format.specs.Unfolding.{items_of_file}
-use Rattle.plist_ascii.specs.declared.reader.AsciiReader.{AsciiReader}
 use Rattle.plist_ascii.specs.Ascii.{items_of_ascii, items_in, BeginsWithText}
 use Rattle.plist_ascii.specs.AsciiReader as ascii
-use Rattle.plist_ascii.specs.Kinds.{IsAsciiFault, IsAsciiItem}
+use Rattle.plist_ascii.specs.Kinds.{IsAsciiFault, IsAsciiItem, IsFaultOfBytes}
 use Rattle.plist_ascii.specs.Incoming as incoming
 use Rattle.plist_ascii.specs.declared.dialect.Dialect.TheVariants.{Lax}
 use Rattle.plist_ascii.specs.Texts.{lax, ends_bare}
 use Rattle.plist_reader.specs.declared.reader.State.{State}
 use Rattle.plist_reader.specs.declared.reader.State.TheVariants as state
-use Rattle.plist_reader.specs.Reader.{BeginsInside, FileGives, MatchText, OfFile, OfText, TextGives, coming, file_within, input_within, is_limited_in, items_by, items_of_input, text_to_come, GivesItem, GivesIfKnown, EndsAfter, IsReaderFault, IsReaderItem, IsRefusedKind, StateGives, HoldsSource, HasItsPlace, source_in}
+use Rattle.plist_reader.specs.Reader.{BeginsInside, FileGives, MatchText, OfFile, OfText, TextGives, coming, file_within, input_within, is_limited_in, items_by, items_of_input, text_to_come, GivesItem, GivesIfKnown, EndsAfter, IsReaderFault, IsReaderItem, IsRefusedKind, StateGives, HoldsSource, HasItsPlace, IsPlaced, MatchPlaced, source_in}
 use Rattle.plist_reader.specs.declared.format.Format.TheVariants as format
 use Rattle.plist_reader.specs.Formats.{format_of, input_front}
 use Rattle.plist_reader.proofs.Fronts.{within-placed}
@@ -189,22 +187,50 @@ binary-placed : (limited : Bool) (item : Given) → ItemGivenWithin 0 (2 ^ 64) l
     → HasItsPlace item
 binary-placed limited None h = tt
 binary-placed limited (Some (Ok event)) h = tt
-binary-placed limited (Some (Err error)) h =
-    placed _ _ h.placed
+binary-placed limited (Some (Err error)) h = placed _ _ h.placed
   where
     placed : (kind : FaultKind) (offset : Option ℕ)
         → MatchGiven kind (IsPlaceWithin 0 (2 ^ 64) offset) (offset ≡ None) (HasPlace offset)
-        ((limited ≡ true) × (offset ≡ None)) → MatchFault kind (HasPlace offset) (offset ≡ None) ⊤
+        ((limited ≡ true) × (offset ≡ None)) → MatchPlaced kind (offset ≡ None) (HasPlace offset)
+    placed (LimitReached limit) offset p = p.1
     placed Io offset p = within-placed 0 (2 ^ 64) offset p
+    placed UnexpectedEof offset p = within-placed 0 (2 ^ 64) offset p
     placed OutOfMemory offset p = p
-    placed kind offset p = tt
+    placed InvalidMagic offset p = p
+    placed InvalidTrailerObjectOffsetSize offset p = p
+    placed InvalidTrailerObjectReferenceSize offset p = p
+    placed ObjectOffsetTooLarge offset p = p
+    placed ObjectReferenceTooLarge offset p = p
+    placed RecursiveObject offset p = p
+    placed NullObjectUnimplemented offset p = p
+    placed FillObjectUnimplemented offset p = p
+    placed (UnknownObjectType marker) offset p = p
+    placed IntegerOutOfRange offset p = p
+    placed OverflowOrNanDate offset p = p
+    placed InvalidUtf8String offset p = p
+    placed InvalidUtf16String offset p = p
+    placed kind offset p = absurd p
+
+some-place : (offset : Option ℕ) (place : ℕ) → offset ≡ Some place → HasPlace offset
+some-place offset place is = rw is tt
 
 ascii-placed : (place : ℕ) (item : Given) → ascii.FaultIsAt item place → HasItsPlace item
 ascii-placed place None h = tt
 ascii-placed place (Some (Ok event)) h = tt
-ascii-placed place (Some (Err error)) h =
-    MatchFault-weaker (kind_of (error_kind_of error)) (λ e. subst (λ o. HasPlace o) (sym e) tt)
-    (λ e. e) (λ _. tt) h
+ascii-placed place (Some (Err error)) h = placed _ _ h
+  where
+    placed : (kind : FaultKind) (offset : Option ℕ)
+        → MatchFault kind (offset ≡ Some place) (offset ≡ None)
+        (IsFaultOfBytes kind × (offset ≡ Some place))
+        → MatchPlaced kind (offset ≡ None) (HasPlace offset)
+    placed Io offset p = some-place offset place p
+    placed OutOfMemory offset p = p
+    placed UnclosedString offset p = some-place offset place p.1
+    placed IncompleteComment offset p = some-place offset place p.1
+    placed InvalidUtf8AsciiStream offset p = some-place offset place p.1
+    placed InvalidOctalString offset p = some-place offset place p.1
+    placed InvalidUtf16String offset p = some-place offset place p.1
+    placed kind offset p = absurd p.0
 
 -- a count that is told
 told-failures : (a b : ℕ) (item : Given) → incoming.ItemCountsIoIfTold item (Some a) (Some b)
@@ -299,8 +325,7 @@ module _ (now : Bool) (old new : Limiter) where
   passes-placed None item h p = rw p.0 tt
   passes-placed (Some (Ok asked)) None h p = absurd p
   passes-placed (Some (Ok asked)) (Some (Ok passed)) h p = tt
-  passes-placed (Some (Ok asked)) (Some (Err error)) h p =
-      limit-other (fault_of error).kind p.0.0 _ _ _ (ap (λ (f : Fault). f.kind) p.0.1) tt
+  passes-placed (Some (Ok asked)) (Some (Err error)) h p = subst IsPlaced (sym p.0.1) refl
   passes-placed (Some (Err fault)) None h p = absurd p
   passes-placed (Some (Err fault)) (Some given) h p = rw p.0 h
 
@@ -382,7 +407,7 @@ xml-counts place a b error is same =
 
 pub xml-place : (place : ℕ) (error : Error) → fault_of error ≡ fault_at XmlUnsupported place
     → HasItsPlace (Some (Err error))
-xml-place place error is = let kind = ap (λ (f : Fault). f.kind) is in rw kind tt
+xml-place place error is = subst IsPlaced (sym is) tt
 
 -- a read failed
 pub io-items : (k : Option (List ℕ)) (limits : Option Limits) (error : Error)
@@ -403,9 +428,12 @@ io-kind error io = by (kind_of (error_kind_of error)) io
 
 pub io-place : (error : Error) → IsIo (kind_of (error_kind_of error))
     → HasPlace (fault_of error).offset → HasItsPlace (Some (Err error))
-io-place error io place =
-    MatchFault-weaker (kind_of (error_kind_of error)) (λ _. place) (λ none. absurd none)
-    (λ none. absurd none) io
+io-place error io place = placed _ _ io place
+  where
+    placed : (kind : FaultKind) (offset : Option ℕ) → IsIo kind → HasPlace offset
+        → MatchPlaced kind (offset ≡ None) (HasPlace offset)
+    placed Io offset io place = place
+    placed kind offset io place = absurd io
 
 module _ {R : Type 0} {g : Ghosts R} (known : R → Option (List ℕ)) (failed : R → ℕ) where
   pub binary-gives : (old new : OfFile R g) (item : Given) → FileGives {g = g} known failed old item new

@@ -1,5 +1,5 @@
 -- What contracts see of a reader of either format: the items that it has still to give.
-use Rattle.std.specs.Prelude.{◌≡◌, ℕ, ◌+◌, ◌^◌, ◌<◌, Bool, true, false, List, [], ◌∷◌, Option, None, Some, Result, Ok, Err, MatchOption, MatchResult, IfSome, ⊤}
+use Rattle.std.specs.Prelude.{◌≡◌, ℕ, ◌+◌, ◌^◌, ◌<◌, Bool, true, false, List, [], ◌∷◌, Option, None, Some, Result, Ok, Err, MatchOption, MatchResult, IfErr, IfSome, ⊤}
 use Rattle.std.specs.Option.{is_some, option_map}
 use Rattle.plist_base.specs.declared.error.Error.{Error}
 use Rattle.plist_base.specs.declared.event.Event.{Event}
@@ -7,7 +7,7 @@ use Rattle.plist_base.specs.declared.source.Source.{Ghosts}
 use Rattle.plist_base.specs.declared.limited.Limited.{Limited}
 use Rattle.plist_base.specs.declared.limits.Limits.{Limits}
 use Rattle.plist_base.specs.Limits.{GivesLimited, HasEndedLimited, come_of, inner_of, limited_items}
-use Rattle.plist_base.specs.Faults.{FaultKind, Io, IncompleteComment, InvalidOctalString, InvalidUtf16String, InvalidUtf8AsciiStream, MatchFault, UnclosedString, XmlUnsupported, kind_of, error_kind_of, fault_of, offset_of, fault_at}
+use Rattle.plist_base.specs.Faults.{Fault, FaultKind, Io, IncompleteComment, InvalidOctalString, InvalidUtf16String, InvalidUtf8AsciiStream, LimitReached, MatchFault, OutOfMemory, UnclosedString, XmlUnsupported, kind_of, error_kind_of, fault_of, fault_at}
 use Rattle.plist_base.specs.Events.{Item, event_of}
 use Rattle.plist_base.specs.Sources.{ItemCountsIo}
 use Rattle.plist_binread.specs.BinaryReader as binary
@@ -178,12 +178,19 @@ abbrev pub IsRefusal : Option (Result Event Error) → Type 0
 IsRefusal item = MatchOption item ⊥ (λ answer. MatchResult answer (λ _. ⊥)
     (λ error. IsRefusedKind (kind_of (error_kind_of error))))
 
--- a device's fault has a place, and want of memory has none
+-- a fact for want of memory and the fault of a limit, which have no place, and one for every other
+-- fault of a reader
+abbrev pub MatchPlaced : FaultKind → (nowhere placed : Type 0) → Type 0
+MatchPlaced OutOfMemory nowhere placed = nowhere
+MatchPlaced (LimitReached limit) nowhere placed = nowhere
+MatchPlaced kind nowhere placed = placed
+
+abbrev pub IsPlaced : Fault → Type 0
+IsPlaced fault = MatchPlaced fault.kind (fault.offset ≡ None) (HasPlace fault.offset)
+
+-- an item's fault has a place, but for those two
 abbrev pub HasItsPlace : Option (Result Event Error) → Type 0
-HasItsPlace item =
-    MatchOption item ⊤ (λ answer. MatchResult answer (λ _. ⊤)
-    (λ error. MatchFault (kind_of (error_kind_of error)) (HasPlace (offset_of error))
-    (offset_of error ≡ None) ⊤))
+HasItsPlace item = MatchOption item ⊤ (λ answer. IfErr answer (λ error. IsPlaced (fault_of error)))
 
 -- one call of a reader that was chosen
 abbrev pub FileGives : {R : Type 0} {g : Ghosts R} (known : R → Option (List ℕ)) (failed : R → ℕ)

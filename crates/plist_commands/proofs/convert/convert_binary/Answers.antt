@@ -1,5 +1,7 @@
-use Rattle.std.proofs.Common.{refl}
-use Rattle.plist_commands.proofs.Streaming.{counts_sent, not_read}
+use Rattle.std.proofs.Common.{Ok, refl}
+use Rattle.plist_binwrite.specs.Pendings.{events_held}
+use Rattle.plist_commands.proofs.Runs.{ends_left, ends_sent}
+use Rattle.plist_commands.proofs.Streaming.{not_read}
 use Rattle.plist_commands.proofs.convert.convert_binary.Goals as goal
 
 pub send_held-requires : goal.send_held-requires
@@ -20,10 +22,22 @@ returns-in-Ok-true-clause-refused g c =
     c.send_held.ensures.refused (g.S.Source.known c.args.source)
     (c.in-Ok-true.ensures.held c.in-Ok-true.field-0-test)
 
-pub returns-in-Ok-true-clause-failures : goal.returns-in-Ok-true-clause-failures
-returns-in-Ok-true-clause-failures g c =
-    let (left, same) = c.in-Ok-true.ensures.failures in
-    (left, counts_sent c.send_held.result _ _ c.send_held.ensures.nowhere same)
+pub returns-in-Ok-true-clause-answers : goal.returns-in-Ok-true-clause-answers
+returns-in-Ok-true-clause-answers g c = (
+  Ok c.in-Ok-true.field-0,
+  events_held c.hold_source.new.pending,
+  c.in-Ok-true.ensures.answers,
+  ends_sent c.in-Ok-true.field-0 c.send_held.result c.in-Ok-true.field-0-test
+      c.send_held.ensures.nowhere,
+)
+
+pub returns-in-Ok-false-clause-answers : goal.returns-in-Ok-false-clause-answers
+returns-in-Ok-false-clause-answers g c = (
+  Ok c.in-Ok-false.field-0,
+  events_held c.hold_source.new.pending,
+  c.in-Ok-false.ensures.answers,
+  ends_left c.in-Ok-false.field-0 c.in-Ok-false.field-0-test,
+)
 
 pub returns-in-Ok-false-clause-left : goal.returns-in-Ok-false-clause-left
 returns-in-Ok-false-clause-left g c = λ e. (

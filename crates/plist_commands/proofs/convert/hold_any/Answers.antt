@@ -1,10 +1,6 @@
 use Rattle.std.proofs.Common.{false, subst}
-use Rattle.plist_reader.specs.Reader.{source_of}
 use Rattle.plist_binwrite.specs.Pendings.{events_held}
 use Rattle.plist_commands.specs.Converting.{AreNoTree, FindsTree, IfOkIs, IsRefusedFor}
-use Rattle.plist_commands.specs.Items.{failures_of}
-use Rattle.plist_commands.specs.Printing.{CountsReads}
-use Rattle.plist_commands.proofs.Coming.{source_left}
 use Rattle.plist_commands.proofs.convert.hold_any.Goals as goal
 
 pub returns-clause-held : goal.returns-clause-held
@@ -22,10 +18,12 @@ returns-clause-refused g c =
     subst (λ items. IsRefusedFor items c.hold_events.result) c.new-events.ensures.items
     c.hold_events.ensures.refused
 
-pub returns-clause-failures : goal.returns-clause-failures
-returns-clause-failures g c =
-    source_left g.S.Source.failures (source_of c.hold_events.new.items.reader)
-    c.hold_events.result (g.S.Source.failures c.args.source) c.hold_events.new.items.held
-    (subst (λ n. CountsReads c.hold_events.result n
-    (failures_of g.S.Source.failures c.hold_events.new.items)) c.new-events.ensures.failures
-    c.hold_events.ensures.failures)
+pub returns-clause-answers : goal.returns-clause-answers
+returns-clause-answers g c = (
+  c.new-events.result,
+  c.hold_events.new.items,
+  c.new-events.ensures.source,
+  c.new-events.ensures.limited,
+  c.hold_events.ensures.answers,
+  c.hold_events.ensures.failures,
+)

@@ -2,7 +2,6 @@ use Rattle.std.proofs.Common.{◌≡◌, ap, false, subst}
 use Rattle.plist_binread.specs.BinaryReader.{source_of, to_come}
 use Rattle.plist_binwrite.specs.Pendings.{events_held}
 use Rattle.plist_commands.specs.Converting.{AreNoTree, FindsTree, IfOkIs, IsRefusedFor, items_left, items_of_known}
-use Rattle.plist_commands.specs.Printing.{CountsReads}
 use Rattle.plist_commands.proofs.Streaming.{binary_items}
 use Rattle.plist_commands.proofs.convert.hold_binary.Goals as goal
 use Rattle.plist_commands.proofs.convert.hold_binary.Goals.{After-hold_events}
@@ -31,10 +30,12 @@ returns-clause-refused g c =
     (same_items g (goal.at.returns-clause-refused g c).After-hold_events)
     c.hold_events.ensures.refused
 
-pub returns-clause-failures : goal.returns-clause-failures
-returns-clause-failures g c = (
-  source_of c.hold_events.new.items,
-  subst (λ n. CountsReads c.hold_events.result n
-      (g.S.Source.failures (source_of c.hold_events.new.items)))
-      (ap g.S.Source.failures c.new-reader.ensures.source) c.hold_events.ensures.failures,
+pub returns-clause-answers : goal.returns-clause-answers
+returns-clause-answers g c = (
+  c.new-reader.result,
+  c.hold_events.new.items,
+  c.new-reader.ensures.source,
+  c.new-reader.ensures.new,
+  c.hold_events.ensures.answers,
+  c.hold_events.ensures.failures,
 )

@@ -2,6 +2,7 @@ use Rattle.std.proofs.Common.{◌≡◌, Ok, Err, None, rules, Some, refl, sym, 
 use Rattle.std.proofs.lemmas.Option.{IfSome_then}
 use Rattle.plist_base.specs.Faults.{error_kind_of, fault_of, kind_of}
 use Rattle.plist_base.proofs.Refusals.{MatchFault-weaker}
+use Rattle.plist_commands.proofs.Runs.{held_faulted, held_more, held_none, held_refused, held_stopped, held_whole}
 use Rattle.plist_commands.proofs.Streaming.{Came, came_next, tells_none, tells_next, taken_none, took_event, took_fault, goes_on, held_at_end, whole_at_end}
 use Rattle.plist_commands.proofs.convert.hold_events.Goals as goal
 use Rattle.plist_commands.proofs.convert.hold_events.Goals.{After-go_on}
@@ -17,6 +18,7 @@ loop-item-init g c = record {
   failures = refl;
   told = tells_none _ _ c.requires.empty.1 c.requires.empty.0;
   so_far = taken_none _ _ _ refl c.requires.empty.0;
+  ran = held_none g.I.Items.goes g.I.Items.last _ _ c.requires.empty.0;
 }
 
 pub returns-in-Err-clause-refused : goal.returns-in-Err-clause-refused
@@ -27,6 +29,25 @@ returns-in-Err-clause-refused g c =
     (λ all (left, next, took, to, t). took_fault all left _ took next (fault_of c.in-Err.error)
     (MatchFault-weaker (kind_of (error_kind_of c.in-Err.error)) (λ _. tt) (λ _. tt) (λ b. b)
     (rw is at t)))
+
+pub returns-in-Err-clause-answers : goal.returns-in-Err-clause-answers
+returns-in-Err-clause-answers g c =
+    let is : c.go_on.result ≡ Some (Err c.in-Err.error) = search rules in
+    held_faulted g.I.Items.goes g.I.Items.last _ _ _ _ (g.H.Holder.held c.loop-item.holder)
+    c.in-Err.error c.loop-item.invariant.ran (rw is at c.go_on.ensures.answers)
+
+pub returns-in-Err-take-clause-answers : goal.returns-in-Err-take-clause-answers
+returns-in-Err-take-clause-answers g c =
+    let is : c.go_on.result ≡ Some (Ok c.in-Ok.field-0) = search rules in
+    held_stopped g.I.Items.goes g.I.Items.last _ _ _ _ (g.H.Holder.held c.loop-item.holder)
+    c.in-Err-take.error c.loop-item.invariant.ran (rw is at c.go_on.ensures.answers)
+    c.in-Err-take.ensures.memory
+
+pub returns-in-Ok-false-clause-answers : goal.returns-in-Ok-false-clause-answers
+returns-in-Ok-false-clause-answers g c =
+    let is : c.go_on.result ≡ Some (Ok c.in-Ok.field-0) = search rules in
+    held_refused g.I.Items.goes g.I.Items.last _ _ _ _ _ c.loop-item.invariant.ran
+    (rw is at c.go_on.ensures.answers)
 
 pub returns-in-Ok-false-clause-none : goal.returns-in-Ok-false-clause-none
 returns-in-Ok-false-clause-none g c = λ e.
@@ -50,6 +71,8 @@ loop-item-preserved g c =
           (came g (goal.at.loop-item-preserved g c).After-go_on)
           (λ all (left, next, took, to, t).
           (next, to, took_event all left _ took next _ _ (rw is at t) taken.0 taken.1));
+      ran = held_more g.I.Items.goes g.I.Items.last _ _ _ _ _ c.loop-item.invariant.ran
+          (rw is at c.go_on.ensures.answers) taken.1;
     }
 
 pub returns-clause-held : goal.returns-clause-held
@@ -70,3 +93,9 @@ returns-clause-none g c = λ e.
     (λ all (left, next, took, to, t) tree of.
     (rw (sym c.is_whole.ensures ∙ e) at c.loop-item.invariant.told)
     (whole_at_end all left _ took (rw is at t) tree of))
+
+pub returns-clause-answers : goal.returns-clause-answers
+returns-clause-answers g c =
+    let is : c.go_on.result ≡ None = search rules in
+    held_whole g.I.Items.goes g.I.Items.last _ _ _ _ _ c.loop-item.invariant.ran
+    (rw is at c.go_on.ensures.answers)

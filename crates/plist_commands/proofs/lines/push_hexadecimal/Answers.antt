@@ -1,4 +1,4 @@
-use Rattle.std.proofs.Common.{◌+◌, ◌*◌, arith, ◌/◌, length, ◌∙◌}
+use Rattle.std.proofs.Common.{arith, ◌/◌, length}
 use Rattle.std.proofs.lemmas.Result.{on_ok_weaker}
 use Rattle.plist_commands.proofs.Blocks.{block_more, blocks_end}
 use Rattle.plist_commands.proofs.lines.push_hexadecimal.Goals as goal

@@ -5,6 +5,7 @@ use Rattle.plist_base.specs.Outcomes.{IfFault}
 use Rattle.plist_base.specs.Sources.{ItemCountsIo}
 use Rattle.plist_commands.specs.Printing.{EndsItems}
 use Rattle.plist_commands.proofs.HeldBack.{Came, came, all_passed, device_own, fault_counts, fault_passed, front_passed, line_in_part, line_passed, own_counts, own_ends, passed_none, sent_counts, whose_fault}
+use Rattle.plist_commands.proofs.Runs.{run_ended, run_faulted, run_more, run_none, run_stopped}
 use Rattle.plist_commands.proofs.print.pass_lines.Goals as goal
 use Rattle.plist_commands.proofs.print.pass_lines.Goals.{After-go_on}
 
@@ -20,6 +21,7 @@ loop-item-init g c = record {
   unchanged = refl;
   failures = refl;
   so_far = passed_none _ _ _ c.requires.empty;
+  ran = run_none g.I.Items.goes g.I.Items.last _ _ _ c.requires.empty;
 }
 
 pub loop-item-preserved : goal.loop-item-preserved
@@ -29,6 +31,9 @@ loop-item-preserved g c =
       unchanged = search rules;
       failures = search rules;
       so_far = line_passed (now g (goal.at.loop-item-preserved g c).After-go_on) _ _ is
+          (rw c.event.ensures at c.in-Ok-pass_line.ensures.passed);
+      ran = run_more g.I.Items.goes g.I.Items.last _ _ _ _ _ _ _ _ c.loop-item.invariant.ran
+          (rw is at c.go_on.ensures.answers)
           (rw c.event.ensures at c.in-Ok-pass_line.ensures.passed);
     }
 
@@ -40,6 +45,9 @@ loop-item-preserved-in-Ok-pass_line g c =
       failures = search rules;
       so_far = line_passed (now g (goal.at.loop-item-preserved-in-Ok-pass_line g c).After-go_on) _ _ is
           (rw c.event.ensures at c.in-Ok-pass_line.ensures.passed);
+      ran = run_more g.I.Items.goes g.I.Items.last _ _ _ _ _ _ _ _ c.loop-item.invariant.ran
+          (rw is at c.go_on.ensures.answers)
+          (rw c.event.ensures at c.in-Ok-pass_line.ensures.passed);
     }
 
 pub loop-item-preserved-in-Ok-pass_line-2 : goal.loop-item-preserved-in-Ok-pass_line-2
@@ -49,6 +57,9 @@ loop-item-preserved-in-Ok-pass_line-2 g c =
       unchanged = search rules;
       failures = search rules;
       so_far = line_passed (now g (goal.at.loop-item-preserved-in-Ok-pass_line-2 g c).After-go_on) _ _ is
+          (rw c.event.ensures at c.in-Ok-pass_line.ensures.passed);
+      ran = run_more g.I.Items.goes g.I.Items.last _ _ _ _ _ _ _ _ c.loop-item.invariant.ran
+          (rw is at c.go_on.ensures.answers)
           (rw c.event.ensures at c.in-Ok-pass_line.ensures.passed);
     }
 
@@ -60,6 +71,9 @@ loop-item-preserved-in-Ok-pass_line-3 g c =
       failures = search rules;
       so_far = line_passed (now g (goal.at.loop-item-preserved-in-Ok-pass_line-3 g c).After-go_on) _ _ is
           (rw c.event.ensures at c.in-Ok-pass_line.ensures.passed);
+      ran = run_more g.I.Items.goes g.I.Items.last _ _ _ _ _ _ _ _ c.loop-item.invariant.ran
+          (rw is at c.go_on.ensures.answers)
+          (rw c.event.ensures at c.in-Ok-pass_line.ensures.passed);
     }
 
 pub loop-item-preserved-in-Ok-pass_line-4 : goal.loop-item-preserved-in-Ok-pass_line-4
@@ -69,6 +83,9 @@ loop-item-preserved-in-Ok-pass_line-4 g c =
       unchanged = search rules;
       failures = search rules;
       so_far = line_passed (now g (goal.at.loop-item-preserved-in-Ok-pass_line-4 g c).After-go_on) _ _ is
+          (rw c.event.ensures at c.in-Ok-pass_line.ensures.passed);
+      ran = run_more g.I.Items.goes g.I.Items.last _ _ _ _ _ _ _ _ c.loop-item.invariant.ran
+          (rw is at c.go_on.ensures.answers)
           (rw c.event.ensures at c.in-Ok-pass_line.ensures.passed);
     }
 
@@ -98,6 +115,21 @@ returns-in-Err-clause-failures g c =
     (g.I.Items.failures c.go_on.new.self)) is c.go_on.ensures.failures)
     c.fault_behind.ensures.sent
 
+pub returns-in-Err-clause-answers : goal.returns-in-Err-clause-answers
+returns-in-Err-clause-answers g c =
+    let is : c.go_on.result ≡ Some (Err c.in-Err.error) = search rules in
+    run_faulted g.I.Items.goes g.I.Items.last _ _ _ _ _ _ _ c.in-Err.error c.fault_behind.result
+    c.loop-item.invariant.ran (rw is at c.go_on.ensures.answers)
+    (rw c.as_slice.ensures.value at c.fault_behind.ensures.sent)
+    (rw c.as_slice.ensures.value at c.fault_behind.ensures.front)
+
+pub returns-in-Err-pass_line-clause-answers : goal.returns-in-Err-pass_line-clause-answers
+returns-in-Err-pass_line-clause-answers g c =
+    let is : c.go_on.result ≡ Some (Ok (tt {0})) = search rules in
+    run_stopped g.I.Items.goes g.I.Items.last _ _ _ _ _ _ _ c.in-Err-pass_line.error
+    c.loop-item.invariant.ran (rw is at c.go_on.ensures.answers) c.in-Err-pass_line.ensures.fault
+    (rw c.event.ensures at c.in-Err-pass_line.ensures.front)
+
 pub returns-in-Err-pass_line-clause-refused : goal.returns-in-Err-pass_line-clause-refused
 returns-in-Err-pass_line-clause-refused g c =
     own_ends (g.I.Items.coming c.args.items.now) c.in-Err-pass_line.error _ _
@@ -126,6 +158,13 @@ returns-clause-printed g c =
     on_ok_weaker c.send.result
     (λ sent. all_passed (now g (goal.at.returns-clause-printed g c).After-go_on) _ is
     (rw c.as_slice-2.ensures.value at sent)) c.send.ensures.sent
+
+pub returns-clause-answers : goal.returns-clause-answers
+returns-clause-answers g c =
+    let is : c.go_on.result ≡ None = search rules in
+    run_ended g.I.Items.goes g.I.Items.last _ _ _ _ _ _ _ c.send.result c.loop-item.invariant.ran
+    (rw is at c.go_on.ensures.answers) (rw c.as_slice-2.ensures.value at c.send.ensures.sent)
+    c.send.ensures.fault (rw c.as_slice-2.ensures.value at c.send.ensures.front)
 
 pub returns-clause-refused : goal.returns-clause-refused
 returns-clause-refused g c =

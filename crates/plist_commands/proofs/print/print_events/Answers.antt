@@ -1,7 +1,7 @@
 use Rattle.std.proofs.Common.{ap}
 use Rattle.std.proofs.lemmas.Result.{IfErr-weaker, on_ok_weaker}
 use Rattle.plist_base.specs.Fronts.{AppendsFront}
-use Rattle.plist_binread.specs.BinaryReader.{source_of, to_come}
+use Rattle.plist_binread.specs.BinaryReader.{to_come}
 use Rattle.plist_format.specs.Unfolding.{items_of_file}
 use Rattle.plist_commands.specs.Converting.{items_left}
 use Rattle.plist_commands.specs.Lines.{lines_of}
@@ -38,11 +38,12 @@ returns-clause-front g c =
     (ap g.S.Source.known c.new-reader.ensures.source) c.new-reader.ensures.items
     c.print_reader.ensures.front
 
-pub returns-clause-failures : goal.returns-clause-failures
-returns-clause-failures g c = (
-  source_of c.print_reader.new.reader,
-  (
-    rw c.new-reader.ensures.source at c.print_reader.ensures.unchanged,
-    rw c.new-reader.ensures.source at c.print_reader.ensures.failures,
-  ),
+pub returns-clause-answers : goal.returns-clause-answers
+returns-clause-answers g c = (
+  c.new-reader.result,
+  c.print_reader.new.reader,
+  c.new-reader.ensures.source,
+  c.new-reader.ensures.new,
+  c.print_reader.ensures.answers,
+  c.print_reader.ensures.failures,
 )

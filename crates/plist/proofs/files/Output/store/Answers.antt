@@ -4,7 +4,8 @@ use Rattle.plist.proofs.Gathered.{stored}
 use Rattle.plist.proofs.files.Output.store.Goals as goal
 
 pub returns : goal.returns
-returns g c =
-    stored (λ output. contents_of g.R.File.Write.contents output.file)
-    (tree_of c.args.value.now) c.sync.result c.args.self.now c.to_writer_binary.new.writer
-    c.in_ok-to_writer_binary.ensures.sent c.sync.ensures
+returns g c = record {
+  sent = stored (λ output. contents_of g.R.File.Write.contents output.file)
+      (tree_of c.args.value.now) c.sync.result c.args.self.now c.to_writer_binary.new.writer
+      c.in_ok-to_writer_binary.ensures.sent c.sync.ensures;
+}

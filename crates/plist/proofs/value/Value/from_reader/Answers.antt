@@ -1,5 +1,6 @@
 use Rattle.plist_reader.specs.Reader.{items_of_input, to_come}
 use Rattle.plist.specs.Collecting.{built_tree}
+use Rattle.plist.proofs.ReadFaults.{reader-tells}
 use Rattle.plist.proofs.Shown.{of-items, reader-shows, reads-back}
 use Rattle.plist.proofs.value.Value.from_reader.Goals as goal
 
@@ -20,3 +21,8 @@ returns-clause-read g c = (
   c.new-reader.ensures.items,
   c.collect.ensures.value,
 )
+
+pub returns-clause-fault : goal.returns-clause-fault
+returns-clause-fault g c =
+    reader-tells g.R.Source.known g.R.Source.failures c.new-reader.result c.collect.result
+    c.new-reader.ensures.limited c.collect.ensures.value

@@ -1,7 +1,8 @@
 use Rattle.plist_base.specs.Limits.{come_of, inner_of}
 use Rattle.std.proofs.Common.{ap, ◌∙◌, option_map}
-use Rattle.plist_reader.specs.Reader.{Gives, limited_input, to_come}
+use Rattle.plist_reader.specs.Reader.{Gives, limited_input, source_of, to_come}
 use Rattle.plist.specs.Collecting.{built_tree}
+use Rattle.plist.proofs.ReadFaults.{limited-tells}
 use Rattle.plist.proofs.Shown.{of-items, reader-shows}
 use Rattle.plist.proofs.Limiting.{built-within, input-twice, limited-shows}
 use Rattle.plist.proofs.value.Value.from_reader_with_limits.Goals as goal
@@ -26,7 +27,13 @@ pub returns-clause-read : goal.returns-clause-read
 returns-clause-read g c = (
   c.new.result,
   c.new.ensures.items,
+  ap source_of c.new.ensures.inner ∙ c.with_limits-reader.ensures.source,
   ap (to_come _) c.new.ensures.inner
       ∙ c.with_limits-reader.ensures.items,
   c.collect.ensures.value,
 )
+
+pub returns-clause-fault : goal.returns-clause-fault
+returns-clause-fault g c =
+    limited-tells g.R.Source.known g.R.Source.failures c.new.result c.collect.result
+    c.collect.ensures.value

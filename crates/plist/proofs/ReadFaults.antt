@@ -1,0 +1,145 @@
+-- Which faults a value that is read can have.
+use Rattle.std.proofs.Common.{◌≡◌, ℕ, inl, inr, Bool, true, false, List, [], ◌∷◌, ◌++◌, Option, Some, None, Result, Ok, Err, IfErr, IfSome, MatchBool, map, refl, sym, subst}
+use Rattle.std.specs.Prelude.{⊤}
+use Rattle.std.specs.Iterator.{Yields}
+use Rattle.plist_base.specs.declared.error.Error.{Error}
+use Rattle.plist_base.specs.declared.event.Event.{Event}
+use Rattle.plist_base.specs.declared.limited.Limited.{Limited}
+use Rattle.plist_base.specs.declared.source.Source.{Ghosts}
+use Rattle.plist_base.specs.Events.{PlainEvent, EndCollection, Single, event_of}
+use Rattle.plist_base.specs.Faults.{FaultKind, Fault, LimitReached, fault_of}
+use Rattle.plist_base.specs.Limits.{GivesLimited, PassesNext}
+use Rattle.plist_base.specs.Trees.{String, Tree}
+use Rattle.plist_reader.specs.declared.reader.Reader.{Reader}
+use Rattle.plist_reader.specs.Reader.{Gives, IsReaderFault, is_limited}
+use Rattle.plist.specs.declared.value.Value.{Value}
+use Rattle.plist.specs.Building.{Unfinished, NotBegun, Within, Complete, InArray, InDictionary, AfterKey, OpenCollection, refusal_at, refusal_of_key, refusal_of_value, refusal_within}
+use Rattle.plist.specs.Collecting.{Collects, IsRefusal, built_tree, item_by}
+use Rattle.plist.specs.ReadBy.{IsFaultOfEvents, IsReadingFault}
+
+-- ---- an event that can't come
+
+value-refused : (event : PlainEvent) → IfSome (refusal_of_value event) IsFaultOfEvents
+value-refused EndCollection = tt
+value-refused event = tt
+
+key-refused : (event : PlainEvent) → IfSome (refusal_of_key event) IsFaultOfEvents
+key-refused EndCollection = tt
+key-refused (Single (String key)) = tt
+key-refused event = tt
+
+within-refused : (collection : OpenCollection) (event : PlainEvent)
+    → IfSome (refusal_within collection event) IsFaultOfEvents
+within-refused (InArray items) event = tt
+within-refused (InDictionary pairs) event = key-refused event
+within-refused (AfterKey pairs key) event = value-refused event
+
+refused-events : (held : Unfinished) (event : PlainEvent)
+    → IfSome (refusal_at held event) IsFaultOfEvents
+refused-events NotBegun event = value-refused event
+refused-events (Within collection outer) event = within-refused collection event
+refused-events (Complete tree) event = tt
+
+of-refusal : (limited : Bool) (refusal : Option FaultKind) (fault : Fault)
+    → IfSome refusal IsFaultOfEvents → IsRefusal refusal fault → IsReadingFault limited fault
+of-refusal limited None fault events is = subst (IsReadingFault limited) (sym is) (inl (tt, refl))
+of-refusal limited (Some kind) fault events is =
+    subst (IsReadingFault limited) (sym is) (inr (events, refl))
+
+-- ---- an item that is an error
+
+module _ {E I : Type 0} (plain : E → PlainEvent)
+    (gives : I → Option (Result E Error) → I → Type 0) (limited : Bool) (Holds : I → Type 0)
+    (keeps : (old : I) (item : Option (Result E Error)) (new : I) → gives old item new → Holds old
+    → Holds new)
+    (tells : (old : I) (error : Error) (new : I) → gives old (Some (Err error)) new → Holds old
+    → IsReadingFault limited (fault_of error)) where
+  last-error : (taken : List (Result E Error)) (events : List PlainEvent) (fault : Fault)
+      (iter left : I) → Holds iter → Yields gives iter taken left
+      → map (item_by plain) taken ≡ map Ok events ++ Err fault ∷ [] → IsReadingFault limited fault
+  last-error [] [] fault iter left holds yields is = absurd (cc is)
+  last-error [] (event ∷ events) fault iter left holds yields is = absurd (cc is)
+  last-error (Ok event ∷ taken) [] fault iter left holds yields is = absurd (cc is)
+  last-error (Err error ∷ taken) [] fault iter left holds (mid, step, more) is =
+      let same : fault_of error ≡ fault = cc is in
+      subst (IsReadingFault limited) same (tells iter error mid step holds)
+  last-error (Err error ∷ taken) (event ∷ events) fault iter left holds yields is = absurd (cc is)
+  last-error (Ok event ∷ taken) (first ∷ events) fault iter left holds (mid, step, more) is =
+      last-error taken events fault mid left (keeps iter (Some (Ok event)) mid step holds) more
+      (cc is)
+
+  fault-tells : (iter : I) (answer : Result Tree Fault) → Holds iter
+      → Collects plain gives iter answer → IfErr answer (IsReadingFault limited)
+  fault-tells iter (Ok tree) holds collects = tt
+  fault-tells iter (Err fault) holds
+      (after, (taken, left, yields, (events, held, nested, alike, inl (is, stops)))) =
+      last-error taken events fault iter left holds yields is
+  fault-tells iter (Err fault) holds
+      (after, (taken, left, yields, (events, held, nested, alike, inr (inl (event, is, stops, why))))) =
+      of-refusal limited (refusal_at held event) fault (refused-events held event) why
+  fault-tells iter (Err fault) holds
+      (after, (taken, left, yields, (events, held, nested, alike, inr (inr (is, ends, why, none))))) =
+      subst (IsReadingFault limited) (sym why) (inr (tt, refl))
+
+  pub error-tells : (iter : I) (answer : Result Value Error) → Holds iter
+      → Collects plain gives iter (built_tree answer)
+      → IfErr answer (λ error. IsReadingFault limited (fault_of error))
+  error-tells iter (Ok value) holds collects = tt
+  error-tells iter (Err error) holds collects = fault-tells iter (Err (fault_of error)) holds collects
+
+-- ---- the readers
+
+abbrev refused : Error → Option (Result Event Error)
+refused error = Some (Err error)
+
+loosened : (limited : Bool) (kind : FaultKind) → IsReaderFault limited kind
+    → IsReaderFault true kind
+loosened limited (LimitReached limit) is = refl
+loosened limited kind is = is
+
+module _ {R : Type 0} {g : Ghosts R} (known : R → Option (List ℕ)) (failed : R → ℕ) where
+  -- one without limits
+  pub reader-tells : (reader : Reader R g) (answer : Result Value Error) → is_limited reader ≡ false
+      → Collects event_of (Gives known failed) reader (built_tree answer)
+      → IfErr answer (λ error. IsReadingFault false (fault_of error))
+  reader-tells reader answer none collects =
+      error-tells event_of (Gives known failed) false (λ r. is_limited r ≡ false)
+      (λ old item new gives none. gives.limits none)
+      (λ old error new gives none. inl (
+        subst (λ b. IsReaderFault b (fault_of error).kind) none gives.kinds,
+        gives.offset,
+      ))
+      reader answer none collects
+
+  passed : (old : Limited (Reader R g)) (error : Error) (new : Limited (Reader R g))
+      → GivesLimited (Gives known failed) old (Some (Err error)) new
+      → IsReadingFault true (fault_of error)
+  passed old error new gives = by old.ended gives
+    where
+      behind : (asked : Option (Result Event Error))
+          → Gives known failed old.inner asked new.inner
+          → PassesNext old.limiter asked (Some (Err error)) new.limiter new.ended
+          → IsReadingFault true (fault_of error)
+      behind None gave is = absurd (cc is.0)
+      behind (Some (Ok event)) gave is =
+          subst (IsReadingFault true) (sym is.0.1) (inl (refl, refl))
+      behind (Some (Err other)) gave is =
+          let same : other ≡ error = cc is.0 in
+          subst (λ e. IsReadingFault true (fault_of e)) same
+          (inl (loosened (is_limited old.inner) (fault_of other).kind gave.kinds, gave.offset))
+
+      by : (ended : Bool) → MatchBool ended ((refused error ≡ None) × (new ≡ old))
+          ((asked : Option (Result Event Error)) × Gives known failed old.inner asked new.inner
+          × PassesNext old.limiter asked (refused error) new.limiter new.ended)
+          → IsReadingFault true (fault_of error)
+      by true is = absurd (cc is.0)
+      by false (asked, gave, is) = behind asked gave is
+
+  -- one under limits
+  pub limited-tells : (limited : Limited (Reader R g)) (answer : Result Value Error)
+      → Collects event_of (GivesLimited (Gives known failed)) limited (built_tree answer)
+      → IfErr answer (λ error. IsReadingFault true (fault_of error))
+  limited-tells limited answer collects =
+      error-tells event_of (GivesLimited (Gives known failed)) true (λ _. ⊤)
+      (λ old item new gives all. tt) (λ old error new gives all. passed old error new gives) limited
+      answer tt collects

@@ -1,0 +1,283 @@
+-- What is printed of the events that came so far.
+use Rattle.std.proofs.Common.{◌≡◌, ◌⊎◌, inl, inr, ℕ, Bool, true, false, true≢false, List, [], ◌∷◌, ◌++◌, Option, None, Some, Result, Ok, Err, IfErr, OnOk, map, refl, sym, ap, ◌∙◌, subst, append_assoc, append-nil}
+use Rattle.std.specs.Io.KnownBytes.{Appends, Keeps}
+use Rattle.std.specs.Prelude.{IsErrAnd}
+use Rattle.std.proofs.KnownBytes.{Appends-nil, Appends-trans}
+use Rattle.std.proofs.lemmas.List.{map-append}
+use Rattle.plist_base.specs.Bracketing.{unhinted}
+use Rattle.plist_base.specs.Sources.{CountsIo, Rises}
+use Rattle.plist_commands.specs.declared.convert.Streamed.{Streamed}
+use Rattle.plist_commands.specs.declared.convert.Streamed.TheVariants.{NeedsValue}
+use Rattle.plist_base.specs.declared.error.Error.{Error}
+use Rattle.plist_base.specs.Events.{PlainEvent}
+use Rattle.plist_base.specs.Faults.{FaultKind, Io, IsIo, MatchFault, OutOfMemory, error_kind_of, fault_nowhere, fault_of, kind_of, offset_of}
+use Rattle.plist_base.specs.Fronts.{AppendsFront}
+use Rattle.plist_base.proofs.Fronts.{Appends-at}
+use Rattle.plist_commands.specs.Fronts.{PassesOn}
+use Rattle.plist_commands.specs.Lines.{line_of, lines_of_events}
+use Rattle.plist_commands.specs.Printing.{IsOwn, IsOwnFault}
+use Rattle.plist_commands.specs.Runs.{EndsBy, GoesThrough, Gone, HoldsRun, PrintsRun}
+use Rattle.plist_commands.proofs.HeldBack.{device_own}
+
+lines_more : (events : List PlainEvent) (event : PlainEvent)
+    → lines_of_events (events ++ event ∷ []) ≡ lines_of_events events ++ line_of event
+lines_more [] event = append-nil (line_of event)
+lines_more (first ∷ events) event =
+    ap (λ l. line_of first ++ l) (lines_more events event)
+    ∙ sym (append_assoc (line_of first) (lines_of_events events) (line_of event))
+
+memory_own : (error : Error) → fault_of error ≡ fault_nowhere OutOfMemory → IsOwnFault error
+memory_own error is = subst IsOwn (sym is) (refl, tt)
+
+-- all that was held back went out
+all_sent : (old now after : Option (List ℕ)) (lines held : List ℕ) → PassesOn old now lines held
+    → Appends now after held → Appends old after lines
+all_sent old now after lines held (sent, appended, is) more =
+    Appends-at old after _ _ (sym is) (Appends-trans old now after sent held appended more)
+
+-- a beginning of it did
+front_sent : (old now after : Option (List ℕ)) (lines held : List ℕ) → PassesOn old now lines held
+    → AppendsFront now after held → AppendsFront old after lines
+front_sent old now after lines held (sent, appended, is) (part, rest, more, split) = (
+  sent ++ part,
+  rest,
+  Appends-trans old now after sent part appended more,
+  is ∙ ap (λ l. sent ++ l) split ∙ sym (append_assoc sent part rest),
+)
+
+-- and the writer was flushed
+appends_kept : (old now after : Option (List ℕ)) (bytes : List ℕ) → Appends old now bytes
+    → Keeps now after → Appends old after bytes
+appends_kept None now after bytes appended kept = tt
+appends_kept (Some xs) None after bytes appended kept = absurd appended
+appends_kept (Some xs) (Some ys) None bytes appended kept = absurd kept
+appends_kept (Some xs) (Some ys) (Some zs) bytes appended kept = kept ∙ appended
+
+front_kept : (old now after : Option (List ℕ)) (bytes : List ℕ) → AppendsFront old now bytes
+    → Keeps now after → AppendsFront old after bytes
+front_kept old now after bytes (sent, rest, appended, is) kept =
+    (sent, rest, appends_kept old now after sent appended kept, is)
+
+module _ {I : Type 0} (goes : I → Gone → I → Type 0) (last : I → PlainEvent) where
+  -- so many events came, whose lines were sent or are held back
+  abbrev pub HasRun : (old now : I) → (before after : Option (List ℕ)) → (held : List ℕ) → Type 0
+  HasRun old now before after held =
+      (events : List PlainEvent) × GoesThrough goes last old events now
+      × PassesOn before after (lines_of_events events) held
+
+  pub run_none : (old : I) (before : Option (List ℕ)) (held : List ℕ) → held ≡ []
+      → HasRun old old before before held
+  run_none old before held none = ([], refl, ([], Appends-nil before, sym none))
+
+  one_more : (events : List PlainEvent) (old now new : I) → GoesThrough goes last old events now
+      → goes now (Some (Ok tt)) new → GoesThrough goes last old (events ++ last new ∷ []) new
+  one_more [] old now new is step =
+      (new, subst (λ i. goes i (Some (Ok tt)) new) (sym is) step, refl, refl)
+  one_more (event ∷ events) old now new (next, first, told, more) step =
+      (next, first, told, one_more events next now new more step)
+
+  -- with its line
+  line_held : (events : List PlainEvent) (event : PlainEvent) (before now : Option (List ℕ))
+      (held : List ℕ) → PassesOn before now (lines_of_events events) held
+      → PassesOn before now (lines_of_events (events ++ event ∷ [])) (held ++ line_of event)
+  line_held events event before now held (sent, appended, is) = (
+    sent,
+    appended,
+    lines_more events event ∙ ap (λ l. l ++ line_of event) is
+        ∙ append_assoc sent held (line_of event),
+  )
+
+  passed_further : (before now after : Option (List ℕ)) (lines held kept : List ℕ)
+      → PassesOn before now lines held → PassesOn now after held kept
+      → PassesOn before after lines kept
+  passed_further before now after lines held kept (sent, appended, is) (part, more, split) = (
+    sent ++ part,
+    Appends-trans before now after sent part appended more,
+    is ∙ ap (λ l. sent ++ l) split ∙ sym (append_assoc sent part kept),
+  )
+
+  -- one event more
+  pub run_more : (old now new : I) (before here after : Option (List ℕ)) (held kept : List ℕ)
+      → HasRun old now before here held → goes now (Some (Ok tt)) new
+      → PassesOn here after (held ++ line_of (last new)) kept → HasRun old new before after kept
+  run_more old now new before here after held kept (events, through, passed) step line = (
+    events ++ last new ∷ [],
+    one_more events old now new through step,
+    passed_further before here after _ _ kept (line_held events (last new) before here held passed)
+        line,
+  )
+
+  -- its line didn't go out whole
+  pub run_stopped : (old now new : I) (before here after : Option (List ℕ)) (held : List ℕ)
+      (error : Error) → HasRun old now before here held → goes now (Some (Ok tt)) new
+      → IsOwnFault error → AppendsFront here after (held ++ line_of (last new))
+      → PrintsRun goes last old (Err error) new before after
+  run_stopped old now new before here after held error (events, through, passed) step own front = (
+    events ++ last new ∷ [],
+    new,
+    one_more events old now new through step,
+    inr (
+      own,
+      inl refl,
+      front_sent before here after _ _
+          (line_held events (last new) before here held passed) front,
+    ),
+  )
+
+  -- a fault came, which is the answer once what was held back was sent
+  pub run_faulted : (old now new : I) (before here after : Option (List ℕ)) (held : List ℕ)
+      (error answer : Error) → HasRun old now before here held → goes now (Some (Err error)) new
+      → ((answer ≡ error) × Appends here after held) ⊎ (fault_of answer ≡ fault_nowhere Io)
+      → AppendsFront here after held → PrintsRun goes last old (Err answer) new before after
+  run_faulted old now new before here after held error answer (events, through, passed) step
+      (inl (same, sent)) front = (
+        events,
+        now,
+        through,
+        inl (
+          subst (λ e. goes now (Some (Err e)) new) (sym same) step,
+          all_sent before here after _ _ passed sent,
+        ),
+      )
+  run_faulted old now new before here after held error answer (events, through, passed) step
+      (inr own) front = (
+        events,
+        now,
+        through,
+        inr (
+          device_own answer own,
+          inr (Some (Err error), step),
+          front_sent before here after _ _ passed front,
+        ),
+      )
+
+  -- nothing came, and what was held back is sent
+  pub run_ended : (old now new : I) (before here after : Option (List ℕ)) (held : List ℕ)
+      (answer : Result (Unit {0}) Error) → HasRun old now before here held → goes now None new
+      → OnOk answer (Appends here after held)
+      → IfErr answer (λ error. fault_of error ≡ fault_nowhere Io)
+      → AppendsFront here after held → PrintsRun goes last old answer new before after
+  run_ended old now new before here after held (Ok done) (events, through, passed) step sent own
+      front = (
+        events,
+        now,
+        through,
+        (step, all_sent before here after _ _ passed sent),
+      )
+  run_ended old now new before here after held (Err error) (events, through, passed) step sent own
+      front = (
+        events,
+        now,
+        through,
+        inr (
+          device_own error own,
+          inr (None, step),
+          front_sent before here after _ _ passed front,
+        ),
+      )
+
+  -- no memory for the lines
+  pub run_unbegun : (old : I) (before : Option (List ℕ)) (answer : Result (Unit {0}) Error)
+      → IsErrAnd answer (λ error. fault_of error ≡ fault_nowhere OutOfMemory)
+      → PrintsRun goes last old answer old before before
+  run_unbegun old before (Ok done) none = absurd none
+  run_unbegun old before (Err error) none =
+      ([], old, refl, inr (memory_own error none, inl refl, ([], [], Appends-nil before, refl)))
+
+  -- a flush behind what failed
+  run_kept : (old new : I) (before now after : Option (List ℕ)) (error : Error)
+      → PrintsRun goes last old (Err error) new before now → Keeps now after
+      → PrintsRun goes last old (Err error) new before after
+  run_kept old new before now after error (events, left, through, inl (step, sent)) kept =
+      (events, left, through, inl (step, appends_kept before now after _ sent kept))
+  run_kept old new before now after error (events, left, through, inr (own, asked, front)) kept =
+      (events, left, through, inr (own, asked, front_kept before now after _ front kept))
+
+  -- what failed before stays the answer
+  pub run_refused : (old new : I) (before now after : Option (List ℕ)) (error : Error)
+      (answer : Result (Unit {0}) Error) → IsErrAnd answer (λ e. e ≡ error)
+      → PrintsRun goes last old (Err error) new before now → Keeps now after
+      → PrintsRun goes last old answer new before after
+  run_refused old new before now after error (Ok done) same ran kept = absurd same
+  run_refused old new before now after error (Err other) same ran kept =
+      run_kept old new before now after other
+      (subst (λ e. PrintsRun goes last old (Err e) new before now) (sym same) ran) kept
+
+-- ---- events that are held
+
+module _ {I : Type 0} (goes : I → Gone → I → Type 0) (last : I → PlainEvent) where
+  -- so many events came, which are held
+  abbrev pub HasHeld : (old now : I) → (held : List PlainEvent) → Type 0
+  HasHeld old now held =
+      (events : List PlainEvent)
+      × GoesThrough goes last old events now
+      × (held ≡ map unhinted events)
+
+  pub held_none : (old : I) (held : List PlainEvent) → held ≡ [] → HasHeld old old held
+  held_none old held none = ([], refl, none)
+
+  -- one event more
+  pub held_more : (old now new : I) (held longer : List PlainEvent) → HasHeld old now held
+      → goes now (Some (Ok tt)) new
+      → longer ≡ held ++ unhinted (last new) ∷ [] → HasHeld old new longer
+  held_more old now new held longer (events, through, is) step more = (
+    events ++ last new ∷ [],
+    one_more goes last events old now new through step,
+    more ∙ ap (λ l. l ++ unhinted (last new) ∷ []) is
+        ∙ sym (map-append unhinted events (last new ∷ [])),
+  )
+
+  -- a fault came
+  pub held_faulted : (old now new : I) (held final : List PlainEvent) (error : Error)
+      → HasHeld old now held → goes now (Some (Err error)) new
+      → HoldsRun goes last old (Err error) new final
+  held_faulted old now new held final error (events, through, is) step =
+      (events, now, through, inl step)
+
+  -- an event came that can't be held
+  pub held_refused : (old now new : I) (held final : List PlainEvent)
+      → HasHeld old now held → goes now (Some (Ok tt)) new
+      → HoldsRun goes last old (Ok false) new final
+  held_refused old now new held final (events, through, is) step = (
+    events ++ last new ∷ [],
+    new,
+    one_more goes last events old now new through step,
+    (inl refl, λ no. absurd (true≢false (sym no))),
+  )
+
+  -- memory was wanted for it
+  pub held_stopped : (old now new : I) (held final : List PlainEvent) (error : Error)
+      → HasHeld old now held → goes now (Some (Ok tt)) new
+      → fault_of error ≡ fault_nowhere OutOfMemory
+      → HoldsRun goes last old (Err error) new final
+  held_stopped old now new held final error (events, through, is) step memory = (
+    events ++ last new ∷ [],
+    new,
+    one_more goes last events old now new through step,
+    inr (memory, refl),
+  )
+
+  -- nothing came
+  pub held_whole : (old now new : I) (held : List PlainEvent) (whole : Bool)
+      → HasHeld old now held → goes now None new
+      → HoldsRun goes last old (Ok whole) new held
+  held_whole old now new held whole (events, through, is) step =
+      (events, now, through, (inr (None, step), λ _. (step, is)))
+
+-- ---- what comes of them
+
+pub io_rises : (error : Error) (old new : ℕ) → IsIo (kind_of (error_kind_of error))
+    → CountsIo error old new → Rises old new
+io_rises error old new io counts = by (kind_of (error_kind_of error)) io counts
+  where
+    by : (kind : FaultKind) → IsIo kind
+        → MatchFault kind (Rises old new) (new ≡ old) (new ≡ old) → Rises old new
+    by Io io counts = counts
+    by kind io counts = absurd io
+
+pub ends_sent : (whole : Bool) (answer : Result Streamed Error) → whole ≡ true
+    → IfErr answer (λ error. offset_of error ≡ None) → EndsBy (Ok whole) answer
+ends_sent whole answer is nowhere = rw is nowhere
+
+pub ends_left : (whole : Bool) → whole ≡ false → EndsBy (Ok whole) (Ok NeedsValue)
+ends_left whole is = rw is refl
