@@ -66,6 +66,7 @@ fn hold_events<I: Items, H: Holder>(
 }
 
 // Holds the events of a binary source.
+#[inline(never)]
 fn hold_binary<S: Source>(alloc: Global, source: S, pending: &mut Pending) -> Result<bool, Error>
     requires empty { IsEmpty (is_whole pending.old) (events_held pending.old) }
     requires binary { IfSome (S.known source) (λ bytes. Format.Binary ≡ format_of bytes) }
@@ -78,7 +79,9 @@ fn hold_binary<S: Source>(alloc: Global, source: S, pending: &mut Pending) -> Re
     hold_events(alloc, &mut reader, pending)
 }
 
-// Holds the events of a source of any format.
+// Holds the events of a source of any format. It stands apart, since what it moves takes much of the
+// call stack.
+#[inline(never)]
 fn hold_any<S: Source>(alloc: Global, source: S, pending: &mut Pending) -> Result<bool, Error>
     requires empty { IsEmpty (is_whole pending.old) (events_held pending.old) }
     ensures held { FindsTree (items_of_known (S.known source)) result (events_held pending.new) }
