@@ -99,8 +99,7 @@ def program(folder):
     for file in (HERE / "calls").glob("*.rt.in"):
         shutil.copy(file, source / file.stem)
     lines.append("calls: plist_base plist_data plist_binread plist_binwrite plist_share plist_ascii "
-                 "plist_reader plist_support plist plist_value_support plist_keyed plist_callers "
-                 "plist_uses hex")
+                 "plist_reader plist_support plist plist_keyed plist_callers plist_uses hex")
     (root / "crates.txt").write_text("\n".join(lines) + "\n")
     subprocess.run(["rt", "run", "--", "none", "none"], cwd=source.parent, stdout=sys.stderr)
     return source.parent / "out/calls"
