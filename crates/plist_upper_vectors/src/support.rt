@@ -1,7 +1,14 @@
-//! What the examples share, which ends a test that doesn't find what it wants.
+//! What the tests share, which ends a test that doesn't find what it wants.
 
+mod devices;
+mod files;
+mod runs;
+
+pub(crate) use devices::{Stuck, broken_file, expect_taken, failing, sound};
+pub(crate) use files::{RECURSIVE, expect_holds, expect_missing, put, remove};
 use plist::{Builder, Value};
 use plist_support::{words_of_events, write_all};
+pub(crate) use runs::{expect_done, expect_fault, expect_given, expect_run, run};
 use std::fmt::Debug;
 use std::process::Abort;
 
