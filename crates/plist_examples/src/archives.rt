@@ -1,16 +1,16 @@
 //! Trees of keyed archives.
 
 use crate::rows::{Row, bytes_given, unreadable};
+use crate::words::value_of;
 use plist::{Uid, Value};
 use plist_keyed::{Archive, KeyedError};
-use plist_support::{Wrong, expect_same, told};
-use plist_value_support::{value_of, words_of_value};
+use plist_support::{Wrong, expect_same, told, words_of_events};
 use std::alloc::{AllocError, Global};
 
 // The words of an answer's tree, or the text of its fault.
 fn words_of_tree(alloc: Global, answer: Result<Value, KeyedError>) -> Result<String, AllocError> {
     match answer {
-        Ok(tree) => words_of_value(alloc, &tree),
+        Ok(tree) => words_of_events(alloc, tree.events(alloc)),
         Err(error) => error.to_string(alloc),
     }
 }

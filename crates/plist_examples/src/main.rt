@@ -10,6 +10,7 @@ mod rows;
 mod scalars;
 mod told;
 mod values;
+mod words;
 mod writes;
 mod writing;
 

@@ -1,9 +1,9 @@
 //! Calls that go by a file's name under limits, values taken apart, and the texts of reals.
 
 use crate::rows::{Row, first_number, unreadable};
+use crate::words::{value_of, words_of_answer};
 use plist::{Limits, RealBits, Value, Variant};
 use plist_support::{Wrong, expect_same};
-use plist_value_support::{value_of, words_of_answer};
 use std::alloc::Global;
 use std::rt::Files;
 

@@ -1,6 +1,7 @@
 //! Values: what is read as them, which are equal, and what is built of events.
 
 use crate::rows::{Row, bytes_given, limits_given, unreadable};
+use crate::words::{value_of, words_of_answer};
 use crate::writes::expect_done;
 use plist::{Builder, Dialect, Value};
 use plist_base::{Error, ErrorKind, Event};
@@ -8,7 +9,6 @@ use plist_support::{
     Device, Wrong, add_words, event_of, expect_answers, expect_bytes, expect_io, expect_same,
     expect_that, told,
 };
-use plist_value_support::{value_of, words_of_answer};
 use std::alloc::{AllocError, Global};
 use std::io;
 

@@ -1,6 +1,7 @@
 //! What `BinaryWriter` and `SharingWriter` write, byte by byte, and what is read of that.
 
 use crate::rows::{Row, bytes_given, first_number, first_word, unreadable};
+use crate::words::{value_of, words_of_answer};
 use crate::writes::{Sending, Way, expect_done, expect_file_on_devices};
 use plist::{Builder, Value, write_value};
 use plist_binread::BinaryReader;
@@ -9,7 +10,6 @@ use plist_share::{EqualTrees, SharingWriter};
 use plist_support::{
     Fault, Wrong, expect_answers, expect_bytes, expect_same, told, words_of, write_all,
 };
-use plist_value_support::{value_of, words_of_answer};
 use std::alloc::Global;
 use std::io::ErrorKind;
 

@@ -53,8 +53,8 @@ pub fn word_of(alloc: Global, event: &Event<'_>) -> Result<String, AllocError> {
     }
 }
 
-/// Adds an item's word, or the text of its fault, behind those that are there.
-pub fn add_item(
+// Adds an item's word, or the text of its fault, behind those that are there.
+fn add_item(
     alloc: Global,
     all: &mut String,
     item: &Result<Event<'_>, Error>,
@@ -84,6 +84,21 @@ pub fn words_of<I: Iterator<Item = Result<OwnedEvent, Error>> + Drop>(
 {
     let mut all = String::new(alloc);
     for item in reader {
+        add_item(alloc, &mut all, &item)?;
+    }
+    Ok(all)
+}
+
+/// The words of a value's events.
+pub fn words_of_events<'a, I: Iterator<Item = Result<Event<'a>, Error>> + Drop>(
+    alloc: Global,
+    events: I,
+) -> Result<String, AllocError>
+    requires asked { I.can_next events }
+    requires ends { IsFinite (I.remaining events) }
+{
+    let mut all = String::new(alloc);
+    for item in events {
         add_item(alloc, &mut all, &item)?;
     }
     Ok(all)

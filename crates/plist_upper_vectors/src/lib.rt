@@ -1,12 +1,26 @@
-//! The worked examples of what stands on values: archives, the examples to copy, and values of very
-//! many levels, by public calls alone.
+//! Tests of what stands on values, by public calls alone: archives, the examples to copy, values of
+//! very many levels, and what the commands of `plist_tool` print, say and leave behind.
 #![tactic(auto)]
 
 #[cfg(test)]
 mod archives;
 #[cfg(test)]
+mod commands;
+#[cfg(test)]
+mod convert;
+#[cfg(test)]
 mod deep;
+#[cfg(test)]
+mod keyed;
+#[cfg(test)]
+mod lines;
+#[cfg(test)]
+mod print;
+#[cfg(test)]
+mod sending;
 #[cfg(test)]
 mod support;
 #[cfg(test)]
 mod uses;
+#[cfg(test)]
+mod values;

@@ -1,6 +1,14 @@
-//! What the examples share, which ends a test that doesn't find what it wants.
+//! What the tests share, which ends a test that doesn't find what it wants.
 
-use plist::Value;
+mod devices;
+mod files;
+mod runs;
+
+pub(crate) use devices::{Stuck, broken_file, expect_taken, failing, sound};
+pub(crate) use files::{RECURSIVE, expect_holds, expect_missing, put, remove};
+use plist::{Builder, Value};
+use plist_support::{words_of_events, write_all};
+pub(crate) use runs::{expect_done, expect_fault, expect_given, expect_run, run};
 use std::fmt::Debug;
 use std::process::Abort;
 
@@ -14,10 +22,12 @@ pub(crate) fn must<T, E: Debug>(rt: &impl Abort, answer: Result<T, E>) -> T {
 
 // The value whose events these words are.
 pub(crate) fn value_of(rt: &(impl Abort + AllocGlobal), words: &str) -> Value {
-    must(rt, plist_value_support::value_of(rt.alloc(), words))
+    let mut builder = Builder::new(rt.alloc());
+    must(rt, write_all(rt.alloc(), &mut builder, words));
+    must(rt, builder.finish())
 }
 
 // The words of a value's events.
 pub(crate) fn words_of_value(rt: &(impl Abort + AllocGlobal), value: &Value) -> String {
-    must(rt, plist_value_support::words_of_value(rt.alloc(), value))
+    must(rt, words_of_events(rt.alloc(), value.events(rt.alloc())))
 }

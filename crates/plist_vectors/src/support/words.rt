@@ -1,18 +1,21 @@
 //! Events of words, and what comes of them.
 
 use crate::support::must;
-use plist::Value;
+use plist::{Builder, Value};
 use plist_base::{Error, Writer};
+use plist_support::words_of_events;
 use std::process::Abort;
 
 // The value whose events these words are.
 pub(crate) fn value_of(rt: &(impl Abort + AllocGlobal), words: &str) -> Value {
-    must(rt, plist_value_support::value_of(rt.alloc(), words))
+    let mut builder = Builder::new(rt.alloc());
+    write_all(rt, &mut builder, words);
+    must(rt, builder.finish())
 }
 
 // The words of a value's events.
 pub(crate) fn words_of_value(rt: &(impl Abort + AllocGlobal), value: &Value) -> String {
-    must(rt, plist_value_support::words_of_value(rt.alloc(), value))
+    must(rt, words_of_events(rt.alloc(), value.events(rt.alloc())))
 }
 
 // An answer: `ok`, or the text of the fault.
@@ -30,7 +33,10 @@ pub(crate) fn expect_value(
     found: Result<Value, Error>,
     wanted: &str,
 ) {
-    let words = must(rt, plist_value_support::words_of_answer(rt.alloc(), &found));
+    let words = match found {
+        Ok(value) => words_of_value(rt, &value),
+        Err(error) => must(rt, error.to_string(rt.alloc())),
+    };
     assert_eq!(rt; words.as_str(), wanted);
 }
 
