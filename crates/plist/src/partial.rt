@@ -39,7 +39,15 @@ fn value_refusal(event: &Event<'_>) -> Option<ErrorKind>
             expected: EventKind::ValueOrStartCollection,
             found: EventKind::EndCollection,
         }),
-        _ => None,
+        Event::StartArray(_)
+        | Event::StartDictionary(_)
+        | Event::Boolean(_)
+        | Event::Data(_)
+        | Event::Date(_)
+        | Event::Integer(_)
+        | Event::Real(_)
+        | Event::String(_)
+        | Event::Uid(_) => None,
     }
 }
 
@@ -49,7 +57,14 @@ fn key_refusal(event: &Event<'_>) -> Option<ErrorKind>
 {
     match event {
         Event::String(_) | Event::EndCollection => None,
-        _ => Some(ErrorKind::UnexpectedEventType {
+        Event::StartArray(_)
+        | Event::StartDictionary(_)
+        | Event::Boolean(_)
+        | Event::Data(_)
+        | Event::Date(_)
+        | Event::Integer(_)
+        | Event::Real(_)
+        | Event::Uid(_) => Some(ErrorKind::UnexpectedEventType {
             expected: EventKind::DictionaryKeyOrEndCollection,
             found: EventKind::of_event(event),
         }),

@@ -254,7 +254,14 @@ pub fn most_bytes(event: &Event<'_>) -> usize {
     match event {
         Event::String(text) => text.as_str().len().saturating_mul(4).saturating_add(64),
         Event::Data(bytes) => bytes.as_slice().len().saturating_mul(2).saturating_add(64),
-        _ => 64,
+        Event::StartArray(_)
+        | Event::StartDictionary(_)
+        | Event::EndCollection
+        | Event::Boolean(_)
+        | Event::Date(_)
+        | Event::Integer(_)
+        | Event::Real(_)
+        | Event::Uid(_) => 64,
     }
 }
 

@@ -33,7 +33,15 @@ fn uid_of(event: &Event<'_>) -> Option<u64>
 {
     match event {
         Event::Uid(uid) => Some(uid.get()),
-        _ => None,
+        Event::StartArray(_)
+        | Event::StartDictionary(_)
+        | Event::EndCollection
+        | Event::Boolean(_)
+        | Event::Data(_)
+        | Event::Date(_)
+        | Event::Integer(_)
+        | Event::Real(_)
+        | Event::String(_) => None,
     }
 }
 

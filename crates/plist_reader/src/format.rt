@@ -61,11 +61,8 @@ fn mark_length<S: Source>(source: &mut S) -> Result<u64, Error>
     ensures unchanged { S.known source.new ≡ S.known source.old }
     ensures failures { AnswersIo result (S.failures source.old) (S.failures source.new) }
 {
-    match begins_with(source, MARK) {
-        Ok(true) => Ok(3),
-        Ok(false) => Ok(0),
-        Err(error) => Err(error),
-    }
+    let marked = begins_with(source, MARK)?;
+    Ok(if marked { 3 } else { 0 })
 }
 
 // The byte at a place, if there is one.

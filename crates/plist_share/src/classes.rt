@@ -86,7 +86,7 @@ fn begins_dictionary(events: &Held<'_>, index: usize) -> bool
 {
     match events.kind_at(index) {
         Kind::Dictionary => true,
-        _ => false,
+        Kind::Array | Kind::End | Kind::Scalar => false,
     }
 }
 
