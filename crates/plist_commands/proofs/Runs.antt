@@ -16,7 +16,7 @@ use Rattle.plist_base.proofs.Fronts.{Appends-at}
 use Rattle.plist_commands.specs.Fronts.{PassesOn}
 use Rattle.plist_commands.specs.Lines.{line_of, lines_of_events}
 use Rattle.plist_commands.specs.Printing.{IsOwn, IsOwnFault}
-use Rattle.plist_commands.specs.Runs.{EndsBy, GoesThrough, Gone, HoldsRun, PrintsRun}
+use Rattle.plist_commands.specs.Runs.{ComesOfReading, GoesThrough, Gone, HoldsRun, PrintsRun}
 use Rattle.plist_commands.proofs.HeldBack.{device_own}
 
 lines_more : (events : List PlainEvent) (event : PlainEvent)
@@ -276,8 +276,8 @@ io_rises error old new io counts = by (kind_of (error_kind_of error)) io counts
     by kind io counts = absurd io
 
 pub ends_sent : (whole : Bool) (answer : Result Streamed Error) → whole ≡ true
-    → IfErr answer (λ error. offset_of error ≡ None) → EndsBy (Ok whole) answer
+    → IfErr answer (λ error. offset_of error ≡ None) → ComesOfReading (Ok whole) answer
 ends_sent whole answer is nowhere = rw is nowhere
 
-pub ends_left : (whole : Bool) → whole ≡ false → EndsBy (Ok whole) (Ok NeedsValue)
+pub ends_left : (whole : Bool) → whole ≡ false → ComesOfReading (Ok whole) (Ok NeedsValue)
 ends_left whole is = rw is refl

@@ -24,9 +24,9 @@ ComesNext before item told after =
     IfSome before (λ all. (left : List Item) × (after ≡ Some left) × GivesNext all item told left)
 
 -- the items that are still to come of a reader whose last event is held
-abbrev pub items_to_come : {S : Type 0} {g : Ghosts S} → (known : S → Option (List ℕ))
+abbrev pub items_to_read : {S : Type 0} {g : Ghosts S} → (known : S → Option (List ℕ))
     → ReaderEvents S g → Option (List Item)
-items_to_come known events = to_come known events.reader
+items_to_read known events = to_come known events.reader
 
 -- how many reads of a source failed, if there is one
 abbrev pub failures_if_held : {S : Type 0} → (failures : S → ℕ) → Option S → ℕ
@@ -34,8 +34,8 @@ failures_if_held failures None = 0
 failures_if_held failures (Some source) = failures source
 
 -- the same of its source
-abbrev pub failures_of : {S : Type 0} {g : Ghosts S} → (failures : S → ℕ) → ReaderEvents S g → ℕ
-failures_of failures events = failures_if_held failures (source_of events.reader)
+abbrev pub failures_in : {S : Type 0} {g : Ghosts S} → (failures : S → ℕ) → ReaderEvents S g → ℕ
+failures_in failures events = failures_if_held failures (source_of events.reader)
 
 -- the items that the events left of a value are
 abbrev pub items_of_events : Events → Option (List Item)

@@ -16,7 +16,7 @@ use Rattle.plist_commands.specs.declared.stream.ReaderEvents.{ReaderEvents}
 use Rattle.plist_commands.specs.declared.convert.Streamed.{Streamed}
 use Rattle.plist_commands.specs.declared.convert.Streamed.TheVariants.{NeedsValue}
 use Rattle.plist_commands.specs.Lines.{lines_of_events}
-use Rattle.plist_commands.specs.Items.{failures_of}
+use Rattle.plist_commands.specs.Items.{failures_in}
 use Rattle.plist_commands.specs.Printing.{CountsReads, CountsReadsOf, IsOwnFault}
 
 -- what a call of a reader answers that goes on to the next item
@@ -57,16 +57,16 @@ module _ {I : Type 0} (goes : I → Gone → I → Type 0) (last : I → PlainEv
       ⊎ ((fault_of error ≡ fault_nowhere OutOfMemory) × (new ≡ left)))
 
 -- the calls of a reader of a binary source
-abbrev pub GoesOn : {S : Type 0} {g : Ghosts S} (known : S → Option (List ℕ)) (failed : S → ℕ)
+abbrev pub AdvancesBinary : {S : Type 0} {g : Ghosts S} (known : S → Option (List ℕ)) (failed : S → ℕ)
     → OfFile S g → Gone → OfFile S g → Type 0
-GoesOn known failed old item new = Tells known failed ⊥ (λ _. 0) old item new
+AdvancesBinary known failed old item new = Tells known failed ⊥ (λ _. 0) old item new
 
 -- what was printed of the events that a reader had still to give
 abbrev pub PrintsReader : {S : Type 0} {g : Ghosts S} (known : S → Option (List ℕ)) (failed : S → ℕ)
     → OfFile S g → Result (Unit {0}) Error → OfFile S g → (before after : Option (List ℕ))
     → Type 0
 PrintsReader known failed old answer new before after =
-    PrintsRun (GoesOn known failed) event_told old answer new before after
+    PrintsRun (AdvancesBinary known failed) event_told old answer new before after
 
 -- the same of a reader that holds this very source and has given nothing, and the source's failures
 abbrev pub PrintsSource : {S : Type 0} (known : S → Option (List ℕ)) (failed : S → ℕ) (source : S)
@@ -81,9 +81,9 @@ PrintsSource {S} known failed source answer before after =
 -- ---- events that are held
 
 -- an event came, which is the one that is held as the last, or a fault, or nothing
-abbrev pub GoesOnReading : {S : Type 0} {g : Ghosts S} (known : S → Option (List ℕ))
+abbrev pub AdvancesReading : {S : Type 0} {g : Ghosts S} (known : S → Option (List ℕ))
     (failed : S → ℕ) → ReaderEvents S g → Gone → ReaderEvents S g → Type 0
-GoesOnReading known failed old item new =
+AdvancesReading known failed old item new =
     MatchOption item (Gives known failed old.reader None new.reader) (λ answer. MatchResult answer
     (λ _. Gives known failed old.reader (Some (Ok new.last)) new.reader)
     (λ error. Gives known failed old.reader (Some (Err error)) new.reader))
@@ -99,7 +99,7 @@ HoldsBinary {S} known failed source answer held =
     (reader : OfFile S (record { known = known; failures = failed }))
     × (left : OfFile S (record { known = known; failures = failed }))
     × (source_of reader ≡ source) × (is_new reader ≡ true)
-    × HoldsRun (GoesOn known failed) event_told reader answer left held
+    × HoldsRun (AdvancesBinary known failed) event_told reader answer left held
     × CountsReadsOf failed reader answer left
 
 -- the same of a reader of a source of any format
@@ -109,8 +109,8 @@ HoldsOther {S} known failed source answer held =
     (events : ReaderEvents S (record { known = known; failures = failed }))
     × (left : ReaderEvents S (record { known = known; failures = failed }))
     × (source_of_any events.reader ≡ Some source) × (is_limited events.reader ≡ false)
-    × HoldsRun (GoesOnReading known failed) last_read events answer left held
-    × CountsReads answer (failures_of failed events) (failures_of failed left)
+    × HoldsRun (AdvancesReading known failed) last_read events answer left held
+    × CountsReads answer (failures_in failed events) (failures_in failed left)
 
 -- The format was asked for, and a read failed. Or none had failed, and a reader has the source then.
 abbrev pub ReadsSource : {S : Type 0} (known : S → Option (List ℕ)) (failed : S → ℕ) (source : S)
@@ -124,14 +124,14 @@ ReadsSource {S} known failed source answer held =
 
 -- what comes of a source that was read so: it needs a value, or is refused for the same; or what was
 -- held is sent, or needs a value, or is refused for want of memory, for size or by the writer
-abbrev pub EndsBy : Result Bool Error → Result Streamed Error → Type 0
-EndsBy (Ok true) answer = IfErr answer (λ error. offset_of error ≡ None)
-EndsBy (Ok false) answer = answer ≡ Ok NeedsValue
-EndsBy (Err error) answer = answer ≡ Err error
+abbrev pub ComesOfReading : Result Bool Error → Result Streamed Error → Type 0
+ComesOfReading (Ok true) answer = IfErr answer (λ error. offset_of error ≡ None)
+ComesOfReading (Ok false) answer = answer ≡ Ok NeedsValue
+ComesOfReading (Err error) answer = answer ≡ Err error
 
 -- a source was read so, and this came of it
 abbrev pub ConvertsSource : {S : Type 0} (known : S → Option (List ℕ)) (failed : S → ℕ)
     (source : S) → Result Streamed Error → Type 0
 ConvertsSource known failed source answer =
     (read : Result Bool Error) × (held : List PlainEvent)
-    × ReadsSource known failed source read held × EndsBy read answer
+    × ReadsSource known failed source read held × ComesOfReading read answer

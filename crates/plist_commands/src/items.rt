@@ -72,7 +72,7 @@ impl<S: Source> Items for BinaryReader<S> {
     ghost use Rattle.plist_binread.specs.BinaryReader.{source_of, steps_to_come};
     ghost use Rattle.plist_binread.specs.Telling.{event_told};
     ghost use Rattle.plist_commands.specs.Converting.{items_left};
-    ghost use Rattle.plist_commands.specs.Runs.{GoesOn};
+    ghost use Rattle.plist_commands.specs.Runs.{AdvancesBinary};
 
     ghost coming = { items_left S.known };
 
@@ -84,7 +84,7 @@ impl<S: Source> Items for BinaryReader<S> {
 
     ghost gives = { λ _. Unit {0} };
 
-    ghost goes = { GoesOn S.known S.failures };
+    ghost goes = { AdvancesBinary S.known S.failures };
 
     ghost steps = { steps_to_come };
 

@@ -21,15 +21,15 @@ pub(crate) struct ReaderEvents<S: Source> {
 impl<S: Source> ReaderEvents<S> {
     ghost use Rattle.std.specs.Prelude.{Some, false};
     ghost use Rattle.plist_reader.specs.Reader.{is_limited};
-    ghost use Rattle.plist_commands.specs.Items.{failures_of, items_to_come};
+    ghost use Rattle.plist_commands.specs.Items.{failures_in, items_to_read};
     ghost use Rattle.plist_commands.specs.Converting.{items_of_known};
 
     /// None has been asked for.
     pub(crate) fn new(alloc: Global, source: S) -> Self
-        ensures items { items_to_come S.known result ≡ items_of_known (S.known source) }
+        ensures items { items_to_read S.known result ≡ items_of_known (S.known source) }
         ensures source { source_of result.reader ≡ Some source }
         ensures limited { is_limited result.reader ≡ false }
-        ensures failures { failures_of S.failures result ≡ S.failures source }
+        ensures failures { failures_in S.failures result ≡ S.failures source }
     {
         ReaderEvents {
             reader: Reader::new(alloc, source),
@@ -43,20 +43,20 @@ impl<S: Source> Items for ReaderEvents<S> {
     ghost use Rattle.std.specs.Prelude.{None};
     ghost use Rattle.plist_base.specs.Events.{event_of};
     ghost use Rattle.plist_reader.specs.Reader.{steps_in_state};
-    ghost use Rattle.plist_commands.specs.Items.{failures_of, items_to_come};
-    ghost use Rattle.plist_commands.specs.Runs.{GoesOnReading};
+    ghost use Rattle.plist_commands.specs.Items.{failures_in, items_to_read};
+    ghost use Rattle.plist_commands.specs.Runs.{AdvancesReading};
 
-    ghost coming = { items_to_come S.known };
+    ghost coming = { items_to_read S.known };
 
     ghost last = { λ s. event_of s.last };
 
     ghost known = { λ _. None };
 
-    ghost failures = { failures_of S.failures };
+    ghost failures = { failures_in S.failures };
 
     ghost gives = { λ _. Unit {0} };
 
-    ghost goes = { GoesOnReading S.known S.failures };
+    ghost goes = { AdvancesReading S.known S.failures };
 
     ghost steps = { λ s. steps_in_state s.reader.state };
 
