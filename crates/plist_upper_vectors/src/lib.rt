@@ -19,6 +19,8 @@ mod print;
 #[cfg(test)]
 mod sending;
 #[cfg(test)]
+mod stored;
+#[cfg(test)]
 mod support;
 #[cfg(test)]
 mod uses;

@@ -3,14 +3,16 @@
 mod devices;
 mod files;
 mod runs;
+mod watched;
 
 pub(crate) use devices::{Stuck, broken_file, expect_taken, failing, sound};
-pub(crate) use files::{RECURSIVE, expect_holds, expect_missing, put, remove};
+pub(crate) use files::{RECURSIVE, expect_holds, expect_missing, path_of, put, remove};
 use plist::{Builder, Value};
 use plist_support::{words_of_events, write_all};
 pub(crate) use runs::{expect_done, expect_fault, expect_given, expect_run, run};
 use std::fmt::Debug;
 use std::process::Abort;
+pub(crate) use watched::{Stage, Watched};
 
 // What an answer holds that is to be no fault.
 pub(crate) fn must<T, E: Debug>(rt: &impl Abort, answer: Result<T, E>) -> T {
