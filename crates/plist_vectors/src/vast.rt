@@ -2,7 +2,8 @@
 
 ghost use Rattle.std.specs.Prelude.{None};
 
-use crate::support::must;
+use crate::support::{expect_value, must};
+use plist::Value;
 use plist_base::{Limits, Source};
 use plist_binread::BinaryReader;
 use plist_support::words_of;
@@ -69,4 +70,17 @@ fn refuses_data_before_memory_is_taken(rt: HostRuntime) {
         words_of(rt.alloc(), BinaryReader::new(rt.alloc(), Vast)),
     );
     assert_eq!(rt; found.as_str(), "OutOfMemory");
+}
+
+// So it is where a value is read under limits.
+#[test]
+fn a_value_is_refused_as_early(rt: HostRuntime) {
+    let bytes = Some(1 << 20);
+    let limits = Limits {
+        bytes,
+        ..Limits::new(9, 9)
+    };
+    let found = Value::from_reader_with_limits(rt.alloc(), Vast, limits);
+    expect_value(&rt, found, "LimitReached(Bytes)");
+    expect_value(&rt, Value::from_reader(rt.alloc(), Vast), "OutOfMemory");
 }
