@@ -5,7 +5,7 @@ use Rattle.plist_base.specs.Events.{PlainEvent, Item}
 use Rattle.plist_base.specs.Faults as faults
 use Rattle.plist_base.specs.Faults.{FaultKind, Fault, UnexpectedEndOfEventStream}
 use Rattle.plist_base.specs.Trees.{Tree}
-use Rattle.plist_base.specs.Bracketing.{unhinted, AreAlike}
+use Rattle.plist_base.specs.Bracketing.{without_length, AreAlike}
 use Rattle.std.proofs.lemmas.List.{map-append}
 use Rattle.plist_base.proofs.Grammar.{alike_with}
 use Rattle.plist.specs.LastWins.{with_pair, last_wins}
@@ -115,7 +115,7 @@ ended stops ends items built fault UnexpectedEndOfEventStream q end
         is,
         end,
         (λ i. record { kind = q i; offset = o i }),
-        λ t a. k.1 _ (ap (λ u. map unhinted (events_so_far u))
+        λ t a. k.1 _ (ap (λ u. map without_length (events_so_far u))
             (last ∙ ap last_wins_so_far (complete _ t ok (alike ∙ a)))),
       )),
     )
@@ -131,7 +131,7 @@ pub finished : (stops ends : Type 0) (items : List Item) (built : Built)
     → IsBuiltFrom stops ends items (built_tree result)
 finished stops ends items built (Ok value) end (events, is, fine, (held, nested, alike, last)) ok err =
     let w = complete_last held _ (sym (ap complete_tree last) ∙ ok) in
-    (events, w.0, is, end, sym alike ∙ ap (λ u. map unhinted (events_so_far u)) w.1, w.2)
+    (events, w.0, is, end, sym alike ∙ ap (λ u. map without_length (events_so_far u)) w.1, w.2)
 finished stops ends items built (Err error) end t ok err =
     ended stops ends items built (fault_of error) (fault_of error).kind refl end t err.0 err.1
 

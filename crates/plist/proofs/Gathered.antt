@@ -1,14 +1,14 @@
 -- The events of a value are gathered, and their file goes out.
 use Rattle.std.proofs.Common.{◌≡◌, ℕ, List, ◌∷◌, [], ◌++◌, Option, Some, Result, Ok, Err, map, refl, sym, ap, ◌∙◌, subst, append_assoc, append-nil, None, IfErr}
-use Rattle.plist_base.specs.Bracketing.{bracketing, unhinted, shape, AreAlike, AreWhole}
+use Rattle.plist_base.specs.Bracketing.{bracketing, without_length, lengthless, AreAlike, AreWhole}
 use Rattle.plist_base.specs.declared.error.Error.{Error}
 use Rattle.plist_base.specs.declared.event.Event.{Event}
 use Rattle.plist_base.specs.Events.{PlainEvent, event_of}
 use Rattle.plist_base.specs.Faults.{FaultKind, Fault, Io, OutOfMemory, PlistTooLarge, fault_nowhere, fault_of}
 use Rattle.plist_base.specs.Trees.{Tree}
 use Rattle.plist_base.specs.Writing.{Answer, answer_of}
-use Rattle.plist_base.proofs.Grammar.{alike_unhinted}
-use Rattle.plist_base.proofs.Stacks.{shape-is}
+use Rattle.plist_base.proofs.Grammar.{alike_without_length}
+use Rattle.plist_base.proofs.Stacks.{lengthless-is}
 use Rattle.plist_binwrite.specs.Sending.{Sends, FailsWith}
 use Rattle.plist.specs.declared.stream.events.Events.{Events}
 use Rattle.plist.specs.Events.{GivesEvent, remaining_events}
@@ -16,29 +16,32 @@ use Rattle.plist.specs.SendingValues.{StopsSending, SendsTree}
 
 -- what was gathered, and then what is left, both without lengths
 abbrev pub GatheredSoFar : List PlainEvent → (held : List PlainEvent) → (left : Events) → Type 0
-GatheredSoFar all held left = held ++ map unhinted (remaining_events left) ≡ map unhinted all
+GatheredSoFar all held left = held ++ map without_length (remaining_events left)
+    ≡ map without_length all
 
 -- one event more
 pub gathered_more : (all held new : List PlainEvent) (before after : Events)
     (item : Result Event Error) (event : Event) → GatheredSoFar all held before
     → GivesEvent before (Some item) after → item ≡ Ok event
-    → new ≡ held ++ unhinted (event_of event) ∷ [] → GatheredSoFar all new after
+    → new ≡ held ++ without_length (event_of event) ∷ [] → GatheredSoFar all new after
 gathered_more all held new before after item event so gives is grown =
     let given = (subst (λ i. GivesEvent before (Some i) after) is gives).0 in
-    ap (λ l. l ++ map unhinted (remaining_events after)) grown
-    ∙ append_assoc held (unhinted (event_of event) ∷ []) (map unhinted (remaining_events after))
-    ∙ ap (λ l. held ++ map unhinted l) (sym given) ∙ so
+    ap (λ l. l ++ map without_length (remaining_events after)) grown
+    ∙ append_assoc held (without_length (event_of event) ∷ []) (map without_length
+    (remaining_events after))
+    ∙ ap (λ l. held ++ map without_length l) (sym given) ∙ so
 
 -- none left
 pub gathered_all : (tree : Tree) (held left : List PlainEvent)
-    → held ++ map unhinted left ≡ map unhinted (bracketing tree) → left ≡ [] → held ≡ shape tree
+    → held ++ map without_length left ≡ map without_length (bracketing tree) → left ≡ []
+    → held ≡ lengthless tree
 gathered_all tree held left so none =
-    cc (append-nil _, shape-is _)
+    cc (append-nil _, lengthless-is _)
 
-pub gathered_alike : (tree : Tree) (es : List PlainEvent) → es ≡ shape tree
+pub gathered_alike : (tree : Tree) (es : List PlainEvent) → es ≡ lengthless tree
     → AreAlike es (bracketing tree)
 gathered_alike tree es is =
-    ap (map _) (is ∙ sym (shape-is _)) ∙ alike_unhinted _
+    ap (map _) (is ∙ sym (lengthless-is _)) ∙ alike_without_length _
 
 -- ---- sending them
 

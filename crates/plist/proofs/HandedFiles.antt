@@ -3,14 +3,14 @@ use Rattle.std.proofs.Common.{◌≡◌, ◌⊎◌, inl, inr, ℕ, false, List, 
 use Rattle.std.proofs.iter.Next as it
 use Rattle.std.specs.Io.KnownBytes.{Appends}
 use Rattle.std.specs.declared.io.traits.Write.{Ghosts}
-use Rattle.plist_base.specs.Bracketing.{bracketing, unhinted, AreAlike, CanContinue}
+use Rattle.plist_base.specs.Bracketing.{bracketing, without_length, AreAlike, CanContinue}
 use Rattle.plist_base.specs.Events.{PlainEvent}
 use Rattle.plist_base.specs.Trees.{Tree, Leaf, Array, Dictionary}
 use Rattle.plist_base.specs.Writing.{Answer}
 use Rattle.plist_base.proofs.Grammar.{alike_last, alike_with}
 use Rattle.plist_binwrite.specs.declared.shared.Sharing.{Ghosts as SharingGhosts}
 use Rattle.plist_binwrite.specs.declared.writer.FileWriter.{FileWriter}
-use Rattle.plist_binwrite.specs.FileWriter.{Completes, Holds, Takes, TakesEvent, held_by, failed_of, inner_of}
+use Rattle.plist_binwrite.specs.FileWriter.{Completes, Holds, Takes, TakesEvent, open_events, failed_of, sink_of}
 use Rattle.plist.specs.Handing.{Took}
 
 begins : (tree : Tree) → (event : PlainEvent) × (events : List PlainEvent)
@@ -27,11 +27,11 @@ module _ {W S : Type 0} {g : Ghosts W} {h : SharingGhosts S} (IsFile : Tree → 
   -- these events are held, and nothing went out
   abbrev IsHolding : (start : W) → List PlainEvent → FileWriter W S g h → Type 0
   IsHolding start events writer =
-      AreAlike (held_by writer) events × (failed_of writer ≡ false) × (inner_of writer ≡ start)
+      AreAlike (open_events writer) events × (failed_of writer ≡ false) × (sink_of writer ≡ start)
 
   abbrev SendsFrom : (start : W) → FileWriter W S g h → Type 0
   SendsFrom start after =
-      (file : List ℕ) × IsFile tree file × Appends (contents start) (contents (inner_of after)) file
+      (file : List ℕ) × IsFile tree file × Appends (contents start) (contents (sink_of after)) file
 
   took : (before after : FileWriter W S g h) (event : PlainEvent) → failed_of before ≡ false
       → Step before event (Ok tt) after
@@ -44,16 +44,16 @@ module _ {W S : Type 0} {g : Ghosts W} {h : SharingGhosts S} (IsFile : Tree → 
   sent start done e [] before after is (alike, fine, inner) (between, step, ends) =
       last (took before between e fine step).2
     where
-      all : AreAlike (held_by before ++ e ∷ []) (bracketing tree)
-      all = alike_with (held_by before) done (e ∷ []) alike ∙ ap (map unhinted) (sym is)
+      all : AreAlike (open_events before ++ e ∷ []) (bracketing tree)
+      all = alike_with (open_events before) done (e ∷ []) alike ∙ ap (map without_length) (sym is)
 
       last : Completes IsFile size contents before e between
           ⊎ Holds IsFile size contents before e between → SendsFrom start after
       last (inl (went, none)) = (
         went.0,
         went.1.1 tree all,
-        subst (λ w. Appends (contents w) (contents (inner_of after)) went.0) inner
-            (subst (λ w. Appends (contents (inner_of before)) (contents (inner_of w)) went.0) ends
+        subst (λ w. Appends (contents w) (contents (sink_of after)) went.0) inner
+            (subst (λ w. Appends (contents (sink_of before)) (contents (sink_of w)) went.0) ends
             went.2),
       )
       last (inr (unwhole, held, same)) = absurd (unwhole (tree, all))
@@ -61,34 +61,34 @@ module _ {W S : Type 0} {g : Ghosts W} {h : SharingGhosts S} (IsFile : Tree → 
       let t = took before between e fine step in
       next t.2 (λ held same. sent start (done ++ e ∷ []) d events between after
       (is ∙ sym (append_assoc done (e ∷ []) (d ∷ events))) (
-        ap (map unhinted) held ∙ alike_last (held_by before) e
-            ∙ alike_with (held_by before) done (e ∷ []) alike,
+        ap (map without_length) held ∙ alike_last (open_events before) e
+            ∙ alike_with (open_events before) done (e ∷ []) alike,
         t.1,
         same ∙ inner,
       )
       more)
     where
-      behind : CanContinue (held_by before ++ e ∷ []) d
+      behind : CanContinue (open_events before ++ e ∷ []) d
       behind = (
         events,
         tree,
-        ap (map unhinted) (append_assoc (held_by before) (e ∷ []) (d ∷ events))
-            ∙ alike_with (held_by before) done (e ∷ d ∷ events) alike
-            ∙ ap (map unhinted) (sym is),
+        ap (map without_length) (append_assoc (open_events before) (e ∷ []) (d ∷ events))
+            ∙ alike_with (open_events before) done (e ∷ d ∷ events) alike
+            ∙ ap (map without_length) (sym is),
       )
 
       next : Completes IsFile size contents before e between
           ⊎ Holds IsFile size contents before e between
-          → (held_by between ≡ held_by before ++ unhinted e ∷ []
-          → inner_of between ≡ inner_of before → SendsFrom start after) → SendsFrom start after
+          → (open_events between ≡ open_events before ++ without_length e ∷ []
+          → sink_of between ≡ sink_of before → SendsFrom start after) → SendsFrom start after
       next (inl (went, none)) go = absurd (went.1.0.1 d behind)
       next (inr (unwhole, held, same)) go = go held same
 
   -- a new writer that took all events of a tree sent a file of it
-  pub all-sent : (start : W) (before after : FileWriter W S g h) → held_by before ≡ []
-      → failed_of before ≡ false → inner_of before ≡ start
+  pub all-sent : (start : W) (before after : FileWriter W S g h) → open_events before ≡ []
+      → failed_of before ≡ false → sink_of before ≡ start
       → Took Step before (bracketing tree) after → SendsFrom start after
   all-sent start before after none fine inner taken =
       let b = begins tree in
-      sent start [] b.0 b.1 before after b.2 (ap (map unhinted) none, fine, inner)
+      sent start [] b.0 b.1 before after b.2 (ap (map without_length) none, fine, inner)
       (subst (λ events. Took Step before events after) b.2 taken)

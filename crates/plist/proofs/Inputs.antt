@@ -8,7 +8,7 @@ use Rattle.plist_base.specs.declared.error.Error.{Error}
 use Rattle.plist_base.specs.Events.{PlainEvent, Item}
 use Rattle.plist_base.specs.Faults.{FaultKind, Fault, MatchFault}
 use Rattle.plist_base.specs.Trees.{Tree}
-use Rattle.plist_base.specs.Bracketing.{bracketing, unhinted, AreAlike}
+use Rattle.plist_base.specs.Bracketing.{bracketing, without_length, AreAlike}
 use Rattle.plist.specs.Building.{Unfinished, events_so_far, refusal_at, IsNested}
 use Rattle.plist.specs.Collecting.{Collects, IsRefusal, RefusesOne, item_by}
 use Rattle.plist.specs.inner.Following.{refused-ends}
@@ -59,7 +59,8 @@ no-tree-event all events held e kind more is ok alike r tree (others, same, like
       rest.0,
       tree,
       alike_with (events_so_far held) events (e ∷ rest.0) alike
-          ∙ ap (λ l. map unhinted (events ++ l)) (sym rest.1) ∙ ap (map unhinted) (sym s.2) ∙ like,
+          ∙ ap (λ l. map without_length (events ++ l)) (sym rest.1)
+          ∙ ap (map without_length) (sym s.2) ∙ like,
     )
   where
     first : (es : List PlainEvent) → Ok e ∷ more ≡ map Ok es → (rest : List PlainEvent)
@@ -72,7 +73,7 @@ no-tree-end : (all : List Item) (events : List PlainEvent) → all ≡ map Ok ev
 no-tree-end all events is none tree (others, same, like) =
     let s = all-events events others [] (append-nil _ ∙ sym is ∙ same) in
     let e : others ≡ events = s.2 ∙ ap (λ l. events ++ l) (no-events s.0 s.1) ∙ append-nil events in
-    none tree (ap (map unhinted) (sym e) ∙ like)
+    none tree (ap (map without_length) (sym e) ∙ like)
 
 -- ---- a refusal
 
@@ -191,7 +192,7 @@ back-ok tree t all is (whole, (events, same, alike), last) =
     (append-nil (map Ok (bracketing tree)) ∙ sym is ∙ same) in
     let e : events ≡ bracketing tree = s.2 ∙ ap (λ l. bracketing tree ++ l) (no-events s.0 s.1)
     ∙ append-nil (bracketing tree) in
-    last ∙ ap last_wins (one_tree whole tree (sym alike ∙ ap (map unhinted) e))
+    last ∙ ap last_wins (one_tree whole tree (sym alike ∙ ap (map without_length) e))
 
 -- what the events of a value are read to
 pub back : (tree : Tree) (all : List Item) (answer : Result Tree Fault) → last_wins tree ≡ tree

@@ -15,7 +15,7 @@ use Rattle.plist.specs.Partials.{open_of, held_in}
 use Rattle.plist.specs.Views.{tree_of, tree_step, tree_pairs}
 use Rattle.plist_pairs.proofs.Keeping.{last-values-once, once-last, values-inserts}
 use Rattle.plist.specs.inner.Steps.{carried_on}
-use Rattle.plist.specs.inner.Following.{taken}
+use Rattle.plist.specs.inner.Following.{taken_before}
 use Rattle.plist.proofs.Carrying.{items-last, pairs-last, carried-last}
 
 abbrev IsItself : Value → Type 0
@@ -91,7 +91,7 @@ pub carry : (root : Option Value) (cs : List Open) (e : PlainEvent) (a : Unfinis
     → carried_on with_pair (held_in root cs) e ≡ Some a → IsCarriedOn (held_in root cs) e a
 carry root cs e a ok p q =
     let b = held_in root cs in
-    let g = taken b e ok p in
+    let g = taken_before b e ok p in
     let last : Some (last_wins_so_far g.0) ≡ Some a = sym (ap (option_map last_wins_so_far) g.1)
     ∙ carried-last b e ∙ ap (λ u. carried_on with_pair u e) (held-itself root cs) ∙ q in
     (g.0, g.2, g.3, sym (same_Some _ a last))

@@ -13,9 +13,9 @@ use Rattle.plist_base.specs.declared.limits.Limiter.{Limiter}
 use Rattle.plist_base.specs.Events as event
 use Rattle.plist_base.specs.Events.{Item, PlainEvent, event_of}
 use Rattle.plist_base.specs.Faults.{Fault, kind_of, error_kind_of}
-use Rattle.plist_base.specs.Limits.{GivesLimited, PassesNext, come_of, event_or_limit, inner_of, level_behind, limit_at, limited_from, limited_items, is_too_long, left_behind, opens, total_bytes, under, bytes_in, HasBytesWithin}
+use Rattle.plist_base.specs.Limits.{GivesLimited, PassesNext, come_of, event_or_limit, iterator_of, level_behind, limit_at, limited_from, limited_items, is_too_long, left_behind, opens, total_bytes, under, bytes_in, HasBytesWithin}
 use Rattle.plist_base.specs.Trees.{Tree, Leaf, Array, Dictionary, Trees, NoTrees, TreeAnd, Members, NoMembers, MemberAnd, String}
-use Rattle.plist_base.specs.Bracketing.{AreAlike, bracketing, bracketing_of_items, bracketing_of_pairs, unhinted}
+use Rattle.plist_base.specs.Bracketing.{AreAlike, bracketing, bracketing_of_items, bracketing_of_pairs, without_length}
 use Rattle.plist_reader.specs.Reader.{limited_input}
 use Rattle.plist.specs.Collecting.{Collects, item_by}
 use Rattle.plist.specs.Inputs.{BeginsWith, BeginsWithIfKnown, Shows}
@@ -66,8 +66,8 @@ module _ {I : Type 0} (inner_gives : I → Given → I → Type 0) where
   -- nothing more comes
   over : (coming : I → Option (List Item)) (old new : Limited I) (item : Given) → old.ended ≡ true
       → item ≡ None → new ≡ old
-      → BeginsWithIfKnown (option_map (come_of old) (coming (inner_of old)))
-      (option_map (item_by event_of) item) (option_map (come_of new) (coming (inner_of new)))
+      → BeginsWithIfKnown (option_map (come_of old) (coming (iterator_of old)))
+      (option_map (item_by event_of) item) (option_map (come_of new) (coming (iterator_of new)))
   over coming old new item e none same =
       rw (same, none) (stays _)
     where
@@ -79,16 +79,16 @@ module _ {I : Type 0} (inner_gives : I → Given → I → Type 0) where
   -- whatever shows the items of an iterator, shows these items under limits
   pub limited-shows : (coming : I → Option (List Item)) → Shows event_of inner_gives coming
       → Shows event_of (GivesLimited inner_gives)
-      (λ l. option_map (come_of l) (coming (inner_of l)))
+      (λ l. option_map (come_of l) (coming (iterator_of l)))
   limited-shows coming shows old item new h = by old.ended refl h
     where
       by : (b : Bool) → old.ended ≡ b
           → MatchBool b ((item ≡ None) × (new ≡ old))
           ((asked : Given) × inner_gives old.inner asked new.inner
           × PassesNext old.limiter asked item new.limiter new.ended)
-          → BeginsWithIfKnown (option_map (come_of old) (coming (inner_of old)))
+          → BeginsWithIfKnown (option_map (come_of old) (coming (iterator_of old)))
           (option_map (item_by event_of) item)
-          (option_map (come_of new) (coming (inner_of new)))
+          (option_map (come_of new) (coming (iterator_of new)))
       by true e (none, same) = over coming old new item e none same
       by false e (asked, gave, passes) =
           goes old.ended old.limiter new.limiter new.ended (coming old.inner) (coming new.inner)
@@ -157,7 +157,7 @@ module _ (limits : Limits) where
   next h = (λ p. (p.0, h.0 p.1), λ p. (p.0, h.1 p.1))
 
   both-pass : (came level : ℕ) (left : Option ℕ) (es : List PlainEvent)
-      → Pass came level left (map unhinted es) ↔ Pass came level left es
+      → Pass came level left (map without_length es) ↔ Pass came level left es
   both-pass came level left [] = (λ h. h, λ h. h)
   both-pass came level left (event.StartArray length ∷ es) = next (both-pass (came + 1) _ _ es)
   both-pass came level left (event.StartDictionary length ∷ es) = next (both-pass _ _ _ es)

@@ -70,11 +70,11 @@ of-items f (Some bytes) items answer e h = subst (λ o. IsReadIfKnown o answer) 
 abbrev pub ascii_coming : {R : Type 0} → (R → Option (List ℕ)) → AsciiReader R → Option (List Item)
 ascii_coming known reader =
     option_map (λ bytes. items_of_ascii (ascii.stops_of reader) bytes (ascii.place_of reader))
-    (ascii.bytes_left known reader)
+    (ascii.untaken_bytes known reader)
 
 pub ascii-shows : (now then : Dialect) (k l : Option (List ℕ)) (p q : ℕ) (item : Given) → then ≡ now
     → Known k (λ bytes. (rest : List ℕ) × (l ≡ Some rest)
-    × ascii.GivesItem (ends_bare now) bytes p item rest q)
+    × ascii.GivesAsciiItem (ends_bare now) bytes p item rest q)
     → BeginsWithIfKnown (option_map (λ bytes. items_of_ascii (ends_bare now) bytes p) k)
     (option_map (item_by event_of) item)
     (option_map (λ bytes. items_of_ascii (ends_bare then) bytes q) l)
@@ -95,14 +95,14 @@ ascii-start now given k left place d e z =
 abbrev pub binary_coming : {R C : Type 0} {g : Ghosts R} {h : CounterGhosts C}
     → (R → Option (List ℕ)) → BinaryReader R C g h → Option (List Item)
 binary_coming known reader =
-    option_map (λ bytes. binary.to_come bytes reader) (known (binary.source_of reader))
+    option_map (λ bytes. binary.items_to_come bytes reader) (known (binary.binary_source reader))
 
 one-item : (before after : List Item) (fault : Fault) → after ≡ [] → before ≡ Err fault ∷ []
     → before ≡ Err fault ∷ after
 one-item before after fault none is = cc
 
 binary-item : (new : Bool) (before after : List Item) (item : Given)
-    → binary.GivesItem new before item after
+    → binary.GivesBinaryItem new before item after
     → BeginsWith before (option_map (item_by event_of) item) after
 binary-item new before after None h = h.0
 binary-item new before after (Some (Ok event)) h = h
@@ -111,7 +111,7 @@ binary-item new before after (Some (Err error)) h =
     (λ b. one-item before after (fault_of error) h.0 b) h.1
 
 binary-goes : (new : Bool) (k l : Option (List ℕ)) (f h : List ℕ → List Item) (item : Given) → l ≡ k
-    → IfSome k (λ bytes. binary.GivesItem new (f bytes) item (h bytes))
+    → IfSome k (λ bytes. binary.GivesBinaryItem new (f bytes) item (h bytes))
     → BeginsWithIfKnown (option_map f k) (option_map (item_by event_of) item) (option_map h l)
 binary-goes new None l f h item e x = tt
 binary-goes new (Some bytes) l f h item e x =
@@ -119,15 +119,17 @@ binary-goes new (Some bytes) l f h item e x =
 
 pub binary-shows : {R C : Type 0} {g : Ghosts R} {h : CounterGhosts C} (known : R → Option (List ℕ))
     (old new : BinaryReader R C g h) (item : Given)
-    → known (binary.source_of new) ≡ known (binary.source_of old)
-    → IfSome (known (binary.source_of old))
-    (λ bytes. binary.GivesItem (binary.is_new old) (binary.to_come bytes old) item
-    (binary.to_come bytes new))
+    → known (binary.binary_source new) ≡ known (binary.binary_source old)
+    → IfSome (known (binary.binary_source old))
+    (λ bytes. binary.GivesBinaryItem (binary.is_new old) (binary.items_to_come bytes old) item
+    (binary.items_to_come bytes new))
     → BeginsWithIfKnown (binary_coming known old) (option_map (item_by event_of) item)
     (binary_coming known new)
 binary-shows known old new item same gives =
-    binary-goes (binary.is_new old) (known (binary.source_of old)) (known (binary.source_of new))
-    (λ bytes. binary.to_come bytes old) (λ bytes. binary.to_come bytes new) item same gives
+    binary-goes (binary.is_new old) (known (binary.binary_source old)) (known
+    (binary.binary_source new))
+    (λ bytes. binary.items_to_come bytes old) (λ bytes. binary.items_to_come bytes new) item same
+    gives
 
 file-items : (k : Option (List ℕ)) (coming : List ℕ → List Item)
     → IfSome k (λ bytes. coming bytes ≡ items_of_file bytes)
@@ -137,15 +139,15 @@ file-items (Some bytes) coming h = ap Some h
 
 pub of-binary : {R C : Type 0} {g : Ghosts R} {h : CounterGhosts C} (known : R → Option (List ℕ))
     (source : R) (iter new : BinaryReader R C g h) (answer : Result Tree Fault) → iter ≡ new
-    → binary.source_of new ≡ source
-    → IfSome (known source) (λ bytes. binary.to_come bytes new ≡ items_of_file bytes)
+    → binary.binary_source new ≡ source
+    → IfSome (known source) (λ bytes. binary.items_to_come bytes new ≡ items_of_file bytes)
     → IsReadIfKnown (binary_coming known iter) answer
     → IfSome (known source) (λ bytes. IsReadFrom (items_of_file bytes) answer)
 of-binary known source iter new answer is holds items seen =
     of-items items_of_file (known source) (binary_coming known iter) answer
     (ap (binary_coming known) is ∙ ap
-    (λ s. option_map (λ bytes. binary.to_come bytes new) (known s)) holds
-    ∙ file-items (known source) (λ bytes. binary.to_come bytes new) items) seen
+    (λ s. option_map (λ bytes. binary.items_to_come bytes new) (known s)) holds
+    ∙ file-items (known source) (λ bytes. binary.items_to_come bytes new) items) seen
 
 -- ---- the events of a value
 

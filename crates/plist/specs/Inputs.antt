@@ -95,5 +95,5 @@ GivesBack tree (Ok read) = read ≡ tree
 GivesBack tree (Err fault) = IsFromOutside fault.kind
 
 -- a tree's events are those of no other tree, whatever their lengths
-abbrev pub TellsTrees : Type 0
-TellsTrees = (left right : Tree) → AreAlike (bracketing left) (bracketing right) → left ≡ right
+abbrev pub DetermineTrees : Type 0
+DetermineTrees = (left right : Tree) → AreAlike (bracketing left) (bracketing right) → left ≡ right

@@ -2,7 +2,7 @@
 use Rattle.std.specs.Prelude.{◌≡◌, ℕ, ◌⊎◌, Bool, List, Option, None, Some, Result, Err, option_map, ⊤}
 use Rattle.plist_base.specs.Events.{Item, event_of}
 use Rattle.plist_base.specs.Faults.{Fault, FaultKind, ExpectedEndOfEventStream, Io, UnexpectedEndOfEventStream, UnexpectedEventType, fault_nowhere}
-use Rattle.plist_base.specs.Limits.{GivesLimited, come_of, inner_of as inner_of_limited, limited_items}
+use Rattle.plist_base.specs.Limits.{GivesLimited, come_of, iterator_of as inner_of_limited, limited_items}
 use Rattle.plist_base.specs.Seeking.{failures_of}
 use Rattle.plist_base.specs.declared.limited.Limited.{Limited}
 use Rattle.plist_base.specs.declared.limits.Limits.{Limits}
@@ -10,7 +10,7 @@ use Rattle.plist_base.specs.declared.seeking.Seeking.{Seeking}
 use Rattle.plist_base.specs.Trees.{Tree}
 use Rattle.plist_ascii.specs.Ascii.{items_of_ascii}
 use Rattle.plist_ascii.specs.AsciiReader as ascii
-use Rattle.plist_ascii.specs.AsciiReader.{bytes_left, dialect_of, inner_of, looked_at, place_of, readable}
+use Rattle.plist_ascii.specs.AsciiReader.{untaken_bytes, dialect_of, device_of, looked_at, place_of, readable}
 use Rattle.plist_ascii.specs.declared.reader.AsciiReader.{AsciiReader}
 use Rattle.plist_ascii.specs.declared.dialect.Dialect.{Dialect}
 use Rattle.plist_reader.specs.Formats.{input_front}
@@ -41,10 +41,10 @@ ComesUnderLimits {R} limits known failed source answer =
 abbrev pub IsReadAsAscii : {R : Type 0} (known : R → Option (List ℕ)) (failed : R → Option ℕ)
     (source : R) → Dialect → Result Tree Fault → Type 0
 IsReadAsAscii {R} known failed source dialect answer =
-    (reader : AsciiReader R) × (inner_of reader ≡ source) × (dialect_of reader ≡ dialect)
+    (reader : AsciiReader R) × (device_of reader ≡ source) × (dialect_of reader ≡ dialect)
     × (place_of reader ≡ 0) × (looked_at reader ≡ None)
-    × (bytes_left known reader ≡ readable (known source))
-    × Collects event_of (ascii.Gives known failed) reader answer
+    × (untaken_bytes known reader ≡ readable (known source))
+    × Collects event_of (ascii.GivesAscii known failed) reader answer
 
 -- the items of an ASCII text
 abbrev pub items_of_text : (bare : ℕ → Bool) → List ℕ → List Item

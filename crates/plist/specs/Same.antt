@@ -86,12 +86,12 @@ IsTransitive =
     → same first third ≡ true
 
 -- scalars are the same where they are one
-abbrev pub TellsScalars : Type 0
-TellsScalars = (left right : Scalar) → (same (Leaf left) (Leaf right) ≡ true) ↔ (left ≡ right)
+abbrev pub DecidesScalars : Type 0
+DecidesScalars = (left right : Scalar) → (same (Leaf left) (Leaf right) ≡ true) ↔ (left ≡ right)
 
 -- dictionaries are, where they have the same at every key
-abbrev pub TellsDictionaries : Type 0
-TellsDictionaries = (left right : Members)
+abbrev pub DecidesDictionaries : Type 0
+DecidesDictionaries = (left right : Members)
     → (same (Dictionary left) (Dictionary right) ≡ true) ↔ AreSameEverywhere left right
 
 -- pairs of values as members

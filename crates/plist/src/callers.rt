@@ -7,7 +7,7 @@ ghost use Rattle.plist_base.specs.Trees.{Tree};
 ghost use Rattle.plist_format.specs.Unfolding.{items_of_file};
 ghost use Rattle.plist.specs.Collecting.{built_tree};
 ghost use Rattle.plist.specs.Inputs.{GivesBack, ReadsItems};
-ghost use Rattle.plist.specs.Same.{same, IsTransitive, TellsScalars, TellsDictionaries, same_members};
+ghost use Rattle.plist.specs.Same.{same, IsTransitive, DecidesScalars, DecidesDictionaries, same_members};
 ghost use Rattle.plist.specs.Views.{pair_trees, tree_of};
 ghost use Rattle.plist.specs.inner.PutOff.{same_values_at};
 
@@ -56,8 +56,8 @@ pub fn are_equal(value: &Value, other: &Value) -> bool
     ensures reflexive { (tree : Tree) → same tree tree ≡ true }
     ensures symmetric { (tree other : Tree) → same tree other ≡ same other tree }
     ensures transitive { IsTransitive }
-    ensures scalars { TellsScalars }
-    ensures dictionaries { TellsDictionaries }
+    ensures scalars { DecidesScalars }
+    ensures dictionaries { DecidesDictionaries }
 {
     value == other
 }

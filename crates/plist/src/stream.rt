@@ -9,9 +9,9 @@ pub use plist_ascii::{AsciiReader, Bytes};
 pub use plist_base::{
     Event, Limited, OwnedEvent, Sealed, Seeking, Sequential, Source, Writer, read_exact_at,
 };
-pub use plist_binread::{BinaryReader, DecodeCounter, Decodings, Told, Uncounted};
+pub use plist_binread::{BinaryReader, CompactEvent, DecodeCounter, Decodings, Uncounted};
 pub use plist_binwrite::{
-    BinaryWriter, EqualScalars, FileWriter, Held, Sharing, classes, complete, complete_by_class,
-    forms, numbers, outlet,
+    BinaryWriter, EqualScalars, EventTable, FileWriter, Sharing, classes, complete,
+    complete_by_class, forms, numbers, outlet,
 };
 pub use plist_reader::{Format, Reader, format_of};

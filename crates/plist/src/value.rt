@@ -5,7 +5,7 @@ ghost use Rattle.plist_base.specs.Bracketing.{bracketing};
 ghost use Rattle.plist.specs.SendingValues.{SendsValue};
 ghost use Rattle.plist.specs.Collecting.{built_tree};
 ghost use Rattle.plist.specs.Contents.{array_in, data_in, dictionary_in, text_in};
-ghost use Rattle.plist.specs.Inputs.{AnswersOf, CollectsOf, ReadsItems, TellsTrees};
+ghost use Rattle.plist.specs.Inputs.{AnswersOf, CollectsOf, ReadsItems, DetermineTrees};
 ghost use Rattle.plist_pairs.specs.Bulk.{Ends};
 ghost use Rattle.plist.specs.ReadBy.{ComesOfReader, ComesUnderLimits, IsReadAsAscii, IsReadingFault, items_of_text};
 ghost use Rattle.plist.specs.ReadingBack.{ReadsBackIn};
@@ -193,7 +193,7 @@ impl Value {
         ensures value { CollectsOf I.into_iter_gives E.plain I.IntoIter.next_gives events result }
         ensures shown { AnswersOf I.into_iter_gives E.plain I.IntoIter.next_gives events result }
         // The law.
-        ensures one_tree { TellsTrees }
+        ensures one_tree { DetermineTrees }
         ensures last_values { (rows : TreePairs) → AreLastValues rows (last_values rows) }
         ensures itself { (value : Value) → last_wins (tree_of value) ≡ tree_of value }
     {

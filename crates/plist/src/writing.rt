@@ -1,17 +1,17 @@
 //! Values as the events that a writer takes.
 
 ghost use Rattle.std.specs.Prelude.{◌≡◌, IfOk};
-ghost use Rattle.plist_base.specs.Bracketing.{shape};
+ghost use Rattle.plist_base.specs.Bracketing.{lengthless};
 ghost use Rattle.plist_base.specs.Events.{item_of};
 ghost use Rattle.plist_base.specs.Outcomes.{OnlyMemory};
 ghost use Rattle.plist_base.specs.Writing.{answer_of};
-ghost use Rattle.plist_binwrite.specs.Held.{plain_events};
+ghost use Rattle.plist_binwrite.specs.EventTable.{plain_events};
 ghost use Rattle.plist.specs.Handing.{HandsItem, HandsValue};
 ghost use Rattle.plist.specs.Views.{tree_of};
 
 use crate::Value;
 use plist_base::{Error, Event, Writer};
-use plist_binwrite::Held;
+use plist_binwrite::EventTable;
 use std::alloc::Global;
 
 // Hands an item's event to the writer, or passes its fault on.
@@ -46,11 +46,11 @@ pub fn write_value<W: Writer>(alloc: Global, value: &Value, writer: &mut W) -> R
 /// # Errors
 ///
 /// `OutOfMemory`, without an offset.
-pub fn collect_events<'a>(alloc: Global, value: &'a Value) -> Result<Held<'a>, Error>
-    ensures events { IfOk result (λ held. plain_events held ≡ shape (tree_of value.now)) }
+pub fn collect_events<'a>(alloc: Global, value: &'a Value) -> Result<EventTable<'a>, Error>
+    ensures events { IfOk result (λ held. plain_events held ≡ lengthless (tree_of value.now)) }
     ensures memory { OnlyMemory result }
 {
-    let mut held = Held::new(alloc);
+    let mut held = EventTable::new(alloc);
     let mut left = value.events(alloc);
     while let Some(item) = left.next() {
         match item {

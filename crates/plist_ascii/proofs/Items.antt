@@ -18,17 +18,17 @@ unfolding items_in
 items_nil stops zero p = refl
 items_nil stops (suc r) p = refl
 
-items_room : (stops : ℕ → Bool) (r s : ℕ) (xs : List ℕ) (p : ℕ) → length xs ≤ r → length xs ≤ s
+items_fuel : (stops : ℕ → Bool) (r s : ℕ) (xs : List ℕ) (p : ℕ) → length xs ≤ r → length xs ≤ s
     → items_in stops r xs p ≡ items_in stops s xs p
 unfolding items_in token
-items_room stops r s [] p l m = items_nil _ r p ∙ sym (items_nil _ s p)
-items_room stops zero s (c ∷ cs) p l m = absurd (let none : ⊥ = omega arith in none)
-items_room stops (suc r) zero (c ∷ cs) p l m = absurd (let none : ⊥ = omega arith in none)
-items_room stops (suc r) (suc s) (c ∷ cs) p l m =
+items_fuel stops r s [] p l m = items_nil _ r p ∙ sym (items_nil _ s p)
+items_fuel stops zero s (c ∷ cs) p l m = absurd (let none : ⊥ = omega arith in none)
+items_fuel stops (suc r) zero (c ∷ cs) p l m = absurd (let none : ⊥ = omega arith in none)
+items_fuel stops (suc r) (suc s) (c ∷ cs) p l m =
     let b = token_by _ _ c cs in
     let short : length (drop b.bytes cs) ≤ length cs = rw length-drop (omega arith) in
     then_same (lead_of c) (p + suc b.bytes) b.gives _ _
-    (items_room _ r s _ _ (omega arith) (omega arith))
+    (items_fuel _ r s _ _ (omega arith) (omega arith))
 
 items_cons : (stops : ℕ → Bool) (c : ℕ) (cs : List ℕ) (p q : ℕ) → let b =
     token_by stops (lead_of c) c cs in q ≡ p + suc b.bytes
@@ -38,9 +38,9 @@ unfolding items_in token
 items_cons stops c cs p q e =
     let b = token_by stops (lead_of c) c cs in
     let short : length (drop b.bytes cs) ≤ length cs = rw length-drop (omega arith) in
-    let room = items_room stops (length cs) (length (drop b.bytes cs)) (drop b.bytes cs)
+    let fuel = items_fuel stops (length cs) (length (drop b.bytes cs)) (drop b.bytes cs)
     (p + suc b.bytes) short (omega arith) in
-    then_same (lead_of c) (p + suc b.bytes) b.gives _ _ room
+    then_same (lead_of c) (p + suc b.bytes) b.gives _ _ fuel
     ∙ ap (λ q. item_then (lead_of c) q b.gives
     (items_in stops (length (drop b.bytes cs)) (drop b.bytes cs) q)) (sym e)
 

@@ -84,24 +84,24 @@ by_same quote f g xs h =
     let short : length (drop m xs) ≤ length xs = rw length-drop (omega arith) in
     ap (behind m _) (end_same _ f g (drop m xs) (λ ys l. h ys (omega arith)))
 
-quoted_room : (quote r s : ℕ) (xs : List ℕ) → length xs ≤ r → length xs ≤ s
+quoted_fuel : (quote r s : ℕ) (xs : List ℕ) → length xs ≤ r → length xs ≤ s
     → quoted_in quote r xs ≡ quoted_in quote s xs
 unfolding quoted_in
-quoted_room quote zero zero xs l m = refl
-quoted_room quote zero (suc s) xs l m =
+quoted_fuel quote zero zero xs l m = refl
+quoted_fuel quote zero (suc s) xs l m =
     by_same _ (λ _. taken 0 (Err UnclosedString)) (quoted_in _ s) xs (λ ys h. absurd (omega arith))
-quoted_room quote (suc r) zero xs l m =
+quoted_fuel quote (suc r) zero xs l m =
     by_same _ (quoted_in _ r) (λ _. taken 0 (Err UnclosedString)) xs (λ ys h. absurd (omega arith))
-quoted_room quote (suc r) (suc s) xs l m =
+quoted_fuel quote (suc r) (suc s) xs l m =
     by_same _ (quoted_in _ r) (quoted_in _ s) xs
-    (λ ys h. quoted_room quote r s ys (omega arith) (omega arith))
+    (λ ys h. quoted_fuel quote r s ys (omega arith) (omega arith))
 
 pub quoted_opens : (quote : ℕ) (xs : List ℕ) → quoted quote xs ≡ quoted_by quote (quoted quote) xs
 unfolding quoted_in
 quoted_opens quote [] = refl
 quoted_opens quote (c ∷ xs) =
     by_same quote (quoted_in _ _) (quoted quote) (c ∷ xs)
-    (λ ys h. quoted_room quote (length xs) (length ys) ys (omega arith) (omega arith))
+    (λ ys h. quoted_fuel quote (length xs) (length ys) ys (omega arith) (omega arith))
 
 -- the text so far
 abbrev pub Quoting : (quote : ℕ) (text xs : List ℕ) → ℕ → List ℕ → ℕ → Type 0

@@ -158,11 +158,11 @@ part_in quote more xs h =
     with_in _ (run_end quote more (drop _ xs)).gives
     (end_in quote more (drop _ xs) h)
 
-quoted_in_text : (quote room : ℕ) (xs : List ℕ) → InText (quoted_in quote room xs).gives
+quoted_in_text : (quote fuel : ℕ) (xs : List ℕ) → InText (quoted_in quote fuel xs).gives
 unfolding quoted_in
 quoted_in_text quote zero xs = part_in _ (λ _. taken 0 (Err UnclosedString)) xs (λ ys. tt)
-quoted_in_text quote (suc room) xs =
-    part_in quote (quoted_in _ _) xs (λ ys. quoted_in_text quote room ys)
+quoted_in_text quote (suc fuel) xs =
+    part_in quote (quoted_in _ _) xs (λ ys. quoted_in_text quote fuel ys)
 
 outcome_wants : (r : Result (List ℕ) FaultKind) → InText r → IsTextToken (quoted_outcome r)
 unfolding quoted_event

@@ -60,14 +60,14 @@ item_then lead end (Ok None) more = more
 item_then lead end (Ok (Some event)) more = placed lead end (Ok event) ∷ more
 item_then lead end (Err kind) more = placed lead end (Err (fault_at kind end)) ∷ more
 
--- token by token; `room` is at least the number of bytes
-unfoldable pub items_in : (stops : ℕ → Bool) → (room : ℕ) → List ℕ → ℕ → List PlacedItem
+-- token by token; `fuel` is at least the number of bytes
+unfoldable pub items_in : (stops : ℕ → Bool) → (fuel : ℕ) → List ℕ → ℕ → List PlacedItem
 items_in stops zero bytes place = []
-items_in stops (suc room) [] place = []
-items_in stops (suc room) (c ∷ rest) place =
+items_in stops (suc fuel) [] place = []
+items_in stops (suc fuel) (c ∷ rest) place =
     let t = token stops c rest in
     item_then (lead_of c) (place + t.bytes) t.gives
-    (items_in stops room (drop t.bytes (c ∷ rest)) (place + t.bytes))
+    (items_in stops fuel (drop t.bytes (c ∷ rest)) (place + t.bytes))
 
 -- the items of some bytes, with their leads and ends, where the first byte stands at this place
 abbrev pub placed_items : (stops : ℕ → Bool) → List ℕ → (place : ℕ) → List PlacedItem

@@ -12,12 +12,12 @@ use Rattle.plist_ascii.specs.Texts.{ends_bare}
 use Rattle.plist_ascii.specs.declared.token.Lead.{Lead}
 use Rattle.plist_ascii.specs.Ascii.{PlacedItem, placed, placed_items, items_of_ascii, BeginsWithText, FirstIsQuoted}
 use Rattle.plist_ascii.specs.Kinds.{IsAsciiItem, ItemBehindBracket}
-use Rattle.plist_ascii.specs.Incoming.{ItemCountsIoIfTold}
+use Rattle.plist_ascii.specs.Incoming.{ItemCountsIoIfCounted}
 use Rattle.plist_ascii.specs.Unread.{within, unread, Known, IsAt}
 
 -- the reader inside
-abbrev pub inner_of : {R : Type 0} → AsciiReader R → R
-inner_of reader = reader.input.inner
+abbrev pub device_of : {R : Type 0} → AsciiReader R → R
+device_of reader = reader.input.inner
 
 -- the one byte that was read from it and not taken, if there is one
 abbrev pub looked_at : {R : Type 0} → AsciiReader R → Option ℕ
@@ -36,12 +36,12 @@ abbrev pub stops_of : {R : Type 0} → AsciiReader R → ℕ → Bool
 stops_of reader = ends_bare (dialect_of reader)
 
 -- the reader gives nothing more
-abbrev pub HasEnded : {R : Type 0} → AsciiReader R → Type 0
-HasEnded reader = reader.input.ended ≡ true
+abbrev pub HasEndedAscii : {R : Type 0} → AsciiReader R → Type 0
+HasEndedAscii reader = reader.input.ended ≡ true
 
 -- the bytes not yet taken, where they are known; none once the reader has ended
-abbrev pub bytes_left : {R : Type 0} → (R → Option (List ℕ)) → AsciiReader R → Option (List ℕ)
-bytes_left known reader = unread known reader.input
+abbrev pub untaken_bytes : {R : Type 0} → (R → Option (List ℕ)) → AsciiReader R → Option (List ℕ)
+untaken_bytes known reader = unread known reader.input
 
 -- as many of a device's bytes as are ever taken
 abbrev pub readable : Option (List ℕ) → Option (List ℕ)
@@ -50,7 +50,7 @@ readable known = option_map (λ bytes. take (2 ^ 64 - 1) bytes) known
 -- the device inside holds what the reader had left, without the byte that was looked at
 abbrev pub HoldsLeft : {R : Type 0} → AsciiReader R → (R → Option (List ℕ)) → R → Type 0
 HoldsLeft reader known inner = IfSome (known inner) (λ bytes.
-    bytes_left known reader ≡ Some (within (looked_at reader) (place_of reader) bytes))
+    untaken_bytes known reader ≡ Some (within (looked_at reader) (place_of reader) bytes))
 
 -- From place p on the items begin with this one, which ends at place q; the others are those of the
 -- rest, which are the bytes from q on.
@@ -63,9 +63,9 @@ pub record BeginsWithItem (stops : ℕ → Bool) (bytes : List ℕ) (p : ℕ) (i
 
 -- The first item came, and left the rest; nothing only where there is none. After a fault from
 -- outside nothing is left; want of memory comes only in the place of a text.
-abbrev pub GivesItem : (stops : ℕ → Bool) → List ℕ → (p : ℕ) → Option (Result Event Error)
+abbrev pub GivesAsciiItem : (stops : ℕ → Bool) → List ℕ → (p : ℕ) → Option (Result Event Error)
     → (rest : List ℕ) → (q : ℕ) → Type 0
-GivesItem stops bytes p item rest q = MatchOption item
+GivesAsciiItem stops bytes p item rest q = MatchOption item
     ((items_of_ascii stops bytes p ≡ []) × (rest ≡ []))
     (λ answer. MatchResult answer
     (λ event. BeginsWithItem stops bytes p (Ok (event_of event)) rest q)
@@ -91,31 +91,31 @@ BehindQuoted items item behind =
     MatchOption item ⊤ (λ answer. MatchResult answer (λ _. FirstIsQuoted items → behind) (λ _. ⊤))
 
 -- after a fault from outside, and where nothing comes, nothing comes for good
-abbrev pub EndsAfter : Option (Result Event Error) → Type 0 → Type 0
-EndsAfter item ended =
+abbrev pub EndsAfterOutside : Option (Result Event Error) → Type 0 → Type 0
+EndsAfterOutside item ended =
     MatchOption item ended (λ answer. MatchResult answer (λ _. ⊤)
     (λ error. MatchFault (kind_of (error_kind_of error)) ended ended ⊤))
 
 -- one call of `next`: the item is the first of those that the bytes not yet taken give; once ended,
 -- the reader inside is asked no more, and behind a start, an end or a quoted text no byte has been
 -- looked at
-pub record Gives {R : Type 0} (known : R → Option (List ℕ)) (failed : R → Option ℕ)
+pub record GivesAscii {R : Type 0} (known : R → Option (List ℕ)) (failed : R → Option ℕ)
     (old : AsciiReader R) (item : Option (Result Event Error)) (new : AsciiReader R) : Type 0 where
-  pub items : Known (bytes_left known old) (λ bytes. (rest : List ℕ)
-      × (bytes_left known new ≡ Some rest)
-      × GivesItem (stops_of old) bytes (place_of old) item rest (place_of new))
+  pub items : Known (untaken_bytes known old) (λ bytes. (rest : List ℕ)
+      × (untaken_bytes known new ≡ Some rest)
+      × GivesAsciiItem (stops_of old) bytes (place_of old) item rest (place_of new))
   pub dialect : dialect_of new ≡ dialect_of old
   pub rises : TakesBytes item (place_of old) (place_of new)
   pub offset : FaultIsAt item (place_of new)
   pub kinds : IsAsciiItem item
   pub brackets : ItemBehindBracket item (looked_at new ≡ None)
-  pub quotes : Known (bytes_left known old)
+  pub quotes : Known (untaken_bytes known old)
       (λ bytes. BehindQuoted (placed_items (stops_of old) bytes (place_of old)) item
       (looked_at new ≡ None))
-  pub failures : ItemCountsIoIfTold item (failed (inner_of old)) (failed (inner_of new))
-  pub ended : HasEnded old → item ≡ None
-  pub unasked : HasEnded old → inner_of new ≡ inner_of old
-  pub ends : EndsAfter item (HasEnded new)
+  pub failures : ItemCountsIoIfCounted item (failed (device_of old)) (failed (device_of new))
+  pub ended : HasEndedAscii old → item ≡ None
+  pub unasked : HasEndedAscii old → device_of new ≡ device_of old
+  pub ends : EndsAfterOutside item (HasEndedAscii new)
 
 -- more than the items that are still to come
 abbrev pub bytes_to_come : (ended : Bool) → (taken : ℕ) → ℕ
@@ -123,5 +123,5 @@ bytes_to_come true taken = 0
 bytes_to_come false taken = 2 ^ 64 - taken
 
 -- the same of a reader
-abbrev pub steps_to_come : {R : Type 0} → AsciiReader R → ℕ
-steps_to_come reader = bytes_to_come reader.input.ended reader.input.taken
+abbrev pub ascii_steps : {R : Type 0} → AsciiReader R → ℕ
+ascii_steps reader = bytes_to_come reader.input.ended reader.input.taken

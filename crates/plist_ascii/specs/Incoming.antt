@@ -1,4 +1,4 @@
--- What a read of a byte leaves, and what it tells of its failures.
+-- What a read of a byte leaves, and what becomes of the count of failures.
 use Rattle.std.specs.Prelude.{◌≡◌, ℕ, List, [], ◌∷◌, take, Option, None, Some, Result, MatchOption, MatchResult, ⊤}
 use Rattle.std.specs.Io.KnownBytes.{Consumes, IsAtEnd}
 use Rattle.plist_base.specs.declared.error.Error.{Error}
@@ -14,28 +14,29 @@ GivesByte old (Some byte) new = Consumes old new (byte ∷ [])
 abbrev pub LosesFirst : (count : ℕ) → (held : List ℕ) → Option (List ℕ) → Option (List ℕ) → Type 0
 LosesFirst count held old new = Consumes old new (take count held)
 
--- the count of failures rose, or stands at its top, where it is told
-abbrev pub RisesIfTold : Option ℕ → Option ℕ → Type 0
-RisesIfTold None new = ⊤
-RisesIfTold (Some old) None = ⊥
-RisesIfTold (Some old) (Some new) = Rises old new
+-- the count of failures rose, or stands at its top, where there is one
+abbrev pub RisesIfCounted : Option ℕ → Option ℕ → Type 0
+RisesIfCounted None new = ⊤
+RisesIfCounted (Some old) None = ⊥
+RisesIfCounted (Some old) (Some new) = Rises old new
 
 -- `Ok` leaves the count of failures, and `Err` raises it
-abbrev pub CountsFailureIfTold : {A E : Type 0} → Result A E → Option ℕ → Option ℕ → Type 0
-CountsFailureIfTold answer old new = MatchResult answer (λ _. new ≡ old) (λ _. RisesIfTold old new)
+abbrev pub CountsFailureIfCounted : {A E : Type 0} → Result A E → Option ℕ → Option ℕ → Type 0
+CountsFailureIfCounted answer old new = MatchResult answer (λ _. new
+    ≡ old) (λ _. RisesIfCounted old new)
 
 -- `Io` only where the count of failures rose; whatever else came, it is as it was
-abbrev pub CountsIoIfTold : Error → Option ℕ → Option ℕ → Type 0
-CountsIoIfTold error old new =
-    MatchFault (kind_of (error_kind_of error)) (RisesIfTold old new) (new ≡ old) (new ≡ old)
+abbrev pub CountsIoIfCounted : Error → Option ℕ → Option ℕ → Type 0
+CountsIoIfCounted error old new =
+    MatchFault (kind_of (error_kind_of error)) (RisesIfCounted old new) (new ≡ old) (new ≡ old)
 
 -- the same of a call's answer
-abbrev pub AnswersIoIfTold : {A : Type 0} → Result A Error → Option ℕ → Option ℕ → Type 0
-AnswersIoIfTold answer old new = MatchResult answer (λ _. new ≡ old)
-    (λ error. CountsIoIfTold error old new)
+abbrev pub AnswersIoIfCounted : {A : Type 0} → Result A Error → Option ℕ → Option ℕ → Type 0
+AnswersIoIfCounted answer old new = MatchResult answer (λ _. new ≡ old)
+    (λ error. CountsIoIfCounted error old new)
 
 -- the same of an iterator's item
-abbrev pub ItemCountsIoIfTold : {A : Type 0} → Option (Result A Error) → Option ℕ → Option ℕ
+abbrev pub ItemCountsIoIfCounted : {A : Type 0} → Option (Result A Error) → Option ℕ → Option ℕ
     → Type 0
-ItemCountsIoIfTold item old new = MatchOption item (new ≡ old)
-    (λ answer. AnswersIoIfTold answer old new)
+ItemCountsIoIfCounted item old new = MatchOption item (new ≡ old)
+    (λ answer. AnswersIoIfCounted answer old new)

@@ -38,10 +38,10 @@ module _ (quote : ℕ) (more : List ℕ → Taken (List ℕ)) where
       behind (run (ends_run quote) bytes) (take (run (ends_run quote) bytes) bytes)
       (run_end (drop (run (ends_run quote) bytes) bytes))
 
--- runs and escapes in turn; `room` is at least the number of escapes
-unfoldable pub quoted_in : (quote room : ℕ) → List ℕ → Taken (List ℕ)
+-- runs and escapes in turn; `fuel` is at least the number of escapes
+unfoldable pub quoted_in : (quote fuel : ℕ) → List ℕ → Taken (List ℕ)
 quoted_in quote zero bytes = quoted_by quote (λ _. taken 0 (Err UnclosedString)) bytes
-quoted_in quote (suc room) bytes = quoted_by quote (quoted_in quote room) bytes
+quoted_in quote (suc fuel) bytes = quoted_by quote (quoted_in quote fuel) bytes
 
 -- the bytes of a quoted text up to its closing quote, or its first fault
 abbrev pub quoted : (quote : ℕ) → List ℕ → Taken (List ℕ)

@@ -1,7 +1,7 @@
 //! Where the bytes come from.
 
 ghost use Rattle.std.specs.Prelude.{◌≡◌, ◌≤◌, ℕ, List, [], length, Option, None, IfOk};
-ghost use Rattle.plist_ascii.specs.Incoming.{GivesByte, CountsFailureIfTold, LosesFirst};
+ghost use Rattle.plist_ascii.specs.Incoming.{GivesByte, CountsFailureIfCounted, LosesFirst};
 
 use std::io;
 use std::io::Read;
@@ -21,10 +21,10 @@ pub trait Bytes {
     /// The next byte, or `None` at the end.
     fn next_byte(&mut self) -> Result<Option<u8>, io::Error>
         ensures byte { IfOk result (λ b. GivesByte (remaining self.old) b (remaining self.new)) }
-        ensures failures { CountsFailureIfTold result (failures self.old) (failures self.new) };
+        ensures failures { CountsFailureIfCounted result (failures self.old) (failures self.new) };
 
     /// The bytes that are at hand: they are the next ones, and taking them reads nothing.
-    fn at_hand(&self) -> &[u8]
+    fn buffered(&self) -> &[u8]
         ensures { result.now ≡ held self.now };
 
     /// Takes the first `count` of the bytes at hand.
@@ -55,7 +55,7 @@ impl<R: Read> Bytes for R {
         }
     }
 
-    fn at_hand(&self) -> &[u8] {
+    fn buffered(&self) -> &[u8] {
         &[]
     }
 

@@ -33,7 +33,7 @@ impl<R: Bytes> Input<R> {
         ensures failures { CountsFailed R.failures self.old result self.new }
     {
         while let Some(_byte) = self.take_unless(stop)? {
-            self.skip_at_hand(stop);
+            self.skip_buffered(stop);
         }
         Ok(())
     }

@@ -209,7 +209,7 @@ impl<R: Bytes> Input<R> {
     }
 
     /// Takes bytes that are at hand, up to a stop.
-    pub fn skip_at_hand(&mut self, stop: Stop)
+    pub fn skip_buffered(&mut self, stop: Stop)
         ensures bytes { SkipsSome R.remaining stop self.old self.new }
         ensures place { self.old.taken ≤ self.new.taken }
         ensures failures { R.failures self.new.inner ≡ R.failures self.old.inner }
@@ -220,13 +220,13 @@ impl<R: Bytes> Input<R> {
         if self.peeked.is_some() {
             return;
         }
-        let count = run_length(stop, self.inner.at_hand(), u64::MAX - self.taken);
+        let count = run_length(stop, self.inner.buffered(), u64::MAX - self.taken);
         self.inner.pass(count);
         self.taken += count as u64;
     }
 
     /// Takes bytes that are at hand, up to a stop, and appends them.
-    pub fn take_at_hand(&mut self, stop: Stop, text: &mut Vec<u8>) -> Result<(), Error>
+    pub fn take_buffered(&mut self, stop: Stop, text: &mut Vec<u8>) -> Result<(), Error>
         ensures value { OnOk result (AddsTo R.remaining stop self.old text.old self.new text.new) }
         ensures fault { OnlyMemory result }
         ensures place { self.old.taken ≤ self.new.taken }
@@ -238,7 +238,7 @@ impl<R: Bytes> Input<R> {
         if self.peeked.is_some() {
             return Ok(());
         }
-        let bytes = self.inner.at_hand();
+        let bytes = self.inner.buffered();
         let count = run_length(stop, bytes, u64::MAX - self.taken);
         text.extend_from_slice(&bytes[..count])?;
         self.inner.pass(count);

@@ -4,8 +4,8 @@ ghost use Rattle.std.specs.Prelude.{◌≡◌, ◌-◌, ◌<◌, take, None, Som
 ghost use Rattle.plist_base.specs.Faults.{kind_of, error_kind_of};
 ghost use Rattle.plist_ascii.specs.Kinds.{IsAsciiItem, ItemBehindBracket};
 ghost use Rattle.plist_ascii.specs.Unread.{is_from_outside};
-ghost use Rattle.plist_ascii.specs.AsciiReader.{TakesBytes, FaultIsAt, EndsAfter, readable, HoldsLeft};
-ghost use Rattle.plist_ascii.specs.inner.Inputs.{ItemCountsFailed, GivesFirst, StopsAtQuote, to_come_of};
+ghost use Rattle.plist_ascii.specs.AsciiReader.{TakesBytes, FaultIsAt, EndsAfterOutside, readable, HoldsLeft};
+ghost use Rattle.plist_ascii.specs.inner.Inputs.{ItemCountsFailed, GivesToStop, StopsAtQuote, to_come_of};
 
 use crate::bytes::Bytes;
 use crate::dialect::Dialect;
@@ -24,7 +24,7 @@ impl<R: Bytes> Input<R> {
     // Takes tokens up to the first that gives an item.
     fn item(&mut self, alloc: Global, stop: Stop) -> Option<Result<OwnedEvent, Error>>
         // The answer.
-        ensures items { GivesFirst R.remaining stop self.old result self.new }
+        ensures items { GivesToStop R.remaining stop self.old result self.new }
         ensures kinds { IsAsciiItem result }
         ensures brackets { ItemBehindBracket result (self.new.peeked ≡ None) }
         ensures quotes { StopsAtQuote R.remaining stop self.old result self.new }
@@ -34,7 +34,7 @@ impl<R: Bytes> Input<R> {
         ensures rises { TakesBytes result self.old.taken self.new.taken }
         ensures ended { self.old.ended ≡ true → result ≡ None }
         ensures unasked { self.old.ended ≡ true → self.new.inner ≡ self.old.inner }
-        ensures ends { EndsAfter result (self.new.ended ≡ true) }
+        ensures ends { EndsAfterOutside result (self.new.ended ≡ true) }
         ensures falls { IfSome result (λ _. to_come_of self.new < to_come_of self.old) }
         ensures failures { ItemCountsFailed R.failures self.old result self.new }
     {
@@ -93,13 +93,13 @@ pub struct AsciiReader<R> {
 impl<R: Bytes> AsciiReader<R> {
     ghost use Rattle.std.specs.Prelude.{◌≡◌, ◌-◌, take, None, IfSome, Some};
     ghost use Rattle.plist_ascii.specs.Ascii.{OnlyBareTextsDiffer};
-    ghost use Rattle.plist_ascii.specs.AsciiReader.{bytes_left, dialect_of, inner_of, looked_at, place_of, HasEnded};
+    ghost use Rattle.plist_ascii.specs.AsciiReader.{untaken_bytes, dialect_of, device_of, looked_at, place_of, HasEndedAscii};
 
     /// A lax reader over a device's bytes. It reads nothing before its first item is asked for.
     pub fn new(alloc: Global, inner: R) -> Self
         // The answer.
-        ensures bytes { bytes_left R.remaining result ≡ readable (R.remaining inner) }
-        ensures inner { inner_of result ≡ inner }
+        ensures bytes { untaken_bytes R.remaining result ≡ readable (R.remaining inner) }
+        ensures inner { device_of result ≡ inner }
         ensures dialect { dialect_of result ≡ Dialect.Lax }
         // The state after it.
         ensures place { place_of result ≡ 0 }
@@ -115,8 +115,8 @@ impl<R: Bytes> AsciiReader<R> {
     #[tactic(auto, using(crate::proofs::Unread::new_unread))]
     pub fn with_dialect(alloc: Global, inner: R, dialect: Dialect) -> Self
         // The answer.
-        ensures bytes { bytes_left R.remaining result ≡ readable (R.remaining inner) }
-        ensures inner { inner_of result ≡ inner }
+        ensures bytes { untaken_bytes R.remaining result ≡ readable (R.remaining inner) }
+        ensures inner { device_of result ≡ inner }
         ensures dialect { dialect_of result ≡ dialect }
         // The state after it.
         ensures place { place_of result ≡ 0 }
@@ -136,8 +136,8 @@ impl<R: Bytes> AsciiReader<R> {
     /// That byte is lost. Behind a bracket or a quoted text none is.
     #[tactic(auto, using(crate::proofs::Unread::going_unread))]
     pub fn into_inner(self) -> R
-        ensures bytes { (HasEnded self → ⊥) → HoldsLeft self R.remaining result }
-        ensures inner { result ≡ inner_of self }
+        ensures bytes { (HasEndedAscii self → ⊥) → HoldsLeft self R.remaining result }
+        ensures inner { result ≡ device_of self }
     {
         self.input.into_inner()
     }
@@ -147,11 +147,11 @@ impl<R: Bytes + Drop> Iterator for AsciiReader<R> {
     type Item = Result<OwnedEvent, Error>;
 
     ghost use Rattle.std.specs.Iterator.{at_most};
-    ghost use Rattle.plist_ascii.specs.AsciiReader.{Gives, steps_to_come};
+    ghost use Rattle.plist_ascii.specs.AsciiReader.{GivesAscii, ascii_steps};
 
-    ghost next_gives = { Gives R.remaining R.failures };
+    ghost next_gives = { GivesAscii R.remaining R.failures };
 
-    ghost remaining = { λ s. at_most (steps_to_come s) };
+    ghost remaining = { λ s. at_most (ascii_steps s) };
 
     fn next(&mut self) -> Option<Result<OwnedEvent, Error>> {
         self.input.item(self.alloc, Stop::Bare(self.dialect))

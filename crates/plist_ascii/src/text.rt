@@ -75,7 +75,7 @@ impl<R: Bytes> Input<R> {
     {
         while let Some(byte) = self.take_unless(stop)? {
             push_byte(text, byte)?;
-            self.take_at_hand(stop, text)?;
+            self.take_buffered(stop, text)?;
         }
         Ok(())
     }

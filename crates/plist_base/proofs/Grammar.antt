@@ -4,33 +4,34 @@ use Rattle.std.proofs.lemmas.List.{map-append}
 use Rattle.std.proofs.lemmas.Option.{option_and_then_some}
 use Rattle.plist_base.specs.Events.{PlainEvent}
 use Rattle.plist_base.specs.Trees.{Tree}
-use Rattle.plist_base.specs.Bracketing.{bracketing, unhinted, AreAlike, AreWhole, AreComplete, CanContinue, ContinueAlike}
-use Rattle.plist_base.specs.inner.Wants.{OneValue, step, steps, wanted_after}
-use Rattle.plist_base.proofs.Stacks.{Fills, Stack, all-unhinted-twice, filling, run_back, shape-is, steps_tree}
+use Rattle.plist_base.specs.Bracketing.{bracketing, without_length, AreAlike, AreWhole, AreComplete, CanContinue, ContinueAlike}
+use Rattle.plist_base.specs.inner.Expects.{OneValue, step, steps, expected_after}
+use Rattle.plist_base.proofs.Stacks.{Fills, Stack, all-without_length-twice, filling, run_back, lengthless-is, steps_tree}
 
 -- lengths change nothing for the stack
-step_unhinted : (s : Stack) (e : PlainEvent) → step s (unhinted e) ≡ step s e
-step_unhinted s e = search rules
+step_without_length : (s : Stack) (e : PlainEvent) → step s (without_length e) ≡ step s e
+step_without_length s e = search rules
 
-steps_unhinted : (es : List PlainEvent) (s : Stack) → steps s (map unhinted es) ≡ steps s es
-steps_unhinted [] s = refl
-steps_unhinted (e ∷ es) s =
-    λ i. option_and_then (λ u. steps_unhinted es u i) (step_unhinted s e i)
+steps_without_length : (es : List PlainEvent) (s : Stack) → steps s (map without_length es)
+    ≡ steps s es
+steps_without_length [] s = refl
+steps_without_length (e ∷ es) s =
+    λ i. option_and_then (λ u. steps_without_length es u i) (step_without_length s e i)
 
 -- the same events up to lengths want the same
 pub wanted_alike : (left right : List PlainEvent) → AreAlike left right
-    → wanted_after left ≡ wanted_after right
+    → expected_after left ≡ expected_after right
 wanted_alike left right p =
-    rw (← steps_unhinted left, p) (steps_unhinted right (OneValue ∷ []))
+    rw (← steps_without_length left, p) (steps_without_length right (OneValue ∷ []))
 
 -- ---- where the stack takes an event, it can go on to a tree
 
 -- what fills the first want are a tree's events
-filled : (es : List PlainEvent) → Fills (OneValue ∷ []) (map unhinted es) → AreWhole es
-filled es (t, left, p, none) = (t, rw (p, none, append-nil, shape-is t) refl)
+filled : (es : List PlainEvent) → Fills (OneValue ∷ []) (map without_length es) → AreWhole es
+filled es (t, left, p, none) = (t, rw (p, none, append-nil, lengthless-is t) refl)
 
 pub can_continue : (held : List PlainEvent) (e : PlainEvent) (t : Stack)
-    → wanted_after (held ++ e ∷ []) ≡ Some t → CanContinue held e
+    → expected_after (held ++ e ∷ []) ≡ Some t → CanContinue held e
 can_continue held e t p =
     let g = filling t in
     let f = filled ((held ++ e ∷ []) ++ g.0)
@@ -38,15 +39,15 @@ can_continue held e t p =
     (g.0, f.0, simp append_assoc at f.1)
 
 -- the events are those of a tree exactly where nothing more is wanted after them
-pub bracketed : (held : List PlainEvent) → wanted_after held ≡ Some [] → AreWhole held
+pub bracketed : (held : List PlainEvent) → expected_after held ≡ Some [] → AreWhole held
 bracketed held p =
     rw append-nil at (filled (held ++ []) (run_back held [] (OneValue ∷ []) [] p refl))
 
 pub all_taken : (held : List PlainEvent) (t : Tree) → AreAlike held (bracketing t)
-    → wanted_after held ≡ Some []
+    → expected_after held ≡ Some []
 all_taken held t p =
     wanted_alike held (bracketing t) p
-    ∙ ap wanted_after (sym (append-nil (bracketing t))) ∙ steps_tree t [] []
+    ∙ ap expected_after (sym (append-nil (bracketing t))) ∙ steps_tree t [] []
 
 pub none_is : {A : Type 0} (o : Option A) (t : A) → o ≡ None → o ≡ Some t → ⊥
 none_is o t p q = cc
@@ -63,11 +64,11 @@ steps_append (e ∷ es) more s =
 
 -- where it can go on to a tree, the stack takes the event
 pub continues : (held : List PlainEvent) (e : PlainEvent) → CanContinue held e → (t : Stack)
-    × (wanted_after (held ++ e ∷ []) ≡ Some t)
+    × (expected_after (held ++ e ∷ []) ≡ Some t)
 continues held e (more, tree, p) =
-    option_and_then_some (λ t. steps t more) (wanted_after (held ++ e ∷ [])) []
+    option_and_then_some (λ t. steps t more) (expected_after (held ++ e ∷ [])) []
     (sym (steps_append (held ++ e ∷ []) more (OneValue ∷ []))
-    ∙ ap wanted_after (append_assoc held (e ∷ []) more) ∙ all_taken (held ++ e ∷ more) tree p)
+    ∙ ap expected_after (append_assoc held (e ∷ []) more) ∙ all_taken (held ++ e ∷ more) tree p)
     (λ t q r. (t, q))
 
 only : {A : Type 0} (o : Option A) → option_and_then Some o ≡ o
@@ -84,7 +85,7 @@ none_behind : (events : List PlainEvent) → AreWhole events → (e : PlainEvent
     → ⊥
 none_behind events (t, alike) e c =
     let g = continues _ e c in
-    none_is (wanted_after (events ++ e ∷ [])) g.0
+    none_is (expected_after (events ++ e ∷ [])) g.0
     (rw (steps_snoc events, all_taken events t alike) refl) g.1
 
 pub complete_of_whole : (events : List PlainEvent) → AreWhole events → AreComplete events
@@ -115,9 +116,9 @@ continue_with left right p e (more, t, alike) =
 pub continue_alike : (left right : List PlainEvent) → AreAlike left right → ContinueAlike left right
 continue_alike left right p e = (continue_with _ _ p e, continue_with _ _ (sym p) e)
 
-pub alike_unhinted : (events : List PlainEvent) → AreAlike (map unhinted events) events
-alike_unhinted events = all-unhinted-twice _
+pub alike_without_length : (events : List PlainEvent) → AreAlike (map without_length events) events
+alike_without_length events = all-without_length-twice _
 
 pub alike_last : (events : List PlainEvent) (e : PlainEvent)
-    → AreAlike (events ++ unhinted e ∷ []) (events ++ e ∷ [])
-alike_last events e = alike_behind events _ _ (all-unhinted-twice (e ∷ []))
+    → AreAlike (events ++ without_length e ∷ []) (events ++ e ∷ [])
+alike_last events e = alike_behind events _ _ (all-without_length-twice (e ∷ []))

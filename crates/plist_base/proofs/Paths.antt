@@ -49,11 +49,11 @@ path_pop i path o = record {
 }
 
 -- no more are open than there are
-pub path_room : {count : ℕ} {path : List ℕ} → IsPath count path → length path ≤ count
-path_room {count} {path} o = length-le_from_distinct_below _ _ o.distinct o.below
+pub path_fuel : {count : ℕ} {path : List ℕ} → IsPath count path → length path ≤ count
+path_fuel {count} {path} o = length-le_from_distinct_below _ _ o.distinct o.below
 
 -- there is room for an object that isn't open
 pub path_rises : {count : ℕ} {path : List ℕ} (i : ℕ) → IsPath count path → i < count
     → list_any (nat_eq i) path ≡ false → length path < count
 path_rises {count} {path} i o h new =
-    let k : suc (length path) ≤ count = path_room (path_push i o h new) in omega (arith, k)
+    let k : suc (length path) ≤ count = path_fuel (path_push i o h new) in omega (arith, k)

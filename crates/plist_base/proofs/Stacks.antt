@@ -4,45 +4,52 @@ use Rattle.std.proofs.lemmas.List.{map-append}
 use Rattle.plist_base.specs.Events.{PlainEvent, StartArray, StartDictionary, EndCollection, Single}
 use Rattle.plist_base.specs.Trees as trees
 use Rattle.plist_base.specs.Trees.{Tree, Leaf, Array, Dictionary, Trees, NoTrees, TreeAnd, Members, NoMembers, MemberAnd}
-use Rattle.plist_base.specs.Bracketing.{shape, shape_of_items, shape_of_pairs, bracketing, bracketing_of_items, bracketing_of_pairs, unhinted}
-use Rattle.plist_base.specs.inner.Wants.{Want, OneValue, Items, Pairs, step, steps}
+use Rattle.plist_base.specs.Bracketing.{lengthless, lengthless_items, lengthless_pairs, bracketing, bracketing_of_items, bracketing_of_pairs, without_length}
+use Rattle.plist_base.specs.inner.Expects.{Expect, OneValue, Items, Pairs, step, steps}
 
 abbrev pub Stack : Type 0
-Stack = List Want
+Stack = List Expect
 
-pub unhinted-twice : (e : PlainEvent) → unhinted (unhinted e) ≡ unhinted e
-unhinted-twice e = search rules
+pub without_length-twice : (e : PlainEvent) → without_length (without_length e) ≡ without_length e
+without_length-twice e = search rules
 
-pub all-unhinted-twice : (es : List PlainEvent) → map unhinted (map unhinted es) ≡ map unhinted es
-all-unhinted-twice [] = refl
-all-unhinted-twice (e ∷ es) = rw (unhinted-twice e, all-unhinted-twice es) refl
+pub all-without_length-twice : (es : List PlainEvent) → map without_length (map without_length es)
+    ≡ map without_length es
+all-without_length-twice [] = refl
+all-without_length-twice (e ∷ es) = rw (without_length-twice e, all-without_length-twice es) refl
 
 mutual
   -- a tree's events without their lengths
-  pub shape-is : (t : Tree) → map unhinted (bracketing t) ≡ shape t
-  shape-is (Leaf s) = refl
-  shape-is (Array ts) = rw (map-append unhinted, shape-of-items-is ts) refl
-  shape-is (Dictionary ms) = rw (map-append unhinted, shape-of-pairs-is ms) refl
+  pub lengthless-is : (t : Tree) → map without_length (bracketing t) ≡ lengthless t
+  lengthless-is (Leaf s) = refl
+  lengthless-is (Array ts) = rw (map-append without_length, lengthless-of-items-is ts) refl
+  lengthless-is (Dictionary ms) = rw (map-append without_length, lengthless-of-pairs-is ms) refl
 
-  pub shape-of-items-is : (ts : Trees) → map unhinted (bracketing_of_items ts) ≡ shape_of_items ts
-  shape-of-items-is NoTrees = refl
-  shape-of-items-is (TreeAnd t ts) = rw (map-append unhinted, shape-is t, shape-of-items-is ts) refl
+  pub lengthless-of-items-is : (ts : Trees) → map without_length (bracketing_of_items ts)
+      ≡ lengthless_items ts
+  lengthless-of-items-is NoTrees = refl
+  lengthless-of-items-is (TreeAnd t ts) = rw (
+    map-append without_length,
+    lengthless-is t,
+    lengthless-of-items-is ts,
+  ) refl
 
-  pub shape-of-pairs-is : (ms : Members) → map unhinted (bracketing_of_pairs ms) ≡ shape_of_pairs ms
-  shape-of-pairs-is NoMembers = refl
-  shape-of-pairs-is (MemberAnd k t ms) = rw
-      (map-append unhinted, shape-is t, shape-of-pairs-is ms) refl
+  pub lengthless-of-pairs-is : (ms : Members) → map without_length (bracketing_of_pairs ms)
+      ≡ lengthless_pairs ms
+  lengthless-of-pairs-is NoMembers = refl
+  lengthless-of-pairs-is (MemberAnd k t ms) = rw
+      (map-append without_length, lengthless-is t, lengthless-of-pairs-is ms) refl
 
 -- the events give what is wanted, and nothing more
 abbrev pub Fills : Stack → List PlainEvent → Type 0
 Fills [] es = es ≡ []
 Fills (OneValue ∷ rest) es =
-    (t : Tree) × (left : List PlainEvent) × (es ≡ shape t ++ left) × Fills rest left
+    (t : Tree) × (left : List PlainEvent) × (es ≡ lengthless t ++ left) × Fills rest left
 Fills (Items ∷ rest) es =
-    (ts : Trees) × (left : List PlainEvent) × (es ≡ shape_of_items ts ++ EndCollection ∷ left)
+    (ts : Trees) × (left : List PlainEvent) × (es ≡ lengthless_items ts ++ EndCollection ∷ left)
     × Fills rest left
 Fills (Pairs ∷ rest) es =
-    (ms : Members) × (left : List PlainEvent) × (es ≡ shape_of_pairs ms ++ EndCollection ∷ left)
+    (ms : Members) × (left : List PlainEvent) × (es ≡ lengthless_pairs ms ++ EndCollection ∷ left)
     × Fills rest left
 
 refill : {a b : Stack} (m : List PlainEvent) → Some a ≡ Some b → Fills b m → Fills a m
@@ -52,14 +59,22 @@ no_stack : {A : Type 0} (b : Stack) → None ≡ Some b → A
 no_stack b e = cc
 
 -- each stack can be filled
-pub filling : (s : Stack) → (es : List PlainEvent) × Fills s (map unhinted es)
+pub filling : (s : Stack) → (es : List PlainEvent) × Fills s (map without_length es)
 filling [] = ([], refl)
 filling (OneValue ∷ s) =
-    let f = filling s in (Single (trees.Boolean true) ∷ f.0, (Leaf _, map unhinted f.0, refl, f.1))
+    let f = filling s in (
+      Single (trees.Boolean true) ∷ f.0,
+      (
+        Leaf _,
+        map without_length f.0,
+        refl,
+        f.1,
+      ),
+    )
 filling (Items ∷ s) =
-    let f = filling s in (EndCollection ∷ f.0, (NoTrees, map unhinted f.0, refl, f.1))
+    let f = filling s in (EndCollection ∷ f.0, (NoTrees, map without_length f.0, refl, f.1))
 filling (Pairs ∷ s) =
-    let f = filling s in (EndCollection ∷ f.0, (NoMembers, map unhinted f.0, refl, f.1))
+    let f = filling s in (EndCollection ∷ f.0, (NoMembers, map without_length f.0, refl, f.1))
 
 on_array : (s : Stack) (m : List PlainEvent) → Fills (Items ∷ s) m
     → Fills (OneValue ∷ s) (StartArray None ∷ m)
@@ -81,7 +96,7 @@ on_pair k s m f =
     let g = f.3 in (MemberAnd k f.0 g.0, g.1, rw (f.2, g.2, append_assoc) refl, g.3)
 
 on_value : (s : Stack) (e : PlainEvent) (t : Stack) (m : List PlainEvent)
-    → step (OneValue ∷ s) e ≡ Some t → Fills t m → Fills (OneValue ∷ s) (unhinted e ∷ m)
+    → step (OneValue ∷ s) e ≡ Some t → Fills t m → Fills (OneValue ∷ s) (without_length e ∷ m)
 on_value s (StartArray n) t m p f = on_array s m (refill m p f)
 on_value s (StartDictionary n) t m p f = on_dictionary s m (refill m p f)
 on_value s EndCollection t m p f = no_stack t p
@@ -89,7 +104,7 @@ on_value s (Single x) t m p f = (Leaf x, m, refl, refill m p f)
 
 -- what fills the stack after a step fills, with the event in front, the stack before it
 fill_back : (s : Stack) (e : PlainEvent) (t : Stack) (m : List PlainEvent) → step s e ≡ Some t
-    → Fills t m → Fills s (unhinted e ∷ m)
+    → Fills t m → Fills s (without_length e ∷ m)
 fill_back [] e t m p f = no_stack t p
 fill_back (OneValue ∷ s) e t m p f = on_value s e t m p f
 fill_back (Items ∷ s) EndCollection t m p f = (NoTrees, m, refl, refill m p f)
@@ -100,16 +115,16 @@ fill_back (Pairs ∷ s) e t m p f = no_stack t p
 
 run_along : (o : Option Stack) (s : Stack) (e : PlainEvent) (t : Stack) (es more : List PlainEvent)
     → step s e ≡ o → option_and_then (λ u. steps u es) o ≡ Some t
-    → ((u : Stack) → steps u es ≡ Some t → Fills u more) → Fills s (unhinted e ∷ more)
+    → ((u : Stack) → steps u es ≡ Some t → Fills u more) → Fills s (without_length e ∷ more)
 run_along None s e t es more q p next = no_stack t p
 run_along (Some u) s e t es more q p next = fill_back s e u more q (next u p)
 
 -- over a list of events
 pub run_back : (es more : List PlainEvent) (s t : Stack) → steps s es ≡ Some t
-    → Fills t (map unhinted more) → Fills s (map unhinted (es ++ more))
-run_back [] more s t p f = refill (map unhinted more) p f
+    → Fills t (map without_length more) → Fills s (map without_length (es ++ more))
+run_back [] more s t p f = refill (map without_length more) p f
 run_back (e ∷ es) more s t p f =
-    run_along (step s e) s e t es (map unhinted (es ++ more)) refl p
+    run_along (step s e) s e t es (map without_length (es ++ more)) refl p
     (λ u q. run_back es more u t q f)
 
 -- ---- a tree's events give one want, and nothing more

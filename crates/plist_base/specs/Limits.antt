@@ -134,8 +134,8 @@ abbrev pub RefusesBy : Limiter → PlainEvent → Limit → Type 0
 RefusesBy limiter event limit = Refuses limiter event (fault_nowhere (LimitReached limit))
 
 -- may one more event come?
-abbrev pub has_room : Limiter → Bool
-has_room limiter = not (nat_le limiter.limits.items limiter.came)
+abbrev pub admits_more : Limiter → Bool
+admits_more limiter = not (nat_le limiter.limits.items limiter.came)
 
 -- the same three where there may be no limits, and with them no refusal
 abbrev pub under_any : Option Limiter → List Item → List Item
@@ -167,8 +167,8 @@ PassesNext old (Some asked) given new ended =
     MatchOption given ⊥ (λ item. Passes old asked item new ended)
 
 -- the iterator inside
-abbrev pub inner_of : {I : Type 0} → Limited I → I
-inner_of limited = limited.inner
+abbrev pub iterator_of : {I : Type 0} → Limited I → I
+iterator_of limited = limited.inner
 
 -- nothing more comes
 abbrev pub HasEndedLimited : {I : Type 0} → Limited I → Type 0

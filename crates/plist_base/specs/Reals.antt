@@ -6,9 +6,9 @@ use Rattle.plist_base.specs.declared.real.RealBits.{RealBits}
 use Rattle.plist_base.specs.declared.real.RealBits.TheVariants as real
 
 -- the number that the bytes have in their width
-abbrev pub number_in : RealBits → Float
-number_in (real.Four bytes) = from_bits binary32 (from_be_bytes w32 bytes)
-number_in (real.Eight bytes) = from_bits binary64 (from_be_bytes w64 bytes)
+abbrev pub number_of_real : RealBits → Float
+number_of_real (real.Four bytes) = from_bits binary32 (from_be_bytes w32 bytes)
+number_of_real (real.Eight bytes) = from_bits binary64 (from_be_bytes w64 bytes)
 
 -- the eight bytes of a number
 abbrev pub real_of : Float → RealBits

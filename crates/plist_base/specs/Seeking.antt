@@ -7,5 +7,5 @@ abbrev pub failures_of : {R : Type 0} → Seeking R → ℕ
 failures_of source = source.failed
 
 -- the reader inside
-abbrev pub inner_of : {R : Type 0} → Seeking R → R
-inner_of source = source.inner
+abbrev pub seekable_of : {R : Type 0} → Seeking R → R
+seekable_of source = source.inner

@@ -12,15 +12,15 @@ abbrev pub CountsFailure : {A E : Type 0} → Result A E → ℕ → ℕ → Typ
 CountsFailure answer old new = MatchResult answer (λ _. new ≡ old) (λ _. Rises old new)
 
 -- `read_at` gave the first `count` of the bytes from this place on, none only where there is no
--- room or no byte
+-- place or no byte
 abbrev pub GivesAt : List ℕ → ℕ → ℕ → List ℕ → Type 0
 GivesAt bytes place count buffer =
     (take count buffer ≡ take count (drop place bytes))
     × (count ≡ 0 → (length buffer ≡ 0) ⊎ (length bytes ≤ place))
 
 -- these are the bytes from this place on, as many as there are of them
-abbrev pub LiesAt : (bytes : List ℕ) (place : ℕ) (lent : List ℕ) → Type 0
-LiesAt bytes place lent = lent ≡ take (length lent) (drop place bytes)
+abbrev pub LiesAt : (bytes : List ℕ) (place : ℕ) (bytes_there : List ℕ) → Type 0
+LiesAt bytes place bytes_there = bytes_there ≡ take (length bytes_there) (drop place bytes)
 
 -- `Io` only where the count of failures rose; whatever else came, it is as it was
 abbrev pub CountsIo : Error → ℕ → ℕ → Type 0

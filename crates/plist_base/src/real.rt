@@ -1,7 +1,7 @@
 //! Reals, by their bytes.
 
 ghost use Rattle.std.specs.Prelude.{◌≡◌};
-ghost use Rattle.plist_base.specs.Reals.{number_in, real_of};
+ghost use Rattle.plist_base.specs.Reals.{number_of_real, real_of};
 
 use std::fmt;
 use std::num::{f32_from_bits_with_nan, f64_from_bits_with_nan, f64_to_bits_with_nan};
@@ -29,7 +29,7 @@ impl RealBits {
     ///
     /// Bytes of a NaN give a NaN, of which nothing else is kept.
     pub fn to_f64(self) -> f64
-        ensures value { result ≡ number_in self }
+        ensures value { result ≡ number_of_real self }
     {
         match self {
             RealBits::Four(bytes) => f64::from(f32_from_bits_with_nan(u32::from_be_bytes(bytes))),

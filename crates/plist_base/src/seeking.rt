@@ -2,7 +2,7 @@
 
 ghost use Rattle.std.specs.Prelude.{◌≡◌, ◌≤◌, length, IfOk};
 ghost use Rattle.plist_base.specs.Sources.{CountsFailure};
-ghost use Rattle.plist_base.specs.Seeking.{failures_of, inner_of};
+ghost use Rattle.plist_base.specs.Seeking.{failures_of, seekable_of};
 
 use crate::source::{Source, copy_at};
 use crate::windows::{WINDOW, Windows};
@@ -28,7 +28,7 @@ pub struct Seeking<R> {
 impl<R: Read + Seek> Seeking<R> {
     /// A source over this reader, from its byte 0 on, wherever it stands. It keeps eight windows.
     pub fn new(inner: R) -> Self
-        ensures inner { inner_of result ≡ inner }
+        ensures inner { seekable_of result ≡ inner }
         ensures failures { failures_of result ≡ 0 }
     {
         Seeking::with_memory(inner, None)
@@ -38,14 +38,14 @@ impl<R: Read + Seek> Seeking<R> {
     /// many more as it has, up to 1,024 windows (8.5 MB). Where that is refused, those that it has
     /// serve on.
     pub fn with_windows(alloc: Global, inner: R) -> Self
-        ensures inner { inner_of result ≡ inner }
+        ensures inner { seekable_of result ≡ inner }
         ensures failures { failures_of result ≡ 0 }
     {
         Seeking::with_memory(inner, Some(Vec::new(alloc)))
     }
 
     fn with_memory(inner: R, more: Option<Vec<u8>>) -> Self
-        ensures inner { inner_of result ≡ inner }
+        ensures inner { seekable_of result ≡ inner }
         ensures failures { failures_of result ≡ 0 }
     {
         Seeking {
@@ -57,7 +57,7 @@ impl<R: Read + Seek> Seeking<R> {
 
     /// The reader, at no certain place.
     pub fn into_inner(self) -> R
-        ensures { result ≡ inner_of self }
+        ensures { result ≡ seekable_of self }
     {
         let Seeking {
             inner,
@@ -148,7 +148,7 @@ impl<R: Read + Seek + Drop> Source for Seeking<R> {
     }
 
     /// What its windows hold, without a read.
-    fn near(&self, place: u64) -> &[u8] {
+    fn buffered(&self, place: u64) -> &[u8] {
         self.windows.held(place)
     }
 }

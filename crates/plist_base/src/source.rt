@@ -39,7 +39,7 @@ pub trait Source: Drop {
 
     /// The bytes from `place` on that are at hand without a read: as many as the source happens to
     /// hold there, often none. By itself a source lends nothing.
-    fn near(&self, place: u64) -> &[u8]
+    fn buffered(&self, place: u64) -> &[u8]
         ensures bytes { IfSome (known self.now) (λ bytes. LiesAt bytes place result.now) }
     {
         &[]
@@ -56,7 +56,7 @@ pub(crate) fn rest_from(bytes: &[u8], place: u64) -> &[u8]
     &bytes[place as usize..]
 }
 
-// Copies what lies from a place on, as much as there is room for.
+// Copies what lies from a place on, as much as the buffer takes.
 pub(crate) fn copy_at(bytes: &[u8], place: u64, buf: &mut [u8]) -> usize
     ensures bound { result ≤ length buf.new }
     ensures bytes { GivesAt bytes.now place result buf.new }
@@ -88,7 +88,7 @@ impl<'a> Source for &'a [u8] {
     }
 
     /// All bytes from there on.
-    fn near(&self, place: u64) -> &[u8]
+    fn buffered(&self, place: u64) -> &[u8]
         ensures bytes { IfSome (Some self.now.now) (λ bytes. LiesAt bytes place result.now) }
         ensures whole { result.now ≡ drop place self.now.now }
     {
@@ -111,7 +111,7 @@ impl Source for Vec<u8> {
     }
 
     /// All bytes from there on.
-    fn near(&self, place: u64) -> &[u8]
+    fn buffered(&self, place: u64) -> &[u8]
         ensures bytes { IfSome (Some self.now.items) (λ bytes. LiesAt bytes place result.now) }
         ensures whole { result.now ≡ drop place self.now.items }
     {

@@ -14,15 +14,15 @@ use Rattle.plist_format.specs.Container.{Head, head_of}
 use Rattle.plist_format.specs.Object.{Object}
 use Rattle.plist_format.specs.Unfolding.{table_of, items_of, unfolding_of, until_fault, items_with, items_of_file}
 use Rattle.plist_binread.specs.declared.head.Bounds.{Bounds}
-use Rattle.plist_binread.specs.Debt.{path_of, owed_by, entries_of, places_with, places_of, IsHeld, IsKnown, IsOwed, WantsMemory}
+use Rattle.plist_binread.specs.Remaining.{path_of, remaining_items, entries_of, places_with, places_of, IsHeld, IsKnown, SomeRemain, WantsMemory}
 use Rattle.plist_binread.specs.Beginning.{RefusesFirst}
 use Rattle.plist_binread.specs.Lengths.{BeginsTooLong, RefusesLong}
-use Rattle.plist_binread.specs.declared.told.Last.{Last}
-use Rattle.plist_binread.specs.declared.told.Refused.{Refused}
-use Rattle.plist_binread.specs.declared.told.Refused.TheVariants as refusal
-use Rattle.plist_binread.specs.Outcome.{PaysAnswer}
+use Rattle.plist_binread.specs.declared.slot.EventSlot.{EventSlot}
+use Rattle.plist_binread.specs.declared.slot.Refused.{Refused}
+use Rattle.plist_binread.specs.declared.slot.Refused.TheVariants as refusal
+use Rattle.plist_binread.specs.Outcome.{YieldsAnswer}
 use Rattle.plist_binread.specs.inner.Heads.{head_seen}
-use Rattle.plist_binread.proofs.Steps.{items_beyond, items_step, owed_at}
+use Rattle.plist_binread.proofs.Steps.{items_beyond, items_step, remaining_at}
 use Rattle.plist_format.proofs.Tables.{slice_get-within, slice_get-beyond}
 use Rattle.plist_binread.proofs.Opened.{get_or-zeros}
 use Rattle.plist_binread.proofs.Known.{found}
@@ -31,37 +31,37 @@ use Rattle.plist_binread.proofs.OverKnown.{IfSome-all, IfSome-both}
 use Rattle.std.proofs.lemmas.List.{nil_from_length}
 
 -- something is wanted only where something is owed
-owed_if_wanted : (items : List Item) → WantsMemory items → IsOwed items
-owed_if_wanted [] h = absurd h
-owed_if_wanted (item ∷ items) h = omega arith
+remaining_if_wanted : (items : List Item) → WantsMemory items → SomeRemain items
+remaining_if_wanted [] h = absurd h
+remaining_if_wanted (item ∷ items) h = omega arith
 
-owed_alone : (object : Object) (place : ℕ) (child : ℕ → List Item)
-    → IsOwed (until_fault (items_of place object child))
-owed_alone object place child =
-    rw (← append-nil (items_of place object child)) (owed_at object place child [])
+remaining_alone : (object : Object) (place : ℕ) (child : ℕ → List Item)
+    → SomeRemain (until_fault (items_of place object child))
+remaining_alone object place child =
+    rw (← append-nil (items_of place object child)) (remaining_at object place child [])
 
 -- what a reference finds begins with an item
-unfolding_owed : (before places : List ℕ) (width at i : ℕ)
-    → IsOwed (until_fault (unfolding_of (table_of before width places) (length places) [] at i))
-unfolding_owed before [] width at i =
+unfolding_remaining : (before places : List ℕ) (width at i : ℕ)
+    → SomeRemain (until_fault (unfolding_of (table_of before width places) (length places) [] at i))
+unfolding_remaining before [] width at i =
     rw (items_beyond (table_of before width []) 0 [] at i
     (slice_get-beyond before [] width i (omega arith))) (omega arith)
-unfolding_owed before (p ∷ places) width at i = elim (cases_lt i (length (p ∷ places))) [
+unfolding_remaining before (p ∷ places) width at i = elim (cases_lt i (length (p ∷ places))) [
   | inl low ↦ rw (items_step (table_of before width (p ∷ places)) (length places) [] at i _
-      (slice_get-within before (p ∷ places) _ i low) refl) (owed_alone _ _ _)
+      (slice_get-within before (p ∷ places) _ i low) refl) (remaining_alone _ _ _)
   | inr high ↦ rw (items_beyond (table_of before width (p ∷ places)) (suc (length places)) [] at i
       (slice_get-beyond before (p ∷ places) width i high)) (omega arith)
 ]
 
 -- and so does a file
-owed_with : (bytes : List ℕ) (head : Result Head Fault) → IsOwed (items_with bytes head)
-owed_with bytes (Err fault) = omega arith
-owed_with bytes (Ok head) =
-    unfolding_owed _ _ _ _ _
+remaining_with : (bytes : List ℕ) (head : Result Head Fault) → SomeRemain (items_with bytes head)
+remaining_with bytes (Err fault) = omega arith
+remaining_with bytes (Ok head) =
+    unfolding_remaining _ _ _ _ _
 
-owed_file : (bytes : List ℕ) → IsOwed (items_of_file bytes)
+remaining_file : (bytes : List ℕ) → SomeRemain (items_of_file bytes)
 unfolding items_of_file
-owed_file bytes = owed_with _ _
+remaining_file bytes = remaining_with _ _
 
 -- the fault of a head is the file's one item
 file_refused : (bytes : List ℕ) (fault : Fault) → head_of bytes ≡ Err fault
@@ -99,29 +99,30 @@ module _ (bytes : List ℕ) (head : code.Head) (bounds : Bounds)
 
 -- the answer to the first call
 abbrev pub Begins : List ℕ → Result (Unit {0}) Error → PlainEvent → List Item → Type 0
-Begins bytes answer told after = MatchResult answer
-    (λ _. items_of_file bytes ≡ Ok told ∷ until_fault after) (RefusesFirst bytes)
+Begins bytes answer current after = MatchResult answer
+    (λ _. items_of_file bytes ≡ Ok current ∷ until_fault after) (RefusesFirst bytes)
 
 pub known_unread : (known : Option (List ℕ)) (e : Error)
     → IfSome known (λ bytes. MatchFault (kind_of (error_kind_of e)) ⊤ ⊤
     (head_of bytes ≡ Err (fault_of e))) → IfSome known (λ bytes. RefusesFirst bytes e)
 known_unread known e refused = IfSome_then known refused (λ bytes.
-    MatchFault-weaker (kind_of (error_kind_of e)) (λ _. owed_file bytes) (λ _. owed_file bytes)
+    MatchFault-weaker (kind_of (error_kind_of e)) (λ _. remaining_file bytes)
+    (λ _. remaining_file bytes)
     (λ is. file_refused bytes (fault_of e) is))
 
 begins_with : (bytes : List ℕ) (before after : List Item) (answer : Result (Unit {0}) Error)
-    (told : PlainEvent) → items_of_file bytes ≡ until_fault before
-    → PaysAnswer before answer told after → Begins bytes answer told after
-begins_with bytes before after (Ok _) told is pays = is ∙ pays
-begins_with bytes before after (Err e) told is pays =
-    MatchFault-weaker (kind_of (error_kind_of e)) (λ owed. rw is owed)
-    (λ wanted. rw is (owed_if_wanted (until_fault before) wanted)) (λ only. is ∙ only) pays
+    (current : PlainEvent) → items_of_file bytes ≡ until_fault before
+    → YieldsAnswer before answer current after → Begins bytes answer current after
+begins_with bytes before after (Ok _) current is yields = is ∙ yields
+begins_with bytes before after (Err e) current is yields =
+    MatchFault-weaker (kind_of (error_kind_of e)) (λ remaining. rw is remaining)
+    (λ wanted. rw is (remaining_if_wanted (until_fault before) wanted)) (λ only. is ∙ only) yields
 
 pub known_wanted : (known : Option (List ℕ)) (e : Error) → fault_of e ≡ fault_nowhere OutOfMemory
     → IfSome known (λ bytes. RefusesFirst bytes e)
 known_wanted known e memory = IfSome-all known (λ bytes.
     MatchFault-at (kind_of (error_kind_of e)) OutOfMemory _ _ _ (ap (λ (f : Fault). f.kind) memory)
-    (owed_file bytes))
+    (remaining_file bytes))
 
 pub known_opens : (known now : Option (List ℕ)) (head : code.Head) (bounds : Bounds) (tags : List ℕ)
     (n : ℕ) (fs : List Frame) → now ≡ known
@@ -135,41 +136,42 @@ known_opens known now head bounds tags n fs same value within trailer width zero
     known_first bytes head bounds value trailer width tags n zeros count within))
 
 pub known_begun : (known now : Option (List ℕ)) (head : code.Head) (bounds : Bounds) (tags : List ℕ)
-    (fs gs : List Frame) (answer : Result (Unit {0}) Error) (told : PlainEvent) → now ≡ known
+    (fs gs : List Frame) (answer : Result (Unit {0}) Error) (current : PlainEvent) → now ≡ known
     → length fs ≡ 0
     → length tags ≡ length head.places.items → bounds.trailer ≡ head.trailer
     → bounds.reference_width ≡ head.reference_width
     → IfSome known (λ bytes. head_of bytes ≡ Ok (head_seen head))
-    → IfSome now (λ bytes. PaysAnswer (unfolding_of (entries_of bytes bounds)
+    → IfSome now (λ bytes. YieldsAnswer (unfolding_of (entries_of bytes bounds)
     (length tags - length fs) (path_of (reverse fs)) head.trailer head.root
-    ++ owed_by (entries_of bytes bounds) (reverse fs)) answer told
-    (owed_by (entries_of bytes bounds) (reverse gs)))
-    → IfSome known (λ bytes. Begins bytes answer told
-    (owed_by (entries_of bytes bounds) (reverse gs)))
-known_begun known now head bounds tags fs gs answer told same len count trailer width value pays =
+    ++ remaining_items (entries_of bytes bounds) (reverse fs)) answer current
+    (remaining_items (entries_of bytes bounds) (reverse gs)))
+    → IfSome known (λ bytes. Begins bytes answer current
+    (remaining_items (entries_of bytes bounds) (reverse gs)))
+known_begun known now head bounds tags fs gs answer current same len count trailer width value
+    yields =
     let whole : length tags - 0 ≡ length head.places.items = omega arith in
-    let pays' = rw (same, nil_from_length fs len, whole) at pays in
-    IfSome-both known value pays' (λ bytes value pays. begins_with bytes _ _ answer told
+    let yields' = rw (same, nil_from_length fs len, whole) at yields in
+    IfSome-both known value yields' (λ bytes value yields. begins_with bytes _ _ answer current
     (file_walked bytes head bounds value trailer width
     ∙ ap until_fault (sym (append-nil
     (unfolding_of (entries_of bytes bounds) (length head.places.items) [] head.trailer
-    head.root)))) pays)
+    head.root)))) yields)
 
 -- the first item of all is refused for its length
-pub first_limits : (answer : Result (Unit {0}) Refused) (left : ℕ) (last : Last)
+pub first_limits : (answer : Result (Unit {0}) Refused) (left : ℕ) (slot : EventSlot)
     (known now : Option (List ℕ)) (head : code.Head) (bounds : Bounds) (tags : List ℕ)
     (fs : List Frame) → now ≡ known → length fs ≡ 0 → length tags ≡ length head.places.items
     → bounds.trailer ≡ head.trailer → bounds.reference_width ≡ head.reference_width
     → IfSome known (λ bytes. head_of bytes ≡ Ok (head_seen head))
-    → RefusesLong answer left last now (λ bytes. (at : ℕ) → BeginsTooLong left (until_fault
+    → RefusesLong answer left slot now (λ bytes. (at : ℕ) → BeginsTooLong left (until_fault
     (unfolding_of (entries_of bytes bounds) (length tags - length fs) (path_of (reverse fs)) at
-    head.root ++ owed_by (entries_of bytes bounds) (reverse fs))))
-    → RefusesLong answer left last known (λ bytes. BeginsTooLong left (items_of_file bytes))
-first_limits (Ok answer) left last known now head bounds tags fs same len count trailer width value r
+    head.root ++ remaining_items (entries_of bytes bounds) (reverse fs))))
+    → RefusesLong answer left slot known (λ bytes. BeginsTooLong left (items_of_file bytes))
+first_limits (Ok answer) left slot known now head bounds tags fs same len count trailer width value r
     = tt
-first_limits (Err refusal.Fault) left last known now head bounds tags fs same len count trailer width value
+first_limits (Err refusal.Fault) left slot known now head bounds tags fs same len count trailer width value
     r = tt
-first_limits (Err refusal.TooLong) left last known now head bounds tags fs same len count trailer width
+first_limits (Err refusal.TooLong) left slot known now head bounds tags fs same len count trailer width
     value r = (
       r.0,
       r.1,

@@ -47,7 +47,7 @@ lies_behind byte w rest behind tail is h cut =
 
 module _ (m size left count : ℕ) (rest behind more : List ℕ)
     (is : length_in m (rest ++ more) ≡ Some (count, behind ++ more))
-    (near : length (behind ++ more) ≡ left) where
+    (buffered : length (behind ++ more) ≡ left) where
   -- the content ends before the trailer
   pub count_there : count * size ≤ left
       → (length_in m (rest ++ more) ≡ Some (count, behind ++ more))
@@ -62,26 +62,26 @@ module _ (m size left count : ℕ) (rest behind more : List ℕ)
       rw (is, leb_short (count * size) (length (behind ++ more)) short) refl
 
 -- so many bytes lie between the length and the trailer
-pub length_left : (room : ℕ) (rest behind more : List ℕ) → length (rest ++ more) ≡ room
+pub length_left : (extent : ℕ) (rest behind more : List ℕ) → length (rest ++ more) ≡ extent
     → length behind ≤ length rest
-    → length (behind ++ more) ≡ room - (length rest - length behind)
-length_left room rest behind more whole short =
+    → length (behind ++ more) ≡ extent - (length rest - length behind)
+length_left extent rest behind more whole short =
     omega (arith, length-append rest more, length-append behind more)
 
 -- nothing lies behind bytes that reach so far
-pub nothing_more : (room : ℕ) (seen more : List ℕ) → length (seen ++ more) ≡ room
-    → room ≤ length seen → seen ++ more ≡ seen
-nothing_more room seen [] whole far = append-nil seen
-nothing_more room seen (x ∷ more) whole far =
+pub nothing_more : (extent : ℕ) (seen more : List ℕ) → length (seen ++ more) ≡ extent
+    → extent ≤ length seen → seen ++ more ≡ seen
+nothing_more extent seen [] whole far = append-nil seen
+nothing_more extent seen (x ∷ more) whole far =
     absurd (omega (arith, length-append seen (x ∷ more)))
 
 -- a length that isn't there
-pub count_none : (m size room : ℕ) (rest more : List ℕ) → length (rest ++ more) ≡ room
-    → (length rest < 16 → room ≤ length rest) → (length rest < 9) × (length_in m rest ≡ None)
+pub count_none : (m size extent : ℕ) (rest more : List ℕ) → length (rest ++ more) ≡ extent
+    → (length rest < 16 → extent ≤ length rest) → (length rest < 9) × (length_in m rest ≡ None)
     → (meaning : ℕ → List ℕ → Object)
     → meaning_counted size meaning (length_in m (rest ++ more)) ≡ Faulty ObjectOffsetTooLarge
-count_none m size room rest more whole far cut meaning =
-    rw (nothing_more room rest more whole (far (omega (arith, cut.0))), cut.1) refl
+count_none m size extent rest more whole far cut meaning =
+    rw (nothing_more extent rest more whole (far (omega (arith, cut.0))), cut.1) refl
 
 -- a content that is all seen
 pub content_seen : (m size count : ℕ) (rest behind more : List ℕ)

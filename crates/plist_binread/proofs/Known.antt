@@ -12,15 +12,15 @@ use Rattle.plist_base.proofs.Refusals.{MatchFault-at, MatchFault-weaker}
 use Rattle.plist_binread.specs.declared.frames.Frame.{Frame}
 use Rattle.plist_binread.specs.declared.front.Outcome.{Outcome}
 use Rattle.plist_binread.specs.declared.front.Outcome.TheVariants.{Scalar as ScalarOutcome, Collection}
-use Rattle.plist_binread.specs.Outcome.{IsOutcomeOf, PaysAnswer}
+use Rattle.plist_binread.specs.Outcome.{IsOutcomeOf, YieldsAnswer}
 use Rattle.plist_binread.specs.Step.{WantsRoom}
 use Rattle.plist_binread.specs.declared.head.Bounds.{Bounds}
 use Rattle.plist_format.specs.Object.{Object, object_in}
 use Rattle.plist_binread.specs.Packed.{is_marked, unmarked, scalar_of, cached, single, IsTextOrData, MayWantMemory, Retagged, Remarked}
-use Rattle.plist_format.specs.Unfolding.{Entry, unfolding_of, until_fault}
-use Rattle.plist_binread.specs.Debt.{place_at, scalar_at, path_of, IsOpen, HoldsPlaceOr, IsHeld, IsKnown, places_of, entries_of, owed_by, Explains}
+use Rattle.plist_format.specs.Unfolding.{TableEntry, unfolding_of, until_fault}
+use Rattle.plist_binread.specs.Remaining.{place_at, scalar_at, path_of, IsOpen, HoldsPlaceOr, IsHeld, IsKnown, places_of, entries_of, remaining_items, Explains}
 use Rattle.plist_binread.specs.Decoding.{IsCollection, IsDecodedAs, IsRefusedAs, scalar_in}
-use Rattle.plist_binread.proofs.Steps.{collection_count, items_beyond, items_open, pays_refused, refused_cached, refused_memory}
+use Rattle.plist_binread.proofs.Steps.{collection_count, items_beyond, items_open, yields_refused, refused_cached, refused_memory}
 use Rattle.plist_format.proofs.Tables.{slice_get-within, slice_get-beyond, length-table_of}
 use Rattle.std.proofs.lemmas.Option.{IfSome_then}
 use Rattle.plist_binread.proofs.OverKnown.{IfSome-both}
@@ -29,14 +29,16 @@ use Rattle.std.proofs.lemmas.Bool.{eqb-false}
 not_zero : (t : ℕ) → 0 < t → nat_eq t 0 ≡ false
 not_zero t h = grind (arith, nat_tests)
 
-to_scalar : (b : Bool) (scalar : Option Scalar) (content : ℕ) (entry : Option Entry) → b ≡ false
+to_scalar : (b : Bool) (scalar : Option Scalar) (content : ℕ) (entry : Option TableEntry)
+    → b ≡ false
     → HoldsPlaceOr b scalar content entry → scalar_at entry ≡ scalar
 to_scalar true scalar content entry b h = absurd (cc)
 to_scalar false None content entry b h = absurd h
 to_scalar false (Some s) content entry b h = h
 
 -- memory is wanted for it, since something is held
-to_wanted : (b : Bool) (scalar : Option Scalar) (content : ℕ) (entry : Option Entry) → b ≡ false
+to_wanted : (b : Bool) (scalar : Option Scalar) (content : ℕ) (entry : Option TableEntry)
+    → b ≡ false
     → HoldsPlaceOr b scalar content entry → MayWantMemory scalar → IsTextOrData scalar
 to_wanted true scalar content entry b h wanted = absurd (cc)
 to_wanted false None content entry b h wanted = absurd h
@@ -51,7 +53,7 @@ unsingle-single : (scalar : Option Scalar) → unsingle (single scalar) ≡ scal
 unsingle-single None = refl
 unsingle-single (Some scalar) = refl
 
-from_scalar : (b : Bool) (scalar : Option Scalar) (content : ℕ) (entry : Option Entry)
+from_scalar : (b : Bool) (scalar : Option Scalar) (content : ℕ) (entry : Option TableEntry)
     (event : PlainEvent) → b ≡ false → single scalar ≡ Some event
     → single (scalar_at entry) ≡ Some event → HoldsPlaceOr b scalar content entry
 from_scalar true scalar content entry event b is h = absurd (cc)
@@ -60,11 +62,11 @@ from_scalar false (Some s) content entry event b is h =
     sym (unsingle-single _) ∙ ap unsingle (h ∙ sym is)
 
 module _ (bytes : List ℕ) (bounds : Bounds) where
-  abbrev table : List Entry
+  abbrev table : List TableEntry
   table = entries_of bytes bounds
 
   -- the object of a number below the count
-  abbrev pub entry_of : ℕ → Entry
+  abbrev pub entry_of : ℕ → TableEntry
   entry_of number =
       record {
         place = get_or (places_of bytes) number 0;
@@ -105,7 +107,7 @@ module _ (bytes : List ℕ) (bounds : Bounds) where
           (not_zero _ some) (k.held number h)
 
       -- one more object is open
-      pub known_opened : (new : List ℕ) (f : Frame) (start : PlainEvent) (entry : Entry)
+      pub known_opened : (new : List ℕ) (f : Frame) (start : PlainEvent) (entry : TableEntry)
           → Remarked f.object true tags new → slice_get table f.object ≡ Some entry
           → IsCollection entry.object start f.count → IsKnown bytes bounds new contents (f ∷ fs)
       known_opened new f start entry m is collection = record {
@@ -155,7 +157,7 @@ module _ (bytes : List ℕ) (bounds : Bounds) where
       module _ (o : IsOpen tags fs) (at number : ℕ) where
         abbrev before : List Item
         before = unfolding_of table (length tags - length fs) (path_of fs) at number
-            ++ owed_by table fs
+            ++ remaining_items table fs
 
         explained : (kind : FaultKind) (offset : Option ℕ) (e : Error)
             → fault_of e ≡ record { kind = kind; offset = offset } → MatchFault kind ⊥ ⊥ ⊤
@@ -164,7 +166,7 @@ module _ (bytes : List ℕ) (bounds : Bounds) where
         explained kind offset e is inside only =
             MatchFault-at _ _ _ _ _ (ap (λ (f : Fault). f.kind) is)
             (MatchFault-weaker kind (λ none. absurd none) (λ none. absurd none)
-            (λ _. ap (λ items. until_fault (items ++ owed_by table fs))
+            (λ _. ap (λ items. until_fault (items ++ remaining_items table fs))
             (only ∙ ap (λ f. Err f ∷ []) (sym is))) inside)
 
         -- it has no tag
@@ -196,7 +198,7 @@ module _ (bytes : List ℕ) (bounds : Bounds) where
             → MayWantMemory (cached (get_or tags number 0) (get_or contents number 0))
             → Explains (until_fault before) e
         unfound_memory e h free some memory wanted =
-            pays_refused _ _ as_many _ fs at number _ refl o h
+            yields_refused _ _ as_many _ fs at number _ refl o h
             (entry_there number h) (sym (o.marks number h) ∙ free) e
             (refused_cached (entry_of number).object (entry_of number).place e _ memory
             (held_scalar number h some)
@@ -215,9 +217,10 @@ second known P Q h = IfSome_then known h (λ bytes h. h.1)
 -- what is owed where an object is to be entered
 abbrev pub Entered : {A : Type 0} → (bytes : List ℕ) (bounds : Bounds) (tags : List ℕ) (n : ℕ)
     (fs : List Frame) (at number : ℕ) → Result A Error → PlainEvent → (after : List Frame) → Type 0
-Entered bytes bounds tags n fs at number answer told after =
-    PaysAnswer (unfolding_of (entries_of bytes bounds) (length tags - n) (path_of fs) at number
-    ++ owed_by (entries_of bytes bounds) fs) answer told (owed_by (entries_of bytes bounds) after)
+Entered bytes bounds tags n fs at number answer current after =
+    YieldsAnswer (unfolding_of (entries_of bytes bounds) (length tags - n) (path_of fs) at number
+    ++ remaining_items (entries_of bytes bounds) fs) answer current (remaining_items
+    (entries_of bytes bounds) after)
 
 -- the place of an object that isn't cached
 pub place_is : (bytes : List ℕ) (bounds : Bounds) (tags contents : List ℕ) (fs : List Frame)
@@ -240,31 +243,32 @@ pub known_refused : (known : Option (List ℕ)) (bounds : Bounds) (tags contents
     → IsRefusedAs (object_in bounds.reference_width (drop place (take bounds.trailer bytes)))
     place e)
     → IfSome known (λ bytes. Explains (until_fault (unfolding_of (entries_of bytes bounds)
-    (length tags - n) (path_of fs) at number ++ owed_by (entries_of bytes bounds) fs)) e)
+    (length tags - n) (path_of fs) at number ++ remaining_items (entries_of bytes bounds) fs)) e)
 known_refused known bounds tags contents fs n at number place e depth o k h free is refused =
-    IfSome-both known k refused (λ bytes k refused. pays_refused (entries_of bytes bounds) tags
+    IfSome-both known k refused (λ bytes k refused. yields_refused (entries_of bytes bounds) tags
     (as_many bytes bounds tags contents fs k) n fs at number (entry_of bytes bounds number) depth o
     h (entry_there bytes bounds tags contents fs k number h) (sym (o.marks number h) ∙ free) e
     (rw (place_is bytes bounds tags contents fs k number place h is) at (refused k.within)))
 
 -- what was decoded without a fault
-pub outcome_as : (object : Object) (told : PlainEvent) (outcome : Outcome) → IsDecodedAs object told outcome
-    → IsOutcomeOf object told outcome
-outcome_as object told ScalarOutcome h = h
-outcome_as object told (Collection count) h = h
-outcome_as object told outcome h = absurd h
+pub outcome_as : (object : Object) (current : PlainEvent) (outcome : Outcome) → IsDecodedAs object current outcome
+    → IsOutcomeOf object current outcome
+outcome_as object current ScalarOutcome h = h
+outcome_as object current (Collection count) h = h
+outcome_as object current outcome h = absurd h
 
 -- a collection for which room is wanted
 pub known_full : (known : Option (List ℕ)) (t place : ℕ) (object : List ℕ → Object)
-    (told : PlainEvent) (outcome : Outcome) (e : Error) → fault_of e ≡ fault_nowhere OutOfMemory
+    (current : PlainEvent) (outcome : Outcome) (e : Error) → fault_of e ≡ fault_nowhere OutOfMemory
     → WantsRoom outcome
-    → IfSome known (λ bytes. t ≤ length bytes → IsDecodedAs (object bytes) told outcome)
+    → IfSome known (λ bytes. t ≤ length bytes → IsDecodedAs (object bytes) current outcome)
     → IfSome known (λ bytes. t ≤ length bytes → IsRefusedAs (object bytes) place e)
-known_full known t place object told outcome e memory wanted decoded =
+known_full known t place object current outcome e memory wanted decoded =
     IfSome_then known decoded (λ bytes decoded fits. by (object bytes) outcome wanted (decoded fits))
   where
-    by : (object : Object) (outcome : Outcome) → WantsRoom outcome → IsDecodedAs object told outcome
+    by : (object : Object) (outcome : Outcome) → WantsRoom outcome
+        → IsDecodedAs object current outcome
         → IsRefusedAs object place e
     by object ScalarOutcome wanted h = absurd wanted
-    by object (Collection count) wanted h = refused_memory object place e told count memory h
+    by object (Collection count) wanted h = refused_memory object place e current count memory h
     by object outcome wanted h = absurd h

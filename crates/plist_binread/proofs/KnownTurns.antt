@@ -11,8 +11,8 @@ use Rattle.plist_binread.specs.declared.head.Bounds.{Bounds}
 use Rattle.plist_format.specs.Object.{object_in}
 use Rattle.plist_binread.specs.Packed.{unmarked}
 use Rattle.plist_format.specs.Unfolding.{until_fault}
-use Rattle.plist_binread.specs.Debt.{place_at, children_at, IsKnown, entries_of, owed_by, Explains}
-use Rattle.plist_binread.specs.Turning.{ReadsChild, Turns}
+use Rattle.plist_binread.specs.Remaining.{place_at, children_at, IsKnown, entries_of, remaining_items, Explains}
+use Rattle.plist_binread.specs.Turns.{ReadsChild, Turns}
 use Rattle.plist_binread.proofs.Known.{entry_there, held_place}
 use Rattle.std.proofs.lemmas.Option.{IfSome_then}
 use Rattle.plist_binread.proofs.OverKnown.{IfSome-both}
@@ -65,7 +65,8 @@ module _ (known : Option (List ℕ)) (bounds : Bounds) (tags contents : List ℕ
       → IfSome known (λ bytes. bounds.trailer ≤ length bytes
       → ReadsChild (object_in bounds.reference_width
       (drop (get_or contents object 0) (take bounds.trailer bytes))) index (Err e))
-      → IfSome known (λ bytes. Explains (until_fault (owed_by (entries_of bytes bounds) fs)) e)
+      → IfSome known (λ bytes. Explains (until_fault (remaining_items
+      (entries_of bytes bounds) fs)) e)
   known_child_failed object index e h none turned reads =
       IfSome-both _ turned reads (λ bytes turned reads.
       MatchFault-weaker (kind_of (error_kind_of e)) (λ _. turned.0.2) (λ none. absurd none)

@@ -11,34 +11,34 @@ use Rattle.plist_binread.specs.declared.frames.Frame.{Frame}
 use Rattle.plist_binread.specs.declared.front.Content.{Content}
 use Rattle.plist_binread.specs.declared.front.Outcome.{Outcome}
 use Rattle.plist_binread.specs.declared.head.Bounds.{Bounds}
-use Rattle.plist_binread.specs.declared.told.Last.{Last}
-use Rattle.plist_binread.specs.declared.told.Refused.{Refused}
-use Rattle.plist_binread.specs.declared.told.Refused.TheVariants.{Fault, TooLong}
+use Rattle.plist_binread.specs.declared.slot.EventSlot.{EventSlot}
+use Rattle.plist_binread.specs.declared.slot.Refused.{Refused}
+use Rattle.plist_binread.specs.declared.slot.Refused.TheVariants.{Fault, TooLong}
 use Rattle.plist_binread.specs.declared.walk.Turn.TheVariants.{Child}
-use Rattle.plist_binread.specs.Debt.{IsKnown, IsOpen, children_at, entries_of, owed_by, path_of}
+use Rattle.plist_binread.specs.Remaining.{IsKnown, IsOpen, children_at, entries_of, remaining_items, path_of}
 use Rattle.plist_binread.specs.Decoding.{IsRefusedAs, single_in}
 use Rattle.plist_binread.specs.Front.{content_means, unit_size}
-use Rattle.plist_binread.specs.Lengths.{BeginsTooLong, IsTooLong, LimitsContent, LimitsObject, RefusesLong, object_of_content}
+use Rattle.plist_binread.specs.Lengths.{BeginsTooLong, IsLongerThan, LimitsContent, LimitsObject, RefusesLong, object_of_content}
 use Rattle.plist_binread.specs.Measuring.{Measures, MeasuresContent}
 use Rattle.plist_binread.specs.Packed.{is_marked, unmarked}
 use Rattle.plist_binread.specs.Reading.{ReadsChildAt, object_at}
 use Rattle.plist_binread.proofs.Known.{as_many, entry_of, entry_there, place_is}
 use Rattle.plist_binread.proofs.KnownTurns.{Turned, child_is}
 use Rattle.plist_binread.proofs.OverKnown.{IfSome-both}
-use Rattle.plist_binread.proofs.Steps.{pays_scalar}
+use Rattle.plist_binread.proofs.Steps.{yields_scalar}
 
 -- the object of a content that isn't all seen with its front
-pub long_limits : {A : Type 0} (answer : Result A Refused) (left : ℕ) (last : Last)
+pub long_limits : {A : Type 0} (answer : Result A Refused) (left : ℕ) (slot : EventSlot)
     (known now : Option (List ℕ)) (bounds : Bounds) (place : ℕ) (content : Content) → now ≡ known
     → (place + content.start + content.count * unit_size content.kind ≤ bounds.trailer)
     × IfSome known (λ bytes. bounds.trailer ≤ length bytes → object_at bounds place bytes
     ≡ content_means content.kind (take (content.count * unit_size content.kind)
     (drop (place + content.start) bytes)))
-    → LimitsContent answer left last now place content
-    → LimitsObject answer left last known bounds place
-long_limits (Ok value) left last known now bounds place content same long h = tt
-long_limits (Err Fault) left last known now bounds place content same long h = tt
-long_limits (Err TooLong) left last known now bounds place content same long h = (
+    → LimitsContent answer left slot now place content
+    → LimitsObject answer left slot known bounds place
+long_limits (Ok value) left slot known now bounds place content same long h = tt
+long_limits (Err Fault) left slot known now bounds place content same long h = tt
+long_limits (Err TooLong) left slot known now bounds place content same long h = (
   h.0,
   h.1,
   IfSome-both known long.1 (rw same at h.2) (λ bytes is limited fits.
@@ -46,7 +46,7 @@ long_limits (Err TooLong) left last known now bounds place content same long h =
 )
 
 -- the event of a text or data that is too long
-too-long-event : (left : ℕ) (object : Object) → IsTooLong left object
+too-long-event : (left : ℕ) (object : Object) → IsLongerThan left object
     → (event : PlainEvent) × (single_in object ≡ Some event) × (left < bytes_in event)
 too-long-event left object h = by (single_in object) refl h
   where
@@ -61,26 +61,26 @@ begins : (left : ℕ) (event : PlainEvent) (items others : List Item) → items 
 begins left event items others is h = rw is h
 
 -- its number is entered
-pub entered_limits : (refused : Refused) (left : ℕ) (last : Last) (known : Option (List ℕ))
+pub entered_limits : (refused : Refused) (left : ℕ) (slot : EventSlot) (known : Option (List ℕ))
     (bounds : Bounds) (tags contents : List ℕ) (fs : List Frame) (n number place : ℕ)
     → n ≡ length fs → IsOpen tags fs
     → IfSome known (λ bytes. IsKnown bytes bounds tags contents fs) → number < length tags
     → is_marked (get_or tags number 0) ≡ false
     → (unmarked (get_or tags number 0) ≡ 0) × (place ≡ get_or contents number 0)
-    → LimitsObject {A = Outcome} (Err refused) left last known bounds place
-    → RefusesLong {A = Unit {0}} (Err refused) left last known (λ bytes. (at : ℕ) →
+    → LimitsObject {A = Outcome} (Err refused) left slot known bounds place
+    → RefusesLong {A = Unit {0}} (Err refused) left slot known (λ bytes. (at : ℕ) →
     BeginsTooLong left (until_fault (unfolding_of (entries_of bytes bounds) (length tags - n)
-    (path_of fs) at number ++ owed_by (entries_of bytes bounds) fs)))
-entered_limits Fault left last known bounds tags contents fs n number place depth o k h free is r =
+    (path_of fs) at number ++ remaining_items (entries_of bytes bounds) fs)))
+entered_limits Fault left slot known bounds tags contents fs n number place depth o k h free is r =
     tt
-entered_limits TooLong left last known bounds tags contents fs n number place depth o k h free is
+entered_limits TooLong left slot known bounds tags contents fs n number place depth o k h free is
     r = (
       r.0,
       r.1,
       IfSome-both known k r.2 (λ bytes k limited at.
           let found = too-long-event left (entry_of bytes bounds number).object
           (rw (place_is bytes bounds tags contents fs k number place h is) at (limited k.within)) in
-          begins left found.0 _ _ (pays_scalar (entries_of bytes bounds) tags
+          begins left found.0 _ _ (yields_scalar (entries_of bytes bounds) tags
           (as_many bytes bounds tags contents fs k) n fs at number (entry_of bytes bounds number) depth o
           h (entry_there bytes bounds tags contents fs k number h) (sym (o.marks number h) ∙ free)
           found.0 found.1) found.2),
@@ -97,22 +97,22 @@ no_text_refused known place content error measured refused =
     IfSome_then known measured (λ bytes none within. refused _ (none within))
 
 -- a child is entered
-pub child_limits : (answer : Result (Unit {0}) Refused) (left : ℕ) (last : Last)
+pub child_limits : (answer : Result (Unit {0}) Refused) (left : ℕ) (slot : EventSlot)
     (known now : Option (List ℕ)) (bounds : Bounds) (tags contents : List ℕ)
     (fs gs : List Frame) (n object index number : ℕ) → now ≡ known → n ≡ length gs
     → object < length tags → unmarked (get_or tags object 0) ≡ 0
     → IfSome known (λ bytes. Turned bytes bounds tags contents fs (Child object index) gs)
     → ReadsChildAt (Ok number) known bounds (get_or contents object 0) index
-    → RefusesLong answer left last now (λ bytes. (at : ℕ) → BeginsTooLong left (until_fault
+    → RefusesLong answer left slot now (λ bytes. (at : ℕ) → BeginsTooLong left (until_fault
     (unfolding_of (entries_of bytes bounds) (length tags - n) (path_of gs) at number
-    ++ owed_by (entries_of bytes bounds) gs)))
-    → RefusesLong answer left last known (λ bytes. BeginsTooLong left (until_fault
-    (owed_by (entries_of bytes bounds) fs)))
-child_limits (Ok value) left last known now bounds tags contents fs gs n object index number same
+    ++ remaining_items (entries_of bytes bounds) gs)))
+    → RefusesLong answer left slot known (λ bytes. BeginsTooLong left (until_fault
+    (remaining_items (entries_of bytes bounds) fs)))
+child_limits (Ok value) left slot known now bounds tags contents fs gs n object index number same
     depth h none turned reads r = tt
-child_limits (Err Fault) left last known now bounds tags contents fs gs n object index number same
+child_limits (Err Fault) left slot known now bounds tags contents fs gs n object index number same
     depth h none turned reads r = tt
-child_limits (Err TooLong) left last known now bounds tags contents fs gs n object index number same
+child_limits (Err TooLong) left slot known now bounds tags contents fs gs n object index number same
     depth h none turned reads r = (
       r.0,
       r.1,

@@ -13,11 +13,11 @@ use Rattle.plist_base.specs.Trees.{Data, String}
 use Rattle.plist_base.specs.Faults.{FaultKind, Fault, LimitReached, MatchFault, OutOfMemory, fault_of, fault_nowhere, kind_of, error_kind_of}
 use Rattle.plist_base.specs.Limits.{AdmitsAny, RefusesAny, bytes_in, event_or_limit, is_too_long, left_or_all, limit_at, under, under_any}
 use Rattle.plist_base.specs.Sources.{CountsIo, IsPlaceWithin}
-use Rattle.plist_binread.specs.BinaryReader.{has_room_in}
+use Rattle.plist_binread.specs.BinaryReader.{admits_more_in}
 use Rattle.plist_binread.specs.Lengths.{BeginsTooLong, left_under}
-use Rattle.plist_binread.specs.Telling.{TellsItem}
+use Rattle.plist_binread.specs.Advancing.{GivesCurrent}
 use Rattle.plist_binread.proofs.OverKnown.{IfSome-both}
-use Rattle.plist_binread.specs.Debt.{IsOwed, WantsMemory}
+use Rattle.plist_binread.specs.Remaining.{SomeRemain, WantsMemory}
 use Rattle.plist_binread.specs.Failures.{FailsWithin, HasPlace, IsGivenWithin, MatchGiven, MatchReader}
 use Rattle.plist_base.proofs.Refusals.{MatchFault-weaker}
 use Rattle.std.proofs.lemmas.Option.{IfSome_then}
@@ -74,8 +74,8 @@ fault-under : (limiter : Option Limiter) (fault : Fault)
 fault-under None fault = refl
 fault-under (Some limiter) fault = refl
 
-one-owed : (x : Item) (xs : List Item) → IsOwed (x ∷ xs)
-one-owed x xs = omega arith
+one-remaining : (x : Item) (xs : List Item) → SomeRemain (x ∷ xs)
+one-remaining x xs = omega arith
 
 -- what the first item decides of a list holds behind limits, where it holds of a limit's fault
 module _ (P : List Item → Type 0)
@@ -103,17 +103,17 @@ event-wants (Single (Data bytes)) items others h = tt
 event-wants (Single (String text)) items others h = tt
 event-wants event items others h = h
 
-owed-under : (limiter : Option Limiter) (items : List Item) → IsOwed items
-    → IsOwed (under_any limiter items)
-owed-under =
-    under-of IsOwed (λ event items others _. one-owed (Ok event) others)
-    (λ fault items _. one-owed (Err fault) [])
-    (λ limit. one-owed (Err (fault_nowhere (LimitReached limit))) [])
+remaining-under : (limiter : Option Limiter) (items : List Item) → SomeRemain items
+    → SomeRemain (under_any limiter items)
+remaining-under =
+    under-of SomeRemain (λ event items others _. one-remaining (Ok event) others)
+    (λ fault items _. one-remaining (Err fault) [])
+    (λ limit. one-remaining (Err (fault_nowhere (LimitReached limit))) [])
 
 either-under : (new : Bool) (limiter : Option Limiter) (items : List Item)
-    → MatchBool new (IsOwed items) (WantsMemory items)
-    → MatchBool new (IsOwed (under_any limiter items)) (WantsMemory (under_any limiter items))
-either-under true limiter items h = owed-under limiter items h
+    → MatchBool new (SomeRemain items) (WantsMemory items)
+    → MatchBool new (SomeRemain (under_any limiter items)) (WantsMemory (under_any limiter items))
+either-under true limiter items h = remaining-under limiter items h
 either-under false limiter items h =
     under-of WantsMemory event-wants (λ fault items h. h) (λ limit. tt) limiter items h
 
@@ -121,40 +121,43 @@ limit-refused : (kind : FaultKind) (limit : Limit) (X Y Z : Type 0) → kind ≡
     → Z → MatchFault kind X Y Z
 limit-refused kind limit X Y Z e z = rw e z
 
-module _ (new : Bool) (told : PlainEvent) where
-  pub none-told : (known : Option (List ℕ)) (old now : Option Limiter)
+module _ (new : Bool) (current : PlainEvent) where
+  pub none-current : (known : Option (List ℕ)) (old now : Option Limiter)
       (before after : List ℕ → List Item)
-      → IfSome known (λ bytes. TellsItem {A = Unit {0}} new (before bytes) None told (after bytes))
-      → IfSome known (λ bytes. TellsItem {A = Unit {0}} new (under_any old (before bytes)) None told
+      → IfSome known (λ bytes. GivesCurrent {A = Unit {0}} new (before bytes) None current
+      (after bytes))
+      → IfSome known (λ bytes. GivesCurrent {A = Unit {0}} new (under_any old
+      (before bytes)) None current
       (under_any now (after bytes)))
-  none-told known old now before after h = IfSome_then known h (λ bytes h.
+  none-current known old now before after h = IfSome_then known h (λ bytes h.
       (cc (none-under old), cc (none-under now)))
 
-  pub fault-told : (known : Option (List ℕ)) (old now : Option Limiter)
+  pub fault-current : (known : Option (List ℕ)) (old now : Option Limiter)
       (before after : List ℕ → List Item) (error : Error)
-      → IfSome known (λ bytes. TellsItem {A = Unit {0}} new (before bytes) (Some (Err error)) told
+      → IfSome known (λ bytes. GivesCurrent {A = Unit {0}} new (before bytes) (Some
+      (Err error)) current
       (after bytes))
-      → IfSome known (λ bytes. TellsItem {A = Unit {0}} new (under_any old (before bytes))
-      (Some (Err error)) told (under_any now (after bytes)))
-  fault-told known old now before after error h = IfSome_then known h (λ bytes h. (
+      → IfSome known (λ bytes. GivesCurrent {A = Unit {0}} new (under_any old (before bytes))
+      (Some (Err error)) current (under_any now (after bytes)))
+  fault-current known old now before after error h = IfSome_then known h (λ bytes h. (
     cc (none-under now),
     MatchFault-weaker (kind_of (error_kind_of error))
-        (owed-under old (before bytes)) (either-under new old (before bytes))
+        (remaining-under old (before bytes)) (either-under new old (before bytes))
         (λ b. ap (under_any old) b ∙ fault-under old _) h.1,
   ))
 
-  pub event-told : (known : Option (List ℕ)) (old now : Option Limiter)
-      (before after : List ℕ → List Item) (x : Unit {0}) → AdmitsAny old told now
-      → IfSome known (λ bytes. TellsItem {A = Unit {0}} new (before bytes) (Some (Ok x)) told
+  pub event-current : (known : Option (List ℕ)) (old now : Option Limiter)
+      (before after : List ℕ → List Item) (x : Unit {0}) → AdmitsAny old current now
+      → IfSome known (λ bytes. GivesCurrent {A = Unit {0}} new (before bytes) (Some (Ok x)) current
       (after bytes))
-      → IfSome known (λ bytes. TellsItem {A = Unit {0}} new (under_any old (before bytes))
-      (Some (Ok x)) told (under_any now (after bytes)))
-  event-told known old now before after x a h =
+      → IfSome known (λ bytes. GivesCurrent {A = Unit {0}} new (under_any old (before bytes))
+      (Some (Ok x)) current (under_any now (after bytes)))
+  event-current known old now before after x a h =
       IfSome_then known h (λ bytes h. cc (a (after bytes)))
 
   limit-item : (old now : Option Limiter) (before after : List Item) (error : Error)
-      → RefusesAny old told (fault_of error) → before ≡ Ok told ∷ after
-      → TellsItem {A = Unit {0}} new (under_any old before) (Some (Err error)) told
+      → RefusesAny old current (fault_of error) → before ≡ Ok current ∷ after
+      → GivesCurrent {A = Unit {0}} new (under_any old before) (Some (Err error)) current
       (under_any now [])
   limit-item None now before after error r h = absurd r
   limit-item (Some limiter) now before after error r h = (
@@ -163,14 +166,14 @@ module _ (new : Bool) (told : PlainEvent) where
         (ap (λ (f : Fault). f.kind) r.1) (cc (r.2 after)),
   )
 
-  pub limit-told : (known : Option (List ℕ)) (old now : Option Limiter)
+  pub limit-current : (known : Option (List ℕ)) (old now : Option Limiter)
       (before after : List ℕ → List Item) (x : Unit {0}) (error : Error)
-      → RefusesAny old told (fault_of error)
-      → IfSome known (λ bytes. TellsItem {A = Unit {0}} new (before bytes) (Some (Ok x)) told
+      → RefusesAny old current (fault_of error)
+      → IfSome known (λ bytes. GivesCurrent {A = Unit {0}} new (before bytes) (Some (Ok x)) current
       (after bytes))
-      → IfSome known (λ bytes. TellsItem {A = Unit {0}} new (under_any old (before bytes))
-      (Some (Err error)) told (under_any now []))
-  limit-told known old now before after x error r h =
+      → IfSome known (λ bytes. GivesCurrent {A = Unit {0}} new (under_any old (before bytes))
+      (Some (Err error)) current (under_any now []))
+  limit-current known old now before after x error r h =
       IfSome_then _ h (λ bytes h. limit-item old now (before bytes) _ _ r h)
 
 -- ---- a text or data that is refused for its length
@@ -199,16 +202,16 @@ long-under (Some limiter) (Ok event ∷ items) small long =
 long-under (Some limiter) (Err fault ∷ items) small long = absurd long
 
 -- the fault of the limit comes in its place
-pub long-told : (new : Bool) (told mid : PlainEvent) (known : Option (List ℕ))
+pub long-current : (new : Bool) (current mid : PlainEvent) (known : Option (List ℕ))
     (old now : Option Limiter) (before after : List ℕ → List Item) (error held : Error)
     → fault_of error ≡ fault_nowhere (LimitReached limit.Bytes)
     → left_under old < 2 ^ 64 - 1
-    → IfSome known (λ bytes. TellsItem {A = Unit {0}} new (before bytes) (Some (Err held)) mid
+    → IfSome known (λ bytes. GivesCurrent {A = Unit {0}} new (before bytes) (Some (Err held)) mid
     (after bytes))
     → IfSome known (λ bytes. BeginsTooLong (left_under old) (before bytes))
-    → IfSome known (λ bytes. TellsItem {A = Unit {0}} new (under_any old (before bytes))
-    (Some (Err error)) told (under_any now (after bytes)))
-long-told new told mid known old now before after error held is small h long =
+    → IfSome known (λ bytes. GivesCurrent {A = Unit {0}} new (under_any old (before bytes))
+    (Some (Err error)) current (under_any now (after bytes)))
+long-current new current mid known old now before after error held is small h long =
     IfSome-both known h long (λ bytes h long. (
       ap (under_any now) h.0 ∙ none-under now,
       limit-refused _ limit.Bytes _ _ _ (ap (λ (f : Fault). f.kind) is)
@@ -243,16 +246,17 @@ end-passes false false behind fault never h e =
     let no : ◌≡◌ {A = List Item} (Ok EndCollection ∷ behind) (Err fault ∷ []) → ⊥ = λ q. cc in no e
 
 -- an end is refused only where no event may come
-pub refused-closes : (limiter : Option Limiter) (closing : Bool) (told : PlainEvent) (fault : Fault)
-    → RefusesAny limiter told fault → (closing ≡ true → told ≡ EndCollection)
-    → (has_room_in limiter && closing) ≡ true → ⊥
-refused-closes None closing told fault r w h = absurd r
-refused-closes (Some limiter) closing told fault r w h =
+pub refused-closes : (limiter : Option Limiter) (closing : Bool) (current : PlainEvent)
+    (fault : Fault)
+    → RefusesAny limiter current fault → (closing ≡ true → current ≡ EndCollection)
+    → (admits_more_in limiter && closing) ≡ true → ⊥
+refused-closes None closing current fault r w h = absurd r
+refused-closes (Some limiter) closing current fault r w h =
     let two = both _ _ h in
     end-passes _ _ [] fault (never-long limiter.left) two.0
     (ap (λ e. under limiter (Ok e ∷ [])) (sym (w two.1)) ∙ r.2 [])
 
 -- the end comes where the walk's comes
 pub walk-closes : (limiter : Option Limiter) (closing : Bool)
-    → (has_room_in limiter && closing) ≡ true → closing ≡ true
+    → (admits_more_in limiter && closing) ≡ true → closing ≡ true
 walk-closes limiter closing h = (both _ _ h).1

@@ -17,9 +17,9 @@ use Rattle.plist_base.specs.Trees.{Data, String}
 use Rattle.plist_base.specs.Events.{Single}
 use Rattle.plist_base.specs.Faults.{InvalidUtf16String}
 use Rattle.plist_binread.specs.Decoding.{single_in}
-use Rattle.plist_binread.specs.declared.front.Kind.TheVariants.{Data as DataKind, Text, WideText}
+use Rattle.plist_binread.specs.declared.front.ContentKind.TheVariants.{Data as DataKind, Text, WideText}
 use Rattle.plist_binread.specs.Reading.{data_of_content}
-use Rattle.plist_binread.specs.Measuring.{IsHigh, IsTextFront, IsTextPart, Measures, TakesUnit, counted, longer, waiting, wide_size}
+use Rattle.plist_binread.specs.Measuring.{IsHigh, IsTextFront, IsTextPart, Measures, TakesUnit, counted, longer, waiting_units, wide_size}
 use Rattle.plist_binread.proofs.Columns.{numbers_of-reads}
 use Rattle.plist_binread.proofs.Contents.{text-not_utf8, text-utf8}
 use Rattle.plist_binread.proofs.OverKnown.{IfSome-all, IfSome-both}
@@ -182,12 +182,12 @@ text_done known start size done end small passed =
     ))
 
 -- data has as many bytes as its content has elements
-pub data_told : (known : Option (List ℕ)) (place start count : ℕ)
+pub current_data : (known : Option (List ℕ)) (place start count : ℕ)
     → place + start + count * 1 < 2 ^ 64
     → IfSome known (λ bytes. place + start + count * 1 ≤ length bytes
     → Measures DataKind (data_of_content (take (count * 1) (drop (place + start) bytes)))
     (Some count))
-data_told known place start count small = IfSome-all known (λ bytes fits.
+current_data known place start count small = IfSome-all known (λ bytes fits.
     let e : count ≡ counted (length (take (count * 1) (drop (place + start) bytes))) =
     omega (
       arith,
@@ -340,7 +340,7 @@ abbrev pub IsMeasured : (known : Option (List ℕ)) (start count i size : ℕ) (
     → Type 0
 IsMeasured known start count i size high = IfSome known (λ bytes.
     wide_size (units_from bytes start 0 count)
-    ≡ longer size (wide_size (waiting high ++ units_from bytes start i (count - i))))
+    ≡ longer size (wide_size (waiting_units high ++ units_from bytes start i (count - i))))
 
 -- nothing at first
 pub measure_begun : (known : Option (List ℕ)) (start count : ℕ)
@@ -365,11 +365,12 @@ pub measure_more : (known now : Option (List ℕ)) (start count i size more unit
 measure_more known now start count i size more unit high next same h so_far reads takes =
     let reads' = rw same at reads in
     IfSome-both known so_far reads' (λ bytes so_far is. so_far
-    ∙ ap (λ us. longer size (wide_size (waiting high ++ us))) (first_left bytes start count i h)
-    ∙ ap (λ u. longer size (wide_size (waiting high
+    ∙ ap (λ us. longer size (wide_size (waiting_units high ++ us)))
+    (first_left bytes start count i h)
+    ∙ ap (λ u. longer size (wide_size (waiting_units high
     ++ u ∷ units_from bytes start (i + 1) (count - (i + 1))))) (sym is)
     ∙ ap (longer size) (takes (units_from bytes start (i + 1) (count - (i + 1))))
-    ∙ longer_twice size more (wide_size (waiting next
+    ∙ longer_twice size more (wide_size (waiting_units next
     ++ units_from bytes start (i + 1) (count - (i + 1)))))
 
 -- the size of all units is that of their text
@@ -404,8 +405,9 @@ measure_fails known now start count i size unit high same h so_far reads takes =
     let reads' = rw same at reads in
     IfSome-both known so_far reads' (λ bytes so_far is fits.
     whole bytes start count None fits (so_far
-    ∙ ap (λ us. longer size (wide_size (waiting high ++ us))) (first_left bytes start count i h)
-    ∙ ap (λ u. longer size (wide_size (waiting high
+    ∙ ap (λ us. longer size (wide_size (waiting_units high ++ us)))
+    (first_left bytes start count i h)
+    ∙ ap (λ u. longer size (wide_size (waiting_units high
     ++ u ∷ units_from bytes start (i + 1) (count - (i + 1))))) (sym is)
     ∙ ap (longer size) (takes (units_from bytes start (i + 1) (count - (i + 1))))))
 

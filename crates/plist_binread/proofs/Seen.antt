@@ -4,10 +4,10 @@ use Rattle.std.proofs.lemmas.List.{take-take, length-append, drop-append-le, dro
 use Rattle.std.proofs.Math.Seq.{take-length}
 use Rattle.plist_base.specs.Sources.{LiesAt}
 use Rattle.plist_binread.specs.Reading.{HasPairs, object_at, object_with}
-use Rattle.plist_binread.specs.Front.{IfLong, LeavesLong, TellsWhole, LongBehind, content_means, is_fault, unit_size}
+use Rattle.plist_binread.specs.Front.{IfLong, LeavesLong, DecodesWhole, LongBehind, content_means, is_fault, unit_size}
 use Rattle.plist_base.specs.declared.error.Error.{Error}
-use Rattle.plist_binread.specs.declared.told.Last.{Last}
-use Rattle.plist_binread.specs.Told.{event_in}
+use Rattle.plist_binread.specs.declared.slot.EventSlot.{EventSlot}
+use Rattle.plist_binread.specs.Slot.{event_in}
 use Rattle.plist_binread.specs.declared.front.Outcome.{Outcome}
 use Rattle.plist_binread.specs.declared.head.Bounds.{Bounds}
 use Rattle.plist_base.specs.Events.{PlainEvent}
@@ -17,7 +17,7 @@ use Rattle.plist_format.specs.Object.{Object, layout_of, length_in, object_behin
 use Rattle.plist_binread.proofs.Columns.{take-drop-take}
 use Rattle.std.proofs.lemmas.Option.{IfSome_then}
 use Rattle.plist_binread.proofs.OverKnown.{IfSome-both}
-use Rattle.plist_binread.specs.Decoding.{DecodesTold, IsRefusedAs}
+use Rattle.plist_binread.specs.Decoding.{DecodesCurrent, IsRefusedAs}
 use Rattle.plist_binread.specs.declared.front.Content.{Content}
 
 -- the object behind a marker
@@ -30,18 +30,18 @@ object_front w m xs ys is = rw is refl
 pub front_lies : (bytes outcome : List ℕ) (t p w : ℕ) → p + w ≤ t
     → outcome ≡ take (length outcome) (drop p bytes) → w ≤ length outcome
     → drop p (take t bytes) ≡ take w outcome ++ drop w (drop p (take t bytes))
-front_lies bytes outcome t p w near is h =
+front_lies bytes outcome t p w buffered is h =
     sym (take-append-drop w _)
     ∙ ap (λ ys. ys ++ drop w (drop p (take t bytes)))
-    (cc (take-drop-take p w t bytes near, take-take w (length outcome) (drop p bytes) h))
+    (cc (take-drop-take p w t bytes buffered, take-take w (length outcome) (drop p bytes) h))
 
 pub known_front : (known : Option (List ℕ)) (outcome found : List ℕ) (t p w : ℕ) → p + w ≤ t
     → w ≤ length outcome → found ≡ take w outcome → IfSome known (λ bytes. LiesAt bytes p outcome)
     → IfSome known (λ bytes. t ≤ length bytes → (more : List ℕ)
     × (drop p (take t bytes) ≡ found ++ more))
-known_front known outcome found t p w near h cut is = IfSome_then known is (λ bytes is fits. (
+known_front known outcome found t p w buffered h cut is = IfSome_then known is (λ bytes is fits. (
   drop w _,
-  front_lies _ _ t p w near is h
+  front_lies _ _ t p w buffered is h
       ∙ ap (λ ys. ys ++ drop w (drop p (take t bytes))) (sym cut),
 ))
 
@@ -50,113 +50,115 @@ pub known_seen : (known : Option (List ℕ)) (t w p : ℕ) (seen : List ℕ) (P 
     → p + length seen ≤ t → IfSome known (λ bytes. LiesAt bytes p seen)
     → ((more : List ℕ) → length (seen ++ more) ≡ t - p → P (object_in w (seen ++ more)))
     → IfSome known (λ bytes. t ≤ length bytes → P (object_in w (drop p (take t bytes))))
-known_seen known t w p seen P near is means = IfSome_then known is (λ bytes is fits.
-    let cut = known_front (Some bytes) seen seen t p _ near (omega arith)
+known_seen known t w p seen P buffered is means = IfSome_then known is (λ bytes is fits.
+    let cut = known_front (Some bytes) seen seen t p _ buffered (omega arith)
     (sym (take-length _)) is fits in
-    let room = ap length (sym cut.1)
+    let extent = ap length (sym cut.1)
     ∙ length-drop p (take t bytes) ∙ ap (λ m. m - p) (length-take-le t bytes fits) in
-    rw cut.1 (means _ room))
+    rw cut.1 (means _ extent))
 
 -- what its marker and what lies behind it tell of an object whose content isn't all seen
-pub long_behind : (w m room : ℕ) (seen rest : List ℕ) (last : Last) (outcome : Outcome) → seen ≡ m ∷ rest
-    → 0 < room → LongBehind m (room - 1) (object_with w m) rest last outcome
-    → LeavesLong room (object_in w) seen last outcome
-long_behind w m room seen rest last tag.Long is some h =
-    let sum : room - 1 + 1 ≡ room = omega arith in (
+pub long_behind : (w m extent : ℕ) (seen rest : List ℕ) (slot : EventSlot) (outcome : Outcome) → seen ≡ m ∷ rest
+    → 0 < extent → LongBehind m (extent - 1) (object_with w m) rest slot outcome
+    → LeavesLong extent (object_in w) seen slot outcome
+long_behind w m extent seen rest slot tag.Long is some h =
+    let sum : extent - 1 + 1 ≡ extent = omega arith in (
       omega (arith, h.0),
       λ more whole.
           object_front w m (seen ++ more) (rest ++ more) (ap (λ xs. xs ++ more) is)
           ∙ rw is (h.1 more (ap (λ xs. length (xs ++ more)) (sym is) ∙ whole ∙ sym sum)),
     )
-long_behind w m room seen rest last outcome is some h = tt
+long_behind w m extent seen rest slot outcome is some h = tt
 
 -- a beginning of bytes that lie there lies there
-pub known_prefix : (known : Option (List ℕ)) (p k : ℕ) (near : List ℕ) → k ≤ length near
-    → IfSome known (λ bytes. LiesAt bytes p near)
-    → IfSome known (λ bytes. LiesAt bytes p (take k near))
-known_prefix known p k near h is = IfSome_then known is (λ bytes is.
-    let n = length-take-le k near h in
-    rw n (ap (take k) is ∙ take-take k (length near) (drop p bytes) h))
+pub known_prefix : (known : Option (List ℕ)) (p k : ℕ) (buffered : List ℕ) → k ≤ length buffered
+    → IfSome known (λ bytes. LiesAt bytes p buffered)
+    → IfSome known (λ bytes. LiesAt bytes p (take k buffered))
+known_prefix known p k buffered h is = IfSome_then known is (λ bytes is.
+    let n = length-take-le k buffered h in
+    rw n (ap (take k) is ∙ take-take k (length buffered) (drop p bytes) h))
 
 -- a fault counts nothing
-pub fault_small : (outcome : Outcome) (told : PlainEvent) → is_fault outcome ≡ true → small_outcome outcome told ≡ 0
-fault_small tag.Scalar told fault = absurd (cc)
-fault_small outcome told fault = refl
+pub fault_small : (outcome : Outcome) (current : PlainEvent) → is_fault outcome ≡ true → small_outcome outcome current ≡ 0
+fault_small tag.Scalar current fault = absurd (cc)
+fault_small outcome current fault = refl
 
 -- ---- what is seen of an object at a place
 
 module _ (known : Option (List ℕ)) (bounds : Bounds) (place : ℕ) (seen : List ℕ)
-    (near : place + length seen ≤ bounds.trailer)
+    (buffered : place + length seen ≤ bounds.trailer)
     (is : IfSome known (λ bytes. LiesAt bytes place seen)) (outcome : Outcome) where
-  pub seen_tells : (last : Last)
-      → TellsWhole (bounds.trailer - place) (object_in bounds.reference_width) seen last outcome
+  pub seen_decodes : (slot : EventSlot)
+      → DecodesWhole (bounds.trailer - place) (object_in bounds.reference_width) seen slot outcome
       → IfSome known (λ bytes. bounds.trailer ≤ length bytes
-      → IsOutcomeOf (object_at bounds place bytes) (event_in last) outcome)
-  seen_tells last means =
+      → IsOutcomeOf (object_at bounds place bytes) (event_in slot) outcome)
+  seen_decodes slot means =
       known_seen known bounds.trailer bounds.reference_width place seen
-      (λ object. IsOutcomeOf object (event_in last) outcome) near is means
+      (λ object. IsOutcomeOf object (event_in slot) outcome) buffered is means
 
-  pub seen_long : (last : Last)
-      → LeavesLong (bounds.trailer - place) (object_in bounds.reference_width) seen last outcome
-      → IfLong outcome last (λ content.
+  pub seen_long : (slot : EventSlot)
+      → LeavesLong (bounds.trailer - place) (object_in bounds.reference_width) seen slot outcome
+      → IfLong outcome slot (λ content.
       (place + content.start + content.count * unit_size content.kind ≤ bounds.trailer)
       × IfSome known (λ bytes. bounds.trailer ≤ length bytes → object_at bounds place bytes
       ≡ content_means content.kind (take (content.count * unit_size content.kind)
       (drop (place + content.start) bytes))))
-  seen_long last h = by outcome h
+  seen_long slot h = by outcome h
     where
       by : (outcome : Outcome)
-          → LeavesLong (bounds.trailer - place) (object_in bounds.reference_width) seen last outcome
-          → IfLong outcome last (λ content.
+          → LeavesLong (bounds.trailer - place) (object_in bounds.reference_width) seen slot outcome
+          → IfLong outcome slot (λ content.
           (place + content.start + content.count * unit_size content.kind ≤ bounds.trailer)
           × IfSome known (λ bytes. bounds.trailer ≤ length bytes → object_at bounds place bytes
           ≡ content_means content.kind (take (content.count * unit_size content.kind)
           (drop (place + content.start) bytes))))
       by tag.Long h = (
-        omega (arith, h.0, near),
+        omega (arith, h.0, buffered),
         IfSome_then known is (λ bytes is fits.
-            let content = last.content in
+            let content = slot.content in
             let n = content.count * unit_size content.kind in
             let front = drop place (take bounds.trailer bytes) in
-            let cut = known_front (Some bytes) seen seen bounds.trailer place _ near (omega arith)
+            let cut = known_front (Some bytes) seen seen bounds.trailer place _ buffered
+            (omega arith)
             (sym (take-length _)) is fits in
-            let room = ap length (sym cut.1) ∙ length-drop place (take bounds.trailer bytes)
+            let extent = ap length (sym cut.1) ∙ length-drop place (take bounds.trailer bytes)
             ∙ ap (λ m. m - place) (length-take-le bounds.trailer bytes fits) in
-            ap (object_in bounds.reference_width) cut.1 ∙ h.1 cut.0 room
+            ap (object_in bounds.reference_width) cut.1 ∙ h.1 cut.0 extent
             ∙ ap (λ xs. content_means content.kind (take n (drop content.start xs))) (sym cut.1)
             ∙ ap (λ xs. content_means content.kind (take n xs))
             (drop-drop content.start place (take bounds.trailer bytes))
             ∙ ap (content_means content.kind)
             (take-drop-take (place + content.start) n bounds.trailer bytes
-            (omega (arith, h.0, near)))),
+            (omega (arith, h.0, buffered)))),
       )
       by outcome h = tt
 
 -- what was decoded is a fault
 pub seen_refused : (known : Option (List ℕ)) (bounds : Bounds) (place : ℕ) (outcome : Outcome)
-    (told : PlainEvent) (error : Error) → IfSome known (λ bytes. bounds.trailer ≤ length bytes
-    → IsOutcomeOf (object_at bounds place bytes) told outcome)
-    → ((object : Object) (told : PlainEvent) → IsOutcomeOf object told outcome
+    (current : PlainEvent) (error : Error) → IfSome known (λ bytes. bounds.trailer ≤ length bytes
+    → IsOutcomeOf (object_at bounds place bytes) current outcome)
+    → ((object : Object) (current : PlainEvent) → IsOutcomeOf object current outcome
     → IsRefusedAs object place error)
     → IfSome known (λ bytes. bounds.trailer ≤ length bytes
     → IsRefusedAs (object_at bounds place bytes) place error)
-seen_refused known bounds place outcome told error means refused =
+seen_refused known bounds place outcome current error means refused =
     IfSome_then known means (λ bytes means fits. refused _ _ (means fits))
 
 -- or a content that was read
-pub long_tells : (known now : Option (List ℕ)) (bounds : Bounds) (place : ℕ) (content : Content)
-    (told : PlainEvent) (answer : Result Outcome Error) → now ≡ known
+pub long_decodes : (known now : Option (List ℕ)) (bounds : Bounds) (place : ℕ) (content : Content)
+    (current : PlainEvent) (answer : Result Outcome Error) → now ≡ known
     → (place + content.start + content.count * unit_size content.kind ≤ bounds.trailer)
     × IfSome known (λ bytes. bounds.trailer ≤ length bytes → object_at bounds place bytes
     ≡ content_means content.kind (take (content.count * unit_size content.kind)
     (drop (place + content.start) bytes)))
     → IfSome now (λ bytes. place + content.start + content.count * unit_size content.kind
-    ≤ length bytes → DecodesTold (content_means content.kind
-    (take (content.count * unit_size content.kind) (drop (place + content.start) bytes))) place told
+    ≤ length bytes → DecodesCurrent (content_means content.kind
+    (take (content.count * unit_size content.kind) (drop (place + content.start) bytes))) place
+    current
     answer)
     → IfSome known (λ bytes. bounds.trailer ≤ length bytes
-    → DecodesTold (object_at bounds place bytes) place told answer)
-long_tells known now bounds place content told answer same long read =
+    → DecodesCurrent (object_at bounds place bytes) place current answer)
+long_decodes known now bounds place content current answer same long read =
     IfSome-both known long.1 (rw same at read) (λ bytes is read fits.
     rw (is fits) (read (omega (arith, long.0, fits))))
 

@@ -11,20 +11,20 @@ use Rattle.plist_binread.specs.declared.counter.DecodeCounter.{Ghosts as Counter
 use Rattle.plist_binread.specs.declared.frames.Frame.{Frame}
 use Rattle.plist_binread.specs.declared.head.Bounds.{Bounds}
 use Rattle.plist_binread.specs.declared.reader.BinaryReader.{BinaryReader}
-use Rattle.plist_binread.specs.declared.reader.State.{State}
-use Rattle.plist_binread.specs.declared.reader.State.TheVariants.{Fresh, Walking, Ended}
-use Rattle.plist_binread.specs.Beginning.{GivesFirst, IsBounded, IsKnownWalk, KeepsRoot, RefusesFirst}
-use Rattle.plist_binread.specs.BinaryReader.{told_objects}
-use Rattle.plist_binread.specs.Debt.{AreBoundsOf, IsKnown, entries_of, next_number, owed_by, steps_left, still_owed, walk_steps, walk_weight}
+use Rattle.plist_binread.specs.declared.reader.WalkState.{WalkState}
+use Rattle.plist_binread.specs.declared.reader.WalkState.TheVariants.{Fresh, Walking, Ended}
+use Rattle.plist_binread.specs.Beginning.{GivesRoot, IsBounded, IsKnownWalk, KeepsRoot, RefusesFirst}
+use Rattle.plist_binread.specs.BinaryReader.{objects_in_head}
+use Rattle.plist_binread.specs.Remaining.{AreBoundsOf, IsKnown, entries_of, next_number, remaining_items, steps_left, remaining_now, walk_steps, walk_weight}
 use Rattle.plist_binread.specs.Failures.{ErrWithin, ItemGivenWithin, ItemWithin}
-use Rattle.plist_binread.specs.Outcome.{IsToldEnd, PaysNextTold}
+use Rattle.plist_binread.specs.Outcome.{IsCurrentEnd, YieldsNext}
 use Rattle.plist_binread.specs.Step.{KeepsItem, LightensNext}
-use Rattle.plist_binread.specs.Telling.{TellsItem, WalksIn}
-use Rattle.plist_binread.specs.declared.told.Last.{Last}
-use Rattle.plist_binread.specs.declared.told.Refused.{Refused}
-use Rattle.plist_binread.specs.Told.{AnswersIn, ItemAnswersIn, answer_in, event_in, item_in}
-use Rattle.plist_binread.specs.Turning.{IsKeptTold, closes, is_fresh, is_walking, number_owed, root_with, state_after}
-use Rattle.plist_binread.specs.Walking.{cached_in, open_in, owed_in, walk_objects, weight_in}
+use Rattle.plist_binread.specs.Advancing.{GivesCurrent, WalksIn}
+use Rattle.plist_binread.specs.declared.slot.EventSlot.{EventSlot}
+use Rattle.plist_binread.specs.declared.slot.Refused.{Refused}
+use Rattle.plist_binread.specs.Slot.{AnswersIn, ItemAnswersIn, answer_in, event_in, item_in}
+use Rattle.plist_binread.specs.Turns.{IsCurrentCached, closes, is_fresh, is_walking, upcoming_number, root_with, state_after}
+use Rattle.plist_binread.specs.Walking.{cached_in, open_in, remaining_in, walk_objects, weight_in}
 use Rattle.plist_binread.proofs.Failing.{from_within}
 use Rattle.plist_binread.proofs.Limiting.{given-within}
 use Rattle.plist_binread.proofs.Steps.{fresh_falls}
@@ -38,29 +38,29 @@ abbrev Step : Type 0
 Step = Option (Result (Unit {0}) Error)
 
 -- it is never fresh again
-pub never_fresh : {E : Type 0} (item : Option (Result (Unit {0}) E)) (after : State)
+pub never_fresh : {E : Type 0} (item : Option (Result (Unit {0}) E)) (after : WalkState)
     → after ≡ state_after item → is_fresh after ≡ false
 never_fresh None after is = ap is_fresh is
 never_fresh (Some (Ok value)) after is = ap is_fresh is
 never_fresh (Some (Err error)) after is = ap is_fresh is
 
-pub not_fresh : {E : Type 0} (item : Option (Result (Unit {0}) E)) (after : State)
+pub not_fresh : {E : Type 0} (item : Option (Result (Unit {0}) E)) (after : WalkState)
     → after ≡ state_after item → is_fresh after ≡ true → ⊥
 not_fresh item after is fresh = absurd (cc (never_fresh item after is))
 
 -- it walks only where an event was told
-pub walks_on_ok : {E : Type 0} (answer : Result (Unit {0}) E) (after : State) (P : Type 0)
+pub walks_on_ok : {E : Type 0} (answer : Result (Unit {0}) E) (after : WalkState) (P : Type 0)
     → after ≡ state_after (Some answer) → OnOk answer P → is_walking after ≡ true → P
 walks_on_ok (Ok value) after P is known walking = known
 walks_on_ok (Err error) after P is known walking = let no = ap is_walking is in absurd (cc)
 
-walking-not_ended : (state : State) → state ≡ Walking → state ≡ Ended → ⊥
+walking-not_ended : (state : WalkState) → state ≡ Walking → state ≡ Ended → ⊥
 walking-not_ended state is ended = absurd (cc)
 
-fresh-not_ended : (state : State) → state ≡ Fresh → state ≡ Ended → ⊥
+fresh-not_ended : (state : WalkState) → state ≡ Fresh → state ≡ Ended → ⊥
 fresh-not_ended state is ended = absurd (cc)
 
-ends_after : (item : Step) (after : State) → after ≡ state_after item
+ends_after : (item : Step) (after : WalkState) → after ≡ state_after item
     → MatchOption item (after ≡ Ended) (λ answer. OnErr answer (after ≡ Ended))
 ends_after None after is = is
 ends_after (Some (Ok value)) after is = tt
@@ -77,28 +77,29 @@ given_within (Some (Err error)) trailer small within =
 
 -- ---- what is to come, and what is left to do
 
-module _ (before after : State) (fs gs : List Frame) (item : Step)
+module _ (before after : WalkState) (fs gs : List Frame) (item : Step)
     (is : after ≡ state_after item) where
-  item_tells : (known : Option (List ℕ)) (bounds after_bounds : Bounds) (told : PlainEvent)
+  item_decodes : (known : Option (List ℕ)) (bounds after_bounds : Bounds) (current : PlainEvent)
       → before ≡ Walking → IfSome known
-      (λ bytes. PaysNextTold (owed_by (entries_of bytes bounds) (reverse fs)) item told
-      (owed_by (entries_of bytes after_bounds) (reverse gs)))
-      → IfSome known (λ bytes. TellsItem (is_fresh before) (still_owed bytes before bounds fs) item
-      told (still_owed bytes after after_bounds gs))
-  item_tells known bounds after_bounds told walking pays = rw (walking, is)
-      (by_item item known bounds after_bounds told pays)
+      (λ bytes. YieldsNext (remaining_items (entries_of bytes bounds) (reverse fs)) item current
+      (remaining_items (entries_of bytes after_bounds) (reverse gs)))
+      → IfSome known (λ bytes. GivesCurrent (is_fresh before)
+      (remaining_now bytes before bounds fs) item
+      current (remaining_now bytes after after_bounds gs))
+  item_decodes known bounds after_bounds current walking yields = rw (walking, is)
+      (by_item item known bounds after_bounds current yields)
     where
       by_item : (item : Step) (known : Option (List ℕ)) (bounds after_bounds : Bounds)
-          (told : PlainEvent) → IfSome known
-          (λ bytes. PaysNextTold (owed_by (entries_of bytes bounds) (reverse fs)) item told
-          (owed_by (entries_of bytes after_bounds) (reverse gs)))
-          → IfSome known (λ bytes. TellsItem false (still_owed bytes Walking bounds fs) item
-          told (still_owed bytes (state_after item) after_bounds gs))
-      by_item None known bounds after_bounds told pays = IfSome_then known pays
+          (current : PlainEvent) → IfSome known
+          (λ bytes. YieldsNext (remaining_items (entries_of bytes bounds) (reverse fs)) item current
+          (remaining_items (entries_of bytes after_bounds) (reverse gs)))
+          → IfSome known (λ bytes. GivesCurrent false (remaining_now bytes Walking bounds fs) item
+          current (remaining_now bytes (state_after item) after_bounds gs))
+      by_item None known bounds after_bounds current yields = IfSome_then known yields
           (λ bytes nothing. (ap until_fault nothing.0, refl))
-      by_item (Some (Ok value)) known bounds after_bounds told pays = pays
-      by_item (Some (Err error)) known bounds after_bounds told pays = IfSome_then known pays
-          (λ bytes pays. (refl, pays))
+      by_item (Some (Ok value)) known bounds after_bounds current yields = yields
+      by_item (Some (Err error)) known bounds after_bounds current yields = IfSome_then known yields
+          (λ bytes yields. (refl, yields))
 
   item_falls : (n m : ℕ) → before ≡ Walking → m ≡ n
       → IfSome item (λ answer. (0 < walk_weight n (reverse fs))
@@ -113,27 +114,27 @@ module _ (before after : State) (fs gs : List Frame) (item : Step)
       by_item (Some (Ok value)) falls = falls.1
       by_item (Some (Err error)) falls = falls.0
 
-module _ (before after : State) (fs gs : List Frame) (answer : Result (Unit {0}) Error)
+module _ (before after : WalkState) (fs gs : List Frame) (answer : Result (Unit {0}) Error)
     (is : after ≡ state_after (Some answer)) where
-  first_tells : (known : Option (List ℕ)) (bounds after_bounds : Bounds) (told : PlainEvent)
+  first_decodes : (known : Option (List ℕ)) (bounds after_bounds : Bounds) (current : PlainEvent)
       → before ≡ Fresh → IfSome known (λ bytes. MatchResult answer
       (λ _. items_of_file bytes
-      ≡ Ok told ∷ until_fault (owed_by (entries_of bytes after_bounds) (reverse gs)))
+      ≡ Ok current ∷ until_fault (remaining_items (entries_of bytes after_bounds) (reverse gs)))
       (RefusesFirst bytes))
-      → IfSome known (λ bytes. TellsItem (is_fresh before) (still_owed bytes before bounds fs)
-      (Some answer) told (still_owed bytes after after_bounds gs))
-  first_tells known bounds after_bounds told fresh gives = rw (fresh, is)
-      (by_answer answer known bounds after_bounds told gives)
+      → IfSome known (λ bytes. GivesCurrent (is_fresh before) (remaining_now bytes before bounds fs)
+      (Some answer) current (remaining_now bytes after after_bounds gs))
+  first_decodes known bounds after_bounds current fresh gives = rw (fresh, is)
+      (by_answer answer known bounds after_bounds current gives)
     where
       by_answer : (answer : Result (Unit {0}) Error) (known : Option (List ℕ))
-          (bounds after_bounds : Bounds) (told : PlainEvent)
+          (bounds after_bounds : Bounds) (current : PlainEvent)
           → IfSome known (λ bytes. MatchResult answer (λ _. items_of_file bytes
-          ≡ Ok told ∷ until_fault (owed_by (entries_of bytes after_bounds) (reverse gs)))
+          ≡ Ok current ∷ until_fault (remaining_items (entries_of bytes after_bounds) (reverse gs)))
           (RefusesFirst bytes))
-          → IfSome known (λ bytes. TellsItem true (still_owed bytes Fresh bounds fs)
-          (Some answer) told (still_owed bytes (state_after (Some answer)) after_bounds gs))
-      by_answer (Ok value) known bounds after_bounds told gives = gives
-      by_answer (Err error) known bounds after_bounds told gives = IfSome_then known gives
+          → IfSome known (λ bytes. GivesCurrent true (remaining_now bytes Fresh bounds fs)
+          (Some answer) current (remaining_now bytes (state_after (Some answer)) after_bounds gs))
+      by_answer (Ok value) known bounds after_bounds current gives = gives
+      by_answer (Err error) known bounds after_bounds current gives = IfSome_then known gives
           (λ bytes refused. (refl, refused))
 
   first_falls : (n m : ℕ) → before ≡ Fresh → n ≤ 2 ^ 64
@@ -149,16 +150,18 @@ module _ (before after : State) (fs gs : List Frame) (answer : Result (Unit {0})
 
 -- ---- what is cached
 
-module _ (state : State) (tags : List ℕ) (told : PlainEvent) (known : Option (List ℕ))
+module _ (state : WalkState) (tags : List ℕ) (current : PlainEvent) (known : Option (List ℕ))
     (bounds : Bounds) (fs : List Frame) where
   first_kept : (answer : Result (Unit {0}) Error) → state ≡ Fresh → IfSome known
-      (λ bytes. IsKeptTold (root_with (head_of bytes)) (Some answer) told tags)
-      → IfSome known (λ bytes. IsKeptTold (number_owed bytes state bounds fs) (Some answer) told tags)
+      (λ bytes. IsCurrentCached (root_with (head_of bytes)) (Some answer) current tags)
+      → IfSome known (λ bytes. IsCurrentCached (upcoming_number bytes state bounds fs) (Some answer) current tags)
   first_kept answer is kept = rw is kept
 
   item_kept : (item : Step) → state ≡ Walking → IfSome known
-      (λ bytes. IsKeptTold (next_number (entries_of bytes bounds) (reverse fs)) item told tags)
-      → IfSome known (λ bytes. IsKeptTold (number_owed bytes state bounds fs) item told tags)
+      (λ bytes. IsCurrentCached (next_number (entries_of bytes bounds)
+      (reverse fs)) item current tags)
+      → IfSome known (λ bytes. IsCurrentCached (upcoming_number bytes state bounds fs) item current
+      tags)
   item_kept item is kept = rw is kept
 
 -- what is known of a file that is walked is known with its head
@@ -166,7 +169,7 @@ holds_walking : (known : Option (List ℕ)) (bounds : Bounds) (tags contents : L
     (fs : List Frame) (walking : Type 0)
     → (walking → IfSome known (λ bytes. IsKnown bytes bounds tags contents fs))
     → IfSome known (λ bytes. walking → AreBoundsOf (head_of bytes) bounds
-    × (length tags ≡ told_objects bytes))
+    × (length tags ≡ objects_in_head bytes))
 holds_walking None bounds tags contents fs walking k = tt
 holds_walking (Some bytes) bounds tags contents fs walking k = λ w.
     let held = k w in (held.head, sym held.size)
@@ -177,28 +180,29 @@ holds_walking (Some bytes) bounds tags contents fs walking k = λ w.
 abbrev Noted : Type 0
 Noted = Option (Result (Unit {0}) Refused)
 
-after_in : (noted : Noted) (last : Last) (after : State) → after ≡ state_after noted
-    → after ≡ state_after (item_in noted last)
-after_in None last after is = is
-after_in (Some (Ok value)) last after is = is
-after_in (Some (Err refused)) last after is = is
+after_in : (noted : Noted) (slot : EventSlot) (after : WalkState) → after ≡ state_after noted
+    → after ≡ state_after (item_in noted slot)
+after_in None slot after is = is
+after_in (Some (Ok value)) slot after is = is
+after_in (Some (Err refused)) slot after is = is
 
-ok_in : (noted : Result (Unit {0}) Refused) (last : Last) (P : Type 0) → OnOk noted P
-    → OnOk (answer_in noted last) P
-ok_in (Ok value) last P h = h
-ok_in (Err refused) last P h = tt
+ok_in : (noted : Result (Unit {0}) Refused) (slot : EventSlot) (P : Type 0) → OnOk noted P
+    → OnOk (answer_in noted slot) P
+ok_in (Ok value) slot P h = h
+ok_in (Err refused) slot P h = tt
 
-end_in : (noted : Noted) (last : Last) (told : PlainEvent) → IsToldEnd noted told
-    → IsToldEnd (item_in noted last) told
-end_in None last told h = h
-end_in (Some (Ok value)) last told h = h
-end_in (Some (Err refused)) last told h = absurd h
+end_in : (noted : Noted) (slot : EventSlot) (current : PlainEvent) → IsCurrentEnd noted current
+    → IsCurrentEnd (item_in noted slot) current
+end_in None slot current h = h
+end_in (Some (Ok value)) slot current h = h
+end_in (Some (Err refused)) slot current h = absurd h
 
-falls_in : (noted : Noted) (last : Last) (P Q : Type 0) → IfSome noted (λ answer. P × OnOk answer Q)
-    → IfSome (item_in noted last) (λ answer. P × OnOk answer Q)
-falls_in None last P Q h = tt
-falls_in (Some (Ok value)) last P Q h = h
-falls_in (Some (Err refused)) last P Q h = (h.0, tt)
+falls_in : (noted : Noted) (slot : EventSlot) (P Q : Type 0) → IfSome noted (λ answer. P
+    × OnOk answer Q)
+    → IfSome (item_in noted slot) (λ answer. P × OnOk answer Q)
+falls_in None slot P Q h = tt
+falls_in (Some (Ok value)) slot P Q h = h
+falls_in (Some (Err refused)) slot P Q h = (h.0, tt)
 
 -- ---- all of it
 
@@ -209,21 +213,21 @@ module _ {R C : Type 0} {g : Ghosts R} {h : CounterGhosts C} (known : R → Opti
     (limiter : new.limiter ≡ old.limiter) where
   pub first_walks : (noted : Result (Unit {0}) Refused) → old.state ≡ Fresh
       → new.state ≡ state_after (Some noted)
-      → IfSome (known old.source) (GivesFirst noted new.bounds new.last new.walk)
-      → ErrWithin 0 (2 ^ 64) (answer_in noted new.last)
+      → IfSome (known old.source) (GivesRoot noted new.bounds new.slot new.walk)
+      → ErrWithin 0 (2 ^ 64) (answer_in noted new.slot)
       → IfSome (known old.source) (IsBounded new.walk)
       → OnOk noted (IsKnownWalk (known old.source) new.bounds new.walk)
-      → IfSome (known old.source) (KeepsRoot noted new.last new.walk)
+      → IfSome (known old.source) (KeepsRoot noted new.slot new.walk)
       → OnOk noted (weight_in new.walk < walk_steps (walk_objects new.walk))
-      → AnswersIn failed noted new.last old.source new.source
+      → AnswersIn failed noted new.slot old.source new.source
       → WalksIn known failed counts count old (Some noted) new
-  first_walks noted fresh is pays within bounded held kept falls failures =
-      let answer = answer_in noted new.last in
-      let after = after_in (Some noted) new.last new.state is in
+  first_walks noted fresh is yields within bounded held kept falls failures =
+      let answer = answer_in noted new.slot in
+      let after = after_in (Some noted) new.slot new.state is in
       record {
         unchanged = same;
-        items = first_tells old.state new.state old.walk.frames new.walk.frames answer after
-            (known old.source) old.bounds new.bounds (event_in new.last) fresh pays;
+        items = first_decodes old.state new.state old.walk.frames new.walk.frames answer after
+            (known old.source) old.bounds new.bounds (event_in new.slot) fresh yields;
         failures = failures;
         ended = λ e. absurd (fresh-not_ended old.state fresh e);
         ends = ends_after (Some answer) new.state after;
@@ -232,49 +236,49 @@ module _ {R C : Type 0} {g : Ghosts R} {h : CounterGhosts C} (known : R → Opti
         closes = λ e. absurd (closes-fresh old.state old.walk.frames fresh e);
         head = holds_walking (known old.source) new.bounds new.walk.tags.items new.walk.contents.items
             (reverse new.walk.frames) (is_walking new.state ≡ true)
-            (walks_on_ok answer new.state _ after (ok_in noted new.last _ held));
-        cached = first_kept old.state new.walk.tags.items (event_in new.last) (known old.source)
+            (walks_on_ok answer new.state _ after (ok_in noted new.slot _ held));
+        cached = first_kept old.state new.walk.tags.items (event_in new.slot) (known old.source)
             old.bounds old.walk.frames answer fresh kept;
         leaves = left_behind known counts count old new new.walk.path new.walk.same counted bounded;
         kept = (ap is_some limiter, λ begun. absurd (cc (ap is_fresh fresh)));
         falls = first_falls old.state new.state old.walk.frames new.walk.frames answer after
             (walk_objects new.walk) (walk_objects old.walk) fresh
-            (omega (arith, new.walk.tags.ok, new.walk.tags.small)) (ok_in noted new.last _ falls);
+            (omega (arith, new.walk.tags.ok, new.walk.tags.small)) (ok_in noted new.slot _ falls);
       }
 
   pub item_walks : (noted : Noted) → old.state ≡ Walking → new.state ≡ state_after noted
-      → IfSome (known old.source) (λ bytes. PaysNextTold (owed_in bytes old.bounds old.walk)
-      (item_in noted new.last) (event_in new.last) (owed_in bytes new.bounds new.walk))
-      → (closes (open_in old.walk) ≡ true → IsToldEnd noted (event_in new.last))
-      → ItemWithin 0 old.bounds.trailer (item_in noted new.last)
+      → IfSome (known old.source) (λ bytes. YieldsNext (remaining_in bytes old.bounds old.walk)
+      (item_in noted new.slot) (event_in new.slot) (remaining_in bytes new.bounds new.walk))
+      → (closes (open_in old.walk) ≡ true → IsCurrentEnd noted (event_in new.slot))
+      → ItemWithin 0 old.bounds.trailer (item_in noted new.slot)
       → walk_objects new.walk ≡ walk_objects old.walk
       → IfSome (known old.source) (IsBounded old.walk)
       → IsKnownWalk (known old.source) new.bounds new.walk
-      → KeepsItem (known old.source) old.bounds old.walk noted new.last new.walk
+      → KeepsItem (known old.source) old.bounds old.walk noted new.slot new.walk
       → LightensNext old.walk noted new.walk
-      → ItemAnswersIn failed noted new.last old.source new.source
+      → ItemAnswersIn failed noted new.slot old.source new.source
       → WalksIn known failed counts count old noted new
-  item_walks noted walking is pays ends within size bounded held kept falls failures =
-      let item = item_in noted new.last in
-      let after = after_in noted new.last new.state is in
+  item_walks noted walking is yields ends within size bounded held kept falls failures =
+      let item = item_in noted new.slot in
+      let after = after_in noted new.slot new.state is in
       record {
         unchanged = same;
-        items = item_tells old.state new.state old.walk.frames new.walk.frames item after
-            (known old.source) old.bounds new.bounds (event_in new.last) walking pays;
+        items = item_decodes old.state new.state old.walk.frames new.walk.frames item after
+            (known old.source) old.bounds new.bounds (event_in new.slot) walking yields;
         failures = failures;
         ended = λ e. absurd (walking-not_ended old.state walking e);
         ends = ends_after item new.state after;
         begun = never_fresh item new.state after;
         faults = given_within item old.bounds.trailer (omega (arith, old.bounds.small)) within;
-        closes = λ e. end_in noted new.last _ (ends (rw walking at e));
+        closes = λ e. end_in noted new.slot _ (ends (rw walking at e));
         head = holds_head (known old.source) new.bounds new.walk.tags.items new.walk.contents.items
             (reverse new.walk.frames) (is_walking new.state ≡ true) held;
-        cached = item_kept old.state new.walk.tags.items (event_in new.last) (known old.source)
+        cached = item_kept old.state new.walk.tags.items (event_in new.slot) (known old.source)
             old.bounds old.walk.frames item walking kept;
         leaves = left_behind known counts count old new new.walk.path new.walk.same counted
             (rw size bounded);
         kept = (ap is_some limiter, λ _. size);
         falls = item_falls old.state new.state old.walk.frames new.walk.frames item after
             (walk_objects old.walk) (walk_objects new.walk) walking size
-            (falls_in noted new.last _ _ falls);
+            (falls_in noted new.slot _ _ falls);
       }

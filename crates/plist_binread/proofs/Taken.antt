@@ -7,13 +7,13 @@ use Rattle.plist_base.specs.Events.{PlainEvent}
 use Rattle.plist_binread.specs.declared.frames.Frame.{Frame}
 use Rattle.plist_binread.specs.declared.counter.DecodeCounter.{Ghosts as CounterGhosts}
 use Rattle.plist_binread.specs.declared.reader.BinaryReader.{BinaryReader}
-use Rattle.plist_binread.specs.declared.reader.State.{State}
-use Rattle.plist_binread.specs.declared.reader.State.TheVariants.{Fresh, Ended}
+use Rattle.plist_binread.specs.declared.reader.WalkState.{WalkState}
+use Rattle.plist_binread.specs.declared.reader.WalkState.TheVariants.{Fresh, Ended}
 use Rattle.plist_binread.specs.declared.head.Bounds.{Bounds}
 use Rattle.plist_format.specs.Container.{head_of}
-use Rattle.plist_binread.specs.BinaryReader.{GivesItem, AreWithin, Leaves}
-use Rattle.plist_binread.specs.Debt.{IsOpen, IsKnown, cached_count, AreBoundsOf, places_of, still_owed}
-use Rattle.plist_binread.specs.Turning.{IsKeptTold, is_fresh, is_walking, ends_next}
+use Rattle.plist_binread.specs.BinaryReader.{GivesBinaryItem, AreListsWithin, Leaves}
+use Rattle.plist_binread.specs.Remaining.{IsOpen, IsKnown, cached_count, AreBoundsOf, places_of, remaining_now}
+use Rattle.plist_binread.specs.Turns.{IsCurrentCached, is_fresh, is_walking, ends_next}
 use Rattle.plist_binread.proofs.Opened.{IsOpen-length}
 use Rattle.std.proofs.lemmas.Option.{IfSome_then}
 use Rattle.plist_binread.proofs.OverKnown.{IfSome-all}
@@ -49,7 +49,7 @@ holds_none known bounds tags walking never = IfSome-all known (λ bytes w. absur
 lists : (known : Option (List ℕ)) (tags contents : List ℕ) (fs : List Frame)
     → IsOpen tags (reverse fs) → length contents ≡ length tags
     → IfSome known (λ bytes. length tags ≤ length (places_of bytes))
-    → IfSome known (λ bytes. AreWithin (length (places_of bytes)) tags contents fs)
+    → IfSome known (λ bytes. AreListsWithin (length (places_of bytes)) tags contents fs)
 lists known tags contents fs path same bounded = IfSome_then known bounded (λ bytes bounded.
     (bounded, omega arith, omega (arith, open_below tags fs path)))
 
@@ -73,38 +73,41 @@ left_behind known counts count old new path same counted bounded = record {
 -- what was to come and what is to come, over known bytes, by the item that was taken
 
 pub nothing_ended : (known : Option (List ℕ)) (bounds : Bounds) (fs : List Frame)
-    → IfSome known (λ bytes. GivesItem (is_fresh Ended) (still_owed bytes Ended bounds fs) None
-    (still_owed bytes Ended bounds fs))
+    → IfSome known (λ bytes. GivesBinaryItem (is_fresh Ended)
+    (remaining_now bytes Ended bounds fs) None
+    (remaining_now bytes Ended bounds fs))
 nothing_ended known bounds fs = IfSome-all known (λ bytes. (refl, refl))
 
 -- no end comes first, or after the last item
-pub closes-fresh : (state : State) (fs : List Frame) → state ≡ Fresh → ends_next state fs ≡ true → ⊥
+pub closes-fresh : (state : WalkState) (fs : List Frame) → state ≡ Fresh
+    → ends_next state fs ≡ true → ⊥
 closes-fresh state fs is e =
     let no = ap (λ s. ends_next s fs) is in absurd (cc)
 
-pub closes-ended : (state : State) (fs : List Frame) → state ≡ Ended → ends_next state fs ≡ true → ⊥
+pub closes-ended : (state : WalkState) (fs : List Frame) → state ≡ Ended
+    → ends_next state fs ≡ true → ⊥
 closes-ended state fs is e =
     let no = ap (λ s. ends_next s fs) is in absurd (cc)
 
-pub walking-ended : (state : State) → state ≡ Ended → is_walking state ≡ true → ⊥
+pub walking-ended : (state : WalkState) → state ≡ Ended → is_walking state ≡ true → ⊥
 walking-ended state is e = let no = ap is_walking is in absurd (cc)
 
 -- ---- what is cached then
 
 pub kept_fault : (known : Option (List ℕ)) (number : List ℕ → Option ℕ) (tags : List ℕ) (e : Error)
-    (told : PlainEvent) → IfSome known
-    (λ bytes. IsKeptTold {A = Unit {0}} (number bytes) (Some (Err e)) told tags)
-kept_fault known number tags e told = IfSome-all _ (λ bytes. by_number (number _))
+    (current : PlainEvent) → IfSome known
+    (λ bytes. IsCurrentCached {A = Unit {0}} (number bytes) (Some (Err e)) current tags)
+kept_fault known number tags e current = IfSome-all _ (λ bytes. by_number (number _))
   where
-    by_number : (n : Option ℕ) → IsKeptTold {A = Unit {0}} n (Some (Err e)) told tags
+    by_number : (n : Option ℕ) → IsCurrentCached {A = Unit {0}} n (Some (Err e)) current tags
     by_number None = tt
     by_number (Some n) = tt
 
 pub kept_end : (known : Option (List ℕ)) (number : List ℕ → Option ℕ) (tags : List ℕ)
-    (told : PlainEvent) → IfSome known
-    (λ bytes. IsKeptTold {A = Unit {0}} (number bytes) None told tags)
-kept_end known number tags told = IfSome-all _ (λ bytes. by_number (number _))
+    (current : PlainEvent) → IfSome known
+    (λ bytes. IsCurrentCached {A = Unit {0}} (number bytes) None current tags)
+kept_end known number tags current = IfSome-all _ (λ bytes. by_number (number _))
   where
-    by_number : (n : Option ℕ) → IsKeptTold {A = Unit {0}} n None told tags
+    by_number : (n : Option ℕ) → IsCurrentCached {A = Unit {0}} n None current tags
     by_number None = tt
     by_number (Some n) = tt

@@ -6,10 +6,10 @@ use Rattle.std.proofs.Math.Seq.{drop-cons}
 use Rattle.plist_base.specs.Events.{PlainEvent, EndCollection, Item}
 use Rattle.plist_binread.specs.declared.frames.Frame.{Frame}
 use Rattle.plist_binread.specs.Packed.{Remarked}
-use Rattle.plist_format.specs.Unfolding.{Entry, unfolding_of, until_fault}
+use Rattle.plist_format.specs.Unfolding.{TableEntry, unfolding_of, until_fault}
 use Rattle.plist_binread.specs.declared.head.Bounds.{Bounds}
-use Rattle.plist_binread.specs.Debt.{path_of, IsOpen, IsKnown, children_at, place_at, entries_of, owed_by, IsOwed, next_number, walk_steps, walk_weight}
-use Rattle.plist_binread.specs.Turning.{closes}
+use Rattle.plist_binread.specs.Remaining.{path_of, IsOpen, IsKnown, children_at, place_at, entries_of, remaining_items, SomeRemain, next_number, walk_steps, walk_weight}
+use Rattle.plist_binread.specs.Turns.{closes}
 use Rattle.std.proofs.lemmas.List.{drop_all, get_or_default}
 
 -- the frame with another number of its next child
@@ -34,29 +34,29 @@ child_flat step xs more i x h e =
     rw rest (append_assoc (step x) (flat_map _ (drop _ xs)) more)
 
 until_some : (items : List Item) (event : PlainEvent) (more : List Item)
-    → IsOwed (until_fault (items ++ Ok event ∷ more))
+    → SomeRemain (until_fault (items ++ Ok event ∷ more))
 until_some [] event more = omega arith
 until_some (Ok e ∷ items) event more = omega arith
 until_some (Err f ∷ items) event more = omega arith
 
 module _ (bytes tags contents : List ℕ) (bounds : Bounds) (f : Frame) (fs : List Frame)
     (k : IsKnown bytes bounds tags contents (f ∷ fs)) where
-  abbrev table : List Entry
+  abbrev table : List TableEntry
   table = entries_of bytes bounds
 
   abbrev children : List ℕ
   children = children_at (slice_get table f.object)
 
   -- its next child
-  pub child_owed : f.next < f.count
-      → ((owed_by table (f ∷ fs) ≡ unfolding_of table (length table - length (after f ∷ fs))
+  pub child_remaining : f.next < f.count
+      → ((remaining_items table (f ∷ fs) ≡ unfolding_of table (length table - length (after f ∷ fs))
       (path_of (after f ∷ fs)) (place_at (slice_get table f.object)) (get_or children f.next 0)
-      ++ owed_by table (after f ∷ fs))
+      ++ remaining_items table (after f ∷ fs))
       × (f.next < length children)
-      × IsOwed (until_fault (owed_by table (f ∷ fs)))
+      × SomeRemain (until_fault (remaining_items table (f ∷ fs)))
       × (next_number table (f ∷ fs) ≡ Some (get_or children f.next 0)))
       × IsKnown bytes bounds tags contents (after f ∷ fs)
-  child_owed h = (
+  child_remaining h = (
     (
       child_flat (λ c. unfolding_of table (length table - suc (length fs)) (f.object ∷ path_of fs)
           (place_at (slice_get table f.object)) c) children _
@@ -77,10 +77,10 @@ module _ (bytes tags contents : List ℕ) (bounds : Bounds) (f : Frame) (fs : Li
   )
 
   -- or its end
-  pub closed_owed : (new : List ℕ) → f.count ≤ f.next → Remarked f.object false tags new
-      → (owed_by table (f ∷ fs) ≡ Ok EndCollection ∷ owed_by table fs)
+  pub closed_remaining : (new : List ℕ) → f.count ≤ f.next → Remarked f.object false tags new
+      → (remaining_items table (f ∷ fs) ≡ Ok EndCollection ∷ remaining_items table fs)
       × IsKnown bytes bounds new contents fs
-  closed_owed new h m = (
+  closed_remaining new h m = (
     rw (drop_all f.next children (rw k.counts.0 h)) refl,
     record {
       head = k.head;

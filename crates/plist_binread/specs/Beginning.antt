@@ -3,14 +3,14 @@ use Rattle.std.specs.Prelude.{◌≡◌, ℕ, ◌≤◌, List, [], ◌∷◌, le
 use Rattle.plist_base.specs.declared.error.Error.{Error}
 use Rattle.plist_base.specs.Faults.{MatchFault, kind_of, error_kind_of, fault_of}
 use Rattle.plist_format.specs.Container.{head_of}
-use Rattle.plist_binread.specs.Debt.{IsOwed, places_of}
-use Rattle.plist_binread.specs.declared.told.Refused.{Refused}
-use Rattle.plist_binread.specs.Told.{answer_in, event_in}
-use Rattle.plist_binread.specs.Turning.{IsKeptTold, root_with}
+use Rattle.plist_binread.specs.Remaining.{SomeRemain, places_of}
+use Rattle.plist_binread.specs.declared.slot.Refused.{Refused}
+use Rattle.plist_binread.specs.Slot.{answer_in, event_in}
+use Rattle.plist_binread.specs.Turns.{IsCurrentCached, root_with}
 use Rattle.plist_format.specs.Unfolding.{until_fault, items_of_file}
-use Rattle.plist_binread.specs.Walking.{IsWalkOf, walk_objects, owed_in}
+use Rattle.plist_binread.specs.Walking.{IsWalkOf, walk_objects, remaining_in}
 use Rattle.plist_binread.specs.declared.head.Bounds.{Bounds}
-use Rattle.plist_binread.specs.declared.told.Last.{Last}
+use Rattle.plist_binread.specs.declared.slot.EventSlot.{EventSlot}
 use Rattle.plist_binread.specs.declared.walk.Walk.{Walk}
 
 -- the walk has no more objects than the file
@@ -22,17 +22,17 @@ abbrev pub IsKnownWalk : (known : Option (List ℕ)) → Bounds → Walk → Typ
 IsKnownWalk known bounds walk = IfSome known (λ bytes. IsWalkOf bytes bounds walk)
 
 -- the root is cached if it is small
-abbrev pub KeepsRoot : {A : Type 0} → Result A Refused → Last → Walk → List ℕ → Type 0
-KeepsRoot answer last walk bytes = IsKeptTold (root_with (head_of bytes))
-    (Some (answer_in answer last)) (event_in last) walk.tags.items
+abbrev pub KeepsRoot : {A : Type 0} → Result A Refused → EventSlot → Walk → List ℕ → Type 0
+KeepsRoot answer slot walk bytes = IsCurrentCached (root_with (head_of bytes))
+    (Some (answer_in answer slot)) (event_in slot) walk.tags.items
 
 -- the file's first item is refused
 abbrev pub RefusesFirst : List ℕ → Error → Type 0
-RefusesFirst bytes e = MatchFault (kind_of (error_kind_of e)) (IsOwed (items_of_file bytes))
-    (IsOwed (items_of_file bytes)) (items_of_file bytes ≡ Err (fault_of e) ∷ [])
+RefusesFirst bytes e = MatchFault (kind_of (error_kind_of e)) (SomeRemain (items_of_file bytes))
+    (SomeRemain (items_of_file bytes)) (items_of_file bytes ≡ Err (fault_of e) ∷ [])
 
--- it is told, and the walk owes the others
-abbrev pub GivesFirst : {A : Type 0} → Result A Refused → Bounds → Last → Walk → List ℕ → Type 0
-GivesFirst answer bounds last walk bytes = MatchResult (answer_in answer last)
-    (λ _. items_of_file bytes ≡ Ok (event_in last) ∷ until_fault (owed_in bytes bounds walk))
+-- it is the current event, and the others remain
+abbrev pub GivesRoot : {A : Type 0} → Result A Refused → Bounds → EventSlot → Walk → List ℕ → Type 0
+GivesRoot answer bounds slot walk bytes = MatchResult (answer_in answer slot)
+    (λ _. items_of_file bytes ≡ Ok (event_in slot) ∷ until_fault (remaining_in bytes bounds walk))
     (RefusesFirst bytes)

@@ -10,25 +10,25 @@ use Rattle.plist_base.specs.Sources.{ItemCountsIo}
 use Rattle.plist_format.specs.Container.{head_of}
 use Rattle.std.specs.Option.{is_some}
 use Rattle.plist_base.specs.declared.limits.Limiter.{Limiter}
-use Rattle.plist_base.specs.Limits.{has_room, limited_items, under_any}
+use Rattle.plist_base.specs.Limits.{admits_more, limited_items, under_any}
 use Rattle.plist_base.specs.declared.limits.Limits.{Limits}
 use Rattle.plist_format.specs.Unfolding.{items_of_file}
 use Rattle.plist_binread.specs.Failures.{ItemGivenWithin}
 use Rattle.plist_binread.specs.declared.reader.BinaryReader.{BinaryReader}
-use Rattle.plist_binread.specs.declared.reader.State.TheVariants.{Ended}
+use Rattle.plist_binread.specs.declared.reader.WalkState.TheVariants.{Ended}
 use Rattle.plist_binread.specs.declared.frames.Frame.{Frame}
 use Rattle.plist_binread.specs.declared.counter.DecodeCounter.{Ghosts as CounterGhosts}
-use Rattle.plist_binread.specs.Debt.{IsOpen, still_owed, cached_count, places_of, AreBoundsOf, IsOwed, WantsMemory, steps_left}
-use Rattle.plist_binread.specs.Turning.{number_owed, IsCachedIfSmall, is_fresh, is_walking, ends_next}
+use Rattle.plist_binread.specs.Remaining.{IsOpen, remaining_now, cached_count, places_of, AreBoundsOf, SomeRemain, WantsMemory, steps_left}
+use Rattle.plist_binread.specs.Turns.{upcoming_number, IsCachedIfSmall, is_fresh, is_walking, ends_next}
 
 -- may one more event come?
-abbrev pub has_room_in : Option Limiter → Bool
-has_room_in None = true
-has_room_in (Some limiter) = has_room limiter
+abbrev pub admits_more_in : Option Limiter → Bool
+admits_more_in None = true
+admits_more_in (Some limiter) = admits_more limiter
 
--- how many objects the head of these bytes tells
-abbrev pub told_objects : List ℕ → ℕ
-told_objects bytes = length (places_of bytes)
+-- how many objects the head of these bytes counts
+abbrev pub objects_in_head : List ℕ → ℕ
+objects_in_head bytes = length (places_of bytes)
 
 -- What was to come begins with this item and goes on with what is to come then. Nothing comes only
 -- where nothing was to come. After a fault nothing is to come; a device's fault comes only where
@@ -39,16 +39,16 @@ abbrev pub GivesAs : {A : Type 0} → (shown : A → PlainEvent) → (new : Bool
 GivesAs shown new before item after =
     MatchOption item ((before ≡ []) × (after ≡ [])) (λ answer. MatchResult answer
     (λ event. before ≡ Ok (shown event) ∷ after)
-    (λ error. (after ≡ []) × MatchFault (kind_of (error_kind_of error)) (IsOwed before)
-    (MatchBool new (IsOwed before) (WantsMemory before)) (before ≡ Err (fault_of error) ∷ [])))
+    (λ error. (after ≡ []) × MatchFault (kind_of (error_kind_of error)) (SomeRemain before)
+    (MatchBool new (SomeRemain before) (WantsMemory before)) (before ≡ Err (fault_of error) ∷ [])))
 
-abbrev pub GivesItem : (new : Bool) (before : List Item) → Option (Result Event Error)
+abbrev pub GivesBinaryItem : (new : Bool) (before : List Item) → Option (Result Event Error)
     → (after : List Item) → Type 0
-GivesItem new before item after = GivesAs event_of new before item after
+GivesBinaryItem new before item after = GivesAs event_of new before item after
 
 -- none of the reader's lists is longer than there are objects
-abbrev pub AreWithin : (count : ℕ) → (tags contents : List ℕ) → List Frame → Type 0
-AreWithin count tags contents frames =
+abbrev pub AreListsWithin : (count : ℕ) → (tags contents : List ℕ) → List Frame → Type 0
+AreListsWithin count tags contents frames =
     (length tags ≤ count) × (length contents ≤ count) × (length frames ≤ count)
 
 -- a file's items under these limits, and what a limiter makes of them
@@ -60,28 +60,28 @@ file_under limiter bytes = under_any limiter (items_of_file bytes)
 
 module _ {R C : Type 0} {g : Ghosts R} {h : CounterGhosts C} where
   -- the source inside
-  abbrev pub source_of : BinaryReader R C g h → R
-  source_of reader = reader.source
+  abbrev pub binary_source : BinaryReader R C g h → R
+  binary_source reader = reader.source
 
   -- the items of the file that are still to come, were there no limits
   abbrev pub walk_to_come : List ℕ → BinaryReader R C g h → List Item
-  walk_to_come bytes reader = still_owed bytes reader.state reader.bounds reader.walk.frames
+  walk_to_come bytes reader = remaining_now bytes reader.state reader.bounds reader.walk.frames
 
   -- the items still to come, where these are the file's bytes
-  abbrev pub to_come : List ℕ → BinaryReader R C g h → List Item
-  to_come bytes reader = under_any reader.limiter (walk_to_come bytes reader)
+  abbrev pub items_to_come : List ℕ → BinaryReader R C g h → List Item
+  items_to_come bytes reader = under_any reader.limiter (walk_to_come bytes reader)
 
   -- are there limits?
-  abbrev pub is_limited : BinaryReader R C g h → Bool
-  is_limited reader = is_some reader.limiter
+  abbrev pub has_limits : BinaryReader R C g h → Bool
+  has_limits reader = is_some reader.limiter
 
   -- has no item been asked for?
   abbrev pub is_new : BinaryReader R C g h → Bool
   is_new reader = is_fresh reader.state
 
   -- the reader gives nothing more
-  abbrev pub HasEnded : BinaryReader R C g h → Type 0
-  HasEnded reader = reader.state ≡ Ended
+  abbrev pub HasEndedBinary : BinaryReader R C g h → Type 0
+  HasEndedBinary reader = reader.state ≡ Ended
 
   -- how many collections are open
   abbrev pub open_collections : BinaryReader R C g h → ℕ
@@ -94,25 +94,26 @@ module _ {R C : Type 0} {g : Ghosts R} {h : CounterGhosts C} where
 
   -- does that end come next?
   abbrev pub end_comes : BinaryReader R C g h → Bool
-  end_comes reader = has_room_in reader.limiter && walk_closes reader
+  end_comes reader = admits_more_in reader.limiter && walk_closes reader
 
   -- how many objects the file has, as far as that has been read
-  abbrev pub object_count : BinaryReader R C g h → ℕ
-  object_count reader = length reader.walk.tags.items
+  abbrev pub objects_in_file : BinaryReader R C g h → ℕ
+  objects_in_file reader = length reader.walk.tags.items
 
   -- the number of the object whose item comes next, or none where that is an end
   abbrev pub number_to_come : List ℕ → BinaryReader R C g h → Option ℕ
-  number_to_come bytes reader = number_owed bytes reader.state reader.bounds reader.walk.frames
+  number_to_come bytes reader = upcoming_number bytes reader.state reader.bounds reader.walk.frames
 
   -- a reader that has begun and not ended holds the head of these bytes
   abbrev pub HoldsHead : List ℕ → BinaryReader R C g h → Type 0
   HoldsHead bytes reader =
       is_walking reader.state ≡ true → AreBoundsOf (head_of bytes) reader.bounds
-      × (object_count reader ≡ told_objects bytes)
+      × (objects_in_file reader ≡ objects_in_head bytes)
 
   -- after a fault, and where nothing comes, the reader has ended
-  abbrev pub EndsAfter : {A : Type 0} → Option (Result A Error) → BinaryReader R C g h → Type 0
-  EndsAfter item after = MatchOption item (HasEnded after) (λ answer. OnErr answer (HasEnded after))
+  abbrev pub EndsAfterFault : {A : Type 0} → Option (Result A Error) → BinaryReader R C g h → Type 0
+  EndsAfterFault item after = MatchOption item (HasEndedBinary after) (λ answer. OnErr answer
+      (HasEndedBinary after))
 
   -- the counter inside
   abbrev pub counter_of : BinaryReader R C g h → C
@@ -133,48 +134,51 @@ module _ {R C : Type 0} {g : Ghosts R} {h : CounterGhosts C} where
   -- the same of a reader
   abbrev pub KeepsWithin : (count : ℕ) → BinaryReader R C g h → Type 0
   KeepsWithin count reader =
-      AreWithin count reader.walk.tags.items reader.walk.contents.items reader.walk.frames
+      AreListsWithin count reader.walk.tags.items reader.walk.contents.items reader.walk.frames
 
   -- at most how many items are still to come
-  abbrev pub steps_to_come : BinaryReader R C g h → ℕ
-  steps_to_come reader =
+  abbrev pub binary_steps : BinaryReader R C g h → ℕ
+  binary_steps reader =
       steps_left reader.state (length reader.walk.tags.items) reader.walk.frames
 
   -- where the bytes are known, all their items are still to come
   abbrev pub HasToCome : (known : Option (List ℕ)) → (items : List ℕ → List Item)
       → BinaryReader R C g h → Type 0
-  HasToCome known items reader = IfSome known (λ bytes. to_come bytes reader ≡ items bytes)
+  HasToCome known items reader = IfSome known (λ bytes. items_to_come bytes reader ≡ items bytes)
 
 -- limits stay, and so does the number of objects once the first item came
 abbrev pub KeepsCounts : {R C : Type 0} {g : Ghosts R} {h : CounterGhosts C}
     → (old new : BinaryReader R C g h) → Type 0
 KeepsCounts old new =
-    (is_limited new ≡ is_limited old) × (is_new old ≡ false → object_count new ≡ object_count old)
+    (has_limits new ≡ has_limits old) × (is_new old ≡ false → objects_in_file new
+    ≡ objects_in_file old)
 
 -- what a call leaves behind, whatever came of it
 pub record Leaves {R C : Type 0} {g : Ghosts R} {h : CounterGhosts C} (known : R → Option (List ℕ))
     (counts : Type 0) (count : C → ℕ) (old new : BinaryReader R C g h) : Type 0 where
-  pub nested : MatchOption (known (source_of old)) (open_collections new ≤ object_count new)
-      (λ bytes. open_collections new ≤ told_objects bytes)
+  pub nested : MatchOption (known (binary_source old)) (open_collections new ≤ objects_in_file new)
+      (λ bytes. open_collections new ≤ objects_in_head bytes)
   pub marked : MarksItsPath new
   pub counted : counts → count (counter_of new) ≡ cached_objects new
-  pub lists : IfSome (known (source_of old)) (λ bytes. KeepsWithin (told_objects bytes) new)
+  pub lists : IfSome (known (binary_source old)) (λ bytes. KeepsWithin (objects_in_head bytes) new)
 
 -- one call of `next`: known bytes stay as they are, and the item is the first of those to come
-pub record Gives {R C : Type 0} {g : Ghosts R} {h : CounterGhosts C} (known : R → Option (List ℕ))
+pub record GivesBinary {R C : Type 0} {g : Ghosts R} {h : CounterGhosts C} (known : R
+    → Option (List ℕ))
     (failed : R → ℕ) (counts : Type 0) (count : C → ℕ) (old : BinaryReader R C g h)
     (item : Option (Result Event Error)) (new : BinaryReader R C g h) : Type 0 where
-  pub unchanged : known (source_of new) ≡ known (source_of old)
-  pub items : IfSome (known (source_of old))
-      (λ bytes. GivesItem (is_new old) (to_come bytes old) item (to_come bytes new))
-  pub failures : ItemCountsIo item (failed (source_of old)) (failed (source_of new))
-  pub ended : HasEnded old → item ≡ None
-  pub ends : EndsAfter item new
+  pub unchanged : known (binary_source new) ≡ known (binary_source old)
+  pub items : IfSome (known (binary_source old))
+      (λ bytes. GivesBinaryItem (is_new old) (items_to_come bytes old) item
+      (items_to_come bytes new))
+  pub failures : ItemCountsIo item (failed (binary_source old)) (failed (binary_source new))
+  pub ended : HasEndedBinary old → item ≡ None
+  pub ends : EndsAfterFault item new
   pub begun : is_new new ≡ false
-  pub faults : ItemGivenWithin 0 (2 ^ 64) (is_limited old) item
+  pub faults : ItemGivenWithin 0 (2 ^ 64) (has_limits old) item
   pub closes : end_comes old ≡ true → item ≡ Some (Ok EndCollection)
-  pub head : IfSome (known (source_of old)) (λ bytes. HoldsHead bytes new)
-  pub cached : IfSome (known (source_of old))
+  pub head : IfSome (known (binary_source old)) (λ bytes. HoldsHead bytes new)
+  pub cached : IfSome (known (binary_source old))
       (λ bytes. CachesItem (number_to_come bytes old) item new)
   pub leaves : Leaves known counts count old new
   pub kept : KeepsCounts old new

@@ -40,20 +40,20 @@ scalar_in (Faulty kind) = None
 abbrev pub single_in : Object → Option PlainEvent
 single_in object = single (scalar_in object)
 
--- what was decoded is this object: the scalar that is told, or a collection whose start is told
-abbrev pub IsDecodedAs : Object → (told : PlainEvent) → Outcome → Type 0
-IsDecodedAs object told outcome.Long = ⊥
-IsDecodedAs object told outcome.TooLarge = ⊥
-IsDecodedAs object told outcome.Null = ⊥
-IsDecodedAs object told outcome.Fill = ⊥
-IsDecodedAs object told (outcome.Unknown marker) = ⊥
-IsDecodedAs object told outcome.OutOfRange = ⊥
-IsDecodedAs object told outcome.NoDate = ⊥
-IsDecodedAs object told outcome.NotUtf8 = ⊥
-IsDecodedAs object told outcome.NotUtf16 = ⊥
-IsDecodedAs object told outcome.NoMemory = ⊥
-IsDecodedAs object told outcome.Scalar = single_in object ≡ Some told
-IsDecodedAs object told (outcome.Collection count) = IsCollection object told count
+-- what was decoded is this object: a scalar or a collection, whose event is the current one
+abbrev pub IsDecodedAs : Object → (current : PlainEvent) → Outcome → Type 0
+IsDecodedAs object current outcome.Long = ⊥
+IsDecodedAs object current outcome.TooLarge = ⊥
+IsDecodedAs object current outcome.Null = ⊥
+IsDecodedAs object current outcome.Fill = ⊥
+IsDecodedAs object current (outcome.Unknown marker) = ⊥
+IsDecodedAs object current outcome.OutOfRange = ⊥
+IsDecodedAs object current outcome.NoDate = ⊥
+IsDecodedAs object current outcome.NotUtf8 = ⊥
+IsDecodedAs object current outcome.NotUtf16 = ⊥
+IsDecodedAs object current outcome.NoMemory = ⊥
+IsDecodedAs object current outcome.Scalar = single_in object ≡ Some current
+IsDecodedAs object current (outcome.Collection count) = IsCollection object current count
 
 -- the event isn't one of a small scalar
 abbrev pub IsLarge : Result Event Error → Type 0
@@ -83,13 +83,14 @@ Decodes object place answer =
     MatchResult answer (λ event. single_in object ≡ Some (event_of event))
     (λ e. IsRefusedAs object place e)
 
--- an object is decoded and told, or refused
-abbrev pub DecodesTold : Object → (place : ℕ) → (told : PlainEvent) → Result Outcome Error → Type 0
-DecodesTold object place told answer =
-    MatchResult answer (λ outcome. IsDecodedAs object told outcome)
+-- an object is decoded into the current event, or refused
+abbrev pub DecodesCurrent : Object → (place : ℕ) → (current : PlainEvent) → Result Outcome Error
+    → Type 0
+DecodesCurrent object place current answer =
+    MatchResult answer (λ outcome. IsDecodedAs object current outcome)
     (λ error. IsRefusedAs object place error)
 
 -- a text or data of this event is decoded, or memory was wanted for it
-abbrev pub DecodesEvent : (told : PlainEvent) → Result Event Error → Type 0
-DecodesEvent told answer = (object : Object) (place : ℕ) → GrowsAt object
-    → single_in object ≡ Some told → Decodes object place answer
+abbrev pub DecodesEvent : (current : PlainEvent) → Result Event Error → Type 0
+DecodesEvent current answer = (object : Object) (place : ℕ) → GrowsAt object
+    → single_in object ≡ Some current → Decodes object place answer

@@ -1,9 +1,9 @@
--- The open collections as they are kept, and what the innermost one asks for.
+-- The open collections as they are kept, and what comes next of the innermost one.
 use Rattle.std.specs.Prelude.{◌≡◌, ℕ, ◌+◌, ◌<◌, ◌≤◌, List, [], ◌∷◌, ◌++◌, Option, None, Some}
 use Rattle.plist_binread.specs.declared.frames.Frame.{Frame}
 use Rattle.plist_binread.specs.declared.frames.Narrow.{Narrow}
-use Rattle.plist_binread.specs.declared.frames.Wanted.{Wanted}
-use Rattle.plist_binread.specs.declared.frames.Wanted.TheVariants as wanted
+use Rattle.plist_binread.specs.declared.frames.Upcoming.{Upcoming}
+use Rattle.plist_binread.specs.declared.frames.Upcoming.TheVariants as wanted
 
 abbrev pub frame_of : (object next count : ℕ) → Frame
 frame_of object next count = record { object = object; next = next; count = count }
@@ -21,11 +21,11 @@ all_of outer (Some frame) = outer ++ frame ∷ []
 abbrev pub IsLast : (old : List Frame) → Option Frame → (new : List Frame) → Type 0
 IsLast old last new = (old ≡ all_of new last) × (last ≡ None → new ≡ [])
 
--- what the innermost one of these asks for, and those that are open then; it stands first
-abbrev pub AsksFor : (old : List Frame) → Wanted → (new : List Frame) → Type 0
-AsksFor old wanted.Nothing new = (old ≡ []) × (new ≡ [])
-AsksFor old (wanted.End object) new =
+-- what comes next of the innermost one of these, and those that are open then; it stands first
+abbrev pub NextOf : (old : List Frame) → Upcoming → (new : List Frame) → Type 0
+NextOf old wanted.Nothing new = (old ≡ []) × (new ≡ [])
+NextOf old (wanted.End object) new =
     (next : ℕ) × (count : ℕ) × (old ≡ frame_of object next count ∷ new) × (count ≤ next)
-AsksFor old (wanted.Child object index) new =
+NextOf old (wanted.Child object index) new =
     (count : ℕ) × (below : List Frame) × (old ≡ frame_of object index count ∷ below)
     × (new ≡ frame_of object (index + 1) count ∷ below) × (index < count)

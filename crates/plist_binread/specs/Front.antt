@@ -5,7 +5,7 @@ use Rattle.plist_base.specs.declared.error.Error.{Error}
 use Rattle.plist_base.specs.Events.{PlainEvent}
 use Rattle.plist_base.specs.Trees.{String}
 use Rattle.plist_format.specs.Container.{number_of, numbers_spelled}
-use Rattle.plist_binread.specs.Decoding.{Decodes, DecodesTold, IsRefusedAs}
+use Rattle.plist_binread.specs.Decoding.{Decodes, DecodesCurrent, IsRefusedAs}
 use Rattle.plist_binread.specs.Failures.{ErrWithin}
 use Rattle.plist_base.specs.declared.event.Event.{Event}
 use Rattle.plist_binread.specs.Reading.{data_of_content, object_at}
@@ -13,14 +13,14 @@ use Rattle.plist_binread.specs.declared.head.Bounds.{Bounds}
 use Rattle.plist_binread.specs.Outcome.{IsOutcomeOf, small_outcome}
 use Rattle.plist_format.specs.Object.{Array, Object, dictionary, length_in, meaning_counted, meaning_of_front, text, text_of_units, wide_text}
 use Rattle.plist_binread.specs.Packed.{content_bytes, is_small_event, scalar_of, single}
-use Rattle.plist_binread.specs.Told.{answer_in, event_in}
-use Rattle.plist_binread.specs.declared.told.Refused.{Refused}
+use Rattle.plist_binread.specs.Slot.{answer_in, event_in}
+use Rattle.plist_binread.specs.declared.slot.Refused.{Refused}
 use Rattle.plist_binread.specs.declared.front.Outcome.{Outcome}
 use Rattle.plist_binread.specs.declared.front.Outcome.TheVariants as outcome
-use Rattle.plist_binread.specs.declared.front.Kind.{Kind}
-use Rattle.plist_binread.specs.declared.front.Kind.TheVariants as kind
+use Rattle.plist_binread.specs.declared.front.ContentKind.{ContentKind}
+use Rattle.plist_binread.specs.declared.front.ContentKind.TheVariants as kind
 use Rattle.plist_binread.specs.declared.front.Content.{Content}
-use Rattle.plist_binread.specs.declared.told.Last.{Last}
+use Rattle.plist_binread.specs.declared.slot.EventSlot.{EventSlot}
 
 -- ---- what stands at the front of bytes
 
@@ -46,16 +46,16 @@ abbrev pub LiesBehind : (rest : List ℕ) → ℕ × Bor (List ℕ) → Type 0
 LiesBehind rest found = drop (length rest - length found.1.now) rest ≡ found.1.now
 
 -- bytes that reach so far, or are as many as a number and a length need
-abbrev pub ReachesFar : (room : ℕ) (rest : List ℕ) → Type 0
-ReachesFar room rest = length rest < 16 → room ≤ length rest
+abbrev pub ReachesFar : (extent : ℕ) (rest : List ℕ) → Type 0
+ReachesFar extent rest = length rest < 16 → extent ≤ length rest
 
 -- and those of the whole front of an object
-abbrev pub ShowsFront : (room : ℕ) (seen : List ℕ) → Type 0
-ShowsFront room seen = length seen < 26 → room ≤ length seen
+abbrev pub ShowsFront : (extent : ℕ) (seen : List ℕ) → Type 0
+ShowsFront extent seen = length seen < 26 → extent ≤ length seen
 
 -- the content of a text or data, whose elements have this size
-abbrev pub IsCounted : (marker size room : ℕ) (rest : List ℕ) → Bor (List ℕ) → Type 0
-IsCounted marker size room rest found = (more : List ℕ) → length (rest ++ more) ≡ room →
+abbrev pub IsCounted : (marker size extent : ℕ) (rest : List ℕ) → Bor (List ℕ) → Type 0
+IsCounted marker size extent rest found = (more : List ℕ) → length (rest ++ more) ≡ extent →
     (meaning : List ℕ → Object) →
     meaning_counted size (λ _. meaning) (length_in marker (rest ++ more)) ≡ meaning found.now
 
@@ -64,40 +64,42 @@ abbrev pub HasUnits : (size : ℕ) → Bor (List ℕ) → Type 0
 HasUnits size found = (count : ℕ) × (length found.now ≡ count * size)
 
 -- a length, where so many elements lie before the trailer, and what is seen behind it
-abbrev pub IsCount : (marker size room : ℕ) (rest : List ℕ) → ℕ × Bor (List ℕ) → Type 0
-IsCount marker size room rest found = (more : List ℕ) → length (rest ++ more) ≡ room →
+abbrev pub IsCount : (marker size extent : ℕ) (rest : List ℕ) → ℕ × Bor (List ℕ) → Type 0
+IsCount marker size extent rest found = (more : List ℕ) → length (rest ++ more) ≡ extent →
     (length_in marker (rest ++ more) ≡ Some (found.0, found.1.now ++ more))
     × (found.0 * size ≤ length (found.1.now ++ more))
 
-abbrev pub EndsBefore : (size room : ℕ) (rest : List ℕ) → ℕ × Bor (List ℕ) → Type 0
-EndsBefore size room rest found = length rest - length found.1.now + found.0 * size ≤ room
+abbrev pub EndsBefore : (size extent : ℕ) (rest : List ℕ) → ℕ × Bor (List ℕ) → Type 0
+EndsBefore size extent rest found = length rest - length found.1.now + found.0 * size ≤ extent
 
 -- ---- what is decoded
 
--- an object that all its bytes up to the trailer tell
-abbrev pub TellsWhole : (room : ℕ) → (List ℕ → Object) → (rest : List ℕ) → Last → Outcome → Type 0
-TellsWhole room object rest last outcome = (more : List ℕ) → length (rest ++ more) ≡ room
-    → IsOutcomeOf (object (rest ++ more)) (event_in last) outcome
+-- an object that is decoded from all its bytes up to the trailer
+abbrev pub DecodesWhole : (extent : ℕ) → (List ℕ → Object) → (rest : List ℕ) → EventSlot → Outcome
+    → Type 0
+DecodesWhole extent object rest slot outcome = (more : List ℕ) → length (rest ++ more) ≡ extent
+    → IsOutcomeOf (object (rest ++ more)) (event_in slot) outcome
 
 -- an object of a fixed size whose content means this
-abbrev pub TellsFront : (room size : ℕ) → (List ℕ → Object) → (rest : List ℕ) → Last → Outcome
+abbrev pub DecodesFront : (extent size : ℕ) → (List ℕ → Object) → (rest : List ℕ) → EventSlot
+    → Outcome
     → Type 0
-TellsFront room size meaning rest last outcome =
-    TellsWhole room (meaning_of_front size meaning) rest last outcome
+DecodesFront extent size meaning rest slot outcome =
+    DecodesWhole extent (meaning_of_front size meaning) rest slot outcome
 
 -- how many bytes an element of the content has, and what the content means
-abbrev pub unit_size : Kind → ℕ
+abbrev pub unit_size : ContentKind → ℕ
 unit_size kind.Data = 1
 unit_size kind.Text = 1
 unit_size kind.WideText = 2
 
-abbrev pub content_means : Kind → List ℕ → Object
+abbrev pub content_means : ContentKind → List ℕ → Object
 content_means kind.Data = data_of_content
 content_means kind.Text = text
 content_means kind.WideText = wide_text
 
 -- an object that has as many elements as its length says
-abbrev pub counted_with : Kind → (marker : ℕ) → List ℕ → Object
+abbrev pub counted_with : ContentKind → (marker : ℕ) → List ℕ → Object
 counted_with kind marker rest =
     meaning_counted (unit_size kind) (λ _. content_means kind) (length_in marker rest)
 
@@ -111,73 +113,76 @@ pairs_with width marker rest = meaning_counted (2 * width)
     (λ count content. dictionary count (numbers_spelled width content)) (length_in marker rest)
 
 -- a collection whose length isn't all there, or which doesn't end before the trailer
-abbrev pub RefusesCounted : (marker size room : ℕ) (rest : List ℕ) → Outcome → Type 0
-RefusesCounted marker size room rest outcome =
-    (meaning : ℕ → List ℕ → Object) (told : PlainEvent) (more : List ℕ)
-    → length (rest ++ more) ≡ room
-    → IsOutcomeOf (meaning_counted size meaning (length_in marker (rest ++ more))) told outcome
+abbrev pub RefusesCounted : (marker size extent : ℕ) (rest : List ℕ) → Outcome → Type 0
+RefusesCounted marker size extent rest outcome =
+    (meaning : ℕ → List ℕ → Object) (current : PlainEvent) (more : List ℕ)
+    → length (rest ++ more) ≡ extent
+    → IsOutcomeOf (meaning_counted size meaning (length_in marker (rest ++ more))) current outcome
 
 -- it isn't a text or data whose content isn't all seen
-abbrev pub IsWhole : Outcome → Type 0
-IsWhole outcome.Long = ⊥
-IsWhole outcome = ⊤
+abbrev pub IsAllSeen : Outcome → Type 0
+IsAllSeen outcome.Long = ⊥
+IsAllSeen outcome = ⊤
 
 -- or this is so of its content, which is held
-abbrev pub IfLong : Outcome → Last → (Content → Type 0) → Type 0
-IfLong outcome.Long last P = P last.content
-IfLong outcome last P = ⊤
+abbrev pub IfLong : Outcome → EventSlot → (Content → Type 0) → Type 0
+IfLong outcome.Long slot P = P slot.content
+IfLong outcome slot P = ⊤
 
 -- its content lies before the trailer, and this is its meaning
-abbrev pub LeavesLong : (room : ℕ) → (List ℕ → Object) → (seen : List ℕ) → Last → Outcome → Type 0
-LeavesLong room object seen last outcome = IfLong outcome last (λ content.
-    (content.start + content.count * unit_size content.kind ≤ room)
-    × ((more : List ℕ) → length (seen ++ more) ≡ room → object (seen ++ more)
+abbrev pub LeavesLong : (extent : ℕ) → (List ℕ → Object) → (seen : List ℕ) → EventSlot → Outcome
+    → Type 0
+LeavesLong extent object seen slot outcome = IfLong outcome slot (λ content.
+    (content.start + content.count * unit_size content.kind ≤ extent)
+    × ((more : List ℕ) → length (seen ++ more) ≡ extent → object (seen ++ more)
     ≡ content_means content.kind (take (content.count * unit_size content.kind)
     (drop content.start (seen ++ more)))))
 
 -- the same by what lies behind the marker
-abbrev pub LongBehind : (marker room : ℕ) → (List ℕ → Object) → (rest : List ℕ) → Last → Outcome
+abbrev pub LongBehind : (marker extent : ℕ) → (List ℕ → Object) → (rest : List ℕ) → EventSlot
+    → Outcome
     → Type 0
-LongBehind marker room object rest last outcome =
-    LeavesLong (room + 1) (λ bytes. object (drop 1 bytes)) (marker ∷ rest) last outcome
+LongBehind marker extent object rest slot outcome =
+    LeavesLong (extent + 1) (λ bytes. object (drop 1 bytes)) (marker ∷ rest) slot outcome
 
 -- the same of a text or data
-abbrev pub LongCounted : Kind → (marker room : ℕ) → (rest : List ℕ) → Last → Outcome → Type 0
-LongCounted kind marker room rest last outcome =
-    LongBehind marker room (counted_with kind marker) rest last outcome
+abbrev pub LongCounted : ContentKind → (marker extent : ℕ) → (rest : List ℕ) → EventSlot → Outcome
+    → Type 0
+LongCounted kind marker extent rest slot outcome =
+    LongBehind marker extent (counted_with kind marker) rest slot outcome
 
 -- one for a small object that is decoded, by which the counter rises
-abbrev pub small_told : Outcome → Last → ℕ
-small_told outcome last = small_outcome outcome (event_in last)
+abbrev pub small_decoded : Outcome → EventSlot → ℕ
+small_decoded outcome slot = small_outcome outcome (event_in slot)
 
 abbrev pub CountsOutcome : {C : Type 0} → (counts : Type 0) → (count : C → ℕ) → (old new : C)
-    → Outcome → Last → Type 0
-CountsOutcome counts count old new outcome last =
-    counts → count new ≡ count old + small_told outcome last
+    → Outcome → EventSlot → Type 0
+CountsOutcome counts count old new outcome slot =
+    counts → count new ≡ count old + small_decoded outcome slot
 
 -- the same of an answer
-abbrev pub small_found : {E : Type 0} → Result Outcome E → Last → ℕ
-small_found (Ok outcome) last = small_told outcome last
-small_found (Err error) last = 0
+abbrev pub small_found : {E : Type 0} → Result Outcome E → EventSlot → ℕ
+small_found (Ok outcome) slot = small_decoded outcome slot
+small_found (Err error) slot = 0
 
 abbrev pub CountsFound : {C E : Type 0} → (counts : Type 0) → (count : C → ℕ) → (old new : C)
-    → Result Outcome E → Last → Type 0
-CountsFound counts count old new answer last =
-    counts → count new ≡ count old + small_found answer last
+    → Result Outcome E → EventSlot → Type 0
+CountsFound counts count old new answer slot =
+    counts → count new ≡ count old + small_found answer slot
 
 -- what was decoded of the object at a place, by its front, or its refusal
-abbrev pub TellsAt : {S : Type 0} → (S → Option (List ℕ)) → S → Bounds → (place : ℕ) → Last
+abbrev pub DecodesAt : {S : Type 0} → (S → Option (List ℕ)) → S → Bounds → (place : ℕ) → EventSlot
     → Result Outcome Refused → Type 0
-TellsAt known source bounds place last answer = IfSome (known source) (λ bytes.
-    bounds.trailer ≤ length bytes → MatchResult (answer_in answer last)
-    (λ outcome. IsOutcomeOf (object_at bounds place bytes) (event_in last) outcome)
+DecodesAt known source bounds place slot answer = IfSome (known source) (λ bytes.
+    bounds.trailer ≤ length bytes → MatchResult (answer_in answer slot)
+    (λ outcome. IsOutcomeOf (object_at bounds place bytes) (event_in slot) outcome)
     (λ error. IsRefusedAs (object_at bounds place bytes) place error))
 
 -- a text or data whose content isn't all seen there lies before the trailer, and this is its object
-abbrev pub LongAt : {E S : Type 0} → (S → Option (List ℕ)) → S → Bounds → (place : ℕ) → Last
+abbrev pub LongAt : {E S : Type 0} → (S → Option (List ℕ)) → S → Bounds → (place : ℕ) → EventSlot
     → Result Outcome E → Type 0
-LongAt known source bounds place last answer = IfOk answer (λ outcome.
-    IfLong outcome last (λ content.
+LongAt known source bounds place slot answer = IfOk answer (λ outcome.
+    IfLong outcome slot (λ content.
     (place + content.start + content.count * unit_size content.kind ≤ bounds.trailer)
     × IfSome (known source) (λ bytes. bounds.trailer ≤ length bytes → object_at bounds place bytes
     ≡ content_means content.kind (take (content.count * unit_size content.kind)
@@ -194,12 +199,13 @@ abbrev pub is_wrong : Outcome → Bool
 is_wrong outcome.NoMemory = false
 is_wrong outcome = is_fault outcome
 
--- the object at a place is told, or refused
-abbrev pub TellsObject : {S : Type 0} → (S → Option (List ℕ)) → S → Bounds → (place : ℕ) → Last
+-- the object at a place is decoded, or refused
+abbrev pub DecodesObject : {S : Type 0} → (S → Option (List ℕ)) → S → Bounds → (place : ℕ)
+    → EventSlot
     → Result Outcome Refused → Type 0
-TellsObject known source bounds place last answer = IfSome (known source) (λ bytes.
+DecodesObject known source bounds place slot answer = IfSome (known source) (λ bytes.
     bounds.trailer ≤ length bytes
-    → DecodesTold (object_at bounds place bytes) place (event_in last) (answer_in answer last))
+    → DecodesCurrent (object_at bounds place bytes) place (event_in slot) (answer_in answer slot))
 
 -- ---- a content that is read
 
@@ -216,17 +222,17 @@ ReadsContent known place content answer = IfSome known (λ bytes.
     → Decodes (content_means content.kind (take (content.count * unit_size content.kind)
     (drop (place + content.start) bytes))) place answer)
 
--- the same where the event is told
-abbrev pub TellsContentAt : (known : Option (List ℕ)) → (place : ℕ) → Content → Last
+-- the same of the current event
+abbrev pub DecodesContentAt : (known : Option (List ℕ)) → (place : ℕ) → Content → EventSlot
     → Result Outcome Refused → Type 0
-TellsContentAt known place content last answer = IfSome known (λ bytes.
+DecodesContentAt known place content slot answer = IfSome known (λ bytes.
     place + content.start + content.count * unit_size content.kind ≤ length bytes
-    → DecodesTold (content_means content.kind (take (content.count * unit_size content.kind)
-    (drop (place + content.start) bytes))) place (event_in last) (answer_in answer last))
+    → DecodesCurrent (content_means content.kind (take (content.count * unit_size content.kind)
+    (drop (place + content.start) bytes))) place (event_in slot) (answer_in answer slot))
 
--- a scalar that isn't small is told
-abbrev pub IsLargeScalar : Last → Outcome → Type 0
-IsLargeScalar last outcome = small_told outcome last ≡ 0
+-- the current event is a scalar that isn't small
+abbrev pub IsLargeScalar : EventSlot → Outcome → Type 0
+IsLargeScalar slot outcome = small_decoded outcome slot ≡ 0
 
 -- a read that fails there fails within the object
 abbrev pub FailsInContent : {A : Type 0} → (place : ℕ) → Content → Result A Error → Type 0
@@ -251,17 +257,17 @@ abbrev pub PacksEvent : PlainEvent → Option (ℕ × ℕ) → Type 0
 PacksEvent event packed = MatchOption packed (is_small_event event ≡ false)
     (λ p. single (scalar_of p.0 p.1) ≡ Some event)
 
--- ---- what is told
+-- ---- what is decoded
 
--- the object of a content is told, or what is wrong with it
-abbrev pub TellsContent : Object → Last → Outcome → Type 0
-TellsContent object last outcome = IsOutcomeOf object (event_in last) outcome × IsWhole outcome
+-- the object of a content is decoded, or what is wrong with it
+abbrev pub DecodesContent : Object → EventSlot → Outcome → Type 0
+DecodesContent object slot outcome = IsOutcomeOf object (event_in slot) outcome × IsAllSeen outcome
 
-abbrev pub TellsUnits : (units : List ℕ) → Last → Outcome → Type 0
-TellsUnits units last outcome = TellsContent (text_of_units units) last outcome
+abbrev pub DecodesUnits : (units : List ℕ) → EventSlot → Outcome → Type 0
+DecodesUnits units slot outcome = DecodesContent (text_of_units units) slot outcome
 
-abbrev pub TellsText : (bytes : List ℕ) → Last → Outcome → Type 0
-TellsText bytes last outcome = TellsContent (text bytes) last outcome
+abbrev pub DecodesText : (bytes : List ℕ) → EventSlot → Outcome → Type 0
+DecodesText bytes slot outcome = DecodesContent (text bytes) slot outcome
 
-abbrev pub TellsData : (bytes : List ℕ) → Last → Outcome → Type 0
-TellsData bytes last outcome = TellsContent (data_of_content bytes) last outcome
+abbrev pub DecodesData : (bytes : List ℕ) → EventSlot → Outcome → Type 0
+DecodesData bytes slot outcome = DecodesContent (data_of_content bytes) slot outcome

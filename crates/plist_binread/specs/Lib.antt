@@ -1,7 +1,7 @@
 pub mod Beginning
 pub mod Reading
 pub mod BinaryReader
-pub mod Debt
+pub mod Remaining
 pub mod Decoding
 pub mod Failures
 pub mod Frames
@@ -11,8 +11,8 @@ pub mod Lengths
 pub mod Measuring
 pub mod Packed
 pub mod Step
-pub mod Telling
-pub mod Told
-pub mod Turning
+pub mod Advancing
+pub mod Slot
+pub mod Turns
 pub mod Walking
 pub mod inner

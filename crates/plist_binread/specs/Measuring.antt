@@ -1,4 +1,4 @@
--- The size of a text or data, told before memory is taken for it.
+-- The size of a text or data, found before memory is taken for it.
 use Rattle.std.specs.Prelude.{◌≡◌, ℕ, ◌+◌, ◌-◌, ◌*◌, ◌^◌, ◌<◌, ◌≤◌, List, [], ◌∷◌, ◌++◌, length, take, drop, min, Option, None, Some, Result, IfSome, MatchResult, if◌then◌else◌}
 use Rattle.std.specs.Char.Utf16.{has_unpaired_surrogate, utf16_lossy_chars}
 use Rattle.std.specs.Str.{IsUtf8, encode_utf8_all}
@@ -9,8 +9,8 @@ use Rattle.plist_base.specs.Limits.{bytes_in}
 use Rattle.plist_binread.specs.Decoding.{single_in}
 use Rattle.plist_binread.specs.Front.{content_means, unit_size}
 use Rattle.plist_binread.specs.declared.front.Content.{Content}
-use Rattle.plist_binread.specs.declared.front.Kind.{Kind}
-use Rattle.plist_binread.specs.declared.front.Kind.TheVariants as kind
+use Rattle.plist_binread.specs.declared.front.ContentKind.{ContentKind}
+use Rattle.plist_binread.specs.declared.front.ContentKind.TheVariants as kind
 use Rattle.plist_format.specs.Object.{Object, Faulty}
 
 -- so many bytes, or all that 64 bits can count
@@ -18,19 +18,19 @@ abbrev pub counted : ℕ → ℕ
 counted size = min size (2 ^ 64 - 1)
 
 -- the object is the fault that a content of this kind can have
-abbrev pub IsNoText : Kind → Object → Type 0
-IsNoText kind.Data object = ⊥
-IsNoText kind.Text object = object ≡ Faulty InvalidUtf8String
-IsNoText kind.WideText object = object ≡ Faulty InvalidUtf16String
+abbrev pub IsContentFault : ContentKind → Object → Type 0
+IsContentFault kind.Data object = ⊥
+IsContentFault kind.Text object = object ≡ Faulty InvalidUtf8String
+IsContentFault kind.WideText object = object ≡ Faulty InvalidUtf16String
 
 -- the object is a text or data of this size, or none since it is a fault
-abbrev pub Measures : Kind → Object → (size : Option ℕ) → Type 0
-Measures kind object None = IsNoText kind object
+abbrev pub Measures : ContentKind → Object → (size : Option ℕ) → Type 0
+Measures kind object None = IsContentFault kind object
 Measures kind object (Some size) =
     (event : PlainEvent) × (single_in object ≡ Some event) × (size ≡ counted (bytes_in event))
 
--- the size of so many bytes from a place on is told where they are there, or the device failed
-abbrev pub MeasuresAt : (known : Option (List ℕ)) → (start : ℕ) → Kind → (size : ℕ)
+-- the size of so many bytes from a place on is found where they are there, or the device failed
+abbrev pub MeasuresAt : (known : Option (List ℕ)) → (start : ℕ) → ContentKind → (size : ℕ)
     → Result (Option ℕ) Error → Type 0
 MeasuresAt known start kind size answer = IfSome known (λ bytes. start + size ≤ length bytes
     → MatchResult answer (Measures kind (content_means kind (take size (drop start bytes))))
@@ -71,16 +71,16 @@ abbrev pub IsHigh : Option ℕ → Type 0
 IsHigh high = IfSome high (λ unit. (0xD800 ≤ unit) × (unit < 0xDC00))
 
 -- the units that wait
-abbrev pub waiting : Option ℕ → List ℕ
-waiting None = []
-waiting (Some high) = high ∷ []
+abbrev pub waiting_units : Option ℕ → List ℕ
+waiting_units None = []
+waiting_units (Some high) = high ∷ []
 
 -- the size of a text whose next unit adds so many bytes and leaves what waits, before these
 abbrev pub behind_unit : Option (ℕ × Option ℕ) → (units : List ℕ) → Option ℕ
 behind_unit None units = None
-behind_unit (Some step) units = longer step.0 (wide_size (waiting step.1 ++ units))
+behind_unit (Some step) units = longer step.0 (wide_size (waiting_units step.1 ++ units))
 
 -- a unit behind what waits adds so many bytes, and leaves what waits then; or there is no text
 abbrev pub TakesUnit : (high : Option ℕ) → (unit : ℕ) → Option (ℕ × Option ℕ) → Type 0
 TakesUnit high unit answer =
-    (units : List ℕ) → wide_size (waiting high ++ unit ∷ units) ≡ behind_unit answer units
+    (units : List ℕ) → wide_size (waiting_units high ++ unit ∷ units) ≡ behind_unit answer units

@@ -8,42 +8,42 @@ use Rattle.plist_binread.specs.declared.front.Outcome.{Outcome}
 use Rattle.plist_binread.specs.declared.front.Outcome.TheVariants as outcome
 use Rattle.plist_binread.specs.declared.head.Bounds.{Bounds}
 use Rattle.plist_format.specs.Container.{number_at}
-use Rattle.plist_binread.specs.Debt.{Explains}
+use Rattle.plist_binread.specs.Remaining.{Explains}
 use Rattle.plist_binread.specs.Decoding.{GrowsAt, IsCollection, single_in, children_in}
 use Rattle.plist_format.specs.Object.{Object, Faulty, object_in}
 use Rattle.plist_binread.specs.Packed.{is_small_event}
 use Rattle.plist_format.specs.Unfolding.{until_fault}
 
--- what was decoded is this object: the scalar that is told, a collection whose start is told, or a
+-- what was decoded is this object: a scalar or a collection, whose event is the current one, or a
 -- fault
-abbrev pub IsOutcomeOf : Object → (told : PlainEvent) → Outcome → Type 0
-IsOutcomeOf object told outcome.Long = Unit {0}
-IsOutcomeOf object told outcome.TooLarge = object ≡ Faulty ObjectOffsetTooLarge
-IsOutcomeOf object told outcome.Null = object ≡ Faulty NullObjectUnimplemented
-IsOutcomeOf object told outcome.Fill = object ≡ Faulty FillObjectUnimplemented
-IsOutcomeOf object told (outcome.Unknown marker) = object ≡ Faulty (UnknownObjectType marker)
-IsOutcomeOf object told outcome.OutOfRange = object ≡ Faulty IntegerOutOfRange
-IsOutcomeOf object told outcome.NoDate = object ≡ Faulty OverflowOrNanDate
-IsOutcomeOf object told outcome.NotUtf8 = object ≡ Faulty InvalidUtf8String
-IsOutcomeOf object told outcome.NotUtf16 = object ≡ Faulty InvalidUtf16String
-IsOutcomeOf object told outcome.NoMemory = GrowsAt object
-IsOutcomeOf object told outcome.Scalar = single_in object ≡ Some told
-IsOutcomeOf object told (outcome.Collection count) = IsCollection object told count
+abbrev pub IsOutcomeOf : Object → (current : PlainEvent) → Outcome → Type 0
+IsOutcomeOf object current outcome.Long = Unit {0}
+IsOutcomeOf object current outcome.TooLarge = object ≡ Faulty ObjectOffsetTooLarge
+IsOutcomeOf object current outcome.Null = object ≡ Faulty NullObjectUnimplemented
+IsOutcomeOf object current outcome.Fill = object ≡ Faulty FillObjectUnimplemented
+IsOutcomeOf object current (outcome.Unknown marker) = object ≡ Faulty (UnknownObjectType marker)
+IsOutcomeOf object current outcome.OutOfRange = object ≡ Faulty IntegerOutOfRange
+IsOutcomeOf object current outcome.NoDate = object ≡ Faulty OverflowOrNanDate
+IsOutcomeOf object current outcome.NotUtf8 = object ≡ Faulty InvalidUtf8String
+IsOutcomeOf object current outcome.NotUtf16 = object ≡ Faulty InvalidUtf16String
+IsOutcomeOf object current outcome.NoMemory = GrowsAt object
+IsOutcomeOf object current outcome.Scalar = single_in object ≡ Some current
+IsOutcomeOf object current (outcome.Collection count) = IsCollection object current count
 
 -- how many small objects were decoded
-abbrev pub small_outcome : Outcome → (told : PlainEvent) → ℕ
-small_outcome outcome.Long told = 0
-small_outcome outcome.TooLarge told = 0
-small_outcome outcome.Null told = 0
-small_outcome outcome.Fill told = 0
-small_outcome (outcome.Unknown marker) told = 0
-small_outcome outcome.OutOfRange told = 0
-small_outcome outcome.NoDate told = 0
-small_outcome outcome.NotUtf8 told = 0
-small_outcome outcome.NotUtf16 told = 0
-small_outcome outcome.NoMemory told = 0
-small_outcome outcome.Scalar told = cond (is_small_event told) 1 0
-small_outcome (outcome.Collection count) told = 0
+abbrev pub small_outcome : Outcome → (current : PlainEvent) → ℕ
+small_outcome outcome.Long current = 0
+small_outcome outcome.TooLarge current = 0
+small_outcome outcome.Null current = 0
+small_outcome outcome.Fill current = 0
+small_outcome (outcome.Unknown marker) current = 0
+small_outcome outcome.OutOfRange current = 0
+small_outcome outcome.NoDate current = 0
+small_outcome outcome.NotUtf8 current = 0
+small_outcome outcome.NotUtf16 current = 0
+small_outcome outcome.NoMemory current = 0
+small_outcome outcome.Scalar current = cond (is_small_event current) 1 0
+small_outcome (outcome.Collection count) current = 0
 
 -- the number of a child's reference among all those of its collection, where that has so many
 -- pairs, or none since it is an array
@@ -70,23 +70,26 @@ AreReferences bytes bounds references =
     IsSlots bounds.reference_width (drop references.place (take bounds.trailer bytes))
     references.start references.pairs
 
--- what is owed begins with the event that is told, and goes on with what is owed afterwards
-abbrev pub PaysTold : List Item → (told : PlainEvent) → List Item → Type 0
-PaysTold before told after = until_fault before ≡ Ok told ∷ until_fault after
+-- what remained begins with the current event, and goes on with what remains afterwards
+abbrev pub YieldsCurrent : List Item → (current : PlainEvent) → List Item → Type 0
+YieldsCurrent before current after = until_fault before ≡ Ok current ∷ until_fault after
 
--- the same of an answer that is told, or an error that comes where something is owed
-abbrev pub PaysAnswer : {A : Type 0} → List Item → Result A Error → (told : PlainEvent) → List Item
+-- the same of an answer, or an error that comes where some items remained
+abbrev pub YieldsAnswer : {A : Type 0} → List Item → Result A Error → (current : PlainEvent)
+    → List Item
     → Type 0
-PaysAnswer before answer told after = MatchResult answer (λ _. PaysTold before told after)
+YieldsAnswer before answer current after = MatchResult answer
+    (λ _. YieldsCurrent before current after)
     (λ error. Explains (until_fault before) error)
 
--- and of an item, or nothing where nothing is owed
-abbrev pub PaysNextTold : {A : Type 0} → List Item → Option (Result A Error) → (told : PlainEvent)
+-- and of an item, or nothing where nothing remained
+abbrev pub YieldsNext : {A : Type 0} → List Item → Option (Result A Error) → (current : PlainEvent)
     → List Item → Type 0
-PaysNextTold before item told after =
-    MatchOption item ((before ≡ []) × (after ≡ [])) (λ answer. PaysAnswer before answer told after)
+YieldsNext before item current after =
+    MatchOption item ((before ≡ []) × (after ≡ [])) (λ answer. YieldsAnswer before answer current
+    after)
 
--- an end is told
-abbrev pub IsToldEnd : {A E : Type 0} → Option (Result A E) → (told : PlainEvent) → Type 0
-IsToldEnd item told =
-    MatchOption item ⊥ (λ answer. MatchResult answer (λ _. told ≡ EndCollection) (λ error. ⊥))
+-- the current event is an end
+abbrev pub IsCurrentEnd : {A E : Type 0} → Option (Result A E) → (current : PlainEvent) → Type 0
+IsCurrentEnd item current =
+    MatchOption item ⊥ (λ answer. MatchResult answer (λ _. current ≡ EndCollection) (λ error. ⊥))

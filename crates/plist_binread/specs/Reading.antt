@@ -11,7 +11,7 @@ use Rattle.plist_format.specs.Container.{number_at, number_of, numbers_spelled}
 use Rattle.plist_binread.specs.Decoding.{children_in}
 use Rattle.plist_binread.specs.Outcome.{AreReferences, IsSlots}
 use Rattle.plist_format.specs.Object.{Object, Scalar, layout_of, length_in, object_behind, object_in}
-use Rattle.plist_binread.specs.Turning.{ReadsChild}
+use Rattle.plist_binread.specs.Turns.{ReadsChild}
 use Rattle.plist_binread.specs.declared.child.References.{References}
 use Rattle.std.specs.declared.alloc.Global.{Global}
 use Rattle.std.specs.declared.vec.Vec.{Vec}
@@ -114,10 +114,10 @@ HasNoChildren marker =
     (width : ℕ) (rest : List ℕ) → children_in (object_with width marker rest) ≡ []
 
 -- no object that begins with these bytes has children
-abbrev pub HasNoChild : (width room : ℕ) → (seen : List ℕ) → Type 0
-HasNoChild width room seen = (more : List ℕ) → length (seen ++ more) ≡ room
+abbrev pub HasNoChild : (width extent : ℕ) → (seen : List ℕ) → Type 0
+HasNoChild width extent seen = (more : List ℕ) → length (seen ++ more) ≡ extent
     → children_in (object_in width (seen ++ more)) ≡ []
 
 -- bytes that reach so far, or have all of a marker and a length
-abbrev pub ShowsLength : (room : ℕ) (seen : List ℕ) → Type 0
-ShowsLength room seen = length seen < 10 → room ≤ length seen
+abbrev pub ShowsLength : (extent : ℕ) (seen : List ℕ) → Type 0
+ShowsLength extent seen = length seen < 10 → extent ≤ length seen

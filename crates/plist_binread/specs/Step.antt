@@ -1,25 +1,25 @@
--- Words for what a step of the walk does to the walk, to what is told, and to what is owed.
+-- Words for what a step does to the walk, to the current event and to the remaining items.
 use Rattle.std.specs.Prelude.{◌≡◌, ℕ, ◌-◌, ◌<◌, true, List, ◌++◌, length, get_or, Option, Some, Result, Err, IfSome, OnOk, ⊤}
 use Rattle.std.specs.List.{slice_get}
 use Rattle.plist_base.specs.declared.error.Error.{Error}
 use Rattle.plist_base.specs.Events.{PlainEvent}
 use Rattle.plist_binread.specs.Reading.{ReadsChildAt}
-use Rattle.plist_binread.specs.Debt.{Explains, IsKnown, IsOpen, entries_of, next_number, owed_by, path_of, walk_weight}
-use Rattle.plist_binread.specs.Outcome.{IsOutcomeOf, PaysAnswer, PaysNextTold, PaysTold}
+use Rattle.plist_binread.specs.Remaining.{Explains, IsKnown, IsOpen, entries_of, next_number, remaining_items, path_of, walk_weight}
+use Rattle.plist_binread.specs.Outcome.{IsOutcomeOf, YieldsAnswer, YieldsNext, YieldsCurrent}
 use Rattle.plist_binread.specs.Packed.{is_small_event, unmarked}
-use Rattle.plist_binread.specs.declared.told.Refused.{Refused}
+use Rattle.plist_binread.specs.declared.slot.Refused.{Refused}
 use Rattle.plist_base.specs.Faults.{MatchFault, kind_of, error_kind_of, fault_of}
 use Rattle.plist_base.specs.Limits.{RefusesAny}
 use Rattle.plist_base.specs.declared.limits.Limiter.{Limiter}
-use Rattle.plist_binread.specs.Told.{answer_in, event_in, item_in}
-use Rattle.plist_binread.specs.Turning.{IsFound, IsKeptTold, Lightens, Turns}
-use Rattle.plist_format.specs.Unfolding.{Entry, unfolding_of, until_fault}
-use Rattle.plist_binread.specs.Walking.{IsWalkOf, walk_objects, open_in, owed_entering, owed_in, weight_entering, weight_in}
+use Rattle.plist_binread.specs.Slot.{answer_in, event_in, item_in}
+use Rattle.plist_binread.specs.Turns.{IsFound, IsCurrentCached, Lightens, Turns}
+use Rattle.plist_format.specs.Unfolding.{TableEntry, unfolding_of, until_fault}
+use Rattle.plist_binread.specs.Walking.{IsWalkOf, walk_objects, open_in, remaining_entering, remaining_in, weight_entering, weight_in}
 use Rattle.plist_binread.specs.declared.frames.Frame.{Frame}
 use Rattle.plist_binread.specs.declared.front.Outcome.{Outcome}
 use Rattle.plist_binread.specs.declared.front.Outcome.TheVariants as outcome
 use Rattle.plist_binread.specs.declared.head.Bounds.{Bounds}
-use Rattle.plist_binread.specs.declared.told.Last.{Last}
+use Rattle.plist_binread.specs.declared.slot.EventSlot.{EventSlot}
 use Rattle.plist_binread.specs.declared.walk.Turn.{Turn}
 use Rattle.plist_binread.specs.declared.walk.Walk.{Walk}
 use Rattle.plist_format.specs.Object.{Object}
@@ -33,7 +33,7 @@ IsLighterEntered old new = walk_weight (walk_objects old) (open_in new) < weight
 abbrev pub IsLighter : (old new : Walk) → Type 0
 IsLighter old new = walk_weight (walk_objects old) (open_in new) < weight_in old
 
--- an item came of a walk that owed some, and less is left to do
+-- an item came of those that remained, and less is left to do
 abbrev pub LightensNext : {A : Type 0} → (old : Walk) → Option (Result A Refused) → (new : Walk)
     → Type 0
 LightensNext old item new =
@@ -45,7 +45,7 @@ IsUnchanged old new =
     (new.tags.items ≡ old.tags.items) × (new.contents.items ≡ old.contents.items)
     × (new.frames ≡ old.frames)
 
--- what a turn takes of what is owed
+-- what a turn takes of what remains
 abbrev pub TurnsWalk : (old : Walk) → Turn → (new : Walk) → Type 0
 TurnsWalk old turn new = (bytes : List ℕ) (bounds : Bounds) → IsWalkOf bytes bounds old →
     Turns (entries_of bytes bounds) (open_in old) turn (open_in new) × IsWalkOf bytes bounds new
@@ -55,9 +55,9 @@ LightensBy old turn new = (count : ℕ) → Lightens count (open_in old) turn (o
 
 -- ---- what is looked up
 
-abbrev pub IsFoundAt : (number : ℕ) (tags contents : List ℕ) → Last → Option ℕ → Type 0
-IsFoundAt number tags contents last found =
-    IsFound (get_or tags number 0) (get_or contents number 0) (event_in last) found
+abbrev pub IsFoundAt : (number : ℕ) (tags contents : List ℕ) → EventSlot → Option ℕ → Type 0
+IsFoundAt number tags contents slot found =
+    IsFound (get_or tags number 0) (get_or contents number 0) (event_in slot) found
 
 -- no object of this number can be entered
 abbrev pub ExplainsEntering : (tags contents : List ℕ) (at number : ℕ) → Error → Type 0
@@ -66,44 +66,46 @@ ExplainsEntering tags contents at number error =
     IsOpen tags frames → IsKnown bytes bounds tags contents frames →
     Explains (until_fault
     (unfolding_of (entries_of bytes bounds) (length tags - length frames) (path_of frames)
-    at number ++ owed_by (entries_of bytes bounds) frames)) error
+    at number ++ remaining_items (entries_of bytes bounds) frames)) error
 
 -- a child's number is found, or the error is held
-abbrev pub FindsChild : Result ℕ Refused → Last → (known : Option (List ℕ)) → Bounds
+abbrev pub FindsChild : Result ℕ Refused → EventSlot → (known : Option (List ℕ)) → Bounds
     → (place index : ℕ) → Type 0
-FindsChild answer last known bounds place index =
-    ReadsChildAt (answer_in answer last) known bounds place index
+FindsChild answer slot known bounds place index =
+    ReadsChildAt (answer_in answer slot) known bounds place index
 
 -- the error of each child of a collection that isn't found is held
-abbrev pub RefusesEach : (known : Option (List ℕ)) → Bounds → (place : ℕ) → Last → Refused
+abbrev pub RefusesEach : (known : Option (List ℕ)) → Bounds → (place : ℕ) → EventSlot → Refused
     → Type 0
-RefusesEach known bounds place last refused =
-    (index : ℕ) → ReadsChildAt (Err last.fault) known bounds place index
+RefusesEach known bounds place slot refused =
+    (index : ℕ) → ReadsChildAt (Err slot.fault) known bounds place index
 
 -- the error of a number that isn't entered is held, and no device failed
-abbrev pub RefusesEntering : (tags contents : List ℕ) (at number : ℕ) → Last → Refused → Type 0
-RefusesEntering tags contents at number last refused =
-    ExplainsEntering tags contents at number last.fault
+abbrev pub RefusesEntering : (tags contents : List ℕ) (at number : ℕ) → EventSlot → Refused → Type 0
+RefusesEntering tags contents at number slot refused =
+    ExplainsEntering tags contents at number slot.fault
 
-abbrev pub RefusesInside : Last → Refused → Type 0
-RefusesInside last refused = MatchFault (kind_of (error_kind_of last.fault)) ⊥ ⊤ ⊤
+abbrev pub RefusesInside : EventSlot → Refused → Type 0
+RefusesInside slot refused = MatchFault (kind_of (error_kind_of slot.fault)) ⊥ ⊤ ⊤
 
 -- ---- an object that is opened
 
 -- what was decoded is cached if it is small
-abbrev pub KeepsOutcome : (told : PlainEvent) → Outcome → (number : ℕ) → Walk → Type 0
-KeepsOutcome told outcome number walk = (object : Object) → IsOutcomeOf object told outcome →
-    is_small_event told ≡ true → 0 < unmarked (get_or walk.tags.items number 0)
+abbrev pub KeepsOutcome : (current : PlainEvent) → Outcome → (number : ℕ) → Walk → Type 0
+KeepsOutcome current outcome number walk = (object : Object) → IsOutcomeOf object current outcome →
+    is_small_event current ≡ true → 0 < unmarked (get_or walk.tags.items number 0)
 
--- and its first item is paid
-abbrev pub Opens : (number : ℕ) (told : PlainEvent) → Outcome → (old new : Walk) → Type 0
-Opens number told outcome old new = (bytes : List ℕ) (bounds : Bounds) (entry : Entry) →
+-- and its first item comes
+abbrev pub OpensObject : (number : ℕ) (current : PlainEvent) → Outcome → (old new : Walk) → Type 0
+OpensObject number current outcome old new = (bytes : List ℕ) (bounds : Bounds)
+    (entry : TableEntry) →
     IsWalkOf bytes bounds old → slice_get (entries_of bytes bounds) number ≡ Some entry →
-    IsOutcomeOf entry.object told outcome →
-    ((at : ℕ) → PaysTold (owed_entering bytes bounds old at number) told (owed_in bytes bounds new))
+    IsOutcomeOf entry.object current outcome →
+    ((at : ℕ) → YieldsCurrent (remaining_entering bytes bounds old at number) current
+    (remaining_in bytes bounds new))
     × IsWalkOf bytes bounds new
 
--- only a collection wants room
+-- only a collection needs memory
 abbrev pub WantsRoom : Outcome → Type 0
 WantsRoom outcome.Scalar = ⊥
 WantsRoom outcome = ⊤
@@ -112,32 +114,33 @@ WantsRoom outcome = ⊤
 
 -- an object that was entered is cached if it is small
 abbrev pub KeepsEntered : {A : Type 0} → (known : Option (List ℕ)) → (number : ℕ)
-    → Result A Refused → Last → Walk → Type 0
-KeepsEntered known number answer last walk = IfSome known (λ _.
-    IsKeptTold (Some number) (Some (answer_in answer last)) (event_in last) walk.tags.items)
+    → Result A Refused → EventSlot → Walk → Type 0
+KeepsEntered known number answer slot walk = IfSome known (λ _.
+    IsCurrentCached (Some number) (Some (answer_in answer slot)) (event_in slot) walk.tags.items)
 
--- its first item is what the list owes, referred to from `at`
-abbrev pub Meets : {A S : Type 0} → (S → Option (List ℕ)) → S → Bounds → (old : Walk)
-    → (at number : ℕ) → Result A Refused → Last → (new : Walk) → Type 0
-Meets known source bounds old at number answer last new = IfSome (known source) (λ bytes.
-    PaysAnswer (owed_entering bytes bounds old at number) (answer_in answer last) (event_in last)
-    (owed_in bytes bounds new))
+-- its first item comes, where it is referred to from `at`
+abbrev pub EntersObject : {A S : Type 0} → (S → Option (List ℕ)) → S → Bounds → (old : Walk)
+    → (at number : ℕ) → Result A Refused → EventSlot → (new : Walk) → Type 0
+EntersObject known source bounds old at number answer slot new = IfSome (known source) (λ bytes.
+    YieldsAnswer (remaining_entering bytes bounds old at number) (answer_in answer slot)
+    (event_in slot)
+    (remaining_in bytes bounds new))
 
--- what the next item tells is the first that is owed, and cached if it is small
-abbrev pub PaysItem : {A : Type 0} → (known : Option (List ℕ)) → Bounds → (old : Walk)
-    → Option (Result A Refused) → Last → (new : Walk) → Type 0
-PaysItem known bounds old item last new = IfSome known (λ bytes.
-    PaysNextTold (owed_in bytes bounds old) (item_in item last) (event_in last)
-    (owed_in bytes bounds new))
+-- the next item is the first that remained, and cached if it is small
+abbrev pub YieldsItem : {A : Type 0} → (known : Option (List ℕ)) → Bounds → (old : Walk)
+    → Option (Result A Refused) → EventSlot → (new : Walk) → Type 0
+YieldsItem known bounds old item slot new = IfSome known (λ bytes.
+    YieldsNext (remaining_in bytes bounds old) (item_in item slot) (event_in slot)
+    (remaining_in bytes bounds new))
 
 abbrev pub KeepsItem : {A : Type 0} → (known : Option (List ℕ)) → Bounds → (old : Walk)
-    → Option (Result A Refused) → Last → (new : Walk) → Type 0
-KeepsItem known bounds old item last new = IfSome known (λ bytes.
-    IsKeptTold (next_number (entries_of bytes bounds) (open_in old)) (item_in item last)
-    (event_in last) new.tags.items)
+    → Option (Result A Refused) → EventSlot → (new : Walk) → Type 0
+KeepsItem known bounds old item slot new = IfSome known (λ bytes.
+    IsCurrentCached (next_number (entries_of bytes bounds) (open_in old)) (item_in item slot)
+    (event_in slot) new.tags.items)
 
 -- ---- limits
 
 -- the error of an event that may not come is held
-abbrev pub RefusesTold : Option Limiter → (told : PlainEvent) → Last → Refused → Type 0
-RefusesTold limiter told last refused = RefusesAny limiter told (fault_of last.fault)
+abbrev pub RefusesCurrent : Option Limiter → (current : PlainEvent) → EventSlot → Refused → Type 0
+RefusesCurrent limiter current slot refused = RefusesAny limiter current (fault_of slot.fault)

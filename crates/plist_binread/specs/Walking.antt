@@ -1,11 +1,11 @@
--- What contracts see of a walk over a file's objects: what it knows, what it owes, and how far it
+-- What contracts see of a walk over a file's objects: what it knows, what remains, and how far it
 -- still has to go.
 use Rattle.std.specs.Prelude.{◌≡◌, ℕ, ◌+◌, ◌-◌, List, ◌++◌, length, reverse}
 use Rattle.plist_base.specs.Events.{Item}
 use Rattle.plist_binread.specs.declared.head.Bounds.{Bounds}
 use Rattle.plist_binread.specs.declared.frames.Frame.{Frame}
 use Rattle.plist_binread.specs.declared.walk.Walk.{Walk}
-use Rattle.plist_binread.specs.Debt.{IsKnown, cached_count, entries_of, owed_by, path_of, walk_steps, walk_weight}
+use Rattle.plist_binread.specs.Remaining.{IsKnown, cached_count, entries_of, remaining_items, path_of, walk_steps, walk_weight}
 use Rattle.plist_format.specs.Unfolding.{unfolding_of}
 
 -- how many objects there are
@@ -21,22 +21,22 @@ abbrev pub open_in : Walk → List Frame
 open_in walk = reverse walk.frames
 
 -- how many objects aren't open
-abbrev pub room_in : Walk → ℕ
-room_in walk = length walk.tags.items - length walk.frames
+abbrev pub fuel_in : Walk → ℕ
+fuel_in walk = length walk.tags.items - length walk.frames
 
 -- it is a walk over a file of these bytes
 abbrev pub IsWalkOf : (bytes : List ℕ) → Bounds → Walk → Type 0
 IsWalkOf bytes bounds walk = IsKnown bytes bounds walk.tags.items walk.contents.items (open_in walk)
 
--- the items that the open collections owe
-abbrev pub owed_in : (bytes : List ℕ) → Bounds → Walk → List Item
-owed_in bytes bounds walk = owed_by (entries_of bytes bounds) (open_in walk)
+-- the items that remain of the open collections
+abbrev pub remaining_in : (bytes : List ℕ) → Bounds → Walk → List Item
+remaining_in bytes bounds walk = remaining_items (entries_of bytes bounds) (open_in walk)
 
 -- the same where an object that is referred to from `at` is about to be entered
-abbrev pub owed_entering : (bytes : List ℕ) → Bounds → Walk → (at number : ℕ) → List Item
-owed_entering bytes bounds walk at number =
-    unfolding_of (entries_of bytes bounds) (room_in walk) (path_of (open_in walk)) at number
-    ++ owed_in bytes bounds walk
+abbrev pub remaining_entering : (bytes : List ℕ) → Bounds → Walk → (at number : ℕ) → List Item
+remaining_entering bytes bounds walk at number =
+    unfolding_of (entries_of bytes bounds) (fuel_in walk) (path_of (open_in walk)) at number
+    ++ remaining_in bytes bounds walk
 
 -- more than the steps that are left
 abbrev pub weight_in : Walk → ℕ
@@ -44,8 +44,8 @@ weight_in walk = walk_weight (walk_objects walk) (open_in walk)
 
 -- the same where an object is about to be entered
 abbrev pub weight_entering : Walk → ℕ
-weight_entering walk = walk_weight (walk_objects walk) (open_in walk) + walk_steps (room_in walk)
+weight_entering walk = walk_weight (walk_objects walk) (open_in walk) + walk_steps (fuel_in walk)
 
 -- nothing is open, and no object is held
-abbrev pub IsEmpty : Walk → Type 0
-IsEmpty walk = (length walk.tags.items ≡ 0) × (length walk.frames ≡ 0)
+abbrev pub IsEmptyWalk : Walk → Type 0
+IsEmptyWalk walk = (length walk.tags.items ≡ 0) × (length walk.frames ≡ 0)

@@ -1,20 +1,20 @@
 //! The walk from one item to the next.
 
 ghost use Rattle.std.specs.Prelude.{◌≡◌, true, IfSome};
-ghost use Rattle.plist_binread.specs.Turning.{closes};
-ghost use Rattle.plist_binread.specs.Outcome.{IsToldEnd};
-ghost use Rattle.plist_binread.specs.Told.{ItemAnswersIn, event_in, item_in};
+ghost use Rattle.plist_binread.specs.Turns.{closes};
+ghost use Rattle.plist_binread.specs.Outcome.{IsCurrentEnd};
+ghost use Rattle.plist_binread.specs.Slot.{ItemAnswersIn, event_in, item_in};
 ghost use Rattle.plist_binread.specs.Walking.{IsWalkOf, cached_in, walk_objects, open_in};
 ghost use Rattle.plist_binread.specs.Failures.{ItemWithin};
 ghost use Rattle.plist_binread.specs.Lengths.{LimitsItem};
 ghost use Rattle.plist_binread.specs.Reading.{AreReferencesOf};
-ghost use Rattle.plist_binread.specs.Step.{KeepsItem, LightensNext, PaysItem};
+ghost use Rattle.plist_binread.specs.Step.{KeepsItem, LightensNext, YieldsItem};
 
 use crate::child::{References, read_child};
 use crate::counter::DecodeCounter;
 use crate::enter::enter;
 use crate::head::Bounds;
-use crate::told::{Last, Refused, Told};
+use crate::slot::{CompactEvent, EventSlot, Refused};
 use crate::walk::{Turn, Walk};
 use plist_base::Source;
 use std::alloc::Global;
@@ -29,39 +29,39 @@ pub fn advance<S: Source, C: DecodeCounter>(
     bounds: &Bounds,
     walk: &mut Walk,
     references: &mut References,
-    last: &mut Last,
+    slot: &mut EventSlot,
     left: u64,
 ) -> Option<Result<(), Refused>>
     requires known { IfSome (S.known source.old) (λ bytes. IsWalkOf bytes bounds.now walk.old) }
     requires counted { C.counts → C.count counter.old ≡ cached_in walk.old }
     requires references { AreReferencesOf (S.known source.old) bounds.now references.old }
     // The answer.
-    ensures pays { PaysItem (S.known source.old) bounds.now walk.old result last.new walk.new }
-    ensures closes { closes (open_in walk.old) ≡ true → IsToldEnd result (event_in last.new) }
+    ensures yields { YieldsItem (S.known source.old) bounds.now walk.old result slot.new walk.new }
+    ensures closes { closes (open_in walk.old) ≡ true → IsCurrentEnd result (event_in slot.new) }
     // A refusal.
-    ensures limit { LimitsItem (S.known source.old) bounds.now walk.old result left last.new }
-    ensures fault { ItemWithin 0 bounds.now.trailer (item_in result last.new) }
+    ensures limit { LimitsItem (S.known source.old) bounds.now walk.old result left slot.new }
+    ensures fault { ItemWithin 0 bounds.now.trailer (item_in result slot.new) }
     // The state after it.
     ensures size { walk_objects walk.new ≡ walk_objects walk.old }
     ensures known { IfSome (S.known source.old) (λ bytes. IsWalkOf bytes bounds.now walk.new) }
     ensures counted { C.counts → C.count counter.new ≡ cached_in walk.new }
     ensures references { AreReferencesOf (S.known source.old) bounds.now references.new }
-    ensures kept { KeepsItem (S.known source.old) bounds.now walk.old result last.new walk.new }
+    ensures kept { KeepsItem (S.known source.old) bounds.now walk.old result slot.new walk.new }
     ensures falls { LightensNext walk.old result walk.new }
     ensures unchanged { S.known source.new ≡ S.known source.old }
-    ensures failures { ItemAnswersIn S.failures result last.new source.old source.new }
+    ensures failures { ItemAnswersIn S.failures result slot.new source.old source.new }
 {
     match walk.turn() {
         Turn::Done => None,
         Turn::Closed => {
-            last.tell(Told::End);
+            slot.set(CompactEvent::End);
             Some(Ok(()))
         }
         Turn::Child(object, index) => {
             let at = walk.contents[object as usize];
-            match read_child(source, bounds, references, at, index, last) {
+            match read_child(source, bounds, references, at, index, slot) {
                 Ok(number) => Some(enter(
-                    alloc, source, counter, bounds, walk, last, at, number, left,
+                    alloc, source, counter, bounds, walk, slot, at, number, left,
                 )),
                 Err(_) => Some(Err(Refused::Fault)),
             }

@@ -2,17 +2,17 @@
 
 ghost use Rattle.std.specs.Prelude.{◌≡◌, ◌^◌, ◌<◌, Ok, replicate, IfOk, IfSome, OnOk};
 ghost use Rattle.plist_base.specs.Outcomes.{OnlyMemory};
-ghost use Rattle.plist_binread.specs.Debt.{walk_steps};
+ghost use Rattle.plist_binread.specs.Remaining.{walk_steps};
 ghost use Rattle.plist_binread.specs.Failures.{ErrWithin};
-ghost use Rattle.plist_binread.specs.Told.{AnswersIn, answer_in};
-ghost use Rattle.plist_binread.specs.Walking.{IsEmpty, cached_in, walk_objects, weight_in};
+ghost use Rattle.plist_binread.specs.Slot.{AnswersIn, answer_in};
+ghost use Rattle.plist_binread.specs.Walking.{IsEmptyWalk, cached_in, walk_objects, weight_in};
 ghost use Rattle.plist_binread.specs.Lengths.{LimitsFirst};
-ghost use Rattle.plist_binread.specs.Beginning.{GivesFirst, IsBounded, IsKnownWalk, KeepsRoot};
+ghost use Rattle.plist_binread.specs.Beginning.{GivesRoot, IsBounded, IsKnownWalk, KeepsRoot};
 
 use crate::counter::DecodeCounter;
 use crate::enter::enter;
 use crate::head::{Bounds, Head};
-use crate::told::{Last, Refused};
+use crate::slot::{EventSlot, Refused};
 use crate::walk::Walk;
 use plist_base::{Error, Source};
 use std::alloc::Global;
@@ -36,27 +36,27 @@ pub fn begin<S: Source, C: DecodeCounter>(
     counter: &mut C,
     bounds: &mut Bounds,
     walk: &mut Walk,
-    last: &mut Last,
+    slot: &mut EventSlot,
     left: u64,
 ) -> Result<(), Refused>
-    requires empty { IsEmpty walk.old }
+    requires empty { IsEmptyWalk walk.old }
     requires counted { C.counts → C.count counter.old ≡ cached_in walk.old }
     // The answer.
-    ensures pays { IfSome (S.known source.old) (GivesFirst result bounds.new last.new walk.new) }
+    ensures yields { IfSome (S.known source.old) (GivesRoot result bounds.new slot.new walk.new) }
     // A refusal.
-    ensures limit { LimitsFirst (S.known source.old) result left last.new }
-    ensures fault { ErrWithin 0 (2 ^ 64) (answer_in result last.new) }
+    ensures limit { LimitsFirst (S.known source.old) result left slot.new }
+    ensures fault { ErrWithin 0 (2 ^ 64) (answer_in result slot.new) }
     // The state after it.
     ensures counted { C.counts → C.count counter.new ≡ cached_in walk.new }
     ensures bounded { IfSome (S.known source.old) (IsBounded walk.new) }
     ensures known { OnOk result (IsKnownWalk (S.known source.old) bounds.new walk.new) }
-    ensures kept { IfSome (S.known source.old) (KeepsRoot result last.new walk.new) }
+    ensures kept { IfSome (S.known source.old) (KeepsRoot result slot.new walk.new) }
     ensures falls { OnOk result (weight_in walk.new < walk_steps (walk_objects walk.new)) }
     ensures unchanged { S.known source.new ≡ S.known source.old }
-    ensures failures { AnswersIn S.failures result last.new source.old source.new }
+    ensures failures { AnswersIn S.failures result slot.new source.old source.new }
 {
-    let head = last.note(Head::read(alloc, source))?;
-    let none = last.note(no_tags(alloc, head.places.len()))?;
+    let head = slot.note(Head::read(alloc, source))?;
+    let none = slot.note(no_tags(alloc, head.places.len()))?;
     let Head {
         trailer,
         reference_width,
@@ -70,6 +70,6 @@ pub fn begin<S: Source, C: DecodeCounter>(
     walk.tags = none;
     walk.contents = places;
     enter(
-        alloc, source, counter, bounds, walk, last, trailer, root, left,
+        alloc, source, counter, bounds, walk, slot, trailer, root, left,
     )
 }

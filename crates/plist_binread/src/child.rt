@@ -5,12 +5,12 @@ ghost use Rattle.plist_binread.specs.Outcome.{slot_place, slot_of};
 ghost use Rattle.plist_binread.specs.Failures.{ErrWithin};
 ghost use Rattle.plist_binread.specs.Reading.{HasNoChild, FindsSlots, HasNoChildren, HasPairs, AreReferencesBehind, AreReferencesOf, MissesNumber, ReadsNumber, ShowsLength};
 ghost use Rattle.plist_binread.specs.Step.{FindsChild, RefusesEach};
-ghost use Rattle.plist_binread.specs.Told.{AnswersIn, answer_in};
+ghost use Rattle.plist_binread.specs.Slot.{AnswersIn, answer_in};
 
 use crate::front::front_length;
 use crate::head::Bounds;
-use crate::numbers::{number_at_hand, read_far_number};
-use crate::told::{Last, Refused};
+use crate::numbers::{buffered_number, read_far_number};
+use crate::slot::{EventSlot, Refused};
 use plist_base::{Source, read_exact_at};
 
 /// Where the references of a collection stand.
@@ -54,12 +54,12 @@ fn pairs_in(marker: u8, count: u64) -> Option<u64>
 
 // Finds the references of the collection that begins these bytes: all up to the trailer, or at
 // least a marker and a length.
-fn references_in(seen: &[u8], room: u64, width: usize, place: u64) -> Option<References>
+fn references_in(seen: &[u8], extent: u64, width: usize, place: u64) -> Option<References>
     requires width { 0 < width }
-    requires far { ShowsLength room seen.now }
+    requires far { ShowsLength extent seen.now }
     ensures place { IfSome result (λ references. references.place ≡ place) }
     ensures slots { IfSome result (AreReferencesBehind width seen.now) }
-    ensures none { IfNone result (HasNoChild width room seen.now) }
+    ensures none { IfNone result (HasNoChild width extent seen.now) }
 {
     let (marker, rest) = seen.split_first()?;
     let (count, behind) = front_length(*marker, rest)?;
@@ -82,28 +82,28 @@ fn read_references<S: Source>(
     source: &mut S,
     bounds: &Bounds,
     place: u64,
-    room: u64,
-    last: &mut Last,
+    extent: u64,
+    slot: &mut EventSlot,
 ) -> Result<References, Refused>
     requires place { place < bounds.now.trailer }
-    requires room { room ≡ bounds.now.trailer - place }
+    requires extent { extent ≡ bounds.now.trailer - place }
     // The answer.
     ensures value { IfOk result (λ references. references.place ≡ place) }
-    ensures slots { FindsSlots (answer_in result last.new) (S.known source.old) bounds.now place }
+    ensures slots { FindsSlots (answer_in result slot.new) (S.known source.old) bounds.now place }
     // A refusal.
-    ensures fault { ErrWithin place bounds.now.trailer (answer_in result last.new) }
+    ensures fault { ErrWithin place bounds.now.trailer (answer_in result slot.new) }
     // The state after it.
     ensures unchanged { S.known source.new ≡ S.known source.old }
-    ensures failures { AnswersIn S.failures result last.new source.old source.new }
+    ensures failures { AnswersIn S.failures result slot.new source.old source.new }
 {
     let mut front = [0; LENGTH_END];
-    let seen = &mut front[..room.min(LENGTH_END as u64) as usize];
+    let seen = &mut front[..extent.min(LENGTH_END as u64) as usize];
     match read_exact_at(source, place, seen) {
-        Ok(()) => match references_in(seen, room, bounds.reference_width, place) {
+        Ok(()) => match references_in(seen, extent, bounds.reference_width, place) {
             Some(references) => Ok(references),
-            None => Err(last.exceed(place)),
+            None => Err(slot.exceed(place)),
         },
-        Err(error) => Err(last.refuse(error)),
+        Err(error) => Err(slot.refuse(error)),
     }
 }
 
@@ -113,30 +113,30 @@ fn find_references<S: Source>(
     source: &mut S,
     bounds: &Bounds,
     place: u64,
-    last: &mut Last,
+    slot: &mut EventSlot,
 ) -> Result<References, Refused>
     // The answer.
     ensures value { IfOk result (λ references. references.place ≡ place) }
-    ensures slots { FindsSlots (answer_in result last.new) (S.known source.old) bounds.now place }
+    ensures slots { FindsSlots (answer_in result slot.new) (S.known source.old) bounds.now place }
     // A refusal.
-    ensures fault { ErrWithin place bounds.now.trailer (answer_in result last.new) }
+    ensures fault { ErrWithin place bounds.now.trailer (answer_in result slot.new) }
     // The state after it.
     ensures unchanged { S.known source.new ≡ S.known source.old }
-    ensures failures { AnswersIn S.failures result last.new source.old source.new }
+    ensures failures { AnswersIn S.failures result slot.new source.old source.new }
 {
     if place >= bounds.trailer {
-        return Err(last.exceed(place));
+        return Err(slot.exceed(place));
     }
-    let room = bounds.trailer - place;
-    let near = source.near(place);
-    if near.len() as u64 >= room.min(LENGTH_END as u64) {
-        let seen = &near[..room.min(near.len() as u64) as usize];
-        return match references_in(seen, room, bounds.reference_width, place) {
+    let extent = bounds.trailer - place;
+    let buffered = source.buffered(place);
+    if buffered.len() as u64 >= extent.min(LENGTH_END as u64) {
+        let seen = &buffered[..extent.min(buffered.len() as u64) as usize];
+        return match references_in(seen, extent, bounds.reference_width, place) {
             Some(references) => Ok(references),
-            None => Err(last.exceed(place)),
+            None => Err(slot.exceed(place)),
         };
     }
-    read_references(source, bounds, place, room, last)
+    read_references(source, bounds, place, extent, slot)
 }
 
 // The number of a child's reference among those of its collection.
@@ -173,23 +173,23 @@ fn refer_to<S: Source>(
     bounds: &Bounds,
     references: &mut References,
     place: u64,
-    last: &mut Last,
+    slot: &mut EventSlot,
 ) -> Result<(), Refused>
     requires references { AreReferencesOf (S.known source.old) bounds.now references.old }
     // The answer.
     ensures place { OnOk result (references.new.place ≡ place) }
     // A refusal.
-    ensures refused { IfErr result (RefusesEach (S.known source.old) bounds.now place last.new) }
-    ensures fault { ErrWithin place bounds.now.trailer (answer_in result last.new) }
+    ensures refused { IfErr result (RefusesEach (S.known source.old) bounds.now place slot.new) }
+    ensures fault { ErrWithin place bounds.now.trailer (answer_in result slot.new) }
     // The state after it.
     ensures references { AreReferencesOf (S.known source.old) bounds.now references.new }
     ensures unchanged { S.known source.new ≡ S.known source.old }
-    ensures failures { AnswersIn S.failures result last.new source.old source.new }
+    ensures failures { AnswersIn S.failures result slot.new source.old source.new }
 {
     if references.place == place {
         return Ok(());
     }
-    *references = find_references(source, bounds, place, last)?;
+    *references = find_references(source, bounds, place, slot)?;
     Ok(())
 }
 
@@ -200,20 +200,20 @@ fn read_reference<S: Source>(
     source: &mut S,
     place: u64,
     width: usize,
-    last: &mut Last,
+    slot: &mut EventSlot,
 ) -> Result<u64, Refused>
     requires width { width ≤ 8 }
     requires fits { place + width < 2 ^ 64 }
     // The answer.
-    ensures value { ReadsNumber (answer_in result last.new) (S.known source.old) place width }
+    ensures value { ReadsNumber (answer_in result slot.new) (S.known source.old) place width }
     // A refusal.
-    ensures refused { MissesNumber (answer_in result last.new) (S.known source.old) place width }
-    ensures fault { ErrWithin place (place + width) (answer_in result last.new) }
+    ensures refused { MissesNumber (answer_in result slot.new) (S.known source.old) place width }
+    ensures fault { ErrWithin place (place + width) (answer_in result slot.new) }
     // The state after it.
     ensures unchanged { S.known source.new ≡ S.known source.old }
-    ensures failures { AnswersIn S.failures result last.new source.old source.new }
+    ensures failures { AnswersIn S.failures result slot.new source.old source.new }
 {
-    last.note(read_far_number(source, place, width))
+    slot.note(read_far_number(source, place, width))
 }
 
 /// Finds the number of a child of the collection at a place.
@@ -224,27 +224,27 @@ pub fn read_child<S: Source>(
     references: &mut References,
     place: u64,
     index: u64,
-    last: &mut Last,
+    slot: &mut EventSlot,
 ) -> Result<u64, Refused>
     requires references { AreReferencesOf (S.known source.old) bounds.now references.old }
     // The answer.
-    ensures child { FindsChild result last.new (S.known source.old) bounds.now place index }
+    ensures child { FindsChild result slot.new (S.known source.old) bounds.now place index }
     // A refusal.
-    ensures fault { ErrWithin place bounds.now.trailer (answer_in result last.new) }
+    ensures fault { ErrWithin place bounds.now.trailer (answer_in result slot.new) }
     // The state after it.
     ensures references { AreReferencesOf (S.known source.old) bounds.now references.new }
     ensures unchanged { S.known source.new ≡ S.known source.old }
-    ensures failures { AnswersIn S.failures result last.new source.old source.new }
+    ensures failures { AnswersIn S.failures result slot.new source.old source.new }
 {
-    refer_to(source, bounds, references, place, last)?;
+    refer_to(source, bounds, references, place, slot)?;
     let width = bounds.reference_width;
     match slot_place(references, index, width) {
         Some(at) if at < bounds.trailer && width as u64 <= bounds.trailer - at => {
-            match number_at_hand(source, at, width) {
+            match buffered_number(source, at, width) {
                 Some(number) => Ok(number),
-                None => read_reference(source, at, width, last),
+                None => read_reference(source, at, width, slot),
             }
         }
-        _ => Err(last.exceed(place)),
+        _ => Err(slot.exceed(place)),
     }
 }

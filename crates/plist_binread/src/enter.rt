@@ -6,11 +6,11 @@ ghost use Rattle.plist_binread.specs.Frames.{frame_of};
 ghost use Rattle.plist_binread.specs.Packed.{is_marked};
 ghost use Rattle.plist_binread.specs.Walking.{IsWalkOf, cached_in, walk_objects};
 ghost use Rattle.plist_binread.specs.Failures.{ErrWithin};
-ghost use Rattle.plist_binread.specs.Front.{small_told};
+ghost use Rattle.plist_binread.specs.Front.{small_decoded};
 ghost use Rattle.plist_binread.specs.Lengths.{LimitsEntered};
-ghost use Rattle.plist_binread.specs.Step.{IsFoundAt, IsLighterEntered, IsUnchanged, KeepsEntered, KeepsOutcome, Meets, Opens, RefusesEntering, RefusesInside, WantsRoom};
-ghost use Rattle.plist_binread.specs.Told.{AnswersIn, answer_in, event_in};
-ghost use Rattle.plist_binread.specs.declared.told.Refused.TheVariants.{Fault};
+ghost use Rattle.plist_binread.specs.Step.{IsFoundAt, IsLighterEntered, IsUnchanged, KeepsEntered, KeepsOutcome, EntersObject, OpensObject, RefusesEntering, RefusesInside, WantsRoom};
+ghost use Rattle.plist_binread.specs.Slot.{AnswersIn, answer_in, event_in};
+ghost use Rattle.plist_binread.specs.declared.slot.Refused.TheVariants.{Fault};
 
 use crate::counter::DecodeCounter;
 use crate::frames::Frames;
@@ -18,7 +18,7 @@ use crate::front::Outcome;
 use crate::head::Bounds;
 use crate::object::decode;
 use crate::packed::{keep, mark};
-use crate::told::{Last, Refused};
+use crate::slot::{EventSlot, Refused};
 use crate::walk::Walk;
 use plist_base::{ErrorKind, Source};
 use std::alloc::Global;
@@ -26,63 +26,63 @@ use std::alloc::Global;
 // Holds that no object has the number that is referred to from `at`.
 #[cold]
 #[inline(never)]
-fn refuse_number(last: &mut Last, at: u64) -> Refused
-    ensures fault { fault_of last.new.fault ≡ fault_at ObjectReferenceTooLarge at }
+fn refuse_number(slot: &mut EventSlot, at: u64) -> Refused
+    ensures fault { fault_of slot.new.fault ≡ fault_at ObjectReferenceTooLarge at }
     ensures held { result ≡ Fault }
 {
-    last.refuse(ErrorKind::ObjectReferenceTooLarge.with_byte_offset(at))
+    slot.refuse(ErrorKind::ObjectReferenceTooLarge.with_byte_offset(at))
 }
 
 // Holds that the object at a place is open.
 #[cold]
 #[inline(never)]
-fn refuse_open(last: &mut Last, place: u64) -> Refused
-    ensures fault { fault_of last.new.fault ≡ fault_at RecursiveObject place }
+fn refuse_open(slot: &mut EventSlot, place: u64) -> Refused
+    ensures fault { fault_of slot.new.fault ≡ fault_at RecursiveObject place }
     ensures held { result ≡ Fault }
 {
-    last.refuse(ErrorKind::RecursiveObject.with_byte_offset(place))
+    slot.refuse(ErrorKind::RecursiveObject.with_byte_offset(place))
 }
 
 // The place of an object that is about to be entered, referred to from `at`. There is none where it
-// is cached: then it is told.
+// is cached: then it is the current event.
 #[inline(always)]
 fn look_up(
     tags: &[u8],
     contents: &[u64],
-    last: &mut Last,
+    slot: &mut EventSlot,
     at: u64,
     number: u64,
 ) -> Result<Option<u64>, Refused>
     requires { length contents.now ≡ length tags.now }
     // The answer.
-    ensures found { IfOk result (IsFoundAt number tags.now contents.now last.new) }
+    ensures found { IfOk result (IsFoundAt number tags.now contents.now slot.new) }
     // A refusal.
-    ensures refused { IfErr result (RefusesEntering tags.now contents.now at number last.new) }
-    ensures kinds { IfErr result (RefusesInside last.new) }
+    ensures refused { IfErr result (RefusesEntering tags.now contents.now at number slot.new) }
+    ensures kinds { IfErr result (RefusesInside slot.new) }
     ensures held { IfErr result (λ refused. refused ≡ Fault) }
-    ensures fault { ErrWithin 0 0 (answer_in result last.new) }
+    ensures fault { ErrWithin 0 0 (answer_in result slot.new) }
     // The state after it.
     ensures below { IfOk result (λ _. number < length tags.now) }
     ensures new { IfOk result (λ _. is_marked (get_or tags.now number 0) ≡ false) }
 {
     if number >= tags.len() as u64 {
-        return Err(refuse_number(last, at));
+        return Err(refuse_number(slot, at));
     }
     let tag = tags[number as usize];
     let content = contents[number as usize];
     if tag >= 128 {
-        return Err(refuse_open(last, content));
+        return Err(refuse_open(slot, content));
     }
     if tag == 0 {
         return Ok(Some(content));
     }
-    if last.recall(tag, content) {
+    if slot.unpack(tag, content) {
         return Ok(None);
     }
-    Err(last.want_memory())
+    Err(slot.want_memory())
 }
 
-// Opens a collection of so many children, if there is room.
+// Opens a collection of so many children, if there is memory.
 fn open_frame(frames: &mut Frames, object: u64, count: u64) -> bool
     ensures pushed { result ≡ true → frames.new ≡ frames.old ++ frame_of object 0 count ∷ [] }
     ensures unchanged { result ≡ false → frames.new ≡ frames.old }
@@ -94,16 +94,17 @@ fn open_frame(frames: &mut Frames, object: u64, count: u64) -> bool
 // Keeps what was decoded and told where it is a small scalar, and opens it where it is a
 // collection. It answers no, and nothing has changed, where memory for that is wanted.
 #[inline(always)]
-fn keep_or_open(walk: &mut Walk, number: u64, outcome: Outcome, last: &Last) -> bool
+fn keep_or_open(walk: &mut Walk, number: u64, outcome: Outcome, slot: &EventSlot) -> bool
     requires below { number < walk_objects walk.old }
     requires new { get_or walk.old.tags.items number 0 ≡ 0 }
     // The answer.
-    ensures pays { result ≡ true → Opens number (event_in last.now) outcome walk.old walk.new }
+    ensures yields { result ≡ true → OpensObject number (event_in slot.now) outcome walk.old
+        walk.new }
     ensures wanted { result ≡ false → WantsRoom outcome }
     // The state after it.
     ensures size { walk_objects walk.new ≡ walk_objects walk.old }
-    ensures counted { cached_in walk.new ≡ cached_in walk.old + small_told outcome last.now }
-    ensures kept { result ≡ true → KeepsOutcome (event_in last.now) outcome number walk.new }
+    ensures counted { cached_in walk.new ≡ cached_in walk.old + small_decoded outcome slot.now }
+    ensures kept { result ≡ true → KeepsOutcome (event_in slot.now) outcome number walk.new }
     ensures falls { result ≡ true → IsLighterEntered walk.old walk.new }
     ensures unchanged { result ≡ false → IsUnchanged walk.old walk.new }
 {
@@ -118,7 +119,7 @@ fn keep_or_open(walk: &mut Walk, number: u64, outcome: Outcome, last: &Last) -> 
         | Outcome::NotUtf8
         | Outcome::NotUtf16
         | Outcome::NoMemory => false,
-        Outcome::Scalar => match last.pack() {
+        Outcome::Scalar => match slot.pack() {
             Some((tag, content)) => {
                 keep(
                     &mut walk.tags,
@@ -150,7 +151,7 @@ pub fn enter<S: Source, C: DecodeCounter>(
     counter: &mut C,
     bounds: &Bounds,
     walk: &mut Walk,
-    last: &mut Last,
+    slot: &mut EventSlot,
     at: u64,
     number: u64,
     left: u64,
@@ -158,34 +159,35 @@ pub fn enter<S: Source, C: DecodeCounter>(
     requires known { IfSome (S.known source.old) (λ bytes. IsWalkOf bytes bounds.now walk.old) }
     requires counted { C.counts → C.count counter.old ≡ cached_in walk.old }
     // The answer.
-    ensures pays { Meets S.known source.old bounds.now walk.old at number result last.new walk.new }
+    ensures yields { EntersObject S.known source.old bounds.now walk.old at number result slot.new
+        walk.new }
     // A refusal.
-    ensures limit { LimitsEntered S.known source.old bounds.now walk.old number result left last.new }
-    ensures fault { ErrWithin 0 bounds.now.trailer (answer_in result last.new) }
+    ensures limit { LimitsEntered S.known source.old bounds.now walk.old number result left slot.new }
+    ensures fault { ErrWithin 0 bounds.now.trailer (answer_in result slot.new) }
     // The state after it.
     ensures size { walk_objects walk.new ≡ walk_objects walk.old }
     ensures known { IfSome (S.known source.old) (λ bytes. IsWalkOf bytes bounds.now walk.new) }
     ensures counted { C.counts → C.count counter.new ≡ cached_in walk.new }
-    ensures kept { KeepsEntered (S.known source.old) number result last.new walk.new }
+    ensures kept { KeepsEntered (S.known source.old) number result slot.new walk.new }
     ensures falls { OnOk result (IsLighterEntered walk.old walk.new) }
     ensures unchanged { S.known source.new ≡ S.known source.old }
-    ensures failures { AnswersIn S.failures result last.new source.old source.new }
+    ensures failures { AnswersIn S.failures result slot.new source.old source.new }
 {
     let found = look_up(
         walk.tags.as_slice(),
         walk.contents.as_slice(),
-        last,
+        slot,
         at,
         number,
     )?;
     match found {
         None => Ok(()),
         Some(place) => {
-            let outcome = decode(alloc, source, counter, bounds, place, left, last)?;
-            if keep_or_open(walk, number, outcome, last) {
+            let outcome = decode(alloc, source, counter, bounds, place, left, slot)?;
+            if keep_or_open(walk, number, outcome, slot) {
                 return Ok(());
             }
-            Err(last.want_memory())
+            Err(slot.want_memory())
         }
     }
 }

@@ -1,7 +1,7 @@
 //! The open collections, each in few bytes.
 
 ghost use Rattle.std.specs.Prelude.{◌≡◌, List, [], ◌∷◌, ◌++◌, reverse, IfSome, OnOk, OnErr};
-ghost use Rattle.plist_binread.specs.Frames.{AsksFor, IsLast, frame_of, widened};
+ghost use Rattle.plist_binread.specs.Frames.{NextOf, IsLast, frame_of, widened};
 
 use std::alloc::{AllocError, Global};
 use std::marker::Model;
@@ -30,7 +30,7 @@ pub struct Narrow {
 
 /// What the innermost collection asks for.
 #[derive(Clone, Copy)]
-pub enum Wanted {
+pub enum Upcoming {
     /// Nothing is open.
     Nothing,
     /// Its end: it is closed, and this was its object.
@@ -168,22 +168,22 @@ impl Frames {
     }
 
     /// Takes the next child of the innermost one, or closes that where it has no more.
-    pub fn turn(&mut self) -> Wanted
-        ensures { AsksFor (reverse self.old) result (reverse self.new) }
+    pub fn turn(&mut self) -> Upcoming
+        ensures { NextOf (reverse self.old) result (reverse self.new) }
     {
         match self.innermost {
-            None => Wanted::Nothing,
+            None => Upcoming::Nothing,
             Some(frame) => {
                 if frame.next >= frame.count {
                     self.innermost = self.outer.pop();
-                    return Wanted::End(frame.object);
+                    return Upcoming::End(frame.object);
                 }
                 self.innermost = Some(Frame {
                     object: frame.object,
                     next: frame.next + 1,
                     count: frame.count,
                 });
-                Wanted::Child(frame.object, frame.next)
+                Upcoming::Child(frame.object, frame.next)
             }
         }
     }

@@ -6,20 +6,20 @@ ghost use Rattle.plist_base.specs.declared.real.RealBits.TheVariants.{Eight};
 ghost use Rattle.plist_base.specs.Trees.{Real};
 ghost use Rattle.plist_binread.specs.Outcome.{small_outcome};
 ghost use Rattle.plist_format.specs.Object.{Scalar, Array, date, unsigned_integer, signed_integer, wide_integer, object_in};
-ghost use Rattle.plist_binread.specs.Told.{event_in};
-ghost use Rattle.plist_binread.specs.Front.{CountsOutcome, EndsBefore, HasUnits, IsContent, IsCount, IsCounted, IsLength, IsLengthCut, IsNumber, IsWhole, LeavesLong, TellsFront, TellsWhole, LiesBehind, LongBehind, LongCounted, ReachesFar, RefusesCounted, ShowsFront, array_with, counted_with, pairs_with, unit_size};
+ghost use Rattle.plist_binread.specs.Slot.{event_in};
+ghost use Rattle.plist_binread.specs.Front.{CountsOutcome, EndsBefore, HasUnits, IsContent, IsCount, IsCounted, IsLength, IsLengthCut, IsNumber, IsAllSeen, LeavesLong, DecodesFront, DecodesWhole, LiesBehind, LongBehind, LongCounted, ReachesFar, RefusesCounted, ShowsFront, array_with, counted_with, pairs_with, unit_size};
 ghost use Rattle.plist_binread.specs.declared.front.Outcome.TheVariants.{Scalar as ScalarOutcome};
-ghost use Rattle.plist_binread.specs.declared.front.Kind.TheVariants.{Data as KindData, Text as KindText, WideText as KindWideText};
+ghost use Rattle.plist_binread.specs.declared.front.ContentKind.TheVariants.{Data as KindData, Text as KindText, WideText as KindWideText};
 ghost use Rattle.plist_binread.specs.Reading.{short_real, long_real, uid_of_content, object_with};
 
 use crate::counter::DecodeCounter;
 use crate::numbers::{number_from, write_units};
-use crate::told::{Last, Told};
+use crate::slot::{CompactEvent, EventSlot};
 use plist_base::{Date, Event, RealBits};
 
 /// What the content of a text or data means.
 #[derive(Clone, Copy)]
-pub enum Kind {
+pub enum ContentKind {
     /// Its bytes are data.
     Data,
     /// They are a text.
@@ -28,15 +28,15 @@ pub enum Kind {
     WideText,
 }
 
-impl Kind {
+impl ContentKind {
     // How many bytes an element of the content has.
     fn unit_size(self) -> u64
         ensures value { result ≡ unit_size self }
         ensures small { (0 < result) × (result ≤ 2) }
     {
         match self {
-            Kind::Data | Kind::Text => 1,
-            Kind::WideText => 2,
+            ContentKind::Data | ContentKind::Text => 1,
+            ContentKind::WideText => 2,
         }
     }
 }
@@ -45,14 +45,14 @@ impl Kind {
 #[derive(Clone, Copy)]
 pub struct Content {
     /// What it means.
-    pub kind: Kind,
+    pub kind: ContentKind,
     /// How far behind the object's place it begins.
     pub start: u64,
     /// How many elements it has.
     pub count: u64,
 }
 
-/// What the bytes at an object's front tell of it, or what is wrong with it.
+/// What was decoded of the bytes at an object's front, or what is wrong with it.
 ///
 /// It is a tag and a number, and no more, since one is made for each item.
 #[derive(Clone, Copy)]
@@ -77,14 +77,14 @@ pub enum Outcome {
     NotUtf16,
     /// No memory was found for a text or data.
     NoMemory,
-    /// A scalar, which is told.
+    /// A scalar, which is the current event.
     Scalar,
-    /// A collection of so many children, whose start is told.
+    /// A collection of so many children, whose start is the current event.
     Collection(u64),
 }
 
 impl Outcome {
-    /// Is it a scalar, which is told?
+    /// Is it a scalar, which is the current event?
     pub fn is_scalar(self) -> bool
         ensures { result ≡ true → self ≡ ScalarOutcome }
     {
@@ -150,19 +150,19 @@ pub fn front_length(marker: u8, rest: &[u8]) -> Option<(u64, &[u8])>
 
 // How many elements of this size an object has that lies before the trailer, which is so far away,
 // and what is seen behind its length.
-fn front_count(marker: u8, rest: &[u8], room: u64, size: u64) -> Result<(u64, &[u8]), Outcome>
-    requires room { length rest.now ≤ room }
-    requires far { ReachesFar room rest.now }
-    ensures count { IfOk result (IsCount marker size room rest.now) }
-    ensures small { IfOk result (λ found. found.0 * size ≤ room) }
-    ensures within { IfOk result (EndsBefore size room rest.now) }
+fn front_count(marker: u8, rest: &[u8], extent: u64, size: u64) -> Result<(u64, &[u8]), Outcome>
+    requires extent { length rest.now ≤ extent }
+    requires far { ReachesFar extent rest.now }
+    ensures count { IfOk result (IsCount marker size extent rest.now) }
+    ensures small { IfOk result (λ found. found.0 * size ≤ extent) }
+    ensures within { IfOk result (EndsBefore size extent rest.now) }
     ensures behind { IfOk result (LiesBehind rest.now) }
-    ensures refused { IfErr result (RefusesCounted marker size room rest.now) }
-    ensures whole { IfErr result IsWhole }
+    ensures refused { IfErr result (RefusesCounted marker size extent rest.now) }
+    ensures whole { IfErr result IsAllSeen }
 {
     match front_length(marker, rest) {
         Some((count, behind)) => {
-            let left = room - (rest.len() - behind.len()) as u64;
+            let left = extent - (rest.len() - behind.len()) as u64;
             match count.checked_mul(size) {
                 Some(all) if all <= left => Ok((count, behind)),
                 _ => Err(Outcome::TooLarge),
@@ -174,66 +174,66 @@ fn front_count(marker: u8, rest: &[u8], room: u64, size: u64) -> Result<(u64, &[
 
 // The content of a text or data, if all of it is seen and it has at most so many bytes.
 fn front_content_of<'a>(
-    kind: Kind,
+    kind: ContentKind,
     marker: u8,
     rest: &'a [u8],
-    room: u64,
+    extent: u64,
     most: u64,
-    last: &mut Last,
+    slot: &mut EventSlot,
 ) -> Result<&'a [u8], Outcome>
-    requires room { length rest.now ≤ room }
-    requires far { ReachesFar room rest.now }
-    ensures content { IfOk result (IsCounted marker (unit_size kind) room rest.now) }
+    requires extent { length rest.now ≤ extent }
+    requires far { ReachesFar extent rest.now }
+    ensures content { IfOk result (IsCounted marker (unit_size kind) extent rest.now) }
     ensures size { IfOk result (HasUnits (unit_size kind)) }
     ensures bound { IfOk result (λ content. length content.now ≤ most) }
-    ensures refused { IfErr result (RefusesCounted marker (unit_size kind) room rest.now) }
-    ensures long { IfErr result (LongCounted kind marker room rest.now last.new) }
+    ensures refused { IfErr result (RefusesCounted marker (unit_size kind) extent rest.now) }
+    ensures long { IfErr result (LongCounted kind marker extent rest.now slot.new) }
 {
     let size = kind.unit_size();
-    let (count, behind) = front_count(marker, rest, room, size)?;
+    let (count, behind) = front_count(marker, rest, extent, size)?;
     let all = count * size;
     if all > (behind.len() as u64).min(most) {
         let start = 1 + (rest.len() - behind.len()) as u64;
-        last.content = Content { kind, start, count };
+        slot.content = Content { kind, start, count };
         return Err(Outcome::Long);
     }
     Ok(&behind[..all as usize])
 }
 
-fn front_unsigned(rest: &[u8], room: u64, width: usize, last: &mut Last) -> Outcome
+fn front_unsigned(rest: &[u8], extent: u64, width: usize, slot: &mut EventSlot) -> Outcome
     requires width { width ≤ 8 }
-    requires room { length rest.now ≤ room }
-    requires far { ReachesFar room rest.now }
-    ensures outcome { TellsFront room width unsigned_integer rest.now last.new result }
-    ensures whole { IsWhole result }
+    requires extent { length rest.now ≤ extent }
+    requires far { ReachesFar extent rest.now }
+    ensures outcome { DecodesFront extent width unsigned_integer rest.now slot.new result }
+    ensures whole { IsAllSeen result }
 {
     match front_number(rest, width) {
         Some(number) => {
-            last.tell(Told::Unsigned(number));
+            slot.set(CompactEvent::Unsigned(number));
             Outcome::Scalar
         }
         None => Outcome::TooLarge,
     }
 }
 
-fn front_signed(rest: &[u8], room: u64, last: &mut Last) -> Outcome
-    requires room { length rest.now ≤ room }
-    requires far { ReachesFar room rest.now }
-    ensures outcome { TellsFront room 8 signed_integer rest.now last.new result }
-    ensures whole { IsWhole result }
+fn front_signed(rest: &[u8], extent: u64, slot: &mut EventSlot) -> Outcome
+    requires extent { length rest.now ≤ extent }
+    requires far { ReachesFar extent rest.now }
+    ensures outcome { DecodesFront extent 8 signed_integer rest.now slot.new result }
+    ensures whole { IsAllSeen result }
 {
     match front_number(rest, 8) {
-        Some(number) => last.tell_signed(number),
+        Some(number) => slot.set_signed(number),
         None => Outcome::TooLarge,
     }
 }
 
 // A whole number of sixteen bytes, of which the first eight have to be zero.
-fn front_wide(rest: &[u8], room: u64, last: &mut Last) -> Outcome
-    requires room { length rest.now ≤ room }
-    requires far { ReachesFar room rest.now }
-    ensures outcome { TellsFront room 16 wide_integer rest.now last.new result }
-    ensures whole { IsWhole result }
+fn front_wide(rest: &[u8], extent: u64, slot: &mut EventSlot) -> Outcome
+    requires extent { length rest.now ≤ extent }
+    requires far { ReachesFar extent rest.now }
+    ensures outcome { DecodesFront extent 16 wide_integer rest.now slot.new result }
+    ensures whole { IsAllSeen result }
 {
     if rest.len() < 16 {
         return Outcome::TooLarge;
@@ -243,66 +243,66 @@ fn front_wide(rest: &[u8], room: u64, last: &mut Last) -> Outcome
     if high != 0 {
         return Outcome::OutOfRange;
     }
-    last.tell(Told::Unsigned(low));
+    slot.set(CompactEvent::Unsigned(low));
     Outcome::Scalar
 }
 
-fn front_uid(rest: &[u8], room: u64, width: usize, last: &mut Last) -> Outcome
+fn front_uid(rest: &[u8], extent: u64, width: usize, slot: &mut EventSlot) -> Outcome
     requires width { width ≤ 8 }
-    requires room { length rest.now ≤ room }
-    requires far { ReachesFar room rest.now }
-    ensures outcome { TellsFront room width uid_of_content rest.now last.new result }
-    ensures whole { IsWhole result }
+    requires extent { length rest.now ≤ extent }
+    requires far { ReachesFar extent rest.now }
+    ensures outcome { DecodesFront extent width uid_of_content rest.now slot.new result }
+    ensures whole { IsAllSeen result }
 {
     match front_number(rest, width) {
         Some(number) => {
-            last.tell(Told::Uid(number));
+            slot.set(CompactEvent::Uid(number));
             Outcome::Scalar
         }
         None => Outcome::TooLarge,
     }
 }
 
-fn front_real(rest: &[u8], room: u64, last: &mut Last) -> Outcome
-    requires room { length rest.now ≤ room }
-    requires far { ReachesFar room rest.now }
-    ensures outcome { TellsFront room 8 long_real rest.now last.new result }
-    ensures whole { IsWhole result }
+fn front_real(rest: &[u8], extent: u64, slot: &mut EventSlot) -> Outcome
+    requires extent { length rest.now ≤ extent }
+    requires far { ReachesFar extent rest.now }
+    ensures outcome { DecodesFront extent 8 long_real rest.now slot.new result }
+    ensures whole { IsAllSeen result }
 {
     match front_content(rest) {
         Some(bytes) => {
-            last.hold(Event::Real(RealBits::Eight(bytes)));
+            slot.hold(Event::Real(RealBits::Eight(bytes)));
             Outcome::Scalar
         }
         None => Outcome::TooLarge,
     }
 }
 
-fn front_short_real(rest: &[u8], room: u64, last: &mut Last) -> Outcome
-    requires room { length rest.now ≤ room }
-    requires far { ReachesFar room rest.now }
-    ensures outcome { TellsFront room 4 short_real rest.now last.new result }
-    ensures whole { IsWhole result }
+fn front_short_real(rest: &[u8], extent: u64, slot: &mut EventSlot) -> Outcome
+    requires extent { length rest.now ≤ extent }
+    requires far { ReachesFar extent rest.now }
+    ensures outcome { DecodesFront extent 4 short_real rest.now slot.new result }
+    ensures whole { IsAllSeen result }
 {
     match front_content(rest) {
         Some(bytes) => {
-            last.hold(Event::Real(RealBits::Four(bytes)));
+            slot.hold(Event::Real(RealBits::Four(bytes)));
             Outcome::Scalar
         }
         None => Outcome::TooLarge,
     }
 }
 
-fn front_date(rest: &[u8], room: u64, last: &mut Last) -> Outcome
-    requires room { length rest.now ≤ room }
-    requires far { ReachesFar room rest.now }
-    ensures outcome { TellsFront room 8 date rest.now last.new result }
-    ensures whole { IsWhole result }
+fn front_date(rest: &[u8], extent: u64, slot: &mut EventSlot) -> Outcome
+    requires extent { length rest.now ≤ extent }
+    requires far { ReachesFar extent rest.now }
+    ensures outcome { DecodesFront extent 8 date rest.now slot.new result }
+    ensures whole { IsAllSeen result }
 {
     match front_content(rest) {
         Some(bytes) => match Date::from_plist_real(bytes) {
             Ok(date) => {
-                last.hold(Event::Date(date));
+                slot.hold(Event::Date(date));
                 Outcome::Scalar
             }
             Err(_) => Outcome::NoDate,
@@ -314,26 +314,40 @@ fn front_date(rest: &[u8], room: u64, last: &mut Last) -> Outcome
 // A text or data of at most so many bytes is decoded whatever number may come.
 const SHORT: u64 = 96;
 
-fn front_data(marker: u8, rest: &[u8], room: u64, left: u64, last: &mut Last) -> Outcome
-    requires room { length rest.now ≤ room }
-    requires far { ReachesFar room rest.now }
-    ensures outcome { TellsWhole room (counted_with KindData marker) rest.now last.new result }
-    ensures long { LongCounted KindData marker room rest.now last.new result }
+fn front_data(marker: u8, rest: &[u8], extent: u64, left: u64, slot: &mut EventSlot) -> Outcome
+    requires extent { length rest.now ≤ extent }
+    requires far { ReachesFar extent rest.now }
+    ensures outcome { DecodesWhole extent (counted_with KindData marker) rest.now slot.new result }
+    ensures long { LongCounted KindData marker extent rest.now slot.new result }
 {
-    match front_content_of(Kind::Data, marker, rest, room, left.max(SHORT), last) {
-        Ok(bytes) => last.tell_data(bytes),
+    match front_content_of(
+        ContentKind::Data,
+        marker,
+        rest,
+        extent,
+        left.max(SHORT),
+        slot,
+    ) {
+        Ok(bytes) => slot.set_data(bytes),
         Err(outcome) => outcome,
     }
 }
 
-fn front_text(marker: u8, rest: &[u8], room: u64, left: u64, last: &mut Last) -> Outcome
-    requires room { length rest.now ≤ room }
-    requires far { ReachesFar room rest.now }
-    ensures outcome { TellsWhole room (counted_with KindText marker) rest.now last.new result }
-    ensures long { LongCounted KindText marker room rest.now last.new result }
+fn front_text(marker: u8, rest: &[u8], extent: u64, left: u64, slot: &mut EventSlot) -> Outcome
+    requires extent { length rest.now ≤ extent }
+    requires far { ReachesFar extent rest.now }
+    ensures outcome { DecodesWhole extent (counted_with KindText marker) rest.now slot.new result }
+    ensures long { LongCounted KindText marker extent rest.now slot.new result }
 {
-    match front_content_of(Kind::Text, marker, rest, room, left.max(SHORT), last) {
-        Ok(bytes) => last.tell_text(bytes),
+    match front_content_of(
+        ContentKind::Text,
+        marker,
+        rest,
+        extent,
+        left.max(SHORT),
+        slot,
+    ) {
+        Ok(bytes) => slot.set_text(bytes),
         Err(outcome) => outcome,
     }
 }
@@ -341,127 +355,141 @@ fn front_text(marker: u8, rest: &[u8], room: u64, left: u64, last: &mut Last) ->
 // A text of at most so many units is decoded without memory for its units.
 const UNITS: usize = 32;
 
-fn front_wide_text(marker: u8, rest: &[u8], room: u64, last: &mut Last) -> Outcome
-    requires room { length rest.now ≤ room }
-    requires far { ReachesFar room rest.now }
-    ensures outcome { TellsWhole room (counted_with KindWideText marker) rest.now last.new result }
-    ensures long { LongCounted KindWideText marker room rest.now last.new result }
+fn front_wide_text(marker: u8, rest: &[u8], extent: u64, slot: &mut EventSlot) -> Outcome
+    requires extent { length rest.now ≤ extent }
+    requires far { ReachesFar extent rest.now }
+    ensures outcome { DecodesWhole extent (counted_with KindWideText marker) rest.now slot.new
+        result }
+    ensures long { LongCounted KindWideText marker extent rest.now slot.new result }
 {
-    match front_content_of(Kind::WideText, marker, rest, room, 2 * UNITS as u64, last) {
+    match front_content_of(
+        ContentKind::WideText,
+        marker,
+        rest,
+        extent,
+        2 * UNITS as u64,
+        slot,
+    ) {
         Ok(bytes) => {
             let mut all = [0; UNITS];
             let units = &mut all[..bytes.len() / 2];
             write_units(bytes, units);
-            last.tell_units(units)
+            slot.set_units(units)
         }
         Err(outcome) => outcome,
     }
 }
 
-fn front_array(marker: u8, rest: &[u8], room: u64, width: usize, last: &mut Last) -> Outcome
-    requires room { length rest.now ≤ room }
-    requires far { ReachesFar room rest.now }
+fn front_array(marker: u8, rest: &[u8], extent: u64, width: usize, slot: &mut EventSlot) -> Outcome
+    requires extent { length rest.now ≤ extent }
+    requires far { ReachesFar extent rest.now }
     requires width { 0 < width }
-    ensures outcome { TellsWhole room (array_with width marker) rest.now last.new result }
-    ensures whole { IsWhole result }
+    ensures outcome { DecodesWhole extent (array_with width marker) rest.now slot.new result }
+    ensures whole { IsAllSeen result }
 {
-    match front_count(marker, rest, room, width as u64) {
+    match front_count(marker, rest, extent, width as u64) {
         Ok((count, _)) => {
-            last.tell(Told::Array(count));
+            slot.set(CompactEvent::Array(count));
             Outcome::Collection(count)
         }
         Err(outcome) => outcome,
     }
 }
 
-fn front_dictionary(marker: u8, rest: &[u8], room: u64, width: usize, last: &mut Last) -> Outcome
-    requires room { length rest.now ≤ room }
-    requires far { ReachesFar room rest.now }
+fn front_dictionary(
+    marker: u8,
+    rest: &[u8],
+    extent: u64,
+    width: usize,
+    slot: &mut EventSlot,
+) -> Outcome
+    requires extent { length rest.now ≤ extent }
+    requires far { ReachesFar extent rest.now }
     requires width { (0 < width) × (width ≤ 8) }
-    ensures outcome { TellsWhole room (pairs_with width marker) rest.now last.new result }
-    ensures whole { IsWhole result }
+    ensures outcome { DecodesWhole extent (pairs_with width marker) rest.now slot.new result }
+    ensures whole { IsAllSeen result }
 {
-    match front_count(marker, rest, room, 2 * width as u64) {
+    match front_count(marker, rest, extent, 2 * width as u64) {
         Ok((count, _)) => {
-            last.tell(Told::Dictionary(count));
+            slot.set(CompactEvent::Dictionary(count));
             Outcome::Collection(2 * count)
         }
         Err(outcome) => outcome,
     }
 }
 
-// The object behind a marker. A text or data of more than `left` bytes isn't all told, unless it is
+// The object behind a marker. A text or data of more than `left` bytes isn't all read, unless it is
 // short.
 fn front_behind(
     marker: u8,
     rest: &[u8],
-    room: u64,
+    extent: u64,
     width: usize,
     left: u64,
-    last: &mut Last,
+    slot: &mut EventSlot,
 ) -> Outcome
-    requires room { length rest.now ≤ room }
-    requires far { ReachesFar room rest.now }
+    requires extent { length rest.now ≤ extent }
+    requires far { ReachesFar extent rest.now }
     requires width { (0 < width) × (width ≤ 8) }
-    ensures outcome { TellsWhole room (object_with width marker) rest.now last.new result }
-    ensures long { LongBehind marker room (object_with width marker) rest.now last.new result }
+    ensures outcome { DecodesWhole extent (object_with width marker) rest.now slot.new result }
+    ensures long { LongBehind marker extent (object_with width marker) rest.now slot.new result }
 {
     match marker {
         0x00 => Outcome::Null,
-        0x08 => last.tell_boolean(false),
-        0x09 => last.tell_boolean(true),
+        0x08 => slot.set_boolean(false),
+        0x09 => slot.set_boolean(true),
         0x0f => Outcome::Fill,
-        0x10 => front_unsigned(rest, room, 1, last),
-        0x11 => front_unsigned(rest, room, 2, last),
-        0x12 => front_unsigned(rest, room, 4, last),
-        0x13 => front_signed(rest, room, last),
-        0x14 => front_wide(rest, room, last),
-        0x22 => front_short_real(rest, room, last),
-        0x23 => front_real(rest, room, last),
-        0x33 => front_date(rest, room, last),
-        0x40..=0x4f => front_data(marker, rest, room, left, last),
-        0x50..=0x5f => front_text(marker, rest, room, left, last),
-        0x60..=0x6f => front_wide_text(marker, rest, room, last),
-        0x80..=0x87 => front_uid(rest, room, usize::from(marker - 0x7f), last),
-        0xa0..=0xaf => front_array(marker, rest, room, width, last),
-        0xd0..=0xdf => front_dictionary(marker, rest, room, width, last),
+        0x10 => front_unsigned(rest, extent, 1, slot),
+        0x11 => front_unsigned(rest, extent, 2, slot),
+        0x12 => front_unsigned(rest, extent, 4, slot),
+        0x13 => front_signed(rest, extent, slot),
+        0x14 => front_wide(rest, extent, slot),
+        0x22 => front_short_real(rest, extent, slot),
+        0x23 => front_real(rest, extent, slot),
+        0x33 => front_date(rest, extent, slot),
+        0x40..=0x4f => front_data(marker, rest, extent, left, slot),
+        0x50..=0x5f => front_text(marker, rest, extent, left, slot),
+        0x60..=0x6f => front_wide_text(marker, rest, extent, slot),
+        0x80..=0x87 => front_uid(rest, extent, usize::from(marker - 0x7f), slot),
+        0xa0..=0xaf => front_array(marker, rest, extent, width, slot),
+        0xd0..=0xdf => front_dictionary(marker, rest, extent, width, slot),
         other => Outcome::Unknown(other),
     }
 }
 
 // Is it a scalar that can be cached?
-fn is_small_outcome(outcome: Outcome, last: &Last) -> bool
-    ensures { cond result 1 0 ≡ small_outcome outcome (event_in last.now) }
+fn is_small_outcome(outcome: Outcome, slot: &EventSlot) -> bool
+    ensures { cond result 1 0 ≡ small_outcome outcome (event_in slot.now) }
 {
     match outcome {
-        Outcome::Scalar => last.is_small(),
+        Outcome::Scalar => slot.is_small(),
         _ => false,
     }
 }
 
 /// Decodes the object that begins these bytes, all up to the trailer or at least 26, and counts it
 /// where it is small. No other function makes a small object of its bytes. A text or data of more
-/// than `left` bytes isn't all told, unless it is short.
+/// than `left` bytes isn't all read, unless it is short.
 pub fn decode_seen<C: DecodeCounter>(
     seen: &[u8],
-    room: u64,
+    extent: u64,
     width: usize,
     left: u64,
     counter: &mut C,
-    last: &mut Last,
+    slot: &mut EventSlot,
 ) -> Outcome
-    requires room { length seen.now ≤ room }
-    requires far { ShowsFront room seen.now }
-    requires some { 0 < room }
+    requires extent { length seen.now ≤ extent }
+    requires far { ShowsFront extent seen.now }
+    requires some { 0 < extent }
     requires width { (0 < width) × (width ≤ 8) }
-    ensures outcome { TellsWhole room (object_in width) seen.now last.new result }
-    ensures long { LeavesLong room (object_in width) seen.now last.new result }
-    ensures counted { CountsOutcome C.counts C.count counter.old counter.new result last.new }
+    ensures outcome { DecodesWhole extent (object_in width) seen.now slot.new result }
+    ensures long { LeavesLong extent (object_in width) seen.now slot.new result }
+    ensures counted { CountsOutcome C.counts C.count counter.old counter.new result slot.new }
 {
     match seen.split_first() {
         Some((marker, rest)) => {
-            let outcome = front_behind(*marker, rest, room - 1, width, left, last);
-            if is_small_outcome(outcome, last) {
+            let outcome = front_behind(*marker, rest, extent - 1, width, left, slot);
+            if is_small_outcome(outcome, slot) {
                 counter.raise();
             }
             outcome

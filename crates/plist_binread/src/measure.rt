@@ -3,12 +3,12 @@
 ghost use Rattle.std.specs.Prelude.{◌≡◌, ◌+◌, ◌*◌, ◌^◌, ◌<◌, ◌≤◌, length, take, drop, None, IfOk, IfSome};
 ghost use Rattle.plist_base.specs.Outcomes.{IfRead, IfRefused};
 ghost use Rattle.plist_base.specs.Sources.{AnswersIo, IsIoWithin};
-ghost use Rattle.plist_binread.specs.declared.front.Kind.TheVariants.{Text as KindText, WideText as KindWideText};
+ghost use Rattle.plist_binread.specs.declared.front.ContentKind.TheVariants.{Text as KindText, WideText as KindWideText};
 ghost use Rattle.plist_binread.specs.Failures.{ErrWithin};
 ghost use Rattle.plist_binread.specs.Front.{EndsIn64Bits, FailsInContent};
 ghost use Rattle.plist_binread.specs.Measuring.{IsHigh, IsTextFront, IsTextPart, MeasuresAt, MeasuresContent, TakesUnit};
 
-use crate::front::{Content, Kind};
+use crate::front::{Content, ContentKind};
 use crate::numbers::read_number;
 use plist_base::{Error, Source, read_exact_at};
 use std::str;
@@ -148,8 +148,8 @@ pub fn measure<S: Source>(
 {
     let start = place + content.start;
     match content.kind {
-        Kind::Data => Ok(Some(content.count)),
-        Kind::Text => measure_text(source, start, content.count),
-        Kind::WideText => measure_units(source, start, content.count),
+        ContentKind::Data => Ok(Some(content.count)),
+        ContentKind::Text => measure_text(source, start, content.count),
+        ContentKind::WideText => measure_units(source, start, content.count),
     }
 }

@@ -8,25 +8,25 @@ ghost use Rattle.plist_format.specs.Object.{Faulty, Object};
 ghost use Rattle.plist_binread.specs.Decoding.{IsRefusedAs};
 ghost use Rattle.plist_binread.specs.Failures.{ErrWithin, FailsWithin, MatchReader};
 ghost use Rattle.plist_binread.specs.Outcome.{IsOutcomeOf, small_outcome};
-ghost use Rattle.plist_binread.specs.Front.{CountsFound, EndsIn64Bits, FailsInContent, IsLargeScalar, TellsAt, LongAt, TellsContentAt, TellsObject, is_fault, is_wrong};
+ghost use Rattle.plist_binread.specs.Front.{CountsFound, EndsIn64Bits, FailsInContent, IsLargeScalar, DecodesAt, LongAt, DecodesContentAt, DecodesObject, is_fault, is_wrong};
 ghost use Rattle.plist_binread.specs.Lengths.{LimitsContent, LimitsObject, RefusesContent};
 ghost use Rattle.plist_binread.specs.Measuring.{Measures};
-ghost use Rattle.plist_binread.specs.Told.{AnswersIn, answer_in};
-ghost use Rattle.plist_binread.specs.declared.told.Refused.TheVariants.{Fault};
+ghost use Rattle.plist_binread.specs.Slot.{AnswersIn, answer_in};
+ghost use Rattle.plist_binread.specs.declared.slot.Refused.TheVariants.{Fault};
 
 use crate::counter::DecodeCounter;
-use crate::front::{Kind, Outcome, decode_seen};
+use crate::front::{ContentKind, Outcome, decode_seen};
 use crate::head::Bounds;
 use crate::measure::measure;
+use crate::slot::{EventSlot, Refused};
 use crate::text::read_long;
-use crate::told::{Last, Refused};
 use plist_base::{Error, ErrorKind, Source, read_exact_at};
 use std::alloc::Global;
 
 // What is wrong with an object.
 fn fault_kind(outcome: Outcome) -> ErrorKind
     requires { is_wrong outcome ≡ true }
-    ensures faulty { (object : Object) (told : PlainEvent) → IsOutcomeOf object told outcome
+    ensures faulty { (object : Object) (current : PlainEvent) → IsOutcomeOf object current outcome
         → object ≡ Faulty (kind_of result) }
     ensures inside { MatchFault (kind_of result) ⊥ ⊥ ⊤ }
     ensures reader { MatchReader (kind_of result) ⊥ ⊥ ⊤ }
@@ -50,11 +50,11 @@ fn fault_kind(outcome: Outcome) -> ErrorKind
 #[inline(never)]
 fn object_fault(outcome: Outcome, place: u64) -> Error
     requires { is_fault outcome ≡ true }
-    ensures refused { (object : Object) (told : PlainEvent) → IsOutcomeOf object told outcome
+    ensures refused { (object : Object) (current : PlainEvent) → IsOutcomeOf object current outcome
         → IsRefusedAs object place result }
     ensures fault { (end : ℕ) → FailsWithin place end (fault_of result) }
     ensures failures { (count : ℕ) → CountsIo result count count }
-    ensures small { (told : PlainEvent) → small_outcome outcome told ≡ 0 }
+    ensures small { (current : PlainEvent) → small_outcome outcome current ≡ 0 }
 {
     match outcome {
         Outcome::NoMemory => ErrorKind::OutOfMemory.without_position(),
@@ -74,27 +74,27 @@ fn read_front<S: Source, C: DecodeCounter>(
     counter: &mut C,
     bounds: &Bounds,
     place: u64,
-    room: u64,
+    extent: u64,
     left: u64,
-    last: &mut Last,
+    slot: &mut EventSlot,
 ) -> Result<Outcome, Refused>
     requires place { place < bounds.now.trailer }
-    requires room { room ≡ bounds.now.trailer - place }
+    requires extent { extent ≡ bounds.now.trailer - place }
     // The answer.
-    ensures outcome { TellsAt S.known source.old bounds.now place last.new result }
-    ensures long { LongAt S.known source.old bounds.now place last.new result }
+    ensures outcome { DecodesAt S.known source.old bounds.now place slot.new result }
+    ensures long { LongAt S.known source.old bounds.now place slot.new result }
     // A refusal.
-    ensures fault { ErrWithin place bounds.now.trailer (answer_in result last.new) }
+    ensures fault { ErrWithin place bounds.now.trailer (answer_in result slot.new) }
     // The state after it.
-    ensures counted { CountsFound C.counts C.count counter.old counter.new result last.new }
+    ensures counted { CountsFound C.counts C.count counter.old counter.new result slot.new }
     ensures unchanged { S.known source.new ≡ S.known source.old }
-    ensures failures { AnswersIn S.failures result last.new source.old source.new }
+    ensures failures { AnswersIn S.failures result slot.new source.old source.new }
 {
     let mut front = [0; FRONT];
-    let seen = &mut front[..room.min(FRONT as u64) as usize];
+    let seen = &mut front[..extent.min(FRONT as u64) as usize];
     match read_exact_at(source, place, seen) {
-        Ok(()) => Ok(decode_seen(seen, room, bounds.reference_width, left, counter, last)),
-        Err(error) => Err(last.refuse(error)),
+        Ok(()) => Ok(decode_seen(seen, extent, bounds.reference_width, left, counter, slot)),
+        Err(error) => Err(slot.refuse(error)),
     }
 }
 
@@ -106,68 +106,73 @@ fn decode_front<S: Source, C: DecodeCounter>(
     bounds: &Bounds,
     place: u64,
     left: u64,
-    last: &mut Last,
+    slot: &mut EventSlot,
 ) -> Result<Outcome, Refused>
     requires place { place < bounds.now.trailer }
     // The answer.
-    ensures outcome { TellsAt S.known source.old bounds.now place last.new result }
-    ensures long { LongAt S.known source.old bounds.now place last.new result }
+    ensures outcome { DecodesAt S.known source.old bounds.now place slot.new result }
+    ensures long { LongAt S.known source.old bounds.now place slot.new result }
     // A refusal.
-    ensures fault { ErrWithin place bounds.now.trailer (answer_in result last.new) }
+    ensures fault { ErrWithin place bounds.now.trailer (answer_in result slot.new) }
     // The state after it.
-    ensures counted { CountsFound C.counts C.count counter.old counter.new result last.new }
+    ensures counted { CountsFound C.counts C.count counter.old counter.new result slot.new }
     ensures unchanged { S.known source.new ≡ S.known source.old }
-    ensures failures { AnswersIn S.failures result last.new source.old source.new }
+    ensures failures { AnswersIn S.failures result slot.new source.old source.new }
 {
-    let room = bounds.trailer - place;
-    let near = source.near(place);
-    if near.len() as u64 >= room.min(FRONT as u64) {
-        let seen = &near[..room.min(near.len() as u64) as usize];
-        return Ok(decode_seen(seen, room, bounds.reference_width, left, counter, last));
+    let extent = bounds.trailer - place;
+    let buffered = source.buffered(place);
+    if buffered.len() as u64 >= extent.min(FRONT as u64) {
+        let seen = &buffered[..extent.min(buffered.len() as u64) as usize];
+        return Ok(decode_seen(seen, extent, bounds.reference_width, left, counter, slot));
     }
-    read_front(source, counter, bounds, place, room, left, last)
+    read_front(source, counter, bounds, place, extent, left, slot)
 }
 
 // The fault of the text at a place that is none.
-fn no_text(kind: Kind, place: u64) -> Error
+fn no_text(kind: ContentKind, place: u64) -> Error
     ensures refused { (object : Object) → Measures kind object None
         → IsRefusedAs object place result }
     ensures fault { (end : ℕ) → FailsWithin place end (fault_of result) }
     ensures failures { (count : ℕ) → CountsIo result count count }
 {
     match kind {
-        Kind::WideText => ErrorKind::InvalidUtf16String.with_byte_offset(place),
+        ContentKind::WideText => ErrorKind::InvalidUtf16String.with_byte_offset(place),
         _ => ErrorKind::InvalidUtf8String.with_byte_offset(place),
     }
 }
 
 // Refuses the text or data whose content is held, of the object at a place, where it has more than
 // `left` bytes. No memory is taken for it.
-fn weigh<S: Source>(source: &mut S, place: u64, left: u64, last: &mut Last) -> Result<(), Refused>
-    requires fits { EndsIn64Bits place last.old.content }
+fn weigh<S: Source>(
+    source: &mut S,
+    place: u64,
+    left: u64,
+    slot: &mut EventSlot,
+) -> Result<(), Refused>
+    requires fits { EndsIn64Bits place slot.old.content }
     // A refusal.
-    ensures refused { RefusesContent (S.known source.old) place last.old.content last.new result }
-    ensures limit { LimitsContent result left last.new (S.known source.old) place last.old.content }
-    ensures fault { FailsInContent place last.old.content (answer_in result last.new) }
+    ensures refused { RefusesContent (S.known source.old) place slot.old.content slot.new result }
+    ensures limit { LimitsContent result left slot.new (S.known source.old) place slot.old.content }
+    ensures fault { FailsInContent place slot.old.content (answer_in result slot.new) }
     // The state after it.
-    ensures content { OnOk result (last.new.content ≡ last.old.content) }
+    ensures content { OnOk result (slot.new.content ≡ slot.old.content) }
     ensures unchanged { S.known source.new ≡ S.known source.old }
-    ensures failures { AnswersIn S.failures result last.new source.old source.new }
+    ensures failures { AnswersIn S.failures result slot.new source.old source.new }
 {
     // No element has more than three bytes in UTF-8.
-    if last.content.count.saturating_mul(3) <= left {
+    if slot.content.count.saturating_mul(3) <= left {
         return Ok(());
     }
-    match measure(source, place, last.content) {
+    match measure(source, place, slot.content) {
         Ok(Some(size)) => {
             if size > left {
-                last.want_memory();
+                slot.want_memory();
                 return Err(Refused::TooLong);
             }
             Ok(())
         }
-        Ok(None) => Err(last.refuse(no_text(last.content.kind, place))),
-        Err(error) => Err(last.refuse(error)),
+        Ok(None) => Err(slot.refuse(no_text(slot.content.kind, place))),
+        Err(error) => Err(slot.refuse(error)),
     }
 }
 
@@ -175,47 +180,47 @@ fn weigh<S: Source>(source: &mut S, place: u64, left: u64, last: &mut Last) -> R
 // more than `left` bytes.
 #[cold]
 #[inline(never)]
-fn tell_long<S: Source>(
+fn decode_long<S: Source>(
     alloc: Global,
     source: &mut S,
     place: u64,
     left: u64,
-    last: &mut Last,
+    slot: &mut EventSlot,
 ) -> Result<Outcome, Refused>
-    requires fits { EndsIn64Bits place last.old.content }
+    requires fits { EndsIn64Bits place slot.old.content }
     // The answer.
-    ensures told { TellsContentAt (S.known source.old) place last.old.content last.new result }
-    ensures large { IfOk result (IsLargeScalar last.new) }
+    ensures current { DecodesContentAt (S.known source.old) place slot.old.content slot.new result }
+    ensures large { IfOk result (IsLargeScalar slot.new) }
     // A refusal.
-    ensures limit { LimitsContent result left last.new (S.known source.old) place last.old.content }
-    ensures fault { FailsInContent place last.old.content (answer_in result last.new) }
+    ensures limit { LimitsContent result left slot.new (S.known source.old) place slot.old.content }
+    ensures fault { FailsInContent place slot.old.content (answer_in result slot.new) }
     // The state after it.
     ensures unchanged { S.known source.new ≡ S.known source.old }
-    ensures failures { AnswersIn S.failures result last.new source.old source.new }
+    ensures failures { AnswersIn S.failures result slot.new source.old source.new }
 {
-    weigh(source, place, left, last)?;
-    match read_long(alloc, source, place, last.content) {
+    weigh(source, place, left, slot)?;
+    match read_long(alloc, source, place, slot.content) {
         Ok(event) => {
-            last.hold(event);
+            slot.hold(event);
             Ok(Outcome::Scalar)
         }
-        Err(error) => Err(last.refuse(error)),
+        Err(error) => Err(slot.refuse(error)),
     }
 }
 
 // Holds the fault of the object at a place.
 #[cold]
 #[inline(never)]
-fn refuse_object(outcome: Outcome, place: u64, last: &mut Last) -> Refused
+fn refuse_object(outcome: Outcome, place: u64, slot: &mut EventSlot) -> Refused
     requires { is_fault outcome ≡ true }
-    ensures refused { (object : Object) (told : PlainEvent) → IsOutcomeOf object told outcome
-        → IsRefusedAs object place last.new.fault }
-    ensures fault { (end : ℕ) → FailsWithin place end (fault_of last.new.fault) }
-    ensures failures { (count : ℕ) → CountsIo last.new.fault count count }
-    ensures small { (told : PlainEvent) → small_outcome outcome told ≡ 0 }
+    ensures refused { (object : Object) (current : PlainEvent) → IsOutcomeOf object current outcome
+        → IsRefusedAs object place slot.new.fault }
+    ensures fault { (end : ℕ) → FailsWithin place end (fault_of slot.new.fault) }
+    ensures failures { (count : ℕ) → CountsIo slot.new.fault count count }
+    ensures small { (current : PlainEvent) → small_outcome outcome current ≡ 0 }
     ensures held { result ≡ Fault }
 {
-    last.refuse(object_fault(outcome, place))
+    slot.refuse(object_fault(outcome, place))
 }
 
 /// Tells the object at a place, and counts it where it is small. A text or data of more than `left`
@@ -228,26 +233,26 @@ pub fn decode<S: Source, C: DecodeCounter>(
     bounds: &Bounds,
     place: u64,
     left: u64,
-    last: &mut Last,
+    slot: &mut EventSlot,
 ) -> Result<Outcome, Refused>
     // The answer.
-    ensures decoded { TellsObject S.known source.old bounds.now place last.new result }
+    ensures decoded { DecodesObject S.known source.old bounds.now place slot.new result }
     // A refusal.
-    ensures limit { LimitsObject result left last.new (S.known source.old) bounds.now place }
-    ensures fault { ErrWithin place bounds.now.trailer (answer_in result last.new) }
+    ensures limit { LimitsObject result left slot.new (S.known source.old) bounds.now place }
+    ensures fault { ErrWithin place bounds.now.trailer (answer_in result slot.new) }
     // The state after it.
-    ensures counted { CountsFound C.counts C.count counter.old counter.new result last.new }
+    ensures counted { CountsFound C.counts C.count counter.old counter.new result slot.new }
     ensures unchanged { S.known source.new ≡ S.known source.old }
-    ensures failures { AnswersIn S.failures result last.new source.old source.new }
+    ensures failures { AnswersIn S.failures result slot.new source.old source.new }
 {
     if place >= bounds.trailer {
-        return Err(last.exceed(place));
+        return Err(slot.exceed(place));
     }
-    match decode_front(source, counter, bounds, place, left, last) {
+    match decode_front(source, counter, bounds, place, left, slot) {
         Ok(outcome) => match outcome {
             Outcome::Scalar | Outcome::Collection(_) => Ok(outcome),
-            Outcome::Long => tell_long(alloc, source, place, left, last),
-            _ => Err(refuse_object(outcome, place, last)),
+            Outcome::Long => decode_long(alloc, source, place, left, slot),
+            _ => Err(refuse_object(outcome, place, slot)),
         },
         Err(_) => Err(Refused::Fault),
     }

@@ -3,10 +3,10 @@
 ghost use Rattle.std.specs.Prelude.{◌≡◌, ◌<◌, length, reverse, true};
 ghost use Rattle.std.proofs.Props.{props};
 ghost use Rattle.plist_binread.specs.declared.walk.Turn.TheVariants.{Closed};
-ghost use Rattle.plist_binread.specs.Debt.{IsOpen};
-ghost use Rattle.plist_binread.specs.Turning.{AsksWithin, closes};
+ghost use Rattle.plist_binread.specs.Remaining.{IsOpen};
+ghost use Rattle.plist_binread.specs.Turns.{IsTurnWithin, closes};
 
-use crate::frames::{Frames, Wanted};
+use crate::frames::{Frames, Upcoming};
 use crate::packed::unmark;
 use std::alloc::Global;
 
@@ -36,11 +36,11 @@ pub struct Walk {
 
 impl Walk {
     ghost use Rattle.plist_binread.specs.Step.{LightensBy, TurnsWalk};
-    ghost use Rattle.plist_binread.specs.Walking.{IsEmpty, cached_in, walk_objects, open_in};
+    ghost use Rattle.plist_binread.specs.Walking.{IsEmptyWalk, cached_in, walk_objects, open_in};
 
     /// No object is held.
     pub fn new(alloc: Global) -> Self
-        ensures { IsEmpty result }
+        ensures { IsEmptyWalk result }
     {
         Walk {
             tags: Vec::new(alloc),
@@ -52,8 +52,8 @@ impl Walk {
     /// Takes the next child of the innermost collection, or closes it where it has no more.
     pub fn turn(&mut self) -> Turn
         // The answer.
-        ensures owed { TurnsWalk self.old result self.new }
-        ensures within { AsksWithin self.new.tags.items result }
+        ensures remaining { TurnsWalk self.old result self.new }
+        ensures within { IsTurnWithin self.new.tags.items result }
         ensures closes { closes (open_in self.old) ≡ true → result ≡ Closed }
         // The state after it.
         ensures size { walk_objects self.new ≡ walk_objects self.old }
@@ -62,12 +62,12 @@ impl Walk {
         ensures contents { self.new.contents.items ≡ self.old.contents.items }
     {
         match self.frames.turn() {
-            Wanted::Nothing => Turn::Done,
-            Wanted::End(object) => {
+            Upcoming::Nothing => Turn::Done,
+            Upcoming::End(object) => {
                 unmark(&mut self.tags, object as usize);
                 Turn::Closed
             }
-            Wanted::Child(object, index) => Turn::Child(object, index),
+            Upcoming::Child(object, index) => Turn::Child(object, index),
         }
     }
 }

@@ -3,18 +3,18 @@ use Rattle.std.proofs.Common.{◌≡◌, inl, ℕ, Bool, true, false, MatchBool,
 use Rattle.std.proofs.Props.{props}
 use Rattle.std.specs.declared.io.traits.Write.{Ghosts}
 use mathlib.Core.HLevel.{is_prop→PathP}
-use Rattle.plist_base.specs.Bracketing.{unhinted, AreAlike, CanContinue}
+use Rattle.plist_base.specs.Bracketing.{without_length, AreAlike, CanContinue}
 use Rattle.plist_base.specs.Events.{PlainEvent}
 use Rattle.plist_base.specs.Faults.{FaultKind, Fault, Io, OutOfMemory, PlistTooLarge}
 use Rattle.plist_base.specs.Trees.{Tree}
 use Rattle.plist_base.specs.Writing.{Answer, MatchKind}
 use Rattle.plist_base.proofs.Grammar.{alike_last}
 use Rattle.plist_binwrite.specs.SendingAs.{SendsAs, FailsAs}
-use Rattle.plist_binwrite.specs.declared.pending.Pending.{Pending}
-use Rattle.plist_binwrite.specs.Pendings.{is_whole, misplaced_fault}
+use Rattle.plist_binwrite.specs.declared.event_buffer.EventBuffer.{EventBuffer}
+use Rattle.plist_binwrite.specs.EventBuffers.{is_whole, misplaced_fault}
 use Rattle.plist_binwrite.specs.declared.shared.Sharing.{Ghosts as SharingGhosts}
 use Rattle.plist_binwrite.specs.declared.writer.FileWriter.{FileWriter}
-use Rattle.plist_binwrite.specs.FileWriter.{Takes, held_by, failed_of, inner_of}
+use Rattle.plist_binwrite.specs.FileWriter.{Takes, open_events, failed_of, sink_of}
 use Rattle.plist_binwrite.proofs.SendingFiles.{sends_as}
 
 still : (b : Bool) (x y : Type 0) → b ≡ false → y → MatchBool b x y
@@ -23,7 +23,7 @@ still false x y e h = h
 
 -- the events held with one more are those handed in, but for a length
 last_alike : (held events : List PlainEvent) (event : PlainEvent)
-    → events ≡ held ++ unhinted event ∷ [] → AreAlike events (held ++ event ∷ [])
+    → events ≡ held ++ without_length event ∷ [] → AreAlike events (held ++ event ∷ [])
 last_alike held events event is = cc (alike_last held event)
 
 module _ {W : Type 0} (IsFile : Tree → List ℕ → Type 0) (size : Tree → ℕ)
@@ -41,42 +41,42 @@ module _ {W : Type 0} (IsFile : Tree → List ℕ → Type 0) (size : Tree → �
     abbrev Does : Answer → Type 0
     Does answer = Takes IsFile size contents before event answer after
 
-    pub takes_refused : (fault : Fault) → (CanContinue (held_by before) event → ⊥)
-        → fault ≡ misplaced_fault (held_by before) event → after ≡ before → Does (Err fault)
+    pub takes_refused : (fault : Fault) → (CanContinue (open_events before) event → ⊥)
+        → fault ≡ misplaced_fault (open_events before) event → after ≡ before → Does (Err fault)
     takes_refused fault none is same =
         still _ _ _ up (rw is (refl, (none, refl, same)))
 
-    module _ (events : List PlainEvent) (can : CanContinue (held_by before) event)
-        (are : events ≡ held_by before ++ unhinted event ∷ []) where
+    module _ (events : List PlainEvent) (can : CanContinue (open_events before) event)
+        (are : events ≡ open_events before ++ without_length event ∷ []) where
       -- so is what sending them does
       sent : (answer : Answer)
-          → SendsAs IsFile size contents events answer (inner_of before) (inner_of after)
-          → SendsAs IsFile size contents (held_by before ++ event ∷ []) answer (inner_of before)
-          (inner_of after)
+          → SendsAs IsFile size contents events answer (sink_of before) (sink_of after)
+          → SendsAs IsFile size contents (open_events before ++ event ∷ []) answer (sink_of before)
+          (sink_of after)
       sent answer =
           sends_as _ _ _ _ _ _
           (last_alike _ _ _ are) (λ t alike file of. of) (λ t alike. refl) _ _ _ _
 
       pub takes_unsent : (fault : Fault) → failed_of after ≡ true
-          → SendsAs IsFile size contents events (Err fault) (inner_of before) (inner_of after)
+          → SendsAs IsFile size contents events (Err fault) (sink_of before) (sink_of after)
           → Does (Err fault)
       takes_unsent fault lost sends =
           let s = sent (Err fault) sends in
           still (failed_of before) _ _ up (
             s.0,
-            failing fault.kind (held_by before ++ event ∷ [])
-                (inner_of before) (inner_of after) _ _ (can, lost, s.1) s.1,
+            failing fault.kind (open_events before ++ event ∷ [])
+                (sink_of before) (sink_of after) _ _ (can, lost, s.1) s.1,
           )
 
-      pub takes_whole : failed_of after ≡ false → held_by after ≡ []
-          → SendsAs IsFile size contents events (Ok tt) (inner_of before) (inner_of after)
+      pub takes_whole : failed_of after ≡ false → open_events after ≡ []
+          → SendsAs IsFile size contents events (Ok tt) (sink_of before) (sink_of after)
           → Does (Ok tt)
       takes_whole on none sends =
           still _ _ _ up (can, on, inl (sent (Ok tt) sends, none))
 
 -- a writer whose held events are given back is the same
 pub same_state : {W S : Type 0} {g : Ghosts W} {h : SharingGhosts S}
-    (before : FileWriter W S g h) (pending : Pending) (is : pending ≡ before.pending)
+    (before : FileWriter W S g h) (pending : EventBuffer) (is : pending ≡ before.pending)
     (between : before.has_failed ≡ false → is_whole pending ≡ false)
     → ◌≡◌ {A = FileWriter W S g h}
     (record {

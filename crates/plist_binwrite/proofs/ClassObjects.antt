@@ -7,14 +7,14 @@ use Rattle.plist_base.specs.Trees.{Scalar, Tree, Leaf, Array, Dictionary, Trees,
 use Rattle.plist_format.specs.Object as obj
 use Rattle.plist_format.specs.Object.{Object}
 use Rattle.plist_binwrite.specs.Classes.{AreClasses}
-use Rattle.plist_binwrite.specs.Held.{num_of, Describes}
+use Rattle.plist_binwrite.specs.EventTable.{num_of, Describes}
 use Rattle.plist_binwrite.specs.Numberings.{refs, pairs, obj_of}
 use Rattle.plist_binwrite.specs.declared.plan.Plan.{Plan}
 use Rattle.plist_binwrite.specs.inner.Planning.{IsPlanned, GoesBy, numbers_of, firsts_of, count_of}
-use Rattle.plist_binwrite.proofs.TreeObjects.{sits_at}
-use Rattle.plist_binwrite.specs.Standing.{size, Sits, SitsItems, SitsPairs}
-use Rattle.plist_binwrite.proofs.Sitting.{sits_items, sits_pairs, sits_item, sits_next, sits_key, sits_value, sits_next_pair}
-use Rattle.plist_binwrite.proofs.Skipping.{begins, sits_in}
+use Rattle.plist_binwrite.proofs.TreeObjects.{occurs_at}
+use Rattle.plist_binwrite.specs.Occurrences.{size, OccursAt, ItemsOccurAt, PairsOccurAt}
+use Rattle.plist_binwrite.proofs.Sitting.{occurs_items, occurs_pairs, occurs_item, occurs_next, occurs_key, occurs_value, occurs_next_pair}
+use Rattle.plist_binwrite.proofs.Skipping.{begins, occurs_in}
 
 pub the_scalar : (x y : Scalar) → obj.Scalar x ≡ obj.Scalar y → x ≡ y
 the_scalar x y p = cc
@@ -33,37 +33,39 @@ cons_is a b xs ys p = (cc, cc)
 
 module _ {es : List PlainEvent} {class : ℕ → ℕ} (c : AreClasses es class) where
   module _ (num : ℕ → ℕ)
-      (same : (t u : Tree) (p q : ℕ) → Sits es t p → Sits es u q → class p ≡ class q
+      (same : (t u : Tree) (p q : ℕ) → OccursAt es t p → OccursAt es u q → class p ≡ class q
       → num p ≡ num q) where
     mutual
       -- indices of one class have one tree, and one object by the numbers, too
-      pub one_object : (t u : Tree) (p q : ℕ) → Sits es t p → Sits es u q → class p ≡ class q
+      pub one_object : (t u : Tree) (p q : ℕ) → OccursAt es t p → OccursAt es u q
+          → class p ≡ class q
           → (t ≡ u) × (obj_of num t p ≡ obj_of num u q)
       one_object (Leaf x) (Leaf y) p q s r e =
           let k = c.object (Leaf x) (Leaf y) p q s r e in (ap Leaf (the_scalar x y k), k)
       one_object (Array ts) (Array us) p q s r e =
-          let k = one_items ts us (p + 1) (q + 1) (sits_items s) (sits_items r)
+          let k = one_items ts us (p + 1) (q + 1) (occurs_items s) (occurs_items r)
           (the_items _ _ (c.object (Array ts) (Array us) p q s r e)) in
           (ap Array k.0, ap obj.Array k.1)
       one_object (Dictionary ms) (Dictionary ns) p q s r e =
-          let k = one_pairs ms ns (p + 1) (q + 1) (sits_pairs s) (sits_pairs r)
+          let k = one_pairs ms ns (p + 1) (q + 1) (occurs_pairs s) (occurs_pairs r)
           (the_pairs _ _ (c.object (Dictionary ms) (Dictionary ns) p q s r e)) in
           (ap Dictionary k.0, ap obj.Dictionary k.1)
       one_object t u p q s r e = let k = c.object t u p q s r e in cc
 
-      one_items : (ts us : Trees) (p q : ℕ) → SitsItems es ts p → SitsItems es us q
+      one_items : (ts us : Trees) (p q : ℕ) → ItemsOccurAt es ts p → ItemsOccurAt es us q
           → refs class ts p ≡ refs class us q → (ts ≡ us) × (refs num ts p ≡ refs num us q)
       one_items NoTrees NoTrees p q s r e = (refl, refl)
       one_items NoTrees (TreeAnd u us) p q s r e = cc
       one_items (TreeAnd t ts) NoTrees p q s r e = cc
       one_items (TreeAnd t ts) (TreeAnd u us) p q s r e =
           let h = cons_is _ _ _ _ e in
-          let k = one_object t u p q (sits_item s) (sits_item r) h.0 in
-          let n = same t u p q (sits_item s) (sits_item r) h.0 in
-          let more = one_items ts us (p + size t) (q + size u) (sits_next s) (sits_next r) h.1 in
+          let k = one_object t u p q (occurs_item s) (occurs_item r) h.0 in
+          let n = same t u p q (occurs_item s) (occurs_item r) h.0 in
+          let more = one_items ts us (p + size t) (q + size u) (occurs_next s)
+          (occurs_next r) h.1 in
           ((λ i. TreeAnd (k.0 i) (more.0 i)), λ i. n i ∷ more.1 i)
 
-      one_pairs : (ms ns : Members) (p q : ℕ) → SitsPairs es ms p → SitsPairs es ns q
+      one_pairs : (ms ns : Members) (p q : ℕ) → PairsOccurAt es ms p → PairsOccurAt es ns q
           → pairs class ms p ≡ pairs class ns q → (ms ≡ ns) × (pairs num ms p ≡ pairs num ns q)
       one_pairs NoMembers NoMembers p q s r e = (refl, refl)
       one_pairs NoMembers (MemberAnd l u ns) p q s r e = cc
@@ -74,21 +76,21 @@ module _ {es : List PlainEvent} {class : ℕ → ℕ} (c : AreClasses es class) 
           let second = ap (λ d. d.1) h.0 in
           let key = the_text k l (the_scalar _ _
           (c.object (Leaf (trees.String k)) (Leaf (trees.String l)) p q
-          (sits_key s) (sits_key r) first)) in
-          let m = same _ _ p q (sits_key s) (sits_key r) first in
-          let j = one_object t u (p + 1) (q + 1) (sits_value s) (sits_value r) second in
-          let n = same t u (p + 1) (q + 1) (sits_value s) (sits_value r) second in
-          let more = one_pairs ms ns (p + 1 + size t) (q + 1 + size u) (sits_next_pair s)
-          (sits_next_pair r) h.1 in
+          (occurs_key s) (occurs_key r) first)) in
+          let m = same _ _ p q (occurs_key s) (occurs_key r) first in
+          let j = one_object t u (p + 1) (q + 1) (occurs_value s) (occurs_value r) second in
+          let n = same t u (p + 1) (q + 1) (occurs_value s) (occurs_value r) second in
+          let more = one_pairs ms ns (p + 1 + size t) (q + 1 + size u) (occurs_next_pair s)
+          (occurs_next_pair r) h.1 in
           ((λ i. MemberAnd (key i) (j.0 i) (more.0 i)), λ i. (m i, n i) ∷ more.1 i)
 
-  pub sound : (t u : Tree) (p q : ℕ) → Sits es t p → Sits es u q → class p ≡ class q → t ≡ u
+  pub sound : (t u : Tree) (p q : ℕ) → OccursAt es t p → OccursAt es u q → class p ≡ class q → t ≡ u
   sound t u p q s r e = (one_object _ (λ t u p q s r e. e) t u p q s r e).0
 
 -- what a plan says of the numbers: the objects, and the sizes of their trees
 pub record Numbered (es : List PlainEvent) (numbers : List ℕ) : Type 0 where
   pub rank : ℕ → ℕ
-  pub ranked : (t : Tree) (p : ℕ) → Sits es t p → rank (num_of numbers p) ≡ size t
+  pub ranked : (t : Tree) (p : ℕ) → OccursAt es t p → rank (num_of numbers p) ≡ size t
   pub objects : ℕ → Object
   pub describes : Describes es numbers objects
 
@@ -99,34 +101,34 @@ module _ {es : List PlainEvent} {plan : Plan} (planned : IsPlanned es plan) wher
   abbrev first : ℕ → ℕ
   first k = get_or (firsts_of plan) k 0
 
-  pub number_below : (t : Tree) (p : ℕ) → Sits es t p → num p < count_of plan
-  number_below t p s = planned.all p (sits_in s) (begins t p s)
+  pub number_below : (t : Tree) (p : ℕ) → OccursAt es t p → num p < count_of plan
+  number_below t p s = planned.all p (occurs_in s) (begins t p s)
 
   module _ {class : ℕ → ℕ} (goes : GoesBy es class plan) where
-    first_class : (t : Tree) (p : ℕ) → Sits es t p → class (first (num p)) ≡ class p
-    first_class t p s = goes.same p (sits_in s) (number_below t p s)
+    first_class : (t : Tree) (p : ℕ) → OccursAt es t p → class (first (num p)) ≡ class p
+    first_class t p s = goes.same p (occurs_in s) (number_below t p s)
 
     -- indices of one number have one class, and indices of one class one number
-    pub number_apart : (t u : Tree) (p q : ℕ) → Sits es t p → Sits es u q → num p ≡ num q
+    pub number_apart : (t u : Tree) (p q : ℕ) → OccursAt es t p → OccursAt es u q → num p ≡ num q
         → class p ≡ class q
     number_apart t u p q s r e =
         cc (first_class t p s, first_class u q r)
 
-    pub number_same : (t u : Tree) (p q : ℕ) → Sits es t p → Sits es u q → class p ≡ class q
+    pub number_same : (t u : Tree) (p q : ℕ) → OccursAt es t p → OccursAt es u q → class p ≡ class q
         → num p ≡ num q
     number_same t u p q s r e =
         goes.apart _ _ (number_below t p s) (number_below u q r)
         (first_class t p s ∙ e ∙ sym (first_class u q r))
 
-  tree_of : (k : ℕ) → k < count_of plan → (u : Tree) × Sits es u (first k)
-  tree_of k h = let n = planned.numbered.known k h in sits_at es planned.whole _ n.0 n.2
+  tree_of : (k : ℕ) → k < count_of plan → (u : Tree) × OccursAt es u (first k)
+  tree_of k h = let n = planned.numbered.known k h in occurs_at es planned.whole _ n.0 n.2
 
   -- the object of a number, and its rank
   made_of : (k : ℕ) → (k < count_of plan) ⊎ (count_of plan ≤ k) → Object × ℕ
   made_of k (inl h) = let u = (tree_of k h).0 in (obj_of num u (first k), size u)
   made_of k (inr h) = (obj.Array [], 0)
 
-  made_is : (t : Tree) (p : ℕ) → Sits es t p
+  made_is : (t : Tree) (p : ℕ) → OccursAt es t p
       → (d : (num p < count_of plan) ⊎ (count_of plan ≤ num p))
       → made_of (num p) d ≡ (obj_of num t p, size t)
   unfolding made_of

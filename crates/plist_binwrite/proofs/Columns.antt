@@ -1,24 +1,24 @@
 -- Entries by the lists of their kinds and of their numbers.
 use Rattle.std.proofs.Common.{◌≡◌, ℕ, zero, suc, ◌-◌, ◌<◌, List, [], ◌∷◌, ◌++◌, length, get_or, set, take, None, Some, false, refl, ap, sym, ◌∙◌, arith}
 use Rattle.std.proofs.lemmas.List.{get_or_default}
-use Rattle.plist_binwrite.specs.declared.entries.Entry.{Entry}
-use Rattle.plist_binwrite.specs.declared.entries.Entry.TheVariants as entry
-use Rattle.plist_binwrite.specs.declared.kinds.Kind.{Kind}
-use Rattle.plist_binwrite.specs.declared.kinds.Kind.TheVariants as kind
+use Rattle.plist_binwrite.specs.declared.entries.EventEntry.{EventEntry}
+use Rattle.plist_binwrite.specs.declared.entries.EventEntry.TheVariants as entry
+use Rattle.plist_binwrite.specs.declared.kinds.EntryKind.{EntryKind}
+use Rattle.plist_binwrite.specs.declared.kinds.EntryKind.TheVariants as kind
 use Rattle.plist_binwrite.specs.inner.Columns.{kind_in, number_in, scalar_named, entry_of, entries_from, IsEntryNumber}
 use Rattle.plist_binwrite.specs.inner.Entries.{entry_at, is_leaf, shown}
 use Rattle.plist_base.specs.Events.{PlainEvent}
 
 -- an entry is that of its kind and its number
-pub same_entry : (e : Entry) → entry_of (kind_in e) (number_in e) ≡ e
+pub same_entry : (e : EventEntry) → entry_of (kind_in e) (number_in e) ≡ e
 same_entry entry.End = refl
 same_entry e = refl
 
-pub same_kind : (k : Kind) (n : ℕ) → kind_in (entry_of k n) ≡ k
+pub same_kind : (k : EntryKind) (n : ℕ) → kind_in (entry_of k n) ≡ k
 same_kind kind.End n = refl
 same_kind k n = refl
 
-pub long_entries : (kinds : List Kind) (numbers : List ℕ) → length kinds ≡ length numbers
+pub long_entries : (kinds : List EntryKind) (numbers : List ℕ) → length kinds ≡ length numbers
     → length (entries_from kinds numbers) ≡ length kinds
 long_entries [] numbers same = refl
 long_entries (k ∷ kinds) [] same = absurd (omega (arith, same))
@@ -26,7 +26,7 @@ long_entries (k ∷ kinds) (n ∷ numbers) same =
     ap suc (long_entries kinds _ (omega (arith, same)))
 
 -- an index among the entries is one of both lists
-pub within_lists : (kinds : List Kind) (numbers : List ℕ) (es : List Entry)
+pub within_lists : (kinds : List EntryKind) (numbers : List ℕ) (es : List EventEntry)
     → length kinds ≡ length numbers → entries_from kinds numbers ≡ es → (p : ℕ) → p < length es
     → (p < length kinds) × (p < length numbers)
 within_lists kinds numbers es same is p lt =
@@ -34,7 +34,7 @@ within_lists kinds numbers es same is p lt =
     let told = ap length is in
     (omega (arith, long, told), omega (arith, long, told))
 
-pub entries_at : (kinds : List Kind) (numbers : List ℕ) (p : ℕ) → length kinds ≡ length numbers
+pub entries_at : (kinds : List EntryKind) (numbers : List ℕ) (p : ℕ) → length kinds ≡ length numbers
     → entry_at (entries_from kinds numbers) p
     ≡ entry_of (get_or kinds p kind.End) (get_or numbers p 0)
 entries_at [] numbers p same = refl
@@ -44,8 +44,9 @@ entries_at (k ∷ kinds) (n ∷ numbers) (suc p) same =
     entries_at kinds _ p (omega arith)
 
 -- what is read of an entry
-module _ (kinds : List Kind) (numbers : List ℕ) (same : length kinds ≡ length numbers)
-    (slice : List Kind) (lent : slice ≡ kinds) (p : ℕ) (d : Kind) (lt : p < length kinds) where
+module _ (kinds : List EntryKind) (numbers : List ℕ) (same : length kinds ≡ length numbers)
+    (slice : List EntryKind) (lent : slice ≡ kinds) (p : ℕ) (d : EntryKind)
+    (lt : p < length kinds) where
   kind_there : get_or slice p d ≡ get_or kinds p kind.End
   kind_there = cc (get_or_default kinds p d kind.End lt)
 
@@ -56,7 +57,8 @@ module _ (kinds : List Kind) (numbers : List ℕ) (same : length kinds ≡ lengt
         (get_or kinds p kind.End) (get_or numbers p 0),
   ))
 
-pub number_read : (kinds : List Kind) (numbers : List ℕ) (p : ℕ) → length kinds ≡ length numbers
+pub number_read : (kinds : List EntryKind) (numbers : List ℕ) (p : ℕ)
+    → length kinds ≡ length numbers
     → IsEntryNumber (entries_from kinds numbers) p (get_or numbers p 0)
 number_read kinds numbers p same =
     let there = entries_at kinds numbers p same in
@@ -64,27 +66,28 @@ number_read kinds numbers p same =
     (ap kind_in there ∙ same_kind (get_or kinds p kind.End) (get_or numbers p 0)) ∙ sym there
 
 -- what is read of an entry whose kind is known, and of one whose number is read
-pub of_kind : {A : Type 0} (f : Entry → A) (e : Entry) {k read : Kind} → read ≡ k → read ≡ kind_in e
+pub of_kind : {A : Type 0} (f : EventEntry → A) (e : EventEntry) {k read : EntryKind} → read ≡ k
+    → read ≡ kind_in e
     → f (entry_of k (number_in e)) ≡ f e
 of_kind f e is told = rw (sym is ∙ told) (ap f (same_entry e))
 
-pub of_number : {A : Type 0} (f : Entry → A) {e : Entry} {k read : Kind} (n : ℕ)
+pub of_number : {A : Type 0} (f : EventEntry → A) {e : EventEntry} {k read : EntryKind} (n : ℕ)
     → read ≡ k
     → read ≡ kind_in e → entry_of (kind_in e) n ≡ e → f (entry_of k n) ≡ f e
 of_number f n is told number = rw (sym is ∙ told) (ap f number)
 
 -- the scalar that is named
-pub named : (e : Entry) (k : ℕ) → scalar_named e ≡ Some k → e ≡ entry.Scalar k
+pub named : (e : EventEntry) (k : ℕ) → scalar_named e ≡ Some k → e ≡ entry.Scalar k
 named entry.End k is = cc
 named e k is = cc
 
-pub unnamed : (scalars : List PlainEvent) (e : Entry) → scalar_named e ≡ None
+pub unnamed : (scalars : List PlainEvent) (e : EventEntry) → scalar_named e ≡ None
     → is_leaf (shown scalars e) ≡ false
 unnamed scalars (entry.Scalar index) is = cc
 unnamed scalars e is = refl
 
 -- one more
-pub entries_more : (kinds : List Kind) (numbers : List ℕ) (e : Entry)
+pub entries_more : (kinds : List EntryKind) (numbers : List ℕ) (e : EventEntry)
     → length kinds ≡ length numbers
     → entries_from (kinds ++ kind_in e ∷ []) (numbers ++ number_in e ∷ [])
     ≡ entries_from kinds numbers ++ e ∷ []
@@ -95,7 +98,7 @@ entries_more (k ∷ kinds) (n ∷ numbers) e same =
     ap (λ l. entry_of k n ∷ l) (entries_more kinds _ e (omega (arith, same)))
 
 -- another one in the place of one
-pub entries_set : (kinds : List Kind) (numbers : List ℕ) (p : ℕ) (e : Entry)
+pub entries_set : (kinds : List EntryKind) (numbers : List ℕ) (p : ℕ) (e : EventEntry)
     → entries_from (set kinds p (kind_in e)) (set numbers p (number_in e))
     ≡ set (entries_from kinds numbers) p e
 entries_set [] numbers p e = refl
@@ -107,7 +110,7 @@ entries_set (k ∷ kinds) (n ∷ numbers) (suc p) e =
     ap (λ l. entry_of k n ∷ l) (entries_set kinds numbers p e)
 
 -- the first ones
-pub entries_first : (count : ℕ) (kinds : List Kind) (numbers : List ℕ)
+pub entries_first : (count : ℕ) (kinds : List EntryKind) (numbers : List ℕ)
     → entries_from (take count kinds) (take count numbers) ≡ take count (entries_from kinds numbers)
 entries_first zero kinds numbers = refl
 entries_first (suc count) [] numbers = refl
@@ -115,7 +118,7 @@ entries_first (suc count) (k ∷ kinds) [] = refl
 entries_first (suc count) (k ∷ kinds) (n ∷ numbers) =
     ap (λ l. entry_of k n ∷ l) (entries_first count _ _)
 
-pub popped_entries : (kinds : List Kind) (numbers : List ℕ) (count : ℕ) → count ≡ length kinds
+pub popped_entries : (kinds : List EntryKind) (numbers : List ℕ) (count : ℕ) → count ≡ length kinds
     → length kinds ≡ length numbers → entries_from (take (count - 1) kinds)
     (take (length numbers - 1) numbers)
     ≡ take (length (entries_from kinds numbers) - 1) (entries_from kinds numbers)

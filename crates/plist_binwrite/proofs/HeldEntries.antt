@@ -9,13 +9,13 @@ use Rattle.std.proofs.lemmas.List.Folds.{list_any-append, list_any_at}
 use Rattle.std.proofs.lemmas.Option.{get_or_from_slice_get, slice_get-get_or}
 use Rattle.std.specs.List.{list_any}
 use Rattle.std.specs.Prelude.{◌||◌}
-use Rattle.plist_base.specs.Bracketing.{unhinted}
+use Rattle.plist_base.specs.Bracketing.{without_length}
 use Rattle.plist_base.specs.Events.{PlainEvent, EndCollection, Single}
 use Rattle.plist_base.specs.Trees.{Scalar, Tree}
-use Rattle.plist_binwrite.specs.declared.entries.Entry.{Entry}
-use Rattle.plist_binwrite.specs.declared.entries.Entry.TheVariants as entry
-use Rattle.plist_binwrite.specs.Held.{event_at, held_kind}
-use Rattle.plist_binwrite.specs.Standing.{size, Sits}
+use Rattle.plist_binwrite.specs.declared.entries.EventEntry.{EventEntry}
+use Rattle.plist_binwrite.specs.declared.entries.EventEntry.TheVariants as entry
+use Rattle.plist_binwrite.specs.EventTable.{event_at, held_kind}
+use Rattle.plist_binwrite.specs.Occurrences.{size, OccursAt}
 use Rattle.plist_binwrite.specs.inner.Columns.{kind_in, scalar_named}
 use Rattle.plist_binwrite.specs.inner.Entries.{AreApart, is_leaf, entry_at, shown, all_shown, is_sound, is_start, behind_of, behind_at, closed_at, ended_at, names, IsTold, IsKept}
 use Rattle.plist_binwrite.specs.inner.Opening.{open_behind, open_after, skip_behind, skip_after, without_innermost}
@@ -26,23 +26,23 @@ use Rattle.plist_binwrite.proofs.Opened.{open_more, skip_more, skip_ends, skip_f
 
 -- ---- what entries show
 
-pub long_shown : (scalars : List PlainEvent) (es : List Entry)
+pub long_shown : (scalars : List PlainEvent) (es : List EventEntry)
     → length (all_shown scalars es) ≡ length es
 long_shown scalars es = length-map es _
 
-shown_more : (scalars : List PlainEvent) (es : List Entry) (e : Entry)
+shown_more : (scalars : List PlainEvent) (es : List EventEntry) (e : EventEntry)
     → all_shown scalars (es ++ e ∷ []) ≡ all_shown scalars es ++ shown scalars e ∷ []
 shown_more scalars es e = map-append _ es _
 
-entry_before : (es : List Entry) (e : Entry) (p : ℕ) → p < length es
+entry_before : (es : List EventEntry) (e : EventEntry) (p : ℕ) → p < length es
     → entry_at (es ++ e ∷ []) p ≡ entry_at es p
 entry_before es e p lt = get_or-append es _ _ p lt
 
-entry_last : (es : List Entry) (e : Entry) → entry_at (es ++ e ∷ []) (length es) ≡ e
+entry_last : (es : List EventEntry) (e : EventEntry) → entry_at (es ++ e ∷ []) (length es) ≡ e
 entry_last es e = get_or-append_seam es e [] _
 
 -- that a scalar is named stays so
-named_more : (i : ℕ) (es : List Entry) (e : Entry) → list_any (names i) es ≡ true
+named_more : (i : ℕ) (es : List EventEntry) (e : EventEntry) → list_any (names i) es ≡ true
     → list_any (names i) (es ++ e ∷ []) ≡ true
 named_more i es e h =
     cc (list_any-append (names i) es (e ∷ []))
@@ -59,20 +59,21 @@ leaf_is : (e : PlainEvent) → is_leaf e ≡ true → (x : Scalar) × (e ≡ Sin
 leaf_is (Single x) h = (x, refl)
 leaf_is e h = cc
 
-leaf_unhinted : (e : PlainEvent) → is_leaf e ≡ true → unhinted e ≡ e
-leaf_unhinted e h = let f = leaf_is e h in rw f.1 refl
+leaf_without_length : (e : PlainEvent) → is_leaf e ≡ true → without_length e ≡ e
+leaf_without_length e h = let f = leaf_is e h in rw f.1 refl
 
 -- more scalars change nothing that was shown
 module _ (old more : List PlainEvent) where
-  one_kept : (e : Entry) → is_sound old e ≡ true → (is_sound (old ++ more) e ≡ true)
+  one_kept : (e : EventEntry) → is_sound old e ≡ true → (is_sound (old ++ more) e ≡ true)
       × (shown (old ++ more) e ≡ shown old e)
   one_kept (entry.Scalar i) h =
       let same
       = get_or-append old _ _ i (below is_leaf old i refl h) in
-      (ap is_leaf same ∙ h, ap unhinted same)
+      (ap is_leaf same ∙ h, ap without_length same)
   one_kept e h = (refl, refl)
 
-  shown_kept : (es : List Entry) → ((p : ℕ) → p < length es → is_sound old (entry_at es p) ≡ true)
+  shown_kept : (es : List EventEntry) → ((p : ℕ) → p < length es
+      → is_sound old (entry_at es p) ≡ true)
       → all_shown (old ++ more) es ≡ all_shown old es
   shown_kept [] sound = refl
   shown_kept (e ∷ es) sound =
@@ -88,7 +89,7 @@ told_none = record {
   skips = λ p lt. absurd (omega (arith, lt));
 }
 
-pub kept_none : (scalars : List PlainEvent) (es : List Entry) (begun : List ℕ) → scalars ≡ []
+pub kept_none : (scalars : List PlainEvent) (es : List EventEntry) (begun : List ℕ) → scalars ≡ []
     → es ≡ [] → begun ≡ [] → IsKept scalars es begun
 kept_none scalars es begun p q r = rw (p, q, r) (record {
   apart = λ i j k p q. cc;
@@ -96,7 +97,7 @@ kept_none scalars es begun p q r = rw (p, q, r) (record {
   told = told_none;
 })
 
-module _ {scalars : List PlainEvent} {es : List Entry} {begun : List ℕ}
+module _ {scalars : List PlainEvent} {es : List EventEntry} {begun : List ℕ}
     (t : IsTold scalars es begun) where
   abbrev events : List PlainEvent
   events = all_shown scalars es
@@ -109,7 +110,7 @@ module _ {scalars : List PlainEvent} {es : List Entry} {begun : List ℕ}
   shown_at p lt = get_or-map _ es p _ _ lt
 
   -- entries that show one more
-  told_by : (now : List Entry) (after : List ℕ) (e : PlainEvent)
+  told_by : (now : List EventEntry) (after : List ℕ) (e : PlainEvent)
       → all_shown scalars now ≡ events ++ e ∷ []
       → ((p : ℕ) → p < length now → is_sound scalars (entry_at now p) ≡ true)
       → reverse after ≡ open_behind e (length es) (open_after events)
@@ -143,7 +144,7 @@ module _ {scalars : List PlainEvent} {es : List Entry} {begun : List ℕ}
       }
 
   -- one that ends no other
-  told_more : (e : Entry) (after : List ℕ) → is_sound scalars e ≡ true
+  told_more : (e : EventEntry) (after : List ℕ) → is_sound scalars e ≡ true
       → behind_of (length es) e ≡ length es + 1
       → reverse after ≡ open_behind (shown scalars e) (length es) (open_after events)
       → ((p k : ℕ) → skip_behind (shown scalars e) (length es) (open_after events) p k ≡ k)
@@ -161,14 +162,14 @@ module _ {scalars : List PlainEvent} {es : List Entry} {begun : List ℕ}
       let f = leaf_is (event_at scalars i) leaf in
       told_more (entry.Scalar i) begun leaf refl (rw f.1 t.starts) (λ p k. rw f.1 refl)
 
-  told_start : (e : Entry) → is_start e ≡ true → behind_of (length es) e ≡ length es + 1
+  told_start : (e : EventEntry) → is_start e ≡ true → behind_of (length es) e ≡ length es + 1
       → IsTold scalars (es ++ e ∷ []) (begun ++ length es ∷ [])
   told_start e starts behind = by e starts behind
     where
       opens : reverse (begun ++ length es ∷ []) ≡ length es ∷ open_after events
       opens = cc (reverse-append begun (length es ∷ []))
 
-      by : (e : Entry) → is_start e ≡ true → behind_of (length es) e ≡ length es + 1
+      by : (e : EventEntry) → is_start e ≡ true → behind_of (length es) e ≡ length es + 1
           → IsTold scalars (es ++ e ∷ []) (begun ++ length es ∷ [])
       by (entry.Array k) s b = told_more (entry.Array k) _ refl b opens (λ p k. refl)
       by (entry.Dictionary k) s b = told_more (entry.Dictionary k) _ refl b opens (λ p k. refl)
@@ -192,28 +193,28 @@ module _ {scalars : List PlainEvent} {es : List Entry} {begun : List ℕ}
     pub start_within : start < length es
     start_within = omega (arith, below opened.is_start events start refl was_start, long)
 
-    abbrev ended : List Entry
+    abbrev ended : List EventEntry
     ended = es ++ entry.End ∷ []
 
-    abbrev closing : Entry
+    abbrev closing : EventEntry
     closing = closed_at (entry_at ended start) (length es + 1)
 
     within : start < length ended
     within = omega (arith, start_within, length-append es (entry.End ∷ []))
 
     -- closing a start changes nothing but what is behind it
-    closing_same : {A : Type 0} (f : Entry → A)
+    closing_same : {A : Type 0} (f : EventEntry → A)
         → ((m n : ℕ) → f (entry.Array m) ≡ f (entry.Array n))
         → ((m n : ℕ) → f (entry.Dictionary m) ≡ f (entry.Dictionary n))
         → f closing ≡ f (entry_at ended start)
     closing_same f array dictionary = by _ _
       where
-        by : (e : Entry) (n : ℕ) → f (closed_at e n) ≡ f e
+        by : (e : EventEntry) (n : ℕ) → f (closed_at e n) ≡ f e
         by (entry.Array behind) n = array n behind
         by (entry.Dictionary behind) n = dictionary n behind
         by e n = refl
 
-    same_named : (i : ℕ) (l : List Entry) (p : ℕ) (e : Entry) → p < length l
+    same_named : (i : ℕ) (l : List EventEntry) (p : ℕ) (e : EventEntry) → p < length l
         → names i e ≡ names i (entry_at l p)
         → list_any (names i) (set l p e) ≡ list_any (names i) l
     same_named i [] p e lt h = refl
@@ -234,13 +235,14 @@ module _ {scalars : List PlainEvent} {es : List Entry} {begun : List ℕ}
     sound_ended p lt =
         at_more es _ _ p (λ d. is_sound scalars d ≡ true) lt (λ d. refl) (t.sound p)
 
-    closing_behind : (e : Entry) (n : ℕ) → is_sound scalars e ≡ true
+    closing_behind : (e : EventEntry) (n : ℕ) → is_sound scalars e ≡ true
         → opened.is_start (shown scalars e) ≡ true → behind_of start (closed_at e n) ≡ n
     closing_behind (entry.Array behind) n h s = refl
     closing_behind (entry.Dictionary behind) n h s = refl
     closing_behind (entry.Scalar i) n h s =
         let f = leaf_is _ h in
-        let never : opened.is_start (unhinted (event_at scalars i)) ≡ false = rw f.1 refl in cc
+        let never : opened.is_start (without_length (event_at scalars i))
+        ≡ false = rw f.1 refl in cc
     closing_behind entry.End n h s = cc
 
     told_end : IsTold scalars (ended_at es start) outer
@@ -268,22 +270,24 @@ module _ {scalars : List PlainEvent} {es : List Entry} {begun : List ℕ}
 -- ---- the calls
 
 -- an entry came, or none for want of memory
-pub either_few : {T E : Type 0} (r : Result T E) (es now : List Entry)
+pub either_few : {T E : Type 0} (r : Result T E) (es now : List EventEntry)
     → OnOk r (length now < 2 ^ 63) → OnErr r (now ≡ es) → length es < 2 ^ 63 → length now < 2 ^ 63
 either_few (Ok x) es now small same few = small
 either_few (Err x) es now small same few = rw same few
 
-pub either : {T E : Type 0} (r : Result T E) {es more now : List Entry} (P : List Entry → Type 0)
+pub either : {T E : Type 0} (r : Result T E) {es more now : List EventEntry} (P : List EventEntry
+    → Type 0)
     → OnOk r (now ≡ more) → OnErr r (now ≡ es) → P more → P es → P now
 either (Ok x) P is same new old = rw is new
 either (Err x) P is same new old = rw same old
 
-module _ {scalars : List PlainEvent} {es : List Entry} {begun : List ℕ}
+module _ {scalars : List PlainEvent} {es : List EventEntry} {begun : List ℕ}
     (kept : IsKept scalars es begun) where
-  still_used : (e : Entry) (i : ℕ) → i < length scalars → list_any (names i) (es ++ e ∷ []) ≡ true
+  still_used : (e : EventEntry) (i : ℕ) → i < length scalars → list_any (names i) (es
+      ++ e ∷ []) ≡ true
   still_used e i lt = named_more i es e (kept.used i lt)
 
-  pub kept_start : (e : Entry) → is_start e ≡ true → behind_of (length es) e ≡ length es + 1
+  pub kept_start : (e : EventEntry) → is_start e ≡ true → behind_of (length es) e ≡ length es + 1
       → IsKept scalars (es ++ e ∷ []) (begun ++ length es ∷ [])
   kept_start e starts behind = record {
     apart = kept.apart;
@@ -315,7 +319,7 @@ module _ {scalars : List PlainEvent} {es : List Entry} {begun : List ℕ}
 
       pub scalar_shown : all_shown new (es ++ entry.Scalar i ∷ []) ≡ all_shown scalars es ++ e ∷ []
       scalar_shown = shown_more new es (entry.Scalar i)
-          ∙ (λ j. grown_shown j ++ (ap unhinted at ∙ leaf_unhinted e leaf) j ∷ [])
+          ∙ (λ j. grown_shown j ++ (ap without_length at ∙ leaf_without_length e leaf) j ∷ [])
 
       -- each scalar was there, and then it is named, or it is the one that came
       pub kept_scalar : AreApart new
@@ -349,7 +353,8 @@ module _ {scalars : List PlainEvent} {es : List Entry} {begun : List ℕ}
     there : event_at (all_shown scalars es) index ≡ shown scalars (entry_at es index)
     there = shown_at kept.told _ lt
 
-    kind_shown : (e : Entry) → is_sound scalars e ≡ true → held_kind (shown scalars e) ≡ kind_in e
+    kind_shown : (e : EventEntry) → is_sound scalars e ≡ true
+        → held_kind (shown scalars e) ≡ kind_in e
     kind_shown (entry.Scalar i) h = let f = leaf_is _ h in rw f.1 refl
     kind_shown e h = refl
 
@@ -366,7 +371,7 @@ module _ {scalars : List PlainEvent} {es : List Entry} {begun : List ℕ}
       leaf_here = cc (kept.told.sound index lt)
 
       stored : event_at (all_shown scalars es) index ≡ event_at scalars k
-      stored = there ∙ ap (shown scalars) is ∙ leaf_unhinted _ leaf_here
+      stored = there ∙ ap (shown scalars) is ∙ leaf_without_length _ leaf_here
 
       pub scalar_stored : slice_get scalars k ≡ Some (event_at (all_shown scalars es) index)
       scalar_stored = slice_get-get_or _ k EndCollection (below is_leaf scalars k refl leaf_here)
@@ -379,6 +384,6 @@ module _ {scalars : List PlainEvent} {es : List Entry} {begun : List ℕ}
         × (behind_at es index ≤ length (all_shown scalars es))
     behind_forward = rw (kept.told.skips index lt) (skip_forward (all_shown scalars es) index here)
 
-    pub behind_ends : (t : Tree) → Sits (all_shown scalars es) t index
+    pub behind_ends : (t : Tree) → OccursAt (all_shown scalars es) t index
         → behind_at es index ≡ index + size t
     behind_ends t s = kept.told.skips index lt ∙ skip_ends (all_shown scalars es) t index s

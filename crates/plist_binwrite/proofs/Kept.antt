@@ -4,23 +4,23 @@ use Rattle.std.specs.List.{AllByRecursion}
 use Rattle.std.specs.Set.{is_member, unique_keys}
 use Rattle.std.proofs.lemmas.Bool.Decides.{eqb_tells}
 use Rattle.std.proofs.lemmas.List.{length-map}
-use Rattle.plist_base.specs.Bracketing.{shape}
+use Rattle.plist_base.specs.Bracketing.{lengthless}
 use Rattle.plist_base.specs.Events.{PlainEvent}
 use Rattle.plist_base.specs.Trees.{Tree}
 use Rattle.plist_format.specs.Object.{Object}
 use Rattle.plist_binwrite.specs.Classes.{same_class, kept, count_by, objects_by}
 use Rattle.plist_binwrite.specs.Forms.{form}
-use Rattle.plist_binwrite.specs.Held.{num_of, Describes}
+use Rattle.plist_binwrite.specs.EventTable.{num_of, Describes}
 use Rattle.plist_binwrite.specs.declared.plan.Plan.{Plan}
 use Rattle.plist_binwrite.specs.inner.Laying.{AllOnce}
 use Rattle.plist_binwrite.specs.inner.Planning.{IsPlanned, GoesBy, numbers_of, firsts_of, count_of}
 use Rattle.plist_binwrite.specs.Sizes.{total, object_size}
-use Rattle.plist_binwrite.specs.Standing.{met}
+use Rattle.plist_binwrite.specs.Occurrences.{positions}
 use Rattle.plist_binwrite.specs.Written.{bodies}
 use Rattle.plist_binwrite.proofs.ClassObjects.{number_below, number_apart, number_same}
-use Rattle.plist_binwrite.proofs.Inside.{Stands, met_stand, met_all}
+use Rattle.plist_binwrite.proofs.Inside.{Stands, positions_stand, positions_all}
 use Rattle.plist_binwrite.proofs.SameScalars.{tells_both}
-use Rattle.plist_binwrite.proofs.Sitting.{sits_whole}
+use Rattle.plist_binwrite.proofs.Sitting.{occurs_whole}
 use Rattle.plist_binwrite.proofs.Placing.{form_size, total_bodies}
 use Rattle.plist_binwrite.proofs.Totals.{total_below, count_below, total_all, unique_member, unique_distinct, total-map, total_equal, total_one}
 use Rattle.plist_binwrite.proofs.Uniques.{all_from, all_unique, members_self, member_has, unique_seen}
@@ -28,28 +28,29 @@ use Rattle.plist_binwrite.proofs.Uniques.{all_from, all_unique, members_self, me
 -- ---- a plan's numbers
 
 module _ {es : List PlainEvent} {plan : Plan} (planned : IsPlanned es plan) {class : ℕ → ℕ}
-    (goes : GoesBy es class plan) (whole : Tree) (e : es ≡ shape whole) where
-  stand : AllByRecursion (Stands es) (met whole 0)
-  stand = met_stand es _ 0 (sits_whole e)
+    (goes : GoesBy es class plan) (whole : Tree) (e : es ≡ lengthless whole) where
+  stand : AllByRecursion (Stands es) (positions whole 0)
+  stand = positions_stand es _ 0 (occurs_whole e)
 
   abbrev number : ℕ × Tree → ℕ
   number one = num_of (numbers_of plan) one.0
 
   abbrev given : List ℕ
-  given = map number (met whole 0)
+  given = map number (positions whole 0)
 
   -- they are those below the count
   total_numbers : (w : ℕ → ℕ) → total w (unique_keys eqb given) ≡ total_below w (count_of plan)
   total_numbers w =
       total_all w (count_of plan) (unique_keys eqb given) (unique_distinct eqb eqb_tells given)
       (λ q h. member_has number (λ k. k < count_of plan)
-      (met whole 0) q
+      (positions whole 0) q
       (all_from (λ one. number one < count_of plan) (Stands es)
-      (λ one s. number_below planned one.1 one.0 s) (met whole 0) stand)
+      (λ one s. number_below planned one.1 one.0 s) (positions whole 0) stand)
       (sym (unique_member eqb eqb_tells given q) ∙ h))
       (λ q h. let f = goes.known q h in
-      let m = met_all es (λ p. is_member eqb given (num_of (numbers_of plan) p) ≡ true) whole e
-      (members_self number (met whole 0))
+      let m = positions_all es (λ p. is_member eqb given (num_of (numbers_of plan) p)
+      ≡ true) whole e
+      (members_self number (positions whole 0))
       (get_or (firsts_of plan) q 0) f.0 f.2 in
       unique_member eqb eqb_tells given q ∙ ap (λ k. is_member eqb given k) (sym f.1) ∙ m)
 
@@ -62,7 +63,7 @@ module _ {es : List PlainEvent} {plan : Plan} (planned : IsPlanned es plan) {cla
       (eqb_tells _ _) (eqb_tells _ _)
       (number_same planned goes a.1 b.1 a.0 b.0 s r)
       (number_apart planned goes a.1 b.1 a.0 b.0 s r))
-      (met whole 0) stand
+      (positions whole 0) stand
 
   -- as many objects as classes
   pub planned_count : count_of plan ≡ count_by class whole
@@ -88,4 +89,4 @@ module _ {es : List PlainEvent} {plan : Plan} (planned : IsPlanned es plan) {cla
       ≡ object_size w one.1) (Stands es)
       (λ one s. ap (λ o. length (form w o)) (describes one.1 one.0 s)
       ∙ form_size w (num_of (numbers_of plan)) one.1 one.0)
-      (kept class whole) (all_unique (Stands es) (same_class class) (met whole 0) stand))
+      (kept class whole) (all_unique (Stands es) (same_class class) (positions whole 0) stand))

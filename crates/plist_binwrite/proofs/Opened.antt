@@ -6,12 +6,12 @@ use Rattle.std.proofs.lemmas.Bool.Decides.{nat_tests}
 use Rattle.std.proofs.lemmas.List.{take-append-drop, length-take-le}
 use Rattle.plist_base.specs.Events.{PlainEvent, StartArray, StartDictionary, EndCollection, Single}
 use Rattle.plist_base.specs.Trees.{Tree, Leaf, Array, Dictionary, Trees, NoTrees, TreeAnd, Members, NoMembers, MemberAnd}
-use Rattle.plist_base.specs.Bracketing.{shape, shape_of_items, shape_of_pairs}
-use Rattle.plist_binwrite.specs.Held.{event_at}
-use Rattle.plist_binwrite.specs.Standing.{size, Sits}
+use Rattle.plist_base.specs.Bracketing.{lengthless, lengthless_items, lengthless_pairs}
+use Rattle.plist_binwrite.specs.EventTable.{event_at}
+use Rattle.plist_binwrite.specs.Occurrences.{size, OccursAt}
 use Rattle.plist_binwrite.specs.inner.Opening.{open_behind, open_from, open_after, skip_behind, skip_from, skip_after}
 use Rattle.plist_binwrite.proofs.Sitting.{past_one}
-use Rattle.plist_binwrite.proofs.Skipping.{first_event, sits_within, size_positive}
+use Rattle.plist_binwrite.proofs.Skipping.{first_event, occurs_within, size_positive}
 
 -- ---- behind events in two parts
 
@@ -47,33 +47,34 @@ skip_more es e q =
 
 mutual
   -- a tree leaves nothing begun
-  open_tree : (t : Tree) (p : ℕ) (begun : List ℕ) → open_from (shape t) p begun ≡ begun
+  open_tree : (t : Tree) (p : ℕ) (begun : List ℕ) → open_from (lengthless t) p begun ≡ begun
   open_tree (Leaf x) p begun = refl
   open_tree (Array ts) p begun =
       cc (
-        open_append (shape_of_items ts) (EndCollection ∷ []) (p + 1) (p ∷ begun),
+        open_append (lengthless_items ts) (EndCollection ∷ []) (p + 1) (p ∷ begun),
         open_items ts
             (p + 1) (p ∷ begun),
       )
   open_tree (Dictionary ms) p begun =
       cc (
-        open_append (shape_of_pairs ms) (EndCollection ∷ []) (p + 1) (p ∷ begun),
+        open_append (lengthless_pairs ms) (EndCollection ∷ []) (p + 1) (p ∷ begun),
         open_pairs ms
             (p + 1) (p ∷ begun),
       )
 
-  open_items : (ts : Trees) (p : ℕ) (begun : List ℕ) → open_from (shape_of_items ts) p begun ≡ begun
+  open_items : (ts : Trees) (p : ℕ) (begun : List ℕ) → open_from (lengthless_items ts) p begun
+      ≡ begun
   open_items NoTrees p begun = refl
   open_items (TreeAnd t ts) p begun =
-      open_append (shape t) _ p _
+      open_append (lengthless t) _ p _
       ∙ open_items ts _ _ ∙ open_tree t p _
 
-  open_pairs : (ms : Members) (p : ℕ) (begun : List ℕ) → open_from (shape_of_pairs ms) p begun
+  open_pairs : (ms : Members) (p : ℕ) (begun : List ℕ) → open_from (lengthless_pairs ms) p begun
       ≡ begun
   open_pairs NoMembers p begun = refl
   open_pairs (MemberAnd k t ms) p begun =
-      open_append (shape t) (shape_of_pairs ms) (p + 1) begun
-      ∙ open_pairs ms (p + 1 + size t) (open_from (shape t) (p + 1) begun)
+      open_append (lengthless t) (lengthless_pairs ms) (p + 1) begun
+      ∙ open_pairs ms (p + 1 + size t) (open_from (lengthless t) (p + 1) begun)
       ∙ open_tree t (p + 1) begun
 
 -- and its end is that of its start
@@ -88,7 +89,8 @@ skip_end body q told begun h =
     ∙ ap (λ b. if b then q + 1 + length body + 1 else skip_from body (q + 1) (q ∷ begun) q told)
     (eq-eqb q q refl) ∙ omega (arith, length-append body (EndCollection ∷ []))
 
-skip_tree : (t : Tree) (q : ℕ) (begun : List ℕ) → skip_from (shape t) q begun q (q + 1) ≡ q + size t
+skip_tree : (t : Tree) (q : ℕ) (begun : List ℕ) → skip_from (lengthless t) q begun q (q + 1)
+    ≡ q + size t
 skip_tree (Leaf x) q begun = refl
 skip_tree (Array ts) q begun =
     skip_end _ q _ begun (open_items ts (q + 1) (q ∷ begun))
@@ -138,13 +140,13 @@ module _ (es : List PlainEvent) (q : ℕ) (le : q ≤ length es) where
       ∙ ap (λ n. skip_from (drop q es) n before q (skip_after (take q es) q)) z
       ∙ ap (skip_from (drop q es) q before q) before_apart.1
 
-pub skip_ends : (es : List PlainEvent) (t : Tree) (q : ℕ) → Sits es t q
+pub skip_ends : (es : List PlainEvent) (t : Tree) (q : ℕ) → OccursAt es t q
     → skip_after es q ≡ q + size t
 skip_ends es t q s =
-    let le : q ≤ length es = omega (arith, sits_within s) in
+    let le : q ≤ length es = omega (arith, occurs_within s) in
     let b = before es q le in
     from_there es q le ∙ ap (λ l. skip_from l q b q (q + 1)) s.is
-    ∙ skip_append (shape t) s.rest q b q (q + 1)
+    ∙ skip_append (lengthless t) s.rest q b q (q + 1)
     ∙ (λ i. skip_from s.rest (q + size t) (open_tree t q b i) q (skip_tree t q b i))
     ∙ (apart s.rest (q + size t) q (q + size t) b
     (λ k lt h. omega (arith, h, size_positive t)) (before_apart es q le).0).1

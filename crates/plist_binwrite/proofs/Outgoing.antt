@@ -9,7 +9,7 @@ use Rattle.plist_base.specs.Faults.{Fault, Io, fault_nowhere}
 use Rattle.plist_base.specs.Writing.{Answer}
 use Rattle.plist_base.specs.Fronts.{AppendsFront}
 use Rattle.plist_binwrite.specs.Forms.{table_form}
-use Rattle.plist_binwrite.specs.Outlets.{IsOut, PutsBytes, room_size}
+use Rattle.plist_binwrite.specs.Outlets.{IsOut, PutsBytes, buffer_size}
 
 -- a beginning of some bytes is one of more
 pub front_more : (a b : Option (List ℕ)) (xs ys : List ℕ) → AppendsFront a b xs
@@ -22,7 +22,7 @@ puts_none = record { follow = λ first done out. rw append-nil out; waits = λ w
 
 -- bytes wait behind those that did
 pub puts_waiting : {a : Option (List ℕ)} {held xs h : List ℕ} → h ≡ held ++ xs
-    → length h ≤ room_size → PutsBytes a held xs (Ok tt) a h
+    → length h ≤ buffer_size → PutsBytes a held xs (Ok tt) a h
 puts_waiting {held} {xs} e w = record {
   follow = λ first done out. record {
     sent = out.sent;
@@ -101,7 +101,7 @@ out_front first a b held done f out = (
 -- or of it and the bytes
 pub puts_broken : (a b : Option (List ℕ)) (held xs h : List ℕ) (fault : Fault)
     → fault ≡ fault_nowhere Io → AppendsFront a b (held ++ xs)
-    → (length held ≤ room_size → length h ≤ room_size) → PutsBytes a held xs (Err fault) b h
+    → (length held ≤ buffer_size → length h ≤ buffer_size) → PutsBytes a held xs (Err fault) b h
 puts_broken a b held xs h fault io f waits = record {
   follow = (
     io,

@@ -5,7 +5,7 @@ use Rattle.std.specs.Set.{is_member, unique_keys}
 use Rattle.std.proofs.lemmas.Bool.{ne_eqb}
 use Rattle.std.proofs.lemmas.Bool.Decides.{eqb_tells}
 use Rattle.std.proofs.lemmas.List.{map-id}
-use Rattle.plist_base.specs.Bracketing.{shape, shape_of_items, shape_of_pairs}
+use Rattle.plist_base.specs.Bracketing.{lengthless, lengthless_items, lengthless_pairs}
 use Rattle.plist_base.specs.Events.{PlainEvent, EndCollection}
 use Rattle.plist_base.specs.Trees.{Scalar, Tree, Leaf, Array, Dictionary, Trees, NoTrees, TreeAnd, Members, NoMembers, MemberAnd}
 use Rattle.plist_binwrite.specs.Classes.{AreClasses, same_class, kept, count_by, objects_by, size_by}
@@ -13,12 +13,12 @@ use Rattle.plist_binwrite.specs.ObjectCounts.{scalar_eq, collected, texts, colle
 use Rattle.plist_binwrite.specs.Numberings.{obj_of}
 use Rattle.plist_binwrite.specs.inner.Scalars.{Owner, shared, alone, own, owner, AreOwners}
 use Rattle.plist_binwrite.specs.Sizes.{total, object_size, size_with, file_size}
-use Rattle.plist_binwrite.specs.Standing.{size, Sits, met, met_in_items, met_in_pairs}
+use Rattle.plist_binwrite.specs.Occurrences.{size, OccursAt, positions, positions_in_items, positions_in_pairs}
 use Rattle.plist_binwrite.specs.Written.{reference_width}
-use Rattle.plist_binwrite.proofs.Inside.{Stands, one_tree, met_stand}
+use Rattle.plist_binwrite.proofs.Inside.{Stands, one_tree, positions_stand}
 use Rattle.plist_binwrite.proofs.SameScalars.{owner_eq, owners_tell, tells_both}
-use Rattle.plist_binwrite.proofs.Sitting.{sits_whole}
-use Rattle.plist_binwrite.proofs.Skipping.{stands_single, starts_array, starts_dictionary, sits_in}
+use Rattle.plist_binwrite.proofs.Sitting.{occurs_whole}
+use Rattle.plist_binwrite.proofs.Skipping.{stands_single, starts_array, starts_dictionary, occurs_in}
 use Rattle.plist_binwrite.proofs.Totals.{total_one}
 use Rattle.plist_binwrite.proofs.Uniques.{unique_seen}
 
@@ -28,14 +28,15 @@ abbrev own_tree : Tree → ℕ → Owner
 own_tree (Leaf x) p = shared x
 own_tree t p = alone p
 
-owner_is : {es : List PlainEvent} (t : Tree) (p : ℕ) → Sits es t p → owner es p ≡ own_tree t p
+owner_is : {es : List PlainEvent} (t : Tree) (p : ℕ) → OccursAt es t p → owner es p ≡ own_tree t p
 owner_is (Leaf x) p s = ap (λ e. own e p) (stands_single s)
 owner_is (Array ts) p s = ap (λ e. own e p) (starts_array s)
 owner_is (Dictionary ms) p s = ap (λ e. own e p) (starts_dictionary s)
 
 -- trees of one owner have one object
 same_owner : {es : List PlainEvent} (num : ℕ → ℕ) (u v : Tree) (p q : ℕ)
-    → own_tree v q ≡ own_tree u p → Sits es u p → Sits es v q → obj_of num v q ≡ obj_of num u p
+    → own_tree v q ≡ own_tree u p → OccursAt es u p → OccursAt es v q
+    → obj_of num v q ≡ obj_of num u p
 same_owner num (Leaf x) (Leaf y) p q e s r = cc
 same_owner num (Leaf x) v p q e s r = cc
 same_owner num u (Leaf y) p q e s r = cc
@@ -44,15 +45,16 @@ same_owner {es} num u v p q e s r =
     let t = one_tree v u p (rw (← k) r) s in λ i. obj_of num (t i) (k i)
 
 module _ {es : List PlainEvent} {class : ℕ → ℕ} {count : ℕ} (o : AreOwners es class count) where
-  pub class_owner : (t u : Tree) (p q : ℕ) → Sits es t p → Sits es u q → class p ≡ class q
+  pub class_owner : (t u : Tree) (p q : ℕ) → OccursAt es t p → OccursAt es u q → class p ≡ class q
       → own_tree t p ≡ own_tree u q
   class_owner t u p q s r e =
-      sym (owner_is t p s) ∙ o.sound p q (sits_in s) (sits_in r) e ∙ owner_is u q r
+      sym (owner_is t p s) ∙ o.sound p q (occurs_in s) (occurs_in r) e ∙ owner_is u q r
 
-  pub owner_class : (t u : Tree) (p q : ℕ) → Sits es t p → Sits es u q → own_tree t p ≡ own_tree u q
+  pub owner_class : (t u : Tree) (p q : ℕ) → OccursAt es t p → OccursAt es u q
+      → own_tree t p ≡ own_tree u q
       → class p ≡ class q
   owner_class t u p q s r e =
-      o.complete p q (sits_in s) (sits_in r) (owner_is t p s ∙ e ∙ sym (owner_is u q r))
+      o.complete p q (occurs_in s) (occurs_in r) (owner_is t p s ∙ e ∙ sym (owner_is u q r))
 
   pub owners_classes : AreClasses es class
   owners_classes =
@@ -82,40 +84,40 @@ later p (one ∷ ones) r =
 
 mutual
   rising : (t : Tree) (p : ℕ) (after : List One) → Rise (p + size t) after
-      → Rise p (met t p ++ after)
+      → Rise p (positions t p ++ after)
   rising (Leaf x) p after r = (omega arith, r)
   rising (Array ts) p after r = (
     omega arith,
     rising_items ts _ _ (lower _ _ after
-        (omega (arith, length-append (shape_of_items ts) (EndCollection ∷ []))) r),
+        (omega (arith, length-append (lengthless_items ts) (EndCollection ∷ []))) r),
   )
   rising (Dictionary ms) p after r = (
     omega arith,
     rising_pairs ms _ _ (lower _ _ after
-        (omega (arith, length-append (shape_of_pairs ms) (EndCollection ∷ []))) r),
+        (omega (arith, length-append (lengthless_pairs ms) (EndCollection ∷ []))) r),
   )
 
   rising_items : (ts : Trees) (p : ℕ) (after : List One)
-      → Rise (p + length (shape_of_items ts)) after → Rise p (met_in_items ts p ++ after)
+      → Rise (p + length (lengthless_items ts)) after → Rise p (positions_in_items ts p ++ after)
   rising_items NoTrees p after r = lower p _ after (omega arith) r
   rising_items (TreeAnd t ts) p after r =
       rw append_assoc (rising t p _
       (rising_items ts _ _ (lower _ _ after
-      (omega (arith, length-append (shape t) (shape_of_items ts))) r)))
+      (omega (arith, length-append (lengthless t) (lengthless_items ts))) r)))
 
   rising_pairs : (ms : Members) (p : ℕ) (after : List One)
-      → Rise (p + length (shape_of_pairs ms)) after → Rise p (met_in_pairs ms p ++ after)
+      → Rise (p + length (lengthless_pairs ms)) after → Rise p (positions_in_pairs ms p ++ after)
   rising_pairs NoMembers p after r = lower p _ after (omega arith) r
   rising_pairs (MemberAnd k t ms) p after r = (
     omega arith,
-    rw (append_assoc (met t (p + 1)) (met_in_pairs ms (p + 1 + size t)) after)
-        (rising t (p + 1) (met_in_pairs ms (p + 1 + size t) ++ after)
+    rw (append_assoc (positions t (p + 1)) (positions_in_pairs ms (p + 1 + size t)) after)
+        (rising t (p + 1) (positions_in_pairs ms (p + 1 + size t) ++ after)
         (rising_pairs ms (p + 1 + size t) after (lower _ _ after
-        (omega (arith, length-append (shape t) (shape_of_pairs ms))) r))),
+        (omega (arith, length-append (lengthless t) (lengthless_pairs ms))) r))),
   )
 
-met_rise : (t : Tree) → Rise 0 (met t 0)
-met_rise t = rw (← (append-nil (met t 0))) (rising t 0 [] tt)
+positions_rise : (t : Tree) → Rise 0 (positions t 0)
+positions_rise t = rw (← (append-nil (positions t 0))) (rising t 0 [] tt)
 
 -- ---- the weights of one of each kind
 
@@ -156,17 +158,19 @@ module _ (weight : Tree → ℕ) where
 
 -- ---- counts and sizes
 
-module _ (tree : Tree) {class : ℕ → ℕ} {count : ℕ} (o : AreOwners (shape tree) class count) where
-  kept_is : kept class tree ≡ unique_keys owned_eq (met tree 0)
+module _ (tree : Tree) {class : ℕ → ℕ} {count : ℕ} (o : AreOwners
+    (lengthless tree) class count) where
+  kept_is : kept class tree ≡ unique_keys owned_eq (positions tree 0)
   kept_is =
       cc (
         map-id (kept class tree),
         unique_seen (same_class class) owned_eq (λ one. one)
-            (Stands (shape tree)) (λ a b s r. tells_both eqb owner_eq (class a.0) (class b.0)
+            (Stands (lengthless tree)) (λ a b s r. tells_both eqb owner_eq (class a.0) (class b.0)
             (own_tree a.1 a.0) (own_tree b.1 b.0) (eqb_tells _ _) (owners_tell _ _)
-            (class_owner o a.1 b.1 a.0 b.0 s r) (owner_class o a.1 b.1 a.0 b.0 s r)) (met tree 0)
-            (met_stand (shape tree) tree 0 (sits_whole refl)),
-        map-id (met tree 0),
+            (class_owner o a.1 b.1 a.0 b.0 s r) (owner_class o a.1 b.1 a.0 b.0 s r))
+            (positions tree 0)
+            (positions_stand (lengthless tree) tree 0 (occurs_whole refl)),
+        map-id (positions tree 0),
       )
 
   kept_total : (weight : Tree → ℕ) → total (λ (one : One). weight one.1) (kept class tree)
@@ -174,7 +178,7 @@ module _ (tree : Tree) {class : ℕ → ℕ} {count : ℕ} (o : AreOwners (shape
       (unique_keys scalar_eq (scalars_in tree))
   kept_total weight =
       ap (total (λ (one : One). weight one.1)) kept_is
-      ∙ owned_total weight 0 (met tree 0) (met_rise tree)
+      ∙ owned_total weight 0 (positions tree 0) (positions_rise tree)
 
   pub owned_count : count_by class tree ≡ object_count tree
   owned_count =
@@ -191,7 +195,8 @@ module _ (tree : Tree) {class : ℕ → ℕ} {count : ℕ} (o : AreOwners (shape
 -- ---- no collection is entered twice
 
 module _ {es : List PlainEvent} {class : ℕ → ℕ} {count : ℕ} (o : AreOwners es class count)
-    (num : ℕ → ℕ) (num_apart : (t u : Tree) (p q : ℕ) → Sits es t p → Sits es u q → num p ≡ num q
+    (num : ℕ → ℕ) (num_apart : (t u : Tree) (p q : ℕ) → OccursAt es t p → OccursAt es u q
+    → num p ≡ num q
     → class p ≡ class q) where
   all_apart : (a : One) → Stands es a → own_tree a.1 a.0 ≡ alone a.0 → (ones : List One)
       → AllByRecursion (Stands es) ones → AllByRecursion (λ later. a.0 < later.0) ones
@@ -216,6 +221,7 @@ module _ {es : List PlainEvent} {class : ℕ → ℕ} {count : ℕ} (o : AreOwne
     distinct_at (p + 1) ones s.1 r.1,
   )
 
-  pub entered_once : (tree : Tree) → Sits es tree 0
+  pub entered_once : (tree : Tree) → OccursAt es tree 0
       → IsDistinct eqb (map (λ one. num one.0) (collections_in tree))
-  entered_once tree s = distinct_at 0 (met tree 0) (met_stand es tree 0 s) (met_rise tree)
+  entered_once tree s = distinct_at 0 (positions tree 0) (positions_stand es tree 0 s)
+      (positions_rise tree)

@@ -4,7 +4,7 @@ use Rattle.std.specs.Prelude.{slice_get}
 use Rattle.std.proofs.lemmas.Option.{slice_get_within}
 use Rattle.plist_base.specs.Events.{Single, PlainEvent}
 use Rattle.plist_base.specs.Trees.{Scalar}
-use Rattle.plist_binwrite.specs.Held.{event_at, num_of}
+use Rattle.plist_binwrite.specs.EventTable.{event_at, num_of}
 use Rattle.plist_binwrite.specs.inner.Scalars.{owner, own, shared, alone, AreApart, HaveClasses, AreOwners, is_leaf}
 use Rattle.plist_binwrite.proofs.Changes.{at_set}
 

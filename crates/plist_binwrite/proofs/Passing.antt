@@ -3,89 +3,98 @@ use Rattle.std.proofs.Common.{◌≡◌, inl, inr, ℕ, ◌+◌, ◌≤◌, Bool
 use Rattle.plist_base.specs.Events.{PlainEvent, EndCollection}
 use Rattle.plist_base.specs.Trees as trees
 use Rattle.plist_base.specs.Trees.{Tree, Leaf, Trees, NoTrees, TreeAnd, Members, NoMembers, MemberAnd}
-use Rattle.plist_binwrite.specs.Standing.{size, Sits, SitsItems, SitsPairs}
-use Rattle.plist_binwrite.specs.Held.{is_stop, event_at, half_at, EndsTree, LacksItem}
-use Rattle.plist_binwrite.proofs.Sitting.{sits_item, sits_next, sits_key, sits_value, sits_next_pair}
-use Rattle.plist_binwrite.proofs.Skipping.{first_event, begins, sits_in}
+use Rattle.plist_binwrite.specs.Occurrences.{size, OccursAt, ItemsOccurAt, PairsOccurAt}
+use Rattle.plist_binwrite.specs.EventTable.{is_stop, event_at, half_at, EndsTree, LacksItem}
+use Rattle.plist_binwrite.proofs.Sitting.{occurs_item, occurs_next, occurs_key, occurs_value, occurs_next_pair}
+use Rattle.plist_binwrite.proofs.Skipping.{first_event, begins, occurs_in}
 
 -- an item stands where a tree does
-lacks_none : {es : List PlainEvent} (t : Tree) (q : ℕ) → Sits es t q → LacksItem es q → ⊥
+lacks_none : {es : List PlainEvent} (t : Tree) (q : ℕ) → OccursAt es t q → LacksItem es q → ⊥
 lacks_none t q s (inl h) = cc (begins t q s)
-lacks_none t q s (inr h) = absurd (omega (arith, sits_in s))
+lacks_none t q s (inr h) = absurd (omega (arith, occurs_in s))
 
 -- the children that are left from index q on
-pub record Left {L : Type 0} (SitsAll : List PlainEvent → L → ℕ → Type 0) (es : List PlainEvent)
+pub record Left {L : Type 0} (AllOccurAt : List PlainEvent → L → ℕ → Type 0) (es : List PlainEvent)
     (Goes : L → ℕ → Type 0) (q : ℕ) : Type 0 where
   pub left : L
-  pub sits : SitsAll es left q
+  pub occurs : AllOccurAt es left q
   pub goes : Goes left q
 
 -- a tree stands at p, and the other children behind it
-pub record First {L : Type 0} (SitsAll : List PlainEvent → L → ℕ → Type 0) (es : List PlainEvent)
+pub record First {L : Type 0} (AllOccurAt : List PlainEvent → L → ℕ → Type 0) (es : List PlainEvent)
     (Goes : Tree → L → Type 0) (p : ℕ) : Type 0 where
   pub tree : Tree
   pub rest : L
-  pub here : Sits es tree p
-  pub sits : SitsAll es rest (p + size tree)
+  pub here : OccursAt es tree p
+  pub occurs : AllOccurAt es rest (p + size tree)
   pub goes : Goes tree rest
 
 -- past it the walk goes on
-pub onward : {L : Type 0} {SitsAll : List PlainEvent → L → ℕ → Type 0} {es : List PlainEvent}
-    {Goes : Tree → L → Type 0} {More : L → ℕ → Type 0} {p next : ℕ} (f : First SitsAll es Goes p)
+pub onward : {L : Type 0} {AllOccurAt : List PlainEvent → L → ℕ → Type 0} {es : List PlainEvent}
+    {Goes : Tree → L → Type 0} {More : L → ℕ → Type 0} {p next : ℕ} (f : First AllOccurAt es Goes p)
     → EndsTree es p next → (Goes f.tree f.rest → More f.rest (p + size f.tree))
-    → Left SitsAll es More next
+    → Left AllOccurAt es More next
 onward f skip goes =
-    rw (skip f.tree f.here) (record { left = f.rest; sits = f.sits; goes = goes f.goes })
+    rw (skip f.tree f.here) (record { left = f.rest; occurs = f.occurs; goes = goes f.goes })
 
 -- ---- arrays
 
-module _ {es : List PlainEvent} {Goes : Trees → ℕ → Type 0} {q : ℕ} (i : Left SitsItems es Goes q)
+module _ {es : List PlainEvent} {Goes : Trees → ℕ → Type 0} {q : ℕ}
+    (i : Left ItemsOccurAt es Goes q)
   where
     -- where no end stands, the walk goes on
     pub items_first : is_stop (event_at es q) ≡ false
-        → First SitsItems es (λ t ts. Goes (TreeAnd t ts) q) q
-    items_first h = by i.left i.sits i.goes
+        → First ItemsOccurAt es (λ t ts. Goes (TreeAnd t ts) q) q
+    items_first h = by i.left i.occurs i.goes
       where
-        by : (ts : Trees) → SitsItems es ts q → Goes ts q
-            → First SitsItems es (λ t ts. Goes (TreeAnd t ts) q) q
+        by : (ts : Trees) → ItemsOccurAt es ts q → Goes ts q
+            → First ItemsOccurAt es (λ t ts. Goes (TreeAnd t ts) q) q
         by NoTrees s g = cc (ap is_stop (first_event es q EndCollection s.rest s.is))
         by (TreeAnd t ts) s g =
-            record { tree = t; rest = ts; here = sits_item s; sits = sits_next s; goes = g }
+            record { tree = t; rest = ts; here = occurs_item s; occurs = occurs_next s; goes = g }
 
     -- where one does, or no event, nothing is left
     pub items_stop : LacksItem es q → Goes NoTrees q
-    items_stop lacks = by i.left i.sits i.goes
+    items_stop lacks = by i.left i.occurs i.goes
       where
-        by : (ts : Trees) → SitsItems es ts q → Goes ts q → Goes NoTrees q
+        by : (ts : Trees) → ItemsOccurAt es ts q → Goes ts q → Goes NoTrees q
         by NoTrees s g = g
-        by (TreeAnd t ts) s g = absurd (lacks_none t q (sits_item s) lacks)
+        by (TreeAnd t ts) s g = absurd (lacks_none t q (occurs_item s) lacks)
 
 -- ---- dictionaries
 
 -- a key stands at q, and its value behind it
 pub record FirstPair (es : List PlainEvent) (Goes : Members → ℕ → Type 0) (q : ℕ) : Type 0 where
   pub key : List ℕ
-  pub named : Sits es (Leaf (trees.String key)) q
-  pub value : First SitsPairs es (λ t ms. Goes (MemberAnd key t ms) q) (q + 1)
+  pub named : OccursAt es (Leaf (trees.String key)) q
+  pub value : First PairsOccurAt es (λ t ms. Goes (MemberAnd key t ms) q) (q + 1)
   pub open value use *
 
-module _ {es : List PlainEvent} {Goes : Members → ℕ → Type 0} {q : ℕ} (i : Left SitsPairs es Goes q)
+module _ {es : List PlainEvent} {Goes : Members → ℕ → Type 0} {q : ℕ}
+    (i : Left PairsOccurAt es Goes q)
   where
     pub pairs_first : is_stop (event_at es q) ≡ false → FirstPair es Goes q
-    pairs_first h = by i.left i.sits i.goes
+    pairs_first h = by i.left i.occurs i.goes
       where
-        by : (ms : Members) → SitsPairs es ms q → Goes ms q → FirstPair es Goes q
+        by : (ms : Members) → PairsOccurAt es ms q → Goes ms q → FirstPair es Goes q
         by NoMembers s g = cc (ap is_stop (first_event es q EndCollection s.rest s.is))
         by (MemberAnd k t ms) s g =
-            let next = sits_next_pair s in record {
+            let next = occurs_next_pair s in record {
               key = k;
-              named = sits_key s;
-              value = record { tree = t; rest = ms; here = sits_value s; sits = next; goes = g };
+              named = occurs_key s;
+              value = record {
+                tree = t;
+                rest = ms;
+                here = occurs_value s;
+                occurs = next;
+                goes
+                    = g;
+              };
             }
 
     -- a key has its value behind it
     pub pairs_within : {A : Type 0} → is_stop (event_at es q) ≡ false → length es ≤ q + 1 → A
-    pairs_within h end = absurd (omega (arith, sits_in (pairs_first h).here, end))
+    pairs_within h end = absurd (omega (arith, occurs_in (pairs_first h).here, end))
 
     -- no end stands at either
     pub stands : (b : Bool) → is_stop (event_at es q) ≡ false
@@ -94,8 +103,8 @@ module _ {es : List PlainEvent} {Goes : Members → ℕ → Type 0} {q : ℕ} (i
     stands false h = h
 
     pub pairs_stop : LacksItem es q → Goes NoMembers q
-    pairs_stop lacks = by i.left i.sits i.goes
+    pairs_stop lacks = by i.left i.occurs i.goes
       where
-        by : (ms : Members) → SitsPairs es ms q → Goes ms q → Goes NoMembers q
+        by : (ms : Members) → PairsOccurAt es ms q → Goes ms q → Goes NoMembers q
         by NoMembers s g = g
-        by (MemberAnd k t ms) s g = absurd (lacks_none _ q (sits_key s) lacks)
+        by (MemberAnd k t ms) s g = absurd (lacks_none _ q (occurs_key s) lacks)

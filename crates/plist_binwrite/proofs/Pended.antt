@@ -2,43 +2,43 @@
 use Rattle.std.proofs.Common.{◌≡◌, ℕ, suc, Bool, List, [], ◌∷◌, ◌++◌, ◌==◌, length, reverse, option_and_then, None, Some, true, false, refl, sym, ap, ◌∙◌, subst, arith}
 use Rattle.std.proofs.lemmas.Bool.{ne_eqb}
 use Rattle.std.proofs.lemmas.List.{length-map, length-reverse}
-use Rattle.plist_base.specs.Bracketing.{unhinted, CanContinue}
+use Rattle.plist_base.specs.Bracketing.{without_length, CanContinue}
 use Rattle.plist_base.specs.Events.{PlainEvent, EndCollection}
-use Rattle.plist_base.specs.inner.Wants.{Want, OneValue, Change, Refused, changed, step, wanted_after}
+use Rattle.plist_base.specs.inner.Expects.{Expect, OneValue, Change, Refused, changed, step, expected_after}
 use Rattle.plist_base.proofs.Grammar.{none_is, wanted_alike, can_continue, continues, bracketed, all_taken, complete_of_whole, alike_last, steps_snoc}
-use Rattle.plist_binwrite.specs.declared.pending.Pending.{Pending}
-use Rattle.plist_binwrite.specs.declared.wants.Want as code_want
-use Rattle.plist_binwrite.specs.declared.wants.Change as code_change
-use Rattle.plist_binwrite.specs.declared.wants.Change.TheVariants as change
-use Rattle.plist_binwrite.specs.Pendings.{events_held, TellsWhole}
-use Rattle.plist_binwrite.specs.inner.Stacks.{is_nothing, want_seen, change_seen, stack_of, with_root, change_on_top, ChangesTo, wanted_now}
+use Rattle.plist_binwrite.specs.declared.event_buffer.EventBuffer.{EventBuffer}
+use Rattle.plist_binwrite.specs.declared.expects.Expect as code_expect
+use Rattle.plist_binwrite.specs.declared.expects.Change as code_change
+use Rattle.plist_binwrite.specs.declared.expects.Change.TheVariants as change
+use Rattle.plist_binwrite.specs.EventBuffers.{buffered_events, TestsWhole}
+use Rattle.plist_binwrite.specs.inner.Stacks.{is_nothing, expect_seen, change_seen, stack_of, with_root, change_on_top, ChangesTo, expected_now}
 
 -- ---- the stack
 
 -- an event that isn't refused changes it so
-put_top : (c : Change) (top : Want) (rest new : List Want) → (c ≡ Refused → ⊥)
+put_top : (c : Change) (top : Expect) (rest new : List Expect) → (c ≡ Refused → ⊥)
     → ChangesTo (top ∷ rest) c new → changed c top rest ≡ Some new
 put_top Refused top rest new n p = absurd (n refl)
 put_top c top rest new n p = ap Some (sym p)
 
-step_taken : (s new : List Want) (e : PlainEvent) → (change_on_top s e ≡ Refused → ⊥)
+step_taken : (s new : List Expect) (e : PlainEvent) → (change_on_top s e ≡ Refused → ⊥)
     → ChangesTo s (change_on_top s e) new → step (with_root s) e ≡ Some new
 step_taken [] new EndCollection n p = absurd (n refl)
 step_taken [] new e n p = ap Some (sym p)
 step_taken (top ∷ rest) new e n p = put_top _ top _ new n p
 
-step_refused : (s : List Want) (e : PlainEvent) → change_on_top s e ≡ Refused
+step_refused : (s : List Expect) (e : PlainEvent) → change_on_top s e ≡ Refused
     → step (with_root s) e ≡ None
 step_refused [] e p = ap (λ c. changed c OneValue []) p
 step_refused (top ∷ rest) e p = ap (λ c. changed c top rest) p
 
-changed_some : (c : Change) (top : Want) (rest : List Want) → (c ≡ Refused → ⊥)
-    → (new : List Want) × (changed c top rest ≡ Some new)
+changed_some : (c : Change) (top : Expect) (rest : List Expect) → (c ≡ Refused → ⊥)
+    → (new : List Expect) × (changed c top rest ≡ Some new)
 changed_some Refused top rest n = absurd (n refl)
 changed_some c top rest n = (_, refl)
 
-step_some : (s : List Want) (e : PlainEvent) → (change_on_top s e ≡ Refused → ⊥)
-    → (new : List Want) × (step (with_root s) e ≡ Some new)
+step_some : (s : List Expect) (e : PlainEvent) → (change_on_top s e ≡ Refused → ⊥)
+    → (new : List Expect) × (step (with_root s) e ≡ Some new)
 step_some [] e n = changed_some _ _ [] n
 step_some (top ∷ rest) e n = changed_some _ top _ n
 
@@ -47,64 +47,64 @@ seen_refused change.Refused h = refl
 seen_refused c h = cc
 
 -- it is empty just where the code's test says so
-root_shown : (s : List Want) (n : ℕ) (b : Bool) → n ≡ length s → b ≡ (n == 0)
-    → (s ≡ wanted_now b s) × (b ≡ is_nothing s)
+root_shown : (s : List Expect) (n : ℕ) (b : Bool) → n ≡ length s → b ≡ (n == 0)
+    → (s ≡ expected_now b s) × (b ≡ is_nothing s)
 root_shown [] n b h e =
-    let t = e ∙ ap (λ k. k == 0) h in (ap (λ v. wanted_now v []) (sym t), t)
+    let t = e ∙ ap (λ k. k == 0) h in (ap (λ v. expected_now v []) (sym t), t)
 root_shown (w ∷ s) n b h e =
     let t = e ∙ ap (λ k. k == 0) h ∙ ne_eqb (suc (length s)) 0 (λ p. absurd (omega arith)) in
-    (ap (λ v. wanted_now v (w ∷ s)) (sym t), t)
+    (ap (λ v. expected_now v (w ∷ s)) (sym t), t)
 
-pub stack_shown : (ws : List code_want.Want) (n : ℕ) (b : Bool) → n ≡ length ws → b ≡ (n == 0)
-    → (stack_of ws ≡ wanted_now b (stack_of ws)) × (b ≡ is_nothing (stack_of ws))
+pub stack_shown : (ws : List code_expect.Expect) (n : ℕ) (b : Bool) → n ≡ length ws → b ≡ (n == 0)
+    → (stack_of ws ≡ expected_now b (stack_of ws)) × (b ≡ is_nothing (stack_of ws))
 stack_shown ws n b h e =
     root_shown (stack_of ws) n b
-    (omega (arith, h, length-map (reverse ws) want_seen, length-reverse ws)) e
+    (omega (arith, h, length-map (reverse ws) expect_seen, length-reverse ws)) e
 
 -- nothing more is wanted exactly behind a tree's events
-pub tells_whole : (es : List PlainEvent) (s : List Want) (b : Bool) → wanted_after es ≡ Some s
-    → b ≡ is_nothing s → TellsWhole b es
-tells_whole es [] true w n = complete_of_whole es (bracketed es w)
-tells_whole es (x ∷ s) false w n = λ whole.
+pub tests_whole : (es : List PlainEvent) (s : List Expect) (b : Bool) → expected_after es ≡ Some s
+    → b ≡ is_nothing s → TestsWhole b es
+tests_whole es [] true w n = complete_of_whole es (bracketed es w)
+tests_whole es (x ∷ s) false w n = λ whole.
     let q
     = sym (all_taken es _ whole.1) ∙ w in cc
-tells_whole es s b w n = cc
+tests_whole es s b w n = cc
 
 -- ---- one more event
 
 -- the length of a start decides nothing
 pub same_wants : (es : List PlainEvent) (e : PlainEvent)
-    → wanted_after (es ++ unhinted e ∷ []) ≡ wanted_after (es ++ e ∷ [])
+    → expected_after (es ++ without_length e ∷ []) ≡ expected_after (es ++ e ∷ [])
 same_wants es e = wanted_alike _ _ (alike_last es e)
 
 -- a change, told of the stack that the code has, is refused just where the event can't follow
-module _ (s : Pending) (e : PlainEvent) (c : code_change.Change) (still : s.whole ≡ false)
-    {wants : List code_want.Want} (same : wants ≡ s.wants.items)
-    (is : change_seen c ≡ change_on_top (stack_of wants) e) where
-  abbrev stack : List Want
-  stack = stack_of s.wants.items
+module _ (s : EventBuffer) (e : PlainEvent) (c : code_change.Change) (still : s.whole ≡ false)
+    {expects : List code_expect.Expect} (same : expects ≡ s.expects.items)
+    (is : change_seen c ≡ change_on_top (stack_of expects) e) where
+  abbrev stack : List Expect
+  stack = stack_of s.expects.items
 
   pub seen : change_seen c ≡ change_on_top stack e
   seen = cc
 
-  after : wanted_after (events_held s ++ e ∷ []) ≡ step (with_root stack) e
-  after = steps_snoc (events_held s) (OneValue ∷ []) e ∙ ap (option_and_then (λ t. step t e))
-      (subst (λ b. wanted_after (events_held s) ≡ Some (wanted_now b stack)) still s.wanted)
+  after : expected_after (buffered_events s ++ e ∷ []) ≡ step (with_root stack) e
+  after = steps_snoc (buffered_events s) (OneValue ∷ []) e ∙ ap (option_and_then (λ t. step t e))
+      (subst (λ b. expected_after (buffered_events s) ≡ Some (expected_now b stack)) still s.wanted)
 
-  pub cannot_take : change_seen c ≡ Refused → CanContinue (events_held s) e → ⊥
+  pub cannot_take : change_seen c ≡ Refused → CanContinue (buffered_events s) e → ⊥
   cannot_take r can =
       let g = continues _ e can in
       none_is _ g.0 (after ∙ step_refused _ e (cc)) g.1
 
-  pub can_take : (c ≡ change.Refused → ⊥) → CanContinue (events_held s) e
+  pub can_take : (c ≡ change.Refused → ⊥) → CanContinue (buffered_events s) e
   can_take other =
       let f = step_some _ e (λ r. other (seen_refused c (seen ∙ r))) in
       can_continue _ e f.0 (after ∙ f.1)
 
   -- what is wanted then
-  pub took : (room new : List code_want.Want) → CanContinue (events_held s) e
-      → room ≡ s.wants.items → ChangesTo (stack_of room) (change_seen c) (stack_of new)
-      → wanted_after (events_held s ++ e ∷ []) ≡ Some (stack_of new)
+  pub took : (room new : List code_expect.Expect) → CanContinue (buffered_events s) e
+      → room ≡ s.expects.items → ChangesTo (stack_of room) (change_seen c) (stack_of new)
+      → expected_after (buffered_events s ++ e ∷ []) ≡ Some (stack_of new)
   took room new can has puts =
       after ∙ step_taken _ _ e (λ r. cannot_take (seen ∙ r) can)
       (rw (← seen) (subst (λ l. ChangesTo (stack_of l) (change_seen c) (stack_of new)) has puts))

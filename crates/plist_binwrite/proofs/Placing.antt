@@ -15,14 +15,14 @@ use Rattle.plist_binwrite.specs.inner.Laying.{IsOrder, KeepsMarks, laid_out, All
 use Rattle.std.proofs.lemmas.List.Folds.{list_any_at}
 use Rattle.plist_base.specs.Events.{PlainEvent}
 use Rattle.plist_base.specs.Trees.{Tree, Leaf, Array, Dictionary}
-use Rattle.plist_binwrite.specs.Held.{num_of, Describes}
+use Rattle.plist_binwrite.specs.EventTable.{num_of, Describes}
 use Rattle.plist_binwrite.specs.declared.plan.Plan.{Plan}
 use Rattle.plist_binwrite.specs.inner.Planning.{IsPlanned, numbers_of, firsts_of, count_of}
-use Rattle.plist_binwrite.specs.Standing.{Sits}
+use Rattle.plist_binwrite.specs.Occurrences.{OccursAt}
 use Rattle.plist_binwrite.specs.Numberings.{obj_of}
-use Rattle.plist_binwrite.specs.Sizes.{total, TellsSize, object_size}
+use Rattle.plist_binwrite.specs.Sizes.{total, IsSizeOrNone, object_size}
 use Rattle.plist_binwrite.proofs.Outgoing.{one_part}
-use Rattle.plist_binwrite.proofs.TreeObjects.{sits_at}
+use Rattle.plist_binwrite.proofs.TreeObjects.{occurs_at}
 use Rattle.plist_binwrite.proofs.Reading.{length-keys_of, length-values_of}
 use Rattle.plist_binwrite.proofs.ReadingNumbers.{length-table}
 use Rattle.plist_binwrite.proofs.Totals.{total_below, total_all}
@@ -230,18 +230,19 @@ not_before xs i d h =
 -- what is told of the place so far
 pub record Along (w : ℕ) (objects : ℕ → Object) (order places : List ℕ) (i : ℕ)
     (at : Option ℕ) : Type 0 where
-  pub told : TellsSize at (8 + length (bodies w objects (take i order)))
+  pub told : IsSizeOrNone at (8 + length (bodies w objects (take i order)))
   pub laid : IfSome at (λ n. Laid w objects places (take i order) 8)
 
 pub along_next : (w : ℕ) (objects : ℕ → Object) (order places : List ℕ) (i v : ℕ)
     (at next : Option ℕ) → i < length order → IsDistinct eqb order
     → get_or order i 0 < length places → IsWritable w (objects (get_or order i 0))
     → IfSome at (λ n. v ≡ n)
-    → ((a : ℕ) → TellsSize at a → TellsSize next (a + length (form w (objects (get_or order i 0)))))
+    → ((a : ℕ) → IsSizeOrNone at a → IsSizeOrNone next (a + length (form w (objects
+    (get_or order i 0)))))
     → (at ≡ None → next ≡ None) → Along w objects order places i at → Along w objects order
     (set places (get_or order i 0) v) (i + 1) next
 along_next w objects order places i v at next lt distinct below good is sum none along = record {
-  told = subst (TellsSize next) more (sum _ along.told);
+  told = subst (IsSizeOrNone next) more (sum _ along.told);
   laid = by at next is none along.told along.laid;
 }
   where
@@ -256,7 +257,7 @@ along_next w objects order places i v at next lt distinct below good is sum none
         )
 
     by : (at next : Option ℕ) → IfSome at (λ n. v ≡ n) → (at ≡ None → next ≡ None)
-        → TellsSize at (8 + length (bodies w objects (take i order)))
+        → IsSizeOrNone at (8 + length (bodies w objects (take i order)))
         → IfSome at (λ n. Laid w objects places (take i order) 8)
         → IfSome next (λ n. Laid w objects (set places (get_or order i 0) v) (take (i + 1) order) 8)
     by None (Some m) is none told laid = let e : Some m ≡ None = none refl in cc
@@ -269,21 +270,22 @@ along_next w objects order places i v at next lt distinct below good is sum none
 module _ {es : List PlainEvent} {plan : Plan} (planned : IsPlanned es plan) (objects : ℕ → Object)
     (k first : ℕ) (e : first ≡ get_or (firsts_of plan) k 0) (h : k < count_of plan)
     (describes : Describes es (numbers_of plan) objects) where
-  pub described : (u : Tree) × Sits es u first
+  pub described : (u : Tree) × OccursAt es u first
       × (objects k ≡ obj_of (num_of (numbers_of plan)) u first)
   described =
       let f = planned.numbered.known k h in
-      let u = sits_at es planned.whole _ f.0 f.2 in
-      let s = subst (Sits es u.0) (sym e) u.1 in (
+      let u = occurs_at es planned.whole _ f.0 f.2 in
+      let s = subst (OccursAt es u.0) (sym e) u.1 in (
         u.0,
         s,
         ap objects (sym (ap (num_of _) e ∙ f.1)) ∙ describes u.0 _ s,
       )
 
   pub sized : (w : ℕ) (told : Option ℕ)
-      → ((t : Tree) → Sits es t first → TellsSize told (object_size w t))
-      → ((t : Tree) → Sits es t first → IsWritable w (obj_of (num_of (numbers_of plan)) t first))
-      → TellsSize told (length (form w (objects k))) × IsWritable w (objects k)
+      → ((t : Tree) → OccursAt es t first → IsSizeOrNone told (object_size w t))
+      → ((t : Tree) → OccursAt es t first → IsWritable w (obj_of (num_of
+      (numbers_of plan)) t first))
+      → IsSizeOrNone told (length (form w (objects k))) × IsWritable w (objects k)
   sized w told size good =
       let d = described in (
         rw (ap (λ v. length (form w v)) d.2

@@ -5,22 +5,22 @@ use Rattle.std.specs.Prelude.{⊤}
 use Rattle.std.specs.Prelude.{option_map}
 use Rattle.std.proofs.lemmas.List.Elements.{All-from_get_or, recursion_from_All}
 use Rattle.std.proofs.lemmas.Option.{slice_get-map, slice_get-get_or}
-use Rattle.plist_base.specs.Bracketing.{bracketing, shape, AreWhole}
+use Rattle.plist_base.specs.Bracketing.{bracketing, lengthless, AreWhole}
 use Rattle.plist_base.specs.Events.{PlainEvent}
 use Rattle.plist_base.specs.Faults.{Fault, MatchFault}
 use Rattle.plist_base.specs.Trees.{Tree}
 use Rattle.plist_format.specs.Container.{magic, Head, head_of}
 use Rattle.plist_format.specs.Object.{Object, object_in}
-use Rattle.plist_format.specs.Unfolding.{Entry, table_of, unfolding_of, until_fault, items_with, items_of_file}
+use Rattle.plist_format.specs.Unfolding.{TableEntry, table_of, unfolding_of, until_fault, items_with, items_of_file}
 use Rattle.plist_format.specs.Visits.{visits_of, visits_with, visits}
 use Rattle.plist_format.proofs.Tables.{length-table_of}
 use Rattle.plist_binwrite.specs.Classes.{IsFileBy, count_by, objects_by, size_by, IsOversized, Fits, SendsBy}
 use Rattle.plist_binwrite.specs.ObjectCounts.{collections_in}
 use Rattle.plist_binwrite.specs.Forms.{form, table_form, AllFit}
-use Rattle.plist_binwrite.specs.Held.{num_of, Describes, plain_events}
+use Rattle.plist_binwrite.specs.EventTable.{num_of, Describes, plain_events}
 use Rattle.plist_binwrite.specs.inner.Laying.{AllOnce, laid_out, closed, IsOrder, HasAll}
 use Rattle.plist_binwrite.specs.inner.Planning.{IsPlanned, GoesBy, numbers_of, count_of}
-use Rattle.plist_binwrite.specs.Standing.{met}
+use Rattle.plist_binwrite.specs.Occurrences.{positions}
 use Rattle.plist_binwrite.specs.Written.{Laid, reference_width, offset_width, bodies, ending}
 use Rattle.plist_binwrite.specs.declared.plan.Plan.{Plan}
 use Rattle.plist_binwrite.proofs.ClassObjects.{Numbered, numbered, number_apart, number_below}
@@ -28,12 +28,12 @@ use Rattle.plist_binwrite.proofs.Kept.{planned_count, planned_size}
 use Rattle.plist_binwrite.proofs.Placing.{length-magic, found_place, object_there, any_at}
 use Rattle.plist_binwrite.proofs.Reading.{form_read}
 use Rattle.plist_binwrite.proofs.ReadingNumbers.{drop_front, width_positive, last, length_closed, front_is, head_is}
-use Rattle.plist_binwrite.proofs.Sitting.{sits_whole}
+use Rattle.plist_binwrite.proofs.Sitting.{occurs_whole}
 use Rattle.plist_binwrite.proofs.Unfold.{Shows, unfolds_whole, no_fault}
 use Rattle.plist_binwrite.proofs.Widths.{width_holds}
 use Rattle.plist_base.specs.Outcomes.{IfFault, OnlyDevice}
 use Rattle.plist_base.specs.declared.error.Error.{Error}
-use Rattle.plist_binwrite.specs.declared.held.Held.{Held}
+use Rattle.plist_binwrite.specs.declared.event_table.EventTable.{EventTable}
 use Rattle.plist_base.specs.Writing.{Answer, answer_of}
 use Rattle.plist_base.proofs.Grammar.{complete_of_whole}
 use Rattle.plist_binwrite.specs.declared.completion.Draft.{Draft}
@@ -41,12 +41,12 @@ use Rattle.plist_binwrite.specs.declared.completion.Ready.{Ready}
 use Rattle.plist_binwrite.specs.inner.Ending.{numbers_in, file_of, IsDraftOf, IsFitting, IsReady, NeedsNoMemory, SendsReady}
 use Rattle.plist_binwrite.specs.Outlets.{IsOut, Empties, EmptiesInPart}
 use Rattle.plist_binwrite.specs.inner.Sizing.{ExceedsWith, FitsWith}
-use Rattle.plist_binwrite.specs.Sizes.{TellsSize, size_with}
+use Rattle.plist_binwrite.specs.Sizes.{IsSizeOrNone, size_with}
 use Rattle.plist_binwrite.specs.SendingAs.{IsFileAs}
-use Rattle.plist_binwrite.proofs.Unhinted.{plain_shape}
+use Rattle.plist_binwrite.proofs.Unhinted.{plain_lengthless}
 
 module _ {es : List PlainEvent} {plan : Plan} (planned : IsPlanned es plan) {class : ℕ → ℕ}
-    (goes : GoesBy es class plan) (t : Tree) (e : es ≡ shape t) (objects : ℕ → Object)
+    (goes : GoesBy es class plan) (t : Tree) (e : es ≡ lengthless t) (objects : ℕ → Object)
     (describes : Describes es (numbers_of plan) objects) (order : List ℕ)
     (all : AllOnce (count_of plan) order) where
   -- how long the magic and the objects are
@@ -93,7 +93,7 @@ module _ {es : List PlainEvent} {plan : Plan} (planned : IsPlanned es plan) {cla
     abbrev before : List ℕ
     before = take (last body places) (closed file places)
 
-    abbrev entries : List Entry
+    abbrev entries : List TableEntry
     entries = table_of before w places
 
     entry_read : (k : ℕ) → k < length places
@@ -122,9 +122,9 @@ module _ {es : List PlainEvent} {plan : Plan} (planned : IsPlanned es plan) {cla
     head_found = head_is body places (omega (arith, long, planned.numbered.small)) short fit
 
     shows : Shows num (unfolding_of entries (length places) [] (last body places) 0)
-        (visits_of entries (length places) [] 0) (bracketing t) (met t 0)
+        (visits_of entries (length places) [] 0) (bracketing t) (positions t 0)
     shows =
-        let room : length entries - 0 ≡ length places = omega
+        let buffer : length entries - 0 ≡ length places = omega
         (arith, length-table_of before places w)
         in
         let all = unfolds_whole entries es num made.rank made.ranked
@@ -134,8 +134,8 @@ module _ {es : List PlainEvent} {plan : Plan} (planned : IsPlanned es plan) {cla
               ∙ ap (λ o. Some (record { place = get_or places (num p) 0; object = o }))
               (describes u p s),
         ))
-        t (last body places) (sits_whole e) in
-        rw (room, planned.root) at all
+        t (last body places) (occurs_whole e) in
+        rw (buffer, planned.root) at all
 
     items_are : items_of_file (closed file places) ≡ map Ok (bracketing t)
     unfolding items_of_file
@@ -184,22 +184,22 @@ module _ {es : List PlainEvent} {plan : Plan} {order marks : List ℕ} (told : O
     (p : IsPlanned es plan) (o : IsOrder (count_of plan) order marks)
     (all : HasAll (count_of plan) order)
     (size : (objects : ℕ → Object) → Describes es (numbers_of plan) objects
-    → TellsSize told (length (laid_out width objects order))) where
+    → IsSizeOrNone told (length (laid_out width objects order))) where
   n : count ≡ count_of plan
   n = cc
 
   once : AllOnce (count_of plan) order
   once = record { distinct = o.distinct; numbered = λ k. (o.below k, all k) }
 
-  module _ {class : ℕ → ℕ} (goes : GoesBy es class plan) (t : Tree) (e : es ≡ shape t) where
+  module _ {class : ℕ → ℕ} (goes : GoesBy es class plan) (t : Tree) (e : es ≡ lengthless t) where
     abbrev size_of_all : ℕ
     size_of_all = objects_by class (reference_width (count_by class t)) t
 
     -- where the offset table lies
-    table_told : TellsSize told (8 + size_of_all)
+    table_told : IsSizeOrNone told (8 + size_of_all)
     table_told =
         let of = numbered p in
-        subst (TellsSize told)
+        subst (IsSizeOrNone told)
         (ap (λ v. length (laid_out v of.objects order)) (wide ∙ ap reference_width n)
         ∙ laid_length p goes t e of.objects of.describes order once)
         (size of.objects of.describes)
@@ -209,7 +209,7 @@ module _ {es : List PlainEvent} {plan : Plan} {order marks : List ℕ} (told : O
     count_told = n ∙ planned_count p goes t e
 
     too_large : (told : Option ℕ) → IfSome told (λ table. ExceedsWith table count)
-        → TellsSize told (8 + size_of_all) → 2 ^ 64 ≤ size_by class t
+        → IsSizeOrNone told (8 + size_of_all) → 2 ^ 64 ≤ size_by class t
     too_large None exceeds large = omega (arith, large)
     too_large (Some table) exceeds is =
         subst (λ k. 2 ^ 64 ≤ size_with k size_of_all) count_told (exceeds size_of_all is)
@@ -275,7 +275,7 @@ sends_end contents es ready old middle new waiting (Err error) sent front failed
 
 -- ---- what goes out
 
-module _ {W : Type 0} (contents : W → Option (List ℕ)) (events : Held) (old new : W)
+module _ {W : Type 0} (contents : W → Option (List ℕ)) (events : EventTable) (old new : W)
     (whole : AreWhole (plain_events events)) {class : ℕ → ℕ} {ready : Ready}
     (r : IsReady (plain_events events) ready) (goes : GoesBy (plain_events events) class ready.plan)
   where
@@ -287,7 +287,7 @@ module _ {W : Type 0} (contents : W → Option (List ℕ)) (events : Held) (old 
     is_file = (
       complete_of_whole (plain_events events) whole,
       λ t alike. r.file of.objects of.describes class
-          goes t (plain_shape events t alike),
+          goes t (plain_lengthless events t alike),
     )
 
     pub ready_sends : (answer : Answer) → SendsReady contents

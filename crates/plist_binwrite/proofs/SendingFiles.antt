@@ -1,7 +1,7 @@
 -- What sending a file does.
 use Rattle.std.proofs.Common.{◌≡◌, ℕ, ◌^◌, ◌<◌, List, Option, Ok, Err, ◌∙◌, subst, refl}
-use Rattle.plist_binwrite.specs.declared.held.Held.{Held}
-use Rattle.plist_base.specs.Bracketing.{bracketing, shape, AreAlike, AreWhole, AreComplete}
+use Rattle.plist_binwrite.specs.declared.event_table.EventTable.{EventTable}
+use Rattle.plist_base.specs.Bracketing.{bracketing, lengthless, AreAlike, AreWhole, AreComplete}
 use Rattle.plist_base.specs.Events.{PlainEvent}
 use Rattle.plist_base.specs.Faults.{FaultKind, Fault, Io, OutOfMemory, PlistTooLarge, fault_nowhere}
 use Rattle.plist_base.specs.Trees.{Tree}
@@ -9,14 +9,14 @@ use Rattle.plist_base.specs.Writing.{Answer}
 use Rattle.plist_base.proofs.Grammar.{complete_of_whole, whole_alike}
 use Rattle.plist_binwrite.specs.Classes.{IsFileBy, IsOversized, SendsBy, size_by}
 use Rattle.plist_binwrite.specs.Files.{IsFileOf}
-use Rattle.plist_binwrite.specs.Held.{plain_events}
+use Rattle.plist_binwrite.specs.EventTable.{plain_events}
 use Rattle.plist_binwrite.specs.SendingAs.{IsFileAs, FailsAs, SendsAs}
 use Rattle.plist_binwrite.specs.Sizes.{file_size}
 use Rattle.plist_binwrite.specs.inner.Scalars.{AreOwners}
 use Rattle.plist_binwrite.proofs.Least.{least}
 use Rattle.plist_binwrite.proofs.Owned.{owned_count, owned_size, entered_once}
-use Rattle.plist_binwrite.proofs.Sitting.{sits_whole}
-use Rattle.plist_binwrite.proofs.Unhinted.{plain_shape}
+use Rattle.plist_binwrite.proofs.Sitting.{occurs_whole}
+use Rattle.plist_binwrite.proofs.Unhinted.{plain_lengthless}
 
 -- a file of one kind is one of another, and has its size; and the events are alike
 module _ (One Other : Tree → List ℕ → Type 0) (size other : Tree → ℕ) (xs ys : List PlainEvent)
@@ -51,20 +51,22 @@ module _ (One Other : Tree → List ℕ → Type 0) (size other : Tree → ℕ) 
     sends_as (Err fault) old new (nowhere, fails) = (nowhere, fails_as _ old new fails)
 
 -- without memory nothing goes out
-pub sends_nothing : {W : Type 0} (contents : W → Option (List ℕ)) (class : ℕ → ℕ) (events : Held)
+pub sends_nothing : {W : Type 0} (contents : W → Option (List ℕ)) (class : ℕ
+    → ℕ) (events : EventTable)
     (fault : Fault) (old new : W) → fault ≡ fault_nowhere OutOfMemory → new ≡ old
     → SendsBy class contents (plain_events events) (Err fault) old new
 sends_nothing contents class events fault old new is same = rw is (refl, same)
 
 -- a file that is too large isn't sent
-pub sends_too_large : {W : Type 0} (contents : W → Option (List ℕ)) (class : ℕ → ℕ) (events : Held)
+pub sends_too_large : {W : Type 0} (contents : W → Option (List ℕ)) (class : ℕ
+    → ℕ) (events : EventTable)
     (fault : Fault) (old new : W) → fault ≡ fault_nowhere PlistTooLarge
     → AreWhole (plain_events events) → IsOversized class (plain_events events) → new ≡ old
     → SendsBy class contents (plain_events events) (Err fault) old new
 sends_too_large contents class events fault old new is whole large same = rw is (
   refl,
   (
-    (complete_of_whole _ whole, λ t alike. large t (plain_shape events t alike)),
+    (complete_of_whole _ whole, λ t alike. large t (plain_lengthless events t alike)),
     same,
   ),
 )
@@ -72,14 +74,14 @@ sends_too_large contents class events fault old new is whole large same = rw is 
 -- ---- a file by the plain writer's classes is the tree's file
 
 owned_file : {class : ℕ → ℕ} {count : ℕ} (tree : Tree) (file : List ℕ)
-    → AreOwners (shape tree) class count → IsFileBy class tree file → IsFileOf tree file
+    → AreOwners (lengthless tree) class count → IsFileBy class tree file → IsFileOf tree file
 owned_file tree file o f = record {
   written = f.written;
   once = record {
     events = bracketing tree;
     faultless = f.written.items;
     distinct = rw f.numbered.entered
-        (entered_once o f.numbered.numbers f.numbered.apart tree (sits_whole refl));
+        (entered_once o f.numbered.numbers f.numbered.apart tree (occurs_whole refl));
   };
   count = λ head is. f.count head is ∙ owned_count tree o;
   least = least tree;
@@ -87,13 +89,14 @@ owned_file tree file o f = record {
   fits = subst (λ n. n < 2 ^ 64) (owned_size tree o) f.fits;
 }
 
-pub sends_plainly : {W : Type 0} (contents : W → Option (List ℕ)) (events : Held) {class : ℕ → ℕ}
+pub sends_plainly : {W : Type 0} (contents : W → Option (List ℕ))
+    (events : EventTable) {class : ℕ → ℕ}
     {count : ℕ} (answer : Answer) (old new : W) → AreOwners (plain_events events) class count
     → SendsBy class contents (plain_events events) answer old new
     → SendsAs IsFileOf file_size contents (plain_events events) answer old new
 sends_plainly contents events {class} {count} answer old new o s =
     let own = λ (tree : Tree) (alike : AreAlike (plain_events events) (bracketing tree)). subst
-    (λ es. AreOwners es class count) (plain_shape events tree alike) o in
+    (λ es. AreOwners es class count) (plain_lengthless events tree alike) o in
     sends_as (IsFileBy class) IsFileOf (size_by class) file_size (plain_events events)
     (plain_events events) refl (λ tree alike file f. owned_file tree file (own tree alike) f)
     (λ tree alike. owned_size tree (own tree alike)) contents answer old new s

@@ -3,18 +3,18 @@ use Rattle.std.proofs.Common.{◌≡◌, inl, inr, ℕ, ◌+◌, ◌*◌, ◌/�
 use Rattle.std.proofs.lemmas.Bool.{cases_lt}
 use Rattle.plist_base.specs.Events.{PlainEvent, Single}
 use Rattle.plist_base.specs.Trees.{number_of_trees, number_of_members, Scalar, Tree, Leaf, Array, Dictionary, Trees, NoTrees, TreeAnd, Members, NoMembers, MemberAnd}
-use Rattle.plist_base.specs.Bracketing.{unhinted}
-use Rattle.plist_binwrite.specs.declared.kinds.Kind.{Kind}
-use Rattle.plist_binwrite.specs.declared.kinds.Kind.TheVariants as kind
-use Rattle.plist_binwrite.specs.Standing.{size, Sits, SitsItems, SitsPairs}
+use Rattle.plist_base.specs.Bracketing.{without_length}
+use Rattle.plist_binwrite.specs.declared.kinds.EntryKind.{EntryKind}
+use Rattle.plist_binwrite.specs.declared.kinds.EntryKind.TheVariants as kind
+use Rattle.plist_binwrite.specs.Occurrences.{size, OccursAt, ItemsOccurAt, PairsOccurAt}
 use Rattle.plist_binwrite.specs.Numberings.{refs, pairs, obj_of}
 use Rattle.plist_binwrite.specs.Forms.{big_endian, length_form, units_of, is_ascii_text, text_form, table_form, form, keys_of, values_of, IsWritable, AllFit}
-use Rattle.plist_binwrite.specs.Held.{IfScalar, is_stop, held_kind, event_at, item_indices, key_indices, value_indices, num_of, AllNumbered, IsBracketed}
-use Rattle.plist_binwrite.specs.Sizes.{TellsSize, dictionary_size}
+use Rattle.plist_binwrite.specs.EventTable.{IfScalar, is_stop, held_kind, event_at, item_indices, key_indices, value_indices, num_of, AllNumbered, IsBracketed}
+use Rattle.plist_binwrite.specs.Sizes.{IsSizeOrNone, dictionary_size}
 use Rattle.plist_binwrite.specs.inner.Entries.{is_leaf}
-use Rattle.plist_binwrite.proofs.Sitting.{sits_whole, sits_items, sits_pairs, sits_item, sits_next, sits_key, sits_value, sits_next_pair}
-use Rattle.plist_binwrite.proofs.Skipping.{stands_single, starts_array, starts_dictionary, begins, sits_in, as_items, pairs_as_items}
-use Rattle.plist_binwrite.proofs.Inside.{Stands, met_stand, met_all}
+use Rattle.plist_binwrite.proofs.Sitting.{occurs_whole, occurs_items, occurs_pairs, occurs_item, occurs_next, occurs_key, occurs_value, occurs_next_pair}
+use Rattle.plist_binwrite.proofs.Skipping.{stands_single, starts_array, starts_dictionary, begins, occurs_in, as_items, pairs_as_items}
+use Rattle.plist_binwrite.proofs.Inside.{Stands, positions_stand, positions_all}
 use Rattle.plist_binwrite.proofs.ReadingNumbers.{length-table}
 use Rattle.plist_binwrite.proofs.Uniques.{all_from}
 use Rattle.plist_binwrite.proofs.Unfold.{length-refs, length-pairs}
@@ -28,79 +28,81 @@ twice (MemberAnd k t ms) = omega (arith, twice ms)
 
 module _ (es : List PlainEvent) (numbers : List ℕ) (count w : ℕ)
     (all : AllNumbered es numbers count) (wide : count ≤ 256 ^ w) where
-  number_fits : (t : Tree) (p : ℕ) → Sits es t p → num_of numbers p < 256 ^ w
+  number_fits : (t : Tree) (p : ℕ) → OccursAt es t p → num_of numbers p < 256 ^ w
   number_fits t p s =
-      omega (arith, all p (sits_in s) (begins t p s))
+      omega (arith, all p (occurs_in s) (begins t p s))
 
-  refs_fit : (ts : Trees) (q : ℕ) → SitsItems es ts q → AllFit w (refs (num_of numbers) ts q)
+  refs_fit : (ts : Trees) (q : ℕ) → ItemsOccurAt es ts q → AllFit w (refs (num_of numbers) ts q)
   refs_fit NoTrees q s = tt
   refs_fit (TreeAnd t ts) q s =
-      (number_fits t q (sits_item s), refs_fit ts _ (sits_next s))
+      (number_fits t q (occurs_item s), refs_fit ts _ (occurs_next s))
 
-  pairs_fit : (ms : Members) (q : ℕ) → SitsPairs es ms q
+  pairs_fit : (ms : Members) (q : ℕ) → PairsOccurAt es ms q
       → AllFit w (keys_of (pairs (num_of numbers) ms q))
       × AllFit w (values_of (pairs (num_of numbers) ms q))
   pairs_fit NoMembers q s = (tt, tt)
   pairs_fit (MemberAnd k t ms) q s =
-      let more = pairs_fit ms _ (sits_next_pair s) in (
-        (number_fits _ q (sits_key s), more.0),
-        (number_fits t _ (sits_value s), more.1),
+      let more = pairs_fit ms _ (occurs_next_pair s) in (
+        (number_fits _ q (occurs_key s), more.0),
+        (number_fits t _ (occurs_value s), more.1),
       )
 
   -- a collection whose children are numbered can be written
-  pub collection_fits : (t : Tree) (p many : ℕ) → Sits es t p
+  pub collection_fits : (t : Tree) (p many : ℕ) → OccursAt es t p
       → (held_kind (event_at es p) ≡ kind.Scalar → ⊥) → many < 2 ^ 64
-      → ((ts : Trees) → SitsItems es ts (p + 1) → many ≡ number_of_trees ts)
+      → ((ts : Trees) → ItemsOccurAt es ts (p + 1) → many ≡ number_of_trees ts)
       → IsWritable w (obj_of (num_of numbers) t p)
   collection_fits (Leaf x) p many s k few h = absurd (k (ap held_kind (stands_single s)))
   collection_fits (Array ts) p many s k few h = (
-    omega (arith, few, length-refs (num_of numbers) ts (p + 1), h ts (sits_items s)),
-    refs_fit ts _ (sits_items s),
+    omega (arith, few, length-refs (num_of numbers) ts (p + 1), h ts (occurs_items s)),
+    refs_fit ts _ (occurs_items s),
   )
   collection_fits (Dictionary ms) p many s k few h =
-      let n = h (as_items ms) (pairs_as_items (sits_pairs s)) in
+      let n = h (as_items ms) (pairs_as_items (occurs_pairs s)) in
       let small : length (pairs (num_of numbers) ms (p + 1)) < 2 ^ 64
       = omega (arith, twice ms, length-pairs (num_of numbers) ms (p + 1)) in
-      let fit = pairs_fit ms _ (sits_pairs s) in (small, fit.0, fit.1)
+      let fit = pairs_fit ms _ (occurs_pairs s) in (small, fit.0, fit.1)
 
 -- ---- by the kind of the event here
 
 -- a scalar has no length
-scalar_is : (e : PlainEvent) (x : Scalar) → unhinted e ≡ Single x → e ≡ Single x
+scalar_is : (e : PlainEvent) (x : Scalar) → without_length e ≡ Single x → e ≡ Single x
 scalar_is (Single y) x h = h
 scalar_is e x h = cc
 
-module _ {es : List PlainEvent} {k : Kind} {p : ℕ} (at : k ≡ held_kind (event_at es p))
+module _ {es : List PlainEvent} {k : EntryKind} {p : ℕ} (at : k ≡ held_kind (event_at es p))
     (P : Tree → Type 0) where
-  pub of_array : k ≡ kind.Array → ((ts : Trees) → SitsItems es ts (p + 1) → P (Array ts))
-      → (t : Tree) → Sits es t p → P t
+  pub of_array : k ≡ kind.Array → ((ts : Trees) → ItemsOccurAt es ts (p + 1) → P (Array ts))
+      → (t : Tree) → OccursAt es t p → P t
   of_array is h (Leaf x) s = cc (ap held_kind (stands_single s))
-  of_array is h (Array ts) s = h ts (sits_items s)
+  of_array is h (Array ts) s = h ts (occurs_items s)
   of_array is h (Dictionary ms) s = cc (ap held_kind (starts_dictionary s))
 
   pub of_dictionary : k ≡ kind.Dictionary
-      → ((ms : Members) → SitsPairs es ms (p + 1) → P (Dictionary ms)) → (t : Tree) → Sits es t p
+      → ((ms : Members) → PairsOccurAt es ms (p + 1) → P (Dictionary ms)) → (t : Tree)
+      → OccursAt es t p
       → P t
   of_dictionary is h (Leaf x) s = cc (ap held_kind (stands_single s))
   of_dictionary is h (Array ts) s = cc (ap held_kind (starts_array s))
-  of_dictionary is h (Dictionary ms) s = h ms (sits_pairs s)
+  of_dictionary is h (Dictionary ms) s = h ms (occurs_pairs s)
 
   -- no collection begins
   module _ (a : k ≡ kind.Array → ⊥) (b : k ≡ kind.Dictionary → ⊥) where
-    neither : ((x : Scalar) → event_at es p ≡ Single x → P (Leaf x)) → (t : Tree) → Sits es t p
+    neither : ((x : Scalar) → event_at es p ≡ Single x → P (Leaf x)) → (t : Tree) → OccursAt es t p
         → P t
     neither h (Leaf x) s = h x (stands_single s)
     neither h (Array ts) s = absurd (a (cc (starts_array s)))
     neither h (Dictionary ms) s = absurd (b (cc (starts_dictionary s)))
 
-    pub of_scalar : (e : PlainEvent) → event_at es p ≡ unhinted e → IfScalar e (λ x. P (Leaf x))
-        → (t : Tree) → Sits es t p → P t
+    pub of_scalar : (e : PlainEvent) → event_at es p ≡ without_length e
+        → IfScalar e (λ x. P (Leaf x))
+        → (t : Tree) → OccursAt es t p → P t
     of_scalar e is h =
         neither (λ x single. subst (λ d. IfScalar d (λ x. P (Leaf x)))
         (scalar_is e x (cc)) h)
 
     -- nor does a scalar stand there
-    pub of_nothing : is_leaf (event_at es p) ≡ false → (t : Tree) → Sits es t p → P t
+    pub of_nothing : is_leaf (event_at es p) ≡ false → (t : Tree) → OccursAt es t p → P t
     of_nothing n = neither (λ x single. cc (ap is_leaf single))
 
 -- ---- forms and sizes
@@ -127,8 +129,8 @@ array_is num w count ts p e =
     (sym (refs_are num ts (p + 1)) i)
 
 pub dictionary_is : {es : List PlainEvent} (num : ℕ → ℕ) (w count : ℕ) (ms : Members) (p : ℕ)
-    → SitsPairs es ms (p + 1)
-    → ((ts : Trees) → SitsItems es ts (p + 1) → count ≡ number_of_trees ts)
+    → PairsOccurAt es ms (p + 1)
+    → ((ts : Trees) → ItemsOccurAt es ts (p + 1) → count ≡ number_of_trees ts)
     → length_form 0xd (count / 2) ++ (table_form w (map num (key_indices ms (p + 1)))
     ++ table_form w (map num (value_indices ms (p + 1)))) ≡ form w (obj_of num (Dictionary ms) p)
 dictionary_is num w count ms p s h =
@@ -139,15 +141,16 @@ dictionary_is num w count ms p s h =
 
 pub dictionary_told : (told : Option ℕ) (w count : ℕ) (ms : Members)
     → count ≡ number_of_trees (as_items ms)
-    → TellsSize told (length (length_form 0xd (count / 2)) + count * w)
-    → TellsSize told (dictionary_size w (number_of_members ms))
+    → IsSizeOrNone told (length (length_form 0xd (count / 2)) + count * w)
+    → IsSizeOrNone told (dictionary_size w (number_of_members ms))
 dictionary_told told w count ms h told_is =
     let half : count / 2 ≡ number_of_members ms = omega (arith, twice ms) in
     let two : count * w ≡ number_of_members ms * w + number_of_members ms * w =
     rw (h, twice ms) (grind arith) in
-    subst (TellsSize _) (λ i. length (length_form 0xd (half i)) + two i) told_is
+    subst (IsSizeOrNone _) (λ i. length (length_form 0xd (half i)) + two i) told_is
 
-pub told_if : (told : Option ℕ) (size : ℕ) → SomeIff told (size < 2 ^ 64) size → TellsSize told size
+pub told_if : (told : Option ℕ) (size : ℕ) → SomeIff told (size < 2 ^ 64) size
+    → IsSizeOrNone told size
 told_if None size h = elim (cases_lt _ _) [ inl l ↦ absurd (h l) | inr l ↦ l ]
 told_if (Some x) size h = h.1
 
@@ -160,9 +163,9 @@ wide_length text wide =
     rw (wide) (omega (arith, head, length-table 2 (units_of text)))
 
 -- in the events of a tree, each that isn't an end begins one
-pub sits_at : (es : List PlainEvent) → IsBracketed es → (p : ℕ) → p < length es
-    → is_stop (event_at es p) ≡ false → (u : Tree) × Sits es u p
-sits_at es (t, e) p lt b =
-    met_all es (λ q. (u : Tree) × Sits es u q) t e
-    (all_from (λ one. (u : Tree) × Sits es u _) (Stands es) (λ one s. (one.1, s)) _
-    (met_stand es t 0 (sits_whole e))) p lt b
+pub occurs_at : (es : List PlainEvent) → IsBracketed es → (p : ℕ) → p < length es
+    → is_stop (event_at es p) ≡ false → (u : Tree) × OccursAt es u p
+occurs_at es (t, e) p lt b =
+    positions_all es (λ q. (u : Tree) × OccursAt es u q) t e
+    (all_from (λ one. (u : Tree) × OccursAt es u _) (Stands es) (λ one s. (one.1, s)) _
+    (positions_stand es t 0 (occurs_whole e))) p lt b

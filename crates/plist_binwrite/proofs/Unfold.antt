@@ -6,19 +6,19 @@ use Rattle.std.proofs.lemmas.Grind.{flat_map-append}
 use Rattle.std.proofs.lemmas.List.{map-append}
 use Rattle.std.proofs.lemmas.Option.{slice_get_within}
 use Rattle.plist_base.specs.inner.Paths.{IsPath}
-use Rattle.plist_base.proofs.Paths.{path_none, path_push, path_room}
-use Rattle.plist_base.specs.Bracketing.{bracketing, bracketing_of_items, bracketing_of_pairs, shape, shape_of_items, shape_of_pairs}
+use Rattle.plist_base.proofs.Paths.{path_none, path_push, path_fuel}
+use Rattle.plist_base.specs.Bracketing.{bracketing, bracketing_of_items, bracketing_of_pairs, lengthless, lengthless_items, lengthless_pairs}
 use Rattle.plist_base.specs.Events.{PlainEvent, Item, EndCollection}
 use Rattle.plist_base.specs.Trees as trees
 use Rattle.plist_base.specs.Trees.{number_of_trees, number_of_members, Tree, Leaf, Array, Dictionary, Trees, NoTrees, TreeAnd, Members, NoMembers, MemberAnd}
 use Rattle.plist_format.specs.Object.{children_of}
-use Rattle.plist_format.specs.Unfolding.{Entry, items_of, until_fault, unfolding_of}
+use Rattle.plist_format.specs.Unfolding.{TableEntry, items_of, until_fault, unfolding_of}
 use Rattle.plist_format.specs.Visits.{visits_within, visits_of}
 use Rattle.plist_binwrite.specs.ObjectCounts.{collection_of, collected}
-use Rattle.plist_binwrite.specs.Standing.{size, Sits, SitsItems, SitsPairs, met, met_in_items, met_in_pairs}
+use Rattle.plist_binwrite.specs.Occurrences.{size, OccursAt, ItemsOccurAt, PairsOccurAt, positions, positions_in_items, positions_in_pairs}
 use Rattle.plist_binwrite.specs.Numberings.{refs, pairs, obj_of}
 use Rattle.plist_binwrite.proofs.Uniques.{all_from}
-use Rattle.plist_binwrite.proofs.Sitting.{sits_items, sits_pairs, sits_item, sits_next, sits_key, sits_value, sits_next_pair}
+use Rattle.plist_binwrite.proofs.Sitting.{occurs_items, occurs_pairs, occurs_item, occurs_next, occurs_key, occurs_value, occurs_next_pair}
 
 pub length-refs : (num : ℕ → ℕ) (ts : Trees) (q : ℕ) → length (refs num ts q) ≡ number_of_trees ts
 length-refs num NoTrees q = refl
@@ -63,9 +63,9 @@ module _ (num : ℕ → ℕ) where
     visits = rw (s.visits, is) refl;
   }
 
-module _ (table : List Entry) (es : List PlainEvent) (num rank : ℕ → ℕ)
-    (ranked : (t : Tree) (p : ℕ) → Sits es t p → rank (num p) ≡ size t)
-    (holds : (t : Tree) (p : ℕ) → Sits es t p
+module _ (table : List TableEntry) (es : List PlainEvent) (num rank : ℕ → ℕ)
+    (ranked : (t : Tree) (p : ℕ) → OccursAt es t p → rank (num p) ≡ size t)
+    (holds : (t : Tree) (p : ℕ) → OccursAt es t p
     → (place : ℕ) × (slice_get table (num p) ≡ Some (record {
       place = place;
       object = obj_of num t p;
@@ -79,7 +79,7 @@ module _ (table : List Entry) (es : List PlainEvent) (num rank : ℕ → ℕ)
 
   abbrev ShowsTree : List ℕ → ℕ → Tree → ℕ → Type 0
   ShowsTree path at t p =
-      Shows num (items_in path at (num p)) (visits_in path (num p)) (bracketing t) (met t p)
+      Shows num (items_in path at (num p)) (visits_in path (num p)) (bracketing t) (positions t p)
 
   abbrev ShowsAll : List ℕ → ℕ → List ℕ → List PlainEvent → List (ℕ × Tree) → Type 0
   ShowsAll path at is events ones =
@@ -99,61 +99,62 @@ module _ (table : List Entry) (es : List PlainEvent) (num rank : ℕ → ℕ)
       (not_on_path m i path h a.1)
 
   -- it is entered, and shows what is in it
-  entered : (t : Tree) (p at : ℕ) {m : ℕ} {path : List ℕ} → Sits es t p → size t < m → Path m path
+  entered : (t : Tree) (p at : ℕ) {m : ℕ} {path : List ℕ} → OccursAt es t p → size t < m
+      → Path m path
       → ((place : ℕ) → Path (size t) (num p ∷ path) → Shows num
       (items_of place (obj_of num t p) (items_in (num p ∷ path) place))
       (visits_within (num p) (obj_of num t p) (visits_in (num p ∷ path)))
-      (bracketing t) (met t p)) → ShowsTree path at t p
+      (bracketing t) (positions t p)) → ShowsTree path at t p
   unfolding unfolding_of visits_of
   entered t p at {m} {path} s h o shows =
       let found = holds t p s in
       let not_open = not_on_path m (num p) path (omega (arith, ranked t p s)) o.above in
       let path_in = path_push (num p) o.is (slice_get_within table (num p) _ found.1) not_open in
       let all = all_from (λ x. size t ≤ rank x) (λ x. m ≤ rank x) (λ x l. omega arith) _ o.above in
-      let room = path_room path_in in
+      let fuel = path_fuel path_in in
       let e : length table - length path ≡ suc (length table - length (num p ∷ path)) = omega
       arith in
       rw (e, found.1, not_open)
       (shows found.0 (record { is = path_in; above = (omega (arith, ranked t p s), all) }))
 
-  leaf : (x : trees.Scalar) (p at : ℕ) {m : ℕ} {path : List ℕ} → Sits es (Leaf x) p → 1 < m
+  leaf : (x : trees.Scalar) (p at : ℕ) {m : ℕ} {path : List ℕ} → OccursAt es (Leaf x) p → 1 < m
       → Path m path → ShowsTree path at (Leaf x) p
   leaf x p at s h o = entered (Leaf x) p at s h o (λ _ _. record { items = refl; visits = refl })
 
   mutual
-    unfolds : (t : Tree) (p at : ℕ) {m : ℕ} {path : List ℕ} → Sits es t p → size t < m
+    unfolds : (t : Tree) (p at : ℕ) {m : ℕ} {path : List ℕ} → OccursAt es t p → size t < m
         → Path m path → ShowsTree path at t p
     unfolds (Leaf x) p at s h o = leaf x p at s h o
     unfolds (Array ts) p at s h o =
         entered (Array ts) p at s h o (λ place inside. rw (length-refs num ts (p + 1))
-        (shows_within num _ _ refl (unfolds_items ts (p + 1) place (sits_items s)
+        (shows_within num _ _ refl (unfolds_items ts (p + 1) place (occurs_items s)
         (omega (arith, length-append {A = PlainEvent})) inside)))
     unfolds (Dictionary ms) p at s h o =
         entered (Dictionary ms) p at s h o (λ place inside. rw (length-pairs num ms (p + 1))
-        (shows_within num _ _ refl (unfolds_pairs ms (p + 1) place (sits_pairs s)
+        (shows_within num _ _ refl (unfolds_pairs ms (p + 1) place (occurs_pairs s)
         (omega (arith, length-append {A = PlainEvent})) inside)))
 
-    unfolds_items : (ts : Trees) (q at : ℕ) {m : ℕ} {path : List ℕ} → SitsItems es ts q
-        → length (shape_of_items ts) < m → Path m path
-        → ShowsAll path at (refs num ts q) (bracketing_of_items ts) (met_in_items ts q)
+    unfolds_items : (ts : Trees) (q at : ℕ) {m : ℕ} {path : List ℕ} → ItemsOccurAt es ts q
+        → length (lengthless_items ts) < m → Path m path
+        → ShowsAll path at (refs num ts q) (bracketing_of_items ts) (positions_in_items ts q)
     unfolds_items NoTrees q at s h o = record { items = refl; visits = refl }
     unfolds_items (TreeAnd t ts) q at s h o =
-        let long = length-append (shape t) (shape_of_items ts) in
-        shows_both num (unfolds t q at (sits_item s) (omega arith) o)
-        (unfolds_items ts (q + size t) at (sits_next s) (omega arith) o)
+        let long = length-append (lengthless t) (lengthless_items ts) in
+        shows_both num (unfolds t q at (occurs_item s) (omega arith) o)
+        (unfolds_items ts (q + size t) at (occurs_next s) (omega arith) o)
 
-    unfolds_pairs : (ms : Members) (q at : ℕ) {m : ℕ} {path : List ℕ} → SitsPairs es ms q
-        → length (shape_of_pairs ms) < m → Path m path
+    unfolds_pairs : (ms : Members) (q at : ℕ) {m : ℕ} {path : List ℕ} → PairsOccurAt es ms q
+        → length (lengthless_pairs ms) < m → Path m path
         → ShowsAll path at (children_of (pairs num ms q)) (bracketing_of_pairs ms)
-        (met_in_pairs ms q)
+        (positions_in_pairs ms q)
     unfolds_pairs NoMembers q at s h o = record { items = refl; visits = refl }
     unfolds_pairs (MemberAnd k t ms) q at s h o =
-        let long = length-append (shape t) (shape_of_pairs ms) in
-        shows_both num (leaf (trees.String k) q at (sits_key s) (omega arith) o)
-        (shows_both num (unfolds t (q + 1) at (sits_value s) (omega arith) o)
-        (unfolds_pairs ms (q + 1 + size t) at (sits_next_pair s) (omega arith) o))
+        let long = length-append (lengthless t) (lengthless_pairs ms) in
+        shows_both num (leaf (trees.String k) q at (occurs_key s) (omega arith) o)
+        (shows_both num (unfolds t (q + 1) at (occurs_value s) (omega arith) o)
+        (unfolds_pairs ms (q + 1 + size t) at (occurs_next_pair s) (omega arith) o))
 
-  pub unfolds_whole : (t : Tree) (at : ℕ) → Sits es t 0 → ShowsTree [] at t 0
+  pub unfolds_whole : (t : Tree) (at : ℕ) → OccursAt es t 0 → ShowsTree [] at t 0
   unfolds_whole t at s =
       unfolds t 0 at {m = suc (size t)} s (omega arith)
       (record { is = path_none (length table); above = tt })

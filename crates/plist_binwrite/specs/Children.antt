@@ -3,37 +3,37 @@ use Rattle.std.specs.Prelude.{◌≡◌, ℕ, ◌++◌, length}
 use Rattle.std.specs.declared.alloc.Global.{Global}
 use Rattle.std.specs.declared.vec.Vec.{Vec}
 use Rattle.plist_base.specs.Trees.{Tree, Trees, Members}
-use Rattle.plist_binwrite.specs.Held.{plain_events, AllBelow, item_indices, key_indices, value_indices, keys_in, values_in}
-use Rattle.plist_binwrite.specs.Standing.{Sits, SitsItems, SitsPairs}
-use Rattle.plist_binwrite.specs.declared.held.Held.{Held}
+use Rattle.plist_binwrite.specs.EventTable.{plain_events, AllBelow, item_indices, key_indices, value_indices, keys_in, values_in}
+use Rattle.plist_binwrite.specs.Occurrences.{OccursAt, ItemsOccurAt, PairsOccurAt}
+use Rattle.plist_binwrite.specs.declared.event_table.EventTable.{EventTable}
 
 -- the indices are those of events, or stay so
-abbrev pub AreEventIndices : Held → (indices : Vec ℕ Global) → Type 0
+abbrev pub AreEventIndices : EventTable → (indices : Vec ℕ Global) → Type 0
 AreEventIndices held indices = AllBelow (length (plain_events held)) indices.items
 
-abbrev pub StayWithin : Held → (old new : Vec ℕ Global) → Type 0
+abbrev pub StayWithin : EventTable → (old new : Vec ℕ Global) → Type 0
 StayWithin held old new = AreEventIndices held old → AreEventIndices held new
 
-module _ (held : Held) (from : ℕ) (old new : Vec ℕ Global) where
+module _ (held : EventTable) (from : ℕ) (old new : Vec ℕ Global) where
   -- the indices of an array's items from here on are added
   abbrev pub AddsItems : Type 0
-  AddsItems = (ts : Trees) → SitsItems (plain_events held) ts from
+  AddsItems = (ts : Trees) → ItemsOccurAt (plain_events held) ts from
       → new.items ≡ old.items ++ item_indices ts from
 
   -- those of a dictionary's keys, and of its values
   abbrev pub AddsKeys : Type 0
-  AddsKeys = (ms : Members) → SitsPairs (plain_events held) ms from
+  AddsKeys = (ms : Members) → PairsOccurAt (plain_events held) ms from
       → new.items ≡ old.items ++ key_indices ms from
 
   abbrev pub AddsValues : Type 0
-  AddsValues = (ms : Members) → SitsPairs (plain_events held) ms from
+  AddsValues = (ms : Members) → PairsOccurAt (plain_events held) ms from
       → new.items ≡ old.items ++ value_indices ms from
 
 -- the indices are those of the keys of the collection that begins here, or of its values
-abbrev pub AreKeysOf : Held → (index : ℕ) → (indices : Vec ℕ Global) → Type 0
-AreKeysOf held index indices = (t : Tree) → Sits (plain_events held) t index
+abbrev pub AreKeysOf : EventTable → (index : ℕ) → (indices : Vec ℕ Global) → Type 0
+AreKeysOf held index indices = (t : Tree) → OccursAt (plain_events held) t index
     → indices.items ≡ keys_in t index
 
-abbrev pub AreValuesOf : Held → (index : ℕ) → (indices : Vec ℕ Global) → Type 0
-AreValuesOf held index indices = (t : Tree) → Sits (plain_events held) t index
+abbrev pub AreValuesOf : EventTable → (index : ℕ) → (indices : Vec ℕ Global) → Type 0
+AreValuesOf held index indices = (t : Tree) → OccursAt (plain_events held) t index
     → indices.items ≡ values_in t index

@@ -1,7 +1,7 @@
 -- Classes of the indices where trees begin, and a file that has one object for each class.
 use Rattle.std.specs.Prelude.{◌≡◌, ℕ, ◌^◌, ◌<◌, ◌≤◌, Bool, List, length, map, nat_eq, Option}
 use Rattle.std.specs.Set.{unique_keys}
-use Rattle.plist_base.specs.Bracketing.{shape}
+use Rattle.plist_base.specs.Bracketing.{lengthless}
 use Rattle.plist_base.specs.Events.{PlainEvent}
 use Rattle.plist_base.specs.Trees.{Tree}
 use Rattle.plist_base.specs.Writing.{Answer}
@@ -10,12 +10,12 @@ use Rattle.plist_binwrite.specs.ObjectCounts.{HasObjects, collections_in}
 use Rattle.plist_binwrite.specs.Numberings.{obj_of}
 use Rattle.plist_binwrite.specs.SendingAs.{SendsAs}
 use Rattle.plist_binwrite.specs.Sizes.{total, object_size, size_with}
-use Rattle.plist_binwrite.specs.Standing.{Sits, met}
+use Rattle.plist_binwrite.specs.Occurrences.{OccursAt, positions}
 use Rattle.plist_binwrite.specs.Written.{IsWrittenAs, reference_width}
 
 -- indices of one class have one object, whose references are the classes of its children
 pub record AreClasses (es : List PlainEvent) (class : ℕ → ℕ) : Type 0 where
-  pub object : (t u : Tree) (p q : ℕ) → Sits es t p → Sits es u q → class p ≡ class q
+  pub object : (t u : Tree) (p q : ℕ) → OccursAt es t p → OccursAt es u q → class p ≡ class q
       → obj_of class t p ≡ obj_of class u q
 
 module _ (class : ℕ → ℕ) where
@@ -24,7 +24,7 @@ module _ (class : ℕ → ℕ) where
 
   -- one of each class that is met
   abbrev pub kept : Tree → List (ℕ × Tree)
-  kept tree = unique_keys same_class (met tree 0)
+  kept tree = unique_keys same_class (positions tree 0)
 
   -- how many objects a file has that has one for each class
   abbrev pub count_by : Tree → ℕ
@@ -40,7 +40,8 @@ module _ (class : ℕ → ℕ) where
   -- numbers of the indices, one class for each, by which the file's collections are entered
   pub record IsNumberedBy (tree : Tree) (file : List ℕ) : Type 0 where
     pub numbers : ℕ → ℕ
-    pub apart : (t u : Tree) (p q : ℕ) → Sits (shape tree) t p → Sits (shape tree) u q
+    pub apart : (t u : Tree) (p q : ℕ) → OccursAt (lengthless tree) t p
+        → OccursAt (lengthless tree) u q
         → numbers p ≡ numbers q → class p ≡ class q
     pub entered : visits file ≡ map (λ one. numbers one.0) (collections_in tree)
 
@@ -54,10 +55,10 @@ module _ (class : ℕ → ℕ) where
 
   -- a file of the tree whose events these are has less than 2^64 bytes, or doesn't
   abbrev pub Fits : List PlainEvent → Type 0
-  Fits es = (tree : Tree) → es ≡ shape tree → size_by tree < 2 ^ 64
+  Fits es = (tree : Tree) → es ≡ lengthless tree → size_by tree < 2 ^ 64
 
   abbrev pub IsOversized : List PlainEvent → Type 0
-  IsOversized es = (tree : Tree) → es ≡ shape tree → 2 ^ 64 ≤ size_by tree
+  IsOversized es = (tree : Tree) → es ≡ lengthless tree → 2 ^ 64 ≤ size_by tree
 
   -- what sending the file of whole events does
   module _ {W : Type 0} (contents : W → Option (List ℕ)) where

@@ -1,7 +1,7 @@
 -- What a call of a writer does: what it holds then, whether it has failed, and what went out.
 use Rattle.std.specs.Prelude.{◌≡◌, ◌⊎◌, ℕ, Bool, true, false, List, [], ◌∷◌, ◌++◌, Option, None, Ok, Err, MatchBool}
 use Rattle.std.specs.declared.io.traits.Write.{Ghosts}
-use Rattle.plist_base.specs.Bracketing.{unhinted, AreWhole, CanContinue}
+use Rattle.plist_base.specs.Bracketing.{without_length, AreWhole, CanContinue}
 use Rattle.plist_base.specs.Events.{PlainEvent}
 use Rattle.plist_base.specs.Faults.{WriterFailed, fault_nowhere}
 use Rattle.plist_base.specs.Trees.{Tree}
@@ -9,12 +9,12 @@ use Rattle.plist_base.specs.Writing.{Answer, MatchKind}
 use Rattle.plist_binwrite.specs.declared.shared.Sharing.{Ghosts as SharingGhosts}
 use Rattle.plist_binwrite.specs.declared.writer.FileWriter.{FileWriter}
 use Rattle.plist_binwrite.specs.SendingAs.{SendsFileAs, FailsAs}
-use Rattle.plist_binwrite.specs.Pendings.{events_held, misplaced_fault}
+use Rattle.plist_binwrite.specs.EventBuffers.{buffered_events, misplaced_fault}
 
 -- the events taken of the open property list, without the lengths of starts
-abbrev pub held_by : {W S : Type 0} {g : Ghosts W} {h : SharingGhosts S} → FileWriter W S g h
+abbrev pub open_events : {W S : Type 0} {g : Ghosts W} {h : SharingGhosts S} → FileWriter W S g h
     → List PlainEvent
-held_by writer = events_held writer.pending
+open_events writer = buffered_events writer.pending
 
 -- has the writer failed?
 abbrev pub failed_of : {W S : Type 0} {g : Ghosts W} {h : SharingGhosts S} → FileWriter W S g h
@@ -22,40 +22,41 @@ abbrev pub failed_of : {W S : Type 0} {g : Ghosts W} {h : SharingGhosts S} → F
 failed_of writer = writer.has_failed
 
 -- what takes the bytes
-abbrev pub inner_of : {W S : Type 0} {g : Ghosts W} {h : SharingGhosts S} → FileWriter W S g h → W
-inner_of writer = writer.writer
+abbrev pub sink_of : {W S : Type 0} {g : Ghosts W} {h : SharingGhosts S} → FileWriter W S g h → W
+sink_of writer = writer.writer
 
--- where it is told which bytes are a file of a tree, and how many such a file has
+-- given which bytes are a file of a tree, and how many such a file has
 module _ {W S : Type 0} {g : Ghosts W} {h : SharingGhosts S} (IsFile : Tree → List ℕ → Type 0)
     (size : Tree → ℕ) (contents : W → Option (List ℕ)) where
   -- the events held and this one are a tree's: a file of it went out, and nothing is held
   abbrev pub Completes : (before : FileWriter W S g h) → PlainEvent
       → (after : FileWriter W S g h) → Type 0
   Completes before event after =
-      SendsFileAs IsFile size contents (held_by before ++ event ∷ []) (inner_of before)
-      (inner_of after)
-      × (held_by after ≡ [])
+      SendsFileAs IsFile size contents (open_events before ++ event ∷ []) (sink_of before)
+      (sink_of after)
+      × (open_events after ≡ [])
 
   -- they are no tree's yet: the event is held, and nothing went out
   abbrev pub Holds : (before : FileWriter W S g h) → PlainEvent → (after : FileWriter W S g h)
       → Type 0
   Holds before event after =
-      (AreWhole (held_by before ++ event ∷ []) → ⊥)
-      × (held_by after ≡ held_by before ++ unhinted event ∷ [])
-      × (inner_of after ≡ inner_of before)
+      (AreWhole (open_events before ++ event ∷ []) → ⊥)
+      × (open_events after ≡ open_events before ++ without_length event ∷ [])
+      × (sink_of after ≡ sink_of before)
 
   -- a call before the writer has failed
   abbrev pub TakesEvent : (before : FileWriter W S g h) → PlainEvent → Answer
       → (after : FileWriter W S g h) → Type 0
   TakesEvent before event (Ok done) after =
-      CanContinue (held_by before) event × (failed_of after ≡ false)
+      CanContinue (open_events before) event × (failed_of after ≡ false)
       × (Completes before event after ⊎ Holds before event after)
   TakesEvent before event (Err fault) after = (fault.offset ≡ None) × MatchKind fault.kind
-      ((CanContinue (held_by before) event → ⊥) × (fault ≡ misplaced_fault (held_by before) event)
+      ((CanContinue (open_events before) event → ⊥) × (fault ≡ misplaced_fault
+      (open_events before) event)
       × (after ≡ before))
-      (CanContinue (held_by before) event × (failed_of after ≡ true)
-      × FailsAs IsFile size contents fault.kind (held_by before ++ event ∷ [])
-      (inner_of before) (inner_of after))
+      (CanContinue (open_events before) event × (failed_of after ≡ true)
+      × FailsAs IsFile size contents fault.kind (open_events before ++ event ∷ [])
+      (sink_of before) (sink_of after))
       ⊥
 
   -- a call

@@ -1,9 +1,9 @@
--- Trees in whose dictionaries no key stands twice, and what is told of them.
+-- Trees in whose dictionaries no key stands twice, and tests of it.
 use Rattle.std.specs.Prelude.{◌≡◌, ◌≢◌, ◌↔◌, ℕ, Bool, false, List, MatchBool, ⊤}
 use Rattle.plist_base.specs.Bracketing.{bracketing, AreAlike}
-use Rattle.plist_binwrite.specs.Held.{plain_events}
-use Rattle.plist_binwrite.specs.Standing.{Sits}
-use Rattle.plist_binwrite.specs.declared.held.Held.{Held}
+use Rattle.plist_binwrite.specs.EventTable.{plain_events}
+use Rattle.plist_binwrite.specs.Occurrences.{OccursAt}
+use Rattle.plist_binwrite.specs.declared.event_table.EventTable.{EventTable}
 use Rattle.plist_base.specs.Trees.{Tree, Leaf, Array, Dictionary, Trees, NoTrees, TreeAnd, Members, NoMembers, MemberAnd}
 
 -- no pair has the key
@@ -32,12 +32,13 @@ abbrev mutual
   ValuesHaveKeysOnce (MemberAnd key tree members) =
       HasKeysOnce tree × ValuesHaveKeysOnce members
 
--- tells whether the dictionary that begins at an index has a key twice
-abbrev pub TellsRepeats : Held → (index : ℕ) → Bool → Type 0
-TellsRepeats held index told = (pairs : Members) → Sits (plain_events held) (Dictionary pairs) index
-    → MatchBool told (HasDistinctKeys pairs → ⊥) (HasDistinctKeys pairs)
+-- a test: has the dictionary that begins at an index a key twice?
+abbrev pub TestsRepeats : EventTable → (index : ℕ) → Bool → Type 0
+TestsRepeats held index answer = (pairs : Members) → OccursAt (plain_events held)
+    (Dictionary pairs) index
+    → MatchBool answer (HasDistinctKeys pairs → ⊥) (HasDistinctKeys pairs)
 
--- tells whether a dictionary of the tree whose events these are has a key twice
-abbrev pub TellsKeysOnce : Held → Bool → Type 0
-TellsKeysOnce held told = (tree : Tree) → AreAlike (plain_events held) (bracketing tree)
-    → (told ≡ false) ↔ HasKeysOnce tree
+-- a test: has a dictionary of the tree whose events these are a key twice?
+abbrev pub TestsKeysOnce : EventTable → Bool → Type 0
+TestsKeysOnce held answer = (tree : Tree) → AreAlike (plain_events held) (bracketing tree)
+    → (answer ≡ false) ↔ HasKeysOnce tree

@@ -8,7 +8,7 @@ use Rattle.plist_base.specs.declared.real.RealBits.TheVariants.{Four, Eight}
 use Rattle.plist_base.specs.Trees as trees
 use Rattle.plist_base.specs.Trees.{Scalar, Tree, Leaf}
 use Rattle.plist_format.specs.Container.{Head, head_of}
-use Rattle.plist_binwrite.specs.Standing.{met}
+use Rattle.plist_binwrite.specs.Occurrences.{positions}
 
 -- ---- whether a scalar is another
 
@@ -57,16 +57,16 @@ texts ones = flat_map text_of ones
 
 -- the arrays and dictionaries of a tree, also where one equals another
 abbrev pub collections_in : Tree → List (ℕ × Tree)
-collections_in tree = collected (met tree 0)
+collections_in tree = collected (positions tree 0)
 
 -- its scalars, with its keys as texts
 abbrev pub scalars_in : Tree → List Scalar
-scalars_in tree = texts (met tree 0)
+scalars_in tree = texts (positions tree 0)
 
 -- one object for each collection, and one for each different scalar
 abbrev pub object_count : Tree → ℕ
 object_count tree = length (collections_in tree) + distinct_count scalar_eq (scalars_in tree)
 
--- the file's head tells so many objects
+-- the file's head counts so many objects
 abbrev pub HasObjects : (file : List ℕ) → ℕ → Type 0
 HasObjects file count = (head : Head) → head_of file ≡ Ok head → length head.places ≡ count

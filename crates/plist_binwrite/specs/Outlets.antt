@@ -1,4 +1,4 @@
--- Bytes on their way to a writer: some went out, and some wait in a room.
+-- Bytes on their way to a writer: some went out, and some wait in a buffer.
 use Rattle.std.specs.Prelude.{◌≡◌, ℕ, ◌^◌, ◌≤◌, List, ◌++◌, length, Option, Result, Ok, Err}
 use Rattle.std.specs.Io.KnownBytes.{Appends}
 use Rattle.std.specs.declared.alloc.Global.{Global}
@@ -9,7 +9,7 @@ use Rattle.plist_base.specs.Events.{event_of}
 use Rattle.plist_base.specs.Faults.{Io, fault_nowhere}
 use Rattle.plist_base.specs.Writing.{Answer, answer_of}
 use Rattle.plist_binwrite.specs.Forms.{scalar_form}
-use Rattle.plist_binwrite.specs.Held.{IfScalar}
+use Rattle.plist_binwrite.specs.EventTable.{IfScalar}
 use Rattle.plist_base.specs.Fronts.{AppendsFront}
 
 -- since `first`, what went out and then what waits are `done`
@@ -29,28 +29,28 @@ Follow old held bytes (Err fault) new holds = (fault ≡ fault_nowhere Io)
     → AppendsFront first new (done ++ bytes))
 
 -- how many bytes wait at most
-abbrev pub room_size : ℕ
-room_size = 2 ^ 16
+abbrev pub buffer_size : ℕ
+buffer_size = 2 ^ 16
 
 -- what a call that puts some bytes does: before it `held` waited, and `holds` waits after it, which
--- is no more than the room holds
+-- is no more than the buffer holds
 pub record PutsBytes (old : Option (List ℕ)) (held bytes : List ℕ) (answer : Answer)
     (new : Option (List ℕ)) (holds : List ℕ) : Type 0 where
   pub follow : Follow old held bytes answer new holds
-  pub waits : length held ≤ room_size → length holds ≤ room_size
+  pub waits : length held ≤ buffer_size → length holds ≤ buffer_size
 
 module _ {W : Type 0} (contents : W → Option (List ℕ)) where
-  -- the same of a writer and of the room before it
-  abbrev pub Puts : (old : W) → (room : Vec ℕ Global) → (bytes : List ℕ)
+  -- the same of a writer and of the buffer before it
+  abbrev pub Puts : (old : W) → (buffer : Vec ℕ Global) → (bytes : List ℕ)
       → Result (Unit {0}) Error → (new : W) → (holds : Vec ℕ Global) → Type 0
-  Puts old room bytes result new holds =
-      PutsBytes (contents old) room.items bytes (answer_of result) (contents new) holds.items
+  Puts old buffer bytes result new holds =
+      PutsBytes (contents old) buffer.items bytes (answer_of result) (contents new) holds.items
 
   -- the bytes of a scalar
-  abbrev pub PutsScalar : (old : W) → (room : Vec ℕ Global) → Event → Result (Unit {0}) Error
+  abbrev pub PutsScalar : (old : W) → (buffer : Vec ℕ Global) → Event → Result (Unit {0}) Error
       → (new : W) → (holds : Vec ℕ Global) → Type 0
-  PutsScalar old room event result new holds = IfScalar (event_of event)
-      (λ scalar. Puts old room (scalar_form scalar) result new holds)
+  PutsScalar old buffer event result new holds = IfScalar (event_of event)
+      (λ scalar. Puts old buffer (scalar_form scalar) result new holds)
 
   -- all that was put goes out, or a beginning of it
   abbrev pub Empties : (old : W) → (waiting : List ℕ) → (new : W) → Type 0

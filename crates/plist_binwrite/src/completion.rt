@@ -5,20 +5,20 @@ ghost use Rattle.plist_base.specs.Outcomes.{IfFault, OnlyMemory};
 ghost use Rattle.plist_base.specs.Bracketing.{AreWhole};
 ghost use Rattle.plist_base.specs.Writing.{answer_of};
 ghost use Rattle.plist_binwrite.specs.Classes.{AreClasses};
-ghost use Rattle.plist_binwrite.specs.inner.Ending.{IsDraftBy, IsDraftOf, IsFitting, IsReady, IsTooLong, NeedsNoMemory};
-ghost use Rattle.plist_binwrite.specs.Held.{plain_events, num_of, AllBelow, IsBracketed};
-ghost use Rattle.plist_binwrite.specs.Outlets.{room_size};
+ghost use Rattle.plist_binwrite.specs.inner.Ending.{IsDraftBy, IsDraftOf, IsFitting, IsReady, IsDraftTooLarge, NeedsNoMemory};
+ghost use Rattle.plist_binwrite.specs.EventTable.{plain_events, num_of, AllBelow, IsBracketed};
+ghost use Rattle.plist_binwrite.specs.Outlets.{buffer_size};
 ghost use Rattle.plist_binwrite.specs.Sending.{Sends};
 ghost use Rattle.plist_binwrite.specs.Completing.{SendsByClass};
 ghost use Rattle.plist_binwrite.specs.inner.Putting.{PutsFile, SendsDraft, SendsPlanned};
 
 use crate::classes::{Classes, classes_of};
+use crate::event_table::EventTable;
 use crate::forms::{put_ending, reference_width};
-use crate::held::Held;
 use crate::layout::order_objects;
 use crate::numbers::Numbers;
 use crate::objects::put_objects;
-use crate::outlet::{ROOM, finish, put};
+use crate::outlet::{BUFFER, finish, put};
 use crate::plan::{Plan, Planned, plan_by_class};
 use crate::size::{check_size, place_objects};
 use plist_base::{Error, ErrorKind};
@@ -46,7 +46,7 @@ struct Ready {
 
 // Plans the file of the events of a tree, with one object for each class. Behind it no memory is
 // taken.
-fn draft_file(alloc: Global, events: &Held<'_>, classes: Classes) -> Result<Draft, Error>
+fn draft_file(alloc: Global, events: &EventTable<'_>, classes: Classes) -> Result<Draft, Error>
     requires whole { IsBracketed (plain_events events.now) }
     requires long { length classes.of ≡ length (plain_events events.now) }
     requires below { AllBelow classes.count classes.of }
@@ -77,7 +77,7 @@ fn draft_file(alloc: Global, events: &Held<'_>, classes: Classes) -> Result<Draf
 // The planned file, or none where it would have 2^64 bytes or more.
 fn fitting(draft: Draft) -> Option<Ready>
     ensures ready { IfSome result (IsFitting draft) }
-    ensures oversized { result ≡ None → IsTooLong draft }
+    ensures oversized { result ≡ None → IsDraftTooLarge draft }
 {
     let table = check_size(draft.table, draft.places.len() as u64)?;
     let Draft {
@@ -97,15 +97,16 @@ fn fitting(draft: Draft) -> Option<Ready>
 // Puts a planned file.
 fn put_file<W: Write>(
     out: &mut W,
-    room: &mut Vec<u8>,
-    events: &Held<'_>,
+    buffer: &mut Vec<u8>,
+    events: &EventTable<'_>,
     ready: &Ready,
 ) -> Result<(), Error>
     requires ready { IsReady (plain_events events.now) ready.now }
-    ensures { PutsFile W.contents out.old room.old events.now ready.now result out.new room.new }
+    ensures { PutsFile W.contents out.old buffer.old events.now ready.now result out.new
+        buffer.new }
 {
     let width = reference_width(ready.places.len() as u64);
-    match put(out, room, b"bplist00") {
+    match put(out, buffer, b"bplist00") {
         Ok(()) => {}
         Err(error) => return Err(error),
     }
@@ -114,25 +115,25 @@ fn put_file<W: Write>(
         plan: &ready.plan,
         width,
     };
-    match put_objects(out, room, &file, &ready.order) {
-        Ok(()) => put_ending(out, room, &ready.places, ready.table),
+    match put_objects(out, buffer, &file, &ready.order) {
+        Ok(()) => put_ending(out, buffer, &ready.places, ready.table),
         Err(error) => Err(error),
     }
 }
 
-// Sends a planned file through an empty room, and flushes. It takes no memory.
+// Sends a planned file through an empty buffer, and flushes. It takes no memory.
 fn send_file<W: Write>(
     out: &mut W,
-    room: &mut Vec<u8>,
-    events: &Held<'_>,
+    buffer: &mut Vec<u8>,
+    events: &EventTable<'_>,
     ready: &Ready,
 ) -> Result<(), Error>
     requires ready { IsReady (plain_events events.now) ready.now }
-    requires empty { room.old.items ≡ [] }
+    requires empty { buffer.old.items ≡ [] }
     ensures { SendsPlanned W.contents events.now ready.now result out.old out.new }
 {
-    match put_file(out, room, events, ready) {
-        Ok(()) => finish(out, room.as_slice()),
+    match put_file(out, buffer, events, ready) {
+        Ok(()) => finish(out, buffer.as_slice()),
         Err(error) => Err(error),
     }
 }
@@ -140,43 +141,43 @@ fn send_file<W: Write>(
 // Sends a planned file, or refuses it for its size alone.
 fn send_draft<W: Write>(
     out: &mut W,
-    room: &mut Vec<u8>,
-    events: &Held<'_>,
+    buffer: &mut Vec<u8>,
+    events: &EventTable<'_>,
     draft: Draft,
 ) -> Result<(), Error>
     requires whole { AreWhole (plain_events events.now) }
     requires draft { IsDraftOf (plain_events events.now) draft }
-    requires empty { room.old.items ≡ [] }
+    requires empty { buffer.old.items ≡ [] }
     ensures sent { SendsDraft W.contents events.now draft result out.old out.new }
     ensures memory { IfFault result NeedsNoMemory }
 {
     match fitting(draft) {
-        Some(ready) => send_file(out, room, events, &ready),
+        Some(ready) => send_file(out, buffer, events, &ready),
         None => Err(ErrorKind::PlistTooLarge.without_position()),
     }
 }
 
-fn make_room(alloc: Global) -> Result<Vec<u8>, Error>
-    ensures empty { IfOk result (λ room. room.items ≡ []) }
-    ensures size { IfOk result (λ room. vec_capacity room ≡ room_size) }
+fn new_buffer(alloc: Global) -> Result<Vec<u8>, Error>
+    ensures empty { IfOk result (λ buffer. buffer.items ≡ []) }
+    ensures size { IfOk result (λ buffer. vec_capacity buffer ≡ buffer_size) }
     ensures memory { OnlyMemory result }
 {
-    let room = Vec::with_capacity(alloc, ROOM)?;
-    Ok(room)
+    let buffer = Vec::with_capacity(alloc, BUFFER)?;
+    Ok(buffer)
 }
 
 /// Plans the file of the events of a whole property list with one object for each class, sends it
-/// and flushes. All memory is taken before the first byte is sent: besides the plan, a room of
+/// and flushes. All memory is taken before the first byte is sent: besides the plan, a buffer of
 /// fixed size that bytes are sent through.
 ///
-/// Trees of one class have one object; the class of an end is of no account.
+/// Trees of one class have one object; the class of an end isn't read.
 ///
 /// # Errors
 /// `PlistTooLarge` where the file would have 2^64 bytes or more, and `OutOfMemory`, before a byte
 /// was sent; `Io` after a beginning of the file was.
 pub fn complete_by_class<W: Write>(
     alloc: Global,
-    events: &Held<'_>,
+    events: &EventTable<'_>,
     classes: Classes,
     writer: &mut W,
 ) -> Result<(), Error>
@@ -186,9 +187,9 @@ pub fn complete_by_class<W: Write>(
     requires classes { AreClasses (plain_events events.now) (num_of classes.of) }
     ensures { SendsByClass classes W.contents events.now result writer.old writer.new }
 {
-    let mut room = make_room(alloc)?;
+    let mut buffer = new_buffer(alloc)?;
     let draft = draft_file(alloc, events, classes)?;
-    send_draft(writer, &mut room, events, draft)
+    send_draft(writer, &mut buffer, events, draft)
 }
 
 /// Plans the file of the events of a whole property list, sends it and flushes: one object for each
@@ -197,7 +198,11 @@ pub fn complete_by_class<W: Write>(
 ///
 /// # Errors
 /// Those of [`complete_by_class`].
-pub fn complete<W: Write>(alloc: Global, events: &Held<'_>, writer: &mut W) -> Result<(), Error>
+pub fn complete<W: Write>(
+    alloc: Global,
+    events: &EventTable<'_>,
+    writer: &mut W,
+) -> Result<(), Error>
     requires whole { AreWhole (plain_events events.now) }
     ensures { Sends W.contents (plain_events events.now) (answer_of result) writer.old writer.new }
 {

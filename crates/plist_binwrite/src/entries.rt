@@ -4,7 +4,7 @@ ghost use Rattle.std.specs.Prelude.{◌≡◌, ◌-◌, ◌^◌, ◌<◌, ◌++�
 ghost use Rattle.plist_binwrite.specs.inner.Columns.{entry_of, kind_in, number_in, scalar_named, IsEntryNumber};
 ghost use Rattle.plist_binwrite.specs.inner.Entries.{behind_at, closed_at, ended_at, entry_at};
 
-use crate::kinds::Kind;
+use crate::kinds::EntryKind;
 use crate::numbers::Numbers;
 use std::alloc::{AllocError, Global};
 use std::marker::Model;
@@ -12,7 +12,7 @@ use std::marker::Model;
 /// A held event: a start with the index behind its end, or behind itself as long as it has none; a
 /// scalar by its index among the different ones.
 #[derive(Clone, Copy)]
-pub enum Entry {
+pub enum EventEntry {
     Array(usize),
     Dictionary(usize),
     Scalar(usize),
@@ -20,66 +20,66 @@ pub enum Entry {
 }
 
 // The kind of an entry.
-fn kind_in(entry: Entry) -> Kind
+fn kind_in(entry: EventEntry) -> EntryKind
     ensures { result ≡ kind_in entry }
 {
     match entry {
-        Entry::Array(_) => Kind::Array,
-        Entry::Dictionary(_) => Kind::Dictionary,
-        Entry::Scalar(_) => Kind::Scalar,
-        Entry::End => Kind::End,
+        EventEntry::Array(_) => EntryKind::Array,
+        EventEntry::Dictionary(_) => EntryKind::Dictionary,
+        EventEntry::Scalar(_) => EntryKind::Scalar,
+        EventEntry::End => EntryKind::End,
     }
 }
 
 // The number of an entry: that of an end is 0.
-fn number_in(entry: Entry) -> usize
+fn number_in(entry: EventEntry) -> usize
     ensures { result ≡ number_in entry }
 {
     match entry {
-        Entry::Array(behind) => behind,
-        Entry::Dictionary(behind) => behind,
-        Entry::Scalar(index) => index,
-        Entry::End => 0,
+        EventEntry::Array(behind) => behind,
+        EventEntry::Dictionary(behind) => behind,
+        EventEntry::Scalar(index) => index,
+        EventEntry::End => 0,
     }
 }
 
 // The entry of a kind and a number.
-fn entry_of(kind: Kind, number: usize) -> Entry
+fn entry_of(kind: EntryKind, number: usize) -> EventEntry
     ensures { result ≡ entry_of kind number }
 {
     match kind {
-        Kind::Array => Entry::Array(number),
-        Kind::Dictionary => Entry::Dictionary(number),
-        Kind::Scalar => Entry::Scalar(number),
-        Kind::End => Entry::End,
+        EntryKind::Array => EventEntry::Array(number),
+        EntryKind::Dictionary => EventEntry::Dictionary(number),
+        EntryKind::Scalar => EventEntry::Scalar(number),
+        EntryKind::End => EventEntry::End,
     }
 }
 
 // The entry with this index behind its end, if it is a start.
-fn closed(entry: Entry, behind: usize) -> Entry
+fn closed(entry: EventEntry, behind: usize) -> EventEntry
     ensures { result ≡ closed_at entry behind }
 {
     match entry {
-        Entry::Array(_) => Entry::Array(behind),
-        Entry::Dictionary(_) => Entry::Dictionary(behind),
-        Entry::Scalar(index) => Entry::Scalar(index),
-        Entry::End => Entry::End,
+        EventEntry::Array(_) => EventEntry::Array(behind),
+        EventEntry::Dictionary(_) => EventEntry::Dictionary(behind),
+        EventEntry::Scalar(index) => EventEntry::Scalar(index),
+        EventEntry::End => EventEntry::End,
     }
 }
 
 /// A list of entries, as a list of their kinds and one of their numbers.
 #[derive(Drop)]
 pub struct Entries {
-    kinds: Vec<Kind>,
+    kinds: Vec<EntryKind>,
     numbers: Numbers,
 }
 
 impl Model for Entries {
     ghost use Rattle.std.specs.Prelude.{◌≡◌, List, length};
-    ghost use Rattle.plist_binwrite.specs.declared.entries.Entry.{Entry};
+    ghost use Rattle.plist_binwrite.specs.declared.entries.EventEntry.{EventEntry};
     ghost use Rattle.plist_binwrite.specs.inner.Columns.{entries_from};
 
-    ghost Value = { List Entry };
+    ghost Value = { List EventEntry };
 
     ghost view = { λ entries. entries_from entries.kinds.items entries.numbers };
 
@@ -105,7 +105,7 @@ impl Entries {
     }
 
     /// The kind of the entry at an index, of which its number isn't read.
-    pub fn kind_at(&self, index: usize) -> Kind
+    pub fn kind_at(&self, index: usize) -> EntryKind
         requires { index < length self.now }
         ensures { result ≡ kind_in (entry_at self.now index) }
     {
@@ -121,7 +121,7 @@ impl Entries {
     }
 
     // The entry at an index.
-    fn get(&self, index: usize) -> Entry
+    fn get(&self, index: usize) -> EventEntry
         requires { index < length self.now }
         ensures { result ≡ entry_at self.now index }
     {
@@ -135,10 +135,10 @@ impl Entries {
         ensures { result ≡ behind_at self.now index }
     {
         match self.kind_at(index) {
-            Kind::Array => self.number_at(index),
-            Kind::Dictionary => self.number_at(index),
-            Kind::Scalar => index + 1,
-            Kind::End => index + 1,
+            EntryKind::Array => self.number_at(index),
+            EntryKind::Dictionary => self.number_at(index),
+            EntryKind::Scalar => index + 1,
+            EntryKind::End => index + 1,
         }
     }
 
@@ -149,15 +149,15 @@ impl Entries {
         ensures { result ≡ scalar_named (entry_at self.now index) }
     {
         match self.kind_at(index) {
-            Kind::Array => None,
-            Kind::Dictionary => None,
-            Kind::Scalar => Some(self.number_at(index)),
-            Kind::End => None,
+            EntryKind::Array => None,
+            EntryKind::Dictionary => None,
+            EntryKind::Scalar => Some(self.number_at(index)),
+            EntryKind::End => None,
         }
     }
 
     /// Appends an entry.
-    pub fn push(&mut self, entry: Entry) -> Result<(), AllocError>
+    pub fn push(&mut self, entry: EventEntry) -> Result<(), AllocError>
         ensures pushed { OnOk result (self.new ≡ self.old ++ entry ∷ []) }
         ensures unchanged { OnErr result (self.new ≡ self.old) }
         ensures small { OnOk result (length self.new < 2 ^ 63) }
@@ -177,7 +177,7 @@ impl Entries {
     }
 
     // Puts another entry in the place of one.
-    fn set(&mut self, index: usize, entry: Entry) -> Result<(), AllocError>
+    fn set(&mut self, index: usize, entry: EventEntry) -> Result<(), AllocError>
         requires { index < length self.old }
         ensures set { OnOk result (self.new ≡ set self.old index entry) }
         ensures unchanged { OnErr result (self.new ≡ self.old) }
@@ -194,7 +194,7 @@ impl Entries {
         ensures unchanged { OnErr result (self.new ≡ self.old) }
         ensures small { OnOk result (length self.new < 2 ^ 63) }
     {
-        self.push(Entry::End)?;
+        self.push(EventEntry::End)?;
         match self.set(start, closed(self.get(start), self.len())) {
             Ok(()) => Ok(()),
             Err(error) => {

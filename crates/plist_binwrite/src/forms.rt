@@ -1,7 +1,7 @@
 //! The bytes of each form of a file: scalars, lengths, references, the offset table and the
 //! trailer, each in the least form that holds it.
 //!
-//! Each function puts its bytes through a room to a writer, as [`put`](crate::outlet::put) does.
+//! Each function puts its bytes through a buffer to a writer, as [`put`](crate::outlet::put) does.
 //! The one refusal is `Io` without an offset; a beginning of all that was put went out then.
 
 ghost use Rattle.std.specs.Prelude.{◌≡◌, ◌∷◌, [], ◌≤◌, ◌<◌, ◌^◌};
@@ -66,146 +66,149 @@ fn doublings(width: usize) -> u8
 }
 
 /// Puts a byte.
-pub fn put_byte<W: Write>(out: &mut W, room: &mut Vec<u8>, byte: u8) -> Result<(), Error>
-    ensures { Puts W.contents out.old room.old (byte ∷ []) result out.new room.new }
+pub fn put_byte<W: Write>(out: &mut W, buffer: &mut Vec<u8>, byte: u8) -> Result<(), Error>
+    ensures { Puts W.contents out.old buffer.old (byte ∷ []) result out.new buffer.new }
 {
-    put(out, room, &[byte])
+    put(out, buffer, &[byte])
 }
 
 // Puts a marker and the bytes behind it.
 fn put_marked<W: Write>(
     out: &mut W,
-    room: &mut Vec<u8>,
+    buffer: &mut Vec<u8>,
     marker: u8,
     bytes: &[u8],
 ) -> Result<(), Error>
-    ensures { Puts W.contents out.old room.old (marker ∷ bytes.now) result out.new room.new }
+    ensures { Puts W.contents out.old buffer.old (marker ∷ bytes.now) result out.new buffer.new }
 {
-    put_both(out, room, &[marker], bytes)
+    put_both(out, buffer, &[marker], bytes)
 }
 
 /// Puts the lowest `width` bytes of a number, the highest of them first.
 pub fn put_number<W: Write>(
     out: &mut W,
-    room: &mut Vec<u8>,
+    buffer: &mut Vec<u8>,
     width: usize,
     number: u64,
 ) -> Result<(), Error>
     requires width { width ≤ 8 }
-    ensures { Puts W.contents out.old room.old (big_endian width number) result out.new room.new }
+    ensures { Puts W.contents out.old buffer.old (big_endian width number) result out.new
+        buffer.new }
 {
     let digits = number.to_be_bytes();
-    put(out, room, &digits[8 - width..])
+    put(out, buffer, &digits[8 - width..])
 }
 
 // Puts a marker and the lowest `width` bytes of a number.
 fn put_marked_number<W: Write>(
     out: &mut W,
-    room: &mut Vec<u8>,
+    buffer: &mut Vec<u8>,
     byte: u8,
     width: usize,
     number: u64,
 ) -> Result<(), Error>
     requires width { width ≤ 8 }
-    ensures { Puts W.contents out.old room.old (marked byte width number) result out.new room.new }
+    ensures { Puts W.contents out.old buffer.old (marked byte width number) result out.new
+        buffer.new }
 {
     let digits = number.to_be_bytes();
-    put_both(out, room, &[byte], &digits[8 - width..])
+    put_both(out, buffer, &[byte], &digits[8 - width..])
 }
 
 /// Puts a number without sign, in the least of 1, 2, 4 and 8 bytes.
-pub fn put_natural<W: Write>(out: &mut W, room: &mut Vec<u8>, number: u64) -> Result<(), Error>
-    ensures { Puts W.contents out.old room.old (natural_form number) result out.new room.new }
+pub fn put_natural<W: Write>(out: &mut W, buffer: &mut Vec<u8>, number: u64) -> Result<(), Error>
+    ensures { Puts W.contents out.old buffer.old (natural_form number) result out.new buffer.new }
 {
     let width = least_width(number);
-    put_marked_number(out, room, 0x10 + doublings(width), width, number)
+    put_marked_number(out, buffer, 0x10 + doublings(width), width, number)
 }
 
 /// Puts a marker of this high half with a length: in its low half below 15, else behind it.
 pub fn put_length<W: Write>(
     out: &mut W,
-    room: &mut Vec<u8>,
+    buffer: &mut Vec<u8>,
     high: u8,
     count: u64,
 ) -> Result<(), Error>
     requires half { high < 16 }
-    ensures { Puts W.contents out.old room.old (length_form high count) result out.new room.new }
+    ensures { Puts W.contents out.old buffer.old (length_form high count) result out.new
+        buffer.new }
 {
     if count < 15 {
-        return put_byte(out, room, high * 16 + count as u8);
+        return put_byte(out, buffer, high * 16 + count as u8);
     }
     let width = least_width(count);
     let digits = count.to_be_bytes();
     put_both(
         out,
-        room,
+        buffer,
         &[high * 16 + 15, 0x10 + doublings(width)],
         &digits[8 - width..],
     )
 }
 
 /// Puts a truth value.
-pub fn put_boolean<W: Write>(out: &mut W, room: &mut Vec<u8>, value: bool) -> Result<(), Error>
-    ensures { Puts W.contents out.old room.old (boolean_form value) result out.new room.new }
+pub fn put_boolean<W: Write>(out: &mut W, buffer: &mut Vec<u8>, value: bool) -> Result<(), Error>
+    ensures { Puts W.contents out.old buffer.old (boolean_form value) result out.new buffer.new }
 {
-    put_byte(out, room, if value { 0x09 } else { 0x08 })
+    put_byte(out, buffer, if value { 0x09 } else { 0x08 })
 }
 
 /// Puts data.
-pub fn put_data<W: Write>(out: &mut W, room: &mut Vec<u8>, content: &[u8]) -> Result<(), Error>
-    ensures { Puts W.contents out.old room.old (data_form content.now) result out.new room.new }
+pub fn put_data<W: Write>(out: &mut W, buffer: &mut Vec<u8>, content: &[u8]) -> Result<(), Error>
+    ensures { Puts W.contents out.old buffer.old (data_form content.now) result out.new buffer.new }
 {
     let count = content.len();
-    match put_length(out, room, 0x4, count as u64) {
-        Ok(()) => put(out, room, content),
+    match put_length(out, buffer, 0x4, count as u64) {
+        Ok(()) => put(out, buffer, content),
         Err(error) => Err(error),
     }
 }
 
 /// Puts a date by its eight bytes.
-pub fn put_date<W: Write>(out: &mut W, room: &mut Vec<u8>, date: Date) -> Result<(), Error>
-    ensures { Puts W.contents out.old room.old (date_form date) result out.new room.new }
+pub fn put_date<W: Write>(out: &mut W, buffer: &mut Vec<u8>, date: Date) -> Result<(), Error>
+    ensures { Puts W.contents out.old buffer.old (date_form date) result out.new buffer.new }
 {
-    put_marked(out, room, 0x33, &date.to_plist_real())
+    put_marked(out, buffer, 0x33, &date.to_plist_real())
 }
 
 /// Puts a real in the width that it has.
-pub fn put_real<W: Write>(out: &mut W, room: &mut Vec<u8>, bits: RealBits) -> Result<(), Error>
-    ensures { Puts W.contents out.old room.old (real_form bits) result out.new room.new }
+pub fn put_real<W: Write>(out: &mut W, buffer: &mut Vec<u8>, bits: RealBits) -> Result<(), Error>
+    ensures { Puts W.contents out.old buffer.old (real_form bits) result out.new buffer.new }
 {
     match bits {
-        RealBits::Four(digits) => put_marked(out, room, 0x22, &digits),
-        RealBits::Eight(digits) => put_marked(out, room, 0x23, &digits),
+        RealBits::Four(digits) => put_marked(out, buffer, 0x22, &digits),
+        RealBits::Eight(digits) => put_marked(out, buffer, 0x23, &digits),
     }
 }
 
 /// Puts a Uid.
-pub fn put_uid<W: Write>(out: &mut W, room: &mut Vec<u8>, uid: Uid) -> Result<(), Error>
-    ensures { Puts W.contents out.old room.old (uid_form uid) result out.new room.new }
+pub fn put_uid<W: Write>(out: &mut W, buffer: &mut Vec<u8>, uid: Uid) -> Result<(), Error>
+    ensures { Puts W.contents out.old buffer.old (uid_form uid) result out.new buffer.new }
 {
     let width = least_width(uid.get());
-    put_marked_number(out, room, 0x7f + width as u8, width, uid.get())
+    put_marked_number(out, buffer, 0x7f + width as u8, width, uid.get())
 }
 
 // Puts an integer above `i64::MAX`, in sixteen bytes.
-fn put_wide_integer<W: Write>(out: &mut W, room: &mut Vec<u8>, number: u64) -> Result<(), Error>
-    ensures { Puts W.contents out.old room.old (marked 0x14 16 number) result out.new room.new }
+fn put_wide_integer<W: Write>(out: &mut W, buffer: &mut Vec<u8>, number: u64) -> Result<(), Error>
+    ensures { Puts W.contents out.old buffer.old (marked 0x14 16 number) result out.new buffer.new }
 {
-    match put_marked_number(out, room, 0x14, 8, 0) {
-        Ok(()) => put_number(out, room, 8, number),
+    match put_marked_number(out, buffer, 0x14, 8, 0) {
+        Ok(()) => put_number(out, buffer, 8, number),
         Err(error) => Err(error),
     }
 }
 
 /// Puts an integer: one from 0 to `i64::MAX` in the least of 1, 2, 4 and 8 bytes, a negative one
 /// in eight, and one above `i64::MAX` in sixteen.
-pub fn put_integer<W: Write>(out: &mut W, room: &mut Vec<u8>, value: Integer) -> Result<(), Error>
-    ensures { Puts W.contents out.old room.old (integer_form value) result out.new room.new }
+pub fn put_integer<W: Write>(out: &mut W, buffer: &mut Vec<u8>, value: Integer) -> Result<(), Error>
+    ensures { Puts W.contents out.old buffer.old (integer_form value) result out.new buffer.new }
 {
     match (value.as_unsigned(), value.as_signed()) {
-        (Some(number), Some(_)) => put_natural(out, room, number),
-        (Some(number), None) => put_wide_integer(out, room, number),
-        (None, Some(number)) => { put_marked_number(out, room, 0x13, 8, number.cast_unsigned()) }
+        (Some(number), Some(_)) => put_natural(out, buffer, number),
+        (Some(number), None) => put_wide_integer(out, buffer, number),
+        (None, Some(number)) => { put_marked_number(out, buffer, 0x13, 8, number.cast_unsigned()) }
         (None, None) => Ok(()),
     }
 }
@@ -213,15 +216,16 @@ pub fn put_integer<W: Write>(out: &mut W, room: &mut Vec<u8>, value: Integer) ->
 /// Puts some numbers of this width, as an offset table has them.
 pub fn put_numbers<W: Write>(
     out: &mut W,
-    room: &mut Vec<u8>,
+    buffer: &mut Vec<u8>,
     width: usize,
     list: &Numbers,
 ) -> Result<(), Error>
     requires width { width ≤ 8 }
-    ensures { Puts W.contents out.old room.old (table_form width list.now) result out.new room.new }
+    ensures { Puts W.contents out.old buffer.old (table_form width list.now) result out.new
+        buffer.new }
 {
     for index in 0..list.len() {
-        match put_number(out, room, width, list.get(index) as u64) {
+        match put_number(out, buffer, width, list.get(index) as u64) {
             Ok(()) => {}
             Err(error) => return Err(error),
         }
@@ -233,24 +237,25 @@ pub fn put_numbers<W: Write>(
 /// object 0.
 pub fn put_trailer<W: Write>(
     out: &mut W,
-    room: &mut Vec<u8>,
+    buffer: &mut Vec<u8>,
     count: usize,
     table: usize,
 ) -> Result<(), Error>
-    ensures { Puts W.contents out.old room.old (trailer_of count table) result out.new room.new }
+    ensures { Puts W.contents out.old buffer.old (trailer_of count table) result out.new
+        buffer.new }
 {
     let wide = offset_width(table as u64) as u8;
     let narrow = reference_width(count as u64) as u8;
-    match put(out, room, &[0, 0, 0, 0, 0, 0, wide, narrow]) {
+    match put(out, buffer, &[0, 0, 0, 0, 0, 0, wide, narrow]) {
         Ok(()) => {}
         Err(error) => return Err(error),
     }
-    match put_number(out, room, 8, count as u64) {
+    match put_number(out, buffer, 8, count as u64) {
         Ok(()) => {}
         Err(error) => return Err(error),
     }
-    match put_number(out, room, 8, 0) {
-        Ok(()) => put_number(out, room, 8, table as u64),
+    match put_number(out, buffer, 8, 0) {
+        Ok(()) => put_number(out, buffer, 8, table as u64),
         Err(error) => Err(error),
     }
 }
@@ -258,15 +263,16 @@ pub fn put_trailer<W: Write>(
 /// Puts the offset table, which lies at `table`, and the trailer.
 pub fn put_ending<W: Write>(
     out: &mut W,
-    room: &mut Vec<u8>,
+    buffer: &mut Vec<u8>,
     places: &Numbers,
     table: usize,
 ) -> Result<(), Error>
-    ensures { Puts W.contents out.old room.old (ending places.now table) result out.new room.new }
+    ensures { Puts W.contents out.old buffer.old (ending places.now table) result out.new
+        buffer.new }
 {
     let width = offset_width(table as u64);
-    match put_numbers(out, room, width, places) {
-        Ok(()) => put_trailer(out, room, places.len(), table),
+    match put_numbers(out, buffer, width, places) {
+        Ok(()) => put_trailer(out, buffer, places.len(), table),
         Err(error) => Err(error),
     }
 }

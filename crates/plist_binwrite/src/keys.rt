@@ -2,12 +2,12 @@
 
 ghost use Rattle.std.specs.Prelude.{◌≡◌, ◌≢◌, ◌+◌, ◌<◌, true, false, length, get_or, set, IfOk};
 ghost use Rattle.plist_base.specs.Outcomes.{OnlyMemory};
-ghost use Rattle.plist_binwrite.specs.Held.{plain_events, scalars_of, AllBelow, held_kind, held_at};
-ghost use Rattle.plist_binwrite.specs.declared.kinds.Kind.TheVariants.{Dictionary as KindDictionary};
-ghost use Rattle.plist_binwrite.specs.Keys.{TellsKeysOnce, TellsRepeats};
+ghost use Rattle.plist_binwrite.specs.EventTable.{plain_events, scalars_of, AllBelow, held_kind, held_at};
+ghost use Rattle.plist_binwrite.specs.declared.kinds.EntryKind.TheVariants.{Dictionary as KindDictionary};
+ghost use Rattle.plist_binwrite.specs.Keys.{TestsKeysOnce, TestsRepeats};
 
-use crate::held::Held;
-use crate::kinds::Kind;
+use crate::event_table::EventTable;
+use crate::kinds::EntryKind;
 use plist_base::Error;
 use std::alloc::Global;
 
@@ -25,17 +25,17 @@ fn stamp(stamps: &mut Vec<usize>, scalar: usize, mark: usize) -> bool
 
 // Whether a dictionary begins here that has a key twice. A stamp tells of each different scalar
 // behind which start it was a key last.
-fn repeats_at(events: &Held<'_>, start: usize, stamps: &mut Vec<usize>) -> bool
+fn repeats_at(events: &EventTable<'_>, start: usize, stamps: &mut Vec<usize>) -> bool
     requires start { start < length (plain_events events.now) }
     requires long { length stamps.old.items ≡ length (scalars_of events.now) }
     requires older { AllBelow (start + 1) stamps.old.items }
     ensures long { length stamps.new.items ≡ length (scalars_of events.now) }
     ensures newer { AllBelow (start + 2) stamps.new.items }
     ensures begins { result ≡ true → held_kind (held_at events.now start) ≡ KindDictionary }
-    ensures repeats { TellsRepeats events.now start result }
+    ensures repeats { TestsRepeats events.now start result }
 {
     match events.kind_at(start) {
-        Kind::Dictionary => {}
+        EntryKind::Dictionary => {}
         _ => return false,
     }
     let mark = start + 1;
@@ -57,8 +57,8 @@ fn repeats_at(events: &Held<'_>, start: usize, stamps: &mut Vec<usize>) -> bool
 ///
 /// # Errors
 /// `OutOfMemory`, without an offset.
-pub fn repeats_key(alloc: Global, events: &Held<'_>) -> Result<bool, Error>
-    ensures once { IfOk result (TellsKeysOnce events.now) }
+pub fn repeats_key(alloc: Global, events: &EventTable<'_>) -> Result<bool, Error>
+    ensures once { IfOk result (TestsKeysOnce events.now) }
     ensures memory { OnlyMemory result }
 {
     let mut stamps = vec![in alloc; 0usize; events.count_scalars()]?;

@@ -1,33 +1,33 @@
 //! The order of a file's objects.
 
 ghost use Rattle.std.specs.Prelude.{IfOk};
-ghost use Rattle.plist_binwrite.specs.Held.{plain_events};
+ghost use Rattle.plist_binwrite.specs.EventTable.{plain_events};
 ghost use Rattle.plist_binwrite.specs.inner.Laying.{IsOrder, HasAll};
 ghost use Rattle.plist_binwrite.specs.inner.Planning.{IsPlanned, count_of};
 
-use crate::held::Held;
-use crate::kinds::Kind;
+use crate::event_table::EventTable;
+use crate::kinds::EntryKind;
 use crate::numbers::Numbers;
 use crate::plan::Plan;
 use std::alloc::{AllocError, Global};
 
 /// The numbers of a file's objects in its order, and a list with room for the place of each.
 #[derive(Drop)]
-pub struct Layout {
+pub struct FileLayout {
     pub order: Numbers,
     pub places: Numbers,
 }
 
-impl Layout {
+impl FileLayout {
     ghost use Rattle.std.specs.Prelude.{◌<◌, length, OnOk};
-    ghost use Rattle.plist_binwrite.specs.Held.{plain_events};
+    ghost use Rattle.plist_binwrite.specs.EventTable.{plain_events};
     ghost use Rattle.plist_binwrite.specs.inner.Laying.{IsOrder, KeepsMarks};
     ghost use Rattle.plist_binwrite.specs.inner.Planning.{IsPlanned, count_of};
     ghost use Rattle.plist_binwrite.specs.inner.Sizing.{MarksItem};
 
     // Puts the object of the event here into the order, unless it is there already. A mark that
     // isn't 0 tells of each object that it is.
-    fn put(&mut self, events: &Held<'_>, plan: &Plan, index: usize) -> Result<(), AllocError>
+    fn put(&mut self, events: &EventTable<'_>, plan: &Plan, index: usize) -> Result<(), AllocError>
         requires planned { IsPlanned (plain_events events.now) plan.now }
         requires order { IsOrder (count_of plan.now) self.old.order self.old.places }
         ensures order { OnOk result (IsOrder (count_of plan.now) self.new.order self.new.places) }
@@ -47,7 +47,12 @@ impl Layout {
     }
 
     // Puts the keys of a dictionary into the order, from here on.
-    fn put_keys(&mut self, events: &Held<'_>, plan: &Plan, from: usize) -> Result<(), AllocError>
+    fn put_keys(
+        &mut self,
+        events: &EventTable<'_>,
+        plan: &Plan,
+        from: usize,
+    ) -> Result<(), AllocError>
         requires planned { IsPlanned (plain_events events.now) plan.now }
         requires order { IsOrder (count_of plan.now) self.old.order self.old.places }
         ensures order { OnOk result (IsOrder (count_of plan.now) self.new.order self.new.places) }
@@ -62,7 +67,12 @@ impl Layout {
     }
 
     // Puts the object of the event here into the order, and behind it those of its keys.
-    fn put_here(&mut self, events: &Held<'_>, plan: &Plan, index: usize) -> Result<(), AllocError>
+    fn put_here(
+        &mut self,
+        events: &EventTable<'_>,
+        plan: &Plan,
+        index: usize,
+    ) -> Result<(), AllocError>
         requires planned { IsPlanned (plain_events events.now) plan.now }
         requires index { index < length (plain_events events.now) }
         requires order { IsOrder (count_of plan.now) self.old.order self.old.places }
@@ -72,7 +82,7 @@ impl Layout {
     {
         self.put(events, plan, index)?;
         match events.kind_at(index) {
-            Kind::Dictionary => self.put_keys(events, plan, index + 1),
+            EntryKind::Dictionary => self.put_keys(events, plan, index + 1),
             _ => Ok(()),
         }
     }
@@ -80,7 +90,11 @@ impl Layout {
 
 /// Puts the objects into order: that of the events, where the keys of a dictionary come before its
 /// values.
-pub fn order_objects(alloc: Global, events: &Held<'_>, plan: &Plan) -> Result<Layout, AllocError>
+pub fn order_objects(
+    alloc: Global,
+    events: &EventTable<'_>,
+    plan: &Plan,
+) -> Result<FileLayout, AllocError>
     requires planned { IsPlanned (plain_events events.now) plan.now }
     ensures order { IfOk result (λ r. IsOrder (count_of plan.now) r.order r.places) }
     ensures all { IfOk result (λ r. HasAll (count_of plan.now) r.order) }
@@ -88,7 +102,7 @@ pub fn order_objects(alloc: Global, events: &Held<'_>, plan: &Plan) -> Result<La
     let count = plan.numbering.firsts.len();
     let places = Numbers::zeros(alloc, count)?;
     let order = Numbers::new(alloc);
-    let mut layout = Layout { order, places };
+    let mut layout = FileLayout { order, places };
     for index in 0..events.len() {
         layout.put_here(events, plan, index)?;
     }

@@ -3,8 +3,8 @@
 ghost use Rattle.std.specs.Prelude.{◌≡◌, ◌+◌, ◌*◌, ◌≤◌, ◌<◌, ◌^◌, ℕ, length, None};
 ghost use Rattle.plist_base.specs.Events.{event_of};
 ghost use Rattle.plist_binwrite.specs.Forms.{IsDateBytes, IsInteger, IsReal, IsText, IsWritableScalar, natural_form, integer_form, uid_form, length_form, date_form, real_form, text_form};
-ghost use Rattle.plist_binwrite.specs.Held.{IfScalar};
-ghost use Rattle.plist_binwrite.specs.Sizes.{TellsSize, marked_size, scalar_size};
+ghost use Rattle.plist_binwrite.specs.EventTable.{IfScalar};
+ghost use Rattle.plist_binwrite.specs.Sizes.{IsSizeOrNone, marked_size, scalar_size};
 
 use crate::forms::least_width;
 use crate::text::{count_units, is_ascii_text};
@@ -12,7 +12,8 @@ use plist_base::{Date, Event, Integer, RealBits, Uid};
 
 /// So many bytes, and so many more.
 pub fn add(length: Option<u64>, more: Option<u64>) -> Option<u64>
-    ensures sum { (a b : ℕ) → TellsSize length a → TellsSize more b → TellsSize result (a + b) }
+    ensures sum { (a b : ℕ) → IsSizeOrNone length a → IsSizeOrNone more b
+        → IsSizeOrNone result (a + b) }
     ensures none { length ≡ None → result ≡ None }
 {
     match (length, more) {
@@ -43,13 +44,13 @@ pub fn length_of_count(count: u64) -> u64
 
 // The length of so many bytes behind their marker.
 fn length_of_bytes(count: u64) -> Option<u64>
-    ensures value { (high : ℕ) → TellsSize result (marked_size high count count) }
+    ensures value { (high : ℕ) → IsSizeOrNone result (marked_size high count count) }
 {
     count.checked_add(length_of_count(count))
 }
 
 fn length_of_text(text: &str) -> Option<u64>
-    ensures value { TellsSize result (length (text_form text.now)) }
+    ensures value { IsSizeOrNone result (length (text_form text.now)) }
     ensures writable { IsText text.now }
 {
     if is_ascii_text(text) {
@@ -96,7 +97,7 @@ fn length_of_uid(uid: Uid) -> u64
 
 /// The length of a scalar. Of the start and the end of a collection nothing is told.
 pub fn length_of_scalar(event: &Event<'_>) -> Option<u64>
-    ensures value { IfScalar (event_of event.now) (λ x. TellsSize result (scalar_size x)) }
+    ensures value { IfScalar (event_of event.now) (λ x. IsSizeOrNone result (scalar_size x)) }
     ensures writable { IfScalar (event_of event.now) IsWritableScalar }
 {
     match event {
@@ -113,7 +114,7 @@ pub fn length_of_scalar(event: &Event<'_>) -> Option<u64>
 
 /// The length of a collection of this count with so many references, each of this width.
 pub fn length_of_collection(count: u64, references: u64, width: u64) -> Option<u64>
-    ensures value { (high : ℕ) → TellsSize result (marked_size high count (references * width)) }
+    ensures value { (high : ℕ) → IsSizeOrNone result (marked_size high count (references * width)) }
 {
     add(Some(length_of_count(count)), references.checked_mul(width))
 }

@@ -1,18 +1,18 @@
 //! The numbers of objects: one for each class.
 
 ghost use Rattle.std.specs.Prelude.{◌≡◌, length, IfOk};
-ghost use Rattle.plist_binwrite.specs.Held.{plain_events, AllBelow};
+ghost use Rattle.plist_binwrite.specs.EventTable.{plain_events, AllBelow};
 ghost use Rattle.plist_binwrite.specs.inner.Numbering.{IsNumberingOf, NumbersRoot, NumbersTree};
 
-use crate::held::Held;
-use crate::kinds::{Kind, half_of};
+use crate::event_table::EventTable;
+use crate::kinds::{EntryKind, half_of};
 use crate::numbers::Numbers;
 use std::alloc::{AllocError, Global};
 
 // Held events, and the class of each.
 #[derive(Clone, Copy)]
 struct Classed<'p, 'e> {
-    events: &'p Held<'e>,
+    events: &'p EventTable<'e>,
     classes: &'p Numbers,
 }
 
@@ -26,11 +26,11 @@ struct Numbered {
 
 impl Numbered {
     ghost use Rattle.std.specs.Prelude.{◌≡◌, ◌<◌, [], length, IfOk, OnOk};
-    ghost use Rattle.plist_binwrite.specs.Held.{plain_events};
+    ghost use Rattle.plist_binwrite.specs.EventTable.{plain_events};
     ghost use Rattle.plist_binwrite.specs.inner.Numbering.{AreMarks, BeginsAt, GoesSoFar, HaveIdsOf, IsPlanOf, KeepsNumbers, NumbersAll, NumbersChildren, NumbersHalf, NumbersItem, NumbersItems, RootIsFirst};
 
     // No numbers so far.
-    fn new(alloc: Global, events: &Held<'_>, count: usize) -> Result<Numbered, AllocError>
+    fn new(alloc: Global, events: &EventTable<'_>, count: usize) -> Result<Numbered, AllocError>
         ensures ids { IfOk result (λ r. AreMarks count r.ids) }
         ensures numbers { IfOk result (λ r. AreMarks (length (plain_events events.now)) r.numbers) }
         ensures firsts { IfOk result (λ r. r.firsts ≡ []) }
@@ -120,8 +120,8 @@ impl Numbered {
     {
         let inside = index + 1;
         match given.events.kind_at(index) {
-            Kind::Array => self.number_items(given, inside),
-            Kind::Dictionary => {
+            EntryKind::Array => self.number_items(given, inside),
+            EntryKind::Dictionary => {
                 self.number_halves(given, inside, false)?;
                 self.number_halves(given, inside, true)?;
                 Ok(())
@@ -158,7 +158,7 @@ pub struct Numbering {
 /// numbers its keys and then its values.
 pub fn number_by_class(
     alloc: Global,
-    events: &Held<'_>,
+    events: &EventTable<'_>,
     classes: &Numbers,
     count: usize,
 ) -> Result<Numbering, AllocError>

@@ -1,12 +1,12 @@
 //! Puts the objects of a planned file.
 
 ghost use Rattle.std.specs.Prelude.{◌<◌, length};
-ghost use Rattle.plist_binwrite.specs.Held.{AllBelow};
+ghost use Rattle.plist_binwrite.specs.EventTable.{AllBelow};
 ghost use Rattle.plist_binwrite.specs.inner.Planning.{CanPut, count_of, events_in};
 ghost use Rattle.plist_binwrite.specs.inner.Putting.{PutsArray, PutsDictionary, PutsHalf, PutsItems, PutsObject, PutsOrder};
 
 use crate::forms::{put_length, put_number, put_scalar};
-use crate::kinds::{Kind, half_of};
+use crate::kinds::{EntryKind, half_of};
 use crate::numbers::Numbers;
 use crate::plan::Planned;
 use crate::size::count_items;
@@ -16,17 +16,17 @@ use std::io::Write;
 // Puts references to the items of an array, from here on.
 fn put_items<W: Write>(
     out: &mut W,
-    room: &mut Vec<u8>,
+    buffer: &mut Vec<u8>,
     file: &Planned<'_, '_>,
     from: usize,
 ) -> Result<(), Error>
     requires file { CanPut file.now }
-    ensures { PutsItems W.contents out.old room.old file.now from result out.new room.new }
+    ensures { PutsItems W.contents out.old buffer.old file.now from result out.new buffer.new }
 {
     let mut index = from;
     'walk: while file.events.has_item(index) {
         let number = file.plan.number(index);
-        match put_number(out, room, file.width, number as u64) {
+        match put_number(out, buffer, file.width, number as u64) {
             Ok(()) => {}
             Err(error) => return Err(error),
         }
@@ -38,13 +38,14 @@ fn put_items<W: Write>(
 // Puts references to the values of a dictionary, or to its keys, from here on.
 fn put_halves<W: Write>(
     out: &mut W,
-    room: &mut Vec<u8>,
+    buffer: &mut Vec<u8>,
     file: &Planned<'_, '_>,
     from: usize,
     values: bool,
 ) -> Result<(), Error>
     requires file { CanPut file.now }
-    ensures { PutsHalf W.contents out.old room.old file.now values from result out.new room.new }
+    ensures { PutsHalf W.contents out.old buffer.old file.now values from result out.new
+        buffer.new }
 {
     let mut key = from;
     'walk: while file.events.has_item(key) {
@@ -53,7 +54,7 @@ fn put_halves<W: Write>(
             return Ok(());
         }
         let number = file.plan.number(half_of(key, value, values));
-        match put_number(out, room, file.width, number as u64) {
+        match put_number(out, buffer, file.width, number as u64) {
             Ok(()) => {}
             Err(error) => return Err(error),
         }
@@ -64,38 +65,39 @@ fn put_halves<W: Write>(
 
 fn put_array<W: Write>(
     out: &mut W,
-    room: &mut Vec<u8>,
+    buffer: &mut Vec<u8>,
     file: &Planned<'_, '_>,
     index: usize,
 ) -> Result<(), Error>
     requires file { CanPut file.now }
     requires index { index < length (events_in file.now) }
-    ensures { PutsArray W.contents out.old room.old file.now index result out.new room.new }
+    ensures { PutsArray W.contents out.old buffer.old file.now index result out.new buffer.new }
 {
     let count = count_items(file.events, index + 1) as u64;
-    match put_length(out, room, 0xa, count) {
-        Ok(()) => put_items(out, room, file, index + 1),
+    match put_length(out, buffer, 0xa, count) {
+        Ok(()) => put_items(out, buffer, file, index + 1),
         Err(error) => Err(error),
     }
 }
 
 fn put_dictionary<W: Write>(
     out: &mut W,
-    room: &mut Vec<u8>,
+    buffer: &mut Vec<u8>,
     file: &Planned<'_, '_>,
     index: usize,
 ) -> Result<(), Error>
     requires file { CanPut file.now }
     requires index { index < length (events_in file.now) }
-    ensures { PutsDictionary W.contents out.old room.old file.now index result out.new room.new }
+    ensures { PutsDictionary W.contents out.old buffer.old file.now index result out.new
+        buffer.new }
 {
     let count = count_items(file.events, index + 1) as u64;
-    match put_length(out, room, 0xd, count / 2) {
+    match put_length(out, buffer, 0xd, count / 2) {
         Ok(()) => {}
         Err(error) => return Err(error),
     }
-    match put_halves(out, room, file, index + 1, false) {
-        Ok(()) => put_halves(out, room, file, index + 1, true),
+    match put_halves(out, buffer, file, index + 1, false) {
+        Ok(()) => put_halves(out, buffer, file, index + 1, true),
         Err(error) => Err(error),
     }
 }
@@ -103,19 +105,19 @@ fn put_dictionary<W: Write>(
 // Puts the object of the tree that begins here.
 fn put_object<W: Write>(
     out: &mut W,
-    room: &mut Vec<u8>,
+    buffer: &mut Vec<u8>,
     file: &Planned<'_, '_>,
     index: usize,
 ) -> Result<(), Error>
     requires file { CanPut file.now }
     requires index { index < length (events_in file.now) }
-    ensures { PutsObject W.contents out.old room.old file.now index result out.new room.new }
+    ensures { PutsObject W.contents out.old buffer.old file.now index result out.new buffer.new }
 {
     match file.events.kind_at(index) {
-        Kind::Array => put_array(out, room, file, index),
-        Kind::Dictionary => put_dictionary(out, room, file, index),
+        EntryKind::Array => put_array(out, buffer, file, index),
+        EntryKind::Dictionary => put_dictionary(out, buffer, file, index),
         _ => match file.events.scalar_at(index) {
-            Some(scalar) => put_scalar(out, room, scalar),
+            Some(scalar) => put_scalar(out, buffer, scalar),
             None => Ok(()),
         },
     }
@@ -124,17 +126,17 @@ fn put_object<W: Write>(
 /// Puts the objects in this order.
 pub fn put_objects<W: Write>(
     out: &mut W,
-    room: &mut Vec<u8>,
+    buffer: &mut Vec<u8>,
     file: &Planned<'_, '_>,
     order: &Numbers,
 ) -> Result<(), Error>
     requires file { CanPut file.now }
     requires order { AllBelow (count_of file.now.plan.now) order.now }
-    ensures { PutsOrder W.contents out.old room.old file.now order.now result out.new room.new }
+    ensures { PutsOrder W.contents out.old buffer.old file.now order.now result out.new buffer.new }
 {
     for index in 0..order.len() {
         let first = file.plan.first(order.get(index));
-        match put_object(out, room, file, first) {
+        match put_object(out, buffer, file, first) {
             Ok(()) => {}
             Err(error) => return Err(error),
         }

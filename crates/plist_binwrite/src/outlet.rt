@@ -1,76 +1,76 @@
-//! Sends bytes part by part, through a room of fixed size.
+//! Sends bytes part by part, through a buffer of fixed size.
 
 ghost use Rattle.std.specs.Prelude.{◌≡◌, ◌≤◌, ◌++◌, true, false, length, OnOk};
 ghost use Rattle.plist_base.specs.Outcomes.{OnlyDevice};
-ghost use Rattle.plist_binwrite.specs.Outlets.{Puts, Empties, EmptiesInPart, room_size};
+ghost use Rattle.plist_binwrite.specs.Outlets.{Puts, Empties, EmptiesInPart, buffer_size};
 
 use plist_base::Error;
 use plist_base::send::{send, send_whole};
 use std::io::Write;
 
 /// How many bytes wait together at most.
-pub const ROOM: usize = 1 << 16;
+pub const BUFFER: usize = 1 << 16;
 
-// Has bytes wait, where they fit into the room.
-fn hold(room: &mut Vec<u8>, bytes: &[u8]) -> bool
-    ensures yes { result ≡ true → room.new.items ≡ room.old.items ++ bytes.now }
-    ensures waits { result ≡ true → length room.new.items ≤ room_size }
-    ensures no { result ≡ false → room.new.items ≡ room.old.items }
+// Has bytes wait, where they fit into the buffer.
+fn hold(buffer: &mut Vec<u8>, bytes: &[u8]) -> bool
+    ensures yes { result ≡ true → buffer.new.items ≡ buffer.old.items ++ bytes.now }
+    ensures waits { result ≡ true → length buffer.new.items ≤ buffer_size }
+    ensures no { result ≡ false → buffer.new.items ≡ buffer.old.items }
 {
-    let waiting = room.len();
-    if waiting > ROOM || bytes.len() > ROOM - waiting {
+    let waiting = buffer.len();
+    if waiting > BUFFER || bytes.len() > BUFFER - waiting {
         return false;
     }
-    room.extend_from_slice(bytes).is_ok()
+    buffer.extend_from_slice(bytes).is_ok()
 }
 
-// Sends what waits, and then these bytes. It stands apart, since most bytes fit into the room.
+// Sends what waits, and then these bytes. It stands apart, since most bytes fit into the buffer.
 #[cold]
 #[inline(never)]
-fn pass_on<W: Write>(out: &mut W, room: &mut Vec<u8>, bytes: &[u8]) -> Result<(), Error>
-    ensures { Puts W.contents out.old room.old bytes.now result out.new room.new }
+fn pass_on<W: Write>(out: &mut W, buffer: &mut Vec<u8>, bytes: &[u8]) -> Result<(), Error>
+    ensures { Puts W.contents out.old buffer.old bytes.now result out.new buffer.new }
 {
-    match send(out, room.as_slice()) {
+    match send(out, buffer.as_slice()) {
         Ok(()) => {}
         Err(error) => return Err(error),
     }
-    room.clear();
+    buffer.clear();
     match send(out, bytes) {
         Ok(()) => Ok(()),
         Err(error) => Err(error),
     }
 }
 
-/// Bytes that fit wait in the room; where they don't, those that wait go out, and then these. No
-/// more than [`ROOM`] bytes ever wait, so a room of that size never grows.
+/// Bytes that fit wait in the buffer; where they don't, those that wait go out, and then these. No
+/// more than [`BUFFER`] bytes ever wait, so a buffer of that size never grows.
 ///
 /// # Errors
 /// `Io` without an offset where a write fails or takes no byte; a beginning of all that was put
 /// went out.
 #[tactic(auto, using(crate::proofs::Outgoing::puts_waiting))]
-pub fn put<W: Write>(out: &mut W, room: &mut Vec<u8>, bytes: &[u8]) -> Result<(), Error>
-    ensures { Puts W.contents out.old room.old bytes.now result out.new room.new }
+pub fn put<W: Write>(out: &mut W, buffer: &mut Vec<u8>, bytes: &[u8]) -> Result<(), Error>
+    ensures { Puts W.contents out.old buffer.old bytes.now result out.new buffer.new }
 {
-    if hold(room, bytes) {
+    if hold(buffer, bytes) {
         return Ok(());
     }
-    pass_on(out, room, bytes)
+    pass_on(out, buffer, bytes)
 }
 
-// Has bytes wait and others behind them, where all of them fit into the room.
-fn hold_both(room: &mut Vec<u8>, first: &[u8], second: &[u8]) -> bool
-    ensures yes { result ≡ true → room.new.items ≡ room.old.items ++ first.now ++ second.now }
-    ensures waits { result ≡ true → length room.new.items ≤ room_size }
-    ensures no { result ≡ false → room.new.items ≡ room.old.items }
+// Has bytes wait and others behind them, where all of them fit into the buffer.
+fn hold_both(buffer: &mut Vec<u8>, first: &[u8], second: &[u8]) -> bool
+    ensures yes { result ≡ true → buffer.new.items ≡ buffer.old.items ++ first.now ++ second.now }
+    ensures waits { result ≡ true → length buffer.new.items ≤ buffer_size }
+    ensures no { result ≡ false → buffer.new.items ≡ buffer.old.items }
 {
-    let before = room.len();
-    if !hold(room, first) {
+    let before = buffer.len();
+    if !hold(buffer, first) {
         return false;
     }
-    if hold(room, second) {
+    if hold(buffer, second) {
         return true;
     }
-    room.truncate(before);
+    buffer.truncate(before);
     false
 }
 
@@ -78,14 +78,15 @@ fn hold_both(room: &mut Vec<u8>, first: &[u8], second: &[u8]) -> bool
 #[inline(never)]
 fn pass_both<W: Write>(
     out: &mut W,
-    room: &mut Vec<u8>,
+    buffer: &mut Vec<u8>,
     first: &[u8],
     second: &[u8],
 ) -> Result<(), Error>
-    ensures { Puts W.contents out.old room.old (first.now ++ second.now) result out.new room.new }
+    ensures { Puts W.contents out.old buffer.old (first.now ++ second.now) result out.new
+        buffer.new }
 {
-    match put(out, room, first) {
-        Ok(()) => put(out, room, second),
+    match put(out, buffer, first) {
+        Ok(()) => put(out, buffer, second),
         Err(error) => Err(error),
     }
 }
@@ -97,28 +98,29 @@ fn pass_both<W: Write>(
 #[tactic(auto, using(crate::proofs::Outgoing::puts_waiting))]
 pub fn put_both<W: Write>(
     out: &mut W,
-    room: &mut Vec<u8>,
+    buffer: &mut Vec<u8>,
     first: &[u8],
     second: &[u8],
 ) -> Result<(), Error>
-    ensures { Puts W.contents out.old room.old (first.now ++ second.now) result out.new room.new }
+    ensures { Puts W.contents out.old buffer.old (first.now ++ second.now) result out.new
+        buffer.new }
 {
-    if hold_both(room, first, second) {
+    if hold_both(buffer, first, second) {
         return Ok(());
     }
-    pass_both(out, room, first, second)
+    pass_both(out, buffer, first, second)
 }
 
 /// Sends what waits, and then has the writer pass on what it holds back.
 ///
 /// # Errors
 /// Those of `put`; and where the flush fails, after all of it went out.
-pub fn finish<W: Write>(out: &mut W, room: &[u8]) -> Result<(), Error>
-    ensures sent { OnOk result (Empties W.contents out.old room.now out.new) }
-    ensures front { EmptiesInPart W.contents out.old room.now out.new }
+pub fn finish<W: Write>(out: &mut W, buffer: &[u8]) -> Result<(), Error>
+    ensures sent { OnOk result (Empties W.contents out.old buffer.now out.new) }
+    ensures front { EmptiesInPart W.contents out.old buffer.now out.new }
     ensures fault { OnlyDevice result }
 {
-    match send_whole(out, room) {
+    match send_whole(out, buffer) {
         Ok(()) => Ok(()),
         Err(error) => Err(error),
     }

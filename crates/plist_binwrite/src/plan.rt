@@ -3,11 +3,11 @@
 ghost use Rattle.std.specs.Prelude.{◌≡◌, ◌<◌, length, IfOk};
 ghost use Rattle.plist_base.specs.Outcomes.{OnlyMemory};
 ghost use Rattle.plist_binwrite.specs.Classes.{AreClasses};
-ghost use Rattle.plist_binwrite.specs.Held.{plain_events, num_of, AllBelow, IsBracketed};
+ghost use Rattle.plist_binwrite.specs.EventTable.{plain_events, num_of, AllBelow, IsBracketed};
 ghost use Rattle.plist_binwrite.specs.inner.Planning.{IsPlanned, GoesBy, numbers_of, firsts_of};
 
 use crate::classes::Classes;
-use crate::held::Held;
+use crate::event_table::EventTable;
 use crate::numbering::{Numbering, number_by_class};
 use plist_base::Error;
 use std::alloc::Global;
@@ -39,7 +39,7 @@ impl Plan {
 /// A planned file: its events, what is planned of them, and how wide a reference is.
 #[derive(Clone, Copy)]
 pub struct Planned<'p, 'e> {
-    pub events: &'p Held<'e>,
+    pub events: &'p EventTable<'e>,
     pub plan: &'p Plan,
     pub width: usize,
 }
@@ -48,7 +48,11 @@ pub struct Planned<'p, 'e> {
 ///
 /// # Errors
 /// `OutOfMemory`, without an offset.
-pub fn plan_by_class(alloc: Global, events: &Held<'_>, classes: Classes) -> Result<Plan, Error>
+pub fn plan_by_class(
+    alloc: Global,
+    events: &EventTable<'_>,
+    classes: Classes,
+) -> Result<Plan, Error>
     requires whole { IsBracketed (plain_events events.now) }
     requires long { length classes.of ≡ length (plain_events events.now) }
     requires below { AllBelow classes.count classes.of }

@@ -8,17 +8,21 @@ use plist_base::{Error, Event};
 use std::io::Write;
 
 /// Puts a scalar. Of the start and the end of a collection nothing is told.
-pub fn put_scalar<W: Write>(out: &mut W, room: &mut Vec<u8>, event: &Event<'_>) -> Result<(), Error>
-    ensures { PutsScalar W.contents out.old room.old event.now result out.new room.new }
+pub fn put_scalar<W: Write>(
+    out: &mut W,
+    buffer: &mut Vec<u8>,
+    event: &Event<'_>,
+) -> Result<(), Error>
+    ensures { PutsScalar W.contents out.old buffer.old event.now result out.new buffer.new }
 {
     match event {
-        Event::Boolean(value) => put_boolean(out, room, *value),
-        Event::Data(data) => put_data(out, room, data.as_slice()),
-        Event::Date(date) => put_date(out, room, *date),
-        Event::Integer(value) => put_integer(out, room, *value),
-        Event::Real(bits) => put_real(out, room, *bits),
-        Event::String(text) => put_text(out, room, text.as_str()),
-        Event::Uid(uid) => put_uid(out, room, *uid),
+        Event::Boolean(value) => put_boolean(out, buffer, *value),
+        Event::Data(data) => put_data(out, buffer, data.as_slice()),
+        Event::Date(date) => put_date(out, buffer, *date),
+        Event::Integer(value) => put_integer(out, buffer, *value),
+        Event::Real(bits) => put_real(out, buffer, *bits),
+        Event::String(text) => put_text(out, buffer, text.as_str()),
+        Event::Uid(uid) => put_uid(out, buffer, *uid),
         Event::StartArray(_) | Event::StartDictionary(_) | Event::EndCollection => Ok(()),
     }
 }

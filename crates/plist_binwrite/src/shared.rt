@@ -4,11 +4,11 @@ ghost use Rattle.std.specs.Prelude.{List, ℕ};
 ghost use Rattle.plist_base.specs.Bracketing.{AreWhole};
 ghost use Rattle.plist_base.specs.Trees.{Tree};
 ghost use Rattle.plist_binwrite.specs.Files.{IsFileOf};
-ghost use Rattle.plist_binwrite.specs.Held.{plain_events};
+ghost use Rattle.plist_binwrite.specs.EventTable.{plain_events};
 ghost use Rattle.plist_binwrite.specs.Sizes.{file_size};
 
 use crate::completion;
-use crate::held::Held;
+use crate::event_table::EventTable;
 use plist_base::{Error, Sealed};
 use std::alloc::Global;
 use std::io::Write;
@@ -29,7 +29,11 @@ pub trait Sharing: Sealed + Drop {
     /// # Errors
     /// `PlistTooLarge` where the file would have 2^64 bytes or more, and `OutOfMemory`, before a
     /// byte was sent; `Io` after a beginning of the file was.
-    fn complete<W: Write>(alloc: Global, events: &Held<'_>, writer: &mut W) -> Result<(), Error>
+    fn complete<W: Write>(
+        alloc: Global,
+        events: &EventTable<'_>,
+        writer: &mut W,
+    ) -> Result<(), Error>
         requires whole { AreWhole (plain_events events.now) }
         ensures { SendsHeld IsFile size W.contents events.now result writer.old writer.new };
 }
@@ -45,7 +49,11 @@ impl Sharing for EqualScalars {
 
     ghost size = { file_size };
 
-    fn complete<W: Write>(alloc: Global, events: &Held<'_>, writer: &mut W) -> Result<(), Error> {
+    fn complete<W: Write>(
+        alloc: Global,
+        events: &EventTable<'_>,
+        writer: &mut W,
+    ) -> Result<(), Error> {
         completion::complete(alloc, events, writer)
     }
 }

@@ -5,19 +5,19 @@ ghost use Rattle.std.specs.Prelude.{◌≡◌, ◌+◌, ◌^◌, ◌<◌, ◌≤
 ghost use Rattle.plist_base.specs.Outcomes.{OnlyMemory};
 ghost use Rattle.plist_binwrite.specs.inner.Laying.{IsOrder};
 ghost use Rattle.plist_binwrite.specs.inner.Planning.{IsPlanned, count_of, events_in};
-ghost use Rattle.plist_binwrite.specs.Sizes.{TellsSize, size_with};
-ghost use Rattle.plist_binwrite.specs.inner.Sizing.{AreLaid, CountsItems, ExceedsWith, FitsWith, IsWritableAt, TellsEndOfFile, TellsSizeAt};
+ghost use Rattle.plist_binwrite.specs.Sizes.{IsSizeOrNone, size_with};
+ghost use Rattle.plist_binwrite.specs.inner.Sizing.{AreLaid, CountsItems, ExceedsWith, FitsWith, IsWritableAt, IsEndOrNone, IsSizeOrNoneAt};
 
+use crate::event_table::EventTable;
 use crate::forms::offset_width;
-use crate::held::Held;
-use crate::kinds::Kind;
+use crate::kinds::EntryKind;
 use crate::lengths::{add, length_of_collection, length_of_scalar};
 use crate::numbers::Numbers;
 use crate::plan::Planned;
 use plist_base::Error;
 
 /// The number of items of an array from here on; a key is an item, and so is its value.
-pub fn count_items(events: &Held<'_>, from: usize) -> usize
+pub fn count_items(events: &EventTable<'_>, from: usize) -> usize
     ensures value { CountsItems events.now from result }
     ensures small { result < 2 ^ 64 }
 {
@@ -35,15 +35,15 @@ fn size_of_object(file: &Planned<'_, '_>, index: usize) -> Option<u64>
     requires planned { IsPlanned (events_in file.now) file.now.plan.now }
     requires index { index < length (events_in file.now) }
     requires fits { count_of file.now.plan.now ≤ 256 ^ file.now.width }
-    ensures size { TellsSizeAt file.now index result }
+    ensures size { IsSizeOrNoneAt file.now index result }
     ensures writable { IsWritableAt file.now index }
 {
     match file.events.kind_at(index) {
-        Kind::Array => {
+        EntryKind::Array => {
             let count = count_items(file.events, index + 1) as u64;
             length_of_collection(count, count, file.width as u64)
         }
-        Kind::Dictionary => {
+        EntryKind::Dictionary => {
             let count = count_items(file.events, index + 1) as u64;
             length_of_collection(count / 2, count, file.width as u64)
         }
@@ -78,7 +78,7 @@ pub fn place_objects(
     requires fits { count_of file.now.plan.now ≤ 256 ^ file.now.width }
     requires order { IsOrder (count_of file.now.plan.now) order.now places.old }
     ensures long { OnOk result (length places.new ≡ count_of file.now.plan.now) }
-    ensures size { IfOk result (TellsEndOfFile file.now order.now) }
+    ensures size { IfOk result (IsEndOrNone file.now order.now) }
     ensures laid { IfOk result (AreLaid file.now order.now places.new) }
     ensures memory { OnlyMemory result }
 {
@@ -95,7 +95,7 @@ pub fn place_objects(
 
 // The size of a file with so many objects, whose offset table lies here.
 fn size_of_file(table: u64, count: u64) -> Option<u64>
-    ensures { (objects : ℕ) → table ≡ 8 + objects → TellsSize result (size_with count objects) }
+    ensures { (objects : ℕ) → table ≡ 8 + objects → IsSizeOrNone result (size_with count objects) }
 {
     let offsets = count.checked_mul(offset_width(table) as u64);
     add(add(Some(table), offsets), Some(32))

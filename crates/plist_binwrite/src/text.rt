@@ -11,25 +11,25 @@ use plist_base::Error;
 use std::io::Write;
 
 // Puts the one or two units of a character.
-fn put_char<W: Write>(out: &mut W, room: &mut Vec<u8>, c: char) -> Result<(), Error>
-    ensures { Puts W.contents out.old room.old (char_units c) result out.new room.new }
+fn put_char<W: Write>(out: &mut W, buffer: &mut Vec<u8>, c: char) -> Result<(), Error>
+    ensures { Puts W.contents out.old buffer.old (char_units c) result out.new buffer.new }
 {
     let code = u64::from(c as u32);
     if code < 0x1_0000 {
-        return put_number(out, room, 2, code);
+        return put_number(out, buffer, 2, code);
     }
     let above = code - 0x1_0000;
-    match put_number(out, room, 2, 0xd800 + above / 0x400) {
-        Ok(()) => put_number(out, room, 2, 0xdc00 + above % 0x400),
+    match put_number(out, buffer, 2, 0xd800 + above / 0x400) {
+        Ok(()) => put_number(out, buffer, 2, 0xdc00 + above % 0x400),
         Err(error) => Err(error),
     }
 }
 
-fn put_units<W: Write>(out: &mut W, room: &mut Vec<u8>, text: &str) -> Result<(), Error>
-    ensures { Puts W.contents out.old room.old (text_units text.now) result out.new room.new }
+fn put_units<W: Write>(out: &mut W, buffer: &mut Vec<u8>, text: &str) -> Result<(), Error>
+    ensures { Puts W.contents out.old buffer.old (text_units text.now) result out.new buffer.new }
 {
     for c in text.chars() {
-        match put_char(out, room, c) {
+        match put_char(out, buffer, c) {
             Ok(()) => {}
             Err(error) => return Err(error),
         }
@@ -67,33 +67,33 @@ pub fn is_ascii_text(text: &str) -> bool
     ascii
 }
 
-fn put_ascii<W: Write>(out: &mut W, room: &mut Vec<u8>, text: &str) -> Result<(), Error>
-    ensures { Puts W.contents out.old room.old (ascii_form text.now) result out.new room.new }
+fn put_ascii<W: Write>(out: &mut W, buffer: &mut Vec<u8>, text: &str) -> Result<(), Error>
+    ensures { Puts W.contents out.old buffer.old (ascii_form text.now) result out.new buffer.new }
 {
     let count = text.len();
-    match put_length(out, room, 0x5, count as u64) {
-        Ok(()) => put(out, room, text.as_bytes()),
+    match put_length(out, buffer, 0x5, count as u64) {
+        Ok(()) => put(out, buffer, text.as_bytes()),
         Err(error) => Err(error),
     }
 }
 
-fn put_wide<W: Write>(out: &mut W, room: &mut Vec<u8>, text: &str) -> Result<(), Error>
-    ensures { Puts W.contents out.old room.old (wide_form text.now) result out.new room.new }
+fn put_wide<W: Write>(out: &mut W, buffer: &mut Vec<u8>, text: &str) -> Result<(), Error>
+    ensures { Puts W.contents out.old buffer.old (wide_form text.now) result out.new buffer.new }
 {
     let count = count_units(text);
-    match put_length(out, room, 0x6, count as u64) {
-        Ok(()) => put_units(out, room, text),
+    match put_length(out, buffer, 0x6, count as u64) {
+        Ok(()) => put_units(out, buffer, text),
         Err(error) => Err(error),
     }
 }
 
 /// Puts a text: its bytes where all are ASCII, else its UTF-16 units.
-pub fn put_text<W: Write>(out: &mut W, room: &mut Vec<u8>, text: &str) -> Result<(), Error>
-    ensures { Puts W.contents out.old room.old (text_form text.now) result out.new room.new }
+pub fn put_text<W: Write>(out: &mut W, buffer: &mut Vec<u8>, text: &str) -> Result<(), Error>
+    ensures { Puts W.contents out.old buffer.old (text_form text.now) result out.new buffer.new }
 {
     if is_ascii_text(text) {
-        put_ascii(out, room, text)
+        put_ascii(out, buffer, text)
     } else {
-        put_wide(out, room, text)
+        put_wide(out, buffer, text)
     }
 }

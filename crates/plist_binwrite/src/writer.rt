@@ -2,9 +2,9 @@
 
 ghost use Rattle.std.specs.Prelude.{◌≡◌, false};
 ghost use Rattle.std.proofs.Props.{props};
-ghost use Rattle.plist_binwrite.specs.Pendings.{is_whole};
+ghost use Rattle.plist_binwrite.specs.EventBuffers.{is_whole};
 
-use crate::pending::Pending;
+use crate::event_buffer::EventBuffer;
 use crate::shared::{EqualScalars, Sharing};
 use plist_base::{Error, ErrorKind, Event, Sealed, Writer};
 use std::alloc::Global;
@@ -32,7 +32,7 @@ pub type BinaryWriter<W> = FileWriter<W, EqualScalars>;
 pub struct FileWriter<W: Write, S: Sharing> {
     writer: W,
     alloc: Global,
-    pending: Pending,
+    pending: EventBuffer,
     has_failed: bool,
     sharing: PhantomData<S>,
     ghost between: { has_failed ≡ false → is_whole pending ≡ false } by { Prim.hlevel props },
@@ -40,18 +40,18 @@ pub struct FileWriter<W: Write, S: Sharing> {
 
 impl<W: Write, S: Sharing> FileWriter<W, S> {
     ghost use Rattle.std.specs.Prelude.{◌≡◌, [], false};
-    ghost use Rattle.plist_binwrite.specs.FileWriter.{held_by, failed_of, inner_of};
+    ghost use Rattle.plist_binwrite.specs.FileWriter.{open_events, failed_of, sink_of};
 
     /// A writer that holds no events. It takes no memory, and sends nothing.
     pub fn new(alloc: Global, writer: W) -> Self
-        ensures held { held_by result ≡ [] }
+        ensures held { open_events result ≡ [] }
         ensures failed { failed_of result ≡ false }
-        ensures inner { inner_of result ≡ writer }
+        ensures inner { sink_of result ≡ writer }
     {
         FileWriter {
             writer,
             alloc,
-            pending: Pending::new(alloc),
+            pending: EventBuffer::new(alloc),
             has_failed: false,
             sharing: PhantomData,
         }
@@ -59,7 +59,7 @@ impl<W: Write, S: Sharing> FileWriter<W, S> {
 
     /// What takes the bytes. Events that are held are dropped.
     pub fn into_inner(self) -> W
-        ensures inner { result ≡ inner_of self }
+        ensures inner { result ≡ sink_of self }
     {
         let FileWriter { writer, .. } = self;
         writer
@@ -69,10 +69,10 @@ impl<W: Write, S: Sharing> FileWriter<W, S> {
 impl<W: Write, S: Sharing> Sealed for FileWriter<W, S> {}
 
 impl<W: Write, S: Sharing> Writer for FileWriter<W, S> {
-    ghost use Rattle.plist_binwrite.specs.FileWriter.{Takes, held_by, failed_of};
+    ghost use Rattle.plist_binwrite.specs.FileWriter.{Takes, open_events, failed_of};
     ghost use Rattle.plist_binwrite.specs.inner.Laws.{takes_law, takes_failed};
 
-    ghost held = { held_by };
+    ghost held = { open_events };
 
     ghost failed = { failed_of };
 

@@ -2,7 +2,7 @@
 //! bracket.
 
 ghost use Rattle.std.specs.Prelude.{◌≡◌, None, true};
-ghost use Rattle.plist_ascii.specs.AsciiReader.{HasEnded, inner_of, looked_at};
+ghost use Rattle.plist_ascii.specs.AsciiReader.{HasEndedAscii, device_of, looked_at};
 
 use plist_ascii::{AsciiReader, Bytes};
 use plist_base::Event;
@@ -17,7 +17,7 @@ pub fn device_again<R: Bytes>(alloc: Global, device: R) -> R
 
 /// The device of a reader that is asked once more: as it was, where the reader had ended.
 pub fn device_behind_end<R: Bytes + Drop>(reader: AsciiReader<R>) -> R
-    ensures { HasEnded reader → result ≡ inner_of reader }
+    ensures { HasEndedAscii reader → result ≡ device_of reader }
 {
     let mut reader = reader;
     let _item = reader.next();

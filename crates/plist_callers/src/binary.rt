@@ -1,7 +1,7 @@
 //! Proved callers of a reader: how many objects it tells of a file, and what comes behind a fault.
 
 ghost use Rattle.std.specs.Prelude.{◌≡◌, ◌≤◌, None, false};
-ghost use Rattle.plist_binread.specs.BinaryReader.{told_objects};
+ghost use Rattle.plist_binread.specs.BinaryReader.{objects_in_head};
 
 use plist_base::{Error, ErrorKind, OwnedEvent, Source};
 use plist_binread::BinaryReader;
@@ -11,12 +11,12 @@ use std::alloc::Global;
 /// no more than the file's head tells.
 pub fn count_objects(alloc: Global, bytes: &[u8]) -> (usize, usize)
     ensures before { result.0 ≡ 0 }
-    ensures behind { result.1 ≤ told_objects bytes.now }
+    ensures behind { result.1 ≤ objects_in_head bytes.now }
 {
     let mut reader = BinaryReader::new(alloc, bytes);
-    let before = reader.object_count();
+    let before = reader.objects_in_file();
     let _ = reader.advance();
-    (before, reader.object_count())
+    (before, reader.objects_in_file())
 }
 
 /// What a reader gives behind a fault, be it a limit's or a device's: nothing.
@@ -52,7 +52,7 @@ pub fn count_again<R: Source>(reader: &mut BinaryReader<R>) -> (usize, usize)
     ensures { result.0 ≡ result.1 }
 {
     let _ = reader.next();
-    let before = reader.object_count();
+    let before = reader.objects_in_file();
     let _ = reader.next();
-    (before, reader.object_count())
+    (before, reader.objects_in_file())
 }

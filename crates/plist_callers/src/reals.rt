@@ -1,7 +1,7 @@
 //! Proved callers of reals: the number of a value's bytes, and the value of a number.
 
 ghost use Rattle.std.specs.Prelude.{◌≡◌, Some, option_map};
-ghost use Rattle.plist_base.specs.Reals.{number_in, real_of};
+ghost use Rattle.plist_base.specs.Reals.{number_of_real, real_of};
 ghost use Rattle.plist.specs.Contents.{real_in};
 ghost use Rattle.plist.specs.Views.{tree_of};
 
@@ -9,7 +9,7 @@ use plist::{RealBits, Value};
 
 /// The number of a value that is a real.
 pub fn number_in_value(value: &Value) -> Option<f64>
-    ensures { result ≡ option_map number_in (real_in (tree_of value.now)) }
+    ensures { result ≡ option_map number_of_real (real_in (tree_of value.now)) }
 {
     Some(value.as_real()?.to_f64())
 }

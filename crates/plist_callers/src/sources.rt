@@ -42,7 +42,7 @@ pub fn sizes(bytes: &[u8], more: Vec<u8>) -> (Option<u64>, Option<u64>)
 pub fn lent(bytes: &[u8], more: &Vec<u8>, place: u64) -> (usize, usize)
     ensures { result ≡ (length (drop place bytes.now), length (drop place more.now.items)) }
 {
-    (bytes.near(place).len(), more.near(place).len())
+    (bytes.buffered(place).len(), more.buffered(place).len())
 }
 
 /// All bytes of a slice, read from its front on.

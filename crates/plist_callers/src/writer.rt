@@ -4,7 +4,7 @@
 ghost use Rattle.std.specs.Prelude.{◌≡◌, Err, IfErr, IfSome, ⊤};
 ghost use Rattle.plist_base.specs.Faults.{WriterFailed, error_kind_of, fault_nowhere, kind_of};
 ghost use Rattle.plist_base.specs.Writing.{MatchKind, answer_of};
-ghost use Rattle.plist_binwrite.specs.FileWriter.{inner_of};
+ghost use Rattle.plist_binwrite.specs.FileWriter.{sink_of};
 
 use plist_base::{Error, ErrorKind, Event, Writer};
 use plist_binwrite::BinaryWriter;
@@ -38,7 +38,7 @@ pub fn next_without_memory<W: Write + Drop>(
     next: Event<'_>,
 ) -> Option<(Result<(), Error>, W)>
     ensures failed { IfSome result (λ found. answer_of found.0 ≡ Err (fault_nowhere WriterFailed)) }
-    ensures inner { IfSome result (λ found. found.1 ≡ inner_of writer) }
+    ensures inner { IfSome result (λ found. found.1 ≡ sink_of writer) }
 {
     let mut writer = writer;
     match writer.write(event) {

@@ -7,10 +7,10 @@ use Rattle.plist_base.specs.Events.{PlainEvent, Item, event_of}
 use Rattle.plist_base.specs.Faults.{Fault, OutOfMemory, error_kind_of, fault_nowhere, fault_of, kind_of}
 use Rattle.plist_base.proofs.Refusals.{MatchFault-at, MatchFault-weaker}
 use Rattle.plist_base.specs.Sources.{ItemCountsIo}
-use Rattle.plist_binread.specs.Telling.{TellsItem}
+use Rattle.plist_binread.specs.Advancing.{GivesCurrent}
 use Rattle.plist_reader.specs.Reader.{GivesIfKnown, HoldsSource}
 use Rattle.plist.specs.Events.{BeginsWithStart}
-use Rattle.plist_commands.specs.Items.{ComesNext, GivesNext, failures_if_held}
+use Rattle.plist_commands.specs.Items.{ComesIfKnown, GivesNext, failures_if_held}
 use Rattle.plist_commands.specs.Printing.{IsOwnFault}
 
 abbrev Done : Type 0
@@ -26,7 +26,7 @@ any_fault (Some (Err error)) = tt
 -- ---- a binary reader
 
 told_next : (fresh : Bool) (before after : List Item) (item : Option (Result Done Error))
-    (told : PlainEvent) → TellsItem fresh before item told after
+    (told : PlainEvent) → GivesCurrent fresh before item told after
     → GivesNext before item told after
 told_next fresh before after None told h = h.0
 told_next fresh before after (Some (Ok done)) told h = h
@@ -36,8 +36,8 @@ told_next fresh before after (Some (Err error)) told h =
 
 pub told_comes : (k l : Option (List ℕ)) (before after : List ℕ → List Item) (fresh : Bool)
     (item : Option (Result Done Error)) (told : PlainEvent) → l ≡ k
-    → IfSome k (λ bytes. TellsItem fresh (before bytes) item told (after bytes))
-    → ComesNext (option_map before k) item told (option_map after l)
+    → IfSome k (λ bytes. GivesCurrent fresh (before bytes) item told (after bytes))
+    → ComesIfKnown (option_map before k) item told (option_map after l)
 told_comes None l before after fresh item told e h = tt
 told_comes (Some bytes) l before after fresh item told e h =
     (after bytes, ap (option_map after) e, told_next fresh (before bytes) (after bytes) item told h)
@@ -47,18 +47,18 @@ told_comes (Some bytes) l before after fresh item told e h =
 -- what came of it
 pub reader_event : (before after : Option (List Item)) (event : Event)
     → GivesIfKnown before (Some (Ok event)) after
-    → ComesNext {A = Done} before (Some (Ok tt)) (event_of event) after
+    → ComesIfKnown {A = Done} before (Some (Ok tt)) (event_of event) after
 reader_event None after event h = tt
 reader_event (Some all) after event h = h
 
 pub reader_none : (before after : Option (List Item)) (last : PlainEvent)
-    → GivesIfKnown before None after → ComesNext {A = Done} before None last after
+    → GivesIfKnown before None after → ComesIfKnown {A = Done} before None last after
 reader_none None after last h = tt
 reader_none (Some all) after last (left, is, none) = (left, is, none.0)
 
 pub reader_fault : (before after : Option (List Item)) (error : Error) (last : PlainEvent)
     → GivesIfKnown before (Some (Err error)) after
-    → ComesNext {A = Done} before (Some (Err error)) last after
+    → ComesIfKnown {A = Done} before (Some (Err error)) last after
 reader_fault None after error last h = tt
 reader_fault (Some all) after error last (left, is, gives) = (
   left,
@@ -97,16 +97,16 @@ some_left (e ∷ events) h = omega arith
 
 -- what came of a value's events
 pub value_none : (before after : List PlainEvent) (last : PlainEvent) → before ≡ [] → after ≡ []
-    → ComesNext {A = Done} (Some (map Ok before)) None last (Some (map Ok after))
+    → ComesIfKnown {A = Done} (Some (map Ok before)) None last (Some (map Ok after))
 value_none before after last none rest = (map Ok after, refl, ap (map Ok) none)
 
 pub value_event : (before after : List PlainEvent) (event : PlainEvent) → before ≡ event ∷ after
-    → ComesNext {A = Done} (Some (map Ok before)) (Some (Ok tt)) event (Some (map Ok after))
+    → ComesIfKnown {A = Done} (Some (map Ok before)) (Some (Ok tt)) event (Some (map Ok after))
 value_event before after event is = (map Ok after, refl, ap (map Ok) is)
 
 pub value_fault : (before after : List PlainEvent) (error : Error) (last : PlainEvent)
     → fault_of error ≡ fault_nowhere OutOfMemory
-    → ComesNext {A = Done} (Some (map Ok before)) (Some (Err error)) last (Some (map Ok after))
+    → ComesIfKnown {A = Done} (Some (map Ok before)) (Some (Err error)) last (Some (map Ok after))
 value_fault before after error last is = (
   map Ok after,
   refl,

@@ -12,7 +12,7 @@ use Rattle.plist_base.specs.Sources.{CountsIo, Rises}
 use Rattle.plist_base.proofs.Fronts.{Appends-at}
 use Rattle.plist_base.proofs.Refusals.{MatchFault-all, MatchFault-at, MatchFault-weaker}
 use Rattle.plist_commands.specs.Fronts.{PassesOn}
-use Rattle.plist_commands.specs.Items.{ComesNext, GivesNext}
+use Rattle.plist_commands.specs.Items.{ComesIfKnown, GivesNext}
 use Rattle.plist_commands.specs.Lines.{line_of, lines_of, first_fault}
 use Rattle.plist_commands.specs.Printing.{CountsReads, IsOwnFault, PrintsAll, PrintsUntil}
 
@@ -165,11 +165,11 @@ pub record Came (items coming after : Option (List Item)) (old now : Option (Lis
 
 pub came : (items coming after : Option (List Item)) (old now : Option (List ℕ)) (held : List ℕ)
     (item : Option (Result (Unit {0}) Error)) (last : PlainEvent)
-    → HasPassed items coming old now held → ComesNext coming item last after
+    → HasPassed items coming old now held → ComesIfKnown coming item last after
     → Came items coming after old now held item last
 came items coming after old now held item last passed comes = record {
   next = IfSome_then items passed (λ all (left, is, p).
-      let c = subst (λ o. ComesNext o item last after) is comes in (left, c.0, p, c.1, c.2));
+      let c = subst (λ o. ComesIfKnown o item last after) is comes in (left, c.0, p, c.1, c.2));
 }
 
 module _ {items coming after : Option (List Item)} {old now : Option (List ℕ)} {held : List ℕ}

@@ -4,7 +4,7 @@ use Rattle.std.specs.Io.KnownBytes.{Appends, Keeps}
 use Rattle.std.specs.Prelude.{IsErrAnd}
 use Rattle.std.proofs.KnownBytes.{Appends-nil, Appends-trans}
 use Rattle.std.proofs.lemmas.List.{map-append}
-use Rattle.plist_base.specs.Bracketing.{unhinted}
+use Rattle.plist_base.specs.Bracketing.{without_length}
 use Rattle.plist_base.specs.Sources.{CountsIo, Rises}
 use Rattle.plist_commands.specs.declared.convert.Streamed.{Streamed}
 use Rattle.plist_commands.specs.declared.convert.Streamed.TheVariants.{NeedsValue}
@@ -211,7 +211,7 @@ module _ {I : Type 0} (goes : I → Gone → I → Type 0) (last : I → PlainEv
   HasHeld old now held =
       (events : List PlainEvent)
       × GoesThrough goes last old events now
-      × (held ≡ map unhinted events)
+      × (held ≡ map without_length events)
 
   pub held_none : (old : I) (held : List PlainEvent) → held ≡ [] → HasHeld old old held
   held_none old held none = ([], refl, none)
@@ -219,12 +219,12 @@ module _ {I : Type 0} (goes : I → Gone → I → Type 0) (last : I → PlainEv
   -- one event more
   pub held_more : (old now new : I) (held longer : List PlainEvent) → HasHeld old now held
       → goes now (Some (Ok tt)) new
-      → longer ≡ held ++ unhinted (last new) ∷ [] → HasHeld old new longer
+      → longer ≡ held ++ without_length (last new) ∷ [] → HasHeld old new longer
   held_more old now new held longer (events, through, is) step more = (
     events ++ last new ∷ [],
     one_more goes last events old now new through step,
-    more ∙ ap (λ l. l ++ unhinted (last new) ∷ []) is
-        ∙ sym (map-append unhinted events (last new ∷ [])),
+    more ∙ ap (λ l. l ++ without_length (last new) ∷ []) is
+        ∙ sym (map-append without_length events (last new ∷ [])),
   )
 
   -- a fault came

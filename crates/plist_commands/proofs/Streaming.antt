@@ -3,7 +3,7 @@ use Rattle.std.specs.Prelude.{⊤}
 use Rattle.std.proofs.Common.{◌≡◌, ◌↔◌, ℕ, Bool, true, false, List, [], ◌∷◌, ◌++◌, Option, Some, None, Result, Ok, Err, IfErr, IfSome, inl, map, refl, sym, ap, ◌∙◌, append-nil}
 use Rattle.std.specs.Option.{option_map}
 use Rattle.plist_base.specs.declared.error.Error.{Error}
-use Rattle.plist_base.specs.Bracketing.{bracketing, unhinted, AreAlike, AreWhole, CanContinue}
+use Rattle.plist_base.specs.Bracketing.{bracketing, without_length, AreAlike, AreWhole, CanContinue}
 use Rattle.plist_base.specs.Events.{PlainEvent, Item}
 use Rattle.plist_base.specs.Faults.{Fault, MatchFault, error_kind_of, kind_of, offset_of}
 use Rattle.plist_base.specs.Trees.{Tree, Leaf, Array, Dictionary}
@@ -11,7 +11,7 @@ use Rattle.plist_base.proofs.Grammar.{alike_last, alike_with, complete_of_whole,
 use Rattle.plist_base.specs.Writing.{Answer}
 use Rattle.plist_format.specs.Unfolding.{items_of_file}
 use Rattle.plist_binwrite.specs.Keys.{HasKeysOnce}
-use Rattle.plist_binwrite.specs.Pendings.{TellsWhole}
+use Rattle.plist_binwrite.specs.EventBuffers.{TestsWhole}
 use Rattle.plist_binwrite.specs.Sending.{Sends}
 use Rattle.plist_reader.specs.declared.format.Format.TheVariants as format
 use Rattle.plist_reader.specs.Formats.{format_of}
@@ -19,13 +19,13 @@ use Rattle.plist_reader.specs.Reader.{items_by, items_of_input}
 use Rattle.plist.specs.Building.{Unfinished, NotBegun, IsNested, events_so_far}
 use Rattle.plist.specs.Inputs.{AreOf, IsReadFrom}
 use Rattle.plist.specs.LastWins.{last_wins}
-use Rattle.plist.specs.inner.Following.{taken, continues-accepted}
+use Rattle.plist.specs.inner.Following.{taken_before, continues-accepted}
 use Rattle.plist.proofs.Gathered.{sends_tree}
 use Rattle.plist.proofs.Inputs.{all-events, event-more, no-events, stops-there}
 use Rattle.plist.proofs.KeysOnce.{keys-once}
 use Rattle.plist_keyed.proofs.Told.{same_of}
 use Rattle.plist_commands.specs.Converting.{HoldsTree, AreNoTree, IsDirect, SendsRead, items_of_known}
-use Rattle.plist_commands.specs.Items.{ComesNext, GivesNext}
+use Rattle.plist_commands.specs.Items.{ComesIfKnown, GivesNext}
 
 -- of the items these events were taken, which are alike to those held, and these items are to come
 abbrev TookOf : (all coming : List Item) → (held : List PlainEvent) → Type 0
@@ -42,7 +42,7 @@ pub taken_none : (items coming : Option (List Item)) (held : List PlainEvent) �
     → held ≡ [] → HasTaken items coming held
 taken_none None coming held e h = tt
 taken_none (Some all) coming held e h =
-    (all, e, ([], NotBegun, refl, tt, refl, ap (map unhinted) (sym h)))
+    (all, e, ([], NotBegun, refl, tt, refl, ap (map without_length) (sym h)))
 
 -- a call: what was left of all items, what is left now, and what the call gave
 abbrev pub Came : (items now : Option (List Item)) (held : List PlainEvent)
@@ -53,8 +53,8 @@ Came items now held item told = IfSome items (λ all.
 
 pub came_next : (items before now : Option (List Item)) (held : List PlainEvent)
     (item : Option (Result (Unit {0}) Error)) (told : PlainEvent)
-    → HasTaken items before held → ComesNext before item told now → Came items now held item told
-came_next None before now held item told taken comes = tt
+    → HasTaken items before held → ComesIfKnown before item told now → Came items now held item told
+came_next None before now held item told taken_before comes = tt
 came_next (Some all) before now held item told (left, is, took) comes =
     let (next, to, gives) = rw is at comes in (left, next, took, to, gives)
 
@@ -65,39 +65,39 @@ no_tree (Leaf x) p = cc
 no_tree (Array ts) p = cc
 no_tree (Dictionary ms) p = cc
 
-pub tells_none : (b : Bool) (held : List PlainEvent) → b ≡ false → held ≡ [] → TellsWhole b held
+pub tells_none : (b : Bool) (held : List PlainEvent) → b ≡ false → held ≡ [] → TestsWhole b held
 tells_none b held is none =
-    rw is (λ w. no_tree w.0 (sym (ap (map unhinted) none) ∙ w.1))
+    rw is (λ w. no_tree w.0 (sym (ap (map without_length) none) ∙ w.1))
 
-tells_alike : (b : Bool) (left right : List PlainEvent) → AreAlike left right → TellsWhole b left
-    → TellsWhole b right
+tells_alike : (b : Bool) (left right : List PlainEvent) → AreAlike left right → TestsWhole b left
+    → TestsWhole b right
 tells_alike true left right p t = complete_of_whole right (whole_alike left right p t.0)
 tells_alike false left right p t = λ w. t (whole_alike right left (sym p) w)
 
 pub tells_next : (b : Bool) (held new : List PlainEvent) (e : PlainEvent)
-    → new ≡ held ++ unhinted e ∷ [] → TellsWhole b (held ++ e ∷ []) → TellsWhole b new
+    → new ≡ held ++ without_length e ∷ [] → TestsWhole b (held ++ e ∷ []) → TestsWhole b new
 tells_next b held new e is =
-    tells_alike b (held ++ e ∷ []) new (sym (ap (map unhinted) is ∙ alike_last held e))
+    tells_alike b (held ++ e ∷ []) new (sym (ap (map without_length) is ∙ alike_last held e))
 
 -- ---- of the items that were taken
 
 module _ (all before : List Item) (held : List PlainEvent) (took : TookOf all before held) where
   -- one more event
   pub took_event : (after : List Item) (e : PlainEvent) (new : List PlainEvent)
-      → before ≡ Ok e ∷ after → CanContinue held e → new ≡ held ++ unhinted e ∷ []
+      → before ≡ Ok e ∷ after → CanContinue held e → new ≡ held ++ without_length e ∷ []
       → TookOf all after new
   took_event after e new b can grown =
       let (events, u, is, ok, alike, like) = took in
       let r = continues-accepted u e ok
       ((continue_alike held (events_so_far u) (sym like ∙ sym alike) e).0 can) in
-      let w = taken u e ok r in (
+      let w = taken_before u e ok r in (
         events ++ e ∷ [],
         w.0,
         is ∙ ap (λ l. map Ok events ++ l) b ∙ event-more events e after,
         w.2,
         w.3 ∙ alike_with (events_so_far u) events (e ∷ []) alike,
         alike_with events held (e ∷ []) like ∙ sym (alike_last held e)
-            ∙ ap (map unhinted) (sym grown),
+            ∙ ap (map without_length) (sym grown),
       )
 
   -- the reader's fault
@@ -123,7 +123,7 @@ module _ (all before : List Item) (held : List PlainEvent) (took : TookOf all be
         f.0,
         tree,
         alike_with held events (e ∷ f.0) (sym like)
-            ∙ ap (map unhinted) (ap (λ l. events ++ l) (sym f.1) ∙ sym s.2) ∙ whole,
+            ∙ ap (map without_length) (ap (λ l. events ++ l) (sym f.1) ∙ sym s.2) ∙ whole,
       )
 
   -- the items are those of the tree whose events are held at the end
@@ -148,7 +148,7 @@ module _ (all before : List Item) (held : List PlainEvent) (took : TookOf all be
       (sym (is ∙ ap (λ l. map Ok events ++ l) none) ∙ same) in
       let e : others ≡ events = s.2 ∙ ap (λ l. events ++ l) (no-events s.0 s.1) ∙ append-nil events
       in
-      (tree, sym like ∙ ap (map unhinted) (sym e) ∙ whole)
+      (tree, sym like ∙ ap (map without_length) (sym e) ∙ whole)
 
 -- ---- the format
 

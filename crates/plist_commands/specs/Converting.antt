@@ -8,7 +8,7 @@ use Rattle.plist_base.specs.Events.{PlainEvent, Item}
 use Rattle.plist_base.specs.Faults.{Fault, fault_of}
 use Rattle.plist_base.specs.Trees.{Tree}
 use Rattle.plist_base.specs.Writing.{Answer}
-use Rattle.plist_binread.specs.BinaryReader.{source_of, to_come}
+use Rattle.plist_binread.specs.BinaryReader.{binary_source, items_to_come}
 use Rattle.plist_binread.specs.declared.counter.DecodeCounter.{Ghosts as CounterGhosts}
 use Rattle.plist_binread.specs.declared.reader.BinaryReader.{BinaryReader}
 use Rattle.plist_binwrite.specs.Files.{IsFileOf}
@@ -67,7 +67,8 @@ IfOkIs answer wanted P = IfOk answer (λ found. found ≡ wanted → P)
 -- the items that a reader has still to give, where its source's bytes are known
 abbrev pub items_left : {S C : Type 0} {g : Ghosts S} {h : CounterGhosts C}
     → (known : S → Option (List ℕ)) → BinaryReader S C g h → Option (List Item)
-items_left known reader = option_map (λ bytes. to_come bytes reader) (known (source_of reader))
+items_left known reader = option_map (λ bytes. items_to_come bytes reader) (known
+    (binary_source reader))
 
 -- the events are a tree's, and the items are of that tree
 abbrev pub HoldsTree : (items : Option (List Item)) → (held : List PlainEvent) → Type 0

@@ -25,9 +25,9 @@ text_of_complaint (OfArchive error) = text_of_error error
 text_of_complaint NoSuchTop = codes "NoSuchTop"
 
 -- what contracts see of a command's answer
-abbrev pub Outcome : Type 0
-Outcome = Result (Unit {0}) Complaint
+abbrev pub CommandOutcome : Type 0
+CommandOutcome = Result (Unit {0}) Complaint
 
-abbrev pub outcome_of : {A : Type 0} → Result A Failure → Outcome
+abbrev pub outcome_of : {A : Type 0} → Result A Failure → CommandOutcome
 outcome_of (Ok done) = Ok tt
 outcome_of (Err failure) = Err (complaint_of failure)

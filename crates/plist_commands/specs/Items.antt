@@ -12,16 +12,17 @@ use Rattle.plist.specs.Events.{remaining_events}
 -- What was to come begins with this item and goes on with what is to come then; nothing comes only
 -- where nothing was to come. A device's fault and want of memory may come anywhere.
 abbrev pub GivesNext : {A : Type 0} → (before : List Item) → Option (Result A Error)
-    → (told : PlainEvent) → (after : List Item) → Type 0
-GivesNext before item told after = MatchOption item (before ≡ []) (λ answer. MatchResult answer
-    (λ _. before ≡ Ok told ∷ after)
+    → (current : PlainEvent) → (after : List Item) → Type 0
+GivesNext before item current after = MatchOption item (before ≡ []) (λ answer. MatchResult answer
+    (λ _. before ≡ Ok current ∷ after)
     (λ error. MatchFault (kind_of (error_kind_of error)) ⊤ ⊤ (before ≡ Err (fault_of error) ∷ after)))
 
 -- the same, where the items to come are known
-abbrev pub ComesNext : {A : Type 0} → (before : Option (List Item)) → Option (Result A Error)
-    → (told : PlainEvent) → (after : Option (List Item)) → Type 0
-ComesNext before item told after =
-    IfSome before (λ all. (left : List Item) × (after ≡ Some left) × GivesNext all item told left)
+abbrev pub ComesIfKnown : {A : Type 0} → (before : Option (List Item)) → Option (Result A Error)
+    → (current : PlainEvent) → (after : Option (List Item)) → Type 0
+ComesIfKnown before item current after =
+    IfSome before (λ all. (left : List Item) × (after ≡ Some left)
+    × GivesNext all item current left)
 
 -- the items that are still to come of a reader whose last event is held
 abbrev pub items_to_read : {S : Type 0} {g : Ghosts S} → (known : S → Option (List ℕ))

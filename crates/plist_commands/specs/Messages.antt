@@ -7,27 +7,27 @@ use Rattle.plist_commands.specs.declared.messages.Message.{Message}
 use Rattle.plist_commands.specs.declared.messages.Message.TheVariants as message
 
 -- how the program is used, or why a command was refused
-pub data Said : Type 0 where
-  Usage : Said
-  Fault : Complaint → Said
+pub data PlainMessage : Type 0 where
+  Usage : PlainMessage
+  Fault : Complaint → PlainMessage
 
 -- what contracts see of a message
-abbrev pub said_of : Message → Said
-said_of message.Usage = Usage
-said_of (message.Fault failure) = Fault (complaint_of failure.now)
+abbrev pub plain_message_of : Message → PlainMessage
+plain_message_of message.Usage = Usage
+plain_message_of (message.Fault failure) = Fault (complaint_of failure.now)
 
 -- what is said of wrong words
 abbrev pub usage : List ℕ
 usage = codes "Usage: plist_tool print FILE | convert IN OUT | keyed FILE KEY\n"
 
 -- the text of a message
-abbrev pub message_text : Said → List ℕ
+abbrev pub message_text : PlainMessage → List ℕ
 message_text Usage = usage
 message_text (Fault complaint) = codes "Error: " ++ text_of_complaint complaint ++ codes "\n"
 
 -- what a writer took of a message: all of it where no write failed, and else of the usage a
 -- beginning
-abbrev pub TakesMessage : Said → (told : Bool) → (old new : Option (List ℕ)) → Type 0
+abbrev pub TakesMessage : PlainMessage → (whole : Bool) → (old new : Option (List ℕ)) → Type 0
 TakesMessage said true old new = Appends old new (message_text said)
 TakesMessage Usage false old new = AppendsFront old new usage
 TakesMessage (Fault complaint) false old new = Unit {0}

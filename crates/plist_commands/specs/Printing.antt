@@ -7,7 +7,7 @@ use Rattle.plist_base.specs.declared.source.Source.{Ghosts}
 use Rattle.plist_base.specs.Bracketing.{bracketing}
 use Rattle.plist_base.specs.Events.{Item}
 use Rattle.plist_base.specs.Sources.{Rises}
-use Rattle.plist_binread.specs.BinaryReader.{source_of}
+use Rattle.plist_binread.specs.BinaryReader.{binary_source}
 use Rattle.plist_format.specs.Unfolding.{items_of_file}
 use Rattle.plist_binread.specs.declared.counter.DecodeCounter.{Ghosts as CounterGhosts}
 use Rattle.plist_binread.specs.declared.reader.BinaryReader.{BinaryReader}
@@ -83,4 +83,4 @@ CountsReads answer old new = MatchResult answer (λ _. new ≡ old)
 abbrev pub CountsReadsOf : {S C A : Type 0} {g : Ghosts S} {h : CounterGhosts C}
     → (failures : S → ℕ) → BinaryReader S C g h → Result A Error → BinaryReader S C g h → Type 0
 CountsReadsOf failures old answer new =
-    CountsReads answer (failures (source_of old)) (failures (source_of new))
+    CountsReads answer (failures (binary_source old)) (failures (binary_source new))

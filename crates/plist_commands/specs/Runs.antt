@@ -3,14 +3,14 @@ use Rattle.std.specs.Prelude.{◌≡◌, ◌⊎◌, ℕ, Bool, true, false, List
 use Rattle.std.specs.Io.KnownBytes.{Appends}
 use Rattle.plist_base.specs.declared.error.Error.{Error}
 use Rattle.plist_base.specs.declared.source.Source.{Ghosts}
-use Rattle.plist_base.specs.Bracketing.{unhinted}
+use Rattle.plist_base.specs.Bracketing.{without_length}
 use Rattle.plist_base.specs.Events.{PlainEvent, event_of}
 use Rattle.plist_base.specs.Faults.{IsIo, OutOfMemory, error_kind_of, fault_nowhere, fault_of, kind_of, offset_of}
 use Rattle.plist_base.specs.Fronts.{AppendsFront}
 use Rattle.plist_base.specs.Sources.{Rises}
-use Rattle.plist_binread.specs.BinaryReader.{is_new, source_of}
+use Rattle.plist_binread.specs.BinaryReader.{is_new, binary_source}
 use Rattle.plist_binread.specs.Failures.{HasPlace}
-use Rattle.plist_binread.specs.Telling.{Tells, event_told}
+use Rattle.plist_binread.specs.Advancing.{Advances, current_event}
 use Rattle.plist_reader.specs.Reader.{Gives, OfFile, is_limited, source_of as source_of_any}
 use Rattle.plist_commands.specs.declared.stream.ReaderEvents.{ReaderEvents}
 use Rattle.plist_commands.specs.declared.convert.Streamed.{Streamed}
@@ -52,21 +52,21 @@ module _ {I : Type 0} (goes : I → Gone → I → Type 0) (last : I → PlainEv
   HoldsRun old answer new held =
       (events : List PlainEvent) × (left : I) × GoesThrough old events left × MatchResult answer
       (λ whole. IsAskedOnce left new
-      × (whole ≡ true → goes left None new × (held ≡ map unhinted events)))
+      × (whole ≡ true → goes left None new × (held ≡ map without_length events)))
       (λ error. goes left (Some (Err error)) new
       ⊎ ((fault_of error ≡ fault_nowhere OutOfMemory) × (new ≡ left)))
 
 -- the calls of a reader of a binary source
 abbrev pub AdvancesBinary : {S : Type 0} {g : Ghosts S} (known : S → Option (List ℕ)) (failed : S → ℕ)
     → OfFile S g → Gone → OfFile S g → Type 0
-AdvancesBinary known failed old item new = Tells known failed ⊥ (λ _. 0) old item new
+AdvancesBinary known failed old item new = Advances known failed ⊥ (λ _. 0) old item new
 
 -- what was printed of the events that a reader had still to give
 abbrev pub PrintsReader : {S : Type 0} {g : Ghosts S} (known : S → Option (List ℕ)) (failed : S → ℕ)
     → OfFile S g → Result (Unit {0}) Error → OfFile S g → (before after : Option (List ℕ))
     → Type 0
 PrintsReader known failed old answer new before after =
-    PrintsRun (AdvancesBinary known failed) event_told old answer new before after
+    PrintsRun (AdvancesBinary known failed) current_event old answer new before after
 
 -- the same of a reader that holds this very source and has given nothing, and the source's failures
 abbrev pub PrintsSource : {S : Type 0} (known : S → Option (List ℕ)) (failed : S → ℕ) (source : S)
@@ -74,7 +74,7 @@ abbrev pub PrintsSource : {S : Type 0} (known : S → Option (List ℕ)) (failed
 PrintsSource {S} known failed source answer before after =
     (reader : OfFile S (record { known = known; failures = failed }))
     × (left : OfFile S (record { known = known; failures = failed }))
-    × (source_of reader ≡ source) × (is_new reader ≡ true)
+    × (binary_source reader ≡ source) × (is_new reader ≡ true)
     × PrintsReader known failed reader answer left before after
     × CountsReadsOf failed reader answer left
 
@@ -98,8 +98,8 @@ abbrev pub HoldsBinary : {S : Type 0} (known : S → Option (List ℕ)) (failed 
 HoldsBinary {S} known failed source answer held =
     (reader : OfFile S (record { known = known; failures = failed }))
     × (left : OfFile S (record { known = known; failures = failed }))
-    × (source_of reader ≡ source) × (is_new reader ≡ true)
-    × HoldsRun (AdvancesBinary known failed) event_told reader answer left held
+    × (binary_source reader ≡ source) × (is_new reader ≡ true)
+    × HoldsRun (AdvancesBinary known failed) current_event reader answer left held
     × CountsReadsOf failed reader answer left
 
 -- the same of a reader of a source of any format

@@ -53,7 +53,7 @@ pub fn text_of_failure(alloc: Global, failure: &Failure) -> Option<Vec<u8>>
         ≡ codes "Error: " ++ text_of_complaint (complaint_of failure.now) ++ codes "\n") }
 {
     let mut text = Vec::new(alloc);
-    match text.tell(Message::Fault(failure)) {
+    match text.report(Message::Fault(failure)) {
         Ok(()) => Some(text),
         Err(_) => None,
     }
@@ -78,7 +78,7 @@ pub fn status_of_no_words<R: Commands, O: Write, E: Messages>(
 ) -> u8
     ensures wrong { result ≡ 2 }
     ensures silent { out.new ≡ out.old }
-    ensures usage { (told : Bool) × E.tells err.old Usage told err.new }
+    ensures usage { (whole : Bool) × E.reports err.old Usage whole err.new }
 {
     run_words(rt, alloc, &[], out, err)
 }
@@ -108,7 +108,7 @@ pub fn is_refused<R: Commands, O: Write, E: Messages>(
 ) -> bool
     ensures { result ≡ true → (complaint : Complaint)
         × Answered (R.answers rt.now) O.contents words.now out.old (Err complaint) out.new
-        × (told : Bool) × E.tells err.old (Fault complaint) told err.new }
+        × (whole : Bool) × E.reports err.old (Fault complaint) whole err.new }
 {
     run_words(rt, alloc, words, out, err) == 1
 }

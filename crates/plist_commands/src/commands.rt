@@ -1,9 +1,9 @@
 //! What the words after the program's name ask for, and how it is done.
 
 ghost use Rattle.std.specs.Prelude.{◌≡◌, ℕ, ◌↔◌, List, Option, Bool, map, string_bytes, IfSome, IsNone};
-ghost use Rattle.plist_commands.specs.Failures.{Outcome};
+ghost use Rattle.plist_commands.specs.Failures.{CommandOutcome};
 ghost use Rattle.plist_commands.specs.Messages.{Usage};
-ghost use Rattle.plist_commands.specs.Commands.{Asked, asked_of, words_for, IsWrong, EndsBy, Performs};
+ghost use Rattle.plist_commands.specs.Commands.{PlainCommand, plain_command_of, words_for, IsWrong, EndsBy, Performs};
 
 use crate::convert::convert_file;
 use crate::failure::Failure;
@@ -29,7 +29,8 @@ pub enum Command<'a> {
 
 /// The command that the words ask for, or `None` if they are no command.
 pub fn command_of(words: &[String]) -> Option<Command<'_>>
-    ensures found { IfSome result (λ c. map string_bytes words.now ≡ words_for (asked_of c)) }
+    ensures found { IfSome result (λ c. map string_bytes words.now
+        ≡ words_for (plain_command_of c)) }
     ensures wrong { IsNone result ↔ IsWrong (map string_bytes words.now) }
 {
     match words {
@@ -47,7 +48,7 @@ pub fn command_of(words: &[String]) -> Option<Command<'_>>
 /// Does commands. It is a trait so that a clause can name what a command answered.
 pub trait Commands {
     /// What a command may have answered, and what an output then holds that tells its bytes.
-    ghost answers: { Self → Asked → (old : Option (List ℕ)) → Outcome
+    ghost answers: { Self → PlainCommand → (old : Option (List ℕ)) → CommandOutcome
         → (new : Option (List ℕ)) → Type 0 };
 
     /// Does a command. What it prints goes to `out`.
@@ -107,18 +108,18 @@ pub fn run_words<R: Commands, O: Write, E: Messages>(
 ) -> u8
     ensures wrong { (result ≡ 2) ↔ IsWrong (map string_bytes words.now) }
     ensures silent { result ≡ 2 → out.new ≡ out.old }
-    ensures usage { result ≡ 2 → (told : Bool) × E.tells err.old Usage told err.new }
-    ensures ends { EndsBy (R.answers rt.now) O.contents E.tells words.now result out.old out.new
+    ensures usage { result ≡ 2 → (whole : Bool) × E.reports err.old Usage whole err.new }
+    ensures ends { EndsBy (R.answers rt.now) O.contents E.reports words.now result out.old out.new
         err.old err.new }
 {
     let Some(command) = command_of(words) else {
-        let _ = err.tell(Message::Usage);
+        let _ = err.report(Message::Usage);
         return 2;
     };
     match rt.perform(alloc, command, out) {
         Ok(()) => 0,
         Err(failure) => {
-            let _ = err.tell(Message::Fault(&failure));
+            let _ = err.report(Message::Fault(&failure));
             1
         }
     }

@@ -3,7 +3,7 @@
 ghost use Rattle.std.specs.Prelude.{◌≡◌, true, false, IfErr, IfSome, None};
 ghost use Rattle.plist_base.specs.Bracketing.{AreWhole};
 ghost use Rattle.plist_base.specs.Faults.{offset_of};
-ghost use Rattle.plist_binwrite.specs.Pendings.{events_held, is_whole};
+ghost use Rattle.plist_binwrite.specs.EventBuffers.{buffered_events, is_whole};
 ghost use Rattle.plist_reader.specs.Formats.{format_of};
 ghost use Rattle.plist_commands.specs.Converting.{AreNoTree, FindsTree, IfOkIs, IsRefusedFor, IsStoppedFor, LeavesToValue, OfHeld, SendsAll, items_of_known};
 ghost use Rattle.plist_commands.specs.Holding.{IsEmpty};
@@ -19,8 +19,8 @@ use plist::{Output, Value};
 use plist_base::{Error, Source};
 use plist_binread::BinaryReader;
 use plist_binwrite::complete;
+use plist_binwrite::event_buffer::EventBuffer;
 use plist_binwrite::keys::repeats_key;
-use plist_binwrite::pending::Pending;
 use plist_reader::{Format, format_of};
 use std::alloc::Global;
 use std::io::Write;
@@ -67,13 +67,18 @@ fn hold_events<I: Items, H: Holder>(
 
 // Holds the events of a binary source.
 #[inline(never)]
-fn hold_binary<S: Source>(alloc: Global, source: S, pending: &mut Pending) -> Result<bool, Error>
-    requires empty { IsEmpty (is_whole pending.old) (events_held pending.old) }
+fn hold_binary<S: Source>(
+    alloc: Global,
+    source: S,
+    pending: &mut EventBuffer,
+) -> Result<bool, Error>
+    requires empty { IsEmpty (is_whole pending.old) (buffered_events pending.old) }
     requires binary { IfSome (S.known source) (λ bytes. Format.Binary ≡ format_of bytes) }
-    ensures held { FindsTree (items_of_known (S.known source)) result (events_held pending.new) }
+    ensures held { FindsTree (items_of_known (S.known source)) result
+        (buffered_events pending.new) }
     ensures none { IfOkIs result false (AreNoTree (items_of_known (S.known source))) }
     ensures refused { IsRefusedFor (items_of_known (S.known source)) result }
-    ensures answers { HoldsBinary S.known S.failures source result (events_held pending.new) }
+    ensures answers { HoldsBinary S.known S.failures source result (buffered_events pending.new) }
 {
     let mut reader = BinaryReader::new(alloc, source);
     hold_events(alloc, &mut reader, pending)
@@ -82,12 +87,13 @@ fn hold_binary<S: Source>(alloc: Global, source: S, pending: &mut Pending) -> Re
 // Holds the events of a source of any format. It stands apart, since what it moves takes much of the
 // call stack.
 #[inline(never)]
-fn hold_any<S: Source>(alloc: Global, source: S, pending: &mut Pending) -> Result<bool, Error>
-    requires empty { IsEmpty (is_whole pending.old) (events_held pending.old) }
-    ensures held { FindsTree (items_of_known (S.known source)) result (events_held pending.new) }
+fn hold_any<S: Source>(alloc: Global, source: S, pending: &mut EventBuffer) -> Result<bool, Error>
+    requires empty { IsEmpty (is_whole pending.old) (buffered_events pending.old) }
+    ensures held { FindsTree (items_of_known (S.known source)) result
+        (buffered_events pending.new) }
     ensures none { IfOkIs result false (AreNoTree (items_of_known (S.known source))) }
     ensures refused { IsRefusedFor (items_of_known (S.known source)) result }
-    ensures answers { HoldsOther S.known S.failures source result (events_held pending.new) }
+    ensures answers { HoldsOther S.known S.failures source result (buffered_events pending.new) }
 {
     let mut events = ReaderEvents::new(alloc, source);
     hold_events(alloc, &mut events, pending)
@@ -95,12 +101,17 @@ fn hold_any<S: Source>(alloc: Global, source: S, pending: &mut Pending) -> Resul
 
 // Holds the events of a source, and tells whether they are those of a tree. The source isn't needed
 // then.
-fn hold_source<S: Source>(alloc: Global, source: S, pending: &mut Pending) -> Result<bool, Error>
-    requires empty { IsEmpty (is_whole pending.old) (events_held pending.old) }
-    ensures held { FindsTree (items_of_known (S.known source)) result (events_held pending.new) }
+fn hold_source<S: Source>(
+    alloc: Global,
+    source: S,
+    pending: &mut EventBuffer,
+) -> Result<bool, Error>
+    requires empty { IsEmpty (is_whole pending.old) (buffered_events pending.old) }
+    ensures held { FindsTree (items_of_known (S.known source)) result
+        (buffered_events pending.new) }
     ensures none { IfOkIs result false (AreNoTree (items_of_known (S.known source))) }
     ensures refused { IsRefusedFor (items_of_known (S.known source)) result }
-    ensures answers { ReadsSource S.known S.failures source result (events_held pending.new) }
+    ensures answers { ReadsSource S.known S.failures source result (buffered_events pending.new) }
 {
     let mut source = source;
     match format_of(&mut source) {
@@ -111,13 +122,17 @@ fn hold_source<S: Source>(alloc: Global, source: S, pending: &mut Pending) -> Re
 }
 
 // Sends the events of a tree as a file, where no key stands twice in a dictionary.
-fn send_held<W: Write>(alloc: Global, pending: &Pending, writer: &mut W) -> Result<Streamed, Error>
-    requires { AreWhole (events_held pending.now) }
-    ensures sent { OfHeld (events_held pending.now) (λ known. IfOkIs result Sent
+fn send_held<W: Write>(
+    alloc: Global,
+    pending: &EventBuffer,
+    writer: &mut W,
+) -> Result<Streamed, Error>
+    requires { AreWhole (buffered_events pending.now) }
+    ensures sent { OfHeld (buffered_events pending.now) (λ known. IfOkIs result Sent
         (SendsAll W.contents known writer.old writer.new)) }
-    ensures left { OfHeld (events_held pending.now) (λ known. IfOkIs result NeedsValue
+    ensures left { OfHeld (buffered_events pending.now) (λ known. IfOkIs result NeedsValue
         (LeavesToValue known writer.old writer.new)) }
-    ensures refused { OfHeld (events_held pending.now)
+    ensures refused { OfHeld (buffered_events pending.now)
         (λ known. IsStoppedFor W.contents known result writer.old writer.new) }
     ensures nowhere { IfErr result (λ error. offset_of error ≡ None) }
 {
@@ -150,7 +165,7 @@ pub fn convert_binary<S: Source, W: Write>(
     ensures answers { ConvertsSource S.known S.failures source result }
     ensures refused { IsStoppedFor W.contents (S.known source) result writer.old writer.new }
 {
-    let mut pending = Pending::new(alloc);
+    let mut pending = EventBuffer::new(alloc);
     match hold_source(alloc, source, &mut pending) {
         Ok(true) => send_held(alloc, &pending, writer),
         Ok(false) => Ok(Streamed::NeedsValue),

@@ -3,17 +3,17 @@
 ghost use Rattle.std.specs.Prelude.{◌≡◌, Bool, IfErr, List, false, true};
 ghost use Rattle.plist_base.specs.Events.{PlainEvent, event_of};
 ghost use Rattle.plist_base.specs.Outcomes.{OnlyMemory};
-ghost use Rattle.plist_binwrite.specs.Pendings.{TellsWhole, events_held, is_whole};
+ghost use Rattle.plist_binwrite.specs.EventBuffers.{TestsWhole, buffered_events, is_whole};
 ghost use Rattle.plist_base.specs.Bracketing.{CanContinue};
 ghost use Rattle.plist_commands.specs.Holding.{HoldsMore};
 ghost use Rattle.plist_commands.specs.Converting.{IfOkIs};
 
 use plist_base::{Error, Event};
-use plist_binwrite::pending::Pending;
+use plist_binwrite::event_buffer::EventBuffer;
 use std::alloc::Global;
 
 /// Holds events. It is a trait since the borrow checker takes no call of a function that names
-/// `Pending` and any reader at once.
+/// `EventBuffer` and any reader at once.
 pub(crate) trait Holder {
     /// The events.
     ghost held: { Self → List PlainEvent };
@@ -26,7 +26,7 @@ pub(crate) trait Holder {
     /// # Errors
     /// `OutOfMemory`, without an offset, for an event that can follow those held.
     fn take(&mut self, alloc: Global, event: Event<'_>, scalars: usize) -> Result<bool, Error>
-        requires told { TellsWhole (whole self.old) (held self.old) }
+        requires told { TestsWhole (whole self.old) (held self.old) }
         ensures taken { IfOkIs result true (HoldsMore (whole self.new) (held self.old)
             (event_of event.entry) (held self.new)) }
         ensures refused { IfOkIs result false
@@ -43,8 +43,8 @@ pub(crate) trait Holder {
 // Before the first event, tells how many different scalars can come: tables that double as they fill
 // cost a fifth of the time of a large file.
 #[inline(always)]
-fn expect(pending: &mut Pending, scalars: usize)
-    ensures held { events_held pending.new ≡ events_held pending.old }
+fn expect(pending: &mut EventBuffer, scalars: usize)
+    ensures held { buffered_events pending.new ≡ buffered_events pending.old }
     ensures whole { is_whole pending.new ≡ is_whole pending.old }
 {
     if pending.events().len() == 0 {
@@ -52,14 +52,14 @@ fn expect(pending: &mut Pending, scalars: usize)
     }
 }
 
-impl Holder for Pending {
-    ghost held = { events_held };
+impl Holder for EventBuffer {
+    ghost held = { buffered_events };
 
     ghost whole = { is_whole };
 
     #[inline(always)]
     fn take(&mut self, alloc: Global, event: Event<'_>, scalars: usize) -> Result<bool, Error> {
-        if Pending::is_whole(self) {
+        if EventBuffer::is_whole(self) {
             return Ok(false);
         }
         expect(self, scalars);
@@ -71,6 +71,6 @@ impl Holder for Pending {
     }
 
     fn is_whole(&self) -> bool {
-        Pending::is_whole(self)
+        EventBuffer::is_whole(self)
     }
 }

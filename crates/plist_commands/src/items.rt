@@ -5,7 +5,7 @@ ghost use Rattle.plist_base.specs.Events.{Item, PlainEvent, event_of};
 ghost use Rattle.plist_base.specs.Faults.{Fault};
 ghost use Rattle.plist_base.specs.Outcomes.{IfFault};
 ghost use Rattle.plist_base.specs.Sources.{ItemCountsIo};
-ghost use Rattle.plist_commands.specs.Items.{ComesNext};
+ghost use Rattle.plist_commands.specs.Items.{ComesIfKnown};
 ghost use Rattle.plist_commands.specs.Runs.{Gone};
 
 use plist_base::{Error, Event, Source};
@@ -34,7 +34,7 @@ pub(crate) trait Items {
     /// # Errors
     /// The fault that comes in the place of an event.
     fn go_on(&mut self) -> Option<Result<(), Error>>
-        ensures items { ComesNext (coming self.old) result (last self.new) (coming self.new) }
+        ensures items { ComesIfKnown (coming self.old) result (last self.new) (coming self.new) }
         ensures answers { goes self.old result self.new }
         ensures fault { IfSome result (λ answer. IfFault answer gives) }
         ensures unchanged { known self.new ≡ known self.old }
@@ -69,24 +69,24 @@ pub(crate) fn lend<'a>(event: &'a Event<'_>) -> Event<'a>
 
 /// A binary source's.
 impl<S: Source> Items for BinaryReader<S> {
-    ghost use Rattle.plist_binread.specs.BinaryReader.{source_of, steps_to_come};
-    ghost use Rattle.plist_binread.specs.Telling.{event_told};
+    ghost use Rattle.plist_binread.specs.BinaryReader.{binary_source, binary_steps};
+    ghost use Rattle.plist_binread.specs.Advancing.{current_event};
     ghost use Rattle.plist_commands.specs.Converting.{items_left};
     ghost use Rattle.plist_commands.specs.Runs.{AdvancesBinary};
 
     ghost coming = { items_left S.known };
 
-    ghost last = { event_told };
+    ghost last = { current_event };
 
-    ghost known = { λ reader. S.known (source_of reader) };
+    ghost known = { λ reader. S.known (binary_source reader) };
 
-    ghost failures = { λ reader. S.failures (source_of reader) };
+    ghost failures = { λ reader. S.failures (binary_source reader) };
 
     ghost gives = { λ _. Unit {0} };
 
     ghost goes = { AdvancesBinary S.known S.failures };
 
-    ghost steps = { steps_to_come };
+    ghost steps = { binary_steps };
 
     #[inline(always)]
     fn go_on(&mut self) -> Option<Result<(), Error>> {
@@ -99,6 +99,6 @@ impl<S: Source> Items for BinaryReader<S> {
     }
 
     fn scalars_expected(&self) -> usize {
-        self.object_count()
+        self.objects_in_file()
     }
 }

@@ -1,7 +1,7 @@
 //! What the program says beside its output.
 
 ghost use Rattle.std.specs.Prelude.{Bool, is_ok};
-ghost use Rattle.plist_commands.specs.Messages.{Said, said_of, TakesMessage};
+ghost use Rattle.plist_commands.specs.Messages.{PlainMessage, plain_message_of, TakesMessage};
 
 use crate::failure::Failure;
 use plist_base::send::send;
@@ -17,24 +17,25 @@ pub enum Message<'a> {
     Fault(&'a Failure),
 }
 
-/// Takes messages. It is a trait so that a clause can name what was told.
+/// Takes messages. It is a trait so that a clause can name what was reported.
 pub trait Messages {
-    /// What a message does: where `told` is false, a part of it may be missing.
-    ghost tells: { (old : Self) → Said → (told : Bool) → (new : Self) → Type 0 };
+    /// What a message does: where `whole` is false, a part of it may be missing.
+    ghost reports: { (old : Self) → PlainMessage → (whole : Bool) → (new : Self) → Type 0 };
 
     /// Says a message, on a line of its own.
     ///
     /// # Errors
     /// Where a write fails.
-    fn tell(&mut self, message: Message<'_>) -> Result<(), Error>
-        ensures { tells self.old (said_of message.entry) (is_ok result) self.new };
+    fn report(&mut self, message: Message<'_>) -> Result<(), Error>
+        ensures { reports self.old (plain_message_of message.entry) (is_ok result) self.new };
 }
 
 /// Each message is a line.
 impl<W: Write> Messages for W {
-    ghost tells = { λ old said told new. TakesMessage said told (W.contents old) (W.contents new) };
+    ghost reports = { λ old said whole new. TakesMessage said whole (W.contents old)
+        (W.contents new) };
 
-    fn tell(&mut self, message: Message<'_>) -> Result<(), Error> {
+    fn report(&mut self, message: Message<'_>) -> Result<(), Error> {
         match message {
             Message::Usage => send(
                 self,

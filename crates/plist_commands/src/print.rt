@@ -2,7 +2,7 @@
 
 ghost use Rattle.std.specs.Prelude.{◌≡◌, ◌⊎◌, [], IfErr, OnErr, OnOk};
 ghost use Rattle.plist_base.specs.Faults.{fault_of};
-ghost use Rattle.plist_binread.specs.BinaryReader.{source_of};
+ghost use Rattle.plist_binread.specs.BinaryReader.{binary_source};
 ghost use Rattle.plist_commands.specs.Converting.{items_left};
 ghost use Rattle.plist_commands.specs.Fronts.{EndsBehind, MakesRoom, PassesLine, SendsFront, SendsLineInPart};
 ghost use Rattle.plist_commands.specs.Printing.{CountsReads, CountsReadsOf, EndsFile, EndsItems, IsOwnFault, PrintsFile, PrintsItems, SendsFrontOfFile, SendsFrontOfItems};
@@ -170,7 +170,7 @@ pub fn print_reader<S: Source, W: Write>(
     // The state after it.
     ensures front { SendsFrontOfItems W.contents (items_left S.known reader.old)
         writer.old writer.new }
-    ensures unchanged { S.known (source_of reader.new) ≡ S.known (source_of reader.old) }
+    ensures unchanged { S.known (binary_source reader.new) ≡ S.known (binary_source reader.old) }
     ensures failures { CountsReadsOf S.failures reader.old result reader.new }
 {
     print_items(alloc, reader, writer)

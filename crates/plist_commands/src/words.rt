@@ -9,11 +9,11 @@ use std::{env, io};
 
 // The arguments behind the program's name.
 #[derive(Drop)]
-struct Behind<'a, R: Env> {
+struct ProgramWords<'a, R: Env> {
     rt: &'a R,
 }
 
-impl<'a, R: Env> Env for Behind<'a, R> {
+impl<'a, R: Env> Env for ProgramWords<'a, R> {
     fn arg(&self, i: usize, buf: &mut [u8]) -> Result<usize, FillError> {
         match i.checked_add(1) {
             Some(next) => self.rt.arg(next, buf),
@@ -38,7 +38,7 @@ impl<'a, R: Env> Env for Behind<'a, R> {
 pub fn words_given<R: Env>(rt: &R, alloc: Global) -> Result<Vec<String>, Error>
     ensures { OnlyMemory result }
 {
-    match env::args(&(Behind { rt }, alloc)) {
+    match env::args(&(ProgramWords { rt }, alloc)) {
         Ok(all) => Ok(all.collect(alloc)?),
         Err(error) if error.kind() == io::ErrorKind::InvalidData => Ok(Vec::new(alloc)),
         Err(_) => Err(ErrorKind::OutOfMemory.without_position()),

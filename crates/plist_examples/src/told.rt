@@ -1,7 +1,7 @@
 //! What `advance` tells of objects, and which are decoded once, however often they are met.
 
 use crate::rows::Row;
-use plist_binread::{BinaryReader, DecodeCounter, Told};
+use plist_binread::{BinaryReader, CompactEvent, DecodeCounter};
 use plist_support::{Wrong, expect_same, file, word_of};
 use std::alloc::{AllocError, Global};
 
@@ -27,25 +27,25 @@ fn told_word<C: DecodeCounter>(
     alloc: Global,
     reader: &BinaryReader<&[u8], C>,
 ) -> Result<String, AllocError> {
-    match reader.told() {
-        Told::Held => {
+    match reader.compact() {
+        CompactEvent::Held => {
             let word = word_of(alloc, &reader.event())?;
             format!(in alloc; "held:{word}")
         }
-        Told::Text => {
+        CompactEvent::Text => {
             let text = reader.text();
             format!(in alloc; "text:{text}")
         }
-        Told::Data => {
+        CompactEvent::Data => {
             let digits = hex::encode(alloc, reader.data())?;
             format!(in alloc; "data:{digits}")
         }
-        Told::Array(length) => format!(in alloc; "array:{length}"),
-        Told::Dictionary(length) => format!(in alloc; "dictionary:{length}"),
-        Told::End => String::from_str(alloc, "end"),
-        Told::Boolean(value) => format!(in alloc; "boolean:{value}"),
-        Told::Unsigned(number) => format!(in alloc; "unsigned:{number}"),
-        Told::Uid(number) => format!(in alloc; "uid:{number}"),
+        CompactEvent::Array(length) => format!(in alloc; "array:{length}"),
+        CompactEvent::Dictionary(length) => format!(in alloc; "dictionary:{length}"),
+        CompactEvent::End => String::from_str(alloc, "end"),
+        CompactEvent::Boolean(value) => format!(in alloc; "boolean:{value}"),
+        CompactEvent::Unsigned(number) => format!(in alloc; "unsigned:{number}"),
+        CompactEvent::Uid(number) => format!(in alloc; "uid:{number}"),
     }
 }
 

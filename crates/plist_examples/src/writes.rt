@@ -5,8 +5,8 @@ use plist::{Value, write_value};
 use plist_base::{Error, Writer};
 use plist_binwrite::{FileWriter, Sharing};
 use plist_support::{
-    Device, Fault, Wrong, event_of, expect_answers, expect_bytes, expect_io, expect_that, front,
-    told, write_all,
+    Device, DeviceFault, Wrong, event_of, expect_answers, expect_bytes, expect_io, expect_that,
+    front, told, write_all,
 };
 use std::alloc::Global;
 use std::io::ErrorKind;
@@ -26,7 +26,7 @@ pub(crate) struct Sending<'a> {
     pub words: &'a str,
     pub value: &'a Value,
     pub bytes: &'a [u8],
-    pub fault: Fault,
+    pub fault: DeviceFault,
     pub ways: &'a [Way],
 }
 
@@ -126,9 +126,9 @@ fn expect_nothing_before_last<S: Sharing>(alloc: Global, words: &str) -> Result<
     )
 }
 
-fn kind_of(fault: Fault) -> ErrorKind {
+fn kind_of(fault: DeviceFault) -> ErrorKind {
     match fault {
-        Fault::Fails(kind) => kind,
+        DeviceFault::Fails(kind) => kind,
         _ => ErrorKind::WriteZero,
     }
 }
@@ -224,7 +224,7 @@ pub(crate) fn expect_file_on_devices<S: Sharing>(
             expect_sent::<S>(alloc, sending, call, true)?;
         }
     }
-    let flush_fails = matches!(sending.fault, Fault::Fails(_));
+    let flush_fails = matches!(sending.fault, DeviceFault::Fails(_));
     expect_sent::<S>(alloc, sending, flush, flush_fails)?;
     expect_sent::<S>(alloc, sending, flush.saturating_add(1), false)
 }

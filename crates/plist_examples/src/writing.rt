@@ -8,7 +8,7 @@ use plist_binread::BinaryReader;
 use plist_binwrite::{BinaryWriter, EqualScalars, FileWriter, Sharing};
 use plist_share::{EqualTrees, SharingWriter};
 use plist_support::{
-    Fault, Wrong, expect_answers, expect_bytes, expect_same, told, words_of, write_all,
+    DeviceFault, Wrong, expect_answers, expect_bytes, expect_same, told, words_of, write_all,
 };
 use std::alloc::Global;
 use std::io::ErrorKind;
@@ -60,7 +60,7 @@ fn expect_sent<S: Sharing>(
     alloc: Global,
     words: &str,
     bytes: &[u8],
-    fault: Fault,
+    fault: DeviceFault,
     ways: &[Way],
 ) -> Result<(), Wrong> {
     let value = value_of(alloc, words)?;
@@ -74,7 +74,7 @@ fn expect_sent<S: Sharing>(
     expect_file_on_devices::<S>(alloc, sending)
 }
 
-const INTERRUPTED: Fault = Fault::Fails(ErrorKind::Interrupted);
+const INTERRUPTED: DeviceFault = DeviceFault::Fails(ErrorKind::Interrupted);
 
 // The ways by which the plain writer sends, and the sharing one.
 const PLAIN: [Way; 3] = [Way::Events, Way::Handed, Way::Whole];
@@ -137,13 +137,13 @@ fn expect_rebuilt(alloc: Global, row: Row<'_>) -> Result<(), Wrong> {
 }
 
 // The fault of this name.
-fn fault_of(alloc: Global, name: &str) -> Result<Fault, Wrong> {
+fn fault_of(alloc: Global, name: &str) -> Result<DeviceFault, Wrong> {
     match name {
-        "Interrupted" => Ok(Fault::Fails(ErrorKind::Interrupted)),
-        "TimedOut" => Ok(Fault::Fails(ErrorKind::TimedOut)),
-        "PermissionDenied" => Ok(Fault::Fails(ErrorKind::PermissionDenied)),
-        "StorageFull" => Ok(Fault::Fails(ErrorKind::StorageFull)),
-        "MovesNothing" => Ok(Fault::MovesNothing),
+        "Interrupted" => Ok(DeviceFault::Fails(ErrorKind::Interrupted)),
+        "TimedOut" => Ok(DeviceFault::Fails(ErrorKind::TimedOut)),
+        "PermissionDenied" => Ok(DeviceFault::Fails(ErrorKind::PermissionDenied)),
+        "StorageFull" => Ok(DeviceFault::Fails(ErrorKind::StorageFull)),
+        "MovesNothing" => Ok(DeviceFault::MovesNothing),
         _ => unreadable(alloc, name),
     }
 }

@@ -10,11 +10,11 @@ use Rattle.std.proofs.lemmas.Option.{slice_get-map}
 use Rattle.plist_base.specs.Events.{PlainEvent, Item, StartArray, StartDictionary, EndCollection, Single}
 use Rattle.plist_base.specs.Trees as trees
 use Rattle.plist_base.specs.Trees.{Tree, Leaf, Array, Dictionary, Trees, NoTrees, TreeAnd, Members, NoMembers, MemberAnd, number_of_trees, number_of_members}
-use Rattle.plist_base.specs.Bracketing.{bracketing, bracketing_of_items, bracketing_of_pairs, unhinted, AreAlike}
+use Rattle.plist_base.specs.Bracketing.{bracketing, bracketing_of_items, bracketing_of_pairs, without_length, AreAlike}
 use Rattle.plist_base.proofs.Grammar.{alike_with}
 use Rattle.plist_binwrite.specs.Keys.{HasKeysOnce, ItemsHaveKeysOnce, ValuesHaveKeysOnce, HasDistinctKeys, Lacks}
 use Rattle.plist_keyed.specs.Archives.{ArchiveFault, UidOutOfRange, RecursiveUid, and_then, replaced, replaced_items, replaced_pairs, tree_found, resolved}
-use Rattle.plist_keyed.specs.inner.Walks.{Step, told, items_of_steps, steps_of_event, steps_of_events, steps_found, steps_at}
+use Rattle.plist_keyed.specs.inner.Walks.{Step, fault_of_archive, items_of_steps, steps_of_event, steps_of_events, steps_found, steps_at}
 
 pub items_of-append : (a b : List Step) → items_of_steps (a ++ b)
     ≡ items_of_steps a ++ items_of_steps b
@@ -32,7 +32,8 @@ abbrev pub AreItemsOf : {W : Type 0} → (events : W → List PlainEvent) → Re
 AreItemsOf events (Ok whole) items =
     (es : List PlainEvent) × (items ≡ map Ok es) × AreAlike es (events whole)
 AreItemsOf events (Err fault) items =
-    (es : List PlainEvent) × (more : List Item) × (items ≡ map Ok es ++ Err (told fault) ∷ more)
+    (es : List PlainEvent) × (more : List Item) × (items ≡ map Ok es
+    ++ Err (fault_of_archive fault) ∷ more)
     × Begins events es
 
 -- what a tree's items are
@@ -44,9 +45,9 @@ module _ {V : Type 0} (inner : V → List PlainEvent) where
   behind-one : (e : PlainEvent) (a : Result V ArchiveFault) (xs : List Item) → AreItemsOf inner a xs
       → AreItemsOf (λ v. e ∷ inner v) a (Ok e ∷ xs)
   behind-one e (Ok v) xs (es, is, alike) =
-      (e ∷ es, ap (λ l. Ok e ∷ l) is, ap (λ l. unhinted e ∷ l) alike)
+      (e ∷ es, ap (λ l. Ok e ∷ l) is, ap (λ l. without_length e ∷ l) alike)
   behind-one e (Err f) xs (es, more, is, (rest, v, alike)) =
-      (e ∷ es, more, ap (λ l. Ok e ∷ l) is, (rest, v, ap (λ l. unhinted e ∷ l) alike))
+      (e ∷ es, more, ap (λ l. Ok e ∷ l) is, (rest, v, ap (λ l. without_length e ∷ l) alike))
 
   -- with an event behind
   before-one : (e : PlainEvent) (a : Result V ArchiveFault) (xs : List Item) → AreItemsOf inner a xs
@@ -60,7 +61,8 @@ module _ {V : Type 0} (inner : V → List PlainEvent) where
     (
       rest ++ e ∷ [],
       v,
-      ap (map unhinted) (sym (append_assoc es rest _)) ∙ alike_with (es ++ rest) (inner v) _ alike,
+      ap (map without_length) (sym (append_assoc es rest _)) ∙ alike_with (es
+          ++ rest) (inner v) _ alike,
     ),
   )
 
@@ -149,7 +151,7 @@ module _ (answer : ℕ → Result Tree ArchiveFault) (follow : ℕ → List Step
         (pairs-give ms))
 
 -- a fault alone: any tree can come
-at-once : (fault : ArchiveFault) → Gives (Err fault) (Err (told fault) ∷ [])
+at-once : (fault : ArchiveFault) → Gives (Err fault) (Err (fault_of_archive fault) ∷ [])
 at-once fault = ([], [], refl, (bracketing (Leaf (trees.Uid 0)), Leaf (trees.Uid 0), refl))
 
 found-gives : (found : Option Tree) (is_open : Bool) (uid : ℕ)
@@ -163,18 +165,18 @@ found-gives (Some t) false uid answer steps h =
     rw (items_of-append (steps (bracketing t)) (None ∷ []), append-nil _) (h t refl)
 
 -- the items of a Uid's walk are the events of its tree, or some events and then its fault
-pub uid-gives : (objects : List Tree) (room : ℕ) (path : List ℕ) (uid : ℕ)
-    → Gives (resolved objects room path uid)
-    (items_of_steps (steps_at (map bracketing objects) room path uid))
+pub uid-gives : (objects : List Tree) (fuel : ℕ) (path : List ℕ) (uid : ℕ)
+    → Gives (resolved objects fuel path uid)
+    (items_of_steps (steps_at (map bracketing objects) fuel path uid))
 unfolding resolved steps_at
 uid-gives objects zero path uid =
     rw (slice_get-map bracketing objects uid)
     (found-gives (slice_get objects uid) true uid _ _ (λ t e. cc))
-uid-gives objects (suc room) path uid =
+uid-gives objects (suc fuel) path uid =
     rw (slice_get-map bracketing objects uid)
     (found-gives (slice_get objects uid) (list_any (nat_eq uid) path) uid _ _
-    (λ t e. tree-gives (resolved objects room (uid ∷ path))
-    (steps_at (map bracketing objects) room (uid ∷ path)) (uid-gives objects room (uid ∷ path)) t))
+    (λ t e. tree-gives (resolved objects fuel (uid ∷ path))
+    (steps_at (map bracketing objects) fuel (uid ∷ path)) (uid-gives objects fuel (uid ∷ path)) t))
 
 -- ---- keys
 
@@ -234,11 +236,11 @@ found-once (Some t) false uid answer h = h t refl refl
 -- in the tree of a Uid each key stands once
 pub resolved-once : (objects : List Tree)
     → ((uid : ℕ) (t : Tree) → slice_get objects uid ≡ Some t → HasKeysOnce t)
-    → (room : ℕ) (path : List ℕ) (uid : ℕ) → IfOk (resolved objects room path uid) HasKeysOnce
+    → (fuel : ℕ) (path : List ℕ) (uid : ℕ) → IfOk (resolved objects fuel path uid) HasKeysOnce
 unfolding resolved
 resolved-once objects h zero path uid =
     found-once (slice_get objects uid) true uid _ (λ t is e. cc)
-resolved-once objects h (suc room) path uid =
+resolved-once objects h (suc fuel) path uid =
     found-once (slice_get objects uid) (list_any (nat_eq uid) path) uid _
-    (λ t is e. tree-once (resolved objects room (uid ∷ path))
-    (resolved-once objects h room (uid ∷ path)) t (h uid t is))
+    (λ t is e. tree-once (resolved objects fuel (uid ∷ path))
+    (resolved-once objects h fuel (uid ∷ path)) t (h uid t is))

@@ -7,7 +7,7 @@ use Rattle.plist_base.specs.Events.{PlainEvent, Item}
 use Rattle.plist_base.specs.Faults as faults
 use Rattle.plist_base.specs.Faults.{FaultKind, Fault, MatchFault, OutOfMemory, fault_nowhere}
 use Rattle.plist_base.specs.Trees.{Tree}
-use Rattle.plist_base.specs.Bracketing.{bracketing, unhinted, CanContinue}
+use Rattle.plist_base.specs.Bracketing.{bracketing, without_length, CanContinue}
 use Rattle.plist_base.proofs.Grammar.{alike_with}
 use Rattle.plist_base.proofs.OneTree.{one_tree}
 use Rattle.plist_base.proofs.Refusals.{MatchFault-weaker}
@@ -24,9 +24,9 @@ use Rattle.plist.proofs.Inputs.{all-events, no-events}
 use Rattle.plist.proofs.KeysOnce.{keys-once}
 use Rattle.plist_keyed.specs.declared.error.KeyedError.{KeyedError}
 use Rattle.plist_keyed.specs.Archives.{ArchiveFault, UidOutOfRange, RecursiveUid, resolved_tree}
-use Rattle.plist_keyed.specs.Errors.{MatchError, IsFaultOf, error_by, error_told}
-use Rattle.plist_keyed.specs.inner.Owing.{items_at, objects_seen}
-use Rattle.plist_keyed.specs.inner.Walks.{told, items_of_steps, steps_at}
+use Rattle.plist_keyed.specs.Errors.{MatchError, IsFaultOf, error_by, error_of_fault}
+use Rattle.plist_keyed.specs.inner.RemainingSteps.{items_at, objects_seen}
+use Rattle.plist_keyed.specs.inner.Walks.{fault_of_archive, items_of_steps, steps_at}
 use Rattle.plist_keyed.proofs.Expanding.{Begins, Gives, uid-gives, resolved-once}
 
 -- what stands behind some events: the fault, or an event before it
@@ -54,7 +54,7 @@ only es f more fault (rest, whole, alike) ((events, next, held, is, ok, like, de
             left ++ rest,
             whole,
             alike_with (events_so_far held) events (x ∷ (left ++ rest)) like
-                ∙ ap (map unhinted) (sym (append_assoc events (x ∷ left) rest)
+                ∙ ap (map without_length) (sym (append_assoc events (x ∷ left) rest)
                 ∙ ap (λ l. l ++ rest) (sym q)) ∙ alike,
           ) in
           inr (subst (λ o. IsRefusal o fault) (continues-accepted held x ok can)
@@ -68,18 +68,19 @@ by_kind faults.Io offset Q R h g = tt
 by_kind OutOfMemory offset Q R h g = tt
 by_kind kind offset Q R h g = g h
 
-itself_told : (f : ArchiveFault) → IsFaultOf {A = Tree} (Err f) (error_told (told f))
+itself_told : (f : ArchiveFault) → IsFaultOf {A = Tree} (Err f) (error_of_fault
+    (fault_of_archive f))
 itself_told (UidOutOfRange uid) = refl
 itself_told (RecursiveUid uid) = refl
 
 -- a fault is the tree's, or want of memory
 fault-told : (answer : Result Tree ArchiveFault) (items : List Item) (fault : Fault)
-    → Gives answer items → IsReadFrom items (Err fault) → IsFaultOf answer (error_told fault)
+    → Gives answer items → IsReadFrom items (Err fault) → IsFaultOf answer (error_of_fault fault)
 fault-told (Ok t) items fault g h =
     by_kind fault.kind fault.offset (StopsAt items fault) _ h (λ s. absurd (s.1 t g))
 fault-told (Err f) items fault (es, more, is, begins) h =
     by_kind fault.kind fault.offset (StopsAt items fault) _ h
-    (λ s. elim (only es (told f) more fault begins (rw is at s)) [
+    (λ s. elim (only es (fault_of_archive f) more fault begins (rw is at s)) [
       | inl p ↦ rw p (itself_told f)
       | inr p ↦ rw p tt
     ])
@@ -89,7 +90,7 @@ pub same_of : (all : List Item) (t u : Tree) → AreOf all t → AreOf all u →
 same_of all t u (events, same, alike) (others, also, like) =
     let s = all-events events others [] (append-nil (map Ok events) ∙ sym same ∙ also) in
     let e : others ≡ events = s.2 ∙ ap (λ l. events ++ l) (no-events s.0 s.1) ∙ append-nil events in
-    one_tree t u (sym alike ∙ ap (map unhinted) (sym e) ∙ like)
+    one_tree t u (sym alike ∙ ap (map without_length) (sym e) ∙ like)
 
 -- a tree that is read is the tree, where no key stands twice in it
 tree-told : (answer : Result Tree ArchiveFault) (items : List Item) (tree : Tree)
@@ -98,7 +99,7 @@ tree-told : (answer : Result Tree ArchiveFault) (items : List Item) (tree : Tree
 tree-told (Ok t) items tree g (whole, of, last) once =
     ap Ok (sym ((keys-once t).0 once) ∙ ap last_wins (same_of items t whole g of) ∙ sym last)
 tree-told (Err f) items tree (es, more, is, begins) (whole, (events, same, alike), last) once =
-    let s = all-events es events _ (sym is ∙ same) in no_fault (told f) more s.0 s.1
+    let s = all-events es events _ (sym is ∙ same) in no_fault (fault_of_archive f) more s.0 s.1
 
 -- a fault alone is read as that fault
 pub fault-read : (items : List Item) (fault : Fault)
@@ -137,7 +138,7 @@ tree-read objects slice uid tree e itself h =
 
 -- a fault
 pub error-read : (objects slice : List Value) (uid : ℕ) (fault : Fault) (error : KeyedError)
-    → slice ≡ objects → error ≡ error_told fault → IsReadFrom (items_at slice uid) (Err fault)
+    → slice ≡ objects → error ≡ error_of_fault fault → IsReadFrom (items_at slice uid) (Err fault)
     → IsFaultOf (resolved_tree (map tree_of objects) uid) error
 error-read objects slice uid fault error e is h =
     rw is (fault-told _ (items_at objects uid) fault (gives-at objects uid) (rw e at h))

@@ -20,8 +20,8 @@ use Rattle.plist.specs.Events.{remaining_events}
 use Rattle.plist.specs.Views.{tree_of}
 use Rattle.plist_keyed.specs.declared.walk.Walk.{Walk}
 use Rattle.plist_keyed.specs.Archives.{UidOutOfRange, RecursiveUid}
-use Rattle.plist_keyed.specs.inner.Walks.{Step, told, items_of_steps, steps_of_event, steps_of_events, steps_found, steps_at}
-use Rattle.plist_keyed.specs.inner.Owing.{FailsAt, WalkIsKept, IsOpened, IsWalk, follow, follow_in, items_at, levels_of, objects_seen, owed, steps_owed_by, open_uids, uid_of_event}
+use Rattle.plist_keyed.specs.inner.Walks.{Step, fault_of_archive, items_of_steps, steps_of_event, steps_of_events, steps_found, steps_at}
+use Rattle.plist_keyed.specs.inner.RemainingSteps.{FailsAt, WalkIsKept, IsOpened, IsWalk, follow, follow_in, items_at, levels_of, objects_seen, remaining_steps, remaining_steps_of, open_uids, uid_of_event}
 
 -- a key that isn't there goes last
 pub added : (keys new : List ℕ) (uid : ℕ) → new ≡ insert_key nat_eq keys uid
@@ -64,38 +64,38 @@ seen_at objects uid answer found is same =
 -- ---- entering an object
 
 module _ (objects : List (List PlainEvent)) where
-  out_of_range : (room : ℕ) (path : List ℕ) (uid : ℕ) → slice_get objects uid ≡ None
-      → steps_at objects room path uid ≡ Some (Err (told (UidOutOfRange uid))) ∷ []
+  out_of_range : (fuel : ℕ) (path : List ℕ) (uid : ℕ) → slice_get objects uid ≡ None
+      → steps_at objects fuel path uid ≡ Some (Err (fault_of_archive (UidOutOfRange uid))) ∷ []
   unfolding steps_at
   out_of_range zero path uid h = rw h refl
-  out_of_range (suc room) path uid h = rw h refl
+  out_of_range (suc fuel) path uid h = rw h refl
 
-  recursive : (room : ℕ) (path : List ℕ) (uid : ℕ) (es : List PlainEvent)
+  recursive : (fuel : ℕ) (path : List ℕ) (uid : ℕ) (es : List PlainEvent)
       → slice_get objects uid ≡ Some es → list_any (nat_eq uid) path ≡ true
-      → steps_at objects room path uid ≡ Some (Err (told (RecursiveUid uid))) ∷ []
+      → steps_at objects fuel path uid ≡ Some (Err (fault_of_archive (RecursiveUid uid))) ∷ []
   unfolding steps_at
   recursive zero path uid es h o = rw h refl
-  recursive (suc room) path uid es h o = rw (h, o) refl
+  recursive (suc fuel) path uid es h o = rw (h, o) refl
 
-  opened_at : (room : ℕ) (path : List ℕ) (uid : ℕ) (es : List PlainEvent)
+  opened_at : (fuel : ℕ) (path : List ℕ) (uid : ℕ) (es : List PlainEvent)
       → slice_get objects uid ≡ Some es → list_any (nat_eq uid) path ≡ false
-      → steps_at objects (suc room) path uid ≡ None
-      ∷ (steps_of_events (steps_at objects room (uid ∷ path)) es ++ None ∷ [])
+      → steps_at objects (suc fuel) path uid ≡ None
+      ∷ (steps_of_events (steps_at objects fuel (uid ∷ path)) es ++ None ∷ [])
   unfolding steps_at
-  opened_at room path uid es h o = rw (h, o) refl
+  opened_at fuel path uid es h o = rw (h, o) refl
 
   opened : (levels : List Events) (path : List ℕ) (uid : ℕ) (level : Events)
       (es : List PlainEvent) → IsPath (length objects) path → slice_get objects uid ≡ Some es
       → list_any (nat_eq uid) path ≡ false → remaining_events level ≡ es
-      → follow_in objects path uid ++ steps_owed_by objects levels path ≡ None
-      ∷ steps_owed_by objects (level ∷ levels) (uid ∷ path)
+      → follow_in objects path uid ++ remaining_steps_of objects levels path ≡ None
+      ∷ remaining_steps_of objects (level ∷ levels) (uid ∷ path)
   opened levels path uid level es o at new left =
-      let room = length objects - suc (length path) in
+      let fuel = length objects - suc (length path) in
       let fits = path_rises uid o (slice_get_within objects uid es at) new in
-      let e : length objects - length path ≡ suc room = omega (arith, fits) in
-      rw (e, opened_at room path uid es at new, left) (ap (λ l. None ∷ l)
-      (append_assoc (steps_of_events (steps_at objects room (uid ∷ path)) es) (None ∷ [])
-      (steps_owed_by objects levels path)))
+      let e : length objects - length path ≡ suc fuel = omega (arith, fits) in
+      rw (e, opened_at fuel path uid es at new, left) (ap (λ l. None ∷ l)
+      (append_assoc (steps_of_events (steps_at objects fuel (uid ∷ path)) es) (None ∷ [])
+      (remaining_steps_of objects levels path)))
 
   -- a step is there, whatever a Uid finds
   found_some : (found : Option (List PlainEvent)) (is_open : Bool) (uid : ℕ)
@@ -104,30 +104,31 @@ module _ (objects : List (List PlainEvent)) where
   found_some (Some es) true uid steps = omega arith
   found_some (Some es) false uid steps = omega arith
 
-  some_step : (room : ℕ) (path : List ℕ) (uid : ℕ) → 0 < length (steps_at objects room path uid)
+  some_step : (fuel : ℕ) (path : List ℕ) (uid : ℕ) → 0 < length (steps_at objects fuel path uid)
   unfolding steps_at
   some_step zero path uid = found_some (slice_get objects uid) true uid _
-  some_step (suc room) path uid =
+  some_step (suc fuel) path uid =
       found_some (slice_get objects uid) (list_any (nat_eq uid) path) uid _
 
   -- the next event of an open place is taken
   takes : (left after : Events) (below : List Events) (path : List ℕ) (e : PlainEvent)
       → length (left ∷ below) ≡ length path → remaining_events left ≡ e ∷ remaining_events after
-      → steps_owed_by objects (left ∷ below) path ≡ steps_of_event (follow_in objects path) e
-      ++ steps_owed_by objects (after ∷ below) path
+      → remaining_steps_of objects (left ∷ below) path ≡ steps_of_event (follow_in objects path) e
+      ++ remaining_steps_of objects (after ∷ below) path
   takes left after below [] e n is = absurd (omega (arith, n))
   takes left after below (uid ∷ path) e n is =
       rw is (append_assoc (steps_of_event (follow_in objects (uid ∷ path)) e) _ _)
 
 -- no object has the number
-pub missing : (walk : Walk) (uid : ℕ) (fault : Fault) → fault ≡ told (UidOutOfRange uid)
+pub missing : (walk : Walk) (uid : ℕ) (fault : Fault) → fault ≡ fault_of_archive (UidOutOfRange uid)
     → slice_get (objects_seen walk.objects.now) uid ≡ None → FailsAt (follow walk uid) fault
 missing walk uid fault e none =
     rw e (out_of_range (objects_seen walk.objects.now) _ (open_uids walk) uid none)
 
 -- the object is open
 pub open_already : (walk : Walk) (uid : ℕ) (es : List PlainEvent) (fault : Fault)
-    → fault ≡ told (RecursiveUid uid) → slice_get (objects_seen walk.objects.now) uid ≡ Some es
+    → fault ≡ fault_of_archive (RecursiveUid uid) → slice_get (objects_seen walk.objects.now) uid
+    ≡ Some es
     → list_any (nat_eq uid) walk.path.keys ≡ true → FailsAt (follow walk uid) fault
 open_already walk uid es fault e at on =
     rw e (recursive (objects_seen walk.objects.now) _ (open_uids walk) uid es at
@@ -147,7 +148,7 @@ module _ (old new : Walk) (uid : ℕ) (object : Value) (o : IsWalk old)
   entered-walk (Err e) h (same, keys, items) = rw (same, keys, items) o
 
   pub entered-owes : {A : Type 0} (r : Result A Error) → OnOk r (IsOpened old uid object new)
-      → OnOk r (follow old uid ++ owed old ≡ None ∷ owed new)
+      → OnOk r (follow old uid ++ remaining_steps old ≡ None ∷ remaining_steps new)
   entered-owes (Ok a) (same, keys, (level, items, is)) =
       rw (same, keys, reverse-snoc old.path.keys uid, items, reverse-snoc old.levels.items level)
       (opened (objects_seen old.objects.now) (levels_of old) (open_uids old) uid level _ o.0 at
@@ -164,27 +165,28 @@ uid_steps f e uid h = cc
 -- a Uid's object isn't entered
 pub refuses : (old new : Walk) (e : PlainEvent) (uid : ℕ) (fault : Fault) → uid_of_event e
     ≡ Some uid
-    → owed new ≡ owed old → FailsAt (follow old uid) fault
-    → (length (owed new) < length (steps_of_event (follow old) e ++ owed old))
-    × MatchFault fault.kind ⊤ ⊤ (steps_of_event (follow old) e ++ owed old ≡ Some (Err fault)
-    ∷ owed new)
+    → remaining_steps new ≡ remaining_steps old → FailsAt (follow old uid) fault
+    → (length (remaining_steps new) < length (steps_of_event (follow old) e ++ remaining_steps old))
+    × MatchFault fault.kind ⊤ ⊤ (steps_of_event (follow old) e ++ remaining_steps old
+    ≡ Some (Err fault)
+    ∷ remaining_steps new)
 refuses old new e uid fault is same h =
     let some : 0 < length (follow old uid) = some_step (objects_seen old.objects.now) _
     (open_uids old) uid in
     rw (uid_steps (follow old) e uid is, same) (
-      rw (length-append (follow old uid) (owed old)) (omega (arith, some)),
-      MatchFault-weaker fault.kind (λ a. a) (λ a. a) (λ p. ap (λ l. l ++ owed old) p) h,
+      rw (length-append (follow old uid) (remaining_steps old)) (omega (arith, some)),
+      MatchFault-weaker fault.kind (λ a. a) (λ a. a) (λ p. ap (λ l. l ++ remaining_steps old) p) h,
     )
 
 -- the innermost place has one event less
 pub taken-owes : (walk : Walk) (items below : List Events) (left after : Events) (e : PlainEvent)
     → IsWalk walk → walk.levels.items ≡ below ++ left ∷ [] → items ≡ below ++ after ∷ []
     → remaining_events left ≡ e ∷ remaining_events after
-    → owed walk ≡ steps_of_event (follow walk) e
-    ++ steps_owed_by (objects_seen walk.objects.now) (reverse items) (open_uids walk)
+    → remaining_steps walk ≡ steps_of_event (follow walk) e
+    ++ remaining_steps_of (objects_seen walk.objects.now) (reverse items) (open_uids walk)
 taken-owes walk items below left after e o had has is =
     let owes = λ (l : List Events).
-    steps_owed_by (objects_seen walk.objects.now) l (open_uids walk) in
+    remaining_steps_of (objects_seen walk.objects.now) l (open_uids walk) in
     let first : levels_of walk ≡ left ∷ reverse below = ap reverse had ∙ reverse-snoc below left in
     ap owes first
     ∙ takes (objects_seen walk.objects.now) left after (reverse below) (open_uids walk) e
@@ -219,8 +221,8 @@ module _ (start : Walk) (objects : List Value) (seen : start.objects.now ≡ obj
 
   -- the first object is entered
   pub begun : start.levels.items ≡ [] → (walk : Walk) (n uid : ℕ) → n ≡ uid
-      → follow start n ++ owed start ≡ None ∷ owed walk
-      → items_of_steps (owed walk) ≡ items_at objects uid
+      → follow start n ++ remaining_steps start ≡ None ∷ remaining_steps walk
+      → items_of_steps (remaining_steps walk) ≡ items_at objects uid
   begun items walk n uid e h =
       ap items_of_steps (sym h) ∙ (rw (items, append-nil (follow start n))
       (ap items_of_steps (start-follow n)))

@@ -50,13 +50,13 @@ tree_found (Some object) true uid tree = Err (RecursiveUid uid)
 tree_found (Some object) false uid tree = tree object
 
 module _ (objects : List Tree) where
-  -- The tree of a Uid inside the objects of the path. `room` is the number of objects that aren't
+  -- The tree of a Uid inside the objects of the path. `fuel` is the number of objects that aren't
   -- on the path: where it is 0, each object is open.
-  unfoldable pub resolved : (room : ℕ) (path : List ℕ) (uid : ℕ) → Result Tree ArchiveFault
+  unfoldable pub resolved : (fuel : ℕ) (path : List ℕ) (uid : ℕ) → Result Tree ArchiveFault
   resolved zero path uid = tree_found (slice_get objects uid) true uid (λ object. Ok object)
-  resolved (suc room) path uid =
+  resolved (suc fuel) path uid =
       tree_found (slice_get objects uid) (list_any (nat_eq uid) path) uid
-      (λ object. replaced (resolved room (uid ∷ path)) object)
+      (λ object. replaced (resolved fuel (uid ∷ path)) object)
 
   -- the tree of a Uid
   abbrev pub resolved_tree : (uid : ℕ) → Result Tree ArchiveFault

@@ -31,5 +31,5 @@ error_by ObjectReferenceTooLarge (Some uid) = error.UidOutOfRange uid
 error_by RecursiveObject (Some uid) = error.RecursiveUid uid
 error_by kind offset = error.OutOfMemory
 
-abbrev pub error_told : Fault → KeyedError
-error_told fault = error_by fault.kind fault.offset
+abbrev pub error_of_fault : Fault → KeyedError
+error_of_fault fault = error_by fault.kind fault.offset

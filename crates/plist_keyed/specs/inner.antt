@@ -1,3 +1,3 @@
 -- What bodies and proofs speak of, and no public clause.
 pub mod Walks
-pub mod Owing
+pub mod RemainingSteps

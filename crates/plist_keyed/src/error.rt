@@ -2,7 +2,7 @@
 
 ghost use Rattle.std.specs.Prelude.{◌≡◌, Some};
 ghost use Rattle.plist_base.specs.Faults.{fault_of};
-ghost use Rattle.plist_keyed.specs.Errors.{error_told, text_of_error};
+ghost use Rattle.plist_keyed.specs.Errors.{error_of_fault, text_of_error};
 
 use plist::{Error, ErrorKind};
 use std::fmt;
@@ -23,8 +23,8 @@ pub enum KeyedError {
 
 impl KeyedError {
     // The fault of a walk over an archive, in the words of an archive; any other is want of memory.
-    pub(crate) fn told_by(error: &Error) -> KeyedError
-        ensures { result ≡ error_told (fault_of error.now) }
+    pub(crate) fn of_error(error: &Error) -> KeyedError
+        ensures { result ≡ error_of_fault (fault_of error.now) }
     {
         match (error.kind(), error.offset()) {
             (ErrorKind::ObjectReferenceTooLarge, Some(uid)) => KeyedError::UidOutOfRange(uid),

@@ -9,7 +9,7 @@ ghost use Rattle.plist.specs.Collecting.{built_tree};
 ghost use Rattle.plist.specs.Inputs.{IsReadFrom};
 ghost use Rattle.plist.specs.LastWins.{last_wins};
 ghost use Rattle.plist.specs.Views.{tree_of};
-ghost use Rattle.plist_keyed.specs.inner.Owing.{items_at, uid_of_event, Enters, PaysFor};
+ghost use Rattle.plist_keyed.specs.inner.RemainingSteps.{items_at, uid_of_event, Enters, YieldsFor};
 
 use indexmap::IndexSet;
 use plist::stream::{Event, Events};
@@ -59,7 +59,7 @@ struct Walk<'a> {
 }
 
 impl<'a> Walk<'a> {
-    ghost use Rattle.plist_keyed.specs.inner.Owing.{FailsAt, Gives, WalkIsKept, IsOpened, IsWalk, Pays, follow, owed};
+    ghost use Rattle.plist_keyed.specs.inner.RemainingSteps.{FailsAt, GivesOfUid, WalkIsKept, IsOpened, IsWalk, Yields, follow, remaining_steps};
 
     fn new(alloc: Global, objects: &'a [Value]) -> Walk<'a>
         ensures objects { result.objects ≡ objects.entry }
@@ -104,7 +104,7 @@ impl<'a> Walk<'a> {
         // The state after it.
         ensures path { IsWalk self.new }
         ensures objects { self.new.objects ≡ self.old.objects }
-        ensures unchanged { OnErr result (owed self.new ≡ owed self.old) }
+        ensures unchanged { OnErr result (remaining_steps self.new ≡ remaining_steps self.old) }
     {
         let Some(object) = self.look_up(uid) else {
             return Err(ErrorKind::ObjectReferenceTooLarge.with_byte_offset(uid));
@@ -120,7 +120,7 @@ impl<'a> Walk<'a> {
         requires { IsWalk self.old }
         ensures path { IsWalk self.new }
         ensures objects { self.new.objects ≡ self.old.objects }
-        ensures pays { PaysFor self.old (event_of event.entry) result self.new }
+        ensures yields { YieldsFor self.old (event_of event.entry) result self.new }
     {
         match uid_of(&event) {
             None => Ok(Move::Gave(event)),
@@ -136,7 +136,7 @@ impl<'a> Walk<'a> {
         requires { IsWalk self.old }
         ensures path { IsWalk self.new }
         ensures objects { self.new.objects ≡ self.old.objects }
-        ensures pays { Pays (owed self.old) result (owed self.new) }
+        ensures yields { Yields (remaining_steps self.old) result (remaining_steps self.new) }
     {
         let Some(mut left) = self.levels.pop() else {
             return Ok(Move::Done);
@@ -161,8 +161,9 @@ impl<'a> Walk<'a> {
         requires { IsWalk self.old }
         ensures path { IsWalk self.new }
         ensures objects { self.new.objects ≡ self.old.objects }
-        ensures gives { Gives self.old result self.new }
-        ensures shorter { OnSome result (length (owed self.new) < length (owed self.old)) }
+        ensures gives { GivesOfUid self.old result self.new }
+        ensures shorter { OnSome result (length (remaining_steps self.new) < length
+            (remaining_steps self.old)) }
     {
         'steps: loop {
             match self.step() {
@@ -179,13 +180,13 @@ impl<'a> Iterator for Walk<'a> {
     type Item = Result<Event<'a>, Error>;
 
     ghost use Rattle.std.specs.Iterator.{at_most};
-    ghost use Rattle.plist_keyed.specs.inner.Owing.{Gives, IsWalk, owed};
+    ghost use Rattle.plist_keyed.specs.inner.RemainingSteps.{GivesOfUid, IsWalk, remaining_steps};
 
     ghost can_next = { IsWalk };
 
-    ghost next_gives = { Gives };
+    ghost next_gives = { GivesOfUid };
 
-    ghost remaining = { λ walk. at_most (length (owed walk)) };
+    ghost remaining = { λ walk. at_most (length (remaining_steps walk)) };
 
     fn next(&mut self) -> Option<Result<Event<'a>, Error>> {
         self.advance()

@@ -13,15 +13,15 @@ use Rattle.plist_base.specs.declared.limited.Limited.{Limited}
 use Rattle.plist_base.specs.declared.limits.Limit.{Limit}
 use Rattle.plist_base.specs.declared.limits.Limits.{Limits}
 use Rattle.plist_base.specs.declared.limits.Limiter.{Limiter}
-use Rattle.plist_base.specs.Limits.{GivesLimited, PassesNext, come_of, event_or_limit, inner_of, limited_items, under}
+use Rattle.plist_base.specs.Limits.{GivesLimited, PassesNext, come_of, event_or_limit, iterator_of, limited_items, under}
 use Rattle.plist_base.specs.Faults.{FaultKind, Fault, Io, UnexpectedEof, OutOfMemory, InvalidMagic, InvalidTrailerObjectOffsetSize, InvalidTrailerObjectReferenceSize, ObjectOffsetTooLarge, ObjectReferenceTooLarge, RecursiveObject, NullObjectUnimplemented, FillObjectUnimplemented, UnknownObjectType, IntegerOutOfRange, OverflowOrNanDate, InvalidUtf8String, InvalidUtf16String, UnclosedString, IncompleteComment, InvalidUtf8AsciiStream, InvalidOctalString, LimitReached, MatchFault, XmlUnsupported, IsIo, fault_at, fault_nowhere, kind_of, error_kind_of, fault_of}
 use Rattle.plist_base.specs.Sequential.{from_place}
-use Rattle.plist_reader.specs.Streams.{bytes_left, source_of, place_of, held}
+use Rattle.plist_reader.specs.Streams.{stream_bytes_left, stream_source, stream_place, held}
 use Rattle.plist_base.specs.Sources.{ItemCountsIo, IsPlaceWithin}
 use Rattle.plist_base.proofs.Refusals.{MatchFault-weaker}
 use Rattle.plist_binread.specs.BinaryReader as binary
 use Rattle.plist_binread.specs.Failures.{HasPlace, MatchGiven, ItemGivenWithin}
-use Rattle.plist_binread.specs.Debt.{IsOwed, WantsMemory}
+use Rattle.plist_binread.specs.Remaining.{SomeRemain, WantsMemory}
 use Rattle.plist_ascii.specs.Ascii.{items_of_ascii, items_in, BeginsWithText}
 use Rattle.plist_ascii.specs.AsciiReader as ascii
 use Rattle.plist_ascii.specs.Kinds.{IsAsciiFault, IsAsciiItem, IsFaultOfBytes}
@@ -43,23 +43,24 @@ Given = Option (Result Event Error)
 one-owed : {A : Type 0} (x : A) (xs : List A) → 0 < length (x ∷ xs)
 one-owed x xs = omega arith
 
-wants-owed : (before : List Item) → WantsMemory before → IsOwed before
+wants-owed : (before : List Item) → WantsMemory before → SomeRemain before
 wants-owed [] h = absurd h
 wants-owed (x ∷ xs) h = one-owed x xs
 
-either-owed : (new : Bool) (before : List Item) → MatchBool new (IsOwed before) (WantsMemory before)
-    → IsOwed before
+either-owed : (new : Bool) (before : List Item) → MatchBool new (SomeRemain before)
+    (WantsMemory before)
+    → SomeRemain before
 either-owed true before h = h
 either-owed false before h = wants-owed _ h
 
-text-owed : (before : List Item) → BeginsWithText before → IsOwed before
+text-owed : (before : List Item) → BeginsWithText before → SomeRemain before
 text-owed [] h = absurd h
 text-owed (x ∷ xs) h = one-owed x xs
 
 -- ---- one call
 
 binary-item : (new : Bool) (before after : List Item) (item : Given)
-    → binary.GivesItem new before item after → GivesItem before item after
+    → binary.GivesBinaryItem new before item after → GivesItem before item after
 binary-item new before after None h = h
 binary-item new before after (Some (Ok event)) h = h
 binary-item new before after (Some (Err error)) h =
@@ -73,7 +74,7 @@ unfolding items_in
 none-left stops bytes q e = ap (λ l. items_of_ascii stops l q) e
 
 ascii-item : (stops : ℕ → Bool) (bytes rest : List ℕ) (p q : ℕ) (item : Given)
-    → ascii.GivesItem stops bytes p item rest q
+    → ascii.GivesAsciiItem stops bytes p item rest q
     → GivesItem (items_of_ascii stops bytes p) item (items_of_ascii stops rest q)
 ascii-item stops bytes rest p q None h = (h.0, none-left stops rest q h.1)
 ascii-item stops bytes rest p q (Some (Ok event)) h = h.items
@@ -83,7 +84,7 @@ ascii-item stops bytes rest p q (Some (Err error)) h =
     (λ b. b.items) h
 
 binary-goes : (k l : Option (List ℕ)) (f g : List ℕ → List Item) (new : Bool) (item : Given) → l ≡ k
-    → IfSome k (λ bytes. binary.GivesItem new (f bytes) item (g bytes))
+    → IfSome k (λ bytes. binary.GivesBinaryItem new (f bytes) item (g bytes))
     → GivesIfKnown (option_map f k) item (option_map g l)
 binary-goes None l f g new item e h = tt
 binary-goes (Some bytes) l f g new item e h =
@@ -91,7 +92,7 @@ binary-goes (Some bytes) l f g new item e h =
 
 pub ascii-goes : (stops : ℕ → Bool) (k l : Option (List ℕ)) (p q : ℕ) (item : Given)
     → ((bytes : List ℕ) → k ≡ Some bytes → (rest : List ℕ) × (l ≡ Some rest)
-    × ascii.GivesItem stops bytes p item rest q)
+    × ascii.GivesAsciiItem stops bytes p item rest q)
     → GivesIfKnown (option_map (λ bytes. items_of_ascii stops bytes p) k) item
     (option_map (λ bytes. items_of_ascii stops bytes q) l)
 ascii-goes stops None l p q item h = tt
@@ -117,7 +118,7 @@ over-ends E None h = h
 over-ends E (Some (Ok event)) h = tt
 over-ends E (Some (Err error)) h = text-or-all _ E h
 
-ascii-ends : (E : Type 0) (item : Given) → ascii.EndsAfter item E → IsAsciiItem item
+ascii-ends : (E : Type 0) (item : Given) → ascii.EndsAfterOutside item E → IsAsciiItem item
     → EndsAfter item E
 ascii-ends E None h k = h
 ascii-ends E (Some (Ok event)) h k = tt
@@ -233,7 +234,7 @@ ascii-placed place (Some (Err error)) h = placed _ _ h
     placed kind offset p = absurd p.0
 
 -- a count that is told
-told-failures : (a b : ℕ) (item : Given) → incoming.ItemCountsIoIfTold item (Some a) (Some b)
+told-failures : (a b : ℕ) (item : Given) → incoming.ItemCountsIoIfCounted item (Some a) (Some b)
     → ItemCountsIo item a b
 told-failures a b None h = same-count a b h
 told-failures a b (Some (Ok event)) h = same-count a b h
@@ -272,12 +273,13 @@ limit-other : (kind : FaultKind) (limit : Limit) (X Y Z : Type 0) → kind ≡ L
 limit-other kind limit X Y Z is z = rw is z
 
 reached-owed : (reached : Option Limit) (event : PlainEvent) (behind : List Item)
-    → IsOwed (event_or_limit reached event behind)
+    → SomeRemain (event_or_limit reached event behind)
 reached-owed None event behind = one-owed {A = Item} (Ok event) behind
 reached-owed (Some limit) event behind =
     one-owed {A = Item} (Err (fault_nowhere (LimitReached limit))) []
 
-limits-owed : (limiter : Limiter) (items : List Item) → IsOwed items → IsOwed (under limiter items)
+limits-owed : (limiter : Limiter) (items : List Item) → SomeRemain items
+    → SomeRemain (under limiter items)
 limits-owed limiter [] h = h
 limits-owed limiter (Ok event ∷ items) h = reached-owed _ _ _
 limits-owed limiter (Err fault ∷ items) h = one-owed {A = Item} (Err fault) []
@@ -350,23 +352,23 @@ module _ (now : Bool) (old new : Limiter) where
 
 -- a reader of ASCII that has given nothing has all items of its source to give
 fresh-text : {R : Type 0} (known : R → Option (List ℕ)) (source : R) (sequence : SourceBytes R) (reader : OfText R)
-    → source_of sequence ≡ source → place_of sequence ≡ 0 → held sequence ≡ []
+    → stream_source sequence ≡ source → stream_place sequence ≡ 0 → held sequence ≡ []
     → IfSome (known source) (λ bytes. format.Ascii ≡ format_of bytes)
-    → ascii.bytes_left (bytes_left known) reader
-    ≡ option_map input_front (bytes_left known sequence)
+    → ascii.untaken_bytes (stream_bytes_left known) reader
+    ≡ option_map input_front (stream_bytes_left known sequence)
     → ascii.place_of reader ≡ 0 → ascii.dialect_of reader ≡ Lax
     → text_to_come known reader ≡ option_map items_of_input (known source)
 fresh-text known source sequence reader from at none is bytes place dialect =
     ap (λ d. option_map (λ b. items_of_ascii (ends_bare d) b (ascii.place_of reader))
-    (ascii.bytes_left (bytes_left known) reader)) dialect
+    (ascii.untaken_bytes (stream_bytes_left known) reader)) dialect
     ∙ (λ i. option_map (λ b. items_of_ascii lax b (place i)) (bytes i))
     ∙ ap (λ p. option_map (λ b. items_of_ascii lax b 0)
     (option_map input_front (option_map (λ bytes. held sequence ++ from_place p bytes)
-    (known (source_of sequence))))) at
+    (known (stream_source sequence))))) at
     ∙ ap (λ w. option_map (λ b. items_of_ascii lax b 0)
     (option_map input_front (option_map (λ bytes. w ++ from_place 0 bytes)
-    (known (source_of sequence))))) none
-    ∙ ascii-items _ (known (source_of sequence)) (ap known from) is
+    (known (stream_source sequence))))) none
+    ∙ ascii-items _ (known (stream_source sequence)) (ap known from) is
 
 joined : (limits : Limits) (k : Option (List ℕ)) → option_map (limited_items limits)
     (option_map items_of_input k) ≡ option_map (input_within (Some limits)) k
@@ -439,14 +441,15 @@ module _ {R : Type 0} {g : Ghosts R} (known : R → Option (List ℕ)) (failed :
   pub binary-gives : (old new : OfFile R g) (item : Given) → FileGives {g = g} known failed old item new
       → StateGives known failed (state.Binary old) item (state.Binary new)
   binary-gives old new item h = record {
-    items = binary-goes (known (binary.source_of old)) (known (binary.source_of new))
-        (λ bytes. binary.to_come bytes old) (λ bytes. binary.to_come bytes new) (binary.is_new old)
+    items = binary-goes (known (binary.binary_source old)) (known (binary.binary_source new))
+        (λ bytes. binary.items_to_come bytes old) (λ bytes. binary.items_to_come bytes new)
+        (binary.is_new old)
         item h.unchanged h.items;
     failures = h.failures;
-    offset = binary-placed (binary.is_limited old) item h.faults;
+    offset = binary-placed (binary.has_limits old) item h.faults;
     ended = h.ended;
-    ends = over-ends (binary.HasEnded new) item h.ends;
-    kinds = binary-kinds (binary.is_limited old) item h.faults;
+    ends = over-ends (binary.HasEndedBinary new) item h.ends;
+    kinds = binary-kinds (binary.has_limits old) item h.faults;
     limits = λ none. h.kept.0 ∙ none;
     inside = (new, refl, h);
   }
@@ -458,15 +461,16 @@ module _ {R : Type 0} {g : Ghosts R} (known : R → Option (List ℕ)) (failed :
     items = subst (λ d. GivesIfKnown ((let before : State R g = state.Ascii old in coming known
         before))
         item (option_map (λ bytes. items_of_ascii (ends_bare d) bytes (ascii.place_of new))
-        (ascii.bytes_left (bytes_left known) new))) (sym h.dialect)
-        (ascii-goes (ascii.stops_of old) (ascii.bytes_left (bytes_left known) old)
-        (ascii.bytes_left (bytes_left known) new) (ascii.place_of old) (ascii.place_of new) item
+        (ascii.untaken_bytes (stream_bytes_left known) new))) (sym h.dialect)
+        (ascii-goes (ascii.stops_of old) (ascii.untaken_bytes (stream_bytes_left known) old)
+        (ascii.untaken_bytes (stream_bytes_left known) new) (ascii.place_of old)
+        (ascii.place_of new) item
         h.items);
-    failures = told-failures (failed (source_of (ascii.inner_of old)))
-        (failed (source_of (ascii.inner_of new))) item h.failures;
+    failures = told-failures (failed (stream_source (ascii.device_of old)))
+        (failed (stream_source (ascii.device_of new))) item h.failures;
     offset = ascii-placed (ascii.place_of new) item h.offset;
     ended = h.ended;
-    ends = ascii-ends (ascii.HasEnded new) item h.ends h.kinds;
+    ends = ascii-ends (ascii.HasEndedAscii new) item h.ends h.kinds;
     kinds = ascii-kinds false item h.kinds;
     limits = λ none. refl;
     inside = (new, refl, h);
@@ -476,7 +480,7 @@ module _ {R : Type 0} {g : Ghosts R} (known : R → Option (List ℕ)) (failed :
   over-gives : (old : Limited (OfText R)) → old.ended ≡ true
       → StateGives {R = R} {g = g} known failed (state.Limited old) None (state.Limited old)
   over-gives old over = record {
-    items = stays (text_to_come known (inner_of old));
+    items = stays (text_to_come known (iterator_of old));
     failures = refl;
     offset = tt;
     ended = λ _. refl;
@@ -508,8 +512,8 @@ module _ {R : Type 0} {g : Ghosts R} (known : R → Option (List ℕ)) (failed :
                 (text_to_come known old.inner) (text_to_come known new.inner) asked
                 item going inner.items passes;
             failures = passes-count new.ended old.limiter new.limiter asked item
-                (failed (source_of (ascii.inner_of old.inner)))
-                (failed (source_of (ascii.inner_of new.inner))) inner.failures passes;
+                (failed (stream_source (ascii.device_of old.inner)))
+                (failed (stream_source (ascii.device_of new.inner))) inner.failures passes;
             offset = passes-placed new.ended old.limiter new.limiter asked item inner.offset passes;
             ended = λ over. (let no : false ≡ true → item ≡ None = λ q. cc in no (cc));
             ends = passes-ends new.ended old.limiter new.limiter asked item passes;
@@ -555,47 +559,51 @@ module _ {R : Type 0} {g : Ghosts R} (known : R → Option (List ℕ)) (failed :
 
   binary-items : (limits : Option Limits) (k : Option (List ℕ)) (reader : OfFile R g)
       → IfSome k (λ bytes. format.Binary ≡ format_of bytes)
-      → IfSome k (λ bytes. binary.to_come bytes reader ≡ file_within limits bytes)
-      → IfSome k (λ bytes. binary.to_come bytes reader ≡ input_within limits bytes)
+      → IfSome k (λ bytes. binary.items_to_come bytes reader ≡ file_within limits bytes)
+      → IfSome k (λ bytes. binary.items_to_come bytes reader ≡ input_within limits bytes)
   binary-items limits None reader is h = tt
   binary-items limits (Some bytes) reader is h = h ∙ file-input limits bytes is
 
   pub begun-binary : (source : R) (limits : Option Limits) (old new : OfFile R g) (item : Given)
-      → binary.source_of old ≡ source → binary.is_new old ≡ true
-      → binary.is_limited old ≡ is_some limits
+      → binary.binary_source old ≡ source → binary.is_new old ≡ true
+      → binary.has_limits old ≡ is_some limits
       → IfSome (known source) (λ bytes. format.Binary ≡ format_of bytes)
-      → IfSome (known source) (λ bytes. binary.to_come bytes old ≡ file_within limits bytes)
+      → IfSome (known source) (λ bytes. binary.items_to_come bytes old ≡ file_within limits bytes)
       → FileGives {g = g} known failed old item new
       → StateGives known failed (state.Unread source limits) item (state.Binary new)
   begun-binary source limits old new item at fresh limited is begins h =
       chosen-gives source limits (state.Binary old) (state.Binary new) item
-      (same-items (known source) (known (binary.source_of old)) (λ bytes. binary.to_come bytes old)
+      (same-items (known source) (known (binary.binary_source old))
+      (λ bytes. binary.items_to_come bytes old)
       (input_within limits) (ap known at) (binary-items limits (known source) old is begins))
       limited
-      (subst (λ n. ItemCountsIo item n (failed (binary.source_of new))) (ap failed at) h.failures)
+      (subst (λ n. ItemCountsIo item n (failed (binary.binary_source new)))
+      (ap failed at) h.failures)
       (old, fresh, limited, h) (binary-gives old new item h)
 
   pub begun-ascii : (source : R) (sequence : SourceBytes R) (old new : OfText R) (item : Given)
-      → source_of sequence ≡ source → ascii.inner_of old ≡ sequence → place_of sequence ≡ 0
+      → stream_source sequence ≡ source → ascii.device_of old ≡ sequence → stream_place sequence ≡ 0
       → held sequence ≡ [] → IfSome (known source) (λ bytes. format.Ascii ≡ format_of bytes)
-      → ascii.bytes_left (bytes_left known) old ≡ option_map input_front (bytes_left known sequence)
+      → ascii.untaken_bytes (stream_bytes_left known) old ≡ option_map input_front
+      (stream_bytes_left known sequence)
       → ascii.place_of old ≡ 0 → ascii.dialect_of old ≡ Lax
       → TextGives known failed old item new
       → StateGives {R = R} {g = g} known failed (state.Unread source None) item (state.Ascii new)
   begun-ascii source sequence old new item from inside at none is bytes place dialect h =
       chosen-gives source None (state.Ascii old) (state.Ascii new) item
       (fresh-text known source sequence old from at none is bytes place dialect) refl
-      (subst (λ n. ItemCountsIo item n (failed (source_of (ascii.inner_of new))))
-      (ap (λ s. failed (source_of s)) inside ∙ ap failed from) (told-failures _ _ item h.failures))
+      (subst (λ n. ItemCountsIo item n (failed (stream_source (ascii.device_of new))))
+      (ap (λ s. failed (stream_source s)) inside ∙ ap failed from)
+      (told-failures _ _ item h.failures))
       (old, place, refl, h) (ascii-gives old new item h)
 
   pub begun-limited : (source : R) (limits : Limits) (sequence : SourceBytes R) (fresh : OfText R)
       (old new : Limited (OfText R)) (item : Given) → come_of old ≡ limited_items limits
-      → inner_of old ≡ fresh → source_of sequence ≡ source → ascii.inner_of fresh ≡ sequence
-      → place_of sequence ≡ 0 → held sequence ≡ []
+      → iterator_of old ≡ fresh → stream_source sequence ≡ source → ascii.device_of fresh ≡ sequence
+      → stream_place sequence ≡ 0 → held sequence ≡ []
       → IfSome (known source) (λ bytes. format.Ascii ≡ format_of bytes)
-      → ascii.bytes_left (bytes_left known) fresh
-      ≡ option_map input_front (bytes_left known sequence)
+      → ascii.untaken_bytes (stream_bytes_left known) fresh
+      ≡ option_map input_front (stream_bytes_left known sequence)
       → ascii.place_of fresh ≡ 0 → ascii.dialect_of fresh ≡ Lax
       → GivesLimited (TextGives known failed) old item new
       → StateGives {R = R} {g = g} known failed (state.Unread source (Some limits)) item
@@ -608,9 +616,9 @@ module _ {R : Type 0} {g : Ghosts R} (known : R → Option (List ℕ)) (failed :
       ∙ ap (option_map (limited_items limits))
       (fresh-text known source sequence fresh from at none is bytes place dialect)
       ∙ joined limits (known source)) refl
-      (subst (λ n. ItemCountsIo item n (failed (source_of (ascii.inner_of (inner_of new)))))
-      (ap (λ r. failed (source_of (ascii.inner_of r))) is-fresh
-      ∙ ap (λ s. failed (source_of s)) inside ∙ ap failed from) gives.failures)
+      (subst (λ n. ItemCountsIo item n (failed (stream_source (ascii.device_of (iterator_of new)))))
+      (ap (λ r. failed (stream_source (ascii.device_of r))) is-fresh
+      ∙ ap (λ s. failed (stream_source s)) inside ∙ ap failed from) gives.failures)
       (old, ap ascii.place_of is-fresh ∙ place, refl, h) gives
 
   -- the source is refused

@@ -6,7 +6,7 @@ use Rattle.plist_base.specs.declared.event.Event.{Event}
 use Rattle.plist_base.specs.declared.source.Source.{Ghosts}
 use Rattle.plist_base.specs.declared.limited.Limited.{Limited}
 use Rattle.plist_base.specs.declared.limits.Limits.{Limits}
-use Rattle.plist_base.specs.Limits.{GivesLimited, HasEndedLimited, come_of, inner_of, limited_items}
+use Rattle.plist_base.specs.Limits.{GivesLimited, HasEndedLimited, come_of, iterator_of, limited_items}
 use Rattle.plist_base.specs.Faults.{Fault, FaultKind, Io, IncompleteComment, InvalidOctalString, InvalidUtf16String, InvalidUtf8AsciiStream, LimitReached, MatchFault, OutOfMemory, UnclosedString, XmlUnsupported, kind_of, error_kind_of, fault_of, fault_at}
 use Rattle.plist_base.specs.Events.{Item, event_of}
 use Rattle.plist_base.specs.Sources.{ItemCountsIo}
@@ -15,7 +15,7 @@ use Rattle.plist_binread.specs.declared.reader.BinaryReader.{BinaryReader}
 use Rattle.plist_binread.specs.declared.counter.Uncounted.{Uncounted}
 use Rattle.plist_binread.specs.contracts.counter.UncountedDecodeCounter.TheImpl.{ghosts}
 use Rattle.plist_binread.specs.Failures.{HasPlace, MatchGiven}
-use Rattle.plist_binread.specs.Debt.{IsOwed, walk_steps}
+use Rattle.plist_binread.specs.Remaining.{SomeRemain, walk_steps}
 use Rattle.plist_format.specs.Unfolding.{items_of_file}
 use Rattle.plist_ascii.specs.Ascii.{items_of_ascii}
 use Rattle.plist_ascii.specs.AsciiReader as ascii
@@ -29,7 +29,7 @@ use Rattle.plist_reader.specs.declared.reader.State.{State}
 use Rattle.plist_reader.specs.declared.reader.State.TheVariants as state
 use Rattle.plist_reader.specs.Formats.{input_front, format_of}
 use Rattle.plist_reader.specs.Streams as stream
-use Rattle.plist_reader.specs.Streams.{bytes_left}
+use Rattle.plist_reader.specs.Streams.{stream_bytes_left}
 
 -- the items of some bytes of this format
 abbrev pub items_by : Format → List ℕ → List Item
@@ -66,7 +66,7 @@ abbrev pub text_to_come : {R : Type 0} (known : R → Option (List ℕ)) → OfT
     → Option (List Item)
 text_to_come known reader =
     option_map (λ bytes. items_of_ascii (ascii.stops_of reader) bytes (ascii.place_of reader))
-    (ascii.bytes_left (bytes_left known) reader)
+    (ascii.untaken_bytes (stream_bytes_left known) reader)
 
 module _ {R : Type 0} {g : Ghosts R} (known : R → Option (List ℕ)) where
   -- the items still to come, where the source's bytes are known: before the choice those of the
@@ -74,9 +74,10 @@ module _ {R : Type 0} {g : Ghosts R} (known : R → Option (List ℕ)) where
   abbrev pub coming : State R g → Option (List Item)
   coming (state.Unread source limits) = option_map (input_within limits) (known source)
   coming (state.Binary reader) =
-      option_map (λ bytes. binary.to_come bytes reader) (known (binary.source_of reader))
+      option_map (λ bytes. binary.items_to_come bytes reader) (known (binary.binary_source reader))
   coming (state.Ascii reader) = text_to_come known reader
-  coming (state.Limited reader) = option_map (come_of reader) (text_to_come known (inner_of reader))
+  coming (state.Limited reader) = option_map (come_of reader) (text_to_come known
+      (iterator_of reader))
   coming (state.Refused source) = Some []
   coming state.Moved = Some []
 
@@ -86,9 +87,10 @@ module _ {R : Type 0} {g : Ghosts R} (known : R → Option (List ℕ)) where
 -- the source
 abbrev pub source_in : {R : Type 0} {g : Ghosts R} → State R g → Option R
 source_in (state.Unread source limits) = Some source
-source_in (state.Binary reader) = Some (binary.source_of reader)
-source_in (state.Ascii reader) = Some (stream.source_of (ascii.inner_of reader))
-source_in (state.Limited reader) = Some (stream.source_of (ascii.inner_of (inner_of reader)))
+source_in (state.Binary reader) = Some (binary.binary_source reader)
+source_in (state.Ascii reader) = Some (stream.stream_source (ascii.device_of reader))
+source_in (state.Limited reader) = Some (stream.stream_source (ascii.device_of
+    (iterator_of reader)))
 source_in (state.Refused source) = Some source
 source_in state.Moved = None
 
@@ -99,8 +101,8 @@ source_of reader = source_in reader.state
 -- the reader gives nothing more
 abbrev pub IsOver : {R : Type 0} {g : Ghosts R} → State R g → Type 0
 IsOver (state.Unread source limits) = ⊥
-IsOver (state.Binary reader) = binary.HasEnded reader
-IsOver (state.Ascii reader) = ascii.HasEnded reader
+IsOver (state.Binary reader) = binary.HasEndedBinary reader
+IsOver (state.Ascii reader) = ascii.HasEndedAscii reader
 IsOver (state.Limited reader) = HasEndedLimited reader
 IsOver (state.Refused source) = ⊤
 IsOver state.Moved = ⊤
@@ -111,7 +113,7 @@ HasEnded reader = IsOver reader.state
 -- are there limits?
 abbrev pub is_limited_in : {R : Type 0} {g : Ghosts R} → State R g → Bool
 is_limited_in (state.Unread source limits) = is_some limits
-is_limited_in (state.Binary reader) = binary.is_limited reader
+is_limited_in (state.Binary reader) = binary.has_limits reader
 is_limited_in (state.Ascii reader) = false
 is_limited_in (state.Limited reader) = true
 is_limited_in (state.Refused source) = false
@@ -128,7 +130,8 @@ abbrev pub GivesItem : (before : List Item) → Option (Result Event Error) → 
 GivesItem before item after =
     MatchOption item ((before ≡ []) × (after ≡ [])) (λ answer. MatchResult answer
     (λ event. before ≡ Ok (event_of event) ∷ after)
-    (λ error. MatchFault (kind_of (error_kind_of error)) (after ≡ []) ((after ≡ []) × IsOwed before)
+    (λ error. MatchFault (kind_of (error_kind_of error)) (after ≡ []) ((after ≡ [])
+    × SomeRemain before)
     (before ≡ Err (fault_of error) ∷ after)))
 
 -- the same, where the items to come are known
@@ -174,8 +177,8 @@ IsRefusedKind XmlUnsupported = ⊤
 IsRefusedKind Io = ⊤
 IsRefusedKind kind = ⊥
 
-abbrev pub IsRefusal : Option (Result Event Error) → Type 0
-IsRefusal item = MatchOption item ⊥ (λ answer. MatchResult answer (λ _. ⊥)
+abbrev pub IsSourceRefusal : Option (Result Event Error) → Type 0
+IsSourceRefusal item = MatchOption item ⊥ (λ answer. MatchResult answer (λ _. ⊥)
     (λ error. IsRefusedKind (kind_of (error_kind_of error))))
 
 -- a fact for want of memory and the fault of a limit, which have no place, and one for every other
@@ -195,25 +198,25 @@ HasItsPlace item = MatchOption item ⊤ (λ answer. IfErr answer (λ error. IsPl
 -- one call of a reader that was chosen
 abbrev pub FileGives : {R : Type 0} {g : Ghosts R} (known : R → Option (List ℕ)) (failed : R → ℕ)
     → OfFile R g → Option (Result Event Error) → OfFile R g → Type 0
-FileGives known failed = binary.Gives known failed ⊥ (λ _. 0)
+FileGives known failed = binary.GivesBinary known failed ⊥ (λ _. 0)
 
 abbrev pub TextGives : {R : Type 0} (known : R → Option (List ℕ)) (failed : R → ℕ)
     → OfText R → Option (Result Event Error) → OfText R → Type 0
 TextGives known failed =
-    ascii.Gives (bytes_left known) (λ bytes. Some (failed (stream.source_of bytes)))
+    ascii.GivesAscii (stream_bytes_left known) (λ bytes. Some (failed (stream.stream_source bytes)))
 
 module _ {R : Type 0} {g : Ghosts R} (known : R → Option (List ℕ)) (failed : R → ℕ) where
   -- the first item is that of a reader that has given none, or the source is refused
   abbrev pub BeginsInside : Option Limits → Option (Result Event Error) → State R g → Type 0
   BeginsInside limits item (state.Binary new) = (fresh : OfFile R g)
-      × (binary.is_new fresh ≡ true) × (binary.is_limited fresh ≡ is_some limits)
+      × (binary.is_new fresh ≡ true) × (binary.has_limits fresh ≡ is_some limits)
       × FileGives known failed fresh item new
   BeginsInside limits item (state.Ascii new) = (fresh : OfText R)
       × (ascii.place_of fresh ≡ 0) × (limits ≡ None) × TextGives known failed fresh item new
   BeginsInside limits item (state.Limited new) = (fresh : Limited (OfText R))
-      × (ascii.place_of (inner_of fresh) ≡ 0) × (is_some limits ≡ true)
+      × (ascii.place_of (iterator_of fresh) ≡ 0) × (is_some limits ≡ true)
       × GivesLimited (TextGives known failed) fresh item new
-  BeginsInside limits item (state.Refused source) = IsRefusal item
+  BeginsInside limits item (state.Refused source) = IsSourceRefusal item
   BeginsInside limits item new = ⊥
 
   -- the reader that was chosen gives the item, and stays chosen
@@ -251,9 +254,9 @@ all_steps = walk_steps (2 ^ 64) + 1 + 2 ^ 64
 -- more than the items that are still to come
 abbrev pub steps_in_state : {R : Type 0} {g : Ghosts R} → State R g → ℕ
 steps_in_state (state.Unread source limits) = all_steps
-steps_in_state (state.Binary reader) = binary.steps_to_come reader
-steps_in_state (state.Ascii reader) = ascii.steps_to_come reader
-steps_in_state (state.Limited reader) = ascii.steps_to_come (inner_of reader)
+steps_in_state (state.Binary reader) = binary.binary_steps reader
+steps_in_state (state.Ascii reader) = ascii.ascii_steps reader
+steps_in_state (state.Limited reader) = ascii.ascii_steps (iterator_of reader)
 steps_in_state (state.Refused source) = 0
 steps_in_state state.Moved = 0
 

@@ -6,20 +6,21 @@ use Rattle.plist_base.specs.Sources.{CountsFailure}
 use Rattle.plist_reader.specs.declared.bytes.SourceBytes.{SourceBytes}
 
 -- the source inside
-abbrev pub source_of : {R : Type 0} → SourceBytes R → R
-source_of reader = reader.source
+abbrev pub stream_source : {R : Type 0} → SourceBytes R → R
+stream_source reader = reader.source
 
 -- how many of its bytes have been read
-abbrev pub place_of : {R : Type 0} → SourceBytes R → ℕ
-place_of reader = reader.place
+abbrev pub stream_place : {R : Type 0} → SourceBytes R → ℕ
+stream_place reader = reader.place
 
 -- the bytes that were read and are still to come
 abbrev pub held : {R : Type 0} → SourceBytes R → List ℕ
 held reader = drop reader.from (take reader.end reader.window)
 
 -- all bytes that are still to come, where the source's are known
-abbrev pub bytes_left : {R : Type 0} → (R → Option (List ℕ)) → SourceBytes R → Option (List ℕ)
-bytes_left known reader =
+abbrev pub stream_bytes_left : {R : Type 0} → (R → Option (List ℕ)) → SourceBytes R
+    → Option (List ℕ)
+stream_bytes_left known reader =
     option_map (λ bytes. held reader ++ from_place reader.place bytes) (known reader.source)
 
 -- the source's count of failures rises by one where a read of it fails, and else stays

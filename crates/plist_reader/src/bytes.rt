@@ -47,12 +47,12 @@ pub struct SourceBytes<R> {
 impl<R: Source> SourceBytes<R> {
     ghost use Rattle.std.specs.Prelude.{◌≡◌, [], OnOk};
     ghost use Rattle.std.specs.Io.KnownBytes.{IsAtEnd};
-    ghost use Rattle.plist_reader.specs.Streams.{source_of, place_of, held, bytes_left, ReadCounts};
+    ghost use Rattle.plist_reader.specs.Streams.{stream_source, stream_place, held, stream_bytes_left, ReadCounts};
 
     /// No byte has been read.
     pub fn new(source: R) -> Self
-        ensures source { source_of result ≡ source }
-        ensures place { place_of result ≡ 0 }
+        ensures source { stream_source result ≡ source }
+        ensures place { stream_place result ≡ 0 }
         ensures held { held result ≡ [] }
     {
         SourceBytes {
@@ -66,8 +66,10 @@ impl<R: Source> SourceBytes<R> {
 
     // Reads on where no byte is at hand.
     fn fill(&mut self) -> Result<(), io::Error>
-        ensures bytes { OnOk result (bytes_left R.known self.new ≡ bytes_left R.known self.old) }
-        ensures end { OnOk result (held self.new ≡ [] → IsAtEnd (bytes_left R.known self.new)) }
+        ensures bytes { OnOk result (stream_bytes_left R.known self.new
+            ≡ stream_bytes_left R.known self.old) }
+        ensures end { OnOk result (held self.new ≡ [] → IsAtEnd
+            (stream_bytes_left R.known self.new)) }
         ensures failures { ReadCounts R.failures self.old result self.new }
     {
         if self.from < self.end {
@@ -92,9 +94,9 @@ impl<R: Source> SourceBytes<R> {
 
 impl<R: Source> Bytes for SourceBytes<R> {
     ghost use Rattle.std.specs.Prelude.{Some};
-    ghost use Rattle.plist_reader.specs.Streams.{bytes_left, held};
+    ghost use Rattle.plist_reader.specs.Streams.{stream_bytes_left, held};
 
-    ghost remaining = { bytes_left R.known };
+    ghost remaining = { stream_bytes_left R.known };
 
     ghost failures = { λ s. Some (R.failures s.source) };
 
@@ -114,7 +116,7 @@ impl<R: Source> Bytes for SourceBytes<R> {
         }
     }
 
-    fn at_hand(&self) -> &[u8] {
+    fn buffered(&self) -> &[u8] {
         &self.window[self.from..self.end]
     }
 

@@ -2,7 +2,7 @@
 
 ghost use Rattle.std.specs.Prelude.{◌≡◌, ◌<◌, IfSome, Some, true};
 ghost use Rattle.std.specs.Option.{is_some};
-ghost use Rattle.plist_binread.specs.BinaryReader.{HasToCome, is_limited as is_limited_file, is_new, source_of as source_of_file};
+ghost use Rattle.plist_binread.specs.BinaryReader.{HasToCome, has_limits as is_limited_file, is_new, binary_source as source_of_file};
 ghost use Rattle.plist_reader.specs.Formats.{format_of};
 ghost use Rattle.plist_reader.specs.Reader.{StateGives, all_steps, file_within, steps_in_state};
 

@@ -4,37 +4,38 @@ use Rattle.plist_base.specs.Events.{PlainEvent}
 use Rattle.plist_base.specs.Trees.{Tree, Leaf, Array, Dictionary, Trees, NoTrees, TreeAnd, Members, NoMembers, MemberAnd}
 use Rattle.plist_format.specs.Object as obj
 use Rattle.plist_binwrite.specs.Numberings.{refs, pairs, obj_of}
-use Rattle.plist_binwrite.specs.Standing.{size, Sits, SitsItems, SitsPairs}
-use Rattle.plist_binwrite.proofs.Sitting.{sits_items, sits_pairs, sits_item, sits_next, sits_key, sits_value, sits_next_pair}
+use Rattle.plist_binwrite.specs.Occurrences.{size, OccursAt, ItemsOccurAt, PairsOccurAt}
+use Rattle.plist_binwrite.proofs.Sitting.{occurs_items, occurs_pairs, occurs_item, occurs_next, occurs_key, occurs_value, occurs_next_pair}
 
 module _ (es : List PlainEvent) (class : ℕ → ℕ)
-    (told : (t : Tree) (p q : ℕ) → Sits es t p → Sits es t q → obj_of class t p ≡ obj_of class t q
+    (told : (t : Tree) (p q : ℕ) → OccursAt es t p → OccursAt es t q
+    → obj_of class t p ≡ obj_of class t q
     → class p ≡ class q) where
   mutual
     -- indices of one tree have one class
-    pub complete : (t : Tree) (p q : ℕ) → Sits es t p → Sits es t q → class p ≡ class q
+    pub complete : (t : Tree) (p q : ℕ) → OccursAt es t p → OccursAt es t q → class p ≡ class q
     complete (Leaf x) p q s r = told (Leaf x) p q s r refl
     complete (Array ts) p q s r =
         told _ p q s r (ap obj.Array
-        (complete_items ts _ _ (sits_items s) (sits_items r)))
+        (complete_items ts _ _ (occurs_items s) (occurs_items r)))
     complete (Dictionary ms) p q s r =
         told _ p q s r (ap obj.Dictionary
-        (complete_pairs ms _ _ (sits_pairs s) (sits_pairs r)))
+        (complete_pairs ms _ _ (occurs_pairs s) (occurs_pairs r)))
 
-    complete_items : (ts : Trees) (p q : ℕ) → SitsItems es ts p → SitsItems es ts q
+    complete_items : (ts : Trees) (p q : ℕ) → ItemsOccurAt es ts p → ItemsOccurAt es ts q
         → refs class ts p ≡ refs class ts q
     complete_items NoTrees p q s r = refl
     complete_items (TreeAnd t ts) p q s r =
-        let first = complete t p q (sits_item s) (sits_item r) in
-        let more = complete_items ts (p + size t) _ (sits_next s) (sits_next r) in
+        let first = complete t p q (occurs_item s) (occurs_item r) in
+        let more = complete_items ts (p + size t) _ (occurs_next s) (occurs_next r) in
         λ i. first i ∷ more i
 
-    complete_pairs : (ms : Members) (p q : ℕ) → SitsPairs es ms p → SitsPairs es ms q
+    complete_pairs : (ms : Members) (p q : ℕ) → PairsOccurAt es ms p → PairsOccurAt es ms q
         → pairs class ms p ≡ pairs class ms q
     complete_pairs NoMembers p q s r = refl
     complete_pairs (MemberAnd k t ms) p q s r =
-        let key = told _ p q (sits_key s) (sits_key r) refl in
-        let first = complete t _ _ (sits_value s) (sits_value r) in
-        let more = complete_pairs ms _ _ (sits_next_pair s)
-        (sits_next_pair r) in
+        let key = told _ p q (occurs_key s) (occurs_key r) refl in
+        let first = complete t _ _ (occurs_value s) (occurs_value r) in
+        let more = complete_pairs ms _ _ (occurs_next_pair s)
+        (occurs_next_pair r) in
         λ i. (key i, first i) ∷ more i

@@ -10,19 +10,19 @@ use Rattle.plist_format.specs.Object as obj
 use Rattle.plist_format.specs.Object.{dictionary}
 use Rattle.plist_binwrite.specs.Classes.{AreClasses}
 use Rattle.plist_binwrite.specs.Forms.{keys_of, values_of}
-use Rattle.plist_binwrite.specs.Held.{item_indices, key_indices, value_indices, keys_in, values_in, held_kind, event_at, num_of}
+use Rattle.plist_binwrite.specs.EventTable.{item_indices, key_indices, value_indices, keys_in, values_in, held_kind, event_at, num_of}
 use Rattle.plist_binwrite.specs.Numberings.{pairs, obj_of}
-use Rattle.plist_binwrite.specs.Standing.{Sits}
-use Rattle.plist_binwrite.specs.declared.kinds.Kind.TheVariants as kind
+use Rattle.plist_binwrite.specs.Occurrences.{OccursAt}
+use Rattle.plist_binwrite.specs.declared.kinds.EntryKind.TheVariants as kind
 use Rattle.plist_binwrite.specs.inner.Scalars.{AreOwners, AreApart}
 use Rattle.plist_binwrite.proofs.Changes.{at_set}
 use Rattle.plist_binwrite.proofs.ClassObjects.{sound, the_items, the_pairs}
 use Rattle.plist_binwrite.proofs.Owned.{class_owner, owner_class}
 use Rattle.plist_binwrite.proofs.TreeObjects.{refs_are, keys_are, values_are}
 use Rattle.plist_binwrite.proofs.Reading.{dictionary_is, length-keys_of, length-values_of}
-use Rattle.plist_binwrite.proofs.Skipping.{stands_single, starts_array, starts_dictionary, sits_in}
+use Rattle.plist_binwrite.proofs.Skipping.{stands_single, starts_array, starts_dictionary, occurs_in}
 use Rattle.plist_share.proofs.Classed.{complete}
-use Rattle.plist_share.specs.inner.Keys.{Key, is_dictionary, IsIndexed, IsClass, HaveTreeClasses, Extends, TellTrees}
+use Rattle.plist_share.specs.inner.Keys.{Key, is_dictionary, IsIndexed, IsClass, HaveTreeClasses, Extends, TellsTreesApart}
 
 -- ---- a dictionary's pairs by their keys and their values, and the other way
 
@@ -60,10 +60,10 @@ same_halves f g ms p q e = λ i.
 module _ {es : List PlainEvent} {scalar class : ℕ → ℕ} {count : ℕ} {keys : List Key} {from : ℕ}
     (owners : AreOwners es scalar count) (have : HaveTreeClasses class count scalar es keys from)
     (none : from ≡ 0) where
-  all : (t : Tree) (p : ℕ) → Sits es t p → IsClass class count scalar keys t p (class p)
+  all : (t : Tree) (p : ℕ) → OccursAt es t p → IsClass class count scalar keys t p (class p)
   all t p s = have.behind t p (omega arith) s
 
-  one_scalar : (x y : Scalar) (p q : ℕ) → Sits es (Leaf x) p → Sits es (Leaf y) q
+  one_scalar : (x y : Scalar) (p q : ℕ) → OccursAt es (Leaf x) p → OccursAt es (Leaf y) q
       → class p ≡ class q → x ≡ y
   one_scalar x y p q s r e =
       let h = class_owner owners _ _ p q s r (sym (all _ p s) ∙ e ∙ all _ q r) in
@@ -85,7 +85,7 @@ module _ {es : List PlainEvent} {scalar class : ℕ → ℕ} {count : ℕ} {keys
       let no = ap (λ (k : Key). k.0) (one_key _ _ p q s r e) in cc
 
   -- one class, one object
-  pub one_object : (t u : Tree) (p q : ℕ) → Sits es t p → Sits es u q → class p ≡ class q
+  pub one_object : (t u : Tree) (p q : ℕ) → OccursAt es t p → OccursAt es u q → class p ≡ class q
       → obj_of class t p ≡ obj_of class u q
   one_object (Leaf x) (Leaf y) p q s r e = ap obj.Scalar (one_scalar x y p q s r e)
   one_object (Array ts) (Array us) p q s r e =
@@ -102,7 +102,7 @@ module _ {es : List PlainEvent} {scalar class : ℕ → ℕ} {count : ℕ} {keys
   one_object t u p q s r e =
       let a = all t p s in
       let b = all u q r in
-      absurd (omega (arith, owners.below p (sits_in s), owners.below q (sits_in r)))
+      absurd (omega (arith, owners.below p (occurs_in s), owners.below q (occurs_in r)))
 
   -- so they are classes
   pub found_classes : AreClasses es class
@@ -114,7 +114,8 @@ module _ {es : List PlainEvent} {scalar class : ℕ → ℕ} {count : ℕ} {keys
         let same = apart a.0 b.0 k a.2 (cc) in
         omega arith
 
-    told : (t : Tree) (p q : ℕ) → Sits es t p → Sits es t q → obj_of class t p ≡ obj_of class t q
+    told : (t : Tree) (p q : ℕ) → OccursAt es t p → OccursAt es t q
+        → obj_of class t p ≡ obj_of class t q
         → class p ≡ class q
     told (Leaf x) p q s r e =
         all (Leaf x) p s ∙ owner_class owners _ _ p q s r refl ∙ sym (all _ q r)
@@ -127,7 +128,7 @@ module _ {es : List PlainEvent} {scalar class : ℕ → ℕ} {count : ℕ} {keys
         (all (Dictionary ms) q r)
 
     -- so one class is one tree
-    pub told_trees : TellTrees es class
+    pub told_trees : TellsTreesApart es class
     told_trees t u p q s r = (
       sound found_classes t u p q s r,
       λ e. complete es class told t p q s (rw e r),
@@ -177,7 +178,7 @@ module _ (class after : ℕ → ℕ) (lo : ℕ) (agree : (q : ℕ) → lo ≤ q 
 
 module _ (es : List PlainEvent) (scalar class : ℕ → ℕ) (count : ℕ) (keys : List Key) where
   -- where a collection begins, the class is one of a collection
-  by_collection : (t : Tree) (p c : ℕ) → Sits es t p → held_kind (event_at es p) ≢ kind.Scalar
+  by_collection : (t : Tree) (p c : ℕ) → OccursAt es t p → held_kind (event_at es p) ≢ kind.Scalar
       → IsIndexed class count keys (is_dictionary (held_kind (event_at es p))) t p c
       → IsClass class count scalar keys t p c
   by_collection (Leaf x) p c s k h = absurd (k (ap held_kind (stands_single s)))
@@ -188,7 +189,7 @@ module _ (es : List PlainEvent) (scalar class : ℕ → ℕ) (count : ℕ) (keys
       subst (λ e. IsIndexed class count keys (is_dictionary (held_kind e)) (Dictionary ms) p c)
       (starts_dictionary s) h
 
-  by_scalar : (t : Tree) (p c : ℕ) → Sits es t p → held_kind (event_at es p) ≢ kind.Array
+  by_scalar : (t : Tree) (p c : ℕ) → OccursAt es t p → held_kind (event_at es p) ≢ kind.Array
       → held_kind (event_at es p) ≢ kind.Dictionary → c ≡ scalar p
       → IsClass class count scalar keys t p c
   by_scalar (Leaf x) p c s a d h = h
@@ -207,12 +208,12 @@ module _ (classes : List ℕ) (p c : ℕ) where
       → HaveTreeClasses (num_of classes) count scalar es keys (p + 1)
       → Extends keys new → p < length classes → c < count + length new
       → held_kind (event_at es p) ≢ kind.Scalar
-      → ((t : Tree) → Sits es t p
+      → ((t : Tree) → OccursAt es t p
       → IsIndexed (num_of classes) count new (is_dictionary (held_kind (event_at es p))) t p c)
       → HaveTreeClasses after count scalar es new p
   collection_written {es} {scalar} {count} {keys} {new} old more lt low k this = record {
     behind = λ t q le s. at_set classes p c 0 q (IsClass after count scalar new t q) lt
-        (λ e. subst (λ r. Sits es t r → IsClass after count scalar new t r c) (sym e)
+        (λ e. subst (λ r. OccursAt es t r → IsClass after count scalar new t r c) (sym e)
         (λ r. stays new (λ i h. refl) t p c (omega arith)
         (by_collection es scalar (num_of classes) count new t p c r k (this t r))) s)
         (λ d. stays keys more.keeps t q (num_of classes q) (omega (arith, le))
@@ -237,7 +238,7 @@ pub none_written : {es : List PlainEvent} {scalar class : ℕ → ℕ} {count : 
     → HaveTreeClasses class count scalar es keys p
 none_written {es} {scalar} {class} {count} {keys} p a d old = record {
   behind = λ t q le s. elim (eqb_tells q p) [
-    | inl e ↦ subst (λ r. Sits es t r → IsClass class count scalar keys t r (class r)) (sym e.1)
+    | inl e ↦ subst (λ r. OccursAt es t r → IsClass class count scalar keys t r (class r)) (sym e.1)
         (λ r. by_scalar es scalar class count keys t p (class p) r a d
         (old.before p (omega arith))) s
     | inr n ↦ old.behind t q (omega (arith, le, n.1)) s

@@ -7,15 +7,15 @@ use Rattle.plist_base.specs.Trees as trees
 use Rattle.plist_base.specs.Trees.{Tree, Leaf, Array, Dictionary, Trees, NoTrees, TreeAnd, Members, NoMembers, MemberAnd}
 use Rattle.plist_format.specs.Object as obj
 use Rattle.plist_format.specs.Object.{Object}
-use Rattle.plist_format.specs.Unfolding.{Entry}
+use Rattle.plist_format.specs.Unfolding.{TableEntry}
 use Rattle.plist_binwrite.proofs.ClassObjects.{the_scalar, the_text, the_items, the_pairs}
 use Rattle.plist_binwrite.proofs.Uniques.{all_both}
 use Rattle.plist_share.specs.Distinct.{subtrees, subtrees_of_items, subtrees_of_pairs}
 
-module _ (table : List Entry) where
+module _ (table : List TableEntry) where
   -- the number's object
   pub record Stands (number : ℕ) (object : Object) : Type 0 where
-    pub entry : Entry
+    pub entry : TableEntry
     pub found : slice_get table number ≡ Some entry
     pub is : entry.object ≡ object
 

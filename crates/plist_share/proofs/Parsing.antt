@@ -12,7 +12,7 @@ use Rattle.plist_base.specs.Trees.{Tree, Leaf, Array, Dictionary, Trees, NoTrees
 use Rattle.plist_base.specs.Bracketing.{bracketing, bracketing_of_items, bracketing_of_pairs}
 use Rattle.plist_format.specs.Object as obj
 use Rattle.plist_format.specs.Object.{Object, children_of}
-use Rattle.plist_format.specs.Unfolding.{Entry, items_of, items_found, unfolding_of}
+use Rattle.plist_format.specs.Unfolding.{TableEntry, items_of, items_found, unfolding_of}
 use Rattle.plist_share.proofs.Meaning.{Stands, Means, MeansItems, MeansPairs}
 
 tail_is : (a b : Item) (xs ys : List Item) → a ∷ xs ≡ b ∷ ys → xs ≡ ys
@@ -35,7 +35,7 @@ not_fault (Leaf x) zs f xs p = cc
 not_fault (Array ts) zs f xs p = cc
 not_fault (Dictionary ms) zs f xs p = cc
 
-module _ (table : List Entry) where
+module _ (table : List TableEntry) where
   -- where these items begin as a tree's events do, the number stands for the tree, and the rest
   -- follows; and they don't begin with an end
   abbrev pub IsTree : ℕ → List Item → Type 0
@@ -43,7 +43,7 @@ module _ (table : List Entry) where
       → items ++ xs ≡ map Ok (bracketing t ++ es) → Means table t i × (xs ≡ map Ok es))
       × ((xs ys : List Item) → items ++ xs ≡ Ok EndCollection ∷ ys → ⊥)
 
-module _ (table : List Entry) (child : ℕ → List Item)
+module _ (table : List TableEntry) (child : ℕ → List Item)
     (good : (c : ℕ) → IsTree table c (child c)) where
   items_parse : (refs : List ℕ) (ts : Trees) (es : List PlainEvent) (xs : List Item)
       → flat_map child refs ++ Ok EndCollection ∷ xs
@@ -104,10 +104,11 @@ module _ (table : List Entry) (child : ℕ → List Item)
   object_begins place (obj.Dictionary pairs) xs ys p = cc
   object_begins place (obj.Faulty kind) xs ys p = cc
 
-module _ (table : List Entry) where
+module _ (table : List TableEntry) where
   -- what a reference finds
-  found_parses : (i at : ℕ) (found : Option Entry) (is_open : Bool) (items : Entry → List Item)
-      → slice_get table i ≡ found → ((entry : Entry) → slice_get table i ≡ Some entry
+  found_parses : (i at : ℕ) (found : Option TableEntry) (is_open : Bool) (items : TableEntry
+      → List Item)
+      → slice_get table i ≡ found → ((entry : TableEntry) → slice_get table i ≡ Some entry
       → is_open ≡ false → IsTree table i (items entry))
       → IsTree table i (items_found found is_open at items)
   found_parses i at None o items f good =
@@ -117,18 +118,18 @@ module _ (table : List Entry) where
   found_parses i at (Some entry) false items f good = good entry f refl
 
   -- where an object's items are a tree's events, its number stands for the tree
-  pub unfolding_parses : (room : ℕ) (path : List ℕ) (at : ℕ) → IsPath (length table) path
-      → room + length path ≡ length table
-      → (c : ℕ) → IsTree table c (unfolding_of table room path at c)
+  pub unfolding_parses : (fuel : ℕ) (path : List ℕ) (at : ℕ) → IsPath (length table) path
+      → fuel + length path ≡ length table
+      → (c : ℕ) → IsTree table c (unfolding_of table fuel path at c)
   unfolding unfolding_of
   unfolding_parses zero path at o full c =
       found_parses c at (slice_get table c) (list_any (nat_eq c) path) (λ entry. []) refl
       (λ entry f new. let fits = path_rises c o (slice_get_within table c entry f) new in
       absurd (omega arith))
-  unfolding_parses (suc room) path at o full c =
+  unfolding_parses (suc fuel) path at o full c =
       found_parses c at (slice_get table c) (list_any (nat_eq c) path) _ refl (λ entry f new.
-      let child = λ (k : ℕ). unfolding_of table room (c ∷ path) entry.place k in
-      let good = unfolding_parses room (c ∷ path) entry.place
+      let child = λ (k : ℕ). unfolding_of table fuel (c ∷ path) entry.place k in
+      let good = unfolding_parses fuel (c ∷ path) entry.place
       (path_push c o (slice_get_within table c entry f) new) (omega arith) in (
         object_parses table child good c entry.place entry.object
             (record { entry = entry; found = f; is = refl }),

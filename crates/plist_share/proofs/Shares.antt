@@ -7,51 +7,51 @@ use Rattle.plist_base.specs.Events.{PlainEvent}
 use Rattle.plist_base.specs.Trees.{Tree, Leaf, Array, Dictionary, Trees, NoTrees, TreeAnd, Members, NoMembers, MemberAnd, String}
 use Rattle.plist_binwrite.specs.Classes.{same_class, kept, count_by, objects_by, size_by, IsFileBy}
 use Rattle.plist_binwrite.specs.Sizes.{total, size_with}
-use Rattle.plist_binwrite.specs.Standing.{Sits, met, met_in_items, met_in_pairs}
+use Rattle.plist_binwrite.specs.Occurrences.{OccursAt, positions, positions_in_items, positions_in_pairs}
 use Rattle.plist_binwrite.specs.Written.{reference_width}
-use Rattle.plist_binwrite.proofs.Inside.{Stands, met_stand}
+use Rattle.plist_binwrite.proofs.Inside.{Stands, positions_stand}
 use Rattle.plist_binwrite.proofs.Uniques.{unique_seen}
 use Rattle.plist_share.specs.Distinct.{tree_eq, subtrees, subtrees_of_items, subtrees_of_pairs, distinct_subtrees}
-use Rattle.plist_share.specs.inner.Keys.{TellTrees}
+use Rattle.plist_share.specs.inner.Keys.{TellsTreesApart}
 use Rattle.plist_share.specs.SharedFiles.{IsSharedFileOf}
 use Rattle.plist_share.specs.SharedSizes.{shared_objects_size, shared_file_size}
 use Rattle.plist_share.proofs.Least.{least}
 use Rattle.plist_share.proofs.Telling.{tree_same, tree_other}
 
-abbrev tree_met : ℕ × Tree → Tree
-tree_met a = a.1
+abbrev tree_positions : ℕ × Tree → Tree
+tree_positions a = a.1
 
 -- what is met are the subtrees
 mutual
-  trees_met : (t : Tree) (p : ℕ) → map tree_met (met t p) ≡ subtrees t
-  trees_met (Leaf x) p = refl
-  trees_met (Array ts) p = ap (λ l. Array ts ∷ l) (trees_met_in_items ts _)
-  trees_met (Dictionary ms) p = ap (λ l. Dictionary ms ∷ l) (trees_met_in_pairs ms _)
+  trees_positions : (t : Tree) (p : ℕ) → map tree_positions (positions t p) ≡ subtrees t
+  trees_positions (Leaf x) p = refl
+  trees_positions (Array ts) p = ap (λ l. Array ts ∷ l) (trees_positions_in_items ts _)
+  trees_positions (Dictionary ms) p = ap (λ l. Dictionary ms ∷ l) (trees_positions_in_pairs ms _)
 
-  trees_met_in_items : (ts : Trees) (p : ℕ)
-      → map tree_met (met_in_items ts p) ≡ subtrees_of_items ts
-  trees_met_in_items NoTrees p = refl
-  trees_met_in_items (TreeAnd t ts) p =
-      let first = trees_met t p in
-      let more = trees_met_in_items ts _ in
-      map-append tree_met _ _ ∙ (λ i. first i ++ more i)
+  trees_positions_in_items : (ts : Trees) (p : ℕ)
+      → map tree_positions (positions_in_items ts p) ≡ subtrees_of_items ts
+  trees_positions_in_items NoTrees p = refl
+  trees_positions_in_items (TreeAnd t ts) p =
+      let first = trees_positions t p in
+      let more = trees_positions_in_items ts _ in
+      map-append tree_positions _ _ ∙ (λ i. first i ++ more i)
 
-  trees_met_in_pairs : (ms : Members) (p : ℕ)
-      → map tree_met (met_in_pairs ms p) ≡ subtrees_of_pairs ms
-  trees_met_in_pairs NoMembers p = refl
-  trees_met_in_pairs (MemberAnd k t ms) p =
-      let first = trees_met t _ in
-      let more = trees_met_in_pairs ms _ in
+  trees_positions_in_pairs : (ms : Members) (p : ℕ)
+      → map tree_positions (positions_in_pairs ms p) ≡ subtrees_of_pairs ms
+  trees_positions_in_pairs NoMembers p = refl
+  trees_positions_in_pairs (MemberAnd k t ms) p =
+      let first = trees_positions t _ in
+      let more = trees_positions_in_pairs ms _ in
       ap (λ l. Leaf (String k) ∷ l) (map-append _ _
       _ ∙ (λ i. first i ++ more i))
 
 total_trees : (weight : Tree → ℕ) (xs : List (ℕ × Tree))
-    → total (λ a. weight a.1) xs ≡ total weight (map tree_met xs)
+    → total (λ a. weight a.1) xs ≡ total weight (map tree_positions xs)
 total_trees weight [] = refl
 total_trees weight (x ∷ xs) = ap (λ n. weight x.1 + n) (total_trees _ xs)
 
-module _ (es : List PlainEvent) (class : ℕ → ℕ) (told : TellTrees es class) where
-  told_alike : (a b : ℕ × Tree) → Sits es a.1 a.0 → Sits es b.1 b.0
+module _ (es : List PlainEvent) (class : ℕ → ℕ) (told : TellsTreesApart es class) where
+  told_alike : (a b : ℕ × Tree) → OccursAt es a.1 a.0 → OccursAt es b.1 b.0
       → nat_eq (class a.0) (class b.0) ≡ tree_eq a.1 b.1
   told_alike a b s r =
       elim (eqb_tells (class a.0) (class b.0)) [
@@ -60,14 +60,14 @@ module _ (es : List PlainEvent) (class : ℕ → ℕ) (told : TellTrees es class
         | inr n ↦ n.0 ∙ sym (tree_other a.1 b.1 (λ e. n.1 ((told a.1 b.1 a.0 b.0 s r).1 e)))
       ]
 
-  module _ (t : Tree) (s : Sits es t 0) where
-    trees_kept : map tree_met (kept class t) ≡ unique_keys tree_eq (subtrees t)
+  module _ (t : Tree) (s : OccursAt es t 0) where
+    trees_kept : map tree_positions (kept class t) ≡ unique_keys tree_eq (subtrees t)
     trees_kept =
-        unique_seen (same_class class) tree_eq tree_met (Stands es) told_alike (met t 0)
-        (met_stand es t 0 s) ∙ ap (unique_keys tree_eq) (trees_met t 0)
+        unique_seen (same_class class) tree_eq tree_positions (Stands es) told_alike (positions t 0)
+        (positions_stand es t 0 s) ∙ ap (unique_keys tree_eq) (trees_positions t 0)
 
     pub count_is : count_by class t ≡ distinct_subtrees t
-    count_is = sym (length-map (kept class t) tree_met) ∙ ap length trees_kept
+    count_is = sym (length-map (kept class t) tree_positions) ∙ ap length trees_kept
 
     objects_are : (width : ℕ) → objects_by class width t ≡ shared_objects_size width t
     objects_are width =

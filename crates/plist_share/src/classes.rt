@@ -3,16 +3,16 @@
 ghost use Rattle.std.specs.Prelude.{◌≡◌, ◌+◌, ◌<◌, length, IfOk, OnOk};
 ghost use Rattle.plist_base.specs.Outcomes.{OnlyMemory};
 ghost use Rattle.plist_binwrite.specs.Classes.{AreClasses};
-ghost use Rattle.plist_binwrite.specs.Held.{plain_events, AllBelow, num_of, held_at, held_kind};
+ghost use Rattle.plist_binwrite.specs.EventTable.{plain_events, AllBelow, num_of, held_at, held_kind};
 ghost use Rattle.plist_binwrite.specs.inner.Scalars.{AreApart};
-ghost use Rattle.plist_share.specs.inner.Keys.{TellTrees, Extends, keys_seen, AddsClasses, AreClassesWithin, HaveFrom, IsClassAt, IsKeyAt, is_dictionary};
+ghost use Rattle.plist_share.specs.inner.Keys.{TellsTreesApart, Extends, keys_seen, AddsClasses, AreClassesWithin, HaveFrom, IsClassAt, IsKeyAt, is_dictionary};
 
 use indexmap::IndexSet;
 use plist_base::{Error, ErrorKind};
-use plist_binwrite::Held;
-use plist_binwrite::children::children;
+use plist_binwrite::EventTable;
+use plist_binwrite::children::child_indices;
 use plist_binwrite::classes::{Classes, classes_of};
-use plist_binwrite::kinds::{Kind, push_index};
+use plist_binwrite::kinds::{EntryKind, push_index};
 use plist_binwrite::numbers::Numbers;
 use std::alloc::Global;
 
@@ -62,7 +62,7 @@ fn push_classes(found: &mut Vec<usize>, classes: &Numbers, indices: &[usize]) ->
 // The classes of the children of the collection that begins here.
 fn classes_within(
     alloc: Global,
-    events: &Held<'_>,
+    events: &EventTable<'_>,
     classes: &Numbers,
     index: usize,
     indices: &mut Indices,
@@ -72,7 +72,7 @@ fn classes_within(
     ensures classes { IfOk result (AreClassesWithin events.now classes.now index) }
     ensures memory { OnlyMemory result }
 {
-    children(events, index, &mut indices.keys, &mut indices.values)?;
+    child_indices(events, index, &mut indices.keys, &mut indices.values)?;
     let mut found = Vec::new(alloc);
     push_classes(&mut found, classes, indices.keys.as_slice())?;
     push_classes(&mut found, classes, indices.values.as_slice())?;
@@ -80,13 +80,13 @@ fn classes_within(
 }
 
 // Whether a dictionary begins here.
-fn begins_dictionary(events: &Held<'_>, index: usize) -> bool
+fn begins_dictionary(events: &EventTable<'_>, index: usize) -> bool
     requires { index < length (plain_events events.now) }
     ensures { result ≡ is_dictionary (held_kind (held_at events.now index)) }
 {
     match events.kind_at(index) {
-        Kind::Dictionary => true,
-        Kind::Array | Kind::End | Kind::Scalar => false,
+        EntryKind::Dictionary => true,
+        EntryKind::Array | EntryKind::End | EntryKind::Scalar => false,
     }
 }
 
@@ -94,7 +94,7 @@ fn begins_dictionary(events: &Held<'_>, index: usize) -> bool
 // behind the ones of scalars.
 fn class_of_collection(
     alloc: Global,
-    events: &Held<'_>,
+    events: &EventTable<'_>,
     classes: &Numbers,
     base: usize,
     index: usize,
@@ -127,7 +127,7 @@ fn class_of_collection(
 // Gives the tree that begins here its class, if a collection does; a scalar has one.
 fn give_class(
     alloc: Global,
-    events: &Held<'_>,
+    events: &EventTable<'_>,
     base: usize,
     index: usize,
     indices: &mut Indices,
@@ -144,8 +144,8 @@ fn give_class(
     ensures memory { OnlyMemory result }
 {
     match events.kind_at(index) {
-        Kind::Scalar => Ok(()),
-        Kind::End => Ok(()),
+        EntryKind::Scalar => Ok(()),
+        EntryKind::End => Ok(()),
         _ => {
             let class = class_of_collection(alloc, events, classes, base, index, indices, seen)?;
             classes.set(index, class)?;
@@ -158,10 +158,10 @@ fn give_class(
 ///
 /// # Errors
 /// `OutOfMemory`, without an offset.
-pub fn tree_classes(alloc: Global, events: &Held<'_>) -> Result<Classes, Error>
+pub fn tree_classes(alloc: Global, events: &EventTable<'_>) -> Result<Classes, Error>
     // The answer.
     ensures objects { IfOk result (λ r. AreClasses (plain_events events.now) (num_of r.of)) }
-    ensures trees { IfOk result (λ r. TellTrees (plain_events events.now) (num_of r.of)) }
+    ensures trees { IfOk result (λ r. TellsTreesApart (plain_events events.now) (num_of r.of)) }
     ensures long { IfOk result (λ r. length r.of ≡ length (plain_events events.now)) }
     ensures below { IfOk result (λ r. AllBelow r.count r.of) }
     // A refusal.

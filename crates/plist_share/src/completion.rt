@@ -5,7 +5,7 @@ ghost use Rattle.plist_share.specs.SharedSizes.{shared_file_size};
 
 use crate::classes::tree_classes;
 use plist_base::{Error, Sealed};
-use plist_binwrite::{Held, Sharing, complete_by_class};
+use plist_binwrite::{EventTable, Sharing, complete_by_class};
 use std::alloc::Global;
 use std::io::Write;
 
@@ -20,7 +20,11 @@ impl Sharing for EqualTrees {
 
     ghost size = { shared_file_size };
 
-    fn complete<W: Write>(alloc: Global, events: &Held<'_>, writer: &mut W) -> Result<(), Error> {
+    fn complete<W: Write>(
+        alloc: Global,
+        events: &EventTable<'_>,
+        writer: &mut W,
+    ) -> Result<(), Error> {
         let classes = tree_classes(alloc, events)?;
         match complete_by_class(alloc, events, classes, writer) {
             Ok(()) => Ok(()),

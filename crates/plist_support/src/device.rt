@@ -11,7 +11,7 @@ use std::io::{Cursor, ErrorKind, Read, Seek, SeekFrom, Write};
 
 /// What comes of the one call that is unlike the others.
 #[derive(Clone, Copy)]
-pub enum Fault {
+pub enum DeviceFault {
     /// It fails with an error of this kind.
     Fails(ErrorKind),
     /// A read gives nothing; a write takes nothing, and that is a failure.
@@ -46,17 +46,17 @@ pub struct Device {
     /// How many of them failed.
     pub failures: u64,
     faulty_call: u64,
-    fault: Fault,
+    fault: DeviceFault,
 }
 
 impl Device {
     /// It fails in a way after which callers may want to try again.
     pub fn new(bytes: Vec<u8>, fails_at: u64) -> Device {
-        Device::with_fault(bytes, fails_at, Fault::Fails(ErrorKind::Interrupted))
+        Device::with_fault(bytes, fails_at, DeviceFault::Fails(ErrorKind::Interrupted))
     }
 
     /// It has this fault at this call.
-    pub fn with_fault(bytes: Vec<u8>, faulty_call: u64, fault: Fault) -> Device {
+    pub fn with_fault(bytes: Vec<u8>, faulty_call: u64, fault: DeviceFault) -> Device {
         Device {
             bytes,
             moved: 0,
@@ -81,12 +81,12 @@ impl Device {
             return Ok(true);
         }
         match self.fault {
-            Fault::MovesNothing => Ok(false),
-            Fault::Shrinks(left) => {
+            DeviceFault::MovesNothing => Ok(false),
+            DeviceFault::Shrinks(left) => {
                 self.bytes.truncate(left);
                 Ok(true)
             }
-            Fault::Fails(kind) => {
+            DeviceFault::Fails(kind) => {
                 self.failures = self.failures.saturating_add(1);
                 Err(io::Error::from(kind))
             }

@@ -1,7 +1,7 @@
 //! What a reader gives over devices: that give one byte a call, fail at each call in turn, or
 //! shrink.
 
-use crate::device::{Device, Fault, expect_cut};
+use crate::device::{Device, DeviceFault, expect_cut};
 use crate::words::words_of;
 use crate::wrong::{Wrong, told};
 use plist_ascii::{AsciiReader, Dialect};
@@ -53,11 +53,16 @@ pub fn words_over<S: Source + Read>(
     }
 }
 
-fn device_of(alloc: Global, bytes: &[u8], call: u64, fault: Fault) -> Result<Device, AllocError> {
+fn device_of(
+    alloc: Global,
+    bytes: &[u8],
+    call: u64,
+    fault: DeviceFault,
+) -> Result<Device, AllocError> {
     Ok(Device::with_fault(Vec::from_slice(alloc, bytes)?, call, fault))
 }
 
-const INTERRUPTED: Fault = Fault::Fails(ErrorKind::Interrupted);
+const INTERRUPTED: DeviceFault = DeviceFault::Fails(ErrorKind::Interrupted);
 
 // The device fails at this call, which is made for an item behind these. In the place of that comes
 // `Io` with the place of the read, and then nothing, however often the reader is asked.
@@ -114,7 +119,7 @@ pub fn expect_on_devices(alloc: Global, by: By, bytes: &[u8], items: &str) -> Re
 // Behind its first call the source has so many bytes. The items are as they were, or a beginning of
 // them and the end at the place of the first byte that isn't there.
 fn expect_shrunk(alloc: Global, bytes: &[u8], items: &str, left: usize) -> Result<(), Wrong> {
-    let mut device = device_of(alloc, bytes, 1, Fault::Shrinks(left))?;
+    let mut device = device_of(alloc, bytes, 1, DeviceFault::Shrinks(left))?;
     let found = words_over(alloc, By::Binary, &mut device, usize::MAX)?;
     if device.failures != 0 {
         return told(format!(in alloc; "a failure with {left} bytes left"));
@@ -133,7 +138,7 @@ fn expect_shrunk(alloc: Global, bytes: &[u8], items: &str, left: usize) -> Resul
 pub fn expect_on_shrinking_devices(alloc: Global, bytes: &[u8], items: &str) -> Result<(), Wrong> {
     for left in 0..bytes.len() {
         expect_shrunk(alloc, bytes, items, left)?;
-        let mut device = device_of(alloc, bytes, 1, Fault::Shrinks(left))?;
+        let mut device = device_of(alloc, bytes, 1, DeviceFault::Shrinks(left))?;
         let _ = words_over(alloc, By::Either, &mut device, usize::MAX)?;
         if device.failures != 0 {
             return told(format!(in alloc; "a failure with {left} bytes left"));

@@ -6,7 +6,7 @@
 ghost use Rattle.std.specs.Prelude.{◌≤◌, IfOk};
 ghost use Rattle.std.specs.Process.{exit_status};
 ghost use Rattle.plist_base.specs.Outcomes.{OnlyMemory};
-ghost use Rattle.plist_tool.specs.Exits.{IsStatusOf, TellsFault};
+ghost use Rattle.plist_tool.specs.Exits.{IsStatusOf, ReportsFault};
 
 use plist_base::Error;
 use plist_commands::{Failure, Message, Messages, run_words, words_given};
@@ -32,12 +32,12 @@ fn run<R: Files + Env + AllocGlobal, O: Write, E: Messages>(
 // The exit code of a run: its status, or 1 where there was no memory to begin, which is then told.
 fn exit_code<E: Messages>(answer: Result<u8, Error>, err: &mut E) -> ExitCode
     ensures status { IsStatusOf answer (exit_status result) }
-    ensures told { TellsFault E.tells answer err.old err.new }
+    ensures reported { ReportsFault E.reports answer err.old err.new }
 {
     match answer {
         Ok(status) => ExitCode::from(status),
         Err(error) => {
-            let _ = err.tell(Message::Fault(&Failure::Plist(error)));
+            let _ = err.report(Message::Fault(&Failure::Plist(error)));
             ExitCode::FAILURE
         }
     }

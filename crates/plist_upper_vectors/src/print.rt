@@ -2,7 +2,7 @@
 
 use crate::support::{broken_file, expect_taken, failing, must, sound};
 use plist_commands::print_events;
-use plist_support::{Device, Fault, expect_io, front};
+use plist_support::{Device, DeviceFault, expect_io, front};
 use std::io::ErrorKind;
 use std::process::Abort;
 
@@ -88,7 +88,7 @@ fn a_later_read_that_fails(rt: HostRuntime) {
     let mut sent = 0;
     for call in 0..200 {
         let bytes = must(&rt, Vec::from_slice(rt.alloc(), TWO_TEXTS));
-        let device = Device::with_fault(bytes, call, Fault::Fails(ErrorKind::TimedOut));
+        let device = Device::with_fault(bytes, call, DeviceFault::Fails(ErrorKind::TimedOut));
         let mut out = Vec::new(rt.alloc());
         if print_events(rt.alloc(), device, &mut out).is_ok() {
             assert_eq!(rt; out.as_slice(), LINES);

@@ -12,7 +12,7 @@ use Rattle.plist_uses.specs.declared.counting.Counts.{Counts}
 use Rattle.plist_base.specs.Faults.{MatchFault, error_kind_of, fault_of, kind_of}
 use Rattle.plist_base.proofs.Refusals.{MatchFault-weaker}
 use Rattle.std.specs.Prelude.{⊤}
-use Rattle.plist_uses.specs.Counting.{StopAt, count_passing, one_more, Tell, AreCountsOf, CountsItem, CountsOne, nothing}
+use Rattle.plist_uses.specs.Counting.{StopAt, count_passing, one_more, AreCounts, AreCountsOf, CountsItem, CountsOne, nothing}
 
 stopped-more : (n old new : ℕ) → old ≡ min n (2 ^ 64 - 1) → new ≡ min (old + 1) (2 ^ 64 - 1)
     → new ≡ min (n + 1) (2 ^ 64 - 1)
@@ -36,9 +36,9 @@ number-more passes taken event old new is more =
 abbrev pub CountedSoFar : (all coming : Option (List Item)) → Counts → Type 0
 CountedSoFar all coming counts =
     IfSome all (λ items. (taken : List PlainEvent) × (left : List Item) × (coming ≡ Some left)
-    × (items ≡ map Ok taken ++ left) × Tell taken counts)
+    × (items ≡ map Ok taken ++ left) × AreCounts taken counts)
 
-tells-none : (counts : Counts) → counts ≡ nothing → Tell [] counts
+tells-none : (counts : Counts) → counts ≡ nothing → AreCounts [] counts
 tells-none counts is =
     rw is (record { arrays = refl; dictionaries = refl; texts = refl; others = refl })
 
@@ -47,8 +47,8 @@ pub begun : (all : Option (List Item)) (counts : Counts) → counts ≡ nothing
 begun None counts is = tt
 begun (Some items) counts is = ([], items, refl, refl, tells-none counts is)
 
-tells-more : (taken : List PlainEvent) (event : PlainEvent) (old new : Counts) → Tell taken old
-    → CountsOne event old new → Tell (taken ++ event ∷ []) new
+tells-more : (taken : List PlainEvent) (event : PlainEvent) (old new : Counts) → AreCounts taken old
+    → CountsOne event old new → AreCounts (taken ++ event ∷ []) new
 tells-more taken event old new tell one = record {
   arrays = number-more _ taken event old.arrays new.arrays tell.arrays one.arrays;
   dictionaries =

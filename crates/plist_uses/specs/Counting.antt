@@ -29,7 +29,7 @@ abbrev pub count_passing : (PlainEvent → Bool) → List PlainEvent → ℕ
 count_passing passes events = min (length (filter passes events)) (2 ^ 64 - 1)
 
 -- the counts tell how many arrays, dictionaries, texts and others these events have
-pub record Tell (events : List PlainEvent) (counts : Counts) : Type 0 where
+pub record AreCounts (events : List PlainEvent) (counts : Counts) : Type 0 where
   pub arrays : counts.arrays ≡ count_passing is_array events
   pub dictionaries : counts.dictionaries ≡ count_passing starts_dictionary events
   pub texts : counts.texts ≡ count_passing is_text events
@@ -37,7 +37,8 @@ pub record Tell (events : List PlainEvent) (counts : Counts) : Type 0 where
 
 -- the items are events without a fault, and these are their counts
 abbrev pub AreCountsOf : List Item → Counts → Type 0
-AreCountsOf items counts = (events : List PlainEvent) × (items ≡ map Ok events) × Tell events counts
+AreCountsOf items counts = (events : List PlainEvent) × (items ≡ map Ok events)
+    × AreCounts events counts
 
 -- the same of what was answered, where it is no fault
 abbrev pub AreCountedOf : List Item → Result Counts Error → Type 0

@@ -3,7 +3,7 @@
 use crate::support::must;
 use plist_ascii::AsciiReader;
 use plist_base::{Error, OwnedEvent};
-use plist_support::{Device, Fault, READ_FAILURES, expect_io};
+use plist_support::{Device, DeviceFault, READ_FAILURES, expect_io};
 use std::alloc::Global;
 use std::io::ErrorKind;
 use std::process::Abort;
@@ -29,7 +29,7 @@ fn every_short_input_ends(rt: HostRuntime) {
 }
 
 // A device over this text, with a fault at this call.
-fn device_of(rt: &(impl Abort + AllocGlobal), text: &str, call: u64, fault: Fault) -> Device {
+fn device_of(rt: &(impl Abort + AllocGlobal), text: &str, call: u64, fault: DeviceFault) -> Device {
     let bytes = must(rt, Vec::from_slice(rt.alloc(), text.as_bytes()));
     Device::with_fault(bytes, call, fault)
 }
@@ -51,7 +51,7 @@ fn next_of(rt: &impl Abort, reader: &mut AsciiReader<Device>) -> Result<OwnedEve
 
 // A device's own error is handed on, and after it nothing is read, though the device would go on.
 fn expect_handed_on(rt: &(impl Abort + AllocGlobal), kind: ErrorKind) {
-    let device = device_of(rt, "(a)", 1, Fault::Fails(kind));
+    let device = device_of(rt, "(a)", 1, DeviceFault::Fails(kind));
     let mut reader = AsciiReader::new(rt.alloc(), device);
     must(rt, next_of(rt, &mut reader));
     must(rt, expect_io(next_of(rt, &mut reader), kind, Some(1)));
@@ -70,7 +70,7 @@ fn ends_after_a_failure(rt: HostRuntime) {
 // After the end of the input nothing is read, though the device would go on.
 #[test]
 fn ends_at_the_end(rt: HostRuntime) {
-    let device = device_of(&rt, "(a)", 2, Fault::MovesNothing);
+    let device = device_of(&rt, "(a)", 2, DeviceFault::MovesNothing);
     let mut reader = AsciiReader::new(rt.alloc(), device);
     must(&rt, next_of(&rt, &mut reader));
     must(&rt, next_of(&rt, &mut reader));

@@ -3,7 +3,7 @@
 use crate::support::must;
 use plist_base::{Error, OwnedEvent, read_exact_at};
 use plist_binread::BinaryReader;
-use plist_support::{Device, Fault, READ_FAILURES, expect_io, file};
+use plist_support::{Device, DeviceFault, READ_FAILURES, expect_io, file};
 use std::io::ErrorKind;
 use std::process::Abort;
 
@@ -28,7 +28,7 @@ fn ends_for_good(rt: HostRuntime) {
 }
 
 // A device over a file of seven events, with a fault at this call.
-fn device_of(rt: &(impl Abort + AllocGlobal), call: u64, fault: Fault) -> Device {
+fn device_of(rt: &(impl Abort + AllocGlobal), call: u64, fault: DeviceFault) -> Device {
     let body = "d201020301 5161 5162 a104 5178 080d0f1113";
     Device::with_fault(
         must(rt, file(rt.alloc(), body, [1, 1], [5, 0, 21])),
@@ -53,13 +53,13 @@ fn only_item(
 // A device's own error is handed on by the reader and by `read_exact_at`, and what failed isn't
 // tried again, though the device would go on.
 fn expect_handed_on(rt: &(impl Abort + AllocGlobal), kind: ErrorKind) {
-    let mut device = device_of(rt, 2, Fault::Fails(kind));
+    let mut device = device_of(rt, 2, DeviceFault::Fails(kind));
     match only_item(rt, &mut device) {
         Some(item) => must(rt, expect_io(item, kind, Some(device.place))),
         None => panic!(rt; "no item"),
     }
     assert_eq!(rt; device.calls, 3);
-    let mut device = device_of(rt, 2, Fault::Fails(kind));
+    let mut device = device_of(rt, 2, DeviceFault::Fails(kind));
     let answer = read_exact_at(&mut device, 8, &mut [0; 4]);
     must(rt, expect_io(answer, kind, Some(10)));
     assert_eq!(rt; device.calls, 3);

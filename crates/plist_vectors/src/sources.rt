@@ -3,7 +3,7 @@
 use crate::support::must;
 use plist_base::{Seeking, Sequential, Source, read_exact_at};
 use plist_binread::BinaryReader;
-use plist_support::{Device, Disk, Fault, expect_io, file, words_of};
+use plist_support::{Device, DeviceFault, Disk, expect_io, file, words_of};
 use std::io::{Cursor, ErrorKind, Read};
 use std::process::Abort;
 
@@ -309,7 +309,7 @@ fn reads_from_the_front(rt: HostRuntime) {
 #[test]
 fn a_failed_read_takes_nothing(rt: HostRuntime) {
     let bytes = must(&rt, Vec::from_slice(rt.alloc(), b"abc"));
-    let device = Device::with_fault(bytes, 1, Fault::Fails(ErrorKind::TimedOut));
+    let device = Device::with_fault(bytes, 1, DeviceFault::Fails(ErrorKind::TimedOut));
     let mut reader = Sequential::new(device);
     expect_next(&rt, &mut reader, 2, b"a");
     match reader.read(&mut [0; 2]) {

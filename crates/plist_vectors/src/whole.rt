@@ -3,7 +3,7 @@
 use crate::support::must;
 use plist_base::{Error, OwnedEvent, Seeking};
 use plist_reader::Reader;
-use plist_support::{Device, Disk, Fault, expect_io, file, words_of};
+use plist_support::{Device, DeviceFault, Disk, expect_io, file, words_of};
 use std::io::ErrorKind;
 use std::process::Abort;
 
@@ -52,7 +52,7 @@ fn only_item(
 // A device's own error is handed on, and what failed isn't tried again.
 fn expect_handed_on(rt: &(impl Abort + AllocGlobal), bytes: &[u8], call: u64) {
     let bytes = must(rt, Vec::from_slice(rt.alloc(), bytes));
-    let mut device = Device::with_fault(bytes, call, Fault::Fails(ErrorKind::TimedOut));
+    let mut device = Device::with_fault(bytes, call, DeviceFault::Fails(ErrorKind::TimedOut));
     match only_item(rt, &mut device) {
         Some(item) => must(rt, expect_io(item, ErrorKind::TimedOut, Some(device.place))),
         None => panic!(rt; "no item"),

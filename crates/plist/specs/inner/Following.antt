@@ -4,12 +4,12 @@ use Rattle.std.proofs.lemmas.Option.{none-some}
 use Rattle.plist_base.specs.Events.{PlainEvent, StartArray, StartDictionary, EndCollection, Single}
 use Rattle.plist_base.specs.Faults.{FaultKind}
 use Rattle.plist_base.specs.Trees.{Tree, Leaf, Array, Dictionary, trees_of, members_of, String}
-use Rattle.plist_base.specs.Bracketing.{bracketing, bracketing_of_items, bracketing_of_pairs, unhinted, AreAlike, CanContinue, ContinueAlike}
+use Rattle.plist_base.specs.Bracketing.{bracketing, bracketing_of_items, bracketing_of_pairs, without_length, AreAlike, CanContinue, ContinueAlike}
 use Rattle.plist_base.proofs.Grammar.{alike_behind, all_taken, can_continue, continue_alike, continues, none_is, steps_snoc, wanted_alike}
 use Rattle.plist.specs.LastWins.{TreePairs}
 use Rattle.plist.specs.Building.{OpenCollection, InArray, InDictionary, AfterKey, Unfinished, NotBegun, Within, Complete, events_within, events_round, events_so_far, refusal_of_value, refusal_of_key, refusal_at, AllTakeValue, IsNested, TakesValue, last_wins_within, last_wins_so_far, complete_tree}
 use Rattle.plist.specs.inner.Steps.{and_pair, and_tree, begun, in_array, in_dictionary, carried_on}
-use Rattle.plist_base.specs.inner.Wants.{Want, OneValue, Items, Pairs, step, steps, wanted_after}
+use Rattle.plist_base.specs.inner.Expects.{Expect, OneValue, Items, Pairs, step, steps, expected_after}
 use Rattle.plist_base.proofs.OneTree.{one_tree}
 use Rattle.plist_base.proofs.Stacks.{Stack, steps_items, steps_pairs}
 
@@ -69,7 +69,7 @@ begun-goes outer (StartDictionary n) ok = (
 )
 begun-goes outer EndCollection ok = λ p. none-some _ (sym p)
 begun-goes outer (Single x) ok =
-    let t = tree-goes (Leaf x) outer ok in (t.0, ap (map unhinted) t.1)
+    let t = tree-goes (Leaf x) outer ok in (t.0, ap (map without_length) t.1)
 
 -- an end makes a tree of its collection, which has the events from its start on
 closed-goes : (t : Tree) (start : PlainEvent) (inside : List PlainEvent)
@@ -80,8 +80,8 @@ closed-goes : (t : Tree) (start : PlainEvent) (inside : List PlainEvent)
 closed-goes t start inside outer ok alike =
     let g = tree-goes t outer ok in (
       g.0,
-      ap (map unhinted) g.1 ∙ alike_behind (events_round outer) _ _ alike
-          ∙ sym (ap (map unhinted)
+      ap (map without_length) g.1 ∙ alike_behind (events_round outer) _ _ alike
+          ∙ sym (ap (map without_length)
           (append_assoc (events_round outer) (start ∷ inside) (EndCollection ∷ []))),
     )
 
@@ -99,7 +99,7 @@ dictionary-goes ps outer EndCollection ok =
     closed-goes (Dictionary (members_of ps)) (StartDictionary None) _ outer ok refl
 dictionary-goes ps outer (Single (String s)) ok = (
   ok,
-  sym (ap (map unhinted) (append_assoc (events_round outer)
+  sym (ap (map without_length) (append_assoc (events_round outer)
       (StartDictionary None ∷ bracketing_of_pairs (members_of ps)) (Single (String s) ∷ []))),
 )
 dictionary-goes ps outer e ok = λ p. none-some _ (sym p)
@@ -119,10 +119,10 @@ pub carried : (u : Unfinished) (e : PlainEvent) (w : Unfinished) → IsNested u
 carried u e w ok p = subst (Goes (refusal_at u e) (events_so_far u) e) p (goes u e ok)
 
 -- what isn't refused is carried on
-pub taken : (u : Unfinished) (e : PlainEvent) → IsNested u → refusal_at u e ≡ None
+pub taken_before : (u : Unfinished) (e : PlainEvent) → IsNested u → refusal_at u e ≡ None
     → (w : Unfinished) × (carried_on and_pair u e ≡ Some w) × IsNested w
     × AreAlike (events_so_far w) (events_so_far u ++ e ∷ [])
-taken u e ok r = by (carried_on and_pair u e) refl (goes u e ok)
+taken_before u e ok r = by (carried_on and_pair u e) refl (goes u e ok)
   where
     by : (o : Option Unfinished) → carried_on and_pair u e ≡ o
         → Goes (refusal_at u e) (events_so_far u) e o
@@ -134,10 +134,10 @@ taken u e ok r = by (carried_on and_pair u e) refl (goes u e ok)
 -- ---- what is wanted behind what is held
 
 -- what is wanted in a collection, once a value that is open in it is complete
-abbrev want_round : OpenCollection → Want
-want_round (InArray items) = Items
-want_round (InDictionary pairs) = Pairs
-want_round (AfterKey pairs key) = Pairs
+abbrev expect_round : OpenCollection → Expect
+expect_round (InArray items) = Items
+expect_round (InDictionary pairs) = Pairs
+expect_round (AfterKey pairs key) = Pairs
 
 abbrev want_within : OpenCollection → (round : Stack) → Stack
 want_within (InArray items) round = Items ∷ round
@@ -146,7 +146,7 @@ want_within (AfterKey pairs key) round = OneValue ∷ Pairs ∷ round
 
 abbrev want_in : List OpenCollection → Stack
 want_in [] = OneValue ∷ []
-want_in (collection ∷ outer) = want_within collection (map want_round outer)
+want_in (collection ∷ outer) = want_within collection (map expect_round outer)
 
 abbrev want_of : Unfinished → Stack
 want_of NotBegun = want_in []
@@ -154,8 +154,9 @@ want_of (Within collection outer) = want_in (collection ∷ outer)
 want_of (Complete tree) = []
 
 starts : (outer : List OpenCollection) (es : List PlainEvent) → AllTakeValue outer
-    → (steps (want_in outer) (StartArray None ∷ es) ≡ steps (Items ∷ map want_round outer) es)
-    × (steps (want_in outer) (StartDictionary None ∷ es) ≡ steps (Pairs ∷ map want_round outer) es)
+    → (steps (want_in outer) (StartArray None ∷ es) ≡ steps (Items ∷ map expect_round outer) es)
+    × (steps (want_in outer) (StartDictionary None ∷ es) ≡ steps (Pairs
+    ∷ map expect_round outer) es)
 starts [] es ok = (refl, refl)
 starts (InArray ts ∷ outer) es ok = (refl, refl)
 starts (InDictionary ps ∷ outer) es ok = absurd ok.0
@@ -164,17 +165,17 @@ starts (AfterKey ps k ∷ outer) es ok = (refl, refl)
 pairs-within : (ps : TreePairs) (outer : List OpenCollection) (es : List PlainEvent)
     → AllTakeValue outer
     → steps (want_in outer) (events_within (InDictionary ps) ++ es) ≡ steps
-    (Pairs ∷ map want_round outer) es
+    (Pairs ∷ map expect_round outer) es
 pairs-within ps outer es ok =
     (starts outer (bracketing_of_pairs (members_of ps) ++ es) ok).1
-    ∙ steps_pairs (members_of ps) (map want_round outer) es
+    ∙ steps_pairs (members_of ps) (map expect_round outer) es
 
 steps-within : (c : OpenCollection) (outer : List OpenCollection) (es : List PlainEvent)
     → AllTakeValue outer → steps (want_in outer) (events_within c ++ es) ≡ steps
     (want_in (c ∷ outer)) es
 steps-within (InArray ts) outer es ok =
     (starts outer (bracketing_of_items (trees_of ts) ++ es) ok).0
-    ∙ steps_items (trees_of ts) (map want_round outer) es
+    ∙ steps_items (trees_of ts) (map expect_round outer) es
 steps-within (InDictionary ps) outer es ok = pairs-within ps outer es ok
 steps-within (AfterKey ps k) outer es ok =
     ap (λ l. steps (want_in outer) (StartDictionary None ∷ l))
@@ -182,13 +183,13 @@ steps-within (AfterKey ps k) outer es ok =
     ∙ pairs-within ps outer (Single (String k) ∷ es) ok
 
 steps-round : (outer : List OpenCollection) (es : List PlainEvent) → AllTakeValue outer
-    → wanted_after (events_round outer ++ es) ≡ steps (want_in outer) es
+    → expected_after (events_round outer ++ es) ≡ steps (want_in outer) es
 steps-round [] es ok = refl
 steps-round (c ∷ outer) es ok =
-    ap wanted_after (append_assoc (events_round outer) (events_within c) es)
+    ap expected_after (append_assoc (events_round outer) (events_within c) es)
     ∙ steps-round outer (events_within c ++ es) ok.1 ∙ steps-within c outer es ok.1
 
-wanted : (u : Unfinished) → IsNested u → wanted_after (events_so_far u) ≡ Some (want_of u)
+wanted : (u : Unfinished) → IsNested u → expected_after (events_so_far u) ≡ Some (want_of u)
 wanted NotBegun ok = refl
 wanted (Within c outer) ok =
     steps-round outer (events_within c) ok
@@ -212,15 +213,15 @@ key-stops s e no_ = refl
 stops : (u : Unfinished) (e : PlainEvent) → (refusal_at u e ≡ None → ⊥) → step (want_of u) e ≡ None
 stops NotBegun e no_ = value-stops [] e no_
 stops (Within (InArray ts) outer) e no_ = absurd (no_ refl)
-stops (Within (InDictionary ps) outer) e no_ = key-stops (map want_round outer) e no_
-stops (Within (AfterKey ps k) outer) e no_ = value-stops (Pairs ∷ map want_round outer) e no_
+stops (Within (InDictionary ps) outer) e no_ = key-stops (map expect_round outer) e no_
+stops (Within (AfterKey ps k) outer) e no_ = value-stops (Pairs ∷ map expect_round outer) e no_
 stops (Complete t) e no_ = refl
 
 pub refused-ends : (u : Unfinished) (e : PlainEvent) → IsNested u → (refusal_at u e ≡ None → ⊥)
     → CanContinue (events_so_far u) e → ⊥
 refused-ends u e ok no_ can =
     let g = continues (events_so_far u) e can in
-    none_is (wanted_after (events_so_far u ++ e ∷ [])) g.0
+    none_is (expected_after (events_so_far u ++ e ∷ [])) g.0
     (steps_snoc (events_so_far u) (OneValue ∷ []) e
     ∙ ap (option_and_then (λ s. step s e)) (wanted u ok) ∙ stops u e no_) g.1
 
@@ -237,7 +238,7 @@ taken-continues u w e ok a =
 pub accepted-continues : (u : Unfinished) (e : PlainEvent) → IsNested u → refusal_at u e ≡ None
     → CanContinue (events_so_far u) e
 accepted-continues u e ok r =
-    let w = taken u e ok r in taken-continues u w.0 e w.2 w.3
+    let w = taken_before u e ok r in taken-continues u w.0 e w.2 w.3
 
 pub continues-accepted : (u : Unfinished) (e : PlainEvent) → IsNested u
     → CanContinue (events_so_far u) e → refusal_at u e ≡ None
@@ -272,9 +273,9 @@ nested-last (Within c outer) ok = all-take-last _ ok
 nested-last (Complete t) ok = tt
 
 -- what can come next behind events is what can come next behind their last values
-pub last-continues : (taken : Unfinished) (events : List PlainEvent) → IsNested taken
-    → AreAlike (events_so_far taken) events
-    → ContinueAlike (events_so_far (last_wins_so_far taken)) events
+pub last-continues : (taken_before : Unfinished) (events : List PlainEvent) → IsNested taken_before
+    → AreAlike (events_so_far taken_before) events
+    → ContinueAlike (events_so_far (last_wins_so_far taken_before)) events
 last-continues u es ok a e = (
   λ c. (continue_alike (events_so_far u) es a e).0
       (accepted-continues u e ok

@@ -15,9 +15,9 @@ use Rattle.plist_ascii.specs.Taken.{Taken, run}
 use Rattle.plist_ascii.specs.Texts.{Token, bare}
 use Rattle.plist_ascii.specs.Ascii.{lead_of, token_by, placed_items, IsTextToken}
 use Rattle.plist_ascii.specs.Kinds.{BehindBracket}
-use Rattle.plist_ascii.specs.Incoming.{AnswersIoIfTold, ItemCountsIoIfTold}
+use Rattle.plist_ascii.specs.Incoming.{AnswersIoIfCounted, ItemCountsIoIfCounted}
 use Rattle.plist_ascii.specs.Unread.{unread, Known, first, stops, IsAt, is_from_outside, FirstIsTaken, TakesPart, Answers}
-use Rattle.plist_ascii.specs.AsciiReader.{GivesItem, BehindQuoted, bytes_to_come}
+use Rattle.plist_ascii.specs.AsciiReader.{GivesAsciiItem, BehindQuoted, bytes_to_come}
 use Rattle.plist_ascii.specs.inner.Parts.{piece_bytes, Parts, EndsRun}
 
 -- ---- failures
@@ -25,13 +25,13 @@ use Rattle.plist_ascii.specs.inner.Parts.{piece_bytes, Parts, EndsRun}
 -- `Io` only where the count of the device's failures rose
 abbrev pub CountsFailed : {R A : Type 0} → (R → Option ℕ) → Input R → Result A Error → Input R
     → Type 0
-CountsFailed failures old answer new = AnswersIoIfTold answer (failures old.inner)
+CountsFailed failures old answer new = AnswersIoIfCounted answer (failures old.inner)
     (failures new.inner)
 
 -- the same of an item
 abbrev pub ItemCountsFailed : {R A : Type 0} → (R → Option ℕ) → Input R
     → Option (Result A Error) → Input R → Type 0
-ItemCountsFailed failures old item new = ItemCountsIoIfTold item (failures old.inner)
+ItemCountsFailed failures old item new = ItemCountsIoIfCounted item (failures old.inner)
     (failures new.inner)
 
 -- a device's fault or want of memory alone, where the bytes taken end
@@ -206,11 +206,11 @@ module _ {R : Type 0} (known : R → Option (List ℕ)) where
       → Known (unread known old) (λ xs. IsTextToken (front xs).gives)
 
   -- the first item of the bytes to be taken came
-  abbrev pub GivesFirst : Stop → Input R
+  abbrev pub GivesToStop : Stop → Input R
       → Option (Result Event Error) → Input R → Type 0
-  GivesFirst stop old item new = Known (unread known old) (λ xs. (ys : List ℕ)
+  GivesToStop stop old item new = Known (unread known old) (λ xs. (ys : List ℕ)
       × (unread known new ≡ Some ys)
-      × GivesItem (stops stop) xs old.taken item ys new.taken)
+      × GivesAsciiItem (stops stop) xs old.taken item ys new.taken)
 
   -- behind a quoted text no byte has been looked at
   abbrev pub StopsAtQuote : Stop → Input R → Option (Result Event Error) → Input R → Type 0

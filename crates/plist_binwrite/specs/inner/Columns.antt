@@ -1,43 +1,43 @@
 -- Entries as two lists: of their kinds, and of their numbers.
 use Rattle.std.specs.Prelude.{◌≡◌, ℕ, List, [], ◌∷◌, Option, None, Some}
 use Rattle.plist_binwrite.specs.inner.Entries.{entry_at}
-use Rattle.plist_binwrite.specs.declared.entries.Entry.{Entry}
-use Rattle.plist_binwrite.specs.declared.entries.Entry.TheVariants as entry
-use Rattle.plist_binwrite.specs.declared.kinds.Kind.{Kind}
-use Rattle.plist_binwrite.specs.declared.kinds.Kind.TheVariants as kind
+use Rattle.plist_binwrite.specs.declared.entries.EventEntry.{EventEntry}
+use Rattle.plist_binwrite.specs.declared.entries.EventEntry.TheVariants as entry
+use Rattle.plist_binwrite.specs.declared.kinds.EntryKind.{EntryKind}
+use Rattle.plist_binwrite.specs.declared.kinds.EntryKind.TheVariants as kind
 
 -- the kind of an entry
-abbrev pub kind_in : Entry → Kind
+abbrev pub kind_in : EventEntry → EntryKind
 kind_in (entry.Array behind) = kind.Array
 kind_in (entry.Dictionary behind) = kind.Dictionary
 kind_in (entry.Scalar index) = kind.Scalar
 kind_in entry.End = kind.End
 
 -- its number: that of an end is 0
-abbrev pub number_in : Entry → ℕ
+abbrev pub number_in : EventEntry → ℕ
 number_in (entry.Array behind) = behind
 number_in (entry.Dictionary behind) = behind
 number_in (entry.Scalar index) = index
 number_in entry.End = 0
 
 -- the scalar that an entry names
-abbrev pub scalar_named : Entry → Option ℕ
+abbrev pub scalar_named : EventEntry → Option ℕ
 scalar_named (entry.Scalar index) = Some index
 scalar_named other = None
 
 -- the entry of a kind and a number
-abbrev pub entry_of : Kind → ℕ → Entry
+abbrev pub entry_of : EntryKind → ℕ → EventEntry
 entry_of kind.Array number = entry.Array number
 entry_of kind.Dictionary number = entry.Dictionary number
 entry_of kind.Scalar number = entry.Scalar number
 entry_of kind.End number = entry.End
 
 -- with this number an entry is that of its kind
-abbrev pub IsEntryNumber : List Entry → (index number : ℕ) → Type 0
+abbrev pub IsEntryNumber : List EventEntry → (index number : ℕ) → Type 0
 IsEntryNumber entries index number =
     entry_of (kind_in (entry_at entries index)) number ≡ entry_at entries index
 
 -- the entries, index by index
-abbrev pub entries_from : List Kind → List ℕ → List Entry
+abbrev pub entries_from : List EntryKind → List ℕ → List EventEntry
 entries_from (k ∷ kinds) (n ∷ numbers) = entry_of k n ∷ entries_from kinds numbers
 entries_from kinds numbers = []

@@ -7,14 +7,14 @@ use Rattle.plist_format.specs.Object.{Object}
 use Rattle.plist_binwrite.specs.declared.classes.Classes.{Classes}
 use Rattle.plist_binwrite.specs.declared.completion.Draft.{Draft}
 use Rattle.plist_binwrite.specs.declared.completion.Ready.{Ready}
-use Rattle.plist_binwrite.specs.declared.held.Held.{Held}
+use Rattle.plist_binwrite.specs.declared.event_table.EventTable.{EventTable}
 use Rattle.plist_binwrite.specs.Classes.{IsFileBy, IsOversized}
 use Rattle.plist_base.specs.Fronts.{AppendsFront}
-use Rattle.plist_binwrite.specs.Held.{AllBelow, Describes, num_of, plain_events}
+use Rattle.plist_binwrite.specs.EventTable.{AllBelow, Describes, num_of, plain_events}
 use Rattle.plist_binwrite.specs.inner.Laying.{laid_out, closed}
 use Rattle.plist_base.specs.Events.{PlainEvent}
 use Rattle.plist_base.specs.Trees.{Tree}
-use Rattle.plist_base.specs.Bracketing.{shape}
+use Rattle.plist_base.specs.Bracketing.{lengthless}
 use Rattle.plist_binwrite.specs.inner.Planning.{IsPlanned, GoesBy, count_of, numbers_of}
 use Rattle.plist_binwrite.specs.inner.Sizing.{ExceedsWith, FitsWith}
 use Rattle.plist_binwrite.specs.Written.{reference_width}
@@ -38,7 +38,7 @@ pub record IsReady (es : List PlainEvent) (ready : Ready) : Type 0 where
       → ready.table
       ≡ length (laid_out (reference_width (length ready.places)) objects ready.order)
   pub file : (objects : ℕ → Object) → Describes es (numbers_of ready.plan) objects
-      → (class : ℕ → ℕ) → GoesBy es class ready.plan → (t : Tree) → es ≡ shape t
+      → (class : ℕ → ℕ) → GoesBy es class ready.plan → (t : Tree) → es ≡ lengthless t
       → IsFileBy class t (file_of ready objects)
 
 -- a planned file whose table lies here
@@ -47,8 +47,8 @@ ready_at draft table =
     record { plan = draft.plan; order = draft.order; places = draft.places; table = table }
 
 -- it has 2^64 bytes or more
-abbrev pub IsTooLong : Draft → Type 0
-IsTooLong draft = IfSome draft.table (λ table. ExceedsWith table (length draft.places))
+abbrev pub IsDraftTooLarge : Draft → Type 0
+IsDraftTooLarge draft = IfSome draft.table (λ table. ExceedsWith table (length draft.places))
 
 -- it has less
 pub record IsFitting (draft : Draft) (ready : Ready) : Type 0 where
@@ -61,10 +61,10 @@ pub record IsFitting (draft : Draft) (ready : Ready) : Type 0 where
 pub record IsDraftOf (es : List PlainEvent) (draft : Draft) : Type 0 where
   pub ready : (table : ℕ) → draft.table ≡ Some table → FitsWith table (length draft.places)
       → IsReady es (ready_at draft table)
-  pub oversized : IsTooLong draft → (class : ℕ → ℕ) → GoesBy es class draft.plan
+  pub oversized : IsDraftTooLarge draft → (class : ℕ → ℕ) → GoesBy es class draft.plan
       → IsOversized class es
 
-abbrev pub IsDraftBy : Classes → Held → Draft → Type 0
+abbrev pub IsDraftBy : Classes → EventTable → Draft → Type 0
 IsDraftBy classes held draft = GoesBy (plain_events held) (num_of classes.of) draft.plan
 
 -- want of memory isn't why

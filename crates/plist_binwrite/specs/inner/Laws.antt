@@ -1,7 +1,7 @@
 -- The law of writers, of a call of a writer that sends files.
 use Rattle.std.proofs.Common.{◌≡◌, ◌⊎◌, inl, inr, ℕ, Bool, true, false, List, [], ◌∷◌, ◌++◌, Option, Ok, Err, MatchBool, ap, ◌∙◌, map}
 use Rattle.std.specs.declared.io.traits.Write.{Ghosts}
-use Rattle.plist_base.specs.Bracketing.{unhinted}
+use Rattle.plist_base.specs.Bracketing.{without_length}
 use Rattle.plist_base.specs.Events.{PlainEvent}
 use Rattle.plist_base.specs.Faults.{FaultKind, fault_nowhere, UnexpectedEventType, ExpectedEndOfEventStream, Io, OutOfMemory, WriterFailed, PlistTooLarge}
 use Rattle.plist_base.specs.Trees.{Tree}
@@ -10,7 +10,7 @@ use Rattle.std.proofs.lemmas.Bool.{true≢false, false≢true}
 use Rattle.plist_base.proofs.Grammar.{alike_last, continue_alike}
 use Rattle.plist_binwrite.specs.declared.shared.Sharing.{Ghosts as SharingGhosts}
 use Rattle.plist_binwrite.specs.declared.writer.FileWriter.{FileWriter}
-use Rattle.plist_binwrite.specs.FileWriter.{Takes, TakesEvent, Completes, Holds, held_by, failed_of}
+use Rattle.plist_binwrite.specs.FileWriter.{Takes, TakesEvent, Completes, Holds, open_events, failed_of}
 
 -- each part of a fact by kind in turn
 by_kind : (kind : FaultKind) (a b c d : Type 0) → (a → c) → (b → d) → MatchKind kind a b ⊥
@@ -36,15 +36,15 @@ module _ {W S : Type 0} {g : Ghosts W} {h : SharingGhosts S} (IsFile : Tree → 
   goes_on : (after : FileWriter W S g h)
       → Completes IsFile size contents before event after
       ⊎ Holds IsFile size contents before event after
-      → GoesOn (held_by before) event (held_by after)
+      → GoesOn (open_events before) event (open_events after)
   goes_on after (inl c) = inl c.0.1.0.0
   goes_on after (inr h) =
-      inr (continue_alike (held_by after) (held_by before ++ event ∷ [])
-      (ap (map unhinted) h.1 ∙ alike_last (held_by before) event))
+      inr (continue_alike (open_events after) (open_events before ++ event ∷ [])
+      (ap (map without_length) h.1 ∙ alike_last (open_events before) event))
 
   taken : (answer : Answer) (after : FileWriter W S g h)
       → TakesEvent IsFile size contents before event answer after
-      → AnswersByOrder (held_by before) event answer (held_by after) (failed_of after)
+      → AnswersByOrder (open_events before) event answer (open_events after) (failed_of after)
       (after ≡ before)
   taken (Ok done) after t = (t.0, t.1, goes_on after t.2)
   taken (Err fault) after t =
@@ -52,7 +52,7 @@ module _ {W S : Type 0} {g : Ghosts W} {h : SharingGhosts S} (IsFile : Tree → 
 
   pub takes_law : (answer : Answer) (after : FileWriter W S g h)
       → Takes IsFile size contents before event answer after → failed_of before ≡ false
-      → AnswersByOrder (held_by before) event answer (held_by after) (failed_of after)
+      → AnswersByOrder (open_events before) event answer (open_events after) (failed_of after)
       (after ≡ before)
   takes_law answer after t ok = taken answer after (match_false (failed_of before) _ _ ok t)
 

@@ -1,14 +1,14 @@
 -- Words for the numbers that held events have so far, and for what a call does to them.
 use Rattle.std.specs.Prelude.{◌≡◌, ℕ, ◌-◌, ◌^◌, Bool, false, List, length, get_or, replicate}
 use Rattle.std.specs.List.{AllByRecursion}
-use Rattle.plist_base.specs.Bracketing.{shape}
+use Rattle.plist_base.specs.Bracketing.{lengthless}
 use Rattle.plist_base.specs.Trees.{Tree, Trees, Members}
-use Rattle.plist_binwrite.specs.Standing.{Sits, SitsItems, SitsPairs}
-use Rattle.plist_binwrite.specs.declared.held.Held.{Held}
+use Rattle.plist_binwrite.specs.Occurrences.{OccursAt, ItemsOccurAt, PairsOccurAt}
+use Rattle.plist_binwrite.specs.declared.event_table.EventTable.{EventTable}
 use Rattle.plist_binwrite.specs.declared.numbering.Classed.{Classed}
 use Rattle.plist_binwrite.specs.declared.numbering.Numbered.{Numbered}
 use Rattle.plist_binwrite.specs.declared.numbering.Numbering.{Numbering}
-use Rattle.plist_binwrite.specs.Held.{plain_events, is_stop, event_at, num_of, item_indices, half_indices, keys_in, values_in, AllNumbered, IsNumbered, Keeps}
+use Rattle.plist_binwrite.specs.EventTable.{plain_events, is_stop, event_at, num_of, item_indices, half_indices, keys_in, values_in, AllNumbered, IsNumbered, Keeps}
 use Rattle.plist_binwrite.specs.inner.PlansBy.{IsPlan, HaveIds}
 
 -- so many numbers, none of which is given yet
@@ -16,7 +16,7 @@ abbrev pub AreMarks : (count : ℕ) → List ℕ → Type 0
 AreMarks count numbers = numbers ≡ replicate count (2 ^ 64 - 1)
 
 -- these numbers go by these classes
-abbrev pub IsNumberingOf : Held → (classes : List ℕ) → Numbering → Type 0
+abbrev pub IsNumberingOf : EventTable → (classes : List ℕ) → Numbering → Type 0
 IsNumberingOf held classes numbering =
     IsPlan (plain_events held) (num_of classes) numbering.numbers numbering.firsts
 
@@ -52,36 +52,36 @@ module _ (given : Classed) where
 
   -- the items of an array have numbers, from here on
   abbrev pub NumbersItems : (from : ℕ) → Numbered → Type 0
-  NumbersItems from found = (ts : Trees) → SitsItems (plain_events given.events.now) ts from
+  NumbersItems from found = (ts : Trees) → ItemsOccurAt (plain_events given.events.now) ts from
       → AllByRecursion (IsNumbered found.numbers found.firsts) (item_indices ts from)
 
   -- the values of a dictionary have, or its keys
   abbrev pub NumbersHalf : (of_values : Bool) → (from : ℕ) → Numbered → Type 0
   NumbersHalf of_values from found =
-      (ms : Members) → SitsPairs (plain_events given.events.now) ms from
+      (ms : Members) → PairsOccurAt (plain_events given.events.now) ms from
       → AllByRecursion (IsNumbered found.numbers found.firsts) (half_indices of_values ms from)
 
   -- the keys and the values of the collection that begins here have
   abbrev pub NumbersChildren : (index : ℕ) → Numbered → Type 0
-  NumbersChildren index found = (t : Tree) → Sits (plain_events given.events.now) t index
+  NumbersChildren index found = (t : Tree) → OccursAt (plain_events given.events.now) t index
       → AllByRecursion (IsNumbered found.numbers found.firsts) (keys_in t index)
       × AllByRecursion (IsNumbered found.numbers found.firsts) (values_in t index)
 
   -- where the events are a tree's, each item has a number
   abbrev pub NumbersAll : Numbered → Type 0
-  NumbersAll found = (t : Tree) → plain_events given.events.now ≡ shape t
+  NumbersAll found = (t : Tree) → plain_events given.events.now ≡ lengthless t
       → AllNumbered (plain_events given.events.now) found.numbers (length found.firsts)
 
   -- where they are, the root has the first number
   abbrev pub RootIsFirst : Numbered → Type 0
-  RootIsFirst found = (t : Tree) → plain_events given.events.now ≡ shape t
+  RootIsFirst found = (t : Tree) → plain_events given.events.now ≡ lengthless t
       → num_of found.numbers 0 ≡ 0
 
 -- the same of the numbers alone
-abbrev pub NumbersTree : Held → Numbering → Type 0
-NumbersTree held numbering = (t : Tree) → plain_events held ≡ shape t
+abbrev pub NumbersTree : EventTable → Numbering → Type 0
+NumbersTree held numbering = (t : Tree) → plain_events held ≡ lengthless t
     → AllNumbered (plain_events held) numbering.numbers (length numbering.firsts)
 
-abbrev pub NumbersRoot : Held → Numbering → Type 0
-NumbersRoot held numbering = (t : Tree) → plain_events held ≡ shape t
+abbrev pub NumbersRoot : EventTable → Numbering → Type 0
+NumbersRoot held numbering = (t : Tree) → plain_events held ≡ lengthless t
     → num_of numbering.numbers 0 ≡ 0

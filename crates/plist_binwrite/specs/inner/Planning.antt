@@ -4,7 +4,7 @@ use Rattle.plist_binwrite.specs.declared.plan.Plan.{Plan}
 use Rattle.plist_binwrite.specs.declared.plan.Planned.{Planned}
 use Rattle.plist_base.specs.Events.{PlainEvent}
 use Rattle.plist_binwrite.specs.Classes.{AreClasses}
-use Rattle.plist_binwrite.specs.Held.{plain_events, IsBracketed, AllNumbered, num_of}
+use Rattle.plist_binwrite.specs.EventTable.{plain_events, IsBracketed, AllNumbered, num_of}
 use Rattle.plist_binwrite.specs.inner.PlansBy.{IsPlan}
 
 -- by event, the number of its object; and by number, the index of the first event of that object

@@ -2,7 +2,7 @@
 -- index of the first event of that object.
 use Rattle.std.specs.Prelude.{◌≡◌, ◌⊎◌, ℕ, ◌-◌, ◌^◌, ◌<◌, false, List, length, get_or}
 use Rattle.plist_base.specs.Events.{PlainEvent}
-use Rattle.plist_binwrite.specs.Held.{is_stop, event_at, IsNumbered, AllBelow, num_of}
+use Rattle.plist_binwrite.specs.EventTable.{is_stop, event_at, IsNumbered, AllBelow, num_of}
 
 pub record IsPlan (es : List PlainEvent) (class : ℕ → ℕ) (numbers firsts : List ℕ) : Type 0 where
   pub long : length numbers ≡ length es

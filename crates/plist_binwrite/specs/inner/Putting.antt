@@ -7,55 +7,56 @@ use Rattle.plist_base.specs.declared.error.Error.{Error}
 use Rattle.plist_base.specs.Trees.{Tree, Trees, Members, Array, Dictionary}
 use Rattle.plist_format.specs.Object.{Object}
 use Rattle.plist_binwrite.specs.Forms.{form, table_form}
-use Rattle.plist_binwrite.specs.Held.{plain_events, item_indices, half_indices, Describes}
+use Rattle.plist_binwrite.specs.EventTable.{plain_events, item_indices, half_indices, Describes}
 use Rattle.plist_binwrite.specs.Numberings.{obj_of}
 use Rattle.plist_binwrite.specs.Outlets.{Puts}
-use Rattle.plist_binwrite.specs.Standing.{Sits, SitsItems, SitsPairs}
+use Rattle.plist_binwrite.specs.Occurrences.{OccursAt, ItemsOccurAt, PairsOccurAt}
 use Rattle.plist_binwrite.specs.Written.{bodies}
 use Rattle.plist_binwrite.specs.Classes.{SendsBy}
 use Rattle.plist_binwrite.specs.declared.completion.Draft.{Draft}
 use Rattle.plist_binwrite.specs.declared.completion.Ready.{Ready}
-use Rattle.plist_binwrite.specs.declared.held.Held.{Held}
+use Rattle.plist_binwrite.specs.declared.event_table.EventTable.{EventTable}
 use Rattle.plist_binwrite.specs.declared.plan.Planned.{Planned}
 use Rattle.plist_binwrite.specs.inner.Ending.{SendsReady, file_of, numbers_in}
 use Rattle.plist_binwrite.specs.inner.Planning.{GoesBy}
 pub use Rattle.plist_binwrite.specs.inner.Planning.{numbers_of, events_in, numbers_by}
 
-module _ {W : Type 0} (contents : W → Option (List ℕ)) (old : W) (room : Vec ℕ Global) where
+module _ {W : Type 0} (contents : W → Option (List ℕ)) (old : W) (buffer : Vec ℕ Global) where
   -- references to the items of an array go out from here on
   abbrev pub PutsItems : Planned → (from : ℕ) → Result (Unit {0}) Error → (new : W)
       → (holds : Vec ℕ Global) → Type 0
-  PutsItems file from result new holds = (ts : Trees) → SitsItems (events_in file) ts from
-      → Puts contents old room
+  PutsItems file from result new holds = (ts : Trees) → ItemsOccurAt (events_in file) ts from
+      → Puts contents old buffer
       (table_form file.width (map (numbers_by file) (item_indices ts from))) result new holds
 
   -- those to the values of a dictionary, or to its keys
   abbrev pub PutsHalf : Planned → (of_values : Bool) → (from : ℕ) → Result (Unit {0}) Error
       → (new : W) → (holds : Vec ℕ Global) → Type 0
   PutsHalf file of_values from result new holds =
-      (ms : Members) → SitsPairs (events_in file) ms from
-      → Puts contents old room
+      (ms : Members) → PairsOccurAt (events_in file) ms from
+      → Puts contents old buffer
       (table_form file.width (map (numbers_by file) (half_indices of_values ms from)))
       result new holds
 
   -- the object of the array that begins here, of the dictionary, and of any tree
   abbrev pub PutsArray : Planned → (index : ℕ) → Result (Unit {0}) Error → (new : W)
       → (holds : Vec ℕ Global) → Type 0
-  PutsArray file index result new holds = (ts : Trees) → SitsItems (events_in file) ts (index + 1)
-      → Puts contents old room
+  PutsArray file index result new holds = (ts : Trees) → ItemsOccurAt (events_in file) ts
+      (index + 1)
+      → Puts contents old buffer
       (form file.width (obj_of (numbers_by file) (Array ts) index)) result new holds
 
   abbrev pub PutsDictionary : Planned → (index : ℕ) → Result (Unit {0}) Error → (new : W)
       → (holds : Vec ℕ Global) → Type 0
   PutsDictionary file index result new holds =
-      (ms : Members) → SitsPairs (events_in file) ms (index + 1)
-      → Puts contents old room
+      (ms : Members) → PairsOccurAt (events_in file) ms (index + 1)
+      → Puts contents old buffer
       (form file.width (obj_of (numbers_by file) (Dictionary ms) index)) result new holds
 
   abbrev pub PutsObject : Planned → (index : ℕ) → Result (Unit {0}) Error → (new : W)
       → (holds : Vec ℕ Global) → Type 0
-  PutsObject file index result new holds = (t : Tree) → Sits (events_in file) t index
-      → Puts contents old room
+  PutsObject file index result new holds = (t : Tree) → OccursAt (events_in file) t index
+      → Puts contents old buffer
       (form file.width (obj_of (numbers_by file) t index)) result new holds
 
   -- the objects in this order
@@ -63,23 +64,23 @@ module _ {W : Type 0} (contents : W → Option (List ℕ)) (old : W) (room : Vec
       → (holds : Vec ℕ Global) → Type 0
   PutsOrder file order result new holds = (objects : ℕ → Object)
       → Describes (events_in file) (numbers_of file.plan.now) objects
-      → Puts contents old room (bodies file.width objects order) result new holds
+      → Puts contents old buffer (bodies file.width objects order) result new holds
 
 module _ {W : Type 0} (contents : W → Option (List ℕ)) where
   -- the whole file is put
-  abbrev pub PutsFile : (old : W) → (room : Vec ℕ Global) → Held → Ready
+  abbrev pub PutsFile : (old : W) → (buffer : Vec ℕ Global) → EventTable → Ready
       → Result (Unit {0}) Error → (new : W) → (holds : Vec ℕ Global) → Type 0
-  PutsFile old room held ready result new holds = (objects : ℕ → Object)
+  PutsFile old buffer held ready result new holds = (objects : ℕ → Object)
       → Describes (plain_events held) (numbers_in ready) objects
-      → Puts contents old room (file_of ready objects) result new holds
+      → Puts contents old buffer (file_of ready objects) result new holds
 
   -- or sent
-  abbrev pub SendsPlanned : Held → Ready → Result (Unit {0}) Error → (old new : W) → Type 0
+  abbrev pub SendsPlanned : EventTable → Ready → Result (Unit {0}) Error → (old new : W) → Type 0
   SendsPlanned held ready result old new =
       SendsReady contents (plain_events held) ready (answer_of result) old new
 
   -- or is sent or refused, whatever classes it goes by
-  abbrev pub SendsDraft : Held → Draft → Result (Unit {0}) Error → (old new : W) → Type 0
+  abbrev pub SendsDraft : EventTable → Draft → Result (Unit {0}) Error → (old new : W) → Type 0
   SendsDraft held draft result old new =
       (class : ℕ → ℕ) → GoesBy (plain_events held) class draft.plan
       → SendsBy class contents (plain_events held) (answer_of result) old new

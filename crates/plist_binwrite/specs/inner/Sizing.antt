@@ -3,27 +3,27 @@ use Rattle.std.specs.Prelude.{◌≡◌, ◌≢◌, ℕ, ◌+◌, ◌^◌, ◌<�
 use Rattle.plist_base.specs.Trees.{Tree, Trees, number_of_trees}
 use Rattle.plist_format.specs.Object.{Object}
 use Rattle.plist_binwrite.specs.Forms.{IsWritable}
-use Rattle.plist_binwrite.specs.Held.{plain_events, is_stop, held_at, num_of, Describes}
+use Rattle.plist_binwrite.specs.EventTable.{plain_events, is_stop, held_at, num_of, Describes}
 use Rattle.plist_binwrite.specs.Numberings.{obj_of}
-use Rattle.plist_binwrite.specs.Sizes.{TellsSize, object_size, size_with}
-use Rattle.plist_binwrite.specs.Standing.{Sits, SitsItems}
+use Rattle.plist_binwrite.specs.Sizes.{IsSizeOrNone, object_size, size_with}
+use Rattle.plist_binwrite.specs.Occurrences.{OccursAt, ItemsOccurAt}
 use Rattle.plist_binwrite.specs.Written.{Laid}
-use Rattle.plist_binwrite.specs.declared.held.Held.{Held}
+use Rattle.plist_binwrite.specs.declared.event_table.EventTable.{EventTable}
 use Rattle.plist_binwrite.specs.declared.plan.Plan.{Plan}
 use Rattle.plist_binwrite.specs.declared.plan.Planned.{Planned}
 use Rattle.plist_binwrite.specs.inner.Laying.{laid_out}
 use Rattle.plist_binwrite.specs.inner.Planning.{numbers_of, events_in, numbers_by}
 
 -- the object of an item that stands here has a mark
-abbrev pub MarksItem : Held → Plan → (index : ℕ) → (marks : List ℕ) → Type 0
+abbrev pub MarksItem : EventTable → Plan → (index : ℕ) → (marks : List ℕ) → Type 0
 MarksItem held plan index marks = index < length (plain_events held)
     → is_stop (held_at held index) ≡ false
     → get_or marks (num_of (numbers_of plan) index) 0 ≢ 0
 
 -- so many items of an array stand from here on
-abbrev pub CountsItems : Held → (from count : ℕ) → Type 0
+abbrev pub CountsItems : EventTable → (from count : ℕ) → Type 0
 CountsItems held from count =
-    (ts : Trees) → SitsItems (plain_events held) ts from → count ≡ number_of_trees ts
+    (ts : Trees) → ItemsOccurAt (plain_events held) ts from → count ≡ number_of_trees ts
 
 -- a file with so many objects, whose offset table lies here, has less than 2^64 bytes, or hasn't
 abbrev pub FitsWith : (table count : ℕ) → Type 0
@@ -36,23 +36,23 @@ ExceedsWith table count =
 
 module _ (file : Planned) where
   -- the object of the tree that begins here has this size
-  abbrev pub TellsSizeAt : (index : ℕ) → Option ℕ → Type 0
-  TellsSizeAt index told =
-      (t : Tree) → Sits (events_in file) t index → TellsSize told (object_size file.width t)
+  abbrev pub IsSizeOrNoneAt : (index : ℕ) → Option ℕ → Type 0
+  IsSizeOrNoneAt index found =
+      (t : Tree) → OccursAt (events_in file) t index → IsSizeOrNone found (object_size file.width t)
 
   -- the form holds the object of the tree that begins here
   abbrev pub IsWritableAt : (index : ℕ) → Type 0
-  IsWritableAt index = (t : Tree) → Sits (events_in file) t index
+  IsWritableAt index = (t : Tree) → OccursAt (events_in file) t index
       → IsWritable file.width (obj_of (numbers_by file) t index)
 
   -- the objects of the plan end here, in this order
-  abbrev pub TellsEndOfFile : (order : List ℕ) → Option ℕ → Type 0
-  TellsEndOfFile order told = (objects : ℕ → Object)
+  abbrev pub IsEndOrNone : (order : List ℕ) → Option ℕ → Type 0
+  IsEndOrNone order found = (objects : ℕ → Object)
       → Describes (events_in file) (numbers_of file.plan.now) objects
-      → TellsSize told (length (laid_out file.width objects order))
+      → IsSizeOrNone found (length (laid_out file.width objects order))
 
-  -- they lie at these places, if their end is told
-  abbrev pub AreLaid : (order places : List ℕ) → (told : Option ℕ) → Type 0
-  AreLaid order places told = IfSome told (λ _. (objects : ℕ → Object)
+  -- they lie at these places, if there is an end
+  abbrev pub AreLaid : (order places : List ℕ) → (found : Option ℕ) → Type 0
+  AreLaid order places found = IfSome found (λ _. (objects : ℕ → Object)
       → Describes (events_in file) (numbers_of file.plan.now) objects
       → Laid file.width objects places order 8)

@@ -9,9 +9,9 @@ use Rattle.plist_keyed.specs.Archives.{ArchiveFault, UidOutOfRange, RecursiveUid
 
 -- the fault in the place of an event: a Uid is a reference, and its number stands where a place in
 -- a file would
-abbrev pub told : ArchiveFault → Fault
-told (UidOutOfRange uid) = fault_at ObjectReferenceTooLarge uid
-told (RecursiveUid uid) = fault_at RecursiveObject uid
+abbrev pub fault_of_archive : ArchiveFault → Fault
+fault_of_archive (UidOutOfRange uid) = fault_at ObjectReferenceTooLarge uid
+fault_of_archive (RecursiveUid uid) = fault_at RecursiveObject uid
 
 -- a step gives an item, or it enters or leaves an object and gives nothing
 abbrev pub Step : Type 0
@@ -35,14 +35,14 @@ steps_of_events follow es = flat_map (steps_of_event follow) es
 -- the steps of what a Uid finds
 abbrev pub steps_found : (found : Option (List PlainEvent)) (is_open : Bool) (uid : ℕ)
     → (List PlainEvent → List Step) → List Step
-steps_found None is_open uid steps = Some (Err (told (UidOutOfRange uid))) ∷ []
-steps_found (Some object) true uid steps = Some (Err (told (RecursiveUid uid))) ∷ []
+steps_found None is_open uid steps = Some (Err (fault_of_archive (UidOutOfRange uid))) ∷ []
+steps_found (Some object) true uid steps = Some (Err (fault_of_archive (RecursiveUid uid))) ∷ []
 steps_found (Some object) false uid steps = None ∷ (steps object ++ None ∷ [])
 
 module _ (objects : List (List PlainEvent)) where
-  -- the steps of a Uid inside the objects of the path; `room` objects aren't on it
-  unfoldable pub steps_at : (room : ℕ) (path : List ℕ) (uid : ℕ) → List Step
+  -- the steps of a Uid inside the objects of the path; `fuel` objects aren't on it
+  unfoldable pub steps_at : (fuel : ℕ) (path : List ℕ) (uid : ℕ) → List Step
   steps_at zero path uid = steps_found (slice_get objects uid) true uid (λ object. [])
-  steps_at (suc room) path uid =
+  steps_at (suc fuel) path uid =
       steps_found (slice_get objects uid) (list_any (nat_eq uid) path) uid
-      (λ object. steps_of_events (steps_at room (uid ∷ path)) object)
+      (λ object. steps_of_events (steps_at fuel (uid ∷ path)) object)

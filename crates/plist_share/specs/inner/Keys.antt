@@ -4,12 +4,12 @@ use Rattle.plist_base.specs.Events.{PlainEvent}
 use Rattle.plist_base.specs.Trees.{Tree, Leaf, Array, Dictionary}
 use Rattle.std.specs.declared.alloc.Global.{Global}
 use Rattle.std.specs.declared.vec.Vec.{Vec}
-use Rattle.plist_binwrite.specs.Held.{held_at, keys_in, held_kind, num_of, plain_events, values_in}
-use Rattle.plist_binwrite.specs.declared.held.Held.{Held}
-use Rattle.plist_binwrite.specs.declared.kinds.Kind.{Kind}
-use Rattle.plist_binwrite.specs.declared.kinds.Kind.TheVariants as kind
+use Rattle.plist_binwrite.specs.EventTable.{held_at, keys_in, held_kind, num_of, plain_events, values_in}
+use Rattle.plist_binwrite.specs.declared.event_table.EventTable.{EventTable}
+use Rattle.plist_binwrite.specs.declared.kinds.EntryKind.{EntryKind}
+use Rattle.plist_binwrite.specs.declared.kinds.EntryKind.TheVariants as kind
 use Rattle.plist_binwrite.specs.inner.Scalars.{AreOwners}
-use Rattle.plist_binwrite.specs.Standing.{Sits}
+use Rattle.plist_binwrite.specs.Occurrences.{OccursAt}
 use Rattle.plist_share.specs.declared.classes.Collection.{Collection}
 
 -- a collection: whether it is a dictionary, and the classes of its children
@@ -48,14 +48,14 @@ module _ (class : ℕ → ℕ) (count : ℕ) where
 
     -- from this index on each tree has its class, and before it nothing has changed
     pub record HaveTreeClasses (es : List PlainEvent) (keys : List Key) (from : ℕ) : Type 0 where
-      pub behind : (t : Tree) (p : ℕ) → from ≤ p → Sits es t p → IsClass keys t p (class p)
+      pub behind : (t : Tree) (p : ℕ) → from ≤ p → OccursAt es t p → IsClass keys t p (class p)
       pub before : (p : ℕ) → p < from → class p ≡ scalar p
       pub below : (p : ℕ) → p < length es → class p < count + length keys
 
 -- two indices have one class exactly where the same tree begins
-abbrev pub TellTrees : List PlainEvent → (class : ℕ → ℕ) → Type 0
-TellTrees es class =
-    (t u : Tree) (p q : ℕ) → Sits es t p → Sits es u q → (class p ≡ class q) ↔ (t ≡ u)
+abbrev pub TellsTreesApart : List PlainEvent → (class : ℕ → ℕ) → Type 0
+TellsTreesApart es class =
+    (t u : Tree) (p q : ℕ) → OccursAt es t p → OccursAt es u q → (class p ≡ class q) ↔ (t ≡ u)
 
 -- ---- of held events
 
@@ -69,28 +69,28 @@ abbrev pub AddsClasses : (old : Vec ℕ Global) → (classes indices : List ℕ)
 AddsClasses old classes indices new = new.items ≡ old.items ++ map (num_of classes) indices
 
 -- the classes of the children of the collection that begins here
-abbrev pub AreClassesWithin : Held → (classes : List ℕ) → (index : ℕ) → Vec ℕ Global → Type 0
-AreClassesWithin held classes index found = (t : Tree) → Sits (plain_events held) t index
+abbrev pub AreClassesWithin : EventTable → (classes : List ℕ) → (index : ℕ) → Vec ℕ Global → Type 0
+AreClassesWithin held classes index found = (t : Tree) → OccursAt (plain_events held) t index
     → found.items ≡ map (num_of classes) (keys_in t index)
     ++ map (num_of classes) (values_in t index)
 
 -- is it the start of a dictionary?
-abbrev pub is_dictionary : Kind → Bool
+abbrev pub is_dictionary : EntryKind → Bool
 is_dictionary kind.Array = false
 is_dictionary kind.Dictionary = true
 is_dictionary kind.Scalar = false
 is_dictionary kind.End = false
 
 -- the class of the collection that begins here, behind so many others
-abbrev pub IsClassAt : Held → (classes : List ℕ) → (base : ℕ) → (seen : List Collection)
+abbrev pub IsClassAt : EventTable → (classes : List ℕ) → (base : ℕ) → (seen : List Collection)
     → (index class : ℕ) → Type 0
-IsClassAt held classes base seen index class = (t : Tree) → Sits (plain_events held) t index
+IsClassAt held classes base seen index class = (t : Tree) → OccursAt (plain_events held) t index
     → IsIndexed (num_of classes) base (keys_seen seen)
     (is_dictionary (held_kind (held_at held index)))
     t index class
 
 -- from this index on each tree has its class, and before it the scalars have theirs
-abbrev pub HaveFrom : Held → (base : ℕ) → (classes : List ℕ) → (seen : List Collection)
+abbrev pub HaveFrom : EventTable → (base : ℕ) → (classes : List ℕ) → (seen : List Collection)
     → (from : ℕ) → Type 0
 HaveFrom held base classes seen from =
     (scalar : ℕ → ℕ) × AreOwners (plain_events held) scalar base

@@ -2,14 +2,14 @@
 
 use crate::support::must;
 use plist_base::Seeking;
-use plist_support::{Device, Disk, Fault};
+use plist_support::{Device, DeviceFault, Disk};
 use std::io;
 use std::io::{ErrorKind, Write};
 use std::process::Abort;
 
 // A device that fails at this call, counting from 0; a second try would succeed.
 pub(crate) fn failing(rt: &impl AllocGlobal, call: u64, kind: ErrorKind) -> Device {
-    Device::with_fault(Vec::new(rt.alloc()), call, Fault::Fails(kind))
+    Device::with_fault(Vec::new(rt.alloc()), call, DeviceFault::Fails(kind))
 }
 
 // One that fails at none.

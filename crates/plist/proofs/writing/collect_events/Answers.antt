@@ -1,6 +1,6 @@
 use Rattle.std.proofs.Common.{rules, map, ap, ◌∙◌, ◌++◌}
-use Rattle.plist_base.specs.Bracketing.{bracketing, unhinted}
-use Rattle.plist_binwrite.specs.Held.{plain_events}
+use Rattle.plist_base.specs.Bracketing.{bracketing, without_length}
+use Rattle.plist_binwrite.specs.EventTable.{plain_events}
 use Rattle.plist.specs.Events.{remaining_events}
 use Rattle.plist.specs.Views.{tree_of}
 use Rattle.plist.proofs.Gathered.{gathered_more, gathered_all}
@@ -8,7 +8,8 @@ use Rattle.plist.proofs.writing.collect_events.Goals as goal
 
 pub loop-item-init : goal.loop-item-init
 loop-item-init c =
-    ap (λ l. l ++ map unhinted (remaining_events c.events-left.result)) c.new-held.ensures.events
+    ap (λ l. l ++ map without_length (remaining_events c.events-left.result))
+    c.new-held.ensures.events
     ∙ ap (map _) c.events-left.ensures.items
 
 pub loop-item-preserved : goal.loop-item-preserved

@@ -2,7 +2,7 @@ use Rattle.std.proofs.Common.{◌≡◌, arith, sym, ◌<◌, get_or, length, �
 use Rattle.std.proofs.lemmas.List.{length-reverse, get_or_read_under}
 use Rattle.std.proofs.lemmas.Result.{on_ok_weaker}
 use Rattle.plist_binread.specs.declared.walk.Turn.TheVariants.{Child}
-use Rattle.plist_binread.specs.Told.{answer_in}
+use Rattle.plist_binread.specs.Slot.{answer_in}
 use Rattle.plist_binread.specs.Walking.{weight_in}
 use Rattle.plist_binread.proofs.Lengths.{child_limits}
 use Rattle.plist_binread.proofs.Steps.{steps_positive}
@@ -19,7 +19,7 @@ child : (g : _) (c : In-Child g) → IfSome (g.S.Source.known c.args.source.now)
     (reverse c.turn.new.self.frames))
 child g c =
     known_turned _ _ _ _ _ _ _ _ (Child _ _) c.requires.known
-    c.in-Child.ensures.owed
+    c.in-Child.ensures.remaining
 
 -- the place of the collection
 place : (g : _) (c : After-read_child g)
@@ -42,9 +42,9 @@ pub returns-in-Err-clause-falls : goal.returns-in-Err-clause-falls
 returns-in-Err-clause-falls g c =
     (some g (goal.at.returns-in-Err-clause-falls g c).In-Child, tt)
 
-pub returns-in-Err-clause-pays : goal.returns-in-Err-clause-pays
-returns-in-Err-clause-pays g c =
-    let t = goal.at.returns-in-Err-clause-pays g c in
+pub returns-in-Err-clause-yields : goal.returns-in-Err-clause-yields
+returns-in-Err-clause-yields g c =
+    let t = goal.at.returns-in-Err-clause-yields g c in
     known_child_failed _ _ _ _ _ _ _ _ _ c.in-Child.ensures.within.0
     c.in-Child.ensures.within.1 (child g t.In-Child)
     (rw (place g t.After-read_child) at c.in-Err.ensures.child)
@@ -63,22 +63,22 @@ returns-in-Ok-clause-falls g c =
 goes : (g : _) (c : After-enter g)
     → c.index-at.result.now ≡ get_or c.turn.new.self.contents.items c.in-Child.object 0
     → GoesOn (g.S.Source.known c.args.source.now) c.args.bounds.now c.args.walk.now
-    (answer_in c.enter.result c.enter.new.last) c.enter.new.last c.enter.new.walk
+    (answer_in c.enter.result c.enter.new.slot) c.enter.new.slot c.enter.new.walk
 goes g c read =
-    let answer = answer_in c.enter.result c.enter.new.last in
+    let answer = answer_in c.enter.result c.enter.new.slot in
     let turned = known_turned _ _ _ _ _ _ _ _ (Child c.in-Child.object c.in-Child.index)
-    c.requires.known c.in-Child.ensures.owed in
+    c.requires.known c.in-Child.ensures.remaining in
     known_child_goes _ _ _ _ _ _ _ _ _ _ answer _
     c.in-Child.ensures.within.0 c.in-Child.ensures.within.1 turned
     (known_goes _ _ _ _ _ _ _ _ (length c.turn.new.self.frames) _ _ c.in-Ok.number answer
     _ c.in-Ok.ensures.unchanged (sym (length-reverse c.turn.new.self.frames))
     (known_after _ _ _ _ _ _ (Child c.in-Child.object c.in-Child.index) turned)
     (rw read at c.in-Ok.ensures.child) c.enter.ensures.kept
-    (rw read at c.enter.ensures.pays))
+    (rw read at c.enter.ensures.yields))
 
-pub returns-in-Ok-clause-pays : goal.returns-in-Ok-clause-pays
-returns-in-Ok-clause-pays g c =
-    let t = goal.at.returns-in-Ok-clause-pays g c in
+pub returns-in-Ok-clause-yields : goal.returns-in-Ok-clause-yields
+returns-in-Ok-clause-yields g c =
+    let t = goal.at.returns-in-Ok-clause-yields g c in
     first _ _ _ (goes g t.After-enter (place g t.After-read_child))
 
 pub returns-in-Ok-clause-kept : goal.returns-in-Ok-clause-kept
@@ -89,7 +89,7 @@ returns-in-Ok-clause-kept g c =
 pub returns-in-Ok-clause-limit : goal.returns-in-Ok-clause-limit
 returns-in-Ok-clause-limit g c =
     let t = goal.at.returns-in-Ok-clause-limit g c in
-    child_limits c.enter.result c.args.left c.enter.new.last _ _ _ _ _ _ _ _ _ c.in-Child.index
+    child_limits c.enter.result c.args.left c.enter.new.slot _ _ _ _ _ _ _ _ _ c.in-Child.index
     c.in-Ok.number c.in-Ok.ensures.unchanged (sym (length-reverse c.turn.new.self.frames))
     c.in-Child.ensures.within.0 c.in-Child.ensures.within.1 (child g t.In-Child)
     (rw (place g t.After-read_child) at c.in-Ok.ensures.child) c.enter.ensures.limit

@@ -10,12 +10,12 @@ returns-then-place-bounds-clause-slots g c = λ index.
 pub returns-in-Some-clause-slots : goal.returns-in-Some-clause-slots
 returns-in-Some-clause-slots g c =
     known_references _ c.args.bounds.now _ _ _ c.in-Some.ensures.place
-    (known_front _ c.near-near.result.now _ _ _ _ (omega arith) (omega arith) refl
-    c.near-near.ensures.bytes)
+    (known_front _ c.buffered-buffered.result.now _ _ _ _ (omega arith) (omega arith) refl
+    c.buffered-buffered.ensures.bytes)
     c.in-Some.ensures.slots
 
 pub returns-in-None-clause-slots : goal.returns-in-None-clause-slots
 returns-in-None-clause-slots g c = λ index.
     known_childless _ c.args.bounds.now c.args.place index _
     (Err c.exceed-in-None.new.self.fault) (search rules)
-    (known_prefix _ _ _ _ (omega arith) c.near-near.ensures.bytes) c.in-None.ensures.none
+    (known_prefix _ _ _ _ (omega arith) c.buffered-buffered.ensures.bytes) c.in-None.ensures.none

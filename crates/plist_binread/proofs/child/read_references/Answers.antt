@@ -15,4 +15,4 @@ pub returns-in-None-clause-slots : goal.returns-in-None-clause-slots
 returns-in-None-clause-slots g c = λ index.
     known_childless _ c.args.bounds.now c.args.place index c.read_exact_at.new.buf
     (Err c.exceed.new.self.fault) (search rules) c.in-Ok.ensures.bytes
-    (rw c.requires.room at c.in-None.ensures.none)
+    (rw c.requires.extent at c.in-None.ensures.none)

@@ -12,14 +12,14 @@ returns-clause-slots c = λ more.
 
 pub returns-in_err-marker-clause-none : goal.returns-in_err-marker-clause-none
 returns-in_err-marker-clause-none c = rw c.from_residual.ensures (λ more whole.
-    nothing_there c.args.width c.args.room c.args.seen.now more whole c.requires.far
+    nothing_there c.args.width c.args.extent c.args.seen.now more whole c.requires.far
     c.in_err-marker.ensures.cases)
 
 pub returns-in_err-count-clause-none : goal.returns-in_err-count-clause-none
 returns-in_err-count-clause-none c = rw c.from_residual-in_err-count.ensures (λ more whole.
     let first = c.in_ok-marker.ensures.cases.0 in
     let short = c.in_err-count.ensures.cut in
-    rw (nothing_more c.args.room c.args.seen.now more whole
+    rw (nothing_more c.args.extent c.args.seen.now more whole
     (c.requires.far (omega (arith, ap length first, short.0))))
     (childless c.args.width _ c.args.seen.now _ first (uncounted c.args.width c.in_ok-marker.marker.now c.in_ok-marker.rest.now short.1)))
 

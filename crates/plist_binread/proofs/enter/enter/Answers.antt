@@ -1,12 +1,12 @@
 use Rattle.std.proofs.Common.{arith, sym, length, ◌-◌, IfSome}
 use Rattle.std.proofs.lemmas.List.{length-reverse}
 use Rattle.std.proofs.lemmas.Result.{err_from_is_err_and}
-use Rattle.plist_binread.proofs.Entering.{OutcomeAt, from_any, known_decoded, known_gains, known_recalled, known_small}
+use Rattle.plist_binread.proofs.Entering.{OutcomeAt, from_any, known_decoded, known_gains, known_unpacked, known_small}
 use Rattle.plist_binread.proofs.Known.{first, second, known_refused, known_full}
 use Rattle.plist_binread.proofs.Lengths.{entered_limits}
 use Rattle.plist_binread.proofs.Steps.{steps_positive}
 use Rattle.plist_binread.specs.Reading.{object_at}
-use Rattle.plist_binread.specs.Told.{event_in}
+use Rattle.plist_binread.specs.Slot.{event_in}
 use Rattle.plist_binread.proofs.enter.enter.Goals as goal
 use Rattle.plist_binread.proofs.enter.enter.Goals.{After-keep_or_open}
 
@@ -18,17 +18,17 @@ returns-in-None-clause-falls g c =
           c.args.walk.now.frames),
     )
 
-pub returns-in-None-clause-pays : goal.returns-in-None-clause-pays
-returns-in-None-clause-pays g c =
+pub returns-in-None-clause-yields : goal.returns-in-None-clause-yields
+returns-in-None-clause-yields g c =
     let found = rw (c.in-None.is, c.as_slice.ensures.value, c.as_slice-2.ensures.value) at
     c.in_ok-found.ensures.found in
-    from_any _ _ _ (known_recalled _ _ _ _ _ _ _ _
+    from_any _ _ _ (known_unpacked _ _ _ _ _ _ _ _
     (sym (length-reverse _)) c.args.walk.now.path c.requires.known
     (rw c.as_slice.ensures.value at c.in_ok-found.ensures.below)
     (rw c.as_slice.ensures.value at c.in_ok-found.ensures.new) found.0 found.1)
 
-pub returns-in_err-outcome-in-Some-clause-pays : goal.returns-in_err-outcome-in-Some-clause-pays
-returns-in_err-outcome-in-Some-clause-pays g c =
+pub returns-in_err-outcome-in-Some-clause-yields : goal.returns-in_err-outcome-in-Some-clause-yields
+returns-in_err-outcome-in-Some-clause-yields g c =
     let p = err_from_is_err_and c.from_residual-in_err-outcome-in-Some.result
     c.from_residual-in_err-outcome-in-Some.ensures.1 in
     rw p.1 (known_refused _ _ _ _ _ _ c.args.at c.args.number
@@ -42,7 +42,7 @@ pub returns-in_err-outcome-in-Some-clause-limit : goal.returns-in_err-outcome-in
 returns-in_err-outcome-in-Some-clause-limit g c =
     let p = err_from_is_err_and c.from_residual-in_err-outcome-in-Some.result
     c.from_residual-in_err-outcome-in-Some.ensures.1 in
-    rw (p.1, p.2) (entered_limits _ c.args.left c.decode.new.last _ _ _ _ _ _ c.args.number c.in-Some.place
+    rw (p.1, p.2) (entered_limits _ c.args.left c.decode.new.slot _ _ _ _ _ _ c.args.number c.in-Some.place
     (sym (length-reverse c.args.walk.now.frames)) c.args.walk.now.path c.requires.known
     (rw c.as_slice.ensures.value at c.in_ok-found.ensures.below)
     (rw c.as_slice.ensures.value at c.in_ok-found.ensures.new)
@@ -52,7 +52,7 @@ returns-in_err-outcome-in-Some-clause-limit g c =
 -- the object is what was decoded
 there : (g : _) (c : After-keep_or_open g)
     → IfSome (g.S.Source.known c.args.source.now) (λ bytes. OutcomeAt bytes c.args.bounds.now
-    c.args.number (event_in c.decode.new.last) c.in_ok-outcome-in-Some.outcome)
+    c.args.number (event_in c.decode.new.slot) c.in_ok-outcome-in-Some.outcome)
 there g c =
     known_decoded _ _ _ _ _ _ _ _ _ c.requires.known
     (rw c.as_slice.ensures.value at c.in_ok-found.ensures.below)
@@ -63,14 +63,14 @@ pub returns-then-keep_or_open-clause-known : goal.returns-then-keep_or_open-clau
 returns-then-keep_or_open-clause-known g c =
     second _ _ _ (known_gains _ _ _ _ _ _ _ _ _ _
     c.requires.known (there g (goal.at.returns-then-keep_or_open-clause-known g c).After-keep_or_open)
-    (c.keep_or_open.ensures.pays c.if-keep_or_open.true))
+    (c.keep_or_open.ensures.yields c.if-keep_or_open.true))
 
-pub returns-then-keep_or_open-clause-pays : goal.returns-then-keep_or_open-clause-pays
-returns-then-keep_or_open-clause-pays g c =
+pub returns-then-keep_or_open-clause-yields : goal.returns-then-keep_or_open-clause-yields
+returns-then-keep_or_open-clause-yields g c =
     from_any _ _ _ (first _ _ _ (known_gains _ _ _ _ _ _ _ _ _ _
     c.requires.known
-    (there g (goal.at.returns-then-keep_or_open-clause-pays g c).After-keep_or_open)
-    (c.keep_or_open.ensures.pays c.if-keep_or_open.true)))
+    (there g (goal.at.returns-then-keep_or_open-clause-yields g c).After-keep_or_open)
+    (c.keep_or_open.ensures.yields c.if-keep_or_open.true)))
 
 pub returns-then-keep_or_open-clause-kept : goal.returns-then-keep_or_open-clause-kept
 returns-then-keep_or_open-clause-kept g c =
@@ -78,8 +78,8 @@ returns-then-keep_or_open-clause-kept g c =
     (there g (goal.at.returns-then-keep_or_open-clause-kept g c).After-keep_or_open)
     (c.keep_or_open.ensures.kept c.if-keep_or_open.true)
 
-pub returns-else-keep_or_open-clause-pays : goal.returns-else-keep_or_open-clause-pays
-returns-else-keep_or_open-clause-pays g c =
+pub returns-else-keep_or_open-clause-yields : goal.returns-else-keep_or_open-clause-yields
+returns-else-keep_or_open-clause-yields g c =
     known_refused _ _ _ _ _ _ c.args.at c.args.number
     c.in-Some.place _ (sym (length-reverse c.args.walk.now.frames)) c.args.walk.now.path
     c.requires.known (rw c.as_slice.ensures.value at c.in_ok-found.ensures.below)
@@ -87,6 +87,6 @@ returns-else-keep_or_open-clause-pays g c =
     (rw (c.in-Some.is, c.as_slice.ensures.value, c.as_slice-2.ensures.value) at
     c.in_ok-found.ensures.found)
     (known_full _ c.args.bounds.now.trailer c.in-Some.place
-    (object_at c.args.bounds.now c.in-Some.place) (event_in c.decode.new.last)
+    (object_at c.args.bounds.now c.in-Some.place) (event_in c.decode.new.slot)
     c.in_ok-outcome-in-Some.outcome c.want_memory.new.self.fault c.want_memory.ensures.fault
     (c.keep_or_open.ensures.wanted c.if-keep_or_open.false) c.in_ok-outcome-in-Some.ensures.decoded)

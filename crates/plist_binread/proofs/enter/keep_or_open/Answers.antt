@@ -1,11 +1,11 @@
 use Rattle.std.proofs.Common.{arith, sym, refl, ap, ◌∙◌, ◌+◌, cond}
 use Rattle.std.proofs.lemmas.Bool.{false≢true}
 use Rattle.std.proofs.lemmas.List.{length-reverse}
-use Rattle.plist_binread.specs.Debt.{cached_count, scalar_at}
+use Rattle.plist_binread.specs.Remaining.{cached_count, scalar_at}
 use Rattle.plist_binread.specs.Packed.{unmarked, single}
-use Rattle.plist_binread.specs.Told.{event_in}
-use Rattle.plist_binread.proofs.Steps.{pays_scalar, pays_collection, collection_large, reverse-push, start_falls, steps_positive}
-use Rattle.plist_binread.proofs.Opened.{IsOpen-push, not_open, has_room, cached_count-keep, cached_count-mark}
+use Rattle.plist_binread.specs.Slot.{event_in}
+use Rattle.plist_binread.proofs.Steps.{yields_scalar, yields_collection, collection_large, reverse-push, start_falls, steps_positive}
+use Rattle.plist_binread.proofs.Opened.{IsOpen-push, not_open, admits_more, cached_count-keep, cached_count-mark}
 use Rattle.plist_binread.proofs.Known.{as_many, known_kept, known_opened}
 use Rattle.plist_binread.proofs.enter.keep_or_open.Goals as goal
 
@@ -19,14 +19,15 @@ returns-in-Some-clause-counted c =
 pub returns-in-Some-clause-falls : goal.returns-in-Some-clause-falls
 returns-in-Some-clause-falls c = λ _. omega (arith, steps_positive)
 
-pub returns-in-Some-clause-pays : goal.returns-in-Some-clause-pays
-returns-in-Some-clause-pays c = λ _ bytes bounds entry k is decoded.
+pub returns-in-Some-clause-yields : goal.returns-in-Some-clause-yields
+returns-in-Some-clause-yields c = λ _ bytes bounds entry k is decoded.
     let scalar = rw c.in-Scalar.is at decoded in (
-      (λ at. pays_scalar _ _ (as_many bytes bounds _ _ _ k) _ _ at _ entry (sym (length-reverse _))
+      (λ at. yields_scalar _ _ (as_many bytes bounds _ _ _ k) _ _ at _ entry (sym
+          (length-reverse _))
           c.args.walk.now.path c.requires.below is
           (not_open c.args.walk.now.path c.requires.below c.requires.new) _ scalar),
       rw c.keep.ensures.contents (known_kept bytes bounds _ _ _ k _ c.in-Some.tag
-          c.in-Some.content _ (event_in c.args.last.now) c.requires.below c.args.walk.now.same
+          c.in-Some.content _ (event_in c.args.slot.now) c.requires.below c.args.walk.now.same
           c.in-Some.ensures.tag.0 c.keep.ensures.tags c.in-Some.ensures.scalar
           (ap (λ found. single (scalar_at found)) is ∙ scalar)),
     )
@@ -34,9 +35,9 @@ returns-in-Some-clause-pays c = λ _ bytes bounds entry k is decoded.
 pub returns-in-None-clause-falls : goal.returns-in-None-clause-falls
 returns-in-None-clause-falls c = λ _. omega (arith, steps_positive)
 
-pub returns-in-None-clause-pays : goal.returns-in-None-clause-pays
-returns-in-None-clause-pays c = λ _ bytes bounds entry k is decoded. (
-  (λ at. pays_scalar _ _ (as_many _ _ _ _ _ k) _ _ at _ _ (sym (length-reverse _))
+pub returns-in-None-clause-yields : goal.returns-in-None-clause-yields
+returns-in-None-clause-yields c = λ _ bytes bounds entry k is decoded. (
+  (λ at. yields_scalar _ _ (as_many _ _ _ _ _ k) _ _ at _ _ (sym (length-reverse _))
       c.args.walk.now.path c.requires.below is
       (not_open c.args.walk.now.path c.requires.below c.requires.new) _
       (rw c.in-Scalar.is at decoded)),
@@ -59,20 +60,20 @@ returns-then-open_frame-clause-counted c =
 
 pub returns-then-open_frame-clause-kept : goal.returns-then-open_frame-clause-kept
 returns-then-open_frame-clause-kept c = λ _ object outcome small.
-    absurd (false≢true (cc (collection_large object (event_in c.args.last.now) c.in-Collection.count
+    absurd (false≢true (cc (collection_large object (event_in c.args.slot.now) c.in-Collection.count
     (rw c.in-Collection.is at outcome))))
 
 pub returns-then-open_frame-clause-falls : goal.returns-then-open_frame-clause-falls
 returns-then-open_frame-clause-falls c = λ _.
     rw (reverse-push _ _ _ (c.open_frame.ensures.pushed c.if-open_frame.true))
-    (start_falls _ _ _ _ (sym (length-reverse _)) (has_room _ _ _ c.args.walk.now.path
+    (start_falls _ _ _ _ (sym (length-reverse _)) (admits_more _ _ _ c.args.walk.now.path
     c.requires.below (not_open c.args.walk.now.path c.requires.below c.requires.new))
     (omega arith))
 
-pub returns-then-open_frame-clause-pays : goal.returns-then-open_frame-clause-pays
-returns-then-open_frame-clause-pays c = λ _ bytes bounds entry k is outcome.
+pub returns-then-open_frame-clause-yields : goal.returns-then-open_frame-clause-yields
+returns-then-open_frame-clause-yields c = λ _ bytes bounds entry k is outcome.
     let collection = rw c.in-Collection.is at outcome in (
-      (λ at. pays_collection _ _ (as_many _ _ _ _ _ k) _ _ at _ _
+      (λ at. yields_collection _ _ (as_many _ _ _ _ _ k) _ _ at _ _
           (sym (length-reverse _)) c.args.walk.now.path c.requires.below is
           (not_open c.args.walk.now.path c.requires.below c.requires.new) _ _ _
           (reverse-push _ _ _ (c.open_frame.ensures.pushed c.if-open_frame.true)) refl refl

@@ -1,14 +1,15 @@
 use Rattle.std.proofs.Common.{ap, arith, ◌++◌, ℕ}
 use Rattle.std.proofs.lemmas.List.{length-append}
-use Rattle.plist_binread.specs.Front.{TellsWhole}
+use Rattle.plist_binread.specs.Front.{DecodesWhole}
 use Rattle.plist_format.specs.Object.{object_in}
 use Rattle.plist_binread.proofs.Seen.{long_behind, object_front}
 use Rattle.plist_binread.proofs.front.decode_seen.Goals as goal
 use Rattle.plist_binread.proofs.front.decode_seen.Goals.{After-front_behind-outcome}
 
 -- what lies behind the first byte tells it of the object
-whole : (g : _) (c : After-front_behind-outcome g) → TellsWhole c.args.room (object_in c.args.width)
-    c.args.seen.now c.front_behind-outcome.new.last c.front_behind-outcome.result
+whole : (g : _) (c : After-front_behind-outcome g) → DecodesWhole c.args.extent
+    (object_in c.args.width)
+    c.args.seen.now c.front_behind-outcome.new.slot c.front_behind-outcome.result
 whole g c = λ more fits.
     let first = c.in-Some.ensures.cases in
     rw (object_front _ _ _ _ (ap (λ xs. xs ++ more) first.0))
@@ -24,5 +25,5 @@ returns-else-is_small_outcome-clause-outcome g c =
 
 pub returns-else-is_small_outcome-clause-long : goal.returns-else-is_small_outcome-clause-long
 returns-else-is_small_outcome-clause-long g c =
-    long_behind c.args.width _ c.args.room c.args.seen.now c.in-Some.rest.now _ _
+    long_behind c.args.width _ c.args.extent c.args.seen.now c.in-Some.rest.now _ _
     c.in-Some.ensures.cases.0 c.requires.some c.front_behind-outcome.ensures.long

@@ -4,4 +4,4 @@ use Rattle.plist_binread.proofs.front.front_array.Goals as goal
 pub returns-in-Ok-clause-outcome : goal.returns-in-Ok-clause-outcome
 returns-in-Ok-clause-outcome c = λ more whole.
     let found = c.in-Ok.ensures.count more whole in
-    rw c.tell.ensures (array_front _ _ _ _ c.requires.width found.0 found.1)
+    rw c.set.ensures (array_front _ _ _ _ c.requires.width found.0 found.1)

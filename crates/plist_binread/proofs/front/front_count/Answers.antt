@@ -7,13 +7,14 @@ pub returns-in-Some-checked_mul-clause-count : goal.returns-in-Some-checked_mul-
 returns-in-Some-checked_mul-clause-count c = λ more whole.
     count_there c.args.marker c.args.size _ c.in-Some.count c.args.rest.now c.in-Some.behind.now
     more (c.in-Some.ensures.length more)
-    (length_left c.args.room _ _ more whole c.in-Some.ensures.short)
+    (length_left c.args.extent _ _ more whole c.in-Some.ensures.short)
     (omega (arith, c.in-Some-checked_mul.ensures, c.if-all-left.true))
 
 pub returns-in_default-clause-refused : goal.returns-in_default-clause-refused
-returns-in_default-clause-refused c = λ meaning told more whole.
+returns-in_default-clause-refused c = λ meaning current more whole.
     count_cut c.args.marker c.args.size _ c.in-Some.count c.args.rest.now c.in-Some.behind.now more
-    (c.in-Some.ensures.length more) (length_left c.args.room _ _ more whole c.in-Some.ensures.short)
+    (c.in-Some.ensures.length more) (length_left c.args.extent _ _ more whole
+    c.in-Some.ensures.short)
     (elim c.in_default.branch [
       | in_default-via-in-Some-checked_mul+else-all-left w ↦
           omega (arith, w.in-Some-checked_mul.ensures, w.if-all-left.false)
@@ -22,6 +23,6 @@ returns-in_default-clause-refused c = λ meaning told more whole.
     meaning
 
 pub returns-in-None-clause-refused : goal.returns-in-None-clause-refused
-returns-in-None-clause-refused c = λ meaning told more whole.
-    count_none c.args.marker c.args.size c.args.room c.args.rest.now more whole c.requires.far
+returns-in-None-clause-refused c = λ meaning current more whole.
+    count_none c.args.marker c.args.size c.args.extent c.args.rest.now more whole c.requires.far
     c.in-None.ensures.cut meaning

@@ -6,5 +6,5 @@ use Rattle.plist_binread.proofs.front.front_dictionary.Goals as goal
 pub returns-in-Ok-clause-outcome : goal.returns-in-Ok-clause-outcome
 returns-in-Ok-clause-outcome c = λ more whole.
     let found = c.in-Ok.ensures.count more whole in
-    rw c.tell.ensures (dictionary_front c.args.width c.in-Ok.count _
+    rw c.set.ensures (dictionary_front c.args.width c.in-Ok.count _
     (length_in c.args.marker (c.args.rest.now ++ more)) c.requires.width.0 found.0 found.1)

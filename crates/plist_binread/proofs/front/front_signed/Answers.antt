@@ -5,6 +5,6 @@ use Rattle.plist_format.specs.Object.{Scalar, signed}
 use Rattle.plist_binread.proofs.front.front_signed.Goals as goal
 
 pub returns-in-Some-clause-outcome : goal.returns-in-Some-clause-outcome
-returns-in-Some-clause-outcome c = λ more. rw c.tell_signed.ensures.scalar (λ whole. ap single_in
+returns-in-Some-clause-outcome c = λ more. rw c.set_signed.ensures.scalar (λ whole. ap single_in
     (c.in-Some.ensures.value _ (λ n. Scalar (Integer (signed 64 n))))
-    ∙ ap Some (sym c.tell_signed.ensures.told))
+    ∙ ap Some (sym c.set_signed.ensures.current))

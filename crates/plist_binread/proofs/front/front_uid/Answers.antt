@@ -7,4 +7,4 @@ use Rattle.plist_binread.proofs.front.front_uid.Goals as goal
 pub returns-in-Some-clause-outcome : goal.returns-in-Some-clause-outcome
 returns-in-Some-clause-outcome c = λ more whole. ap single_in
     (c.in-Some.ensures.value _ (λ n. Scalar (Uid n)))
-    ∙ ap Some (sym c.tell.ensures)
+    ∙ ap Some (sym c.set.ensures)

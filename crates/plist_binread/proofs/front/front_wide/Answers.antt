@@ -23,4 +23,4 @@ returns-clause-outcome c = λ more whole.
       c.if-high-ne0.false,
     )
     (wide_low c.number_from-low.result (omega arith)) in
-    ap single_in is ∙ ap Some (sym c.tell.ensures)
+    ap single_in is ∙ ap Some (sym c.set.ensures)

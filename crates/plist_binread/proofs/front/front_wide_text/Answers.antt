@@ -1,6 +1,6 @@
 use Rattle.std.proofs.Common.{arith, ℕ, ◌/◌, ◌≤◌, length, replicate}
 use Rattle.std.proofs.lemmas.List.{length-take-le}
-use Rattle.plist_binread.specs.declared.front.Kind.TheVariants.{WideText as KindWideText}
+use Rattle.plist_binread.specs.declared.front.ContentKind.TheVariants.{WideText as KindWideText}
 use Rattle.plist_binread.specs.Front.{content_means}
 use Rattle.plist_binread.proofs.front.front_wide_text.Goals as goal
 
@@ -13,4 +13,4 @@ write_units-requires c =
 pub returns-in-Ok-clause-outcome : goal.returns-in-Ok-clause-outcome
 returns-in-Ok-clause-outcome c = λ more whole.
     rw (c.in-Ok.ensures.content more whole (content_means KindWideText))
-    (rw c.write_units.ensures at c.tell_units.ensures.0)
+    (rw c.write_units.ensures at c.set_units.ensures.0)

@@ -9,4 +9,4 @@ returns c =
     ≡ length c.args.bytes.now / 2 = omega arith in
     fill_by_all (λ k. number_at c.args.bytes.now (k * 2) 2) _
     _ 0 half
-    (λ k h. c.loop-i.invariant.each k (let near : k < c.loop-i.i = omega arith in near))
+    (λ k h. c.loop-i.invariant.each k (let buffered : k < c.loop-i.i = omega arith in buffered))

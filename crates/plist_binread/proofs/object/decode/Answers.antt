@@ -1,7 +1,7 @@
 use Rattle.std.proofs.Common.{◌∙◌, ◌+◌, ap}
-use Rattle.plist_binread.specs.Told.{answer_in, event_in}
+use Rattle.plist_binread.specs.Slot.{answer_in, event_in}
 use Rattle.plist_binread.proofs.Lengths.{long_limits}
-use Rattle.plist_binread.proofs.Seen.{long_tells, seen_refused}
+use Rattle.plist_binread.proofs.Seen.{long_decodes, seen_refused}
 use Rattle.plist_binread.proofs.Markers.{known_beyond}
 use Rattle.plist_binread.proofs.object.decode.Goals as goal
 
@@ -12,27 +12,27 @@ returns-then-place-bounds-clause-decoded g c =
 
 pub returns-in-Long-clause-decoded : goal.returns-in-Long-clause-decoded
 returns-in-Long-clause-decoded g c =
-    long_tells _ _ c.args.bounds.now c.args.place c.decode_front.new.last.content
-    (event_in c.tell_long.new.last) (answer_in c.tell_long.result c.tell_long.new.last)
+    long_decodes _ _ c.args.bounds.now c.args.place c.decode_front.new.slot.content
+    (event_in c.decode_long.new.slot) (answer_in c.decode_long.result c.decode_long.new.slot)
     c.in-Ok.ensures.unchanged (rw c.in-Long.is at c.in-Ok.ensures.long)
-    c.tell_long.ensures.told
+    c.decode_long.ensures.current
 
 pub returns-in-Long-clause-limit : goal.returns-in-Long-clause-limit
 returns-in-Long-clause-limit g c =
-    long_limits c.tell_long.result c.args.left c.tell_long.new.last _ _ c.args.bounds.now c.args.place c.decode_front.new.last.content
+    long_limits c.decode_long.result c.args.left c.decode_long.new.slot _ _ c.args.bounds.now c.args.place c.decode_front.new.slot.content
     c.in-Ok.ensures.unchanged (rw c.in-Long.is at c.in-Ok.ensures.long)
-    c.tell_long.ensures.limit
+    c.decode_long.ensures.limit
 
 pub returns-in_default : goal.returns-in_default
 returns-in_default g c = record {
   decoded = seen_refused _ c.args.bounds.now c.args.place c.in-Ok.outcome
-      (event_in c.decode_front.new.last) c.refuse_object.new.last.fault c.in-Ok.ensures.outcome
+      (event_in c.decode_front.new.slot) c.refuse_object.new.slot.fault c.in-Ok.ensures.outcome
       c.refuse_object.ensures.refused;
   limit = rw c.refuse_object.ensures.held tt;
   fault = c.refuse_object.ensures.fault _;
   counted = λ counts. c.in-Ok.ensures.counted counts
       ∙ ap (λ n. g.C.DecodeCounter.count c.args.counter.now + n)
-      (c.refuse_object.ensures.small (event_in c.decode_front.new.last));
+      (c.refuse_object.ensures.small (event_in c.decode_front.new.slot));
   unchanged = c.in-Ok.ensures.unchanged;
   failures = rw c.in-Ok.ensures.failures (c.refuse_object.ensures.failures _);
 }

@@ -6,11 +6,11 @@ use Rattle.plist_binread.proofs.object.object_fault.Goals as goal
 
 pub returns-in_default : goal.returns-in_default
 returns-in_default c = record {
-  refused = λ object told outcome. refused_as object c.args.place _ _ c.with_byte_offset.ensures.fault
-      c.fault_kind.ensures.inside (c.fault_kind.ensures.faulty object told outcome);
+  refused = λ object current outcome. refused_as object c.args.place _ _ c.with_byte_offset.ensures.fault
+      c.fault_kind.ensures.inside (c.fault_kind.ensures.faulty object current outcome);
   fault = λ end. from_fault _ _ _ c.args.place end c.with_byte_offset.ensures.fault
       c.fault_kind.ensures.reader;
   failures = λ count. counts_at _ _ _ count count c.with_byte_offset.ensures.fault
       c.fault_kind.ensures.inside refl;
-  small = λ told. fault_small c.args.outcome told c.requires;
+  small = λ current. fault_small c.args.outcome current c.requires;
 }

@@ -1,15 +1,15 @@
 use Rattle.std.proofs.Common.{rules}
-use Rattle.plist_binread.proofs.Seen.{seen_tells, seen_long}
+use Rattle.plist_binread.proofs.Seen.{seen_decodes, seen_long}
 use Rattle.plist_binread.proofs.object.read_front.Goals as goal
 
 pub returns-in-Ok-clause-outcome : goal.returns-in-Ok-clause-outcome
 returns-in-Ok-clause-outcome g c =
-    seen_tells _ c.args.bounds.now c.args.place c.read_exact_at.new.buf (search rules)
-    c.in-Ok.ensures.bytes c.decode_seen.result c.decode_seen.new.last
-    (rw c.requires.room at c.decode_seen.ensures.outcome)
+    seen_decodes _ c.args.bounds.now c.args.place c.read_exact_at.new.buf (search rules)
+    c.in-Ok.ensures.bytes c.decode_seen.result c.decode_seen.new.slot
+    (rw c.requires.extent at c.decode_seen.ensures.outcome)
 
 pub returns-in-Ok-clause-long : goal.returns-in-Ok-clause-long
 returns-in-Ok-clause-long g c =
     seen_long _ c.args.bounds.now c.args.place c.read_exact_at.new.buf (search rules)
-    c.in-Ok.ensures.bytes c.decode_seen.result c.decode_seen.new.last
-    (rw c.requires.room at c.decode_seen.ensures.long)
+    c.in-Ok.ensures.bytes c.decode_seen.result c.decode_seen.new.slot
+    (rw c.requires.extent at c.decode_seen.ensures.long)

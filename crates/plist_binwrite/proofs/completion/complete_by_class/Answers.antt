@@ -1,6 +1,6 @@
 use Rattle.std.proofs.Common.{rules}
 use Rattle.std.proofs.lemmas.Result.{err_from_is_err_and}
-use Rattle.plist_binwrite.specs.Held.{num_of}
+use Rattle.plist_binwrite.specs.EventTable.{num_of}
 use Rattle.plist_binwrite.proofs.SendingFiles.{sends_nothing}
 use Rattle.plist_binwrite.proofs.Unhinted.{whole_bracketed}
 use Rattle.plist_binwrite.proofs.completion.complete_by_class.Goals as goal
@@ -16,11 +16,11 @@ draft_file-requires g c = record {
 pub returns : goal.returns
 returns g c = c.send_draft.ensures.sent (num_of c.args.classes.of) c.in_ok-draft.ensures.goes
 
-pub returns-in_err-room : goal.returns-in_err-room
-returns-in_err-room g c =
+pub returns-in_err-buffer : goal.returns-in_err-buffer
+returns-in_err-buffer g c =
     let p = err_from_is_err_and c.from_residual.result c.from_residual.ensures.1 in
     rw (p.1, p.2) (sends_nothing g.W.Write.contents _ c.args.events.now _ _ _
-    c.in_err-room.ensures.memory (search rules))
+    c.in_err-buffer.ensures.memory (search rules))
 
 pub returns-in_err-draft : goal.returns-in_err-draft
 returns-in_err-draft g c =

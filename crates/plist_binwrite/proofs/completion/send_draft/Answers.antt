@@ -1,7 +1,7 @@
 use Rattle.std.proofs.Common.{refl, subst, sym}
 use Rattle.plist_base.specs.Faults.{fault_of}
 use Rattle.plist_base.specs.Writing.{answer_of}
-use Rattle.plist_binwrite.specs.Held.{plain_events}
+use Rattle.plist_binwrite.specs.EventTable.{plain_events}
 use Rattle.plist_binwrite.specs.declared.completion.Ready.{Ready}
 use Rattle.plist_binwrite.specs.inner.Planning.{GoesBy}
 use Rattle.plist_binwrite.proofs.Readied.{fitting_ready, ready_needs_none, ready_sends}

@@ -1,4 +1,4 @@
-use Rattle.plist_binwrite.specs.Held.{plain_events}
+use Rattle.plist_binwrite.specs.EventTable.{plain_events}
 use Rattle.plist_binwrite.proofs.ClassObjects.{numbered}
 use Rattle.plist_binwrite.proofs.Outgoing.{from_empty, from_empty_front}
 use Rattle.plist_binwrite.proofs.Readied.{sends_end}

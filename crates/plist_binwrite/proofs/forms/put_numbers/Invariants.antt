@@ -5,6 +5,6 @@ use Rattle.plist_binwrite.proofs.forms.put_numbers.Given as goal
 
 abbrev pub invariant-loop-index : goal.invariant-loop-index
 invariant-loop-index g l =
-    PutsBytes (g.W.Write.contents l.initial.out) l.initial.room.items
+    PutsBytes (g.W.Write.contents l.initial.out) l.initial.buffer.items
     (table_form l.width (take l.index l.list)) (Ok tt)
-    (g.W.Write.contents l.out) l.room.items
+    (g.W.Write.contents l.out) l.buffer.items

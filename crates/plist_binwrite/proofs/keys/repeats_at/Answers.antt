@@ -1,7 +1,7 @@
 use Rattle.std.proofs.Common.{rules, ◌+◌, ◌<◌, length, arith, refl, ap, ◌∙◌}
 use Rattle.std.proofs.lemmas.List.{length-set}
 use Rattle.std.proofs.lemmas.Option.{slice_get_within}
-use Rattle.plist_binwrite.specs.Held.{scalars_of, held_kind}
+use Rattle.plist_binwrite.specs.EventTable.{scalars_of, held_kind}
 use Rattle.plist_binwrite.proofs.KeyStamps.{walked_start, walked_end, walked_leaf, walked_repeats, walked_next, below_set}
 use Rattle.plist_binwrite.proofs.Skipping.{starts_dictionary}
 use Rattle.plist_binwrite.proofs.keys.repeats_at.Goals as goal

@@ -1,7 +1,7 @@
 use Rattle.std.proofs.Common.{◌≡◌, ◌+◌, ◌-◌, length}
 use Rattle.plist_base.specs.Trees.{Dictionary, Members}
-use Rattle.plist_binwrite.specs.Held.{plain_events, scalars_of, AllBelow}
-use Rattle.plist_binwrite.specs.Standing.{Sits, SitsPairs}
+use Rattle.plist_binwrite.specs.EventTable.{plain_events, scalars_of, AllBelow}
+use Rattle.plist_binwrite.specs.Occurrences.{OccursAt, PairsOccurAt}
 use Rattle.plist_binwrite.proofs.KeyStamps.{Tells}
 use Rattle.plist_binwrite.proofs.Passing.{Left}
 use Rattle.plist_binwrite.proofs.keys.repeats_at.Given as goal
@@ -10,8 +10,8 @@ abbrev pub invariant-walk : goal.invariant-walk
 invariant-walk l = record {
   long : length l.stamps.items ≡ length (scalars_of l.events);
   newer : AllBelow (l.start + 2) l.stamps.items;
-  walked : (ms : Members) → Sits (plain_events l.events) (Dictionary ms) l.start
-      → Left SitsPairs (plain_events l.events)
+  walked : (ms : Members) → OccursAt (plain_events l.events) (Dictionary ms) l.start
+      → Left PairsOccurAt (plain_events l.events)
       (Tells (scalars_of l.events) l.mark l.stamps.items ms) l.key;
 }
 

@@ -1,5 +1,5 @@
 use Rattle.std.proofs.Common.{◌≡◌, ◌≢◌, ℕ, ◌<◌, get_or, false}
-use Rattle.plist_binwrite.specs.Held.{plain_events, is_stop, event_at, num_of}
+use Rattle.plist_binwrite.specs.EventTable.{plain_events, is_stop, event_at, num_of}
 use Rattle.plist_binwrite.specs.inner.Laying.{IsOrder}
 use Rattle.plist_binwrite.specs.inner.Planning.{count_of, numbers_of}
 use Rattle.plist_binwrite.proofs.layout.order_objects.Given as goal

@@ -2,7 +2,7 @@ use Rattle.std.proofs.Common.{ℕ, ◌<◌, ◌++◌, length, get_or, take, arit
 use Rattle.std.proofs.lemmas.List.{take_all}
 use Rattle.plist_format.specs.Object.{Object}
 use Rattle.plist_binwrite.specs.Forms.{form}
-use Rattle.plist_binwrite.specs.Held.{Describes}
+use Rattle.plist_binwrite.specs.EventTable.{Describes}
 use Rattle.plist_binwrite.specs.Outlets.{Puts}
 use Rattle.plist_binwrite.specs.Written.{bodies}
 use Rattle.plist_binwrite.specs.inner.Planning.{events_in, numbers_of}
@@ -24,10 +24,10 @@ first-first-requires g c =
 next : (g : _) (c : After-put_object g) (objects : ℕ → Object)
     → Describes (events_in c.args.file.now) (numbers_of c.args.file.now.plan.now) objects
     → (c.loop-index.index < length c.args.order.now)
-    × Puts g.W.Write.contents c.args.out.now c.args.room.now
+    × Puts g.W.Write.contents c.args.out.now c.args.buffer.now
     (bodies c.args.file.now.width objects (take c.loop-index.index c.args.order.now)
     ++ form c.args.file.now.width (objects (get_or c.args.order.now c.loop-index.index 0)))
-    c.put_object.result c.put_object.new.out c.put_object.new.room
+    c.put_object.result c.put_object.new.out c.put_object.new.buffer
 next g c objects d =
     let i = c.loop-index.index in
     let within : i < length c.args.order.now =

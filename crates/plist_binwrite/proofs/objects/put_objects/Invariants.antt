@@ -1,6 +1,6 @@
 use Rattle.std.proofs.Common.{ℕ, take, Ok}
 use Rattle.plist_format.specs.Object.{Object}
-use Rattle.plist_binwrite.specs.Held.{Describes}
+use Rattle.plist_binwrite.specs.EventTable.{Describes}
 use Rattle.plist_binwrite.specs.Outlets.{PutsBytes}
 use Rattle.plist_binwrite.specs.inner.Planning.{numbers_of}
 use Rattle.plist_binwrite.specs.Written.{bodies}
@@ -10,6 +10,6 @@ use Rattle.plist_binwrite.proofs.objects.put_objects.Given as goal
 abbrev pub invariant-loop-index : goal.invariant-loop-index
 invariant-loop-index g l = (objects : ℕ → Object)
     → Describes (events_in l.file) (numbers_of l.file.plan.now) objects
-    → PutsBytes (g.W.Write.contents l.initial.out) l.initial.room.items
+    → PutsBytes (g.W.Write.contents l.initial.out) l.initial.buffer.items
     (bodies l.file.width objects (take l.index l.order)) (Ok tt)
-    (g.W.Write.contents l.out) l.room.items
+    (g.W.Write.contents l.out) l.buffer.items

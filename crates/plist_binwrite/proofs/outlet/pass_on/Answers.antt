@@ -18,7 +18,7 @@ returns-in-Err-send g c =
     puts_broken _ _ _ _ _ _ c.in-Err-send.ensures.fault
     (out_front _ _ _ _ _ c.in-Err-send.ensures.front
     (record {
-      sent = c.args.room.now.items;
+      sent = c.args.buffer.now.items;
       went = rw c.as_slice.ensures.value at c.in-Ok.ensures.sent;
       is = refl;
     }))

@@ -4,7 +4,7 @@ use Rattle.plist_binwrite.proofs.size.count_items.Goals as goal
 
 pub walk-init : goal.walk-init
 walk-init c =
-    (omega arith, λ ts s. record { left = ts; sits = s; goes = omega arith })
+    (omega arith, λ ts s. record { left = ts; occurs = s; goes = omega arith })
 
 pub walk-preserved : goal.walk-preserved
 walk-preserved c =

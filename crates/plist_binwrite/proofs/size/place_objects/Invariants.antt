@@ -1,6 +1,6 @@
 use Rattle.std.proofs.Common.{◌≡◌, ℕ, length}
 use Rattle.plist_format.specs.Object.{Object}
-use Rattle.plist_binwrite.specs.Held.{plain_events, Describes}
+use Rattle.plist_binwrite.specs.EventTable.{plain_events, Describes}
 use Rattle.plist_binwrite.specs.inner.Planning.{count_of, numbers_of}
 use Rattle.plist_binwrite.proofs.Placing.{Along}
 use Rattle.plist_binwrite.proofs.size.place_objects.Given as goal

@@ -7,7 +7,7 @@ use Rattle.plist_binwrite.proofs.text.put_units.Given as goal
 abbrev pub invariant-loop-c : goal.invariant-loop-c
 invariant-loop-c g l =
     IsUtf8 (chars_rest l.c-iterator)
-    × ((done : List ℕ) × PutsBytes (g.W.Write.contents l.initial.out) l.initial.room.items done
-    (Ok tt) (g.W.Write.contents l.out) l.room.items
+    × ((done : List ℕ) × PutsBytes (g.W.Write.contents l.initial.out) l.initial.buffer.items done
+    (Ok tt) (g.W.Write.contents l.out) l.buffer.items
     × (done ++ flat_map (big_endian 2) (units_of (chars_rest l.c-iterator))
     ≡ flat_map (big_endian 2) (units_of l.text)))

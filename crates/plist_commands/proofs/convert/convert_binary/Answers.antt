@@ -1,5 +1,5 @@
 use Rattle.std.proofs.Common.{Ok, refl}
-use Rattle.plist_binwrite.specs.Pendings.{events_held}
+use Rattle.plist_binwrite.specs.EventBuffers.{buffered_events}
 use Rattle.plist_commands.proofs.Runs.{ends_left, ends_sent}
 use Rattle.plist_commands.proofs.Streaming.{not_read}
 use Rattle.plist_commands.proofs.convert.convert_binary.Goals as goal
@@ -25,7 +25,7 @@ returns-in-Ok-true-clause-refused g c =
 pub returns-in-Ok-true-clause-answers : goal.returns-in-Ok-true-clause-answers
 returns-in-Ok-true-clause-answers g c = (
   Ok c.in-Ok-true.field-0,
-  events_held c.hold_source.new.pending,
+  buffered_events c.hold_source.new.pending,
   c.in-Ok-true.ensures.answers,
   ends_sent c.in-Ok-true.field-0 c.send_held.result c.in-Ok-true.field-0-test
       c.send_held.ensures.nowhere,
@@ -34,7 +34,7 @@ returns-in-Ok-true-clause-answers g c = (
 pub returns-in-Ok-false-clause-answers : goal.returns-in-Ok-false-clause-answers
 returns-in-Ok-false-clause-answers g c = (
   Ok c.in-Ok-false.field-0,
-  events_held c.hold_source.new.pending,
+  buffered_events c.hold_source.new.pending,
   c.in-Ok-false.ensures.answers,
   ends_left c.in-Ok-false.field-0 c.in-Ok-false.field-0-test,
 )

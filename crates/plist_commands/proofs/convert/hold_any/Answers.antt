@@ -1,11 +1,11 @@
 use Rattle.std.proofs.Common.{false, subst}
-use Rattle.plist_binwrite.specs.Pendings.{events_held}
+use Rattle.plist_binwrite.specs.EventBuffers.{buffered_events}
 use Rattle.plist_commands.specs.Converting.{AreNoTree, FindsTree, IfOkIs, IsRefusedFor}
 use Rattle.plist_commands.proofs.convert.hold_any.Goals as goal
 
 pub returns-clause-held : goal.returns-clause-held
 returns-clause-held g c =
-    subst (λ items. FindsTree items c.hold_events.result (events_held c.hold_events.new.holder))
+    subst (λ items. FindsTree items c.hold_events.result (buffered_events c.hold_events.new.holder))
     c.new-events.ensures.items c.hold_events.ensures.held
 
 pub returns-clause-none : goal.returns-clause-none

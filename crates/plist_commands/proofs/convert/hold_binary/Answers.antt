@@ -1,6 +1,6 @@
 use Rattle.std.proofs.Common.{◌≡◌, ap, false, subst}
-use Rattle.plist_binread.specs.BinaryReader.{source_of, to_come}
-use Rattle.plist_binwrite.specs.Pendings.{events_held}
+use Rattle.plist_binread.specs.BinaryReader.{binary_source, items_to_come}
+use Rattle.plist_binwrite.specs.EventBuffers.{buffered_events}
 use Rattle.plist_commands.specs.Converting.{AreNoTree, FindsTree, IfOkIs, IsRefusedFor, items_left, items_of_known}
 use Rattle.plist_commands.proofs.Streaming.{binary_items}
 use Rattle.plist_commands.proofs.convert.hold_binary.Goals as goal
@@ -10,13 +10,15 @@ use Rattle.plist_commands.proofs.convert.hold_binary.Goals.{After-hold_events}
 same_items : (g : _) (c : After-hold_events g) → items_left g.S.Source.known c.new-reader.result
     ≡ items_of_known (g.S.Source.known c.args.source)
 same_items g c =
-    binary_items (g.S.Source.known c.args.source) (g.S.Source.known (source_of c.new-reader.result))
-    (λ bytes. to_come bytes c.new-reader.result) (ap g.S.Source.known c.new-reader.ensures.source)
+    binary_items (g.S.Source.known c.args.source) (g.S.Source.known
+    (binary_source c.new-reader.result))
+    (λ bytes. items_to_come bytes c.new-reader.result) (ap g.S.Source.known
+    c.new-reader.ensures.source)
     c.requires.binary c.new-reader.ensures.items
 
 pub returns-clause-held : goal.returns-clause-held
 returns-clause-held g c =
-    subst (λ items. FindsTree items c.hold_events.result (events_held c.hold_events.new.holder))
+    subst (λ items. FindsTree items c.hold_events.result (buffered_events c.hold_events.new.holder))
     (same_items g (goal.at.returns-clause-held g c).After-hold_events) c.hold_events.ensures.held
 
 pub returns-clause-none : goal.returns-clause-none

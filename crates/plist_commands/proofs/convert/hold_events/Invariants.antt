@@ -1,5 +1,5 @@
 use Rattle.std.proofs.Common.{◌≡◌}
-use Rattle.plist_binwrite.specs.Pendings.{TellsWhole}
+use Rattle.plist_binwrite.specs.EventBuffers.{TestsWhole}
 use Rattle.plist_commands.proofs.Runs.{HasHeld}
 use Rattle.plist_commands.proofs.Streaming.{HasTaken}
 use Rattle.plist_commands.proofs.convert.hold_events.Given as goal
@@ -7,7 +7,7 @@ use Rattle.plist_commands.proofs.convert.hold_events.Given as goal
 abbrev pub invariant-loop-item : goal.invariant-loop-item
 invariant-loop-item g l = record {
   failures : g.I.Items.failures l.items ≡ g.I.Items.failures l.initial.items;
-  told : TellsWhole (g.H.Holder.whole l.holder) (g.H.Holder.held l.holder);
+  told : TestsWhole (g.H.Holder.whole l.holder) (g.H.Holder.held l.holder);
   so_far : HasTaken (g.I.Items.coming l.initial.items) (g.I.Items.coming l.items)
       (g.H.Holder.held l.holder);
   ran : HasHeld g.I.Items.goes g.I.Items.last l.initial.items l.items (g.H.Holder.held l.holder);

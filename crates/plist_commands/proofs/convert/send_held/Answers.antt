@@ -1,6 +1,6 @@
 use Rattle.std.proofs.Common.{ap, inr, Ok, Err, refl, sym, ◌∙◌, true≢false}
 use Rattle.plist_base.specs.Faults.{Fault, fault_of}
-use Rattle.plist_binwrite.specs.Held.{plain_events}
+use Rattle.plist_binwrite.specs.EventTable.{plain_events}
 use Rattle.plist_commands.proofs.Streaming.{not_direct, sends_read}
 use Rattle.plist_commands.proofs.convert.send_held.Goals as goal
 

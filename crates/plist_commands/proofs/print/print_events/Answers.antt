@@ -1,7 +1,7 @@
 use Rattle.std.proofs.Common.{ap}
 use Rattle.std.proofs.lemmas.Result.{IfErr-weaker, on_ok_weaker}
 use Rattle.plist_base.specs.Fronts.{AppendsFront}
-use Rattle.plist_binread.specs.BinaryReader.{to_come}
+use Rattle.plist_binread.specs.BinaryReader.{items_to_come}
 use Rattle.plist_format.specs.Unfolding.{items_of_file}
 use Rattle.plist_commands.specs.Converting.{items_left}
 use Rattle.plist_commands.specs.Lines.{lines_of}
@@ -12,7 +12,7 @@ use Rattle.plist_commands.proofs.print.print_events.Goals as goal
 pub returns-clause-printed : goal.returns-clause-printed
 returns-clause-printed g c =
     on_ok_weaker c.print_reader.result
-    (of_file (g.S.Source.known c.args.source) _ (λ bytes. to_come bytes c.new-reader.result)
+    (of_file (g.S.Source.known c.args.source) _ (λ bytes. items_to_come bytes c.new-reader.result)
     items_of_file (λ items. PrintsAll items (g.W.Write.contents c.args.writer.now)
     (g.W.Write.contents c.print_reader.new.writer)) (ap g.S.Source.known c.new-reader.ensures.source)
     c.new-reader.ensures.items) c.print_reader.ensures.printed
@@ -25,14 +25,14 @@ returns-clause-refused g c =
     (EndsFile g.S.Source.known g.W.Write.contents c.args.source c.args.writer.now
     c.print_reader.new.writer)
     (λ error. of_file (g.S.Source.known c.args.source) _
-    (λ bytes. to_come bytes c.new-reader.result) items_of_file
+    (λ bytes. items_to_come bytes c.new-reader.result) items_of_file
     (λ items. PrintsUntil error items (g.W.Write.contents c.args.writer.now)
     (g.W.Write.contents c.print_reader.new.writer)) (ap g.S.Source.known c.new-reader.ensures.source)
     c.new-reader.ensures.items) c.print_reader.ensures.refused
 
 pub returns-clause-front : goal.returns-clause-front
 returns-clause-front g c =
-    of_file (g.S.Source.known c.args.source) _ (λ bytes. to_come bytes c.new-reader.result)
+    of_file (g.S.Source.known c.args.source) _ (λ bytes. items_to_come bytes c.new-reader.result)
     items_of_file (λ items. AppendsFront (g.W.Write.contents c.args.writer.now)
     (g.W.Write.contents c.print_reader.new.writer) (lines_of items))
     (ap g.S.Source.known c.new-reader.ensures.source) c.new-reader.ensures.items

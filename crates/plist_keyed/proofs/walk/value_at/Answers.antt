@@ -3,7 +3,7 @@ use Rattle.std.specs.Borrow.{Bor}
 use Rattle.plist_base.specs.Faults.{fault_of}
 use Rattle.plist.specs.Collecting.{built_tree}
 use Rattle.plist.specs.Inputs.{IsReadFrom}
-use Rattle.plist_keyed.specs.inner.Owing.{items_at, owed}
+use Rattle.plist_keyed.specs.inner.RemainingSteps.{items_at, remaining_steps}
 use Rattle.plist_keyed.specs.inner.Walks.{items_of_steps}
 use Rattle.plist_keyed.proofs.Told.{fault-read}
 use Rattle.plist_keyed.proofs.Walked.{begun, not-begun}
@@ -14,12 +14,12 @@ returns-in-Ok-clause-read c =
     let (iter, is, seen) = c.from_events.ensures.shown in
     let start = c.new-walk.result in
     subst (λ l. IsReadFrom l (built_tree c.from_events.result))
-    (ap (λ w. items_of_steps (owed w)) is
+    (ap (λ w. items_of_steps (remaining_steps w)) is
     ∙ begun start c.args.objects.now (ap (λ (b : Bor _). b.now) c.new-walk.ensures.objects)
     c.new-walk.ensures.path c.new-walk.ensures.levels c.enter.new.self c.get.result c.args.uid
     c.get.ensures c.in-Ok.ensures.entered)
-    (seen (λ walk. Some (items_of_steps (owed walk)))
-    (λ old item new gives. (items_of_steps (owed new), refl, gives)))
+    (seen (λ walk. Some (items_of_steps (remaining_steps walk)))
+    (λ old item new gives. (items_of_steps (remaining_steps new), refl, gives)))
 
 pub returns-in-Err-clause-read : goal.returns-in-Err-clause-read
 returns-in-Err-clause-read c =

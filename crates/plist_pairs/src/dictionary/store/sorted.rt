@@ -9,7 +9,7 @@ ghost use Rattle.std.specs.Str.{bytes_eq};
 ghost use Rattle.std.specs.Vec.{vec_capacity};
 ghost use Rattle.indexmap.specs.IndexSet.{spare};
 ghost use Rattle.plist_pairs.specs.Shown.{shown_owned_pair};
-ghost use Rattle.plist_pairs.specs.inner.Rooms.{HasRoom};
+ghost use Rattle.plist_pairs.specs.inner.Capacities.{HasCapacity};
 
 use crate::dictionary::store::Store;
 use indexmap::IndexSet;
@@ -19,7 +19,7 @@ use std::mem;
 
 // Room for pairs: in rows, and in the columns of a store.
 #[derive(Drop)]
-pub(crate) struct Room<V> {
+pub(crate) struct Capacity<V> {
     rows: Vec<(String, V)>,
     keys: IndexSet<String>,
     items: Vec<V>,
@@ -32,17 +32,17 @@ impl<V: Drop> Store<V> {
         ensures pairs { OnOk result (IsPermutation self.old self.new) }
         ensures unchanged { OnErr result (self.new ≡ self.old) }
     {
-        let room = room_for(alloc, self.pair_count())?;
-        *self = sorted(mem::replace(self, Store::new(alloc)), room);
+        let capacity = capacity_for(alloc, self.pair_count())?;
+        *self = sorted(mem::replace(self, Store::new(alloc)), capacity);
         Ok(())
     }
 }
 
 // Room for so many pairs.
-fn room_for<V: Drop>(alloc: Global, count: usize) -> Result<Room<V>, AllocError>
-    ensures { IfOk result (HasRoom count) }
+fn capacity_for<V: Drop>(alloc: Global, count: usize) -> Result<Capacity<V>, AllocError>
+    ensures { IfOk result (HasCapacity count) }
 {
-    Ok(Room {
+    Ok(Capacity {
         rows: Vec::with_capacity(alloc, count)?,
         keys: IndexSet::with_capacity(alloc, count)?,
         items: Vec::with_capacity(alloc, count)?,
@@ -50,12 +50,12 @@ fn room_for<V: Drop>(alloc: Global, count: usize) -> Result<Room<V>, AllocError>
 }
 
 // The pairs in the order of their keys, in room that is made for them.
-fn sorted<V: Drop>(pairs: Store<V>, room: Room<V>) -> Store<V>
-    requires { HasRoom (length pairs) room }
+fn sorted<V: Drop>(pairs: Store<V>, capacity: Capacity<V>) -> Store<V>
+    requires { HasCapacity (length pairs) capacity }
     ensures sorted { IsSorted (slice_cmp nat_cmp) (keys_of result) }
     ensures pairs { IsPermutation pairs result }
 {
-    let Room { rows, keys, items } = room;
+    let Capacity { rows, keys, items } = capacity;
     let mut rows = rows_of(pairs, rows);
     rows.sort_unstable_by(
         |a: &(String, V), b: &(String, V)| -> Ordering
@@ -66,13 +66,13 @@ fn sorted<V: Drop>(pairs: Store<V>, room: Room<V>) -> Store<V>
 }
 
 // The pairs by value, in room that is made for them.
-fn rows_of<V: Drop>(pairs: Store<V>, room: Vec<(String, V)>) -> Vec<(String, V)>
-    requires empty { room.items ≡ [] }
-    requires fits { length pairs ≤ vec_capacity room }
+fn rows_of<V: Drop>(pairs: Store<V>, capacity: Vec<(String, V)>) -> Vec<(String, V)>
+    requires empty { capacity.items ≡ [] }
+    requires fits { length pairs ≤ vec_capacity capacity }
     ensures rows { map shown_owned_pair result.items ≡ pairs }
     ensures distinct { IsDistinct bytes_eq (keys_of (map shown_owned_pair result.items)) }
 {
-    let mut rows = room;
+    let mut rows = capacity;
     for row in pairs.into_pairs() {
         rows.push_reserved(row);
     }

@@ -1,5 +1,5 @@
 use Rattle.std.proofs.Common.{◌≡◌, ◌++◌, map, take}
-use Rattle.plist_binwrite.specs.Held.{num_of}
+use Rattle.plist_binwrite.specs.EventTable.{num_of}
 use Rattle.plist_share.proofs.classes.push_classes.Given as goal
 
 abbrev pub invariant-loop-index : goal.invariant-loop-index

@@ -1,7 +1,7 @@
 use Rattle.std.proofs.Common.{arith, refl, sym, subst}
-use Rattle.plist_binwrite.specs.Held.{plain_events, num_of}
+use Rattle.plist_binwrite.specs.EventTable.{plain_events, num_of}
 use Rattle.plist_binwrite.specs.inner.Scalars.{AreApart}
-use Rattle.plist_binwrite.proofs.Skipping.{sits_in}
+use Rattle.plist_binwrite.proofs.Skipping.{occurs_in}
 use Rattle.plist_share.specs.inner.Keys.{keys_seen}
 use Rattle.plist_share.proofs.Found.{found_classes, told_trees}
 use Rattle.plist_share.proofs.classes.tree_classes.Goals as goal
@@ -16,7 +16,7 @@ back-init c =
         num_of c.in_ok-scalars.scalars.of,
         owners,
         record {
-          behind = λ t p le s. absurd (omega (arith, le, index, sits_in s));
+          behind = λ t p le s. absurd (omega (arith, le, index, occurs_in s));
           before = λ p lt. refl;
           below = λ p lt. omega (arith, owners.below p lt);
         },

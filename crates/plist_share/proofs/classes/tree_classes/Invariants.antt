@@ -1,5 +1,5 @@
 use Rattle.std.proofs.Common.{◌≡◌, ◌≤◌, length}
-use Rattle.plist_binwrite.specs.Held.{plain_events}
+use Rattle.plist_binwrite.specs.EventTable.{plain_events}
 use Rattle.plist_binwrite.specs.inner.Scalars.{AreApart}
 use Rattle.plist_share.specs.inner.Keys.{HaveFrom, keys_seen}
 use Rattle.plist_share.proofs.classes.tree_classes.Given as goal

@@ -1,4 +1,4 @@
-use Rattle.plist_ascii.specs.AsciiReader.{bytes_left, dialect_of, place_of}
+use Rattle.plist_ascii.specs.AsciiReader.{untaken_bytes, dialect_of, place_of}
 use Rattle.plist_ascii.specs.Texts.{ends_bare}
 use Rattle.plist_ascii.specs.Ascii.{items_of_ascii}
 use Rattle.plist_reader.specs.Formats.{input_front}
@@ -13,8 +13,8 @@ returns-clause-value g c =
     (built_tree c.collect.result)
     (ascii-start _ c.args.dialect _ _ _ reader.dialect reader.bytes reader.place)
     (c.collect.ensures.shown (ascii_coming g.R.Bytes.remaining) (λ old item new gives.
-    ascii-shows (dialect_of old) (dialect_of new) (bytes_left g.R.Bytes.remaining old)
-    (bytes_left g.R.Bytes.remaining new) (place_of old) (place_of new) item gives.dialect
+    ascii-shows (dialect_of old) (dialect_of new) (untaken_bytes g.R.Bytes.remaining old)
+    (untaken_bytes g.R.Bytes.remaining new) (place_of old) (place_of new) item gives.dialect
     gives.items))
 
 pub returns-clause-read : goal.returns-clause-read

@@ -1,5 +1,5 @@
 use Rattle.std.proofs.Common.{refl, None, Some}
-use Rattle.plist_binread.specs.Told.{event_in}
+use Rattle.plist_binread.specs.Slot.{event_in}
 use Rattle.plist_binread.proofs.Taken.{closes-ended, walking-ended, holds_none, left_behind, nothing_ended, kept_end}
 use Rattle.plist_binread.proofs.Children.{known_no_references}
 use Rattle.plist_binread.proofs.Stepped.{first_walks, item_walks, not_fresh, walks_on_ok}
@@ -19,7 +19,7 @@ returns-in-Ended-clause-walks g c = record {
   head = holds_none _ c.args.self.now.bounds c.args.self.now.walk.tags.items _
       (λ w. walking-ended _ c.in-Ended.is w);
   cached = rw c.in-Ended.is (kept_end _ (λ bytes. None) c.args.self.now.walk.tags.items
-      (event_in c.args.self.now.last));
+      (event_in c.args.self.now.slot));
   leaves = left_behind _ _ _ _ _ c.args.self.now.walk.path c.args.self.now.walk.same
       c.args.self.now.counted c.args.self.now.bounded;
   kept = (refl, λ _. refl);
@@ -29,14 +29,14 @@ returns-in-Ended-clause-walks g c = record {
 pub returns-in-Fresh-clause-walks : goal.returns-in-Fresh-clause-walks
 returns-in-Fresh-clause-walks g c =
     first_walks _ _ _ _ c.args.self.now _ c.begin.ensures.unchanged c.begin.ensures.counted refl
-    c.begin.result c.in-Fresh.is c.state_after-self.ensures c.begin.ensures.pays c.begin.ensures.fault
+    c.begin.result c.in-Fresh.is c.state_after-self.ensures c.begin.ensures.yields c.begin.ensures.fault
     c.begin.ensures.bounded c.begin.ensures.known c.begin.ensures.kept c.begin.ensures.falls
     c.begin.ensures.failures
 
 pub returns-in-Walking-clause-walks : goal.returns-in-Walking-clause-walks
 returns-in-Walking-clause-walks g c =
     item_walks _ _ _ _ c.args.self.now _ c.advance-item.ensures.unchanged c.advance-item.ensures.counted refl
-    c.advance-item.result c.in-Walking.is c.state_after-self-in-Walking.ensures c.advance-item.ensures.pays
+    c.advance-item.result c.in-Walking.is c.state_after-self-in-Walking.ensures c.advance-item.ensures.yields
     c.advance-item.ensures.closes c.advance-item.ensures.fault c.advance-item.ensures.size
     c.args.self.now.bounded c.advance-item.ensures.known c.advance-item.ensures.kept
     c.advance-item.ensures.falls c.advance-item.ensures.failures

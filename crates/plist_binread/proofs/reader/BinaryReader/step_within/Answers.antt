@@ -3,9 +3,9 @@ use Rattle.plist_base.specs.declared.limits.Limit.TheVariants as limit
 use Rattle.plist_base.specs.Faults.{fault_of}
 use Rattle.plist_base.specs.Limits.{AdmitsAny, RefusesAny}
 use Rattle.plist_base.specs.Sources.{Rises}
-use Rattle.plist_binread.specs.BinaryReader.{is_limited, is_new, number_to_come, source_of, walk_closes, walk_to_come}
-use Rattle.plist_binread.specs.Told.{event_in}
-use Rattle.plist_binread.proofs.Limiting.{event-told, fault-told, limit-counts, limit-given, limit-told, limited-below, long-told, none-told, refused-closes, refused-given, refused-other, still-given, walk-closes}
+use Rattle.plist_binread.specs.BinaryReader.{has_limits, is_new, number_to_come, binary_source, walk_closes, walk_to_come}
+use Rattle.plist_binread.specs.Slot.{event_in}
+use Rattle.plist_binread.proofs.Limiting.{event-current, fault-current, limit-counts, limit-given, limit-current, limited-below, long-current, none-current, refused-closes, refused-given, refused-other, still-given, walk-closes}
 use Rattle.plist_binread.proofs.Taken.{holds_none, kept_fault}
 use Rattle.plist_binread.proofs.reader.BinaryReader.step_within.Goals as goal
 
@@ -13,12 +13,12 @@ pub returns-in-Ok : goal.returns-in-Ok
 returns-in-Ok g c =
     let old = c.args.self.now in
     let mid = c.step.new.self in
-    let told = event_in c.admit.new.last in
+    let current = event_in c.admit.new.slot in
     let same = c.admit.ensures.unchanged in
     let w = rw c.in-Some-Ok.field-0-is at c.in-Some-Ok.ensures.walks in
-    let admitted = subst (λ l. AdmitsAny l told c.admit.new.limiter)
+    let admitted = subst (λ l. AdmitsAny l current c.admit.new.limiter)
     c.step.ensures.limiter (rw (← same) at c.in-Ok.ensures.admitted) in
-    let items = event-told (is_new old) told (g.R.Source.known (source_of old))
+    let items = event-current (is_new old) current (g.R.Source.known (binary_source old))
     old.limiter c.admit.new.limiter (λ bytes. walk_to_come bytes old)
     (λ bytes. walk_to_come bytes mid) tt admitted (rw (← same) at w.items) in
     let closes = rw (← same) at w.closes in
@@ -31,27 +31,29 @@ returns-in-Err g c =
     let old = c.args.self.now in
     let mid = c.step.new.self in
     let w = rw c.in-Some-Ok.field-0-is at c.in-Some-Ok.ensures.walks in
-    let fault = fault_of c.admit.new.last.fault in
-    let r = subst (λ l. RefusesAny l (event_in mid.last) fault) c.step.ensures.limiter
+    let fault = fault_of c.admit.new.slot.fault in
+    let r = subst (λ l. RefusesAny l (event_in mid.slot) fault) c.step.ensures.limiter
     c.in-Err.ensures.refused in
     record {
       unchanged = w.unchanged;
-      items = limit-told (is_new old) (event_in mid.last) (g.R.Source.known (source_of old))
+      items = limit-current (is_new old) (event_in mid.slot) (g.R.Source.known (binary_source old))
           old.limiter c.admit.new.limiter (λ bytes. walk_to_come bytes old)
-          (λ bytes. walk_to_come bytes mid) tt c.admit.new.last.fault r w.items;
-      failures = refused-other old.limiter (event_in mid.last) fault
-          (Rises (g.R.Source.failures (source_of old)) (g.R.Source.failures (source_of mid)))
-          (g.R.Source.failures (source_of mid) ≡ g.R.Source.failures (source_of old))
-          (g.R.Source.failures (source_of mid) ≡ g.R.Source.failures (source_of old)) r w.failures;
+          (λ bytes. walk_to_come bytes mid) tt c.admit.new.slot.fault r w.items;
+      failures = refused-other old.limiter (event_in mid.slot) fault
+          (Rises (g.R.Source.failures (binary_source old)) (g.R.Source.failures
+          (binary_source mid)))
+          (g.R.Source.failures (binary_source mid) ≡ g.R.Source.failures (binary_source old))
+          (g.R.Source.failures (binary_source mid) ≡ g.R.Source.failures
+          (binary_source old)) r w.failures;
       ended = λ e. (let no = w.ended e in absurd (cc));
       ends = refl;
       begun = refl;
-      faults = refused-given 0 (2 ^ 64) old.limiter (event_in mid.last) fault r;
-      closes = λ h. absurd (refused-closes old.limiter (walk_closes old) (event_in mid.last) fault r
+      faults = refused-given 0 (2 ^ 64) old.limiter (event_in mid.slot) fault r;
+      closes = λ h. absurd (refused-closes old.limiter (walk_closes old) (event_in mid.slot) fault r
           (λ e. w.closes e) h);
       head = holds_none _ mid.bounds mid.walk.tags.items _ (λ v. absurd (cc));
       cached = kept_fault _ (λ bytes. number_to_come bytes old) mid.walk.tags.items
-          c.admit.new.last.fault (event_in c.admit.new.last);
+          c.admit.new.slot.fault (event_in c.admit.new.slot);
       leaves = record {
         nested = w.leaves.nested;
         marked = w.leaves.marked;
@@ -67,15 +69,16 @@ returns-in-Some-Err-Fault g c =
     let old = c.args.self.now in
     let new = c.step.new.self in
     let w = rw c.in-Some-Err-Fault.field-0-is at c.in-Some-Err-Fault.ensures.walks in
-    let items = fault-told (is_new old) (event_in new.last) (g.R.Source.known (source_of old))
+    let items = fault-current (is_new old) (event_in new.slot) (g.R.Source.known
+    (binary_source old))
     old.limiter new.limiter (λ bytes. walk_to_come bytes old) (λ bytes. walk_to_come bytes new)
-    new.last.fault w.items in
+    new.slot.fault w.items in
     search (
       w,
       w.closes,
       items,
       walk-closes old.limiter (walk_closes old),
-      still-given 0 (2 ^ 64) (is_limited old) (fault_of new.last.fault) w.faults,
+      still-given 0 (2 ^ 64) (has_limits old) (fault_of new.slot.fault) w.faults,
     )
 
 pub returns-in-Some-Err-TooLong : goal.returns-in-Some-Err-TooLong
@@ -88,15 +91,15 @@ returns-in-Some-Err-TooLong g c =
     c.in-Some-Err-TooLong.ensures.limit in
     record {
       unchanged = w.unchanged;
-      items = long-told (is_new old) (event_in c.reach_limit.new.self) (event_in mid.last)
-          (g.R.Source.known (source_of old)) old.limiter mid.limiter
-          (λ bytes. walk_to_come bytes old) (λ bytes. walk_to_come bytes mid) error mid.last.fault
+      items = long-current (is_new old) (event_in c.reach_limit.new.self) (event_in mid.slot)
+          (g.R.Source.known (binary_source old)) old.limiter mid.limiter
+          (λ bytes. walk_to_come bytes old) (λ bytes. walk_to_come bytes mid) error mid.slot.fault
           c.reach_limit.ensures.fault long.1 w.items long.2;
-      failures = limit-counts error mid.last.fault _ _ c.reach_limit.ensures.fault long.0 w.failures;
+      failures = limit-counts error mid.slot.fault _ _ c.reach_limit.ensures.fault long.0 w.failures;
       ended = λ e. (let no = w.ended e in absurd (cc));
       ends = w.ends;
       begun = w.begun;
-      faults = limit-given 0 (2 ^ 64) (is_limited old) (fault_of error) limit.Bytes
+      faults = limit-given 0 (2 ^ 64) (has_limits old) (fault_of error) limit.Bytes
           (limited-below old.limiter long.1) c.reach_limit.ensures.fault;
       closes = λ h. absurd (w.closes (walk-closes old.limiter (walk_closes old) h));
       head = w.head;
@@ -117,7 +120,7 @@ returns-in-None g c =
     let old = c.args.self.now in
     let new = c.step.new.self in
     let w = c.in-None.ensures.walks in
-    let items = none-told (is_new old) (event_in new.last) (g.R.Source.known (source_of old))
+    let items = none-current (is_new old) (event_in new.slot) (g.R.Source.known (binary_source old))
     old.limiter new.limiter (λ bytes. walk_to_come bytes old) (λ bytes. walk_to_come bytes new)
     w.items in
     search (w, w.closes, items, walk-closes old.limiter (walk_closes old))

@@ -1,14 +1,14 @@
 use Rattle.std.proofs.Common.{sym, ◌∙◌}
 use Rattle.plist_binread.specs.Frames.{frame_of}
-use Rattle.plist_binread.proofs.Turned.{next_path, child_owed, closed_owed, child_weight, closed_weight, closes-none, closes-child}
+use Rattle.plist_binread.proofs.Turned.{next_path, child_remaining, closed_remaining, child_weight, closed_weight, closes-none, closes-child}
 use Rattle.plist_binread.proofs.Opened.{IsOpen-pop, first_below, first_uncached, cached_count-mark}
 use Rattle.plist_binread.proofs.walk.Walk.turn.Goals as goal
 
 pub returns-in-Nothing-clause-closes : goal.returns-in-Nothing-clause-closes
 returns-in-Nothing-clause-closes c = λ e. absurd (closes-none _ c.in-Nothing.ensures.0 e)
 
-pub returns-in-Nothing-clause-owed : goal.returns-in-Nothing-clause-owed
-returns-in-Nothing-clause-owed c =
+pub returns-in-Nothing-clause-remaining : goal.returns-in-Nothing-clause-remaining
+returns-in-Nothing-clause-remaining c =
     let is = c.in-Nothing.ensures in
     λ bytes bounds k. ((is.0, is.1), rw is.1 (rw is.0 at k))
 
@@ -29,11 +29,11 @@ invariant_of-self-in-End c =
 pub returns-in-End-clause-counted : goal.returns-in-End-clause-counted
 returns-in-End-clause-counted c = cached_count-mark _ _ _ _ c.unmark.ensures
 
-pub returns-in-End-clause-owed : goal.returns-in-End-clause-owed
-returns-in-End-clause-owed c =
+pub returns-in-End-clause-remaining : goal.returns-in-End-clause-remaining
+returns-in-End-clause-remaining c =
     let is = c.in-End.ensures in
     λ bytes bounds k. rw is.2
-    (closed_owed _ _ _ _ _ _
+    (closed_remaining _ _ _ _ _ _
     (rw is.2 at k) _ is.3 c.unmark.ensures)
 
 pub returns-in-End-clause-weight : goal.returns-in-End-clause-weight
@@ -62,11 +62,11 @@ pub returns-in-Child-clause-closes : goal.returns-in-Child-clause-closes
 returns-in-Child-clause-closes c =
     let is = c.in-Child.ensures in λ e. absurd (closes-child _ _ _ is.2 is.4 e)
 
-pub returns-in-Child-clause-owed : goal.returns-in-Child-clause-owed
-returns-in-Child-clause-owed c =
+pub returns-in-Child-clause-remaining : goal.returns-in-Child-clause-remaining
+returns-in-Child-clause-remaining c =
     let is = c.in-Child.ensures in
     λ bytes bounds k. rw (is.2, is.3)
-    (child_owed _ _ _ _
+    (child_remaining _ _ _ _
     _ _ (rw is.2 at k) is.4)
 
 pub returns-in-Child-clause-weight : goal.returns-in-Child-clause-weight

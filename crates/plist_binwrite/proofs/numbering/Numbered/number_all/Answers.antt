@@ -1,9 +1,9 @@
 use Rattle.std.proofs.Common.{◌<◌, length, arith, below_more, ap, ◌∙◌}
-use Rattle.plist_binwrite.specs.Held.{IsNumbered}
-use Rattle.plist_binwrite.proofs.Inside.{met_all, met_have}
-use Rattle.plist_binwrite.proofs.Skipping.{begins, sits_in}
+use Rattle.plist_binwrite.specs.EventTable.{IsNumbered}
+use Rattle.plist_binwrite.proofs.Inside.{positions_all, positions_have}
+use Rattle.plist_binwrite.proofs.Skipping.{begins, occurs_in}
 use Rattle.plist_binwrite.proofs.PlannedBy.{keeps_then}
-use Rattle.plist_binwrite.proofs.Sitting.{sits_whole}
+use Rattle.plist_binwrite.proofs.Sitting.{occurs_whole}
 use Rattle.plist_binwrite.proofs.Uniques.{all_from}
 use Rattle.plist_binwrite.proofs.numbering.Numbered.number_all.Goals as goal
 
@@ -21,14 +21,14 @@ loop-index-preserved c =
 pub returns-clause-all : goal.returns-clause-all
 returns-clause-all c = λ t e.
     let one = IsNumbered _ _ in
-    met_all _ one t e (met_have _ one
-    (λ u r s. c.loop-index.invariant.2 r (omega (arith, sits_in s)) u s)
-    t 0 (sits_whole e) (c.loop-index.invariant.1.numbered 0
-    (c.in_ok-number_one.ensures.numbered (begins t 0 (sits_whole e)))))
+    positions_all _ one t e (positions_have _ one
+    (λ u r s. c.loop-index.invariant.2 r (omega (arith, occurs_in s)) u s)
+    t 0 (occurs_whole e) (c.loop-index.invariant.1.numbered 0
+    (c.in_ok-number_one.ensures.numbered (begins t 0 (occurs_whole e)))))
 
 pub returns-clause-root : goal.returns-clause-root
 returns-clause-root c = λ t e.
-    let b = begins t 0 (sits_whole e) in
+    let b = begins t 0 (occurs_whole e) in
     let some : 0 < length c.number_one.new.self.firsts = omega
     (arith, c.in_ok-number_one.ensures.numbered b) in
     let f = c.in_ok-number_one.ensures.first (omega

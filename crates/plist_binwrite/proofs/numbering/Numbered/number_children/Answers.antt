@@ -1,5 +1,5 @@
 use Rattle.std.proofs.Common.{◌∙◌, sym}
-use Rattle.plist_binwrite.specs.Held.{IsNumbered}
+use Rattle.plist_binwrite.specs.EventTable.{IsNumbered}
 use Rattle.plist_binwrite.proofs.PlannedBy.{dictionary_whole}
 use Rattle.plist_binwrite.proofs.numbering.Numbered.number_children.Goals as goal
 

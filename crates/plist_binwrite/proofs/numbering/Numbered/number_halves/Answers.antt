@@ -1,5 +1,5 @@
 use Rattle.std.proofs.Common.{◌≡◌, refl, subst, false}
-use Rattle.plist_binwrite.specs.Held.{plain_events, is_stop, event_at, IsNumbered}
+use Rattle.plist_binwrite.specs.EventTable.{plain_events, is_stop, event_at, IsNumbered}
 use Rattle.plist_binwrite.proofs.Passing.{pairs_first, stands, onward, pairs_stop}
 use Rattle.plist_binwrite.proofs.PlannedBy.{keeps_self, keeps_then}
 use Rattle.plist_binwrite.proofs.numbering.Numbered.number_halves.Goals as goal

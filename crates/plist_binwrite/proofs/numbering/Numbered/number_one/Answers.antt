@@ -2,7 +2,7 @@ use Rattle.std.proofs.Common.{◌≡◌, ◌<◌, ◌≤◌, ◌+◌, ◌^◌, �
 use Rattle.std.proofs.lemmas.List.{get_or-set_same}
 use Rattle.std.proofs.Math.ListN.{get_or-append}
 use Rattle.std.proofs.Math.Seq.{get_or-append_seam}
-use Rattle.plist_binwrite.specs.Held.{plain_events, num_of}
+use Rattle.plist_binwrite.specs.EventTable.{plain_events, num_of}
 use Rattle.plist_binwrite.proofs.PlannedBy.{plan_new, plan_known, ids_new, none_yet, keeps_self, keeps_set}
 use Rattle.plist_binwrite.proofs.numbering.Numbered.number_one.Goals as goal
 use Rattle.plist_binwrite.proofs.numbering.Numbered.number_one.Goals.{In_ok-set-3 as Anew, In_ok-set as Known}

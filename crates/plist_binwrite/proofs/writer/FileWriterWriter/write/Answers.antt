@@ -1,7 +1,7 @@
 use Rattle.std.proofs.Common.{rules, refl, ◌∙◌}
 use Rattle.plist_base.specs.Events.{event_of}
 use Rattle.plist_base.specs.Faults.{fault_of}
-use Rattle.plist_binwrite.specs.Held.{plain_events}
+use Rattle.plist_binwrite.specs.EventTable.{plain_events}
 use Rattle.plist_binwrite.proofs.Calls.{takes_refused, takes_unsent, takes_whole, same_state}
 use Rattle.plist_binwrite.proofs.writer.FileWriterWriter.write.Goals as goal
 

@@ -12,5 +12,5 @@ returns-in-Ok-clause-value c =
 pub returns-in-Err-clause-fault : goal.returns-in-Err-clause-fault
 returns-in-Err-clause-fault c =
     error-read (objects_of c.args.self.now) c.as_slice.result.now c.args.uid
-    (fault_of c.in-Err.error) c.told_by.result c.as_slice.ensures.value c.told_by.ensures
+    (fault_of c.in-Err.error) c.of_error.result c.as_slice.ensures.value c.of_error.ensures
     c.in-Err.ensures.read

@@ -1,7 +1,7 @@
 use Rattle.std.proofs.Common.{sym, subst, Some}
 use Rattle.plist_base.specs.Events.{event_of}
 use Rattle.plist.specs.Events.{GivesEvent}
-use Rattle.plist_keyed.specs.inner.Owing.{Pays, owed}
+use Rattle.plist_keyed.specs.inner.RemainingSteps.{Yields, remaining_steps}
 use Rattle.plist_keyed.proofs.Walked.{left-walk, taken-owes}
 use Rattle.plist_keyed.proofs.walk.Walk.step.Goals as goal
 
@@ -10,11 +10,11 @@ returns-in-None-clause-path c =
     left-walk c.args.self.now _ c.pop.new.self.items c.in-Some.left c.pop-in-None.result c.requires
     c.in-Some.ensures.items c.pop-in-None.ensures.keys c.pop-in-None.ensures.found
 
-pub returns-in-Ok-clause-pays : goal.returns-in-Ok-clause-pays
-returns-in-Ok-clause-pays c =
+pub returns-in-Ok-clause-yields : goal.returns-in-Ok-clause-yields
+returns-in-Ok-clause-yields c =
     let gave = subst (λ x. GivesEvent c.in-Some.left (Some x) c.next.new.self) c.in-Ok.is
     c.in-Some-next.ensures.steps in
-    subst (λ steps. Pays steps c.pass.result (owed c.pass.new.self))
+    subst (λ steps. Yields steps c.pass.result (remaining_steps c.pass.new.self))
     (sym (taken-owes c.args.self.now c.push_reserved.new.self.items c.pop.new.self.items
     c.in-Some.left c.next.new.self (event_of c.in-Ok.event) c.requires c.in-Some.ensures.items
-    c.push_reserved.ensures.items gave.0)) c.pass.ensures.pays
+    c.push_reserved.ensures.items gave.0)) c.pass.ensures.yields

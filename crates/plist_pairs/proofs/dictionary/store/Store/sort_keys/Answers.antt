@@ -1,11 +1,11 @@
 use Rattle.std.proofs.Common.{length, ap, subst, sym, ◌∙◌, IsPermutation}
-use Rattle.plist_pairs.specs.inner.Rooms.{HasRoom}
+use Rattle.plist_pairs.specs.inner.Capacities.{HasCapacity}
 use Rattle.plist_pairs.proofs.dictionary.store.Store.sort_keys.Goals as goal
 
 pub sorted-requires : goal.sorted-requires
 sorted-requires g c =
-    subst (λ n. HasRoom n c.in_ok-room.room)
-    (c.pair_count.ensures.count ∙ ap length (sym c.replace.ensures.value)) c.in_ok-room.ensures
+    subst (λ n. HasCapacity n c.in_ok-capacity.capacity)
+    (c.pair_count.ensures.count ∙ ap length (sym c.replace.ensures.value)) c.in_ok-capacity.ensures
 
 pub returns-clause-pairs : goal.returns-clause-pairs
 returns-clause-pairs g c =

@@ -1,0 +1,97 @@
+-- What one call of a reader's `advance` does, and the current event.
+use Rattle.std.specs.Prelude.{◌≡◌, ℕ, ◌^◌, ◌<◌, Bool, true, false, List, Option, None, Result, IfSome}
+use Rattle.plist_base.specs.declared.error.Error.{Error}
+use Rattle.plist_base.specs.declared.source.Source.{Ghosts}
+use Rattle.plist_base.specs.Events.{PlainEvent, Item}
+use Rattle.plist_base.specs.Sources.{ItemCountsIo}
+use Rattle.plist_binread.specs.Failures.{ItemGivenWithin}
+use Rattle.plist_binread.specs.declared.reader.BinaryReader.{BinaryReader}
+use Rattle.plist_binread.specs.declared.counter.DecodeCounter.{Ghosts as CounterGhosts}
+use Rattle.plist_binread.specs.Lengths.{BeginsTooLong, RefusesLong, left_under}
+use Rattle.plist_binread.specs.Outcome.{IsCurrentEnd}
+use Rattle.plist_binread.specs.Slot.{event_in, compact_event_of, item_in}
+use Rattle.plist_binread.specs.declared.slot.Refused.{Refused}
+use Rattle.plist_binread.specs.declared.slot.CompactEvent.{CompactEvent}
+use Rattle.std.specs.String.{string_bytes}
+use Rattle.plist_binread.specs.Turns.{IsCurrentCached}
+use Rattle.plist_binread.specs.BinaryReader.{EndsAfterFault, GivesAs, HasEndedBinary, HoldsHead, KeepsCounts, Leaves, end_comes, has_limits, is_new, number_to_come, binary_source, binary_steps, items_to_come, walk_closes, walk_to_come}
+
+module _ {R C : Type 0} {g : Ghosts R} {h : CounterGhosts C} where
+  -- the current event
+  abbrev pub current_event : BinaryReader R C g h → PlainEvent
+  current_event reader = event_in reader.slot
+
+  -- the current text, and the current data
+  abbrev pub current_text : BinaryReader R C g h → List ℕ
+  current_text reader = string_bytes reader.slot.text
+
+  abbrev pub current_data : BinaryReader R C g h → List ℕ
+  current_data reader = reader.slot.data.items
+
+  -- the event of its compact form
+  abbrev pub event_as : BinaryReader R C g h → CompactEvent → PlainEvent
+  event_as reader current = compact_event_of reader.slot current
+
+-- as `GivesBinaryItem`, where the event is the current one
+abbrev pub GivesCurrent : {A : Type 0} → (new : Bool) (before : List Item) → Option (Result A Error)
+    → (current : PlainEvent) → (after : List Item) → Type 0
+GivesCurrent new before item current after = GivesAs (λ _. current) new before item after
+
+-- as `CachesItem`, where the event is the current one
+abbrev pub CachesCurrent : {A R C : Type 0} {g : Ghosts R} {h : CounterGhosts C} → Option ℕ
+    → Option (Result A Error) → BinaryReader R C g h → Type 0
+CachesCurrent number item reader = IsCurrentCached number item
+    (current_event reader) reader.walk.tags.items
+
+-- one call of `advance`: as one of `next`, of the current event. What is to come, whether an
+-- end comes next and whether there are limits are words of the reader's.
+pub record AdvancesBy {A R C : Type 0} {g : Ghosts R} {h : CounterGhosts C}
+    (coming : List ℕ → BinaryReader R C g h → List Item)
+    (closing limited : BinaryReader R C g h → Bool) (known : R → Option (List ℕ)) (failed : R → ℕ)
+    (counts : Type 0) (count : C → ℕ) (old : BinaryReader R C g h) (item : Option (Result A Error))
+    (new : BinaryReader R C g h) : Type 0 where
+  pub unchanged : known (binary_source new) ≡ known (binary_source old)
+  pub items : IfSome (known (binary_source old))
+      (λ bytes. GivesCurrent (is_new old) (coming bytes old) item (current_event new)
+      (coming bytes new))
+  pub failures : ItemCountsIo item (failed (binary_source old)) (failed (binary_source new))
+  pub ended : HasEndedBinary old → item ≡ None
+  pub ends : EndsAfterFault item new
+  pub begun : is_new new ≡ false
+  pub faults : ItemGivenWithin 0 (2 ^ 64) (limited old) item
+  pub closes : closing old ≡ true → IsCurrentEnd item (current_event new)
+  pub head : IfSome (known (binary_source old)) (λ bytes. HoldsHead bytes new)
+  pub cached : IfSome (known (binary_source old))
+      (λ bytes. CachesCurrent (number_to_come bytes old) item new)
+  pub leaves : Leaves known counts count old new
+  pub kept : KeepsCounts old new
+  pub falls : IfSome item (λ _. binary_steps new < binary_steps old)
+
+-- a step that is refused for a length comes to a text or data of more bytes than may come, and ends
+abbrev pub LimitsStep : {A R C : Type 0} {g : Ghosts R} {h : CounterGhosts C}
+    → (R → Option (List ℕ)) → (old : BinaryReader R C g h) → Option (Result A Refused)
+    → (new : BinaryReader R C g h) → Type 0
+LimitsStep known old item new = IfSome item (λ answer.
+    RefusesLong answer (left_under old.limiter) new.slot (known (binary_source old)) (λ bytes.
+    BeginsTooLong (left_under old.limiter) (walk_to_come bytes old)))
+
+module _ {R C : Type 0} {g : Ghosts R} {h : CounterGhosts C} (known : R → Option (List ℕ))
+    (failed : R → ℕ) (counts : Type 0) (count : C → ℕ) (old : BinaryReader R C g h) where
+  abbrev pub Advances : {A : Type 0} → Option (Result A Error) → (new : BinaryReader R C g h)
+      → Type 0
+  Advances item new = AdvancesBy items_to_come end_comes has_limits known failed counts count old
+      item new
+
+  -- the same of the walk that knows no limits
+  abbrev pub Walks : {A : Type 0} → Option (Result A Error) → (new : BinaryReader R C g h) → Type 0
+  Walks item new =
+      AdvancesBy walk_to_come walk_closes (λ _. false) known failed counts count old item new
+
+  -- the same where the error is held
+  abbrev pub AdvancesIn : {A : Type 0} → Option (Result A Refused) → (new : BinaryReader R C g h)
+      → Type 0
+  AdvancesIn item new = Advances (item_in item new.slot) new
+
+  abbrev pub WalksIn : {A : Type 0} → Option (Result A Refused) → (new : BinaryReader R C g h)
+      → Type 0
+  WalksIn item new = Walks (item_in item new.slot) new

@@ -1,0 +1,117 @@
+-- What one turn of the walk does: which child of the innermost frame comes next, and which object.
+use Rattle.std.specs.Prelude.{◌≡◌, ℕ, ◌+◌, ◌-◌, ◌<◌, Bool, true, false, not, List, [], ◌∷◌, ◌++◌, length, reverse, nat_lt, get_or, Result, Ok, Err, Option, None, Some, MatchResult, MatchOption, IfOk, ⊤}
+use Rattle.std.specs.List.{slice_get}
+use Rattle.plist_base.specs.declared.error.Error.{Error}
+use Rattle.plist_base.specs.declared.event.Event.{Event}
+use Rattle.plist_base.specs.Faults.{Fault, IsIo, kind_of, error_kind_of}
+use Rattle.plist_base.specs.Events.{PlainEvent, EndCollection, event_of}
+use Rattle.plist_binread.specs.declared.frames.Frame.{Frame}
+use Rattle.plist_binread.specs.declared.walk.Turn.{Turn}
+use Rattle.plist_binread.specs.declared.walk.Turn.TheVariants as turn
+use Rattle.plist_binread.specs.declared.head.Bounds.{Bounds}
+use Rattle.plist_format.specs.Container.{Head, head_of}
+use Rattle.plist_binread.specs.Packed.{is_small_event, unmarked, cached, single}
+use Rattle.plist_binread.specs.declared.reader.WalkState.{WalkState}
+use Rattle.plist_binread.specs.declared.reader.WalkState.TheVariants.{Fresh, Walking, Ended}
+use Rattle.plist_format.specs.Object.{Object}
+use Rattle.plist_format.specs.Unfolding.{TableEntry, unfolding_of, until_fault}
+use Rattle.plist_binread.specs.Decoding.{children_in}
+use Rattle.plist_binread.specs.Remaining.{SomeRemain, children_at, entries_of, next_number, remaining_items, path_of, place_at, walk_steps, walk_weight}
+
+-- ---- the next child of the innermost frame
+
+abbrev pub Turns : List TableEntry → List Frame → Turn → List Frame → Type 0
+Turns table old turn.Done new = (old ≡ []) × (new ≡ [])
+Turns table old turn.Closed new = remaining_items table old ≡ Ok EndCollection
+    ∷ remaining_items table new
+Turns table old (turn.Child object index) new =
+    (remaining_items table old ≡ unfolding_of table (length table - length new) (path_of new)
+    (place_at (slice_get table object)) (get_or (children_at (slice_get table object)) index 0)
+    ++ remaining_items table new)
+    × (index < length (children_at (slice_get table object)))
+    × SomeRemain (until_fault (remaining_items table old))
+    × (next_number table old ≡ Some (get_or (children_at (slice_get table object)) index 0))
+
+abbrev pub Lightens : (count : ℕ) → List Frame → Turn → List Frame → Type 0
+Lightens count old turn.Done new = Unit {0}
+Lightens count old turn.Closed new = walk_weight count old ≡ walk_weight count new + 1
+Lightens count old (turn.Child object index) new =
+    walk_weight count old ≡ walk_weight count new + walk_steps (count - length new)
+
+abbrev pub is_fresh : WalkState → Bool
+is_fresh Fresh = true
+is_fresh Walking = false
+is_fresh Ended = false
+
+abbrev pub is_walking : WalkState → Bool
+is_walking Fresh = false
+is_walking Walking = true
+is_walking Ended = false
+
+-- where a reader stands that has given this item
+abbrev pub state_after : {A E : Type 0} → Option (Result A E) → WalkState
+state_after None = Ended
+state_after (Some (Ok value)) = Walking
+state_after (Some (Err error)) = Ended
+
+-- has the innermost collection no child left?
+abbrev pub closes : List Frame → Bool
+closes [] = false
+closes (frame ∷ below) = not (nat_lt frame.next frame.count)
+
+-- does an end come next?
+abbrev pub ends_next : WalkState → List Frame → Bool
+ends_next Fresh frames = false
+ends_next Walking frames = closes (reverse frames)
+ends_next Ended frames = false
+
+-- ---- what is looked up and read
+
+-- what was found by a tag and a content: the place of an object that isn't cached, or none, and
+-- then a scalar is the current event
+abbrev pub IsFound : (tag content : ℕ) (current : PlainEvent) → Option ℕ → Type 0
+IsFound tag content current found = MatchOption found
+    ((0 < unmarked tag) × (single (cached tag content) ≡ Some current))
+    (λ place. (unmarked tag ≡ 0) × (place ≡ content))
+
+-- a child's number, where the object has so many
+abbrev pub ReadsChild : Object → (index : ℕ) → Result ℕ Error → Type 0
+ReadsChild object index answer =
+    index < length (children_in object)
+    → MatchResult answer (λ number. number ≡ get_or (children_in object) index 0)
+    (λ error. IsIo (kind_of (error_kind_of error)))
+
+-- the turn is to a child of an open object that isn't cached
+abbrev pub IsTurnWithin : (tags : List ℕ) → Turn → Type 0
+IsTurnWithin tags (turn.Child object index) =
+    (object < length tags) × (unmarked (get_or tags object 0) ≡ 0)
+IsTurnWithin tags _ = Unit {0}
+
+-- ---- which object comes next
+
+-- the number of the root of a file with this head
+abbrev pub root_with : Result Head Fault → Option ℕ
+root_with (Ok head) = Some head.root
+root_with (Err fault) = None
+
+-- the number of the object that comes next
+abbrev pub upcoming_number : List ℕ → WalkState → Bounds → List Frame → Option ℕ
+upcoming_number bytes Fresh bounds frames = root_with (head_of bytes)
+upcoming_number bytes Walking bounds frames = next_number (entries_of bytes bounds) (reverse frames)
+upcoming_number bytes Ended bounds frames = None
+
+-- the object is cached if the event that it gave is small
+abbrev pub IsCachedIfSmall : Option ℕ → Option (Result Event Error) → (tags : List ℕ) → Type 0
+IsCachedIfSmall None item tags = ⊤
+IsCachedIfSmall (Some number) item tags =
+    MatchOption item ⊤ (λ answer. IfOk answer
+    (λ event. is_small_event (event_of event) ≡ true → 0 < unmarked (get_or tags number 0)))
+
+-- the same of the current event
+abbrev pub IsCurrentCached : {A : Type 0} → Option ℕ → Option (Result A Error)
+    → (current : PlainEvent)
+    → (tags : List ℕ) → Type 0
+IsCurrentCached None item current tags = ⊤
+IsCurrentCached (Some number) item current tags =
+    MatchOption item ⊤ (λ answer. IfOk answer
+    (λ _. is_small_event current ≡ true → 0 < unmarked (get_or tags number 0)))

@@ -1,0 +1,50 @@
+use Rattle.std.proofs.Common.{take, ap, ◌∙◌, arith, length}
+use Rattle.plist_base.specs.Events.{event_of}
+use Rattle.plist_base.specs.inner.Hashing.{eq_of_events, same_event}
+use Rattle.plist_binwrite.proofs.HeldEntries.{kept_scalar, scalar_shown}
+use Rattle.plist_binwrite.proofs.Keyed.{event_same, key_at, key_came, keys_apart, keys_back, keys_more}
+use Rattle.plist_binwrite.proofs.event_table.EventTable.scalar.Goals as goal
+
+pub invariant_of-self : goal.invariant_of-self
+invariant_of-self c =
+    let s = c.args.self.now in
+    let keys = c.insert_full.new.self.keys in
+    let more = c.in-Ok.ensures.keys in
+    let h = c.in-Ok.ensures.stored in
+    record {
+      kept = rw c.in-Ok-push.ensures.pushed
+          (kept_scalar s.kept _ (keys_more eq_of_events event_of _ s.scalars.keys keys c.args.event
+          more).1
+          _ c.requires
+          (key_at eq_of_events event_of keys c.in-Ok.index c.args.event h.0
+          (same_event c.args.event h.0)
+          h.1 h.2)
+          (keys_apart eq_of_events event_of event_same keys c.in-Ok.ensures.unique)
+          (key_came eq_of_events event_of _ s.scalars.keys keys c.args.event more));
+      few = c.in-Ok-push.ensures.small;
+    }
+
+pub invariant_of-self-in-Err-push : goal.invariant_of-self-in-Err-push
+invariant_of-self-in-Err-push c =
+    let s = c.args.self.now in
+    let keys = c.insert_full.new.self.keys in
+    let back
+    = c.truncate.ensures.keys ∙ ap (λ n. take n keys) c.len-before.ensures.len
+    ∙ keys_back eq_of_events event_of _ s.scalars.keys keys c.args.event c.in-Ok.ensures.keys in
+    record {
+      kept = rw back (rw c.in-Err-push.ensures.unchanged s.kept);
+      few = omega (arith, ap length c.in-Err-push.ensures.unchanged, s.few);
+    }
+
+pub returns-in-Ok-push-clause-events : goal.returns-in-Ok-push-clause-events
+returns-in-Ok-push-clause-events c =
+    let s = c.args.self.now in
+    let keys = c.insert_full.new.self.keys in
+    let h = c.in-Ok.ensures.stored in
+    rw c.in-Ok-push.ensures.pushed
+    (scalar_shown s.kept _
+    (keys_more eq_of_events event_of _ s.scalars.keys keys c.args.event c.in-Ok.ensures.keys).1 _
+    c.requires
+    (key_at eq_of_events event_of keys c.in-Ok.index c.args.event h.0
+    (same_event c.args.event h.0) h.1
+    h.2))

@@ -1,0 +1,20 @@
+use Rattle.std.proofs.Common.{◌≡◌, ◌+◌, subst}
+use Rattle.plist_binwrite.specs.EventTable.{scalars_of}
+use Rattle.plist_binwrite.specs.inner.Entries.{behind_of}
+use Rattle.plist_binwrite.proofs.HeldEntries.{long_shown, kept_start}
+use Rattle.plist_binwrite.proofs.event_table.EventTable.start.Goals as goal
+
+pub invariant_of-self-2 : goal.invariant_of-self-2
+invariant_of-self-2 c =
+    let s = c.args.self.now in
+    record {
+      kept = rw (
+        c.push_reserved.ensures.items,
+        c.in_ok-reserve.ensures.items,
+        c.len-index.ensures,
+        c.in_ok-push.ensures.pushed,
+      ) (kept_start s.kept c.args.entry c.requires.starts
+          (subst (λ n. behind_of n c.args.entry ≡ n + 1) (long_shown (scalars_of s) s.entries)
+          c.requires.behind));
+      few = c.in_ok-push.ensures.small;
+    }

@@ -1,0 +1,59 @@
+-- What contracts see of the events of the open property list.
+use Rattle.std.specs.Prelude.{◌≡◌, Bool, List, [], ◌∷◌, ◌++◌, Option, None, IfSome, MatchBool}
+use Rattle.plist_base.specs.declared.error.Error.{Error}
+use Rattle.plist_base.specs.declared.error.EventKind.{EventKind}
+use Rattle.plist_base.specs.declared.error.EventKind.TheVariants as event_kind
+use Rattle.plist_base.specs.Bracketing.{without_length, AreWhole, AreComplete, CanContinue}
+use Rattle.plist_base.specs.Events.{PlainEvent, kind_of_event}
+use Rattle.plist_base.specs.Faults.{Fault, UnexpectedEventType, fault_nowhere, fault_of}
+use Rattle.plist_binwrite.specs.declared.event_buffer.EventBuffer.{EventBuffer}
+use Rattle.plist_binwrite.specs.EventTable.{plain_events}
+
+-- the events
+abbrev pub buffered_events : EventBuffer → List PlainEvent
+buffered_events pending = plain_events pending.held
+
+-- are they those of a whole property list?
+abbrev pub is_whole : EventBuffer → Bool
+is_whole pending = pending.whole
+
+-- what has to stand in the place of a refused event: a value where nothing is held
+abbrev pub expected_instead : List PlainEvent → EventKind
+expected_instead [] = event_kind.ValueOrStartCollection
+expected_instead (event ∷ events) = event_kind.DictionaryKeyOrEndCollection
+
+-- the fault of an event that can't follow those held
+abbrev pub misplaced_fault : List PlainEvent → PlainEvent → Fault
+misplaced_fault held event =
+    fault_nowhere (UnexpectedEventType (expected_instead held) (kind_of_event event))
+
+-- a test: are the events those of a tree?
+abbrev pub TestsWhole : Bool → List PlainEvent → Type 0
+TestsWhole answer events = MatchBool answer (AreComplete events) (AreWhole events → ⊥)
+
+-- the event is taken
+abbrev pub BuffersNext : (before : EventBuffer) → PlainEvent → (after : EventBuffer) → Type 0
+BuffersNext before event after =
+    (buffered_events after ≡ buffered_events before ++ without_length event ∷ [])
+    × TestsWhole (is_whole after) (buffered_events before ++ event ∷ [])
+
+-- the event can't follow those held, and this is its fault
+abbrev pub IsMisplaced : (held : List PlainEvent) → PlainEvent → Fault → Type 0
+IsMisplaced held event fault = (CanContinue held event → ⊥) × (fault ≡ misplaced_fault held event)
+
+-- a refusal is that of an event that can't follow those held, and nothing changes
+abbrev pub RefusesMisplaced : (before : EventBuffer) → PlainEvent → (after : EventBuffer)
+    → Option Error
+    → Type 0
+RefusesMisplaced before event after refusal = IfSome refusal
+    (λ error. IsMisplaced (buffered_events before) event (fault_of error) × (after ≡ before))
+
+-- an event that isn't refused can follow those held, and is taken
+abbrev pub Accepts : (before : EventBuffer) → PlainEvent → (after : EventBuffer) → Option Error
+    → Type 0
+Accepts before event after refusal =
+    refusal ≡ None → CanContinue (buffered_events before) event × BuffersNext before event after
+
+-- the event can follow those held
+abbrev pub CanTake : EventBuffer → PlainEvent → Type 0
+CanTake pending event = CanContinue (buffered_events pending) event

@@ -1,0 +1,131 @@
+-- The events that a writer holds, and what it plans of them.
+use Rattle.std.specs.Prelude.{◌≡◌, ℕ, ◌+◌, ◌<◌, ◌≤◌, Bool, true, false, List, [], ◌∷◌, length, get_or, map, ⊤, ◌++◌, ◌⊎◌, Some, slice_get, if◌then◌else◌}
+use Rattle.plist_base.specs.declared.event.Event.{Event}
+use Rattle.plist_base.specs.Events.{PlainEvent, event_of, StartArray, StartDictionary, EndCollection, Single}
+use Rattle.plist_format.specs.Object.{Object}
+use Rattle.plist_binwrite.specs.declared.event_table.EventTable.{EventTable}
+use Rattle.plist_binwrite.specs.declared.kinds.EntryKind.{EntryKind}
+use Rattle.plist_binwrite.specs.declared.kinds.EntryKind.TheVariants as kind
+use Rattle.plist_base.specs.Trees.{Scalar, Tree, Leaf, Array, Dictionary, Trees, NoTrees, TreeAnd, Members, NoMembers, MemberAnd}
+use Rattle.plist_base.specs.Bracketing.{without_length, lengthless}
+use Rattle.plist_binwrite.specs.Occurrences.{size, OccursAt}
+use Rattle.plist_binwrite.specs.Numberings.{obj_of}
+use Rattle.plist_binwrite.specs.inner.Entries.{all_shown, shown}
+use Rattle.plist_binwrite.specs.declared.entries.EventEntry.{EventEntry}
+
+-- what contracts see of an event that is held: the length of a start is struck out
+abbrev pub plain_event : Event → PlainEvent
+plain_event event = without_length (event_of event)
+
+-- the different scalars, in the order in which they came
+abbrev pub scalars_of : EventTable → List PlainEvent
+scalars_of held = map event_of held.scalars.keys
+
+-- the events
+abbrev pub plain_events : EventTable → List PlainEvent
+plain_events held = all_shown (scalars_of held) held.entries
+
+-- the event of an entry
+abbrev pub shown_in : EventTable → EventEntry → PlainEvent
+shown_in held entry = shown (scalars_of held) entry
+
+-- this holds of the scalar, if the event is one
+abbrev pub IfScalar : PlainEvent → (Scalar → Type 0) → Type 0
+IfScalar (Single scalar) P = P scalar
+IfScalar event P = ⊤
+
+abbrev pub is_stop : PlainEvent → Bool
+is_stop EndCollection = true
+is_stop event = false
+
+abbrev pub held_kind : PlainEvent → EntryKind
+held_kind (StartArray hint) = kind.Array
+held_kind (StartDictionary hint) = kind.Dictionary
+held_kind EndCollection = kind.End
+held_kind (Single x) = kind.Scalar
+
+abbrev pub event_at : List PlainEvent → ℕ → PlainEvent
+event_at es p = get_or es p EndCollection
+
+-- an item stands at an index, and not the end of a collection; or none does
+abbrev pub HasItem : List PlainEvent → (index : ℕ) → Type 0
+HasItem es p = (p < length es) × (is_stop (event_at es p) ≡ false)
+
+abbrev pub LacksItem : List PlainEvent → (index : ℕ) → Type 0
+LacksItem es p = (is_stop (event_at es p) ≡ true) ⊎ (length es ≤ p)
+
+-- the tree that begins at an index ends before this one
+abbrev pub EndsTree : List PlainEvent → (index behind : ℕ) → Type 0
+EndsTree es p behind = (t : Tree) → OccursAt es t p → behind ≡ p + size t
+
+-- the different scalar of this number stands at an index
+abbrev pub IsScalarAt : EventTable → (index scalar : ℕ) → Type 0
+IsScalarAt held p scalar =
+    slice_get (scalars_of held) scalar ≡ Some (event_at (plain_events held) p)
+
+-- an event came behind those held
+abbrev pub GrowsBy : (before : EventTable) → PlainEvent → (after : EventTable) → Type 0
+GrowsBy before event after = plain_events after ≡ plain_events before ++ event ∷ []
+
+-- the event that is held at an index
+abbrev pub held_at : EventTable → (index : ℕ) → PlainEvent
+held_at held p = event_at (plain_events held) p
+
+-- the events are those of a tree
+abbrev pub IsBracketed : List PlainEvent → Type 0
+IsBracketed es = (t : Tree) × (es ≡ lengthless t)
+
+-- the indices of the items
+abbrev pub item_indices : Trees → ℕ → List ℕ
+item_indices NoTrees q = []
+item_indices (TreeAnd t ts) q = q ∷ item_indices ts (q + size t)
+
+-- of a pair the index of the value, or of the key
+abbrev pub half_at : Bool → ℕ → ℕ
+half_at of_values q = if of_values then q + 1 else q
+
+-- the indices of the values, or of the keys
+abbrev pub half_indices : Bool → Members → ℕ → List ℕ
+half_indices of_values NoMembers q = []
+half_indices of_values (MemberAnd k t ms) q =
+    half_at of_values q ∷ half_indices of_values ms (q + 1 + size t)
+
+abbrev pub key_indices : Members → ℕ → List ℕ
+key_indices ms q = half_indices false ms q
+
+abbrev pub value_indices : Members → ℕ → List ℕ
+value_indices ms q = half_indices true ms q
+
+abbrev pub keys_in : Tree → ℕ → List ℕ
+keys_in (Dictionary ms) p = key_indices ms (p + 1)
+keys_in tree p = []
+
+abbrev pub values_in : Tree → ℕ → List ℕ
+values_in (Leaf x) p = []
+values_in (Array ts) p = item_indices ts (p + 1)
+values_in (Dictionary ms) p = value_indices ms (p + 1)
+
+abbrev pub AllBelow : ℕ → List ℕ → Type 0
+AllBelow n ps = (i : ℕ) → i < length ps → get_or ps i 0 < n
+
+abbrev pub num_of : List ℕ → ℕ → ℕ
+num_of numbers p = get_or numbers p 0
+
+abbrev pub IsNumbered : List ℕ → List ℕ → ℕ → Type 0
+IsNumbered numbers firsts p = get_or numbers p 0 < length firsts
+
+-- what was numbered stays so
+pub record Keeps (old_numbers old_firsts new_numbers new_firsts : List ℕ) : Type 0 where
+  pub numbered : (p : ℕ) → IsNumbered old_numbers old_firsts p → IsNumbered new_numbers new_firsts p
+  pub first : 0 < length old_firsts → get_or new_firsts 0 0 ≡ get_or old_firsts 0 0
+  pub grows : length old_firsts ≤ length new_firsts
+
+-- each event has a number below the count
+abbrev pub AllNumbered : List PlainEvent → List ℕ → ℕ → Type 0
+AllNumbered es numbers count = (p : ℕ) → p < length es → is_stop (event_at es p) ≡ false
+    → get_or numbers p 0 < count
+
+-- the objects of a numbering
+abbrev pub Describes : List PlainEvent → List ℕ → (ℕ → Object) → Type 0
+Describes es numbers objects = (t : Tree) (p : ℕ) → OccursAt es t p
+    → objects (get_or numbers p 0) ≡ obj_of (num_of numbers) t p

@@ -1,0 +1,42 @@
+-- Where trees occur among events.
+use Rattle.std.specs.Prelude.{◌≡◌, ℕ, ◌+◌, List, [], ◌∷◌, ◌++◌, length, drop}
+use Rattle.plist_base.specs.Bracketing.{lengthless, lengthless_items, lengthless_pairs}
+use Rattle.plist_base.specs.Events.{PlainEvent, EndCollection}
+use Rattle.plist_base.specs.Trees.{Tree, Leaf, Array, Dictionary, Trees, NoTrees, TreeAnd, Members, NoMembers, MemberAnd, String}
+
+-- the number of events
+abbrev pub size : Tree → ℕ
+size t = length (lengthless t)
+
+-- the events of t occur in es from index p on
+pub record OccursAt (es : List PlainEvent) (t : Tree) (p : ℕ) : Type 0 where
+  pub rest : List PlainEvent
+  pub is : drop p es ≡ lengthless t ++ rest
+
+-- what an array still lists from index p on, with its end
+pub record ItemsOccurAt (es : List PlainEvent) (ts : Trees) (p : ℕ) : Type 0 where
+  pub rest : List PlainEvent
+  pub is : drop p es ≡ lengthless_items ts ++ EndCollection ∷ rest
+
+-- what a dictionary still lists from index p on, with its end
+pub record PairsOccurAt (es : List PlainEvent) (ms : Members) (p : ℕ) : Type 0 where
+  pub rest : List PlainEvent
+  pub is : drop p es ≡ lengthless_pairs ms ++ EndCollection ∷ rest
+
+-- a tree and all that is in it, each with the index of its first event; a key is a text
+abbrev mutual
+  pub positions : Tree → ℕ → List (ℕ × Tree)
+  positions (Leaf scalar) p = (p, Leaf scalar) ∷ []
+  positions (Array items) p = (p, Array items) ∷ positions_in_items items (p + 1)
+  positions (Dictionary pairs) p = (p, Dictionary pairs) ∷ positions_in_pairs pairs (p + 1)
+
+  pub positions_in_items : Trees → ℕ → List (ℕ × Tree)
+  positions_in_items NoTrees p = []
+  positions_in_items (TreeAnd tree trees) p = positions tree p
+      ++ positions_in_items trees (p + size tree)
+
+  pub positions_in_pairs : Members → ℕ → List (ℕ × Tree)
+  positions_in_pairs NoMembers p = []
+  positions_in_pairs (MemberAnd key tree pairs) p =
+      (p, Leaf (String key)) ∷ (positions tree (p + 1) ++ positions_in_pairs pairs
+      (p + 1 + size tree))

@@ -1,0 +1,131 @@
+//! The buffer of the open property list's events, with what is expected next.
+
+ghost use Rattle.std.specs.Prelude.{◌≡◌};
+ghost use Rattle.std.proofs.Props.{props};
+ghost use Rattle.plist_binwrite.specs.EventTable.{plain_events};
+ghost use Rattle.plist_binwrite.specs.inner.Stacks.{AreExpected};
+
+use crate::event_table::EventTable;
+use crate::expects::{Change, Expect, change_on, put};
+use plist_base::{Error, ErrorKind, Event, EventKind};
+use std::alloc::Global;
+
+/// The events taken of the open property list. Where they are those of a whole one, they wait to be
+/// cleared.
+#[derive(Drop)]
+pub struct EventBuffer {
+    held: EventTable<'static>,
+    expects: Vec<Expect>,
+    whole: bool,
+    expected: usize,
+    ghost wanted: { AreExpected (plain_events held) whole expects.items } by { Prim.hlevel props },
+}
+
+impl EventBuffer {
+    ghost use Rattle.std.specs.Prelude.{◌≡◌, [], false, OnOk, IfOk, IfErr};
+    ghost use Rattle.plist_base.specs.Events.{event_of};
+    ghost use Rattle.plist_base.specs.Faults.{fault_of};
+    ghost use Rattle.plist_base.specs.Outcomes.{OnlyMemory};
+    ghost use Rattle.plist_binwrite.specs.EventBuffers.{buffered_events, is_whole, BuffersNext, misplaced_fault, Accepts, CanTake, RefusesMisplaced};
+    ghost use Rattle.plist_binwrite.specs.inner.Stacks.{IsChangeBy};
+
+    /// No events. It takes no memory.
+    pub fn new(alloc: Global) -> EventBuffer
+        ensures events { buffered_events result ≡ [] }
+        ensures whole { is_whole result ≡ false }
+    {
+        EventBuffer {
+            held: EventTable::new(alloc),
+            expects: Vec::new(alloc),
+            whole: false,
+            expected: 0,
+        }
+    }
+
+    /// So many different scalars are expected. It is a hint, by which room for them grows in larger
+    /// steps than without: more can come, or fewer, and it takes no memory by itself.
+    pub fn expect_scalars(&mut self, count: usize)
+        ensures events { buffered_events self.new ≡ buffered_events self.old }
+        ensures whole { is_whole self.new ≡ is_whole self.old }
+    {
+        self.expected = count;
+    }
+
+    // The fault of an event that can't follow those held.
+    fn fault_of_event(&self, event: &Event<'_>) -> Error
+        ensures { fault_of result ≡ misplaced_fault (buffered_events self.now)
+            (event_of event.now) }
+    {
+        let expected = if self.held.len() == 0 {
+            EventKind::ValueOrStartCollection
+        } else {
+            EventKind::DictionaryKeyOrEndCollection
+        };
+        let found = EventKind::of_event(event);
+        ErrorKind::UnexpectedEventType { expected, found }.without_position()
+    }
+
+    // Holds an event that can follow those held, where this is what it does to the stack.
+    #[inline(always)]
+    fn hold(&mut self, alloc: Global, event: Event<'_>, change: Change) -> Result<(), Error>
+        requires still { is_whole self.old ≡ false }
+        requires accepted { CanTake self.old (event_of event) }
+        requires change { IsChangeBy self.old.expects.items (event_of event) change }
+        ensures taken { OnOk result (BuffersNext self.old (event_of event.entry) self.new) }
+        ensures memory { OnlyMemory result }
+    {
+        self.expects.reserve(1)?;
+        self.held.expect_scalars(self.expected);
+        self.held.push_copy(alloc, event)?;
+        put(&mut self.expects, change);
+        self.whole = self.expects.is_empty();
+        Ok(())
+    }
+
+    /// Holds an event, or refuses one that can't follow those held: then its fault,
+    /// `UnexpectedEventType` without an offset, is told, and nothing changes.
+    ///
+    /// # Errors
+    /// `OutOfMemory`, without an offset, for an event that can follow those held.
+    #[inline(always)]
+    pub fn offer(&mut self, alloc: Global, event: Event<'_>) -> Result<Option<Error>, Error>
+        requires still { is_whole self.old ≡ false }
+        ensures refused { IfOk result (RefusesMisplaced self.old (event_of event.entry) self.new) }
+        ensures taken { IfOk result (Accepts self.old (event_of event.entry) self.new) }
+        ensures accepted { IfErr result (λ _. CanTake self.old (event_of event.entry)) }
+        ensures memory { OnlyMemory result }
+    {
+        let change = change_on(self.expects.as_slice(), &event);
+        match change {
+            Change::Refused => Ok(Some(self.fault_of_event(&event))),
+            _ => {
+                self.hold(alloc, event, change)?;
+                Ok(None)
+            }
+        }
+    }
+
+    /// Whether the events are those of a whole property list.
+    pub fn is_whole(&self) -> bool
+        ensures { result ≡ is_whole self.now }
+    {
+        self.whole
+    }
+
+    /// The events.
+    pub fn events(&self) -> &EventTable<'static>
+        ensures { plain_events result.now ≡ buffered_events self.now }
+    {
+        &self.held
+    }
+
+    /// Drops the events. What room they had is kept.
+    pub fn clear(&mut self)
+        ensures events { buffered_events self.new ≡ [] }
+        ensures whole { is_whole self.new ≡ false }
+    {
+        self.held.clear();
+        self.expects.clear();
+        self.whole = false;
+    }
+}

@@ -1,0 +1,270 @@
+//! The table of a property list's events, each different scalar once.
+
+ghost use Rattle.std.specs.Prelude.{◌≡◌, ◌^◌, ◌<◌, true, length, OnOk, OnErr, ◌-◌};
+ghost use Rattle.std.proofs.Props.{props};
+ghost use Rattle.plist_base.specs.Events.{EndCollection, event_of};
+ghost use Rattle.plist_base.specs.Outcomes.{OnlyMemory};
+ghost use Rattle.plist_binwrite.specs.inner.Entries.{is_leaf, KeepsScalars};
+
+use crate::entries::{Entries, EventEntry};
+use crate::kinds::EntryKind;
+use indexmap::IndexSet;
+use plist_base::{Error, ErrorKind, Event};
+use std::alloc::Global;
+
+/// The events of a property list, each different scalar once. Lengths of starts are left out.
+///
+/// Nothing tests whether the events can follow one another.
+#[derive(Drop)]
+pub struct EventTable<'e> {
+    scalars: IndexSet<Event<'e>>,
+    entries: Entries,
+    begun: Vec<usize>,
+    ghost kept: { KeepsScalars scalars.keys entries begun.items } by { Prim.hlevel props },
+    ghost few: { length entries < 2 ^ 63 },
+}
+
+impl<'e> EventTable<'e> {
+    ghost use Rattle.std.specs.Prelude.{◌≤◌, [], None, false, IfSome, ◌+◌};
+    ghost use Rattle.plist_binwrite.specs.EventTable.{plain_event, plain_events, scalars_of, held_kind, EndsTree, GrowsBy, HasItem, IsScalarAt, LacksItem, held_at, shown_in};
+    ghost use Rattle.plist_binwrite.specs.inner.Entries.{is_start, IsUnclosed};
+
+    /// No events. It takes no memory.
+    pub fn new(alloc: Global) -> EventTable<'e>
+        ensures events { plain_events result ≡ [] }
+    {
+        EventTable {
+            scalars: IndexSet::new(alloc),
+            entries: Entries::new(alloc),
+            begun: Vec::new(alloc),
+        }
+    }
+
+    /// Where no more different scalars have room and this many are expected in all, makes room for
+    /// more of these: for sixteen times as many as there are, and a thousand. So a wrong hint costs
+    /// no more than that. Where memory for it is refused the room grows as it fills.
+    pub fn expect_scalars(&mut self, expected: usize)
+        ensures events { plain_events self.new ≡ plain_events self.old }
+    {
+        let held = self.scalars.len();
+        if held < self.scalars.capacity() || held >= expected {
+            return;
+        }
+        let more = held.saturating_mul(15).saturating_add(1000);
+        let _ = self.scalars.reserve(more.min(expected - held));
+    }
+
+    /// How many events there are.
+    pub fn len(&self) -> usize
+        ensures { result ≡ length (plain_events self.now) }
+    {
+        self.entries.len()
+    }
+
+    /// How many different scalars there are.
+    pub fn count_scalars(&self) -> usize
+        ensures count { result ≡ length (scalars_of self.now) }
+        ensures small { result < 2 ^ 63 }
+    {
+        self.scalars.len()
+    }
+
+    /// The kind of the event at an index.
+    pub fn kind_at(&self, index: usize) -> EntryKind
+        requires { index < length (plain_events self.now) }
+        ensures { result ≡ held_kind (held_at self.now index) }
+    {
+        self.entries.kind_at(index)
+    }
+
+    /// Whether an item of a collection stands here, and not its end.
+    pub fn has_item(&self, index: usize) -> bool
+        ensures yes { result ≡ true → HasItem (plain_events self.now) index }
+        ensures no { result ≡ false → LacksItem (plain_events self.now) index }
+    {
+        if index >= self.len() {
+            return false;
+        }
+        match self.kind_at(index) {
+            EntryKind::End => false,
+            _ => true,
+        }
+    }
+
+    /// The index behind the tree that begins here.
+    pub fn skip(&self, index: usize) -> usize
+        requires { index < length (plain_events self.now) }
+        ensures forward { (index < result) × (result ≤ length (plain_events self.now)) }
+        ensures ends { EndsTree (plain_events self.now) index result }
+    {
+        self.entries.behind(index)
+    }
+
+    /// The index behind the pair whose key stands here.
+    pub fn skip_pair(&self, key: usize) -> usize
+        requires { key < length (plain_events self.now) }
+        ensures forward { (key < result) × (result ≤ length (plain_events self.now)) }
+        ensures ends { EndsTree (plain_events self.now) (key + 1) result }
+    {
+        let value = key + 1;
+        if value >= self.len() {
+            return value;
+        }
+        self.skip(value)
+    }
+
+    /// The index of the scalar here among the different ones, in the order in which they came.
+    pub fn scalar_index(&self, index: usize) -> Option<usize>
+        requires { index < length (plain_events self.now) }
+        ensures some { IfSome result (IsScalarAt self.now index) }
+        ensures leaf { IfSome result (λ _. is_leaf (held_at self.now index) ≡ true) }
+        ensures none { result ≡ None → is_leaf (held_at self.now index) ≡ false }
+    {
+        match self.entries.scalar(index) {
+            Some(scalar) => Some(scalar),
+            None => None,
+        }
+    }
+
+    /// The scalar here.
+    pub fn scalar_at(&self, index: usize) -> Option<&Event<'e>>
+        requires { index < length (plain_events self.now) }
+        ensures some { IfSome result (λ event. held_at self.now index ≡ plain_event event.now) }
+        ensures none { result ≡ None → is_leaf (held_at self.now index) ≡ false }
+    {
+        let scalar = self.scalar_index(index)?;
+        self.scalars.get_index(scalar)
+    }
+
+    // Takes a start, with the index behind itself.
+    fn start(&mut self, entry: EventEntry) -> Result<(), Error>
+        requires starts { is_start entry ≡ true }
+        requires behind { IsUnclosed (length (plain_events self.old)) entry }
+        ensures events { OnOk result (GrowsBy self.old (shown_in self.old entry) self.new) }
+        ensures memory { OnlyMemory result }
+        ensures unchanged { OnErr result (plain_events self.new ≡ plain_events self.old) }
+    {
+        self.begun.reserve(1)?;
+        let index = self.entries.len();
+        self.entries.push(entry)?;
+        self.begun.push_reserved(index);
+        Ok(())
+    }
+
+    // Takes an end: the innermost start that has none is closed.
+    fn end(&mut self) -> Result<(), Error>
+        ensures events { OnOk result (GrowsBy self.old EndCollection self.new) }
+        ensures memory { OnlyMemory result }
+        ensures unchanged { OnErr result (plain_events self.new ≡ plain_events self.old) }
+    {
+        match self.begun.pop() {
+            Some(start) => match self.entries.close(start) {
+                Ok(()) => Ok(()),
+                Err(error) => {
+                    self.begun.push_reserved(start);
+                    Err(error.into())
+                }
+            },
+            None => {
+                self.entries.push(EventEntry::End)?;
+                Ok(())
+            }
+        }
+    }
+
+    // Takes a scalar: the index of its equal among the different ones, or a new one. A new one is
+    // dropped again where there is no memory for its entry.
+    fn scalar(&mut self, event: Event<'e>) -> Result<(), Error>
+        requires { is_leaf (event_of event) ≡ true }
+        ensures events { OnOk result (GrowsBy self.old (event_of event.entry) self.new) }
+        ensures memory { OnlyMemory result }
+        ensures unchanged { OnErr result (plain_events self.new ≡ plain_events self.old) }
+    {
+        let before = self.scalars.len();
+        match self.scalars.insert_full(event) {
+            Ok((index, _)) => {
+                match self.entries.push(EventEntry::Scalar(index)) {
+                    Ok(()) => return Ok(()),
+                    Err(error) => {
+                        self.scalars.truncate(before);
+                        return Err(error.into());
+                    }
+                }
+            }
+            Err(_) => return Err(ErrorKind::OutOfMemory.without_position()),
+        }
+    }
+
+    /// Takes an event. A scalar that equals one of those held is dropped, and takes no memory but
+    /// that of its index.
+    ///
+    /// # Errors
+    /// `OutOfMemory`, without an offset; the events held are the same then.
+    pub fn push(&mut self, event: Event<'e>) -> Result<(), Error>
+        ensures events { OnOk result (GrowsBy self.old (plain_event event.entry) self.new) }
+        ensures memory { OnlyMemory result }
+        ensures unchanged { OnErr result (plain_events self.new ≡ plain_events self.old) }
+    {
+        let behind = self.entries.len() + 1;
+        match event {
+            Event::StartArray(_) => self.start(EventEntry::Array(behind)),
+            Event::StartDictionary(_) => self.start(EventEntry::Dictionary(behind)),
+            Event::EndCollection => self.end(),
+            scalar => self.scalar(scalar),
+        }
+    }
+
+    /// Drops the events. What room they had is kept.
+    pub fn clear(&mut self)
+        ensures events { plain_events self.new ≡ [] }
+    {
+        self.scalars.clear();
+        self.entries.clear();
+        self.begun.clear();
+    }
+}
+
+impl EventTable<'static> {
+    ghost use Rattle.plist_binwrite.specs.EventTable.{plain_event, plain_events, GrowsBy};
+
+    /// Takes a copy of an event. A text or data that equals one of those held isn't copied.
+    ///
+    /// # Errors
+    /// `OutOfMemory`, without an offset; the events held are the same then.
+    pub fn push_copy(&mut self, alloc: Global, event: Event<'_>) -> Result<(), Error>
+        ensures events { OnOk result (GrowsBy self.old (plain_event event.entry) self.new) }
+        ensures memory { OnlyMemory result }
+        ensures unchanged { OnErr result (plain_events self.new ≡ plain_events self.old) }
+    {
+        match event {
+            Event::StartArray(length) => self.push(Event::StartArray(length)),
+            Event::StartDictionary(length) => self.push(Event::StartDictionary(length)),
+            Event::EndCollection => self.push(Event::EndCollection),
+            Event::Boolean(value) => self.scalar(Event::Boolean(value)),
+            Event::Date(date) => self.scalar(Event::Date(date)),
+            Event::Integer(value) => self.scalar(Event::Integer(value)),
+            Event::Real(bits) => self.scalar(Event::Real(bits)),
+            Event::Uid(uid) => self.scalar(Event::Uid(uid)),
+            content => self.copy_content(alloc, content),
+        }
+    }
+
+    // Takes a copy of a text or data, unless its equal is held.
+    fn copy_content(&mut self, alloc: Global, event: Event<'_>) -> Result<(), Error>
+        requires { is_leaf (event_of event) ≡ true }
+        ensures events { OnOk result (GrowsBy self.old (event_of event.entry) self.new) }
+        ensures memory { OnlyMemory result }
+        ensures unchanged { OnErr result (plain_events self.new ≡ plain_events self.old) }
+    {
+        match self.scalars.get_index_of(&event) {
+            Some(index) => {
+                self.entries.push(EventEntry::Scalar(index))?;
+                return Ok(());
+            }
+            None => {
+                let owned = event.into_owned(alloc)?;
+                self.scalar(owned)
+            }
+        }
+    }
+}
