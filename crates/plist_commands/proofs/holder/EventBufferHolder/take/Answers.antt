@@ -4,7 +4,7 @@ use Rattle.plist_base.specs.Events.{PlainEvent, event_of}
 use Rattle.plist_binwrite.specs.declared.event_buffer.EventBuffer.{EventBuffer}
 use Rattle.plist_binwrite.specs.EventBuffers.{BuffersNext, buffered_events, is_whole}
 use Rattle.plist_commands.specs.Holding.{HoldsMore}
-use Rattle.plist_commands.proofs.holder.PendingHolder.take.Goals as goal
+use Rattle.plist_commands.proofs.holder.EventBufferHolder.take.Goals as goal
 
 -- one more is held behind the same events
 holds_more : (before after : EventBuffer) (held : List PlainEvent) (event : PlainEvent)
