@@ -10,6 +10,7 @@ Usage: refused_memory.py      Needs a C compiler. Ends with its counts, and stat
 import collections
 import os
 import pathlib
+import plistlib
 import subprocess
 import sys
 import tempfile
@@ -113,12 +114,15 @@ def main():
     with tempfile.TemporaryDirectory() as name:
         folder = pathlib.Path(name)
         driver, out = Driver(folder), folder / "out.plist"
-        text, cut = folder / "text.plist", folder / "cut.plist"
+        text, cut, wide = folder / "text.plist", folder / "cut.plist", folder / "wide.plist"
         text.write_bytes(ASCII)
+        # a line that is longer than what is held back
+        wide.write_bytes(plistlib.dumps("x" * 70_000, fmt=plistlib.FMT_BINARY))
         cut.write_bytes(SETTINGS.read_bytes()[:-5])
         bad = sum([
             sweep(driver, "print", ["print", SETTINGS]),
             sweep(driver, "print of a cut file", ["print", cut]),
+            sweep(driver, "print of a long line", ["print", wide]),
             sweep(driver, "convert of a binary file", ["convert", SETTINGS, out], out),
             sweep(driver, "convert of an ASCII file", ["convert", text, out], out),
             sweep(driver, "keyed", ["keyed", ARCHIVE, "root"]),

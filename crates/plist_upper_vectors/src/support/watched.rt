@@ -19,19 +19,31 @@ pub(crate) enum Stage {
     OutOfTurn,
 }
 
-// Files of another runtime. A sync of one fails in this way, if there is one.
+// Files of another runtime, and how many were opened. The flush of one fails in this way, where the
+// stage is that something is written, or the sync of one, where it is stored.
 #[derive(Drop)]
 pub(crate) struct Watched<'a, R> {
     pub rt: &'a R,
     pub stage: &'a Cell<Stage>,
-    pub failure: Option<ErrorKind>,
+    pub opened: &'a Cell<u64>,
+    pub failure: Option<(Stage, ErrorKind)>,
 }
 
 #[derive(Drop)]
 pub(crate) struct WatchedFile<'a, F> {
     file: F,
     stage: &'a Cell<Stage>,
-    failure: Option<ErrorKind>,
+    failure: Option<(Stage, ErrorKind)>,
+}
+
+impl<'a, F> WatchedFile<'a, F> {
+    // The failure of the call that leads to this stage.
+    fn fail_at(&self, stage: Stage) -> io::Result<()> {
+        match self.failure {
+            Some((failing, kind)) if failing == stage => Err(io::Error::from(kind)),
+            _ => Ok(()),
+        }
+    }
 }
 
 // Goes on to a stage, where the file stands at one of these two.
@@ -59,6 +71,7 @@ impl<'a, F: Write> Write for WatchedFile<'a, F> {
 
     fn flush(&mut self) -> io::Result<()> {
         go_on(self.stage, [Stage::Written; 2], Stage::Written);
+        self.fail_at(Stage::Written)?;
         self.file.flush()
     }
 }
@@ -80,10 +93,8 @@ impl<'a, F: OpenFile> OpenFile for WatchedFile<'a, F> {
 
     fn sync_all(&self) -> io::Result<()> {
         go_on(self.stage, [Stage::Written; 2], Stage::Stored);
-        match self.failure {
-            Some(kind) => Err(io::Error::from(kind)),
-            None => self.file.sync_all(),
-        }
+        self.fail_at(Stage::Stored)?;
+        self.file.sync_all()
     }
 
     fn sync_data(&self) -> io::Result<()> {
@@ -97,6 +108,7 @@ impl<'a, R: Files> Files for Watched<'a, R> {
     type Dir = R::Dir;
 
     fn open_file(&self, how: &OpenOptions, path: &str) -> io::Result<Self::File> {
+        self.opened.set(self.opened.get().saturating_add(1));
         if how.asks_write() {
             go_on(self.stage, [Stage::Untouched; 2], Stage::Made);
         }
