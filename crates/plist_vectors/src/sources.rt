@@ -68,6 +68,16 @@ fn gives_the_bytes(rt: HostRuntime) {
     }
 }
 
+// A source begins at byte 0, wherever its reader stands.
+#[test]
+fn begins_at_byte_0(rt: HostRuntime) {
+    let size = 9_000;
+    let mut cursor = Cursor::new(sample(&rt, size));
+    must(&rt, cursor.read(&mut [0; 5]));
+    let mut source = Seeking::new(cursor);
+    expect_read(&rt, &mut source, size, 0, 9_000);
+}
+
 // What a short read of a window didn't reach is read at its place.
 #[test]
 fn gives_the_bytes_of_short_reads(rt: HostRuntime) {
