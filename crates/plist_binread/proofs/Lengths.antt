@@ -1,12 +1,12 @@
 -- What is refused since a text or data has more bytes than may come.
-use Rattle.std.proofs.Common.{◌≡◌, ℕ, ◌+◌, ◌-◌, ◌*◌, ◌<◌, ◌≤◌, false, List, ◌∷◌, ◌++◌, length, take, drop, reverse, get_or, Option, None, Some, Result, Ok, Err, IfSome, MatchOption, refl, sym, ap, ◌∙◌, arith}
+use Rattle.std.proofs.Common.{◌≡◌, ℕ, ◌+◌, ◌-◌, ◌*◌, ◌<◌, ◌≤◌, false, List, ◌∷◌, ◌++◌, length, take, drop, get_or, Option, None, Some, Result, Ok, Err, IfSome, MatchOption, refl, sym, ◌∙◌, arith}
 use Rattle.std.specs.List.{slice_get}
 use Rattle.std.proofs.lemmas.Option.{IfSome_then}
 use Rattle.plist_base.specs.declared.error.Error.{Error}
 use Rattle.plist_base.specs.Events.{PlainEvent, Item}
 use Rattle.plist_base.specs.Limits.{bytes_in}
-use Rattle.plist_format.specs.Object.{Object, object_in}
-use Rattle.plist_format.specs.Unfolding.{items_of_file, unfolding_of, until_fault}
+use Rattle.plist_format.specs.Object.{Object}
+use Rattle.plist_format.specs.Unfolding.{unfolding_of, until_fault}
 use Rattle.plist_binread.specs.declared.frames.Frame.{Frame}
 use Rattle.plist_binread.specs.declared.front.Content.{Content}
 use Rattle.plist_binread.specs.declared.front.Outcome.{Outcome}

@@ -1,6 +1,6 @@
 //! The open collections, each in few bytes.
 
-ghost use Rattle.std.specs.Prelude.{◌≡◌, List, [], ◌∷◌, ◌++◌, reverse, IfSome, OnOk, OnErr};
+ghost use Rattle.std.specs.Prelude.{◌≡◌, [], ◌∷◌, ◌++◌, reverse, IfSome, OnOk, OnErr};
 ghost use Rattle.plist_binread.specs.Frames.{NextOf, IsLast, frame_of, widened};
 
 use std::alloc::{AllocError, Global};

@@ -1,6 +1,6 @@
 //! The head of a file: where its objects lie, and how to read them.
 
-ghost use Rattle.std.specs.Prelude.{◌≡◌, ◌^◌, ◌<◌, ◌≤◌, length, IfOk};
+ghost use Rattle.std.specs.Prelude.{◌≡◌, ◌^◌, ◌<◌, ◌≤◌, length};
 ghost use Rattle.plist_base.specs.Outcomes.{OnlyFault, DecodesBy};
 ghost use Rattle.plist_base.specs.Faults.{Io, fault_at};
 ghost use Rattle.plist_base.specs.Sources.{AnswersIo};
