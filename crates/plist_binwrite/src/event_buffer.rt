@@ -1,6 +1,5 @@
 //! The buffer of the open property list's events, with what is expected next.
 
-ghost use Rattle.std.specs.Prelude.{◌≡◌};
 ghost use Rattle.std.proofs.Props.{props};
 ghost use Rattle.plist_binwrite.specs.EventTable.{plain_events};
 ghost use Rattle.plist_binwrite.specs.inner.Stacks.{AreExpected};
