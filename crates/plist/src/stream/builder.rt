@@ -4,7 +4,7 @@ ghost use Rattle.std.specs.Prelude.{◌≡◌, IfOk, None, Ok, OnErr, OnOk, Some
 ghost use Rattle.plist_base.specs.Events.{event_of};
 ghost use Rattle.plist_base.specs.Outcomes.{IfFault};
 ghost use Rattle.plist_base.specs.Writing.{answer_of};
-ghost use Rattle.plist.specs.Building.{IsNested, IsNested-prop, IsUnfinished, events_so_far, nothing_built};
+ghost use Rattle.plist.specs.Building.{IsNested, IsNested-prop, IsUnfinished, nothing_built};
 ghost use Rattle.plist.specs.Partials.{unfinished_of};
 
 use crate::Value;
