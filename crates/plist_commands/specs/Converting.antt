@@ -1,5 +1,5 @@
 -- What becomes of a source's property list where its file is sent without a value.
-use Rattle.std.specs.Prelude.{◌≡◌, ◌⊎◌, ℕ, Bool, true, false, List, [], ◌++◌, Option, Result, Ok, Err, IfErr, IfOk, IfSome}
+use Rattle.std.specs.Prelude.{◌≡◌, ◌⊎◌, ℕ, Bool, true, List, ◌++◌, Option, Result, Ok, Err, IfErr, IfOk, IfSome}
 use Rattle.std.specs.Option.{option_map}
 use Rattle.plist_base.specs.Bracketing.{bracketing, AreAlike, AreWhole}
 use Rattle.plist_base.specs.declared.error.Error.{Error}

@@ -1,5 +1,5 @@
-use Rattle.std.proofs.Common.{◌≡◌, ◌∷◌, [], ◌++◌, List, rules, sym, ◌∙◌, subst}
-use Rattle.plist_base.specs.Bracketing.{CanContinue, without_length}
+use Rattle.std.proofs.Common.{◌≡◌, List, rules, sym, ◌∙◌, subst}
+use Rattle.plist_base.specs.Bracketing.{CanContinue}
 use Rattle.plist_base.specs.Events.{PlainEvent, event_of}
 use Rattle.plist_binwrite.specs.declared.event_buffer.EventBuffer.{EventBuffer}
 use Rattle.plist_binwrite.specs.EventBuffers.{BuffersNext, buffered_events, is_whole}
