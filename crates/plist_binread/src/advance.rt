@@ -19,8 +19,8 @@ use crate::walk::{Turn, Walk};
 use plist_base::Source;
 use std::alloc::Global;
 
-/// Tells the next item of the walk. A text or data of more than `left` bytes is refused before memory
-/// is taken for it, unless it is short.
+/// Tells the next item of the walk. A text or data of more than `left` bytes is refused before
+/// memory is taken for it, unless it is short.
 #[inline(always)]
 pub fn advance<S: Source, C: DecodeCounter>(
     alloc: Global,

@@ -176,8 +176,8 @@ fn weigh<S: Source>(
     }
 }
 
-// Reads the text or data whose content is held, of the object at a place, and tells it, unless it has
-// more than `left` bytes.
+// Reads the text or data whose content is held, of the object at a place, and tells it, unless it
+// has more than `left` bytes.
 #[cold]
 #[inline(never)]
 fn decode_long<S: Source>(
