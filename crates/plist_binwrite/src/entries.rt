@@ -13,9 +13,13 @@ use std::marker::Model;
 /// scalar by its index among the different ones.
 #[derive(Clone, Copy)]
 pub enum EventEntry {
+    /// The start of an array.
     Array(usize),
+    /// The start of a dictionary.
     Dictionary(usize),
+    /// A scalar.
     Scalar(usize),
+    /// The end of a collection.
     End,
 }
 

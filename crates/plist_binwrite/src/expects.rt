@@ -7,22 +7,29 @@ ghost use Rattle.plist_base.specs.inner.Expects.{change_of};
 
 use plist_base::Event;
 
-/// What is still to come: a value, the items of an array and its end, or the pairs of a dictionary
-/// and its end.
+/// What is still to come.
 #[derive(Clone, Copy, Drop)]
 pub enum Expect {
+    /// A value.
     OneValue,
+    /// The items of an array, and its end.
     Items,
+    /// The pairs of a dictionary, and its end.
     Pairs,
 }
 
 /// What an event does to the topmost expectation.
 #[derive(Clone, Copy, Drop)]
 pub enum Change {
+    /// The event can't come here.
     Refused,
+    /// It has come, and leaves the stack.
     Gone,
+    /// It stays.
     Kept,
+    /// It stays, and this one comes on top of it.
     Pushed(Expect),
+    /// This one takes its place.
     Became(Expect),
 }
 

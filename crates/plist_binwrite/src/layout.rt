@@ -14,7 +14,9 @@ use std::alloc::{AllocError, Global};
 /// The numbers of a file's objects in its order, and a list with room for the place of each.
 #[derive(Drop)]
 pub struct FileLayout {
+    /// The objects by their numbers, in the order in which they lie.
     pub order: Numbers,
+    /// Room for the place of each object, by its number; till then a mark of those in `order`.
     pub places: Numbers,
 }
 

@@ -150,7 +150,9 @@ impl Numbered {
 /// object.
 #[derive(Drop)]
 pub struct Numbering {
+    /// The number of each event's object, by the event's index.
     pub numbers: Numbers,
+    /// The index of each object's first event, by the object's number.
     pub firsts: Numbers,
 }
 

@@ -74,7 +74,7 @@ impl Numbers {
         }
     }
 
-    /// So many times the number 0.
+    /// So many times the number 0, or no memory for them.
     pub fn zeros(alloc: Global, count: usize) -> Result<Numbers, AllocError>
         ensures zeros { IfOk result (λ r. r ≡ replicate count 0) }
     {
@@ -85,7 +85,7 @@ impl Numbers {
         })
     }
 
-    /// So many times the number 2^64 - 1.
+    /// So many times the number 2^64 - 1, or no memory for them.
     #[tactic(auto, using(crate::proofs::Narrow::marks_wide))]
     pub fn marks(alloc: Global, count: usize) -> Result<Numbers, AllocError>
         ensures marks { IfOk result (λ r. r ≡ replicate count (2 ^ 64 - 1)) }
@@ -117,7 +117,7 @@ impl Numbers {
         self.wide.as_slice()[index - below]
     }
 
-    /// Appends a number.
+    /// Appends a number. Where memory for it is refused, nothing changes.
     #[inline(always)]
     pub fn push(&mut self, number: usize) -> Result<(), AllocError>
         ensures pushed { OnOk result (self.new ≡ self.old ++ number ∷ []) }
@@ -143,7 +143,7 @@ impl Numbers {
         }
     }
 
-    /// Puts another number in the place of one.
+    /// Puts another number in the place of one. Where memory for it is refused, nothing changes.
     #[inline(always)]
     pub fn set(&mut self, index: usize, number: usize) -> Result<(), AllocError>
         requires { index < length self.old }

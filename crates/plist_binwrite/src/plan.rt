@@ -15,6 +15,7 @@ use std::alloc::Global;
 /// What is planned of events: the numbers of their objects.
 #[derive(Drop)]
 pub struct Plan {
+    /// The numbers of the objects.
     pub numbering: Numbering,
 }
 
@@ -39,8 +40,11 @@ impl Plan {
 /// A planned file: its events, what is planned of them, and how wide a reference is.
 #[derive(Clone, Copy)]
 pub struct Planned<'p, 'e> {
+    /// The events.
     pub events: &'p EventTable<'e>,
+    /// What is planned of them.
     pub plan: &'p Plan,
+    /// How many bytes a reference has.
     pub width: usize,
 }
 

@@ -7,7 +7,7 @@ use crate::text::put_text;
 use plist_base::{Error, Event};
 use std::io::Write;
 
-/// Puts a scalar. Of the start and the end of a collection nothing is told.
+/// Puts a scalar, and nothing for the start or the end of a collection.
 pub fn put_scalar<W: Write>(
     out: &mut W,
     buffer: &mut Vec<u8>,
