@@ -16,17 +16,21 @@ use plist_binwrite::kinds::{EntryKind, push_index};
 use plist_binwrite::numbers::Numbers;
 use std::alloc::Global;
 
-// A collection by its kind and the classes of its children, a dictionary's keys before its values.
+/// A collection by its kind and the classes of its children.
 #[derive(PartialEq, Eq, Hash, Drop)]
 pub struct Collection {
+    /// Is it a dictionary, and no array?
     pub is_dictionary: bool,
+    /// The classes of its children, a dictionary's keys before its values.
     pub children: Vec<usize>,
 }
 
-// The indices of a collection's keys and values; its room serves one collection after the other.
+/// The indices of a collection's children; its room serves one collection after the other.
 #[derive(Drop)]
 pub struct Indices {
+    /// Those of a dictionary's keys.
     pub keys: Vec<usize>,
+    /// Those of an array's items, or of a dictionary's values.
     pub values: Vec<usize>,
 }
 
