@@ -18,7 +18,11 @@ pub trait Bytes {
     /// The bytes that are at hand.
     ghost held: { Self → List ℕ };
 
-    /// The next byte, or `None` at the end.
+    /// The next byte, or `None` at the end. A read that fails isn't made again, `Interrupted` or
+    /// not.
+    ///
+    /// # Errors
+    /// What the device said.
     fn next_byte(&mut self) -> Result<Option<u8>, io::Error>
         ensures byte { IfOk result (λ b. GivesByte (remaining self.old) b (remaining self.new)) }
         ensures failures { CountsFailureIfCounted result (failures self.old) (failures self.new) };
