@@ -1,5 +1,5 @@
-//! Proved callers whose proofs cite lemmas of this crate: pairs that a list goes into, that keep some
-//! of themselves, and that an entry is written through.
+//! Proved callers whose proofs cite lemmas of this crate: pairs that a list goes into, that keep
+//! some of themselves, and that an entry is written through.
 
 ghost use Rattle.std.specs.Prelude.{◌≡◌, [], IfOk, IfSome, OnOk, filter, map, option_map, string_bytes};
 ghost use Rattle.std.specs.Map.{lookup};
@@ -13,14 +13,14 @@ use plist_base::Error;
 use std::alloc::Global;
 use std::mem;
 
-/// Inserts the pairs of a list, in their order.
+/// Inserts the pairs of a list, in their order. `OutOfMemory` is the one refusal.
 pub fn insert_each<V: Drop>(to: &mut Pairs<V>, all: Vec<(String, V)>) -> Result<(), Error>
     ensures { OnOk result (to.new ≡ insert_all bytes_eq to.old (map shown_owned_pair all.items)) }
 {
     to.extend(all)
 }
 
-/// The pairs of a list, inserted in their order.
+/// The pairs of a list, inserted in their order. `OutOfMemory` is the one refusal.
 pub fn of_list<V: Drop>(alloc: Global, all: Vec<(String, V)>) -> Result<Pairs<V>, Error>
     ensures { IfOk result (λ made. made ≡ insert_all bytes_eq [] (map shown_owned_pair all.items)) }
 {

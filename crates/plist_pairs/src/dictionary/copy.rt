@@ -15,7 +15,7 @@ pub trait TryCopy: Sized {
     /// What a value shows.
     ghost shown: { Self → View };
 
-    /// A copy, which shows the same.
+    /// A copy, which shows the same, or no memory for it.
     fn try_copy(&self, alloc: Global) -> Result<Self, AllocError>
         ensures { IfOk result (λ copy. shown copy ≡ shown self.now) };
 }
