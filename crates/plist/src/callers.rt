@@ -1,6 +1,6 @@
-//! Proved callers whose proofs cite lemmas of this crate: values of events, files by way of a value's
-//! events, and `==` with its laws. Those of pairs stand in `plist_pairs`, and those by clauses alone
-//! in `plist_callers`.
+//! Proved callers whose proofs cite lemmas of this crate: values of events, files by way of a
+//! value's events, and `==` with its laws. Those of pairs stand in `plist_pairs`, and those by
+//! clauses alone in `plist_callers`.
 
 ghost use Rattle.std.specs.Prelude.{◌≡◌, IfOk, true};
 ghost use Rattle.plist_base.specs.Trees.{Tree};

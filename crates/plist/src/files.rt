@@ -72,7 +72,7 @@ impl<'a, R: Files> Output<'a, R> {
         }
     }
 
-    /// Has the system store what was written. What has no store, as a pipe or a terminal, has it all.
+    /// Has the system store what was written. A pipe or a terminal has no store: it has it all.
     ///
     /// # Errors
     ///
@@ -94,7 +94,7 @@ impl<'a, R: Files> Output<'a, R> {
     ///
     /// # Errors
     ///
-    /// Those of [`Value::to_writer_binary`]. Where memory or size refuse, no file is created or cut.
+    /// Those of [`Value::to_writer_binary`], for memory and size before a file is created or cut.
     pub fn store(&mut self, alloc: Global, value: &Value) -> Result<(), Error>
         ensures sent { SendsValue (λ output. contents_of R.File.contents output.file) value.now
             result self.old self.new }

@@ -316,8 +316,8 @@ impl Value {
     ///
     /// - `PlistTooLarge` where the file would have 2^64 bytes or more, and `OutOfMemory`: nothing
     ///   of it went out, and the writer is as it was.
-    /// - `Io` where a write failed or took no byte, and where the flush failed: a beginning of the
-    ///   file went out, all of it where the flush failed.
+    /// - `Io` where a write failed, `Interrupted` or not, or took no byte, and where the flush
+    ///   failed: a beginning of the file went out, all of it where the flush failed.
     pub fn to_writer_binary<W: Write>(&self, alloc: Global, writer: &mut W) -> Result<(), Error>
         ensures sent { SendsValue W.contents self.now result writer.old writer.new }
     {

@@ -113,6 +113,9 @@ pub trait AnyEvent: Drop {
     ghost plain: { Self → PlainEvent };
 
     /// Hands the event to a builder that hasn't failed.
+    ///
+    /// # Errors
+    /// Those of the builder's `write`.
     fn hand_to(self, builder: &mut Builder) -> Result<(), Error>
         requires { (built_of builder.old).failed ≡ false }
         ensures taken { OnOk result (TakesItem builder.old (Ok (plain self)) builder.new) }
