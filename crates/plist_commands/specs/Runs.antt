@@ -112,7 +112,7 @@ HoldsOther {S} known failed source answer held =
     × HoldsRun (AdvancesReading known failed) last_read events answer left held
     × CountsReads answer (failures_in failed events) (failures_in failed left)
 
--- The format was asked for, and a read failed. Or none had failed, and a reader has the source then.
+-- The format was asked for, and a read failed; or none had failed, and a reader has the source.
 abbrev pub ReadsSource : {S : Type 0} (known : S → Option (List ℕ)) (failed : S → ℕ) (source : S)
     → Result Bool Error → (held : List PlainEvent) → Type 0
 ReadsSource {S} known failed source answer held =
@@ -122,8 +122,8 @@ ReadsSource {S} known failed source answer held =
     ⊎ ((failed front ≡ failed source)
     × (HoldsBinary known failed front answer held ⊎ HoldsOther known failed front answer held)))
 
--- what comes of a source that was read so: it needs a value, or is refused for the same; or what was
--- held is sent, or needs a value, or is refused for want of memory, for size or by the writer
+-- what comes of a source that was read so: it needs a value, or is refused for the same; or what
+-- was held is sent, or needs a value, or is refused for want of memory, for size or by the writer
 abbrev pub ComesOfReading : Result Bool Error → Result Streamed Error → Type 0
 ComesOfReading (Ok true) answer = IfErr answer (λ error. offset_of error ≡ None)
 ComesOfReading (Ok false) answer = answer ≡ Ok NeedsValue

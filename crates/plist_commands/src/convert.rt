@@ -84,8 +84,8 @@ fn hold_binary<S: Source>(
     hold_events(alloc, &mut reader, pending)
 }
 
-// Holds the events of a source of any format. It stands apart, since what it moves takes much of the
-// call stack.
+// Holds the events of a source of any format. It stands apart, since what it moves takes much of
+// the call stack.
 #[inline(never)]
 fn hold_any<S: Source>(alloc: Global, source: S, pending: &mut EventBuffer) -> Result<bool, Error>
     requires empty { IsEmpty (is_whole pending.old) (buffered_events pending.old) }

@@ -40,8 +40,8 @@ pub(crate) trait Holder {
         ensures { result ≡ whole self.now };
 }
 
-// Before the first event, tells how many different scalars can come: tables that double as they fill
-// cost a fifth of the time of a large file.
+// Before the first event, tells how many different scalars can come: tables that double as they
+// fill cost a fifth of the time of a large file.
 #[inline(always)]
 fn expect(pending: &mut EventBuffer, scalars: usize)
     ensures held { buffered_events pending.new ≡ buffered_events pending.old }

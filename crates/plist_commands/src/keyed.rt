@@ -31,11 +31,12 @@ fn tree_at(alloc: Global, root: &Value, key: &str) -> Result<Value, Failure>
     }
 }
 
-/// Prints the tree of the object that the archive which a value is names by this key.
+/// Prints the tree of the object that an archive's `$top` names by this key. The archive is given
+/// as its value.
 ///
 /// # Errors
-/// Where the value is no archive, or that has no such key, or no such tree; and where the tree can't
-/// be printed, as [`print_value`].
+/// Where the value is no archive, or that has no such key, or no such tree: then nothing went out;
+/// and where the tree can't be printed, as [`print_value`].
 pub fn print_at<O: Write>(
     alloc: Global,
     root: &Value,
@@ -55,7 +56,7 @@ pub fn print_at<O: Write>(
     }
 }
 
-/// Prints the tree of the object that the archive in a file names by this key.
+/// Prints the tree of the object that the `$top` of the archive in a file names by this key.
 ///
 /// # Errors
 /// Where the file can't be read as a property list, or that is no archive, has no such key, or has

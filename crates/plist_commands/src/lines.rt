@@ -249,7 +249,7 @@ fn push_words(line: &mut Vec<u8>, event: &Event<'_>) -> Result<(), AllocError>
     }
 }
 
-/// The line of an event has at most so many bytes, where they are that many.
+/// A bound on the bytes of an event's line; `usize::MAX` stands for any that is larger.
 pub fn most_bytes(event: &Event<'_>) -> usize {
     match event {
         Event::String(text) => text.as_str().len().saturating_mul(4).saturating_add(64),
@@ -268,7 +268,7 @@ pub fn most_bytes(event: &Event<'_>) -> usize {
 /// Appends the line of an event, with its LF.
 ///
 /// # Errors
-/// Where a growth is refused. The buffer may then hold a part of the line.
+/// Where memory is refused. The buffer may then hold a part of the line.
 pub fn push_line(line: &mut Vec<u8>, event: &Event<'_>) -> Result<(), AllocError>
     ensures { OnOk result (line.new.items ≡ line.old.items ++ line_of (event_of event.now)) }
 {
