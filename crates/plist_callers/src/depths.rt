@@ -1,5 +1,5 @@
-//! Proved callers of what a dictionary lends and gives: each value is less deep than the dictionary,
-//! so a recursion over it ends, by whichever call it comes to the values.
+//! Proved callers of what a dictionary lends and gives: each value is less deep than the
+//! dictionary, so a recursion over it ends, by whichever call it comes to the values.
 
 use plist::dictionary::Entry;
 use plist::{Dictionary, Error, Value, Variant};

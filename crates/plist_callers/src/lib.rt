@@ -2,9 +2,9 @@
 //! it calls alone, so that none of those clauses can say less unnoticed.
 //!
 //! From the lowest layer up: `faults`, `texts`, `dates`, `reals`, `hashes`, `events`, `sources`,
-//! `limits`, `data`; the readers `binary`, `ascii` and `either`, and the `writer`; `values` and their
-//! `contents`, what `writers` send of them, dictionaries by `pairs`, `entries` and `iterators`, and
-//! `depths`, the recursions over them; and `archives`.
+//! `limits`, `data`; the readers `binary`, `ascii` and `either`, and the `writer`; `values` and
+//! their `contents`, what `writers` send of them, dictionaries by `pairs`, `entries` and
+//! `iterators`, and `depths`, the recursions over them; and `archives`.
 #![tactic(auto)]
 
 pub mod archives;

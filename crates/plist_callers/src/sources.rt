@@ -69,7 +69,7 @@ pub fn device_again<R: Read + Seek + Drop>(device: R) -> R
     Seeking::new(device).into_inner()
 }
 
-/// The next bytes of a source from its front, with the source, which counts whether its read failed.
+/// The next bytes of a source from its front, and the source, which counts a read that fails.
 pub fn read_front<S: Source>(source: S, buf: &mut [u8]) -> (io::Result<usize>, S)
     ensures failures { CountsFailure result.0 (S.failures source) (S.failures result.1) }
     ensures unchanged { S.known result.1 ≡ S.known source }

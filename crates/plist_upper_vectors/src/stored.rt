@@ -89,8 +89,8 @@ fn makes_its_file_once(rt: HostRuntime) {
     expect_stored(&rt, Origin::File("to_be_read"), TEXT);
 }
 
-// Behind a write or a flush that fails the file isn't stored, and nothing is tried again: the answer
-// is that failure, and not that of a sync.
+// Behind a write or a flush that fails the file isn't stored, and nothing is tried again: the
+// answer is that failure, and not that of a sync.
 fn expect_unstored(rt: &(impl Abort + AllocGlobal + Env + Files), from: Origin<'_>) {
     let late = Some((Stage::Stored, ErrorKind::TimedOut));
     let (answer, stage) = write_to(rt, from, "/dev/full", late);
