@@ -1,4 +1,4 @@
-//! Dictionaries: pairs of a key and a value, in the order in which the keys came.
+//! Dictionaries: the pairs of `plist_pairs`, whose values are those of property lists.
 
 use crate::Value;
 use plist_pairs::dictionary;
