@@ -7,9 +7,10 @@ use crate::{Error, Limiter, Limits, OwnedEvent};
 
 /// The items of another iterator up to their first fault, under [`Limits`].
 ///
-/// The first text or data that has a byte too many, or else an event that is one too many, or else a
-/// start that would open one collection too many, is replaced by `LimitReached`, without an offset. A fault stays that fault. After either, and
-/// after the other iterator's `None`, nothing more comes, and it isn't asked again.
+/// The first text or data that has a byte too many, or else an event that is one too many, or else
+/// a start that would open one collection too many, is replaced by `LimitReached`, without an
+/// offset. A fault stays that fault. After either, and after the other iterator's `None`, nothing
+/// more comes, and it isn't asked again.
 #[derive(Drop)]
 pub struct Limited<I> {
     inner: I,

@@ -15,8 +15,9 @@ pub struct Limits {
     pub depth: u64,
     /// How many events may come.
     pub items: u64,
-    /// How many bytes all texts, keys among them, and all data may have together, or none where any
-    /// number may come. A text's bytes are those of its UTF-8, and one that comes again counts again.
+    /// How many bytes all texts, keys among them, and all data may have together, or none where
+    /// any number may come. A text's bytes are those of its UTF-8, and one that comes again counts
+    /// again.
     pub bytes: Option<u64>,
 }
 

@@ -10,7 +10,7 @@ use crate::{Error, ErrorKind};
 use std::io;
 use std::io::Write;
 
-/// Sends all the bytes.
+/// Sends all the bytes. A write that failed isn't tried again, also after `Interrupted`.
 ///
 /// # Errors
 /// `Io` without an offset where a write fails or takes no byte; a beginning of the bytes was sent.

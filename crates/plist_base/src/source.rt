@@ -24,6 +24,9 @@ pub trait Source: Drop {
     ghost failures: { Self → ℕ };
 
     /// The number of bytes.
+    ///
+    /// # Errors
+    /// What the device said. It isn't asked again, also after `Interrupted`; known bytes stay.
     fn size(&mut self) -> Result<u64, io::Error>
         ensures length { DecodesBy result (known self.old) length }
         ensures unchanged { known self.new ≡ known self.old }
@@ -31,6 +34,10 @@ pub trait Source: Drop {
 
     /// Fills a beginning of the buffer with the bytes from `place` on, and answers how many. It may
     /// give fewer than there are, but none only where the buffer is empty or no byte is left.
+    ///
+    /// # Errors
+    /// What the device said. It isn't asked again, also after `Interrupted`; what the buffer holds
+    /// then isn't told.
     fn read_at(&mut self, place: u64, buf: &mut [u8]) -> Result<usize, io::Error>
         ensures bound { IfOk result (λ count. count ≤ length buf.new) }
         ensures bytes { IfRead result (known self.old) (λ bytes n. GivesAt bytes place n buf.new) }
@@ -119,7 +126,8 @@ impl Source for Vec<u8> {
     }
 }
 
-/// Fills the buffer with the bytes from `place` on, asking again while some come.
+/// Fills the buffer with the bytes from `place` on, asking again while some come. A read that
+/// failed isn't tried again, also after `Interrupted`.
 ///
 /// # Errors
 /// `Io` where a read fails, `UnexpectedEof` where the bytes end too early, each with the place of

@@ -1,6 +1,6 @@
 //! Windows of a file: parts of one size that are held.
 
-ghost use Rattle.std.specs.Prelude.{◌≡◌, ℕ, ◌+◌, ◌-◌, ◌%◌, ◌^◌, ◌≤◌, ◌<◌, drop, length, take, slice_index, IfOk, IfSome, OnErr};
+ghost use Rattle.std.specs.Prelude.{◌≡◌, ℕ, ◌+◌, ◌-◌, ◌%◌, ◌^◌, ◌≤◌, ◌<◌, drop, take, slice_index, IfOk, IfSome, OnErr};
 ghost use Rattle.plist_base.specs.inner.Windows.{IsBeginning, KeepsWindows, LendsFrom, bytes_of_window};
 
 use crate::source::rest_from;

@@ -27,7 +27,12 @@ pub trait Writer: Sealed {
 
     ghost Step: { Self → PlainEvent → Answer → Self → Type 0 };
 
-    /// Writes an event. Each other call writes the event that it names.
+    /// Writes an event. Each other call writes the event that it names, and fails as this one.
+    ///
+    /// # Errors
+    /// `UnexpectedEventType` and `ExpectedEndOfEventStream` for an event that can't come here:
+    /// nothing has changed. `OutOfMemory`, `Io` and `PlistTooLarge` for one that can, and
+    /// `WriterFailed` behind these three: the writer has failed.
     fn write(&mut self, event: Event<'_>) -> Result<(), Error>
         ensures { Step self.old (event_of event.entry) (answer_of result) self.new };
 
