@@ -6,13 +6,13 @@ use Rattle.plist_base.specs.Events.{PlainEvent, event_of, item_of}
 use Rattle.plist_base.specs.Faults.{Fault}
 use Rattle.plist_base.specs.Writing.{Answer}
 use Rattle.plist.specs.declared.stream.events.Events.{Events}
-use Rattle.plist.specs.Handing.{Took, Hands, HandsItem}
+use Rattle.plist.specs.Handing.{TakesAll, Hands, HandsItem}
 use Rattle.plist.specs.Events.{remaining_events, GivesEvent}
 
 module _ {S : Type 0} (Step : S → PlainEvent → Answer → S → Type 0) where
   took-more : (taken : List PlainEvent) (before between after : S) (e : PlainEvent)
-      → Took Step before taken between → Step between e (Ok tt) after
-      → Took Step before (taken ++ e ∷ []) after
+      → TakesAll Step before taken between → Step between e (Ok tt) after
+      → TakesAll Step before (taken ++ e ∷ []) after
   took-more [] before between after e p s =
       (after, subst (λ w. Step w e (Ok tt) after) (sym p) s, refl)
   took-more (d ∷ taken) before between after e (w, s, t) r =
@@ -22,7 +22,7 @@ module _ {S : Type 0} (Step : S → PlainEvent → Answer → S → Type 0) wher
   abbrev pub HandedSoFar : (before : S) → List PlainEvent → Events → (now : S) → Type 0
   HandedSoFar before all events now =
       (taken : List PlainEvent) × (all ≡ taken ++ remaining_events events)
-      × Took Step before taken now
+      × TakesAll Step before taken now
 
   pub one-more : (before now after : S) (all : List PlainEvent) (events left : Events)
       (item : Result Event Error) → HandedSoFar before all events now
@@ -52,6 +52,7 @@ module _ {S : Type 0} (Step : S → PlainEvent → Answer → S → Type 0) wher
   )
 
   pub all-handed : (before now : S) (all : List PlainEvent) (events left : Events)
-      → HandedSoFar before all events now → GivesEvent events None left → Took Step before all now
+      → HandedSoFar before all events now → GivesEvent events None left
+      → TakesAll Step before all now
   all-handed before now all events left (taken, is, took) g =
       rw (is ∙ ap (λ l. taken ++ l) g.0 ∙ append-nil taken) took

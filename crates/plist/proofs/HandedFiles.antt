@@ -11,7 +11,7 @@ use Rattle.plist_base.proofs.Grammar.{alike_last, alike_with}
 use Rattle.plist_binwrite.specs.declared.shared.Sharing.{Ghosts as SharingGhosts}
 use Rattle.plist_binwrite.specs.declared.writer.FileWriter.{FileWriter}
 use Rattle.plist_binwrite.specs.FileWriter.{Completes, Holds, Takes, TakesEvent, open_events, failed_of, sink_of}
-use Rattle.plist.specs.Handing.{Took}
+use Rattle.plist.specs.Handing.{TakesAll}
 
 begins : (tree : Tree) → (event : PlainEvent) × (events : List PlainEvent)
     × (bracketing tree ≡ event ∷ events)
@@ -40,7 +40,8 @@ module _ {W S : Type 0} {g : Ghosts W} {h : SharingGhosts S} (IsFile : Tree → 
 
   sent : (start : W) (done : List PlainEvent) (e : PlainEvent) (events : List PlainEvent)
       (before after : FileWriter W S g h) → bracketing tree ≡ done ++ e ∷ events
-      → IsHolding start done before → Took Step before (e ∷ events) after → SendsFrom start after
+      → IsHolding start done before → TakesAll Step before (e ∷ events) after
+      → SendsFrom start after
   sent start done e [] before after is (alike, fine, inner) (between, step, ends) =
       last (took before between e fine step).2
     where
@@ -87,8 +88,8 @@ module _ {W S : Type 0} {g : Ghosts W} {h : SharingGhosts S} (IsFile : Tree → 
   -- a new writer that took all events of a tree sent a file of it
   pub all-sent : (start : W) (before after : FileWriter W S g h) → open_events before ≡ []
       → failed_of before ≡ false → sink_of before ≡ start
-      → Took Step before (bracketing tree) after → SendsFrom start after
+      → TakesAll Step before (bracketing tree) after → SendsFrom start after
   all-sent start before after none fine inner taken =
       let b = begins tree in
       sent start [] b.0 b.1 before after b.2 (ap (map without_length) none, fine, inner)
-      (subst (λ events. Took Step before events after) b.2 taken)
+      (subst (λ events. TakesAll Step before events after) b.2 taken)

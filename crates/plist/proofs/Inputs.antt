@@ -12,7 +12,7 @@ use Rattle.plist_base.specs.Bracketing.{bracketing, without_length, AreAlike}
 use Rattle.plist.specs.Building.{Unfinished, events_so_far, refusal_at, IsNested}
 use Rattle.plist.specs.Collecting.{Collects, IsRefusal, RefusesOne, item_by}
 use Rattle.plist.specs.inner.Following.{refused-ends}
-use Rattle.plist.specs.Inputs.{AreOf, IsReadFrom, IsReadIfKnown, BeginsWith, BeginsWithIfKnown, GivesBack, Shows}
+use Rattle.plist.specs.Inputs.{AreOf, IsValueOf, IsReadIfKnown, BeginsWith, BeginsWithIfKnown, IsReadBack, ForeseesItems}
 use Rattle.plist.specs.LastWins.{last_wins}
 use Rattle.plist_base.proofs.OneTree.{one_tree}
 use Rattle.plist_base.proofs.Grammar.{alike_with}
@@ -81,14 +81,14 @@ no-tree-end all events is none tree (others, same, like) =
 pub stops-there : (all left after : List Item) (events : List PlainEvent) (held : Unfinished)
     (item : Item) (fault : Fault) → IsNested held → AreAlike (events_so_far held) events
     → all ≡ map Ok events ++ left → BeginsWith left (Some item) after → RefusesOne held item fault
-    → IsReadFrom all (Err fault)
+    → IsValueOf all (Err fault)
 stops-there all left after events held (Ok e) fault ok alike is b r = by (refusal_at held e) refl r
   where
     here : all ≡ map Ok events ++ Ok e ∷ after
     here = cc
 
     by : (o : Option FaultKind) → refusal_at held e ≡ o → IsRefusal o fault
-        → IsReadFrom all (Err fault)
+        → IsValueOf all (Err fault)
     by None q h =
         MatchFault-at _ _ _ _ _ (ap (λ (f : Fault). f.kind) h) tt
     by (Some kind) q h =
@@ -110,7 +110,7 @@ stops-there all left after events held (Err error) fault ok alike is b r =
 
 module _ {E I : Type 0} (plain : E → PlainEvent)
     (gives : I → Option (Result E Error) → I → Type 0) (coming : I → Option (List Item))
-    (shows : Shows plain gives coming) where
+    (shows : ForeseesItems plain gives coming) where
   asked : (old : I) (item : Option (Result E Error)) (new : I) (all : List Item)
       → coming old ≡ Some all → gives old item new → (left : List Item)
       × (coming new ≡ Some left) × BeginsWith all (option_map (item_by plain) item) left
@@ -157,7 +157,7 @@ module _ {E I : Type 0} (plain : E → PlainEvent)
       )
 
   read : (iter : I) (all : List Item) → coming iter ≡ Some all → (answer : Result Tree Fault)
-      → Collects plain gives iter answer → IsReadFrom all answer
+      → Collects plain gives iter answer → IsValueOf all answer
   read iter all c (Ok tree) (u, (taken, t, y, (events, whole, is, end, alike, last))) =
       (whole, (events, drained events taken iter t u all c y end is, alike), last)
   read iter all c (Err fault) (u, (taken, t, y, (events, held, ok, alike, inl (is, stop)))) =
@@ -185,7 +185,7 @@ module _ {E I : Type 0} (plain : E → PlainEvent)
 
 -- ---- the events of a value
 
-back-ok : (tree t : Tree) (all : List Item) → all ≡ map Ok (bracketing tree) → IsReadFrom all (Ok t)
+back-ok : (tree t : Tree) (all : List Item) → all ≡ map Ok (bracketing tree) → IsValueOf all (Ok t)
     → t ≡ last_wins tree
 back-ok tree t all is (whole, (events, same, alike), last) =
     let s = all-events (bracketing tree) events []
@@ -196,7 +196,7 @@ back-ok tree t all is (whole, (events, same, alike), last) =
 
 -- what the events of a value are read to
 pub back : (tree : Tree) (all : List Item) (answer : Result Tree Fault) → last_wins tree ≡ tree
-    → all ≡ map Ok (bracketing tree) → IsReadFrom all answer → GivesBack tree answer
+    → all ≡ map Ok (bracketing tree) → IsValueOf all answer → IsReadBack tree answer
 back tree all (Ok t) twice is h = back-ok tree t all is h ∙ twice
 back tree all (Err fault) twice is h =
     MatchFault-weaker fault.kind (λ _. tt) (λ _. tt) (λ s. s.1 tree (bracketing tree, is, refl)) h

@@ -18,7 +18,7 @@ use Rattle.plist_base.specs.Trees.{Tree, Leaf, Array, Dictionary, Trees, NoTrees
 use Rattle.plist_base.specs.Bracketing.{AreAlike, bracketing, bracketing_of_items, bracketing_of_pairs, without_length}
 use Rattle.plist_reader.specs.Reader.{limited_input}
 use Rattle.plist.specs.Collecting.{Collects, item_by}
-use Rattle.plist.specs.Inputs.{BeginsWith, BeginsWithIfKnown, Shows}
+use Rattle.plist.specs.Inputs.{BeginsWith, BeginsWithIfKnown, ForeseesItems}
 use Rattle.plist.specs.Limiting.{AreWithin, IsWithinLimits, NestsWithin, ItemsNestWithin, PairsNestWithin}
 use Rattle.plist_base.proofs.Refusals.{MatchFault-all, MatchFault-weaker}
 use Rattle.plist.proofs.KeysOnce.{last-nests}
@@ -77,8 +77,8 @@ module _ {I : Type 0} (inner_gives : I → Given → I → Type 0) where
       stays (Some all) = (come_of old all, refl, rw e refl)
 
   -- whatever shows the items of an iterator, shows these items under limits
-  pub limited-shows : (coming : I → Option (List Item)) → Shows event_of inner_gives coming
-      → Shows event_of (GivesLimited inner_gives)
+  pub limited-shows : (coming : I → Option (List Item)) → ForeseesItems event_of inner_gives coming
+      → ForeseesItems event_of (GivesLimited inner_gives)
       (λ l. option_map (come_of l) (coming (iterator_of l)))
   limited-shows coming shows old item new h = by old.ended refl h
     where

@@ -11,7 +11,7 @@ use Rattle.plist_base.specs.Faults.{FaultKind, Fault, LimitReached, fault_of}
 use Rattle.plist_base.specs.Limits.{GivesLimited, PassesNext}
 use Rattle.plist_base.specs.Trees.{String, Tree}
 use Rattle.plist_reader.specs.declared.reader.Reader.{Reader}
-use Rattle.plist_reader.specs.Reader.{Gives, IsReaderFault, is_limited}
+use Rattle.plist_reader.specs.Reader.{Gives, IsReaderFault, reader_is_limited}
 use Rattle.plist.specs.declared.value.Value.{Value}
 use Rattle.plist.specs.Building.{Unfinished, NotBegun, Within, Complete, InArray, InDictionary, AfterKey, OpenCollection, refusal_at, refusal_of_key, refusal_of_value, refusal_within}
 use Rattle.plist.specs.Collecting.{Collects, IsRefusal, built_tree, item_by}
@@ -99,11 +99,12 @@ loosened limited kind is = is
 
 module _ {R : Type 0} {g : Ghosts R} (known : R → Option (List ℕ)) (failed : R → ℕ) where
   -- one without limits
-  pub reader-tells : (reader : Reader R g) (answer : Result Value Error) → is_limited reader ≡ false
+  pub reader-tells : (reader : Reader R g) (answer : Result Value Error) → reader_is_limited reader
+      ≡ false
       → Collects event_of (Gives known failed) reader (built_tree answer)
       → IfErr answer (λ error. IsReadingFault false (fault_of error))
   reader-tells reader answer none collects =
-      error-tells event_of (Gives known failed) false (λ r. is_limited r ≡ false)
+      error-tells event_of (Gives known failed) false (λ r. reader_is_limited r ≡ false)
       (λ old item new gives none. gives.limits none)
       (λ old error new gives none. inl (
         subst (λ b. IsReaderFault b (fault_of error).kind) none gives.kinds,
@@ -126,7 +127,11 @@ module _ {R : Type 0} {g : Ghosts R} (known : R → Option (List ℕ)) (failed :
       behind (Some (Err other)) gave is =
           let same : other ≡ error = cc is.0 in
           subst (λ e. IsReadingFault true (fault_of e)) same
-          (inl (loosened (is_limited old.inner) (fault_of other).kind gave.kinds, gave.offset))
+          (inl (
+            loosened (reader_is_limited old.inner)
+                (fault_of other).kind gave.kinds,
+            gave.offset,
+          ))
 
       by : (ended : Bool) → MatchBool ended ((refused error ≡ None) × (new ≡ old))
           ((asked : Option (Result Event Error)) × Gives known failed old.inner asked new.inner

@@ -9,7 +9,7 @@ use Rattle.plist_ascii.specs.declared.reader.AsciiReader.{AsciiReader}
 use Rattle.plist_ascii.specs.Ascii.{items_of_ascii}
 use Rattle.plist_ascii.specs.declared.dialect.Dialect.{Dialect}
 use Rattle.plist_ascii.specs.Texts.{ends_bare}
-use Rattle.plist_ascii.specs.Unread.{Known}
+use Rattle.plist_ascii.specs.Unread.{IfKnown}
 use Rattle.plist_base.specs.declared.source.Source.{Ghosts}
 use Rattle.plist_binread.specs.declared.reader.BinaryReader.{BinaryReader}
 use Rattle.plist_format.specs.Unfolding.{items_of_file}
@@ -18,7 +18,7 @@ use Rattle.plist_reader.specs.Formats.{input_front, format_of}
 use Rattle.plist_reader.proofs.Giving.{ascii-goes}
 use Rattle.plist.specs.declared.stream.events.Events.{Events}
 use Rattle.plist.specs.Collecting.{item_by}
-use Rattle.plist.specs.Inputs.{IsReadFrom, IsReadIfKnown, BeginsWith, BeginsWithIfKnown}
+use Rattle.plist.specs.Inputs.{IsValueOf, IsReadIfKnown, BeginsWith, BeginsWithIfKnown}
 use Rattle.plist.specs.Events.{GivesEvent, remaining_events}
 use Rattle.plist_base.proofs.Refusals.{MatchFault-weaker, MatchFault-at}
 use Rattle.plist_binread.specs.declared.counter.DecodeCounter.{Ghosts as CounterGhosts}
@@ -60,7 +60,7 @@ joined f g (Some x) = refl
 -- the answer is that of the items that these bytes are read to
 pub of-items : (f : List ℕ → List Item) (k : Option (List ℕ)) (items : Option (List Item))
     (answer : Result Tree Fault) → items ≡ option_map f k → IsReadIfKnown items answer
-    → IfSome k (λ bytes. IsReadFrom (f bytes) answer)
+    → IfSome k (λ bytes. IsValueOf (f bytes) answer)
 of-items f None items answer e h = tt
 of-items f (Some bytes) items answer e h = subst (λ o. IsReadIfKnown o answer) e h
 
@@ -73,7 +73,7 @@ ascii_coming known reader =
     (ascii.untaken_bytes known reader)
 
 pub ascii-shows : (now then : Dialect) (k l : Option (List ℕ)) (p q : ℕ) (item : Given) → then ≡ now
-    → Known k (λ bytes. (rest : List ℕ) × (l ≡ Some rest)
+    → IfKnown k (λ bytes. (rest : List ℕ) × (l ≡ Some rest)
     × ascii.GivesAsciiItem (ends_bare now) bytes p item rest q)
     → BeginsWithIfKnown (option_map (λ bytes. items_of_ascii (ends_bare now) bytes p) k)
     (option_map (item_by event_of) item)
@@ -142,7 +142,7 @@ pub of-binary : {R C : Type 0} {g : Ghosts R} {h : CounterGhosts C} (known : R �
     → binary.binary_source new ≡ source
     → IfSome (known source) (λ bytes. binary.items_to_come bytes new ≡ items_of_file bytes)
     → IsReadIfKnown (binary_coming known iter) answer
-    → IfSome (known source) (λ bytes. IsReadFrom (items_of_file bytes) answer)
+    → IfSome (known source) (λ bytes. IsValueOf (items_of_file bytes) answer)
 of-binary known source iter new answer is holds items seen =
     of-items items_of_file (known source) (binary_coming known iter) answer
     (ap (binary_coming known) is ∙ ap
@@ -178,7 +178,7 @@ input-is : (tree : Tree) (file : List ℕ) → IsWrittenAs tree file
 input-is tree file w = cc (begins-binary file _ w.is)
 
 pub reads-back : (k : Option (List ℕ)) (answer : Result Tree Fault)
-    → IfSome k (λ bytes. IsReadFrom (items_of_input bytes) answer)
+    → IfSome k (λ bytes. IsValueOf (items_of_input bytes) answer)
     → IfSome k (λ bytes. ReadsBack bytes answer)
 reads-back None answer h = tt
 reads-back (Some file) answer h =

@@ -8,18 +8,18 @@ use Rattle.plist_base.specs.Writing.{Answer}
 use Rattle.plist.specs.declared.stream.builder.Builder.{Builder}
 use Rattle.plist.specs.Building.{Built, IsNested, IsAnswered, complete_tree, events_so_far}
 use Rattle.plist.specs.Collecting.{RefusesOne, TakesOne}
-use Rattle.plist.specs.Partials.{CarriesOn, unfinished_of}
+use Rattle.plist.specs.UnfinishedValues.{CarriesOn, unfinished_of}
 use Rattle.plist.specs.Views.{tree_of}
 use Rattle.plist.specs.declared.value.Value.{Value}
 
 -- what a builder holds, and whether it has failed
 abbrev pub built_of : Builder → Built
-built_of builder = record { unfinished = unfinished_of builder.partial; failed = builder.failed }
+built_of builder = record { unfinished = unfinished_of builder.unfinished; failed = builder.failed }
 
 -- what a builder's step is
 abbrev pub IsBuildingStep : (before : Builder) → PlainEvent → Answer → (after : Builder) → Type 0
 IsBuildingStep before event answer after =
-    IsNested (unfinished_of before.partial)
+    IsNested (unfinished_of before.unfinished)
     × IsAnswered (built_of before) event answer (built_of after) (after ≡ before)
 
 -- a builder takes an item's event
@@ -49,4 +49,4 @@ RefusesWorking before item answer =
 
 -- what a builder holds is carried on by the event
 abbrev pub Carries : (before : Builder) → PlainEvent → (after : Builder) → Type 0
-Carries before event after = CarriesOn before.partial event after.partial
+Carries before event after = CarriesOn before.unfinished event after.unfinished

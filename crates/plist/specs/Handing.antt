@@ -11,10 +11,10 @@ use Rattle.plist.specs.Views.{tree_of}
 
 module _ {S : Type 0} (Step : S → PlainEvent → Answer → S → Type 0) where
   -- the writer took these events, one step for each
-  abbrev pub Took : (before : S) → List PlainEvent → (after : S) → Type 0
-  Took before [] after = before ≡ after
-  Took before (event ∷ events) after =
-      (between : S) × Step before event (Ok tt) between × Took between events after
+  abbrev pub TakesAll : (before : S) → List PlainEvent → (after : S) → Type 0
+  TakesAll before [] after = before ≡ after
+  TakesAll before (event ∷ events) after =
+      (between : S) × Step before event (Ok tt) between × TakesAll between events after
 
   -- the writer refused an event
   abbrev pub RefusesNext : (before : S) → List PlainEvent → Fault → (after : S) → Type 0
@@ -29,10 +29,10 @@ module _ {S : Type 0} (Step : S → PlainEvent → Answer → S → Type 0) wher
   -- The writer took all events; or the first of them, and then refused the next, or memory ran out
   -- at it.
   abbrev pub Hands : (before : S) → List PlainEvent → Answer → (after : S) → Type 0
-  Hands before events (Ok done) after = Took before events after
+  Hands before events (Ok done) after = TakesAll before events after
   Hands before events (Err fault) after =
       (taken : List PlainEvent) × (left : List PlainEvent) × (events ≡ taken ++ left)
-      × ((between : S) × Took before taken between
+      × ((between : S) × TakesAll before taken between
       × (RefusesNext between left fault after ⊎ StopsForMemory between left fault after))
 
   -- the events of a value

@@ -26,8 +26,8 @@ AreOf items tree =
     (events : List PlainEvent) × (items ≡ map Ok events) × AreAlike events (bracketing tree)
 
 -- the first fault or refusal, and then the items are no tree's
-abbrev pub StopsAt : List Item → Fault → Type 0
-StopsAt items fault =
+abbrev pub IsFirstFault : List Item → Fault → Type 0
+IsFirstFault items fault =
     ((events : List PlainEvent) × (next : List Item) × (held : Unfinished)
     × (items ≡ map Ok events ++ next) × IsNested held × AreAlike (events_so_far held) events
     × Decides held events next fault)
@@ -35,19 +35,19 @@ StopsAt items fault =
 
 -- The tree whose events the items are, with the last value of each key; or, but for a device's
 -- fault and want of memory, the first fault or refusal.
-abbrev pub IsReadFrom : List Item → Result Tree Fault → Type 0
-IsReadFrom items (Ok tree) = (whole : Tree) × AreOf items whole × (tree ≡ last_wins whole)
-IsReadFrom items (Err fault) = MatchFault fault.kind ⊤ ⊤ (StopsAt items fault)
+abbrev pub IsValueOf : List Item → Result Tree Fault → Type 0
+IsValueOf items (Ok tree) = (whole : Tree) × AreOf items whole × (tree ≡ last_wins whole)
+IsValueOf items (Err fault) = MatchFault fault.kind ⊤ ⊤ (IsFirstFault items fault)
 
 -- the same of items that may not be known
 abbrev pub IsReadIfKnown : Option (List Item) → Result Tree Fault → Type 0
-IsReadIfKnown items answer = IfSome items (λ all. IsReadFrom all answer)
+IsReadIfKnown items answer = IfSome items (λ all. IsValueOf all answer)
 
 -- the value of the items that known bytes have
 abbrev pub ReadsItems : (List ℕ → List Item) → (known : Option (List ℕ)) → Result Value Error
     → Type 0
 ReadsItems items_of known answer =
-    IfSome known (λ bytes. IsReadFrom (items_of bytes) (built_tree answer))
+    IfSome known (λ bytes. IsValueOf (items_of bytes) (built_tree answer))
 
 -- What is seen to come begins with this item, and nothing comes only where nothing is seen. A
 -- device's fault and want of memory may come anywhere.
@@ -64,17 +64,17 @@ BeginsWithIfKnown before item after =
     IfSome before (λ all. (left : List Item) × (after ≡ Some left) × BeginsWith all item left)
 
 -- an iterator's calls give the items that are seen to come, one after the other
-abbrev pub Shows : {E I : Type 0} → (plain : E → PlainEvent)
+abbrev pub ForeseesItems : {E I : Type 0} → (plain : E → PlainEvent)
     → (I → Option (Result E Error) → I → Type 0) → (coming : I → Option (List Item)) → Type 0
-Shows {E} {I} plain next_gives coming =
+ForeseesItems {E} {I} plain next_gives coming =
     (old : I) (item : Option (Result E Error)) (new : I) → next_gives old item new
     → BeginsWithIfKnown (coming old) (option_map (item_by plain) item) (coming new)
 
 -- whatever shows the items of an iterator, the answer is that of these items
-abbrev pub AnswersAsSeen : {E I : Type 0} → (plain : E → PlainEvent)
+abbrev pub AnswersAsForeseen : {E I : Type 0} → (plain : E → PlainEvent)
     → (I → Option (Result E Error) → I → Type 0) → I → Result Tree Fault → Type 0
-AnswersAsSeen {E} {I} plain next_gives iter answer =
-    (coming : I → Option (List Item)) → Shows plain next_gives coming → IsReadIfKnown
+AnswersAsForeseen {E} {I} plain next_gives iter answer =
+    (coming : I → Option (List Item)) → ForeseesItems plain next_gives coming → IsReadIfKnown
     (coming iter) answer
 
 -- one is made of something: what comes of its items is the answer
@@ -87,12 +87,12 @@ CollectsOf {E} {I} {J} becomes plain next_gives made answer =
 abbrev pub AnswersOf : {E I J : Type 0} → (becomes : J → I → Type 0) → (plain : E → PlainEvent)
     → (I → Option (Result E Error) → I → Type 0) → J → Result Value Error → Type 0
 AnswersOf {E} {I} {J} becomes plain next_gives made answer =
-    (iter : I) × becomes made iter × AnswersAsSeen plain next_gives iter (built_tree answer)
+    (iter : I) × becomes made iter × AnswersAsForeseen plain next_gives iter (built_tree answer)
 
 -- the answer is this tree, but for a device's fault and want of memory
-abbrev pub GivesBack : Tree → Result Tree Fault → Type 0
-GivesBack tree (Ok read) = read ≡ tree
-GivesBack tree (Err fault) = IsFromOutside fault.kind
+abbrev pub IsReadBack : Tree → Result Tree Fault → Type 0
+IsReadBack tree (Ok read) = read ≡ tree
+IsReadBack tree (Err fault) = IsFromOutside fault.kind
 
 -- a tree's events are those of no other tree, whatever their lengths
 abbrev pub DetermineTrees : Type 0

@@ -2,7 +2,7 @@ pub mod LastWins
 pub mod Views
 pub mod Variants
 pub mod Building
-pub mod Partials
+pub mod UnfinishedValues
 pub mod Builder
 pub mod Events
 pub mod Collecting

@@ -10,12 +10,12 @@ use Rattle.plist_base.specs.declared.seeking.Seeking.{Seeking}
 use Rattle.plist_base.specs.Trees.{Tree}
 use Rattle.plist_ascii.specs.Ascii.{items_of_ascii}
 use Rattle.plist_ascii.specs.AsciiReader as ascii
-use Rattle.plist_ascii.specs.AsciiReader.{untaken_bytes, dialect_of, device_of, looked_at, place_of, readable}
+use Rattle.plist_ascii.specs.AsciiReader.{untaken_bytes, dialect_of, device_of, peeked_byte, place_of, readable}
 use Rattle.plist_ascii.specs.declared.reader.AsciiReader.{AsciiReader}
 use Rattle.plist_ascii.specs.declared.dialect.Dialect.{Dialect}
 use Rattle.plist_reader.specs.Formats.{input_front}
 use Rattle.plist_reader.specs.declared.reader.Reader.{Reader}
-use Rattle.plist_reader.specs.Reader.{Gives, IsPlaced, IsReaderFault, items_of_input, limited_input, source_of, to_come}
+use Rattle.plist_reader.specs.Reader.{Gives, IsPlaced, IsReaderFault, items_of_input, limited_input, reader_source, reader_items}
 use Rattle.plist.specs.Collecting.{Collects}
 
 -- the answer comes of the run of a reader that holds this very source and has all its items to give
@@ -23,8 +23,8 @@ abbrev pub ComesOfReader : {R : Type 0} (known : R → Option (List ℕ)) (faile
     → Result Tree Fault → Type 0
 ComesOfReader {R} known failed source answer =
     (reader : Reader R (record { known = known; failures = failed }))
-    × (source_of reader ≡ Some source)
-    × (to_come known reader ≡ option_map items_of_input (known source))
+    × (reader_source reader ≡ Some source)
+    × (reader_items known reader ≡ option_map items_of_input (known source))
     × Collects event_of (Gives known failed) reader answer
 
 -- the same under these limits
@@ -33,8 +33,9 @@ abbrev pub ComesUnderLimits : {R : Type 0} → Limits
 ComesUnderLimits {R} limits known failed source answer =
     (limited : Limited (Reader R (record { known = known; failures = failed })))
     × (come_of limited ≡ limited_items limits)
-    × (source_of (inner_of_limited limited) ≡ Some source)
-    × (to_come known (inner_of_limited limited) ≡ option_map (limited_input limits) (known source))
+    × (reader_source (inner_of_limited limited) ≡ Some source)
+    × (reader_items known (inner_of_limited limited)
+    ≡ option_map (limited_input limits) (known source))
     × Collects event_of (GivesLimited (Gives known failed)) limited answer
 
 -- the same of a reader of ASCII in this dialect, which has taken no byte and looked at none
@@ -42,7 +43,7 @@ abbrev pub IsReadAsAscii : {R : Type 0} (known : R → Option (List ℕ)) (faile
     (source : R) → Dialect → Result Tree Fault → Type 0
 IsReadAsAscii {R} known failed source dialect answer =
     (reader : AsciiReader R) × (device_of reader ≡ source) × (dialect_of reader ≡ dialect)
-    × (place_of reader ≡ 0) × (looked_at reader ≡ None)
+    × (place_of reader ≡ 0) × (peeked_byte reader ≡ None)
     × (untaken_bytes known reader ≡ readable (known source))
     × Collects event_of (ascii.GivesAscii known failed) reader answer
 

@@ -6,13 +6,13 @@ use Rattle.plist_base.specs.Trees.{Tree}
 use Rattle.plist_binwrite.specs.Written.{IsWrittenAs}
 use Rattle.plist.specs.declared.value.Value.{Value}
 use Rattle.plist.specs.Collecting.{built_tree}
-use Rattle.plist.specs.Inputs.{GivesBack}
+use Rattle.plist.specs.Inputs.{IsReadBack}
 use Rattle.plist.specs.Views.{tree_of}
 
 -- a file of a value gives that value
 abbrev pub ReadsBack : List ℕ → Result Tree Fault → Type 0
 ReadsBack file answer =
-    (value : Value) → IsWrittenAs (tree_of value) file → GivesBack (tree_of value) answer
+    (value : Value) → IsWrittenAs (tree_of value) file → IsReadBack (tree_of value) answer
 
 -- the same of bytes that may not be known, and of what was answered
 abbrev pub ReadsBackIn : (known : Option (List ℕ)) → Result Value Error → Type 0

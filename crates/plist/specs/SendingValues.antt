@@ -6,7 +6,7 @@ use Rattle.plist_base.specs.Faults.{FaultKind, Io, OutOfMemory, PlistTooLarge}
 use Rattle.plist_base.specs.Trees.{Tree}
 use Rattle.plist_base.specs.Writing.{Answer, answer_of}
 use Rattle.plist_binwrite.specs.Files.{IsFileOf}
-use Rattle.plist_base.specs.Fronts.{AppendsFront}
+use Rattle.plist_base.specs.Prefixes.{AppendsPrefix}
 use Rattle.plist_binwrite.specs.Sizes.{file_size}
 use Rattle.plist.specs.declared.value.Value.{Value}
 use Rattle.plist.specs.Views.{tree_of}
@@ -22,7 +22,7 @@ module _ {W : Type 0} (contents : W → Option (List ℕ)) where
   -- made, and what takes the bytes is the same
   abbrev pub StopsSending : FaultKind → Tree → (old new : W) → Type 0
   StopsSending Io tree old new =
-      (file : List ℕ) × IsFileOf tree file × AppendsFront (contents old) (contents new) file
+      (file : List ℕ) × IsFileOf tree file × AppendsPrefix (contents old) (contents new) file
   StopsSending kind tree old new = StopsFile kind tree × (new ≡ old)
 
   -- a file of the tree goes out, or sending stops

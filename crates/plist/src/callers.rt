@@ -6,7 +6,7 @@ ghost use Rattle.std.specs.Prelude.{◌≡◌, IfOk, true};
 ghost use Rattle.plist_base.specs.Trees.{Tree};
 ghost use Rattle.plist_format.specs.Unfolding.{items_of_file};
 ghost use Rattle.plist.specs.Collecting.{built_tree};
-ghost use Rattle.plist.specs.Inputs.{GivesBack, ReadsItems};
+ghost use Rattle.plist.specs.Inputs.{IsReadBack, ReadsItems};
 ghost use Rattle.plist.specs.Same.{same, IsTransitive, DecidesScalars, DecidesDictionaries, same_members};
 ghost use Rattle.plist.specs.Views.{pair_trees, tree_of};
 ghost use Rattle.plist.specs.inner.PutOff.{same_values_at};
@@ -29,7 +29,7 @@ pub fn value_of_binary<R: Source>(alloc: Global, source: R) -> Result<Value, Err
 
 /// The value of a value's own events, which is that value.
 pub fn value_again(alloc: Global, value: &Value) -> Result<Value, Error>
-    ensures value { GivesBack (tree_of value.now) (built_tree result) }
+    ensures value { IsReadBack (tree_of value.now) (built_tree result) }
 {
     Value::from_events(alloc, value.events(alloc))
 }

@@ -2,7 +2,7 @@
 
 ghost use Rattle.std.specs.Iterator.{IsFinite};
 ghost use Rattle.plist.specs.Collecting.{Collects, CollectsTo, built_tree};
-ghost use Rattle.plist.specs.Inputs.{AnswersAsSeen};
+ghost use Rattle.plist.specs.Inputs.{AnswersAsForeseen};
 
 use crate::Value;
 use crate::stream::{AnyEvent, Builder};
@@ -38,7 +38,7 @@ pub(crate) fn collect<E: AnyEvent, I: Iterator<Item = Result<E, Error>> + Drop>(
     requires can { I.can_next items }
     requires ends { IsFinite (I.remaining items) }
     ensures value { Collects E.plain I.next_gives items (built_tree result) }
-    ensures shown { AnswersAsSeen E.plain I.next_gives items (built_tree result) }
+    ensures shown { AnswersAsForeseen E.plain I.next_gives items (built_tree result) }
 {
     let mut rest = items;
     collect_from(alloc, &mut rest)

@@ -9,9 +9,9 @@ pub use plist_ascii::{AsciiReader, Bytes, Dialect};
 pub use plist_base::{
     Event, Limited, OwnedEvent, Sealed, Seeking, Sequential, Source, Writer, read_exact_at,
 };
-pub use plist_binread::{BinaryReader, CompactEvent, DecodeCounter, Decodings, Uncounted};
+pub use plist_binread::{BinaryReader, CompactEvent, CountedDecodings, DecodeCounter, Uncounted};
 pub use plist_binwrite::{
     BinaryWriter, EqualScalars, EventTable, FileWriter, Sharing, classes, complete,
-    complete_by_class, forms, numbers, outlet,
+    complete_by_class, forms, numbers, output_buffer,
 };
 pub use plist_reader::{Format, Reader, format_of};

@@ -6,7 +6,7 @@ use Rattle.std.proofs.lemmas.List.{drop-drop}
 use Rattle.plist_base.specs.declared.error.Error.{Error}
 use Rattle.plist_base.specs.Faults.{Fault, FaultKind, Io, OutOfMemory, MatchFault, fault_of, fault_at, fault_nowhere, kind_of, error_kind_of, UnclosedString}
 use Rattle.plist_ascii.specs.Kinds.{IsFaultOfBytes}
-use Rattle.plist_ascii.specs.Unread.{IsAt, is_from_outside, Known, FirstIsTaken, TakesFront, Answers}
+use Rattle.plist_ascii.specs.Unread.{IsAt, is_from_outside, IfKnown, FirstIsTaken, TakesFront, Answers}
 use Rattle.plist_ascii.specs.Taken.{Taken, taken, past_one, past_outcome, followed, front, front_gives, needs}
 
 -- what is so of a fault that is passed on is so of the answer
@@ -109,7 +109,7 @@ module _ {X A : Type 0} (view : X → A) where
   -- the next byte was only looked at
   pub answers_looked : (front back : List ℕ → Taken A) (old mid : Option (List ℕ)) (p m : ℕ)
       (new : Option (List ℕ)) (q : ℕ) (r : Result X Error)
-      → Known old (λ xs. (mid ≡ Some xs) × (front xs ≡ back xs)) → m ≡ p
+      → IfKnown old (λ xs. (mid ≡ Some xs) × (front xs ≡ back xs)) → m ≡ p
       → Answers view back mid m new q r → Answers view front old p new q r
   answers_looked front back old mid p m new q (Ok x) h s a =
       rw (← s) (a.0, λ xs e. let k = h xs e in rw k.1 (a.1 xs k.0))
@@ -155,7 +155,7 @@ module _ {X A : Type 0} (view : X → A) where
   -- a fault in the bytes that were taken
   pub answers_fault : (front : List ℕ → Taken A) (old : Option (List ℕ)) (p : ℕ)
       (new : Option (List ℕ)) (q : ℕ) (f : Error) (k : FaultKind) → fault_of f ≡ fault_at k q
-      → IsFaultOfBytes k → p ≤ q → Known old (λ xs. TakesFront (front xs) (Err k) new p q xs)
+      → IsFaultOfBytes k → p ≤ q → IfKnown old (λ xs. TakesFront (front xs) (Err k) new p q xs)
       → Answers view front old p new q (Err f)
   answers_fault front old p new q f k s i le h = (
     is_at_inside f k q s i,
@@ -176,7 +176,7 @@ module _ {X A : Type 0} (view : X → A) where
       (new : Option (List ℕ)) (q : ℕ) (f : Error)
       → IsAt (fault_of f) q × (is_from_outside (kind_of (error_kind_of f)) ≡ false
       → (fault_of f ≡ fault_at UnclosedString q)
-      × Known old (λ xs. (new ≡ Some xs) × (xs ≡ [])))
+      × IfKnown old (λ xs. (new ≡ Some xs) × (xs ≡ [])))
       → q ≡ p → front [] ≡ taken 0 (Err UnclosedString) → Answers view front old p new q (Err f)
   answers_unclosed front old p new q f a same h = (
     a.0,
@@ -203,7 +203,7 @@ module _ {X A : Type 0} (view : X → A) where
       (p : ℕ) (new : Option (List ℕ)) (q : ℕ) (f : Error)
       → IsAt (fault_of f) q × (is_from_outside (kind_of (error_kind_of f)) ≡ false
       → (fault_of f ≡ fault_at UnclosedString q)
-      × Known old (λ xs. (new ≡ Some xs) × (xs ≡ [])))
+      × IfKnown old (λ xs. (new ≡ Some xs) × (xs ≡ [])))
       → q ≡ p → Answers view (λ ys. needs (suc n) ys meaning) old p new q (Err f)
   answers_none n meaning old p new q f a same =
       answers_unclosed (λ ys. needs (suc n) ys meaning) old p new q f a same refl

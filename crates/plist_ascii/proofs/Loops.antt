@@ -4,7 +4,7 @@ use Rattle.std.proofs.lemmas.List.{drop-drop}
 use Rattle.plist_base.specs.Faults.{FaultKind, IncompleteComment}
 use Rattle.plist_ascii.specs.declared.input.Input.{Input}
 use Rattle.plist_ascii.specs.Taken.{Taken, taken, run, past, past_one}
-use Rattle.plist_ascii.specs.Unread.{unread, Known, TakesFront, TakesPart}
+use Rattle.plist_ascii.specs.Unread.{unread, IfKnown, TakesFront, TakesPart}
 use Rattle.std.proofs.lemmas.Bool.{eq-eqb}
 use Rattle.std.proofs.lemmas.List.Folds.{prefix_len-append}
 use Rattle.std.proofs.Math.Seq.{take-append-add, drop-append-add}
@@ -19,7 +19,7 @@ pub record Since {R : Type 0} (known : R → Option (List ℕ)) (failures : R �
     (old new : Input R) (P : List ℕ → ℕ → List ℕ → ℕ → Type 0) : Type 0 where
   pub rises : old.taken ≤ new.taken
   pub counts : failures new.inner ≡ failures old.inner
-  pub goes : Known (unread known old)
+  pub goes : IfKnown (unread known old)
       (λ xs. (ys : List ℕ) × (unread known new ≡ Some ys) × P xs old.taken ys new.taken)
 
 module _ {R : Type 0} {known : R → Option (List ℕ)} {failures : R → Option ℕ} {old : Input R}

@@ -21,7 +21,7 @@ use Rattle.plist_ascii.specs.Quoted.{with_front, escape_then, run_end, quoted_by
 use Rattle.plist_ascii.specs.declared.token.Lead.{Lead}
 use Rattle.plist_ascii.specs.Ascii.{IsTextFault, IsTextToken, lead_of, token_by}
 use Rattle.plist_ascii.specs.Comments.{slash}
-use Rattle.plist_ascii.specs.Unread.{Known, first, TakesFront, Answers}
+use Rattle.plist_ascii.specs.Unread.{IfKnown, first, TakesFront, Answers}
 use Rattle.std.proofs.lemmas.Bool.{ne_eqb}
 use Rattle.plist_ascii.proofs.Unread.{first_splits}
 
@@ -174,8 +174,8 @@ quoted_wants quote xs = outcome_wants (quoted quote xs).gives (quoted_in_text _ 
 
 -- where the next byte begins no comment, a bare text begins
 pub bare_looked : (stops : ℕ → Bool) (old mid : Option (List ℕ)) (o : Option ℕ) (c : ℕ)
-    → o ≡ Some c → Known old (λ xs. (mid ≡ Some xs) × (o ≡ first xs)) → c ≢ 47 → c ≢ 42
-    → Known old (λ xs. (mid ≡ Some xs) × (slash stops xs ≡ bare stops 47 xs))
+    → o ≡ Some c → IfKnown old (λ xs. (mid ≡ Some xs) × (o ≡ first xs)) → c ≢ 47 → c ≢ 42
+    → IfKnown old (λ xs. (mid ≡ Some xs) × (slash stops xs ≡ bare stops 47 xs))
 bare_looked stops old mid o c is looked a b =
     λ xs e. let h = looked xs e in
     (h.0, rw (first_splits _ _ xs is h.1, ne_eqb _ _ a, ne_eqb _ _ b) refl)

@@ -7,7 +7,7 @@ use Rattle.std.proofs.lemmas.List.{length-take-le}
 use Rattle.std.proofs.Math.Seq.{take-append-add, take-nil}
 use Rattle.plist_ascii.specs.Incoming.{GivesByte}
 use Rattle.plist_ascii.specs.Taken.{run}
-use Rattle.plist_ascii.specs.Unread.{unread_of, first, within, Known, FirstIsTaken, TakesPart}
+use Rattle.plist_ascii.specs.Unread.{unread_of, first, within, IfKnown, FirstIsTaken, TakesPart}
 
 pub ended_unread : (k : Option (List ℕ)) (e : Bool) (p : Option ℕ) (t : ℕ) (xs : List ℕ) → e ≡ true
     → unread_of k e p t ≡ Some xs → xs ≡ []
@@ -104,8 +104,8 @@ first_none o (c ∷ xs) e h = cc
 
 -- a byte that was looked at is taken
 pub takes_looked : (old mid new : Option (List ℕ)) (o : Option ℕ) (b : ℕ) → o ≡ Some b
-    → Known old (λ xs. (mid ≡ Some xs) × (o ≡ first xs))
-    → Known mid (λ xs. new ≡ Some (drop 1 xs)) → FirstIsTaken old b new
+    → IfKnown old (λ xs. (mid ≡ Some xs) × (o ≡ first xs))
+    → IfKnown mid (λ xs. new ≡ Some (drop 1 xs)) → FirstIsTaken old b new
 takes_looked old mid new o b is looked taken =
     λ xs e. let h = looked xs e in (_, first_splits _ _ xs is h.1, taken xs h.0)
 

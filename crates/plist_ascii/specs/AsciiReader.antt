@@ -13,15 +13,15 @@ use Rattle.plist_ascii.specs.declared.token.Lead.{Lead}
 use Rattle.plist_ascii.specs.Ascii.{PlacedItem, placed, placed_items, items_of_ascii, BeginsWithText, FirstIsQuoted}
 use Rattle.plist_ascii.specs.Kinds.{IsAsciiItem, ItemBehindBracket}
 use Rattle.plist_ascii.specs.Incoming.{ItemCountsIoIfCounted}
-use Rattle.plist_ascii.specs.Unread.{within, unread, Known, IsAt}
+use Rattle.plist_ascii.specs.Unread.{within, unread, IfKnown, IsAt}
 
 -- the reader inside
 abbrev pub device_of : {R : Type 0} → AsciiReader R → R
 device_of reader = reader.input.inner
 
 -- the one byte that was read from it and not taken, if there is one
-abbrev pub looked_at : {R : Type 0} → AsciiReader R → Option ℕ
-looked_at reader = reader.input.peeked
+abbrev pub peeked_byte : {R : Type 0} → AsciiReader R → Option ℕ
+peeked_byte reader = reader.input.peeked
 
 -- how many bytes have been taken
 abbrev pub place_of : {R : Type 0} → AsciiReader R → ℕ
@@ -50,7 +50,7 @@ readable known = option_map (λ bytes. take (2 ^ 64 - 1) bytes) known
 -- the device inside holds what the reader had left, without the byte that was looked at
 abbrev pub HoldsLeft : {R : Type 0} → AsciiReader R → (R → Option (List ℕ)) → R → Type 0
 HoldsLeft reader known inner = IfSome (known inner) (λ bytes.
-    untaken_bytes known reader ≡ Some (within (looked_at reader) (place_of reader) bytes))
+    untaken_bytes known reader ≡ Some (within (peeked_byte reader) (place_of reader) bytes))
 
 -- From place p on the items begin with this one, which ends at place q; the others are those of the
 -- rest, which are the bytes from q on.
@@ -101,17 +101,17 @@ EndsAfterOutside item ended =
 -- looked at
 pub record GivesAscii {R : Type 0} (known : R → Option (List ℕ)) (failed : R → Option ℕ)
     (old : AsciiReader R) (item : Option (Result Event Error)) (new : AsciiReader R) : Type 0 where
-  pub items : Known (untaken_bytes known old) (λ bytes. (rest : List ℕ)
+  pub items : IfKnown (untaken_bytes known old) (λ bytes. (rest : List ℕ)
       × (untaken_bytes known new ≡ Some rest)
       × GivesAsciiItem (stops_of old) bytes (place_of old) item rest (place_of new))
   pub dialect : dialect_of new ≡ dialect_of old
   pub rises : TakesBytes item (place_of old) (place_of new)
   pub offset : FaultIsAt item (place_of new)
   pub kinds : IsAsciiItem item
-  pub brackets : ItemBehindBracket item (looked_at new ≡ None)
-  pub quotes : Known (untaken_bytes known old)
+  pub brackets : ItemBehindBracket item (peeked_byte new ≡ None)
+  pub quotes : IfKnown (untaken_bytes known old)
       (λ bytes. BehindQuoted (placed_items (stops_of old) bytes (place_of old)) item
-      (looked_at new ≡ None))
+      (peeked_byte new ≡ None))
   pub failures : ItemCountsIoIfCounted item (failed (device_of old)) (failed (device_of new))
   pub ended : HasEndedAscii old → item ≡ None
   pub unasked : HasEndedAscii old → device_of new ≡ device_of old

@@ -30,8 +30,8 @@ abbrev pub unread : {R : Type 0} → (R → Option (List ℕ)) → Input R → O
 unread known input = unread_of (known input.inner) input.ended input.peeked input.taken
 
 -- a fact of the bytes, where they are known
-abbrev pub Known : Option (List ℕ) → (List ℕ → Type 0) → Type 0
-Known known P = (bytes : List ℕ) → known ≡ Some bytes → P bytes
+abbrev pub IfKnown : Option (List ℕ) → (List ℕ → Type 0) → Type 0
+IfKnown known P = (bytes : List ℕ) → known ≡ Some bytes → P bytes
 
 -- the first byte, if there is one
 abbrev pub first : List ℕ → Option ℕ
@@ -58,7 +58,7 @@ IsAt fault place =
 
 -- the first of the old bytes was taken
 abbrev pub FirstIsTaken : Option (List ℕ) → ℕ → Option (List ℕ) → Type 0
-FirstIsTaken old c new = Known old (λ bytes. (rest : List ℕ) × (bytes ≡ c ∷ rest)
+FirstIsTaken old c new = IfKnown old (λ bytes. (rest : List ℕ) × (bytes ≡ c ∷ rest)
     × (new ≡ Some rest))
 
 -- from place p to place q some of the first bytes were taken, which no stop is among, and stand
@@ -81,9 +81,9 @@ abbrev pub Answers : {X A : Type 0} → (view : X → A) → (front : List ℕ �
     → (old : Option (List ℕ)) → (p : ℕ) → (new : Option (List ℕ)) → (q : ℕ) → Result X Error
     → Type 0
 Answers view front old p new q answer = MatchResult answer
-    (λ x. (p ≤ q) × Known old (λ bytes. TakesFront (front bytes) (Ok (view x)) new p q bytes))
+    (λ x. (p ≤ q) × IfKnown old (λ bytes. TakesFront (front bytes) (Ok (view x)) new p q bytes))
     (λ e. IsAt (fault_of e) q × (p ≤ q) × (is_from_outside (kind_of (error_kind_of e)) ≡ false
-    → Known old (λ bytes.
+    → IfKnown old (λ bytes.
     TakesFront (front bytes) (Err (kind_of (error_kind_of e))) new p q bytes)))
 
 -- what a text means, as an event or a fault's kind

@@ -32,7 +32,7 @@ pub trait Bytes {
         ensures { result.now ≡ held self.now };
 
     /// Takes the first `count` of the bytes at hand.
-    fn pass(&mut self, count: usize)
+    fn consume(&mut self, count: usize)
         requires within { count ≤ length (held self.old) }
         ensures bytes { LosesFirst count (held self.old) (remaining self.old) (remaining self.new) }
         ensures failures { failures self.new ≡ failures self.old };
@@ -63,5 +63,5 @@ impl<R: Read> Bytes for R {
         &[]
     }
 
-    fn pass(&mut self, _count: usize) {}
+    fn consume(&mut self, _count: usize) {}
 }

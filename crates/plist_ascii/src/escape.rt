@@ -5,7 +5,7 @@ ghost use Rattle.std.specs.Char.{is_digit};
 ghost use Rattle.std.specs.Char.Utf16.{is_high_surrogate, is_low_surrogate};
 ghost use Rattle.plist_base.specs.Faults.{InvalidOctalString, InvalidUtf16String};
 ghost use Rattle.plist_ascii.specs.Escapes.{simple_escape, octal, octal_char, octal_text, unit, unit_of, is_surrogate, pair_text, first_unit, second_unit, second_letter, second_digits, unicode, escape, escape_by};
-ghost use Rattle.plist_ascii.specs.inner.Inputs.{CountsFailed, GivesPiece, GivesUnit};
+ghost use Rattle.plist_ascii.specs.inner.Inputs.{CountsFailed, GivesEscaped, GivesUnit};
 ghost use Rattle.plist_ascii.specs.inner.Parts.{IsDigitOf, IsCharOfUnit, IsCharOr};
 
 use crate::bytes::Bytes;
@@ -14,7 +14,7 @@ use plist_base::{Error, ErrorKind};
 
 /// What an escape stands for.
 #[derive(Clone, Copy)]
-pub enum Piece {
+pub enum Escaped {
     /// A byte.
     Byte(u8),
     /// A character's bytes in UTF-8.
@@ -147,17 +147,17 @@ fn pair_char(high: u16, low: Option<u16>) -> Option<char>
 
 impl<R: Bytes> Input<R> {
     /// Takes an escape, whose backslash has been taken.
-    pub fn escape(&mut self) -> Result<Piece, Error>
-        ensures answers { GivesPiece R.remaining escape self.old result self.new }
+    pub fn escape(&mut self) -> Result<Escaped, Error>
+        ensures answers { GivesEscaped R.remaining escape self.old result self.new }
         ensures failures { CountsFailed R.failures self.old result self.new }
     {
-        let byte = self.must_take()?;
+        let byte = self.expect_byte()?;
         self.escape_by(byte)
     }
 
     // Takes the rest of an escape, whose first byte has been taken.
-    fn escape_by(&mut self, byte: u8) -> Result<Piece, Error>
-        ensures answers { GivesPiece R.remaining (escape_by byte) self.old result self.new }
+    fn escape_by(&mut self, byte: u8) -> Result<Escaped, Error>
+        ensures answers { GivesEscaped R.remaining (escape_by byte) self.old result self.new }
         ensures failures { CountsFailed R.failures self.old result self.new }
     {
         if byte == b'U' {
@@ -167,20 +167,20 @@ impl<R: Bytes> Input<R> {
             return self.octal(byte);
         }
         match simple_of(byte) {
-            Some(other) => Ok(Piece::Byte(other)),
+            Some(other) => Ok(Escaped::Byte(other)),
             None => Err(self.fault(ErrorKind::InvalidUtf8AsciiStream)),
         }
     }
 
     // Takes the second and third byte of an octal escape.
-    fn octal(&mut self, first: u8) -> Result<Piece, Error>
-        ensures answers { GivesPiece R.remaining (octal first) self.old result self.new }
+    fn octal(&mut self, first: u8) -> Result<Escaped, Error>
+        ensures answers { GivesEscaped R.remaining (octal first) self.old result self.new }
         ensures failures { CountsFailed R.failures self.old result self.new }
     {
-        let second = self.must_take()?;
-        let third = self.must_take()?;
+        let second = self.expect_byte()?;
+        let third = self.expect_byte()?;
         match octal_of(first, second, third) {
-            Some(c) => Ok(Piece::Char(c)),
+            Some(c) => Ok(Escaped::Char(c)),
             None => Err(self.fault(ErrorKind::InvalidOctalString)),
         }
     }
@@ -190,16 +190,16 @@ impl<R: Bytes> Input<R> {
         ensures answers { GivesUnit R.remaining unit self.old result self.new }
         ensures failures { CountsFailed R.failures self.old result self.new }
     {
-        let a = self.must_take()?;
-        let b = self.must_take()?;
-        let c = self.must_take()?;
-        let d = self.must_take()?;
+        let a = self.expect_byte()?;
+        let b = self.expect_byte()?;
+        let c = self.expect_byte()?;
+        let d = self.expect_byte()?;
         Ok(unit_of(a, b, c, d))
     }
 
     // Takes what follows `\U`.
-    fn unicode(&mut self) -> Result<Piece, Error>
-        ensures answers { GivesPiece R.remaining unicode self.old result self.new }
+    fn unicode(&mut self) -> Result<Escaped, Error>
+        ensures answers { GivesEscaped R.remaining unicode self.old result self.new }
         ensures failures { CountsFailed R.failures self.old result self.new }
     {
         let unit = self.unit()?;
@@ -207,33 +207,33 @@ impl<R: Bytes> Input<R> {
     }
 
     // Takes what follows the digits of the first unit.
-    fn first_unit(&mut self, unit: Option<u16>) -> Result<Piece, Error>
-        ensures answers { GivesPiece R.remaining (first_unit unit) self.old result self.new }
+    fn first_unit(&mut self, unit: Option<u16>) -> Result<Escaped, Error>
+        ensures answers { GivesEscaped R.remaining (first_unit unit) self.old result self.new }
         ensures failures { CountsFailed R.failures self.old result self.new }
     {
         let Some(unit) = unit else {
             return Err(self.fault(ErrorKind::InvalidUtf16String));
         };
         match lone_char(unit) {
-            Some(c) => Ok(Piece::Char(c)),
+            Some(c) => Ok(Escaped::Char(c)),
             None => self.second_unit(unit),
         }
     }
 
     // Takes the backslash of the second unit, and what follows it.
-    fn second_unit(&mut self, high: u16) -> Result<Piece, Error>
-        ensures answers { GivesPiece R.remaining (second_unit high) self.old result self.new }
+    fn second_unit(&mut self, high: u16) -> Result<Escaped, Error>
+        ensures answers { GivesEscaped R.remaining (second_unit high) self.old result self.new }
         ensures failures { CountsFailed R.failures self.old result self.new }
     {
-        if self.must_take()? == b'\\' {
+        if self.expect_byte()? == b'\\' {
             return self.second_letter(high);
         }
         Err(self.fault(ErrorKind::InvalidUtf16String))
     }
 
     // Takes the letter of the second unit if it stands there, and what follows it.
-    fn second_letter(&mut self, high: u16) -> Result<Piece, Error>
-        ensures answers { GivesPiece R.remaining (second_letter high) self.old result self.new }
+    fn second_letter(&mut self, high: u16) -> Result<Escaped, Error>
+        ensures answers { GivesEscaped R.remaining (second_letter high) self.old result self.new }
         ensures failures { CountsFailed R.failures self.old result self.new }
     {
         match self.look()? {
@@ -246,13 +246,13 @@ impl<R: Bytes> Input<R> {
     }
 
     // Takes the digits of the second unit.
-    fn second_digits(&mut self, high: u16) -> Result<Piece, Error>
-        ensures answers { GivesPiece R.remaining (second_digits high) self.old result self.new }
+    fn second_digits(&mut self, high: u16) -> Result<Escaped, Error>
+        ensures answers { GivesEscaped R.remaining (second_digits high) self.old result self.new }
         ensures failures { CountsFailed R.failures self.old result self.new }
     {
         let low = self.unit()?;
         match pair_char(high, low) {
-            Some(c) => Ok(Piece::Char(c)),
+            Some(c) => Ok(Escaped::Char(c)),
             None => Err(self.fault(ErrorKind::InvalidUtf16String)),
         }
     }

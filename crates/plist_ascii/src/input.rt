@@ -221,7 +221,7 @@ impl<R: Bytes> Input<R> {
             return;
         }
         let count = run_length(stop, self.inner.buffered(), u64::MAX - self.taken);
-        self.inner.pass(count);
+        self.inner.consume(count);
         self.taken += count as u64;
     }
 
@@ -241,7 +241,7 @@ impl<R: Bytes> Input<R> {
         let bytes = self.inner.buffered();
         let count = run_length(stop, bytes, u64::MAX - self.taken);
         text.extend_from_slice(&bytes[..count])?;
-        self.inner.pass(count);
+        self.inner.consume(count);
         self.taken += count as u64;
         Ok(())
     }
@@ -269,7 +269,7 @@ impl<R: Bytes> Input<R> {
     }
 
     /// Takes the next byte of a quoted text, which must be there.
-    pub fn must_take(&mut self) -> Result<u8, Error>
+    pub fn expect_byte(&mut self) -> Result<u8, Error>
         // The answer.
         ensures value { IfOk result (λ c. TakesByte R.remaining self.old c self.new) }
         // A refusal.

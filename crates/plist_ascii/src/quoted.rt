@@ -4,25 +4,25 @@ ghost use Rattle.std.specs.Prelude.{◌≡◌, ◌+◌, ◌<◌, ◌++◌, None,
 ghost use Rattle.plist_base.specs.Outcomes.{OnlyMemory};
 ghost use Rattle.plist_base.specs.Events.{event_of};
 ghost use Rattle.plist_ascii.specs.Quoted.{quoted, quoted_token};
-ghost use Rattle.plist_ascii.specs.inner.Parts.{piece_bytes, PartFails, EndFails};
+ghost use Rattle.plist_ascii.specs.inner.Parts.{escaped_bytes, PartFails, EndFails};
 ghost use Rattle.plist_ascii.specs.Kinds.{IsTextEvent};
 ghost use Rattle.plist_ascii.specs.inner.Inputs.{CountsFailed, IsFurther, TakesEnd, Quotes, FailsBehind, GivesOne, GivesText};
 
 use crate::bytes::Bytes;
-use crate::escape::Piece;
+use crate::escape::Escaped;
 use crate::input::{Input, Stop};
 use crate::text::{push_byte, quoted_event};
 use plist_base::{Error, OwnedEvent};
 use std::alloc::Global;
 
 // Appends what an escape stands for.
-fn push_piece(text: &mut Vec<u8>, piece: Piece) -> Result<(), Error>
-    ensures value { OnOk result (text.new.items ≡ text.old.items ++ piece_bytes piece) }
+fn push_escaped(text: &mut Vec<u8>, piece: Escaped) -> Result<(), Error>
+    ensures value { OnOk result (text.new.items ≡ text.old.items ++ escaped_bytes piece) }
     ensures fault { OnlyMemory result }
 {
     match piece {
-        Piece::Byte(byte) => push_byte(text, byte),
-        Piece::Char(c) => {
+        Escaped::Byte(byte) => push_byte(text, byte),
+        Escaped::Char(c) => {
             let mut buffer = [0u8; 4];
             let bytes = c.encode_utf8(&mut buffer);
             text.extend_from_slice(bytes.as_bytes())?;
@@ -33,14 +33,14 @@ fn push_piece(text: &mut Vec<u8>, piece: Piece) -> Result<(), Error>
 
 impl<R: Bytes> Input<R> {
     // Takes what stands behind a run of plain bytes: the closing quote, or an escape.
-    fn run_end(&mut self, quote: u8) -> Result<Option<Piece>, Error>
+    fn run_end(&mut self, quote: u8) -> Result<Option<Escaped>, Error>
         ensures value { IfOk result (TakesEnd R.remaining quote self.old self.new) }
         ensures fault { IfErr result (FailsBehind R.remaining (EndFails quote) self.old self.new) }
         ensures rises { OnOk result (IsFurther self.old self.new) }
         ensures looked { IfOk result (λ piece. piece ≡ None → self.new.peeked ≡ None) }
         ensures failures { CountsFailed R.failures self.old result self.new }
     {
-        if self.must_take()? == quote {
+        if self.expect_byte()? == quote {
             return Ok(None);
         }
         let piece = self.escape()?;
@@ -58,7 +58,7 @@ impl<R: Bytes> Input<R> {
         self.take_run(Stop::Quoted(quote), text)?;
         match self.run_end(quote)? {
             Some(piece) => {
-                push_piece(text, piece)?;
+                push_escaped(text, piece)?;
                 Ok(false)
             }
             None => Ok(true),

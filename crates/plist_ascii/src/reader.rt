@@ -93,7 +93,7 @@ pub struct AsciiReader<R> {
 impl<R: Bytes> AsciiReader<R> {
     ghost use Rattle.std.specs.Prelude.{◌≡◌, ◌-◌, take, None, IfSome, Some};
     ghost use Rattle.plist_ascii.specs.Ascii.{OnlyBareTextsDiffer};
-    ghost use Rattle.plist_ascii.specs.AsciiReader.{untaken_bytes, dialect_of, device_of, looked_at, place_of, HasEndedAscii};
+    ghost use Rattle.plist_ascii.specs.AsciiReader.{untaken_bytes, dialect_of, device_of, peeked_byte, place_of, HasEndedAscii};
 
     /// A lax reader over a device's bytes. It reads nothing before its first item is asked for.
     pub fn new(alloc: Global, inner: R) -> Self
@@ -103,7 +103,7 @@ impl<R: Bytes> AsciiReader<R> {
         ensures dialect { dialect_of result ≡ Dialect.Lax }
         // The state after it.
         ensures place { place_of result ≡ 0 }
-        ensures looked_at { looked_at result ≡ None }
+        ensures peeked_byte { peeked_byte result ≡ None }
     {
         AsciiReader::with_dialect(alloc, inner, Dialect::Lax)
     }
@@ -120,7 +120,7 @@ impl<R: Bytes> AsciiReader<R> {
         ensures dialect { dialect_of result ≡ dialect }
         // The state after it.
         ensures place { place_of result ≡ 0 }
-        ensures looked_at { looked_at result ≡ None }
+        ensures peeked_byte { peeked_byte result ≡ None }
         // The law.
         ensures alike { OnlyBareTextsDiffer }
     {

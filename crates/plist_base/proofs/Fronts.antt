@@ -4,7 +4,7 @@ use Rattle.std.specs.Io.KnownBytes.{Appends, Keeps}
 use Rattle.std.proofs.KnownBytes.{Appends-kept, Appends-trans}
 use Rattle.std.proofs.Math.Seq.{take-add}
 use Rattle.std.proofs.lemmas.List.{take-append-drop}
-use Rattle.plist_base.specs.Fronts.{AppendsFront}
+use Rattle.plist_base.specs.Prefixes.{AppendsPrefix}
 
 pub Appends-at : (old new : Option (List ℕ)) (xs ys : List ℕ) → xs ≡ ys → Appends old new xs
     → Appends old new ys
@@ -20,7 +20,7 @@ Appends-part a b c bytes done count h g =
 
 -- a write that failed
 pub front_kept : (a b c : Option (List ℕ)) (bytes : List ℕ) (done : ℕ)
-    → Appends a b (take done bytes) → Keeps b c → AppendsFront a c bytes
+    → Appends a b (take done bytes) → Keeps b c → AppendsPrefix a c bytes
 front_kept a b c bytes done h kept = (
   take done bytes,
   drop done bytes,
@@ -31,7 +31,7 @@ front_kept a b c bytes done h kept = (
 
 -- a write that took nothing
 pub front_none : (a b c : Option (List ℕ)) (bytes : List ℕ) (done : ℕ)
-    → Appends a b (take done bytes) → Appends b c [] → AppendsFront a c bytes
+    → Appends a b (take done bytes) → Appends b c [] → AppendsPrefix a c bytes
 front_none a b c bytes done h none = (
   take done bytes,
   drop done bytes,
@@ -42,6 +42,6 @@ front_none a b c bytes done h none = (
 
 -- all of them, and a flush
 pub front_whole : (a b c : Option (List ℕ)) (bytes : List ℕ) → Appends a b bytes → Keeps b c
-    → AppendsFront a c bytes
+    → AppendsPrefix a c bytes
 front_whole a b c bytes h kept =
     (bytes, [], Appends-kept a b c _ h kept, sym (append-nil _))

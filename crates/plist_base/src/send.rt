@@ -4,7 +4,7 @@ ghost use Rattle.std.specs.Prelude.{OnOk};
 ghost use Rattle.plist_base.specs.Outcomes.{OnlyDevice};
 ghost use Rattle.std.specs.Io.KnownBytes.{Appends, Keeps};
 ghost use Rattle.plist_base.specs.Faults.{Io};
-ghost use Rattle.plist_base.specs.Fronts.{AppendsFront};
+ghost use Rattle.plist_base.specs.Prefixes.{AppendsPrefix};
 
 use crate::{Error, ErrorKind};
 use std::io;
@@ -17,7 +17,7 @@ use std::io::Write;
 pub fn send<W: Write>(writer: &mut W, bytes: &[u8]) -> Result<(), Error>
     ensures sent { OnOk result (Appends (W.contents writer.old) (W.contents writer.new) bytes.now) }
     ensures fault { OnlyDevice result }
-    ensures front { AppendsFront (W.contents writer.old) (W.contents writer.new) bytes.now }
+    ensures prefix { AppendsPrefix (W.contents writer.old) (W.contents writer.new) bytes.now }
 {
     let mut done = 0;
     while done < bytes.len() {
@@ -53,10 +53,10 @@ pub fn flush<W: Write>(writer: &mut W) -> Result<(), Error>
 /// `Io` without an offset where a write fails or takes no byte, and a beginning of the bytes was
 /// sent; or where the flush fails, and all of them were.
 #[tactic(auto, using(crate::proofs::Fronts::front_whole))]
-pub fn send_whole<W: Write>(writer: &mut W, bytes: &[u8]) -> Result<(), Error>
+pub fn send_and_flush<W: Write>(writer: &mut W, bytes: &[u8]) -> Result<(), Error>
     ensures sent { OnOk result (Appends (W.contents writer.old) (W.contents writer.new) bytes.now) }
     ensures fault { OnlyDevice result }
-    ensures front { AppendsFront (W.contents writer.old) (W.contents writer.new) bytes.now }
+    ensures prefix { AppendsPrefix (W.contents writer.old) (W.contents writer.new) bytes.now }
 {
     send(writer, bytes)?;
     flush(writer)?;

@@ -5,8 +5,8 @@ use Rattle.plist_base.specs.declared.error.Error.{Error}
 use Rattle.plist_base.specs.Faults.{IsIo, kind_of, error_kind_of}
 use Rattle.plist_base.proofs.Refusals.{MatchFault-weaker}
 use Rattle.plist_binread.specs.declared.frames.Frame.{Frame}
-use Rattle.plist_binread.specs.declared.walk.Turn.{Turn}
-use Rattle.plist_binread.specs.declared.walk.Turn.TheVariants.{Child}
+use Rattle.plist_binread.specs.declared.walk.NextChild.{NextChild}
+use Rattle.plist_binread.specs.declared.walk.NextChild.TheVariants.{Child}
 use Rattle.plist_binread.specs.declared.head.Bounds.{Bounds}
 use Rattle.plist_format.specs.Object.{object_in}
 use Rattle.plist_binread.specs.Packed.{unmarked}
@@ -20,12 +20,12 @@ use Rattle.plist_binread.proofs.OverKnown.{IfSome-both}
 -- ---- one turn of the walk
 
 abbrev pub Turned : (bytes : List ℕ) (bounds : Bounds) (tags contents : List ℕ) (old : List Frame)
-    → Turn → (new : List Frame) → Type 0
+    → NextChild → (new : List Frame) → Type 0
 Turned bytes bounds tags contents old turn new =
     Turns (entries_of bytes bounds) old turn new × IsKnown bytes bounds tags contents new
 
 pub known_turned : (known : Option (List ℕ)) (bounds : Bounds) (tags new contents others : List ℕ)
-    (fs gs : List Frame) (turn : Turn)
+    (fs gs : List Frame) (turn : NextChild)
     → IfSome known (λ bytes. IsKnown bytes bounds tags contents fs)
     → ((bytes : List ℕ) (bounds : Bounds) → IsKnown bytes bounds tags contents fs
     → Turned bytes bounds new others fs turn gs)
@@ -52,10 +52,10 @@ child_is bytes bounds tags contents fs gs object index h none turned answer read
 
 module _ (known : Option (List ℕ)) (bounds : Bounds) (tags contents : List ℕ)
     (fs gs : List Frame) where
-  abbrev HasTurned : Turn → Type 0
+  abbrev HasTurned : NextChild → Type 0
   HasTurned turn = IfSome known (λ bytes. Turned bytes bounds tags contents fs turn gs)
 
-  pub known_after : (turn : Turn) → HasTurned turn
+  pub known_after : (turn : NextChild) → HasTurned turn
       → IfSome known (λ bytes. IsKnown bytes bounds tags contents gs)
   known_after turn turned = IfSome_then known turned (λ bytes turned. turned.1)
 

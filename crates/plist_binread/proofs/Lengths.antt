@@ -14,7 +14,7 @@ use Rattle.plist_binread.specs.declared.head.Bounds.{Bounds}
 use Rattle.plist_binread.specs.declared.slot.EventSlot.{EventSlot}
 use Rattle.plist_binread.specs.declared.slot.Refused.{Refused}
 use Rattle.plist_binread.specs.declared.slot.Refused.TheVariants.{Fault, TooLong}
-use Rattle.plist_binread.specs.declared.walk.Turn.TheVariants.{Child}
+use Rattle.plist_binread.specs.declared.walk.NextChild.TheVariants.{Child}
 use Rattle.plist_binread.specs.Remaining.{IsKnown, IsOpen, children_at, entries_of, remaining_items, path_of}
 use Rattle.plist_binread.specs.Decoding.{IsRefusedAs, single_in}
 use Rattle.plist_binread.specs.Front.{content_means, unit_size}

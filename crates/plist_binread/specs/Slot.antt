@@ -12,7 +12,7 @@ use Rattle.plist_binread.specs.declared.slot.CompactEvent.TheVariants as current
 
 -- what contracts see of a compact event, where others, texts and data are those of the slot
 abbrev pub compact_event_of : EventSlot → CompactEvent → PlainEvent
-compact_event_of slot current.Held = event_of slot.held
+compact_event_of slot current.Other = event_of slot.held
 compact_event_of slot current.Text = Single (trees.String (string_bytes slot.text))
 compact_event_of slot current.Data = Single (trees.Data slot.data.items)
 compact_event_of slot (current.Array length) = StartArray (Some length)
@@ -24,7 +24,7 @@ compact_event_of slot (current.Uid number) = Single (trees.Uid number)
 
 -- its content lies in the slot
 abbrev pub is_in_slot : CompactEvent → Bool
-is_in_slot current.Held = true
+is_in_slot current.Other = true
 is_in_slot current.Text = true
 is_in_slot current.Data = true
 is_in_slot _ = false

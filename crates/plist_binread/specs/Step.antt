@@ -12,7 +12,7 @@ use Rattle.plist_base.specs.Faults.{MatchFault, kind_of, error_kind_of, fault_of
 use Rattle.plist_base.specs.Limits.{RefusesAny}
 use Rattle.plist_base.specs.declared.limits.Limiter.{Limiter}
 use Rattle.plist_binread.specs.Slot.{answer_in, event_in, item_in}
-use Rattle.plist_binread.specs.Turns.{IsFound, IsCurrentCached, Lightens, Turns}
+use Rattle.plist_binread.specs.Turns.{IsFound, IsCurrentCached, Falls, Turns}
 use Rattle.plist_format.specs.Unfolding.{TableEntry, unfolding_of, until_fault}
 use Rattle.plist_binread.specs.Walking.{IsWalkOf, walk_objects, open_in, remaining_entering, remaining_in, weight_entering, weight_in}
 use Rattle.plist_binread.specs.declared.frames.Frame.{Frame}
@@ -20,7 +20,7 @@ use Rattle.plist_binread.specs.declared.front.Outcome.{Outcome}
 use Rattle.plist_binread.specs.declared.front.Outcome.TheVariants as outcome
 use Rattle.plist_binread.specs.declared.head.Bounds.{Bounds}
 use Rattle.plist_binread.specs.declared.slot.EventSlot.{EventSlot}
-use Rattle.plist_binread.specs.declared.walk.Turn.{Turn}
+use Rattle.plist_binread.specs.declared.walk.NextChild.{NextChild}
 use Rattle.plist_binread.specs.declared.walk.Walk.{Walk}
 use Rattle.plist_format.specs.Object.{Object}
 
@@ -46,12 +46,12 @@ IsUnchanged old new =
     × (new.frames ≡ old.frames)
 
 -- what a turn takes of what remains
-abbrev pub TurnsWalk : (old : Walk) → Turn → (new : Walk) → Type 0
+abbrev pub TurnsWalk : (old : Walk) → NextChild → (new : Walk) → Type 0
 TurnsWalk old turn new = (bytes : List ℕ) (bounds : Bounds) → IsWalkOf bytes bounds old →
     Turns (entries_of bytes bounds) (open_in old) turn (open_in new) × IsWalkOf bytes bounds new
 
-abbrev pub LightensBy : (old : Walk) → Turn → (new : Walk) → Type 0
-LightensBy old turn new = (count : ℕ) → Lightens count (open_in old) turn (open_in new)
+abbrev pub FallsBy : (old : Walk) → NextChild → (new : Walk) → Type 0
+FallsBy old turn new = (count : ℕ) → Falls count (open_in old) turn (open_in new)
 
 -- ---- what is looked up
 

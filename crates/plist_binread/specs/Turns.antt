@@ -6,8 +6,8 @@ use Rattle.plist_base.specs.declared.event.Event.{Event}
 use Rattle.plist_base.specs.Faults.{Fault, IsIo, kind_of, error_kind_of}
 use Rattle.plist_base.specs.Events.{PlainEvent, EndCollection, event_of}
 use Rattle.plist_binread.specs.declared.frames.Frame.{Frame}
-use Rattle.plist_binread.specs.declared.walk.Turn.{Turn}
-use Rattle.plist_binread.specs.declared.walk.Turn.TheVariants as turn
+use Rattle.plist_binread.specs.declared.walk.NextChild.{NextChild}
+use Rattle.plist_binread.specs.declared.walk.NextChild.TheVariants as turn
 use Rattle.plist_binread.specs.declared.head.Bounds.{Bounds}
 use Rattle.plist_format.specs.Container.{Head, head_of}
 use Rattle.plist_binread.specs.Packed.{is_small_event, unmarked, cached, single}
@@ -20,7 +20,7 @@ use Rattle.plist_binread.specs.Remaining.{SomeRemain, children_at, entries_of, n
 
 -- ---- the next child of the innermost frame
 
-abbrev pub Turns : List TableEntry → List Frame → Turn → List Frame → Type 0
+abbrev pub Turns : List TableEntry → List Frame → NextChild → List Frame → Type 0
 Turns table old turn.Done new = (old ≡ []) × (new ≡ [])
 Turns table old turn.Closed new = remaining_items table old ≡ Ok EndCollection
     ∷ remaining_items table new
@@ -32,10 +32,10 @@ Turns table old (turn.Child object index) new =
     × SomeRemain (until_fault (remaining_items table old))
     × (next_number table old ≡ Some (get_or (children_at (slice_get table object)) index 0))
 
-abbrev pub Lightens : (count : ℕ) → List Frame → Turn → List Frame → Type 0
-Lightens count old turn.Done new = Unit {0}
-Lightens count old turn.Closed new = walk_weight count old ≡ walk_weight count new + 1
-Lightens count old (turn.Child object index) new =
+abbrev pub Falls : (count : ℕ) → List Frame → NextChild → List Frame → Type 0
+Falls count old turn.Done new = Unit {0}
+Falls count old turn.Closed new = walk_weight count old ≡ walk_weight count new + 1
+Falls count old (turn.Child object index) new =
     walk_weight count old ≡ walk_weight count new + walk_steps (count - length new)
 
 abbrev pub is_fresh : WalkState → Bool
@@ -82,7 +82,7 @@ ReadsChild object index answer =
     (λ error. IsIo (kind_of (error_kind_of error)))
 
 -- the turn is to a child of an open object that isn't cached
-abbrev pub IsTurnWithin : (tags : List ℕ) → Turn → Type 0
+abbrev pub IsTurnWithin : (tags : List ℕ) → NextChild → Type 0
 IsTurnWithin tags (turn.Child object index) =
     (object < length tags) × (unmarked (get_or tags object 0) ≡ 0)
 IsTurnWithin tags _ = Unit {0}

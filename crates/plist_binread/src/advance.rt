@@ -15,7 +15,7 @@ use crate::counter::DecodeCounter;
 use crate::enter::enter;
 use crate::head::Bounds;
 use crate::slot::{CompactEvent, EventSlot, Refused};
-use crate::walk::{Turn, Walk};
+use crate::walk::{NextChild, Walk};
 use plist_base::Source;
 use std::alloc::Global;
 
@@ -51,13 +51,13 @@ pub fn advance<S: Source, C: DecodeCounter>(
     ensures unchanged { S.known source.new ≡ S.known source.old }
     ensures failures { ItemAnswersIn S.failures result slot.new source.old source.new }
 {
-    match walk.turn() {
-        Turn::Done => None,
-        Turn::Closed => {
+    match walk.next_child() {
+        NextChild::Done => None,
+        NextChild::Closed => {
             slot.set(CompactEvent::End);
             Some(Ok(()))
         }
-        Turn::Child(object, index) => {
+        NextChild::Child(object, index) => {
             let at = walk.contents[object as usize];
             match read_child(source, bounds, references, at, index, slot) {
                 Ok(number) => Some(enter(

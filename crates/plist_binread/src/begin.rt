@@ -55,8 +55,8 @@ pub fn begin<S: Source, C: DecodeCounter>(
     ensures unchanged { S.known source.new ≡ S.known source.old }
     ensures failures { AnswersIn S.failures result slot.new source.old source.new }
 {
-    let head = slot.note(Head::read(alloc, source))?;
-    let none = slot.note(no_tags(alloc, head.places.len()))?;
+    let head = slot.keep_error(Head::read(alloc, source))?;
+    let none = slot.keep_error(no_tags(alloc, head.places.len()))?;
     let Head {
         trailer,
         reference_width,

@@ -28,7 +28,7 @@ impl References {
     ghost use Rattle.std.specs.Prelude.{◌≡◌, ◌-◌, ◌^◌};
 
     /// Those of no collection, since no object has this place.
-    pub fn nothing() -> Self
+    pub fn none() -> Self
         ensures { result.place ≡ 2 ^ 64 - 1 }
     {
         References {
@@ -101,7 +101,7 @@ fn read_references<S: Source>(
     match read_exact_at(source, place, seen) {
         Ok(()) => match references_in(seen, extent, bounds.reference_width, place) {
             Some(references) => Ok(references),
-            None => Err(slot.exceed(place)),
+            None => Err(slot.refuse_overrun(place)),
         },
         Err(error) => Err(slot.refuse(error)),
     }
@@ -125,7 +125,7 @@ fn find_references<S: Source>(
     ensures failures { AnswersIn S.failures result slot.new source.old source.new }
 {
     if place >= bounds.trailer {
-        return Err(slot.exceed(place));
+        return Err(slot.refuse_overrun(place));
     }
     let extent = bounds.trailer - place;
     let buffered = source.buffered(place);
@@ -133,7 +133,7 @@ fn find_references<S: Source>(
         let seen = &buffered[..extent.min(buffered.len() as u64) as usize];
         return match references_in(seen, extent, bounds.reference_width, place) {
             Some(references) => Ok(references),
-            None => Err(slot.exceed(place)),
+            None => Err(slot.refuse_overrun(place)),
         };
     }
     read_references(source, bounds, place, extent, slot)
@@ -213,7 +213,7 @@ fn read_reference<S: Source>(
     ensures unchanged { S.known source.new ≡ S.known source.old }
     ensures failures { AnswersIn S.failures result slot.new source.old source.new }
 {
-    slot.note(read_far_number(source, place, width))
+    slot.keep_error(read_far_number(source, place, width))
 }
 
 /// Finds the number of a child of the collection at a place.
@@ -245,6 +245,6 @@ pub fn read_child<S: Source>(
                 None => read_reference(source, at, width, slot),
             }
         }
-        _ => Err(slot.exceed(place)),
+        _ => Err(slot.refuse_overrun(place)),
     }
 }

@@ -17,7 +17,7 @@ use crate::frames::Frames;
 use crate::front::Outcome;
 use crate::head::Bounds;
 use crate::object::decode;
-use crate::packed::{keep, mark};
+use crate::packed::{cache, mark_open};
 use crate::slot::{EventSlot, Refused};
 use crate::walk::Walk;
 use plist_base::{ErrorKind, Source};
@@ -79,7 +79,7 @@ fn look_up(
     if slot.unpack(tag, content) {
         return Ok(None);
     }
-    Err(slot.want_memory())
+    Err(slot.refuse_memory())
 }
 
 // Opens a collection of so many children, if there is memory.
@@ -121,7 +121,7 @@ fn keep_or_open(walk: &mut Walk, number: u64, outcome: Outcome, slot: &EventSlot
         | Outcome::NoMemory => false,
         Outcome::Scalar => match slot.pack() {
             Some((tag, content)) => {
-                keep(
+                cache(
                     &mut walk.tags,
                     &mut walk.contents,
                     number as usize,
@@ -134,7 +134,7 @@ fn keep_or_open(walk: &mut Walk, number: u64, outcome: Outcome, slot: &EventSlot
         },
         Outcome::Collection(count) => {
             if open_frame(&mut walk.frames, number, count) {
-                mark(&mut walk.tags, number as usize);
+                mark_open(&mut walk.tags, number as usize);
                 return true;
             }
             false
@@ -187,7 +187,7 @@ pub fn enter<S: Source, C: DecodeCounter>(
             if keep_or_open(walk, number, outcome, slot) {
                 return Ok(());
             }
-            Err(slot.want_memory())
+            Err(slot.refuse_memory())
         }
     }
 }

@@ -168,7 +168,7 @@ impl Frames {
     }
 
     /// Takes the next child of the innermost one, or closes that where it has no more.
-    pub fn turn(&mut self) -> Upcoming
+    pub fn next_child(&mut self) -> Upcoming
         ensures { NextOf (reverse self.old) result (reverse self.new) }
     {
         match self.innermost {

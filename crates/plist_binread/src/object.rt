@@ -166,7 +166,7 @@ fn weigh<S: Source>(
     match measure(source, place, slot.content) {
         Ok(Some(size)) => {
             if size > left {
-                slot.want_memory();
+                slot.refuse_memory();
                 return Err(Refused::TooLong);
             }
             Ok(())
@@ -246,7 +246,7 @@ pub fn decode<S: Source, C: DecodeCounter>(
     ensures failures { AnswersIn S.failures result slot.new source.old source.new }
 {
     if place >= bounds.trailer {
-        return Err(slot.exceed(place));
+        return Err(slot.refuse_overrun(place));
     }
     match decode_front(source, counter, bounds, place, left, slot) {
         Ok(outcome) => match outcome {

@@ -25,7 +25,7 @@ use std::mem;
 #[derive(Clone, Copy)]
 pub enum CompactEvent {
     /// Another event, in the slot: a date, a real, a negative number, or a long text or data.
-    Held,
+    Other,
     /// A text, in the slot.
     Text,
     /// Data, in the slot.
@@ -60,7 +60,7 @@ impl CompactEvent {
             CompactEvent::Boolean(value) => Event::Boolean(value),
             CompactEvent::Unsigned(number) => Event::Integer(Integer::from(number)),
             CompactEvent::Uid(number) => Event::Uid(Uid::new(number)),
-            CompactEvent::Held | CompactEvent::Text | CompactEvent::Data => unreachable!(),
+            CompactEvent::Other | CompactEvent::Text | CompactEvent::Data => unreachable!(),
         }
     }
 }
@@ -118,7 +118,7 @@ impl EventSlot {
     /// Some event, and no memory.
     pub fn new(alloc: Global) -> Self {
         EventSlot {
-            current: CompactEvent::Held,
+            current: CompactEvent::Other,
             held: Event::EndCollection,
             text: String::new(alloc),
             data: Vec::new(alloc),
@@ -146,7 +146,7 @@ impl EventSlot {
     /// Holds that memory was wanted.
     #[cold]
     #[inline(never)]
-    pub fn want_memory(&mut self) -> Refused
+    pub fn refuse_memory(&mut self) -> Refused
         ensures fault { fault_of self.new.fault ≡ fault_nowhere OutOfMemory }
         ensures held { result ≡ Fault }
         ensures unchanged { event_in self.new ≡ event_in self.old }
@@ -157,7 +157,7 @@ impl EventSlot {
     /// Holds that the object at a place doesn't end before the trailer.
     #[cold]
     #[inline(never)]
-    pub fn exceed(&mut self, place: u64) -> Refused
+    pub fn refuse_overrun(&mut self, place: u64) -> Refused
         ensures fault { fault_of self.new.fault ≡ fault_at ObjectOffsetTooLarge place }
         ensures held { result ≡ Fault }
         ensures unchanged { event_in self.new ≡ event_in self.old }
@@ -168,7 +168,7 @@ impl EventSlot {
     /// Holds that the next text or data has more bytes than may come.
     #[cold]
     #[inline(never)]
-    pub fn reach_limit(&mut self) -> Refused
+    pub fn refuse_limit(&mut self) -> Refused
         ensures fault { fault_of self.new.fault ≡ fault_nowhere (LimitReached Bytes) }
         ensures held { result ≡ Fault }
         ensures unchanged { event_in self.new ≡ event_in self.old }
@@ -177,7 +177,7 @@ impl EventSlot {
     }
 
     /// The same answer, whose error is held here if it is one.
-    pub fn note<T>(&mut self, answer: Result<T, Error>) -> Result<T, Refused>
+    pub fn keep_error<T>(&mut self, answer: Result<T, Error>) -> Result<T, Refused>
         ensures answer { answer_in result self.new ≡ answer }
         ensures held { IfErr result (λ refused. refused ≡ Fault) }
         ensures unchanged { event_in self.new ≡ event_in self.old }
@@ -193,7 +193,7 @@ impl EventSlot {
         ensures { event_of result ≡ event_in self.now }
     {
         match self.current {
-            CompactEvent::Held => lend(&self.held),
+            CompactEvent::Other => lend(&self.held),
             CompactEvent::Text => Event::String(CowStr::Borrowed(self.text.as_str())),
             CompactEvent::Data => Event::Data(CowSlice::Borrowed(self.data.as_slice())),
             current => current.event(),
@@ -205,7 +205,7 @@ impl EventSlot {
         ensures { event_of result ≡ event_in self.old }
     {
         match self.current {
-            CompactEvent::Held => mem::replace(&mut self.held, Event::EndCollection),
+            CompactEvent::Other => mem::replace(&mut self.held, Event::EndCollection),
             CompactEvent::Text => {
                 let text = mem::replace(&mut self.text, String::new(alloc));
                 Event::String(CowStr::Owned(text))
@@ -223,7 +223,7 @@ impl EventSlot {
         ensures { event_in self.new ≡ event_of event.entry }
     {
         self.held = event;
-        self.current = CompactEvent::Held;
+        self.current = CompactEvent::Other;
     }
 
     /// Sets this event.
@@ -308,7 +308,7 @@ impl EventSlot {
             CompactEvent::Boolean(_) | CompactEvent::Unsigned(_) | CompactEvent::Uid(_) => true,
             CompactEvent::Text => self.text.as_str().len() <= 8,
             CompactEvent::Data => self.data.len() <= 8,
-            CompactEvent::Held => is_small(&self.held),
+            CompactEvent::Other => is_small(&self.held),
             CompactEvent::Array(_) | CompactEvent::Dictionary(_) | CompactEvent::End => false,
         }
     }
@@ -325,7 +325,7 @@ impl EventSlot {
             CompactEvent::Unsigned(number) => Some((3, number)),
             CompactEvent::Uid(number) => Some((7, number)),
             CompactEvent::Array(_) | CompactEvent::Dictionary(_) | CompactEvent::End => None,
-            CompactEvent::Held => pack(&self.held),
+            CompactEvent::Other => pack(&self.held),
             CompactEvent::Text => pack_text(self.text.as_str()),
             CompactEvent::Data => pack_bytes(8, self.data.as_slice()),
         }

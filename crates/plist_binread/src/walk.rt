@@ -2,17 +2,17 @@
 
 ghost use Rattle.std.specs.Prelude.{◌≡◌, ◌<◌, length, reverse, true};
 ghost use Rattle.std.proofs.Props.{props};
-ghost use Rattle.plist_binread.specs.declared.walk.Turn.TheVariants.{Closed};
+ghost use Rattle.plist_binread.specs.declared.walk.NextChild.TheVariants.{Closed};
 ghost use Rattle.plist_binread.specs.Remaining.{IsOpen};
 ghost use Rattle.plist_binread.specs.Turns.{IsTurnWithin, closes};
 
 use crate::frames::{Frames, Upcoming};
-use crate::packed::unmark;
+use crate::packed::unmark_open;
 use std::alloc::Global;
 
 /// What the innermost collection asks for.
 #[derive(Clone, Copy)]
-pub enum Turn {
+pub enum NextChild {
     /// Nothing is open.
     Done,
     /// It had no more children and was closed.
@@ -35,7 +35,7 @@ pub struct Walk {
 }
 
 impl Walk {
-    ghost use Rattle.plist_binread.specs.Step.{LightensBy, TurnsWalk};
+    ghost use Rattle.plist_binread.specs.Step.{FallsBy, TurnsWalk};
     ghost use Rattle.plist_binread.specs.Walking.{IsEmptyWalk, cached_in, walk_objects, open_in};
 
     /// No object is held.
@@ -50,7 +50,7 @@ impl Walk {
     }
 
     /// Takes the next child of the innermost collection, or closes it where it has no more.
-    pub fn turn(&mut self) -> Turn
+    pub fn next_child(&mut self) -> NextChild
         // The answer.
         ensures remaining { TurnsWalk self.old result self.new }
         ensures within { IsTurnWithin self.new.tags.items result }
@@ -58,16 +58,16 @@ impl Walk {
         // The state after it.
         ensures size { walk_objects self.new ≡ walk_objects self.old }
         ensures counted { cached_in self.new ≡ cached_in self.old }
-        ensures weight { LightensBy self.old result self.new }
+        ensures weight { FallsBy self.old result self.new }
         ensures contents { self.new.contents.items ≡ self.old.contents.items }
     {
-        match self.frames.turn() {
-            Upcoming::Nothing => Turn::Done,
+        match self.frames.next_child() {
+            Upcoming::Nothing => NextChild::Done,
             Upcoming::End(object) => {
-                unmark(&mut self.tags, object as usize);
-                Turn::Closed
+                unmark_open(&mut self.tags, object as usize);
+                NextChild::Closed
             }
-            Upcoming::Child(object, index) => Turn::Child(object, index),
+            Upcoming::Child(object, index) => NextChild::Child(object, index),
         }
     }
 }

@@ -7,8 +7,8 @@ use Rattle.plist_base.specs.Trees.{Scalar, Tree, Leaf, Array, Dictionary, Trees,
 use Rattle.plist_format.specs.Object as obj
 use Rattle.plist_format.specs.Object.{Object}
 use Rattle.plist_binwrite.specs.Classes.{AreClasses}
-use Rattle.plist_binwrite.specs.EventTable.{num_of, Describes}
-use Rattle.plist_binwrite.specs.Numberings.{refs, pairs, obj_of}
+use Rattle.plist_binwrite.specs.EventTable.{nth_number, Describes}
+use Rattle.plist_binwrite.specs.Numberings.{references, pairs, object_of}
 use Rattle.plist_binwrite.specs.declared.plan.Plan.{Plan}
 use Rattle.plist_binwrite.specs.inner.Planning.{IsPlanned, GoesBy, numbers_of, firsts_of, count_of}
 use Rattle.plist_binwrite.proofs.TreeObjects.{occurs_at}
@@ -39,7 +39,7 @@ module _ {es : List PlainEvent} {class : ℕ → ℕ} (c : AreClasses es class) 
       -- indices of one class have one tree, and one object by the numbers, too
       pub one_object : (t u : Tree) (p q : ℕ) → OccursAt es t p → OccursAt es u q
           → class p ≡ class q
-          → (t ≡ u) × (obj_of num t p ≡ obj_of num u q)
+          → (t ≡ u) × (object_of num t p ≡ object_of num u q)
       one_object (Leaf x) (Leaf y) p q s r e =
           let k = c.object (Leaf x) (Leaf y) p q s r e in (ap Leaf (the_scalar x y k), k)
       one_object (Array ts) (Array us) p q s r e =
@@ -53,7 +53,8 @@ module _ {es : List PlainEvent} {class : ℕ → ℕ} (c : AreClasses es class) 
       one_object t u p q s r e = let k = c.object t u p q s r e in cc
 
       one_items : (ts us : Trees) (p q : ℕ) → ItemsOccurAt es ts p → ItemsOccurAt es us q
-          → refs class ts p ≡ refs class us q → (ts ≡ us) × (refs num ts p ≡ refs num us q)
+          → references class ts p ≡ references class us q → (ts ≡ us)
+          × (references num ts p ≡ references num us q)
       one_items NoTrees NoTrees p q s r e = (refl, refl)
       one_items NoTrees (TreeAnd u us) p q s r e = cc
       one_items (TreeAnd t ts) NoTrees p q s r e = cc
@@ -90,13 +91,13 @@ module _ {es : List PlainEvent} {class : ℕ → ℕ} (c : AreClasses es class) 
 -- what a plan says of the numbers: the objects, and the sizes of their trees
 pub record Numbered (es : List PlainEvent) (numbers : List ℕ) : Type 0 where
   pub rank : ℕ → ℕ
-  pub ranked : (t : Tree) (p : ℕ) → OccursAt es t p → rank (num_of numbers p) ≡ size t
+  pub ranked : (t : Tree) (p : ℕ) → OccursAt es t p → rank (nth_number numbers p) ≡ size t
   pub objects : ℕ → Object
   pub describes : Describes es numbers objects
 
 module _ {es : List PlainEvent} {plan : Plan} (planned : IsPlanned es plan) where
   abbrev num : ℕ → ℕ
-  num p = num_of (numbers_of plan) p
+  num p = nth_number (numbers_of plan) p
 
   abbrev first : ℕ → ℕ
   first k = get_or (firsts_of plan) k 0
@@ -125,12 +126,12 @@ module _ {es : List PlainEvent} {plan : Plan} (planned : IsPlanned es plan) wher
 
   -- the object of a number, and its rank
   made_of : (k : ℕ) → (k < count_of plan) ⊎ (count_of plan ≤ k) → Object × ℕ
-  made_of k (inl h) = let u = (tree_of k h).0 in (obj_of num u (first k), size u)
+  made_of k (inl h) = let u = (tree_of k h).0 in (object_of num u (first k), size u)
   made_of k (inr h) = (obj.Array [], 0)
 
   made_is : (t : Tree) (p : ℕ) → OccursAt es t p
       → (d : (num p < count_of plan) ⊎ (count_of plan ≤ num p))
-      → made_of (num p) d ≡ (obj_of num t p, size t)
+      → made_of (num p) d ≡ (object_of num t p, size t)
   unfolding made_of
   made_is t p s (inl h) =
       let f = tree_of (num p) h in

@@ -14,10 +14,10 @@ use Rattle.plist_base.specs.Events.{PlainEvent, EndCollection, Single}
 use Rattle.plist_base.specs.Trees.{Scalar, Tree}
 use Rattle.plist_binwrite.specs.declared.entries.EventEntry.{EventEntry}
 use Rattle.plist_binwrite.specs.declared.entries.EventEntry.TheVariants as entry
-use Rattle.plist_binwrite.specs.EventTable.{event_at, held_kind}
+use Rattle.plist_binwrite.specs.EventTable.{event_at, entry_kind_of}
 use Rattle.plist_binwrite.specs.Occurrences.{size, OccursAt}
 use Rattle.plist_binwrite.specs.inner.Columns.{kind_in, scalar_named}
-use Rattle.plist_binwrite.specs.inner.Entries.{AreApart, is_leaf, entry_at, shown, all_shown, is_sound, is_start, behind_of, behind_at, closed_at, ended_at, names, IsTold, IsKept}
+use Rattle.plist_binwrite.specs.inner.Entries.{AreApart, is_leaf, entry_at, shown, all_shown, is_sound, is_start, behind_of, behind_at, closed_at, ended_at, names, AreEntriesOf, IsKept}
 use Rattle.plist_binwrite.specs.inner.Opening.{open_behind, open_after, skip_behind, skip_after, without_innermost}
 use Rattle.plist_binwrite.proofs.Changes.{at_set, at_more}
 use Rattle.plist_binwrite.proofs.Columns.{unnamed}
@@ -82,7 +82,7 @@ module _ (old more : List PlainEvent) where
 
 -- ---- one more event
 
-pub told_none : IsTold [] [] []
+pub told_none : AreEntriesOf [] [] []
 told_none = record {
   sound = λ p lt. absurd (omega (arith, lt));
   starts = refl;
@@ -98,7 +98,7 @@ kept_none scalars es begun p q r = rw (p, q, r) (record {
 })
 
 module _ {scalars : List PlainEvent} {es : List EventEntry} {begun : List ℕ}
-    (t : IsTold scalars es begun) where
+    (t : AreEntriesOf scalars es begun) where
   abbrev events : List PlainEvent
   events = all_shown scalars es
 
@@ -116,7 +116,7 @@ module _ {scalars : List PlainEvent} {es : List EventEntry} {begun : List ℕ}
       → reverse after ≡ open_behind e (length es) (open_after events)
       → ((p : ℕ) → p < length es
       → behind_at now p ≡ skip_behind e (length es) (open_after events) p (behind_at es p))
-      → behind_at now (length es) ≡ length es + 1 → IsTold scalars now after
+      → behind_at now (length es) ≡ length es + 1 → AreEntriesOf scalars now after
   told_by now after e is sound starts before last =
       let more : length now ≡ length es + 1 = omega (
         arith,
@@ -148,7 +148,7 @@ module _ {scalars : List PlainEvent} {es : List EventEntry} {begun : List ℕ}
       → behind_of (length es) e ≡ length es + 1
       → reverse after ≡ open_behind (shown scalars e) (length es) (open_after events)
       → ((p k : ℕ) → skip_behind (shown scalars e) (length es) (open_after events) p k ≡ k)
-      → IsTold scalars (es ++ e ∷ []) after
+      → AreEntriesOf scalars (es ++ e ∷ []) after
   told_more e after one behind starts same =
       told_by (es ++ e ∷ []) after (shown scalars e) (shown_more scalars es e)
       (λ p lt. at_more es e entry.End p (λ d. is_sound scalars d ≡ true) lt (λ d. one) (t.sound p))
@@ -157,26 +157,26 @@ module _ {scalars : List PlainEvent} {es : List EventEntry} {begun : List ℕ}
       (ap (behind_of (length es)) (entry_last es e) ∙ behind)
 
   told_scalar : (i : ℕ) → is_leaf (event_at scalars i) ≡ true
-      → IsTold scalars (es ++ entry.Scalar i ∷ []) begun
+      → AreEntriesOf scalars (es ++ entry.Scalar i ∷ []) begun
   told_scalar i leaf =
       let f = leaf_is (event_at scalars i) leaf in
       told_more (entry.Scalar i) begun leaf refl (rw f.1 t.starts) (λ p k. rw f.1 refl)
 
   told_start : (e : EventEntry) → is_start e ≡ true → behind_of (length es) e ≡ length es + 1
-      → IsTold scalars (es ++ e ∷ []) (begun ++ length es ∷ [])
+      → AreEntriesOf scalars (es ++ e ∷ []) (begun ++ length es ∷ [])
   told_start e starts behind = by e starts behind
     where
       opens : reverse (begun ++ length es ∷ []) ≡ length es ∷ open_after events
       opens = cc (reverse-append begun (length es ∷ []))
 
       by : (e : EventEntry) → is_start e ≡ true → behind_of (length es) e ≡ length es + 1
-          → IsTold scalars (es ++ e ∷ []) (begun ++ length es ∷ [])
+          → AreEntriesOf scalars (es ++ e ∷ []) (begun ++ length es ∷ [])
       by (entry.Array k) s b = told_more (entry.Array k) _ refl b opens (λ p k. refl)
       by (entry.Dictionary k) s b = told_more (entry.Dictionary k) _ refl b opens (λ p k. refl)
       by e s b = cc
 
   -- an end where nothing is begun
-  told_stray : begun ≡ [] → IsTold scalars (es ++ entry.End ∷ []) []
+  told_stray : begun ≡ [] → AreEntriesOf scalars (es ++ entry.End ∷ []) []
   told_stray none =
       let nothing : open_after events ≡ [] = sym t.starts ∙ ap reverse none in
       told_more entry.End [] refl refl (sym (ap without_innermost nothing))
@@ -245,7 +245,7 @@ module _ {scalars : List PlainEvent} {es : List EventEntry} {begun : List ℕ}
         ≡ false = rw f.1 refl in cc
     closing_behind entry.End n h s = cc
 
-    told_end : IsTold scalars (ended_at es start) outer
+    told_end : AreEntriesOf scalars (ended_at es start) outer
     told_end =
         told_by (ended_at es start) outer EndCollection end_shown
         (λ p lt. at_set ended start closing entry.End p (λ d. is_sound scalars d ≡ true) within
@@ -354,13 +354,14 @@ module _ {scalars : List PlainEvent} {es : List EventEntry} {begun : List ℕ}
     there = shown_at kept.told _ lt
 
     kind_shown : (e : EventEntry) → is_sound scalars e ≡ true
-        → held_kind (shown scalars e) ≡ kind_in e
+        → entry_kind_of (shown scalars e) ≡ kind_in e
     kind_shown (entry.Scalar i) h = let f = leaf_is _ h in rw f.1 refl
     kind_shown e h = refl
 
-    pub kind_held : kind_in (entry_at es index) ≡ held_kind (event_at (all_shown scalars es) index)
+    pub kind_held : kind_in (entry_at es index)
+        ≡ entry_kind_of (event_at (all_shown scalars es) index)
     kind_held =
-        sym (ap held_kind there ∙ kind_shown _ (kept.told.sound _ lt))
+        sym (ap entry_kind_of there ∙ kind_shown _ (kept.told.sound _ lt))
 
     pub no_scalar : scalar_named (entry_at es index) ≡ None
         → is_leaf (event_at (all_shown scalars es) index) ≡ false

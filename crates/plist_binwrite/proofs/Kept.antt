@@ -10,7 +10,7 @@ use Rattle.plist_base.specs.Trees.{Tree}
 use Rattle.plist_format.specs.Object.{Object}
 use Rattle.plist_binwrite.specs.Classes.{same_class, kept, count_by, objects_by}
 use Rattle.plist_binwrite.specs.Forms.{form}
-use Rattle.plist_binwrite.specs.EventTable.{num_of, Describes}
+use Rattle.plist_binwrite.specs.EventTable.{nth_number, Describes}
 use Rattle.plist_binwrite.specs.declared.plan.Plan.{Plan}
 use Rattle.plist_binwrite.specs.inner.Laying.{AllOnce}
 use Rattle.plist_binwrite.specs.inner.Planning.{IsPlanned, GoesBy, numbers_of, firsts_of, count_of}
@@ -33,7 +33,7 @@ module _ {es : List PlainEvent} {plan : Plan} (planned : IsPlanned es plan) {cla
   stand = positions_stand es _ 0 (occurs_whole e)
 
   abbrev number : ℕ × Tree → ℕ
-  number one = num_of (numbers_of plan) one.0
+  number one = nth_number (numbers_of plan) one.0
 
   abbrev given : List ℕ
   given = map number (positions whole 0)
@@ -48,7 +48,7 @@ module _ {es : List PlainEvent} {plan : Plan} (planned : IsPlanned es plan) {cla
       (λ one s. number_below planned one.1 one.0 s) (positions whole 0) stand)
       (sym (unique_member eqb eqb_tells given q) ∙ h))
       (λ q h. let f = goes.known q h in
-      let m = positions_all es (λ p. is_member eqb given (num_of (numbers_of plan) p)
+      let m = positions_all es (λ p. is_member eqb given (nth_number (numbers_of plan) p)
       ≡ true) whole e
       (members_self number (positions whole 0))
       (get_or (firsts_of plan) q 0) f.0 f.2 in
@@ -88,5 +88,5 @@ module _ {es : List PlainEvent} {plan : Plan} (planned : IsPlanned es plan) {cla
       (all_from (λ one. length (form w (objects (number one)))
       ≡ object_size w one.1) (Stands es)
       (λ one s. ap (λ o. length (form w o)) (describes one.1 one.0 s)
-      ∙ form_size w (num_of (numbers_of plan)) one.1 one.0)
+      ∙ form_size w (nth_number (numbers_of plan)) one.1 one.0)
       (kept class whole) (all_unique (Stands es) (same_class class) (positions whole 0) stand))

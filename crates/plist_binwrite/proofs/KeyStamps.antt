@@ -10,7 +10,7 @@ use Rattle.plist_base.specs.Bracketing.{lengthless}
 use Rattle.plist_base.specs.Events.{PlainEvent, EndCollection, Single}
 use Rattle.plist_base.specs.Trees.{String, Tree, Leaf, Array, Dictionary, Trees, NoTrees, TreeAnd, Members, NoMembers, MemberAnd}
 use Rattle.plist_binwrite.specs.declared.kinds.EntryKind.TheVariants as kind
-use Rattle.plist_binwrite.specs.EventTable.{AllBelow, EndsTree, LacksItem, event_at, is_stop, held_kind}
+use Rattle.plist_binwrite.specs.EventTable.{AllBelow, EndsTree, LacksItem, event_at, is_end, entry_kind_of}
 use Rattle.plist_binwrite.specs.inner.Entries.{AreApart, is_leaf}
 use Rattle.plist_binwrite.specs.Keys.{Lacks, HasDistinctKeys, HasKeysOnce, ItemsHaveKeysOnce, ValuesHaveKeysOnce}
 use Rattle.plist_binwrite.specs.Occurrences.{size, OccursAt, ItemsOccurAt, PairsOccurAt, positions, positions_in_items, positions_in_pairs}
@@ -69,14 +69,14 @@ module _ {scalars : List PlainEvent} {mark : ℕ} {es : List PlainEvent} {stamps
       key_is f = stands_single f.named
 
       -- each key is a scalar
-      pub walked_leaf : {A : Type 0} → is_stop (event_at es q) ≡ false
+      pub walked_leaf : {A : Type 0} → is_end (event_at es q) ≡ false
           → is_leaf (event_at es q) ≡ false → A
       walked_leaf h leaf = cc (ap is_leaf (key_is (pairs_first w h)))
 
       module _ (s : ℕ) (apart : AreApart scalars) (here : slice_get scalars s ≡ Some (event_at es q))
         where
           -- a key that has the stamp stood there before
-          pub walked_repeats : is_stop (event_at es q) ≡ false → get_or stamps s 0 ≡ mark
+          pub walked_repeats : is_end (event_at es q) ≡ false → get_or stamps s 0 ≡ mark
               → HasDistinctKeys all → ⊥
           walked_repeats h is d =
               let f = pairs_first w h in
@@ -84,7 +84,7 @@ module _ {scalars : List PlainEvent} {mark : ℕ} {es : List PlainEvent} {stamps
 
           -- a key that hasn't gets it
           pub walked_next : (next : ℕ) → get_or stamps s 0 ≢ mark → s < length stamps
-              → is_stop (event_at es q) ≡ false
+              → is_end (event_at es q) ≡ false
               → EndsTree es (q + 1) next
               → Left PairsOccurAt es (Tells scalars mark (set stamps s mark) all) next
           walked_next next other within h skip =
@@ -127,7 +127,7 @@ abbrev IfDictionary : Tree → Type 0
 IfDictionary (Dictionary ms) = HasDistinctKeys ms
 IfDictionary t = Unit {0}
 
-goes_on : (e : PlainEvent) → held_kind e ≡ kind.Dictionary → is_stop e ≡ false
+goes_on : (e : PlainEvent) → entry_kind_of e ≡ kind.Dictionary → is_end e ≡ false
 goes_on EndCollection k = cc
 goes_on e k = refl
 
@@ -191,7 +191,7 @@ module _ (es : List PlainEvent) where
 
   -- one dictionary whose keys aren't different
   pub one_repeats : (t : Tree) (p : ℕ) → es ≡ lengthless t → p < length es
-      → held_kind (event_at es p) ≡ kind.Dictionary
+      → entry_kind_of (event_at es p) ≡ kind.Dictionary
       → ((ms : Members) → OccursAt es (Dictionary ms) p → HasDistinctKeys ms → ⊥)
       → HasKeysOnce t → ⊥
   one_repeats t p is lt begin never once =
@@ -200,6 +200,6 @@ module _ (es : List PlainEvent) where
       by f.0 f.1 f.2
     where
       by : (u : Tree) → OccursAt es u p → IfDictionary u → ⊥
-      by (Leaf x) s o = cc (ap held_kind (stands_single s))
-      by (Array ts) s o = cc (ap held_kind (starts_array s))
+      by (Leaf x) s o = cc (ap entry_kind_of (stands_single s))
+      by (Array ts) s o = cc (ap entry_kind_of (starts_array s))
       by (Dictionary ms) s o = never ms s o

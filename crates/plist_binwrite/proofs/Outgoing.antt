@@ -7,13 +7,13 @@ use Rattle.std.specs.Io.KnownBytes.{Appends}
 use Rattle.std.proofs.KnownBytes.{Appends-trans, Appends-nil}
 use Rattle.plist_base.specs.Faults.{Fault, Io, fault_nowhere}
 use Rattle.plist_base.specs.Writing.{Answer}
-use Rattle.plist_base.specs.Fronts.{AppendsFront}
+use Rattle.plist_base.specs.Prefixes.{AppendsPrefix}
 use Rattle.plist_binwrite.specs.Forms.{table_form}
-use Rattle.plist_binwrite.specs.Outlets.{IsOut, PutsBytes, buffer_size}
+use Rattle.plist_binwrite.specs.OutputBuffer.{IsSplit, PutsBytes, buffer_size}
 
 -- a beginning of some bytes is one of more
-pub front_more : (a b : Option (List ℕ)) (xs ys : List ℕ) → AppendsFront a b xs
-    → AppendsFront a b (xs ++ ys)
+pub front_more : (a b : Option (List ℕ)) (xs ys : List ℕ) → AppendsPrefix a b xs
+    → AppendsPrefix a b (xs ++ ys)
 front_more a b xs ys f = (f.0, f.1 ++ ys, f.2, cc (append_assoc f.0 f.1 ys))
 
 -- nothing yet
@@ -89,8 +89,8 @@ puts_out a b held xs h = record {
 }
 
 -- a beginning of what waited goes out
-pub out_front : (first a b : Option (List ℕ)) (held done : List ℕ) → AppendsFront a b held
-    → IsOut first a held done → AppendsFront first b done
+pub out_front : (first a b : Option (List ℕ)) (held done : List ℕ) → AppendsPrefix a b held
+    → IsSplit first a held done → AppendsPrefix first b done
 out_front first a b held done f out = (
   out.sent ++ f.0,
   f.1,
@@ -100,7 +100,7 @@ out_front first a b held done f out = (
 
 -- or of it and the bytes
 pub puts_broken : (a b : Option (List ℕ)) (held xs h : List ℕ) (fault : Fault)
-    → fault ≡ fault_nowhere Io → AppendsFront a b (held ++ xs)
+    → fault ≡ fault_nowhere Io → AppendsPrefix a b (held ++ xs)
     → (length held ≤ buffer_size → length h ≤ buffer_size) → PutsBytes a held xs (Err fault) b h
 puts_broken a b held xs h fault io f waits = record {
   follow = (
@@ -135,13 +135,13 @@ module _ (f : ℕ → List ℕ) (xs : List ℕ) (i : ℕ) (lt : i < length xs) w
 -- ---- the end
 
 -- an empty room, and then the bytes
-is_out : (a : Option (List ℕ)) → IsOut a a [] []
+is_out : (a : Option (List ℕ)) → IsSplit a a [] []
 is_out a = record { sent = []; went = Appends-nil a; is = refl }
 
 pub from_empty : {a b : Option (List ℕ)} {held bytes k : List ℕ} → held ≡ []
-    → PutsBytes a held bytes (Ok tt) b k → IsOut a b k bytes
+    → PutsBytes a held bytes (Ok tt) b k → IsSplit a b k bytes
 from_empty {a} e p = p.follow a [] (rw e (is_out a))
 
 pub from_empty_front : {a b : Option (List ℕ)} {held bytes k : List ℕ} {fault : Fault} → held ≡ []
-    → PutsBytes a held bytes (Err fault) b k → AppendsFront a b bytes
+    → PutsBytes a held bytes (Err fault) b k → AppendsPrefix a b bytes
 from_empty_front {a} e p = p.follow.1 a [] (rw e (is_out a))

@@ -10,7 +10,7 @@ use Rattle.plist_base.specs.Events.{PlainEvent, EndCollection}
 use Rattle.plist_base.specs.Trees.{Scalar, Tree, Leaf, Array, Dictionary, Trees, NoTrees, TreeAnd, Members, NoMembers, MemberAnd}
 use Rattle.plist_binwrite.specs.Classes.{AreClasses, same_class, kept, count_by, objects_by, size_by}
 use Rattle.plist_binwrite.specs.ObjectCounts.{scalar_eq, collected, texts, collections_in, scalars_in, object_count}
-use Rattle.plist_binwrite.specs.Numberings.{obj_of}
+use Rattle.plist_binwrite.specs.Numberings.{object_of}
 use Rattle.plist_binwrite.specs.inner.Scalars.{Owner, shared, alone, own, owner, AreOwners}
 use Rattle.plist_binwrite.specs.Sizes.{total, object_size, size_with, file_size}
 use Rattle.plist_binwrite.specs.Occurrences.{size, OccursAt, positions, positions_in_items, positions_in_pairs}
@@ -36,13 +36,13 @@ owner_is (Dictionary ms) p s = ap (λ e. own e p) (starts_dictionary s)
 -- trees of one owner have one object
 same_owner : {es : List PlainEvent} (num : ℕ → ℕ) (u v : Tree) (p q : ℕ)
     → own_tree v q ≡ own_tree u p → OccursAt es u p → OccursAt es v q
-    → obj_of num v q ≡ obj_of num u p
+    → object_of num v q ≡ object_of num u p
 same_owner num (Leaf x) (Leaf y) p q e s r = cc
 same_owner num (Leaf x) v p q e s r = cc
 same_owner num u (Leaf y) p q e s r = cc
 same_owner {es} num u v p q e s r =
     let k : q ≡ p = cc in
-    let t = one_tree v u p (rw (← k) r) s in λ i. obj_of num (t i) (k i)
+    let t = one_tree v u p (rw (← k) r) s in λ i. object_of num (t i) (k i)
 
 module _ {es : List PlainEvent} {class : ℕ → ℕ} {count : ℕ} (o : AreOwners es class count) where
   pub class_owner : (t u : Tree) (p q : ℕ) → OccursAt es t p → OccursAt es u q → class p ≡ class q

@@ -4,30 +4,30 @@ use Rattle.std.specs.Prelude.{slice_get}
 use Rattle.std.proofs.lemmas.Option.{slice_get_within}
 use Rattle.plist_base.specs.Events.{Single, PlainEvent}
 use Rattle.plist_base.specs.Trees.{Scalar}
-use Rattle.plist_binwrite.specs.EventTable.{event_at, num_of}
+use Rattle.plist_binwrite.specs.EventTable.{event_at, nth_number}
 use Rattle.plist_binwrite.specs.inner.Scalars.{owner, own, shared, alone, AreApart, HaveClasses, AreOwners, is_leaf}
 use Rattle.plist_binwrite.proofs.Changes.{at_set}
 
 -- ---- one more event gets its class
 
 module _ {es scalars : List PlainEvent} {top index : ℕ} (cs : List ℕ) (v : ℕ)
-    (lt : index < length cs) (have : HaveClasses es (num_of cs) scalars top index) where
-  at_write : (q : ℕ) → (P : ℕ → Type 0) → (q ≡ index → P v) → (q ≢ index → P (num_of cs q))
-      → P (num_of (set cs index v) q)
+    (lt : index < length cs) (have : HaveClasses es (nth_number cs) scalars top index) where
+  at_write : (q : ℕ) → (P : ℕ → Type 0) → (q ≡ index → P v) → (q ≢ index → P (nth_number cs q))
+      → P (nth_number (set cs index v) q)
   at_write q P same other = at_set cs _ v 0 q P lt same other
 
   -- a scalar's is its index among the different ones, and another event's is new
   pub one_more : (new : ℕ) → top ≤ new
       → ((x : Scalar) → event_at es index ≡ Single x → slice_get scalars v ≡ Some (Single x))
       → (is_leaf (event_at es index) ≡ false → (top ≤ v) × (v < new) × (length scalars ≤ v))
-      → HaveClasses es (num_of (set cs index v)) scalars new (index + 1)
+      → HaveClasses es (nth_number (set cs index v)) scalars new (index + 1)
   one_more new more scalar other = record {
     scalars = λ p l x s. at_write p (λ w. slice_get scalars w ≡ Some (Single x))
         (λ i. scalar x (rw i at s)) (λ d. have.scalars p (omega (arith, l, d)) x s);
     others = λ p l n. at_write p (λ w. (length scalars ≤ w) × (w < new))
         (λ i. let o = other (rw i at n) in (o.2, o.1))
         (λ d. let h = have.others p (omega (arith, l, d)) n in (h.0, omega (arith, h.1)));
-    apart = λ p q l m n o. at_write p (λ w. w ≡ num_of (set cs index v) q → p ≡ q)
+    apart = λ p q l m n o. at_write p (λ w. w ≡ nth_number (set cs index v) q → p ≡ q)
         (λ i. at_write q (λ w. v ≡ w → p ≡ q) (λ j h. i ∙ sym j)
         (λ f h. absurd (omega (
           arith,
@@ -35,7 +35,7 @@ module _ {es scalars : List PlainEvent} {top index : ℕ} (cs : List ℕ) (v : �
           (other (rw i at n)).0,
           (have.others q (omega (arith, m, f)) o).1,
         ))))
-        (λ d. at_write q (λ w. num_of cs p ≡ w → p ≡ q)
+        (λ d. at_write q (λ w. nth_number cs p ≡ w → p ≡ q)
         (λ j h. absurd (omega (
           arith,
           h,

@@ -4,7 +4,7 @@ use Rattle.plist_base.specs.Events.{PlainEvent, EndCollection}
 use Rattle.plist_base.specs.Trees as trees
 use Rattle.plist_base.specs.Trees.{Tree, Leaf, Trees, NoTrees, TreeAnd, Members, NoMembers, MemberAnd}
 use Rattle.plist_binwrite.specs.Occurrences.{size, OccursAt, ItemsOccurAt, PairsOccurAt}
-use Rattle.plist_binwrite.specs.EventTable.{is_stop, event_at, half_at, EndsTree, LacksItem}
+use Rattle.plist_binwrite.specs.EventTable.{is_end, event_at, half_at, EndsTree, LacksItem}
 use Rattle.plist_binwrite.proofs.Sitting.{occurs_item, occurs_next, occurs_key, occurs_value, occurs_next_pair}
 use Rattle.plist_binwrite.proofs.Skipping.{first_event, begins, occurs_in}
 
@@ -43,13 +43,13 @@ module _ {es : List PlainEvent} {Goes : Trees → ℕ → Type 0} {q : ℕ}
     (i : Left ItemsOccurAt es Goes q)
   where
     -- where no end stands, the walk goes on
-    pub items_first : is_stop (event_at es q) ≡ false
+    pub items_first : is_end (event_at es q) ≡ false
         → First ItemsOccurAt es (λ t ts. Goes (TreeAnd t ts) q) q
     items_first h = by i.left i.occurs i.goes
       where
         by : (ts : Trees) → ItemsOccurAt es ts q → Goes ts q
             → First ItemsOccurAt es (λ t ts. Goes (TreeAnd t ts) q) q
-        by NoTrees s g = cc (ap is_stop (first_event es q EndCollection s.rest s.is))
+        by NoTrees s g = cc (ap is_end (first_event es q EndCollection s.rest s.is))
         by (TreeAnd t ts) s g =
             record { tree = t; rest = ts; here = occurs_item s; occurs = occurs_next s; goes = g }
 
@@ -73,11 +73,11 @@ pub record FirstPair (es : List PlainEvent) (Goes : Members → ℕ → Type 0) 
 module _ {es : List PlainEvent} {Goes : Members → ℕ → Type 0} {q : ℕ}
     (i : Left PairsOccurAt es Goes q)
   where
-    pub pairs_first : is_stop (event_at es q) ≡ false → FirstPair es Goes q
+    pub pairs_first : is_end (event_at es q) ≡ false → FirstPair es Goes q
     pairs_first h = by i.left i.occurs i.goes
       where
         by : (ms : Members) → PairsOccurAt es ms q → Goes ms q → FirstPair es Goes q
-        by NoMembers s g = cc (ap is_stop (first_event es q EndCollection s.rest s.is))
+        by NoMembers s g = cc (ap is_end (first_event es q EndCollection s.rest s.is))
         by (MemberAnd k t ms) s g =
             let next = occurs_next_pair s in record {
               key = k;
@@ -93,12 +93,12 @@ module _ {es : List PlainEvent} {Goes : Members → ℕ → Type 0} {q : ℕ}
             }
 
     -- a key has its value behind it
-    pub pairs_within : {A : Type 0} → is_stop (event_at es q) ≡ false → length es ≤ q + 1 → A
+    pub pairs_within : {A : Type 0} → is_end (event_at es q) ≡ false → length es ≤ q + 1 → A
     pairs_within h end = absurd (omega (arith, occurs_in (pairs_first h).here, end))
 
     -- no end stands at either
-    pub stands : (b : Bool) → is_stop (event_at es q) ≡ false
-        → is_stop (event_at es (half_at b q)) ≡ false
+    pub stands : (b : Bool) → is_end (event_at es q) ≡ false
+        → is_end (event_at es (half_at b q)) ≡ false
     stands true h = begins _ (q + 1) (pairs_first h).here
     stands false h = h
 

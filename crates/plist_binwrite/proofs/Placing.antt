@@ -15,18 +15,18 @@ use Rattle.plist_binwrite.specs.inner.Laying.{IsOrder, KeepsMarks, laid_out, All
 use Rattle.std.proofs.lemmas.List.Folds.{list_any_at}
 use Rattle.plist_base.specs.Events.{PlainEvent}
 use Rattle.plist_base.specs.Trees.{Tree, Leaf, Array, Dictionary}
-use Rattle.plist_binwrite.specs.EventTable.{num_of, Describes}
+use Rattle.plist_binwrite.specs.EventTable.{nth_number, Describes}
 use Rattle.plist_binwrite.specs.declared.plan.Plan.{Plan}
 use Rattle.plist_binwrite.specs.inner.Planning.{IsPlanned, numbers_of, firsts_of, count_of}
 use Rattle.plist_binwrite.specs.Occurrences.{OccursAt}
-use Rattle.plist_binwrite.specs.Numberings.{obj_of}
+use Rattle.plist_binwrite.specs.Numberings.{object_of}
 use Rattle.plist_binwrite.specs.Sizes.{total, IsSizeOrNone, object_size}
 use Rattle.plist_binwrite.proofs.Outgoing.{one_part}
 use Rattle.plist_binwrite.proofs.TreeObjects.{occurs_at}
 use Rattle.plist_binwrite.proofs.Reading.{length-keys_of, length-values_of}
 use Rattle.plist_binwrite.proofs.ReadingNumbers.{length-table}
 use Rattle.plist_binwrite.proofs.Totals.{total_below, total_all}
-use Rattle.plist_binwrite.proofs.Unfold.{length-refs, length-pairs}
+use Rattle.plist_binwrite.proofs.Unfold.{length-references, length-pairs}
 
 pub length-magic : (xs : List ℕ) → length (magic ++ xs) ≡ 8 + length xs
 length-magic xs = length-append magic xs
@@ -205,9 +205,9 @@ total_bodies w objects order count all =
 
 -- an object's form has its size
 pub form_size : (w : ℕ) (num : ℕ → ℕ) (t : Tree) (p : ℕ)
-    → length (form w (obj_of num t p)) ≡ object_size w t
+    → length (form w (object_of num t p)) ≡ object_size w t
 form_size w num (Leaf x) p = refl
-form_size w num (Array ts) p = simp (length-append, length-table, length-refs)
+form_size w num (Array ts) p = simp (length-append, length-table, length-references)
 form_size w num (Dictionary ms) p =
     simp (length-append, length-table, length-keys_of, length-values_of, length-pairs)
 
@@ -271,25 +271,25 @@ module _ {es : List PlainEvent} {plan : Plan} (planned : IsPlanned es plan) (obj
     (k first : ℕ) (e : first ≡ get_or (firsts_of plan) k 0) (h : k < count_of plan)
     (describes : Describes es (numbers_of plan) objects) where
   pub described : (u : Tree) × OccursAt es u first
-      × (objects k ≡ obj_of (num_of (numbers_of plan)) u first)
+      × (objects k ≡ object_of (nth_number (numbers_of plan)) u first)
   described =
       let f = planned.numbered.known k h in
       let u = occurs_at es planned.whole _ f.0 f.2 in
       let s = subst (OccursAt es u.0) (sym e) u.1 in (
         u.0,
         s,
-        ap objects (sym (ap (num_of _) e ∙ f.1)) ∙ describes u.0 _ s,
+        ap objects (sym (ap (nth_number _) e ∙ f.1)) ∙ describes u.0 _ s,
       )
 
   pub sized : (w : ℕ) (told : Option ℕ)
       → ((t : Tree) → OccursAt es t first → IsSizeOrNone told (object_size w t))
-      → ((t : Tree) → OccursAt es t first → IsWritable w (obj_of (num_of
+      → ((t : Tree) → OccursAt es t first → IsWritable w (object_of (nth_number
       (numbers_of plan)) t first))
       → IsSizeOrNone told (length (form w (objects k))) × IsWritable w (objects k)
   sized w told size good =
       let d = described in (
         rw (ap (λ v. length (form w v)) d.2
-            ∙ form_size w (num_of (numbers_of plan)) d.0 first) (size d.0 d.1),
+            ∙ form_size w (nth_number (numbers_of plan)) d.0 first) (size d.0 d.1),
         rw d.2 (good d.0 d.1),
       )
 

@@ -4,7 +4,7 @@ use Rattle.std.specs.Int.{byte_at}
 use Rattle.std.proofs.lemmas.Bool.{lt-ltb, le-ltb}
 use Rattle.std.proofs.lemmas.Int.{ints}
 use native.Mathlib.Nat.{div-eq_of_lt}
-use Rattle.plist_binwrite.specs.Forms.{big_endian, doublings, least_width, natural_form, integer_form, length_form}
+use Rattle.plist_binwrite.specs.Forms.{big_endian, doublings, least_width, unsigned_form, integer_form, length_form}
 use Rattle.plist_binwrite.proofs.Widths.{tail_of_digits}
 
 pub length_short : (high count : ℕ) → count < 15 → length_form high count ≡ (high * 16 + count) ∷ []
@@ -12,7 +12,7 @@ unfolding length_form
 length_short high count h = rw (lt-ltb _ 15 h) refl
 
 pub length_long : (high count : ℕ) → 15 ≤ count
-    → length_form high count ≡ (high * 16 + 15) ∷ natural_form count
+    → length_form high count ≡ (high * 16 + 15) ∷ unsigned_form count
 unfolding length_form
 length_long high count h = rw (le-ltb _ 15 h) refl
 
@@ -23,7 +23,7 @@ pub length_told : (high count width doubled : ℕ) (digits : List ℕ) → 15 �
     → (high * 16 + 15) ∷ (0x10 + doubled) ∷ take (8 - (8 - width)) (drop (8 - width) digits)
     ≡ length_form high count
 length_told high count width doubled digits long least h twice is =
-    let told : (0x10 + doubled) ∷ big_endian width count ≡ natural_form count = cc in
+    let told : (0x10 + doubled) ∷ big_endian width count ≡ unsigned_form count = cc in
     cc (tail_of_digits digits width count is h, length_long high count long)
 
 high_zero : (k n : ℕ) → n < 256 ^ k → byte_at k n ≡ 0

@@ -17,7 +17,7 @@ use Rattle.plist_format.proofs.Tables.{length-table_of}
 use Rattle.plist_binwrite.specs.Classes.{IsFileBy, count_by, objects_by, size_by, IsOversized, Fits, SendsBy}
 use Rattle.plist_binwrite.specs.ObjectCounts.{collections_in}
 use Rattle.plist_binwrite.specs.Forms.{form, table_form, AllFit}
-use Rattle.plist_binwrite.specs.EventTable.{num_of, Describes, plain_events}
+use Rattle.plist_binwrite.specs.EventTable.{nth_number, Describes, plain_events}
 use Rattle.plist_binwrite.specs.inner.Laying.{AllOnce, laid_out, closed, IsOrder, HasAll}
 use Rattle.plist_binwrite.specs.inner.Planning.{IsPlanned, GoesBy, numbers_of, count_of}
 use Rattle.plist_binwrite.specs.Occurrences.{positions}
@@ -39,7 +39,7 @@ use Rattle.plist_base.proofs.Grammar.{complete_of_whole}
 use Rattle.plist_binwrite.specs.declared.completion.Draft.{Draft}
 use Rattle.plist_binwrite.specs.declared.completion.Ready.{Ready}
 use Rattle.plist_binwrite.specs.inner.Ending.{numbers_in, file_of, IsDraftOf, IsFitting, IsReady, NeedsNoMemory, SendsReady}
-use Rattle.plist_binwrite.specs.Outlets.{IsOut, Empties, EmptiesInPart}
+use Rattle.plist_binwrite.specs.OutputBuffer.{IsSplit, SendsRest, SendsRestInPart}
 use Rattle.plist_binwrite.specs.inner.Sizing.{ExceedsWith, FitsWith}
 use Rattle.plist_binwrite.specs.Sizes.{IsSizeOrNone, size_with}
 use Rattle.plist_binwrite.specs.SendingAs.{IsFileAs}
@@ -71,7 +71,7 @@ module _ {es : List PlainEvent} {plan : Plan} (planned : IsPlanned es plan) {cla
     file = laid_out w objects order
 
     abbrev num : ℕ → ℕ
-    num = num_of (numbers_of plan)
+    num = nth_number (numbers_of plan)
 
     made : Numbered es (numbers_of plan)
     made = numbered planned
@@ -263,10 +263,11 @@ file_is objects order places table width wide e =
 -- what waits goes out at the end
 pub sends_end : {W : Type 0} (contents : W → Option (List ℕ)) (es : List PlainEvent) (ready : Ready)
     (old middle new : W) (waiting : List ℕ) (answer : Result (Unit {0}) Error)
-    → OnOk answer (Empties contents middle waiting new) → EmptiesInPart contents middle waiting new
+    → OnOk answer (SendsRest contents middle waiting new)
+    → SendsRestInPart contents middle waiting new
     → OnlyDevice answer
     → ((objects : ℕ → Object) → Describes es (numbers_in ready) objects
-    → IsOut (contents old) (contents middle) waiting (file_of ready objects))
+    → IsSplit (contents old) (contents middle) waiting (file_of ready objects))
     → SendsReady contents es ready (answer_of answer) old new
 sends_end contents es ready old middle new waiting (Ok done) sent front failed out =
     λ objects d. sent _ _ (out objects d)

@@ -10,7 +10,7 @@ use Rattle.std.proofs.Math.Nat.{mul-div_cancel}
 use Rattle.plist_base.specs.Trees as trees
 use Rattle.plist_format.specs.Container.{number_of, number_at, numbers_spelled, magic, trailer_in, is_width, head_with, head_of}
 use Rattle.plist_format.specs.Object.{Object, Scalar, Counted, layout_of, length_that_follows, meaning_of_front, object_in, signed, integer_in_range}
-use Rattle.plist_binwrite.specs.Forms.{big_endian, doublings, natural_form, integer_form, uid_form, length_form, IsInteger, AllFit, least_width, table_form, trailer_form}
+use Rattle.plist_binwrite.specs.Forms.{big_endian, doublings, unsigned_form, integer_form, uid_form, length_form, IsInteger, AllFit, least_width, table_form, trailer_form}
 use Rattle.plist_binwrite.proofs.Pushed.{length_short, length_long}
 use Rattle.plist_binwrite.proofs.Widths.{at_width, length-big_endian, number_back}
 use Rattle.plist_binwrite.specs.Written.{reference_width, offset_width}
@@ -49,7 +49,7 @@ number_front f w n rest h =
 -- ---- integers
 
 natural_read : (width n : ℕ) (rest : List ℕ) → n < 2 ^ 63
-    → object_in width (natural_form n ++ rest) ≡ Scalar (trees.Integer (pos n))
+    → object_in width (unsigned_form n ++ rest) ≡ Scalar (trees.Integer (pos n))
 unfolding object_in
 natural_read width n rest h =
     let low = number_front (λ k. Scalar (trees.Integer (pos k))) in
@@ -90,7 +90,7 @@ uid_read width n rest h =
 
 -- a length that follows is read
 follows : (n : ℕ) (rest : List ℕ) → n < 2 ^ 64
-    → length_that_follows (natural_form n ++ rest) ≡ Some (n, rest)
+    → length_that_follows (unsigned_form n ++ rest) ≡ Some (n, rest)
 follows n rest h =
     at_width n (λ w. length_that_follows ((0x10 + doublings w) ∷ big_endian w n ++ rest)
     ≡ Some (n, rest))
@@ -124,7 +124,7 @@ counted {size} {meaning} width high count content rest layout small len =
           ) read
       | inr long ↦
           let m : (high * 16 + 15) % 16 ≡ 15 = omega arith in
-          let behind = ap length_that_follows (append_assoc (natural_form count) content rest)
+          let behind = ap length_that_follows (append_assoc (unsigned_form count) content rest)
           ∙ follows count (content ++ rest) small in
           rw (
             length_long high count long,

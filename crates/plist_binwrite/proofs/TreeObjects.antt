@@ -7,9 +7,9 @@ use Rattle.plist_base.specs.Bracketing.{without_length}
 use Rattle.plist_binwrite.specs.declared.kinds.EntryKind.{EntryKind}
 use Rattle.plist_binwrite.specs.declared.kinds.EntryKind.TheVariants as kind
 use Rattle.plist_binwrite.specs.Occurrences.{size, OccursAt, ItemsOccurAt, PairsOccurAt}
-use Rattle.plist_binwrite.specs.Numberings.{refs, pairs, obj_of}
+use Rattle.plist_binwrite.specs.Numberings.{references, pairs, object_of}
 use Rattle.plist_binwrite.specs.Forms.{big_endian, length_form, units_of, is_ascii_text, text_form, table_form, form, keys_of, values_of, IsWritable, AllFit}
-use Rattle.plist_binwrite.specs.EventTable.{IfScalar, is_stop, held_kind, event_at, item_indices, key_indices, value_indices, num_of, AllNumbered, IsBracketed}
+use Rattle.plist_binwrite.specs.EventTable.{IfScalar, is_end, entry_kind_of, event_at, item_indices, key_indices, value_indices, nth_number, AllNumbered, IsBracketed}
 use Rattle.plist_binwrite.specs.Sizes.{IsSizeOrNone, dictionary_size}
 use Rattle.plist_binwrite.specs.inner.Entries.{is_leaf}
 use Rattle.plist_binwrite.proofs.Sitting.{occurs_whole, occurs_items, occurs_pairs, occurs_item, occurs_next, occurs_key, occurs_value, occurs_next_pair}
@@ -17,7 +17,7 @@ use Rattle.plist_binwrite.proofs.Skipping.{stands_single, starts_array, starts_d
 use Rattle.plist_binwrite.proofs.Inside.{Stands, positions_stand, positions_all}
 use Rattle.plist_binwrite.proofs.ReadingNumbers.{length-table}
 use Rattle.plist_binwrite.proofs.Uniques.{all_from}
-use Rattle.plist_binwrite.proofs.Unfold.{length-refs, length-pairs}
+use Rattle.plist_binwrite.proofs.Unfold.{length-references, length-pairs}
 
 -- the keys and the values of a dictionary are twice its pairs
 twice : (ms : Members) → number_of_trees (as_items ms) ≡ 2 * number_of_members ms
@@ -28,18 +28,19 @@ twice (MemberAnd k t ms) = omega (arith, twice ms)
 
 module _ (es : List PlainEvent) (numbers : List ℕ) (count w : ℕ)
     (all : AllNumbered es numbers count) (wide : count ≤ 256 ^ w) where
-  number_fits : (t : Tree) (p : ℕ) → OccursAt es t p → num_of numbers p < 256 ^ w
+  number_fits : (t : Tree) (p : ℕ) → OccursAt es t p → nth_number numbers p < 256 ^ w
   number_fits t p s =
       omega (arith, all p (occurs_in s) (begins t p s))
 
-  refs_fit : (ts : Trees) (q : ℕ) → ItemsOccurAt es ts q → AllFit w (refs (num_of numbers) ts q)
+  refs_fit : (ts : Trees) (q : ℕ) → ItemsOccurAt es ts q
+      → AllFit w (references (nth_number numbers) ts q)
   refs_fit NoTrees q s = tt
   refs_fit (TreeAnd t ts) q s =
       (number_fits t q (occurs_item s), refs_fit ts _ (occurs_next s))
 
   pairs_fit : (ms : Members) (q : ℕ) → PairsOccurAt es ms q
-      → AllFit w (keys_of (pairs (num_of numbers) ms q))
-      × AllFit w (values_of (pairs (num_of numbers) ms q))
+      → AllFit w (keys_of (pairs (nth_number numbers) ms q))
+      × AllFit w (values_of (pairs (nth_number numbers) ms q))
   pairs_fit NoMembers q s = (tt, tt)
   pairs_fit (MemberAnd k t ms) q s =
       let more = pairs_fit ms _ (occurs_next_pair s) in (
@@ -49,18 +50,18 @@ module _ (es : List PlainEvent) (numbers : List ℕ) (count w : ℕ)
 
   -- a collection whose children are numbered can be written
   pub collection_fits : (t : Tree) (p many : ℕ) → OccursAt es t p
-      → (held_kind (event_at es p) ≡ kind.Scalar → ⊥) → many < 2 ^ 64
+      → (entry_kind_of (event_at es p) ≡ kind.Scalar → ⊥) → many < 2 ^ 64
       → ((ts : Trees) → ItemsOccurAt es ts (p + 1) → many ≡ number_of_trees ts)
-      → IsWritable w (obj_of (num_of numbers) t p)
-  collection_fits (Leaf x) p many s k few h = absurd (k (ap held_kind (stands_single s)))
+      → IsWritable w (object_of (nth_number numbers) t p)
+  collection_fits (Leaf x) p many s k few h = absurd (k (ap entry_kind_of (stands_single s)))
   collection_fits (Array ts) p many s k few h = (
-    omega (arith, few, length-refs (num_of numbers) ts (p + 1), h ts (occurs_items s)),
+    omega (arith, few, length-references (nth_number numbers) ts (p + 1), h ts (occurs_items s)),
     refs_fit ts _ (occurs_items s),
   )
   collection_fits (Dictionary ms) p many s k few h =
       let n = h (as_items ms) (pairs_as_items (occurs_pairs s)) in
-      let small : length (pairs (num_of numbers) ms (p + 1)) < 2 ^ 64
-      = omega (arith, twice ms, length-pairs (num_of numbers) ms (p + 1)) in
+      let small : length (pairs (nth_number numbers) ms (p + 1)) < 2 ^ 64
+      = omega (arith, twice ms, length-pairs (nth_number numbers) ms (p + 1)) in
       let fit = pairs_fit ms _ (occurs_pairs s) in (small, fit.0, fit.1)
 
 -- ---- by the kind of the event here
@@ -70,20 +71,20 @@ scalar_is : (e : PlainEvent) (x : Scalar) → without_length e ≡ Single x → 
 scalar_is (Single y) x h = h
 scalar_is e x h = cc
 
-module _ {es : List PlainEvent} {k : EntryKind} {p : ℕ} (at : k ≡ held_kind (event_at es p))
+module _ {es : List PlainEvent} {k : EntryKind} {p : ℕ} (at : k ≡ entry_kind_of (event_at es p))
     (P : Tree → Type 0) where
   pub of_array : k ≡ kind.Array → ((ts : Trees) → ItemsOccurAt es ts (p + 1) → P (Array ts))
       → (t : Tree) → OccursAt es t p → P t
-  of_array is h (Leaf x) s = cc (ap held_kind (stands_single s))
+  of_array is h (Leaf x) s = cc (ap entry_kind_of (stands_single s))
   of_array is h (Array ts) s = h ts (occurs_items s)
-  of_array is h (Dictionary ms) s = cc (ap held_kind (starts_dictionary s))
+  of_array is h (Dictionary ms) s = cc (ap entry_kind_of (starts_dictionary s))
 
   pub of_dictionary : k ≡ kind.Dictionary
       → ((ms : Members) → PairsOccurAt es ms (p + 1) → P (Dictionary ms)) → (t : Tree)
       → OccursAt es t p
       → P t
-  of_dictionary is h (Leaf x) s = cc (ap held_kind (stands_single s))
-  of_dictionary is h (Array ts) s = cc (ap held_kind (starts_array s))
+  of_dictionary is h (Leaf x) s = cc (ap entry_kind_of (stands_single s))
+  of_dictionary is h (Array ts) s = cc (ap entry_kind_of (starts_array s))
   of_dictionary is h (Dictionary ms) s = h ms (occurs_pairs s)
 
   -- no collection begins
@@ -108,7 +109,7 @@ module _ {es : List PlainEvent} {k : EntryKind} {p : ℕ} (at : k ≡ held_kind 
 -- ---- forms and sizes
 
 module _ (num : ℕ → ℕ) where
-  pub refs_are : (ts : Trees) (q : ℕ) → refs num ts q ≡ map num (item_indices ts q)
+  pub refs_are : (ts : Trees) (q : ℕ) → references num ts q ≡ map num (item_indices ts q)
   refs_are NoTrees q = refl
   refs_are (TreeAnd t ts) q = ap (λ l. num q ∷ l) (refs_are ts _)
 
@@ -123,16 +124,16 @@ module _ (num : ℕ → ℕ) where
 
 pub array_is : (num : ℕ → ℕ) (w count : ℕ) (ts : Trees) (p : ℕ) → count ≡ number_of_trees ts
     → length_form 0xa count ++ table_form w (map num (item_indices ts (p + 1)))
-    ≡ form w (obj_of num (Array ts) p)
+    ≡ form w (object_of num (Array ts) p)
 array_is num w count ts p e =
-    λ i. length_form 0xa ((e ∙ sym (length-refs num ts (p + 1))) i) ++ table_form w
+    λ i. length_form 0xa ((e ∙ sym (length-references num ts (p + 1))) i) ++ table_form w
     (sym (refs_are num ts (p + 1)) i)
 
 pub dictionary_is : {es : List PlainEvent} (num : ℕ → ℕ) (w count : ℕ) (ms : Members) (p : ℕ)
     → PairsOccurAt es ms (p + 1)
     → ((ts : Trees) → ItemsOccurAt es ts (p + 1) → count ≡ number_of_trees ts)
     → length_form 0xd (count / 2) ++ (table_form w (map num (key_indices ms (p + 1)))
-    ++ table_form w (map num (value_indices ms (p + 1)))) ≡ form w (obj_of num (Dictionary ms) p)
+    ++ table_form w (map num (value_indices ms (p + 1)))) ≡ form w (object_of num (Dictionary ms) p)
 dictionary_is num w count ms p s h =
     let n = h (as_items ms) (pairs_as_items s) ∙ twice ms in
     let e : count / 2 ≡ number_of_members ms = omega arith in
@@ -164,7 +165,7 @@ wide_length text wide =
 
 -- in the events of a tree, each that isn't an end begins one
 pub occurs_at : (es : List PlainEvent) → IsBracketed es → (p : ℕ) → p < length es
-    → is_stop (event_at es p) ≡ false → (u : Tree) × OccursAt es u p
+    → is_end (event_at es p) ≡ false → (u : Tree) × OccursAt es u p
 occurs_at es (t, e) p lt b =
     positions_all es (λ q. (u : Tree) × OccursAt es u q) t e
     (all_from (λ one. (u : Tree) × OccursAt es u _) (Stands es) (λ one s. (one.1, s)) _

@@ -16,13 +16,14 @@ use Rattle.plist_format.specs.Unfolding.{TableEntry, items_of, until_fault, unfo
 use Rattle.plist_format.specs.Visits.{visits_within, visits_of}
 use Rattle.plist_binwrite.specs.ObjectCounts.{collection_of, collected}
 use Rattle.plist_binwrite.specs.Occurrences.{size, OccursAt, ItemsOccurAt, PairsOccurAt, positions, positions_in_items, positions_in_pairs}
-use Rattle.plist_binwrite.specs.Numberings.{refs, pairs, obj_of}
+use Rattle.plist_binwrite.specs.Numberings.{references, pairs, object_of}
 use Rattle.plist_binwrite.proofs.Uniques.{all_from}
 use Rattle.plist_binwrite.proofs.Sitting.{occurs_items, occurs_pairs, occurs_item, occurs_next, occurs_key, occurs_value, occurs_next_pair}
 
-pub length-refs : (num : ℕ → ℕ) (ts : Trees) (q : ℕ) → length (refs num ts q) ≡ number_of_trees ts
-length-refs num NoTrees q = refl
-length-refs num (TreeAnd t ts) q = omega (arith, length-refs num ts (q + size t))
+pub length-references : (num : ℕ → ℕ) (ts : Trees) (q : ℕ) → length (references num ts q)
+    ≡ number_of_trees ts
+length-references num NoTrees q = refl
+length-references num (TreeAnd t ts) q = omega (arith, length-references num ts (q + size t))
 
 pub length-pairs : (num : ℕ → ℕ) (ms : Members) (q : ℕ)
     → length (pairs num ms q) ≡ number_of_members ms
@@ -68,7 +69,7 @@ module _ (table : List TableEntry) (es : List PlainEvent) (num rank : ℕ → �
     (holds : (t : Tree) (p : ℕ) → OccursAt es t p
     → (place : ℕ) × (slice_get table (num p) ≡ Some (record {
       place = place;
-      object = obj_of num t p;
+      object = object_of num t p;
     }))) where
   -- what an object unfolds to inside those of the path, and what is entered
   abbrev items_in : List ℕ → ℕ → ℕ → List Item
@@ -102,8 +103,8 @@ module _ (table : List TableEntry) (es : List PlainEvent) (num rank : ℕ → �
   entered : (t : Tree) (p at : ℕ) {m : ℕ} {path : List ℕ} → OccursAt es t p → size t < m
       → Path m path
       → ((place : ℕ) → Path (size t) (num p ∷ path) → Shows num
-      (items_of place (obj_of num t p) (items_in (num p ∷ path) place))
-      (visits_within (num p) (obj_of num t p) (visits_in (num p ∷ path)))
+      (items_of place (object_of num t p) (items_in (num p ∷ path) place))
+      (visits_within (num p) (object_of num t p) (visits_in (num p ∷ path)))
       (bracketing t) (positions t p)) → ShowsTree path at t p
   unfolding unfolding_of visits_of
   entered t p at {m} {path} s h o shows =
@@ -126,7 +127,7 @@ module _ (table : List TableEntry) (es : List PlainEvent) (num rank : ℕ → �
         → Path m path → ShowsTree path at t p
     unfolds (Leaf x) p at s h o = leaf x p at s h o
     unfolds (Array ts) p at s h o =
-        entered (Array ts) p at s h o (λ place inside. rw (length-refs num ts (p + 1))
+        entered (Array ts) p at s h o (λ place inside. rw (length-references num ts (p + 1))
         (shows_within num _ _ refl (unfolds_items ts (p + 1) place (occurs_items s)
         (omega (arith, length-append {A = PlainEvent})) inside)))
     unfolds (Dictionary ms) p at s h o =
@@ -136,7 +137,7 @@ module _ (table : List TableEntry) (es : List PlainEvent) (num rank : ℕ → �
 
     unfolds_items : (ts : Trees) (q at : ℕ) {m : ℕ} {path : List ℕ} → ItemsOccurAt es ts q
         → length (lengthless_items ts) < m → Path m path
-        → ShowsAll path at (refs num ts q) (bracketing_of_items ts) (positions_in_items ts q)
+        → ShowsAll path at (references num ts q) (bracketing_of_items ts) (positions_in_items ts q)
     unfolds_items NoTrees q at s h o = record { items = refl; visits = refl }
     unfolds_items (TreeAnd t ts) q at s h o =
         let long = length-append (lengthless t) (lengthless_items ts) in

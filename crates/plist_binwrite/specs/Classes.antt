@@ -7,7 +7,7 @@ use Rattle.plist_base.specs.Trees.{Tree}
 use Rattle.plist_base.specs.Writing.{Answer}
 use Rattle.plist_format.specs.Visits.{visits}
 use Rattle.plist_binwrite.specs.ObjectCounts.{HasObjects, collections_in}
-use Rattle.plist_binwrite.specs.Numberings.{obj_of}
+use Rattle.plist_binwrite.specs.Numberings.{object_of}
 use Rattle.plist_binwrite.specs.SendingAs.{SendsAs}
 use Rattle.plist_binwrite.specs.Sizes.{total, object_size, size_with}
 use Rattle.plist_binwrite.specs.Occurrences.{OccursAt, positions}
@@ -16,7 +16,7 @@ use Rattle.plist_binwrite.specs.Written.{IsWrittenAs, reference_width}
 -- indices of one class have one object, whose references are the classes of its children
 pub record AreClasses (es : List PlainEvent) (class : ℕ → ℕ) : Type 0 where
   pub object : (t u : Tree) (p q : ℕ) → OccursAt es t p → OccursAt es u q → class p ≡ class q
-      → obj_of class t p ≡ obj_of class u q
+      → object_of class t p ≡ object_of class u q
 
 module _ (class : ℕ → ℕ) where
   abbrev pub same_class : ℕ × Tree → ℕ × Tree → Bool

@@ -4,7 +4,7 @@ use Rattle.plist_base.specs.Trees.{Tree}
 use Rattle.plist_base.specs.Writing.{answer_of}
 use Rattle.plist_base.specs.declared.error.Error.{Error}
 use Rattle.plist_binwrite.specs.Classes.{SendsBy}
-use Rattle.plist_binwrite.specs.EventTable.{num_of, plain_events}
+use Rattle.plist_binwrite.specs.EventTable.{nth_number, plain_events}
 use Rattle.plist_binwrite.specs.SendingAs.{SendsAs}
 use Rattle.plist_binwrite.specs.declared.classes.Classes.{Classes}
 use Rattle.plist_binwrite.specs.declared.event_table.EventTable.{EventTable}
@@ -13,7 +13,7 @@ use Rattle.plist_binwrite.specs.declared.event_table.EventTable.{EventTable}
 abbrev pub SendsByClass : {W : Type 0} → Classes → (W → Option (List ℕ)) → EventTable
     → Result (Unit {0}) Error → (old new : W) → Type 0
 SendsByClass classes contents held result old new =
-    SendsBy (num_of classes.of) contents (plain_events held) (answer_of result) old new
+    SendsBy (nth_number classes.of) contents (plain_events held) (answer_of result) old new
 
 -- with any kind of file and its size
 abbrev pub SendsHeld : {W : Type 0} → (IsFile : Tree → List ℕ → Type 0) → (size : Tree → ℕ)

@@ -9,7 +9,7 @@ use Rattle.plist_binwrite.specs.declared.kinds.EntryKind.TheVariants as kind
 use Rattle.plist_base.specs.Trees.{Scalar, Tree, Leaf, Array, Dictionary, Trees, NoTrees, TreeAnd, Members, NoMembers, MemberAnd}
 use Rattle.plist_base.specs.Bracketing.{without_length, lengthless}
 use Rattle.plist_binwrite.specs.Occurrences.{size, OccursAt}
-use Rattle.plist_binwrite.specs.Numberings.{obj_of}
+use Rattle.plist_binwrite.specs.Numberings.{object_of}
 use Rattle.plist_binwrite.specs.inner.Entries.{all_shown, shown}
 use Rattle.plist_binwrite.specs.declared.entries.EventEntry.{EventEntry}
 
@@ -34,25 +34,25 @@ abbrev pub IfScalar : PlainEvent → (Scalar → Type 0) → Type 0
 IfScalar (Single scalar) P = P scalar
 IfScalar event P = ⊤
 
-abbrev pub is_stop : PlainEvent → Bool
-is_stop EndCollection = true
-is_stop event = false
+abbrev pub is_end : PlainEvent → Bool
+is_end EndCollection = true
+is_end event = false
 
-abbrev pub held_kind : PlainEvent → EntryKind
-held_kind (StartArray hint) = kind.Array
-held_kind (StartDictionary hint) = kind.Dictionary
-held_kind EndCollection = kind.End
-held_kind (Single x) = kind.Scalar
+abbrev pub entry_kind_of : PlainEvent → EntryKind
+entry_kind_of (StartArray hint) = kind.Array
+entry_kind_of (StartDictionary hint) = kind.Dictionary
+entry_kind_of EndCollection = kind.End
+entry_kind_of (Single x) = kind.Scalar
 
 abbrev pub event_at : List PlainEvent → ℕ → PlainEvent
 event_at es p = get_or es p EndCollection
 
 -- an item stands at an index, and not the end of a collection; or none does
 abbrev pub HasItem : List PlainEvent → (index : ℕ) → Type 0
-HasItem es p = (p < length es) × (is_stop (event_at es p) ≡ false)
+HasItem es p = (p < length es) × (is_end (event_at es p) ≡ false)
 
 abbrev pub LacksItem : List PlainEvent → (index : ℕ) → Type 0
-LacksItem es p = (is_stop (event_at es p) ≡ true) ⊎ (length es ≤ p)
+LacksItem es p = (is_end (event_at es p) ≡ true) ⊎ (length es ≤ p)
 
 -- the tree that begins at an index ends before this one
 abbrev pub EndsTree : List PlainEvent → (index behind : ℕ) → Type 0
@@ -68,8 +68,8 @@ abbrev pub GrowsBy : (before : EventTable) → PlainEvent → (after : EventTabl
 GrowsBy before event after = plain_events after ≡ plain_events before ++ event ∷ []
 
 -- the event that is held at an index
-abbrev pub held_at : EventTable → (index : ℕ) → PlainEvent
-held_at held p = event_at (plain_events held) p
+abbrev pub table_event : EventTable → (index : ℕ) → PlainEvent
+table_event held p = event_at (plain_events held) p
 
 -- the events are those of a tree
 abbrev pub IsBracketed : List PlainEvent → Type 0
@@ -108,8 +108,8 @@ values_in (Dictionary ms) p = value_indices ms (p + 1)
 abbrev pub AllBelow : ℕ → List ℕ → Type 0
 AllBelow n ps = (i : ℕ) → i < length ps → get_or ps i 0 < n
 
-abbrev pub num_of : List ℕ → ℕ → ℕ
-num_of numbers p = get_or numbers p 0
+abbrev pub nth_number : List ℕ → ℕ → ℕ
+nth_number numbers p = get_or numbers p 0
 
 abbrev pub IsNumbered : List ℕ → List ℕ → ℕ → Type 0
 IsNumbered numbers firsts p = get_or numbers p 0 < length firsts
@@ -122,10 +122,10 @@ pub record Keeps (old_numbers old_firsts new_numbers new_firsts : List ℕ) : Ty
 
 -- each event has a number below the count
 abbrev pub AllNumbered : List PlainEvent → List ℕ → ℕ → Type 0
-AllNumbered es numbers count = (p : ℕ) → p < length es → is_stop (event_at es p) ≡ false
+AllNumbered es numbers count = (p : ℕ) → p < length es → is_end (event_at es p) ≡ false
     → get_or numbers p 0 < count
 
 -- the objects of a numbering
 abbrev pub Describes : List PlainEvent → List ℕ → (ℕ → Object) → Type 0
 Describes es numbers objects = (t : Tree) (p : ℕ) → OccursAt es t p
-    → objects (get_or numbers p 0) ≡ obj_of (num_of numbers) t p
+    → objects (get_or numbers p 0) ≡ object_of (nth_number numbers) t p

@@ -4,7 +4,7 @@ use Rattle.std.specs.Io.KnownBytes.{Appends}
 use Rattle.plist_base.specs.Bracketing.{bracketing, AreAlike, AreComplete}
 use Rattle.plist_base.specs.Events.{PlainEvent}
 use Rattle.plist_base.specs.Faults.{FaultKind, Io, OutOfMemory, PlistTooLarge}
-use Rattle.plist_base.specs.Fronts.{AppendsFront}
+use Rattle.plist_base.specs.Prefixes.{AppendsPrefix}
 use Rattle.plist_base.specs.Trees.{Tree}
 use Rattle.plist_base.specs.Writing.{Answer}
 
@@ -31,7 +31,7 @@ module _ (IsFile : Tree → List ℕ → Type 0) (size : Tree → ℕ) where
     abbrev pub FailsAs : FaultKind → (events : List PlainEvent) (old new : W) → Type 0
     FailsAs Io events old new =
         (file : List ℕ) × IsFileAs events file
-        × AppendsFront (contents old) (contents new) file
+        × AppendsPrefix (contents old) (contents new) file
     FailsAs PlistTooLarge events old new = IsTooLarge events × (new ≡ old)
     FailsAs OutOfMemory events old new = new ≡ old
     FailsAs kind events old new = ⊥

@@ -6,19 +6,19 @@ ghost use Rattle.plist_base.specs.Bracketing.{AreWhole};
 ghost use Rattle.plist_base.specs.Writing.{answer_of};
 ghost use Rattle.plist_binwrite.specs.Classes.{AreClasses};
 ghost use Rattle.plist_binwrite.specs.inner.Ending.{IsDraftBy, IsDraftOf, IsFitting, IsReady, IsDraftTooLarge, NeedsNoMemory};
-ghost use Rattle.plist_binwrite.specs.EventTable.{plain_events, num_of, AllBelow, IsBracketed};
-ghost use Rattle.plist_binwrite.specs.Outlets.{buffer_size};
+ghost use Rattle.plist_binwrite.specs.EventTable.{plain_events, nth_number, AllBelow, IsBracketed};
+ghost use Rattle.plist_binwrite.specs.OutputBuffer.{buffer_size};
 ghost use Rattle.plist_binwrite.specs.Sending.{Sends};
 ghost use Rattle.plist_binwrite.specs.Completing.{SendsByClass};
 ghost use Rattle.plist_binwrite.specs.inner.Putting.{PutsFile, SendsDraft, SendsPlanned};
 
 use crate::classes::{Classes, classes_of};
 use crate::event_table::EventTable;
-use crate::forms::{put_ending, reference_width};
+use crate::forms::{put_table_and_trailer, reference_width};
 use crate::layout::order_objects;
 use crate::numbers::Numbers;
 use crate::objects::put_objects;
-use crate::outlet::{BUFFER, finish, put};
+use crate::output_buffer::{BUFFER, finish, put};
 use crate::plan::{Plan, Planned, plan_by_class};
 use crate::size::{check_size, place_objects};
 use plist_base::{Error, ErrorKind};
@@ -50,7 +50,7 @@ fn draft_file(alloc: Global, events: &EventTable<'_>, classes: Classes) -> Resul
     requires whole { IsBracketed (plain_events events.now) }
     requires long { length classes.of ≡ length (plain_events events.now) }
     requires below { AllBelow classes.count classes.of }
-    requires classes { AreClasses (plain_events events.now) (num_of classes.of) }
+    requires classes { AreClasses (plain_events events.now) (nth_number classes.of) }
     ensures draft { IfOk result (IsDraftOf (plain_events events.now)) }
     ensures goes { IfOk result (IsDraftBy classes events.now) }
     ensures memory { OnlyMemory result }
@@ -116,7 +116,7 @@ fn put_file<W: Write>(
         width,
     };
     match put_objects(out, buffer, &file, &ready.order) {
-        Ok(()) => put_ending(out, buffer, &ready.places, ready.table),
+        Ok(()) => put_table_and_trailer(out, buffer, &ready.places, ready.table),
         Err(error) => Err(error),
     }
 }
@@ -184,7 +184,7 @@ pub fn complete_by_class<W: Write>(
     requires whole { AreWhole (plain_events events.now) }
     requires long { length classes.of ≡ length (plain_events events.now) }
     requires below { AllBelow classes.count classes.of }
-    requires classes { AreClasses (plain_events events.now) (num_of classes.of) }
+    requires classes { AreClasses (plain_events events.now) (nth_number classes.of) }
     ensures { SendsByClass classes W.contents events.now result writer.old writer.new }
 {
     let mut buffer = new_buffer(alloc)?;

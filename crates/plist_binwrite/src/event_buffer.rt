@@ -87,7 +87,7 @@ impl EventBuffer {
     /// # Errors
     /// `OutOfMemory`, without an offset, for an event that can follow those held.
     #[inline(always)]
-    pub fn offer(&mut self, alloc: Global, event: Event<'_>) -> Result<Option<Error>, Error>
+    pub fn try_push(&mut self, alloc: Global, event: Event<'_>) -> Result<Option<Error>, Error>
         requires still { is_whole self.old ≡ false }
         ensures refused { IfOk result (RefusesMisplaced self.old (event_of event.entry) self.new) }
         ensures taken { IfOk result (Accepts self.old (event_of event.entry) self.new) }

@@ -26,7 +26,7 @@ pub struct EventTable<'e> {
 
 impl<'e> EventTable<'e> {
     ghost use Rattle.std.specs.Prelude.{◌≤◌, [], None, false, IfSome, ◌+◌};
-    ghost use Rattle.plist_binwrite.specs.EventTable.{plain_event, plain_events, scalars_of, held_kind, EndsTree, GrowsBy, HasItem, IsScalarAt, LacksItem, held_at, shown_in};
+    ghost use Rattle.plist_binwrite.specs.EventTable.{plain_event, plain_events, scalars_of, entry_kind_of, EndsTree, GrowsBy, HasItem, IsScalarAt, LacksItem, table_event, shown_in};
     ghost use Rattle.plist_binwrite.specs.inner.Entries.{is_start, IsUnclosed};
 
     /// No events. It takes no memory.
@@ -72,7 +72,7 @@ impl<'e> EventTable<'e> {
     /// The kind of the event at an index.
     pub fn kind_at(&self, index: usize) -> EntryKind
         requires { index < length (plain_events self.now) }
-        ensures { result ≡ held_kind (held_at self.now index) }
+        ensures { result ≡ entry_kind_of (table_event self.now index) }
     {
         self.entries.kind_at(index)
     }
@@ -92,7 +92,7 @@ impl<'e> EventTable<'e> {
     }
 
     /// The index behind the tree that begins here.
-    pub fn skip(&self, index: usize) -> usize
+    pub fn index_behind(&self, index: usize) -> usize
         requires { index < length (plain_events self.now) }
         ensures forward { (index < result) × (result ≤ length (plain_events self.now)) }
         ensures ends { EndsTree (plain_events self.now) index result }
@@ -101,7 +101,7 @@ impl<'e> EventTable<'e> {
     }
 
     /// The index behind the pair whose key stands here.
-    pub fn skip_pair(&self, key: usize) -> usize
+    pub fn index_behind_pair(&self, key: usize) -> usize
         requires { key < length (plain_events self.now) }
         ensures forward { (key < result) × (result ≤ length (plain_events self.now)) }
         ensures ends { EndsTree (plain_events self.now) (key + 1) result }
@@ -110,15 +110,15 @@ impl<'e> EventTable<'e> {
         if value >= self.len() {
             return value;
         }
-        self.skip(value)
+        self.index_behind(value)
     }
 
     /// The index of the scalar here among the different ones, in the order in which they came.
     pub fn scalar_index(&self, index: usize) -> Option<usize>
         requires { index < length (plain_events self.now) }
         ensures some { IfSome result (IsScalarAt self.now index) }
-        ensures leaf { IfSome result (λ _. is_leaf (held_at self.now index) ≡ true) }
-        ensures none { result ≡ None → is_leaf (held_at self.now index) ≡ false }
+        ensures leaf { IfSome result (λ _. is_leaf (table_event self.now index) ≡ true) }
+        ensures none { result ≡ None → is_leaf (table_event self.now index) ≡ false }
     {
         match self.entries.scalar(index) {
             Some(scalar) => Some(scalar),
@@ -129,8 +129,8 @@ impl<'e> EventTable<'e> {
     /// The scalar here.
     pub fn scalar_at(&self, index: usize) -> Option<&Event<'e>>
         requires { index < length (plain_events self.now) }
-        ensures some { IfSome result (λ event. held_at self.now index ≡ plain_event event.now) }
-        ensures none { result ≡ None → is_leaf (held_at self.now index) ≡ false }
+        ensures some { IfSome result (λ event. table_event self.now index ≡ plain_event event.now) }
+        ensures none { result ≡ None → is_leaf (table_event self.now index) ≡ false }
     {
         let scalar = self.scalar_index(index)?;
         self.scalars.get_index(scalar)

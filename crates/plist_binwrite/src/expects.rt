@@ -24,29 +24,29 @@ pub enum Change {
     /// The event can't come here.
     Refused,
     /// It has come, and leaves the stack.
-    Gone,
+    Popped,
     /// It stays.
     Kept,
     /// It stays, and this one comes on top of it.
     Pushed(Expect),
     /// This one takes its place.
-    Became(Expect),
+    Replaced(Expect),
 }
 
 fn change_at(top: Expect, event: &Event<'_>) -> Change
     ensures { change_seen result ≡ change_of (expect_seen top) (event_of event.now) }
 {
     match (top, event) {
-        (Expect::OneValue, Event::StartArray(_)) => Change::Became(Expect::Items),
-        (Expect::OneValue, Event::StartDictionary(_)) => Change::Became(Expect::Pairs),
+        (Expect::OneValue, Event::StartArray(_)) => Change::Replaced(Expect::Items),
+        (Expect::OneValue, Event::StartDictionary(_)) => Change::Replaced(Expect::Pairs),
         (Expect::OneValue, Event::EndCollection) => Change::Refused,
-        (Expect::OneValue, _) => Change::Gone,
+        (Expect::OneValue, _) => Change::Popped,
         (Expect::Items, Event::StartArray(_)) => Change::Pushed(Expect::Items),
         (Expect::Items, Event::StartDictionary(_)) => Change::Pushed(Expect::Pairs),
-        (Expect::Items, Event::EndCollection) => Change::Gone,
+        (Expect::Items, Event::EndCollection) => Change::Popped,
         (Expect::Items, _) => Change::Kept,
         (Expect::Pairs, Event::String(_)) => Change::Pushed(Expect::OneValue),
-        (Expect::Pairs, Event::EndCollection) => Change::Gone,
+        (Expect::Pairs, Event::EndCollection) => Change::Popped,
         (Expect::Pairs, _) => Change::Refused,
     }
 }
@@ -69,9 +69,9 @@ pub fn put(expects: &mut Vec<Expect>, change: Change)
 {
     match change {
         Change::Refused | Change::Kept => {}
-        Change::Gone => drop(expects.pop()),
+        Change::Popped => drop(expects.pop()),
         Change::Pushed(expect) => expects.push_reserved(expect),
-        Change::Became(expect) => {
+        Change::Replaced(expect) => {
             drop(expects.pop());
             expects.push_reserved(expect);
         }

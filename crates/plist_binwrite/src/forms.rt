@@ -1,16 +1,16 @@
 //! The bytes of each form of a file: scalars, lengths, references, the offset table and the
 //! trailer, each in the least form that holds it.
 //!
-//! Each function puts its bytes through a buffer to a writer, as [`put`](crate::outlet::put) does.
+//! Each function puts its bytes through a buffer to a writer, as [`put`](crate::output_buffer::put) does.
 //! The one refusal is `Io` without an offset; a beginning of all that was put went out then.
 
 ghost use Rattle.std.specs.Prelude.{◌≡◌, ◌∷◌, [], ◌≤◌, ◌<◌, ◌^◌};
-ghost use Rattle.plist_binwrite.specs.Forms.{big_endian, doublings, least_width, natural_form, integer_form, uid_form, length_form, boolean_form, data_form, date_form, real_form, table_form, marked};
-ghost use Rattle.plist_binwrite.specs.Outlets.{Puts};
+ghost use Rattle.plist_binwrite.specs.Forms.{big_endian, doublings, least_width, unsigned_form, integer_form, uid_form, length_form, boolean_form, data_form, date_form, real_form, table_form, marked};
+ghost use Rattle.plist_binwrite.specs.OutputBuffer.{Puts};
 ghost use Rattle.plist_binwrite.specs.Written.{reference_width, offset_width, ending, trailer_of};
 
 use crate::numbers::Numbers;
-use crate::outlet::{put, put_both};
+use crate::output_buffer::{put, put_both};
 pub use crate::scalar::put_scalar;
 pub use crate::text::put_text;
 use plist_base::{Date, Error, Integer, RealBits, Uid};
@@ -116,8 +116,8 @@ fn put_marked_number<W: Write>(
 }
 
 /// Puts a number without sign, in the least of 1, 2, 4 and 8 bytes.
-pub fn put_natural<W: Write>(out: &mut W, buffer: &mut Vec<u8>, number: u64) -> Result<(), Error>
-    ensures { Puts W.contents out.old buffer.old (natural_form number) result out.new buffer.new }
+pub fn put_unsigned<W: Write>(out: &mut W, buffer: &mut Vec<u8>, number: u64) -> Result<(), Error>
+    ensures { Puts W.contents out.old buffer.old (unsigned_form number) result out.new buffer.new }
 {
     let width = least_width(number);
     put_marked_number(out, buffer, 0x10 + doublings(width), width, number)
@@ -206,7 +206,7 @@ pub fn put_integer<W: Write>(out: &mut W, buffer: &mut Vec<u8>, value: Integer) 
     ensures { Puts W.contents out.old buffer.old (integer_form value) result out.new buffer.new }
 {
     match (value.as_unsigned(), value.as_signed()) {
-        (Some(number), Some(_)) => put_natural(out, buffer, number),
+        (Some(number), Some(_)) => put_unsigned(out, buffer, number),
         (Some(number), None) => put_wide_integer(out, buffer, number),
         (None, Some(number)) => { put_marked_number(out, buffer, 0x13, 8, number.cast_unsigned()) }
         (None, None) => Ok(()),
@@ -261,7 +261,7 @@ pub fn put_trailer<W: Write>(
 }
 
 /// Puts the offset table, which lies at `table`, and the trailer.
-pub fn put_ending<W: Write>(
+pub fn put_table_and_trailer<W: Write>(
     out: &mut W,
     buffer: &mut Vec<u8>,
     places: &Numbers,

@@ -2,7 +2,7 @@
 
 ghost use Rattle.std.specs.Prelude.{◌≡◌, ◌≢◌, ◌+◌, ◌<◌, true, false, length, get_or, set, IfOk};
 ghost use Rattle.plist_base.specs.Outcomes.{OnlyMemory};
-ghost use Rattle.plist_binwrite.specs.EventTable.{plain_events, scalars_of, AllBelow, held_kind, held_at};
+ghost use Rattle.plist_binwrite.specs.EventTable.{plain_events, scalars_of, AllBelow, entry_kind_of, table_event};
 ghost use Rattle.plist_binwrite.specs.declared.kinds.EntryKind.TheVariants.{Dictionary as KindDictionary};
 ghost use Rattle.plist_binwrite.specs.Keys.{TestsKeysOnce, TestsRepeats};
 
@@ -31,7 +31,7 @@ fn repeats_at(events: &EventTable<'_>, start: usize, stamps: &mut Vec<usize>) ->
     requires older { AllBelow (start + 1) stamps.old.items }
     ensures long { length stamps.new.items ≡ length (scalars_of events.now) }
     ensures newer { AllBelow (start + 2) stamps.new.items }
-    ensures begins { result ≡ true → held_kind (held_at events.now start) ≡ KindDictionary }
+    ensures begins { result ≡ true → entry_kind_of (table_event events.now start) ≡ KindDictionary }
     ensures repeats { TestsRepeats events.now start result }
 {
     match events.kind_at(start) {
@@ -47,7 +47,7 @@ fn repeats_at(events: &EventTable<'_>, start: usize, stamps: &mut Vec<usize>) ->
         if stamp(stamps, scalar, mark) {
             return true;
         }
-        key = events.skip_pair(key);
+        key = events.index_behind_pair(key);
     }
     false
 }

@@ -63,7 +63,7 @@ impl FileLayout {
         let mut key = from;
         'walk: while events.has_item(key) {
             self.put(events, plan, key)?;
-            key = events.skip_pair(key);
+            key = events.index_behind_pair(key);
         }
         Ok(())
     }

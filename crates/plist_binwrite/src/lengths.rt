@@ -2,7 +2,7 @@
 
 ghost use Rattle.std.specs.Prelude.{◌≡◌, ◌+◌, ◌*◌, ◌≤◌, ◌<◌, ◌^◌, ℕ, length, None};
 ghost use Rattle.plist_base.specs.Events.{event_of};
-ghost use Rattle.plist_binwrite.specs.Forms.{IsDateBytes, IsInteger, IsReal, IsText, IsWritableScalar, natural_form, integer_form, uid_form, length_form, date_form, real_form, text_form};
+ghost use Rattle.plist_binwrite.specs.Forms.{IsDateBytes, IsInteger, IsReal, IsText, IsWritableScalar, unsigned_form, integer_form, uid_form, length_form, date_form, real_form, text_form};
 ghost use Rattle.plist_binwrite.specs.EventTable.{IfScalar};
 ghost use Rattle.plist_binwrite.specs.Sizes.{IsSizeOrNone, marked_size, scalar_size};
 
@@ -23,8 +23,8 @@ pub fn add(length: Option<u64>, more: Option<u64>) -> Option<u64>
 }
 
 /// The length of a number without sign.
-pub fn length_of_natural(number: u64) -> u64
-    ensures value { result ≡ length (natural_form number) }
+pub fn length_of_unsigned(number: u64) -> u64
+    ensures value { result ≡ length (unsigned_form number) }
     ensures small { result ≤ 9 }
 {
     1 + least_width(number) as u64
@@ -38,7 +38,7 @@ pub fn length_of_count(count: u64) -> u64
     if count < 15 {
         1
     } else {
-        1 + length_of_natural(count)
+        1 + length_of_unsigned(count)
     }
 }
 
@@ -72,7 +72,7 @@ fn length_of_integer(value: Integer) -> u64
     ensures writable { IsInteger value }
 {
     match (value.as_unsigned(), value.as_signed()) {
-        (Some(number), Some(_)) => length_of_natural(number),
+        (Some(number), Some(_)) => length_of_unsigned(number),
         (Some(_), None) => 17,
         (None, _) => 9,
     }

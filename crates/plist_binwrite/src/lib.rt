@@ -19,7 +19,7 @@ mod lengths;
 mod numbering;
 pub mod numbers;
 mod objects;
-pub mod outlet;
+pub mod output_buffer;
 mod plan;
 mod scalar;
 mod shared;
@@ -29,6 +29,6 @@ mod writer;
 
 pub use completion::{complete, complete_by_class};
 pub use event_table::EventTable;
-pub use plist_base::send::send_whole;
+pub use plist_base::send::send_and_flush;
 pub use shared::{EqualScalars, Sharing};
 pub use writer::{BinaryWriter, FileWriter};

@@ -5,7 +5,7 @@ ghost use Rattle.plist_binwrite.specs.EventTable.{plain_events, AllBelow};
 ghost use Rattle.plist_binwrite.specs.inner.Numbering.{IsNumberingOf, NumbersRoot, NumbersTree};
 
 use crate::event_table::EventTable;
-use crate::kinds::{EntryKind, half_of};
+use crate::kinds::{EntryKind, key_or_value};
 use crate::numbers::Numbers;
 use std::alloc::{AllocError, Global};
 
@@ -84,13 +84,13 @@ impl Numbered {
         let mut index = from;
         'walk: while given.events.has_item(index) {
             self.number_one(given, index)?;
-            index = given.events.skip(index);
+            index = given.events.index_behind(index);
         }
         Ok(())
     }
 
     // Numbers the values of a dictionary, or its keys, from here on.
-    fn number_halves(
+    fn number_keys_or_values(
         &mut self,
         given: &Classed<'_, '_>,
         from: usize,
@@ -103,9 +103,9 @@ impl Numbered {
     {
         let mut key = from;
         'walk: while given.events.has_item(key) {
-            let index = half_of(key, key + 1, values);
+            let index = key_or_value(key, key + 1, values);
             self.number_one(given, index)?;
-            key = given.events.skip_pair(key);
+            key = given.events.index_behind_pair(key);
         }
         Ok(())
     }
@@ -122,8 +122,8 @@ impl Numbered {
         match given.events.kind_at(index) {
             EntryKind::Array => self.number_items(given, inside),
             EntryKind::Dictionary => {
-                self.number_halves(given, inside, false)?;
-                self.number_halves(given, inside, true)?;
+                self.number_keys_or_values(given, inside, false)?;
+                self.number_keys_or_values(given, inside, true)?;
                 Ok(())
             }
             _ => Ok(()),

@@ -6,7 +6,7 @@ ghost use Rattle.plist_binwrite.specs.inner.Planning.{CanPut, count_of, events_i
 ghost use Rattle.plist_binwrite.specs.inner.Putting.{PutsArray, PutsDictionary, PutsHalf, PutsItems, PutsObject, PutsOrder};
 
 use crate::forms::{put_length, put_number, put_scalar};
-use crate::kinds::{EntryKind, half_of};
+use crate::kinds::{EntryKind, key_or_value};
 use crate::numbers::Numbers;
 use crate::plan::Planned;
 use crate::size::count_items;
@@ -30,13 +30,13 @@ fn put_items<W: Write>(
             Ok(()) => {}
             Err(error) => return Err(error),
         }
-        index = file.events.skip(index);
+        index = file.events.index_behind(index);
     }
     Ok(())
 }
 
 // Puts references to the values of a dictionary, or to its keys, from here on.
-fn put_halves<W: Write>(
+fn put_keys_or_values<W: Write>(
     out: &mut W,
     buffer: &mut Vec<u8>,
     file: &Planned<'_, '_>,
@@ -53,12 +53,12 @@ fn put_halves<W: Write>(
         if value >= file.events.len() {
             return Ok(());
         }
-        let number = file.plan.number(half_of(key, value, values));
+        let number = file.plan.number(key_or_value(key, value, values));
         match put_number(out, buffer, file.width, number as u64) {
             Ok(()) => {}
             Err(error) => return Err(error),
         }
-        key = file.events.skip(value);
+        key = file.events.index_behind(value);
     }
     Ok(())
 }
@@ -96,8 +96,8 @@ fn put_dictionary<W: Write>(
         Ok(()) => {}
         Err(error) => return Err(error),
     }
-    match put_halves(out, buffer, file, index + 1, false) {
-        Ok(()) => put_halves(out, buffer, file, index + 1, true),
+    match put_keys_or_values(out, buffer, file, index + 1, false) {
+        Ok(()) => put_keys_or_values(out, buffer, file, index + 1, true),
         Err(error) => Err(error),
     }
 }

@@ -3,7 +3,7 @@
 ghost use Rattle.std.specs.Prelude.{◌≡◌, ◌<◌, length, IfOk};
 ghost use Rattle.plist_base.specs.Outcomes.{OnlyMemory};
 ghost use Rattle.plist_binwrite.specs.Classes.{AreClasses};
-ghost use Rattle.plist_binwrite.specs.EventTable.{plain_events, num_of, AllBelow, IsBracketed};
+ghost use Rattle.plist_binwrite.specs.EventTable.{plain_events, nth_number, AllBelow, IsBracketed};
 ghost use Rattle.plist_binwrite.specs.inner.Planning.{IsPlanned, GoesBy, numbers_of, firsts_of};
 
 use crate::classes::Classes;
@@ -23,7 +23,7 @@ impl Plan {
     /// The number of the object of the event here.
     pub fn number(&self, index: usize) -> usize
         requires { index < length (numbers_of self.now) }
-        ensures { result ≡ num_of (numbers_of self.now) index }
+        ensures { result ≡ nth_number (numbers_of self.now) index }
     {
         self.numbering.numbers.get(index)
     }
@@ -31,7 +31,7 @@ impl Plan {
     /// The index of the first event of an object.
     pub fn first(&self, number: usize) -> usize
         requires { number < length (firsts_of self.now) }
-        ensures { result ≡ num_of (firsts_of self.now) number }
+        ensures { result ≡ nth_number (firsts_of self.now) number }
     {
         self.numbering.firsts.get(number)
     }
@@ -60,9 +60,9 @@ pub fn plan_by_class(
     requires whole { IsBracketed (plain_events events.now) }
     requires long { length classes.of ≡ length (plain_events events.now) }
     requires below { AllBelow classes.count classes.of }
-    requires classes { AreClasses (plain_events events.now) (num_of classes.of) }
+    requires classes { AreClasses (plain_events events.now) (nth_number classes.of) }
     ensures planned { IfOk result (λ plan. IsPlanned (plain_events events.now) plan) }
-    ensures goes { IfOk result (GoesBy (plain_events events.now) (num_of classes.of)) }
+    ensures goes { IfOk result (GoesBy (plain_events events.now) (nth_number classes.of)) }
     ensures memory { OnlyMemory result }
 {
     let numbering = number_by_class(alloc, events, &classes.of, classes.count)?;

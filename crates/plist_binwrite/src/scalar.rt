@@ -1,6 +1,6 @@
 //! The bytes of any scalar.
 
-ghost use Rattle.plist_binwrite.specs.Outlets.{PutsScalar};
+ghost use Rattle.plist_binwrite.specs.OutputBuffer.{PutsScalar};
 
 use crate::forms::{put_boolean, put_data, put_date, put_integer, put_real, put_uid};
 use crate::text::put_text;

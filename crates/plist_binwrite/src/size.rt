@@ -25,7 +25,7 @@ pub fn count_items(events: &EventTable<'_>, from: usize) -> usize
     let mut index = from;
     'walk: while events.has_item(index) {
         count += 1;
-        index = events.skip(index);
+        index = events.index_behind(index);
     }
     count
 }

@@ -3,10 +3,10 @@
 ghost use Rattle.std.specs.Prelude.{◌≡◌, length};
 ghost use Rattle.std.specs.Char.Escape.{encode_utf16};
 ghost use Rattle.plist_binwrite.specs.Forms.{units_of, is_ascii_text, text_form, ascii_form, char_units, text_units, wide_form};
-ghost use Rattle.plist_binwrite.specs.Outlets.{Puts};
+ghost use Rattle.plist_binwrite.specs.OutputBuffer.{Puts};
 
 use crate::forms::{put_length, put_number};
-use crate::outlet::put;
+use crate::output_buffer::put;
 use plist_base::Error;
 use std::io::Write;
 

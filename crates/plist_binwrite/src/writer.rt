@@ -82,7 +82,7 @@ impl<W: Write, S: Sharing> Writer for FileWriter<W, S> {
         if self.has_failed {
             return Err(ErrorKind::WriterFailed.without_position());
         }
-        match self.pending.offer(self.alloc, event) {
+        match self.pending.try_push(self.alloc, event) {
             Ok(None) => {}
             Ok(Some(refusal)) => return Err(refusal),
             Err(error) => {

@@ -2,7 +2,7 @@
 //! bracket.
 
 ghost use Rattle.std.specs.Prelude.{◌≡◌, None, true};
-ghost use Rattle.plist_ascii.specs.AsciiReader.{HasEndedAscii, device_of, looked_at};
+ghost use Rattle.plist_ascii.specs.AsciiReader.{HasEndedAscii, device_of, peeked_byte};
 
 use plist_ascii::{AsciiReader, Bytes};
 use plist_base::Event;
@@ -27,7 +27,7 @@ pub fn device_behind_end<R: Bytes + Drop>(reader: AsciiReader<R>) -> R
 /// Whether the next item is the start or the end of a collection. Then no byte behind it has been
 /// looked at.
 pub fn comes_to_bracket<R: Bytes + Drop>(reader: &mut AsciiReader<R>) -> bool
-    ensures { result ≡ true → looked_at reader.new ≡ None }
+    ensures { result ≡ true → peeked_byte reader.new ≡ None }
 {
     match reader.next() {
         Some(Ok(Event::StartArray(_) | Event::StartDictionary(_) | Event::EndCollection)) => true,

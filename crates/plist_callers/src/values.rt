@@ -6,7 +6,7 @@ ghost use Rattle.plist_ascii.specs.Texts.{tight};
 ghost use Rattle.plist_base.specs.Faults.{WriterFailed, fault_nowhere};
 ghost use Rattle.plist_reader.specs.Reader.{items_of_input};
 ghost use Rattle.plist.specs.Collecting.{built_tree};
-ghost use Rattle.plist.specs.Inputs.{IsReadFrom};
+ghost use Rattle.plist.specs.Inputs.{IsValueOf};
 ghost use Rattle.plist.specs.Limiting.{NestsWithin};
 ghost use Rattle.plist.specs.ReadBy.{items_of_text};
 ghost use Rattle.plist.specs.Views.{tree_of, tree_pairs};
@@ -19,14 +19,14 @@ use std::rt::Files;
 
 /// The value of bytes, binary or in ASCII.
 pub fn value_of_bytes(alloc: Global, bytes: &[u8]) -> Result<Value, Error>
-    ensures value { IsReadFrom (items_of_input bytes.now) (built_tree result) }
+    ensures value { IsValueOf (items_of_input bytes.now) (built_tree result) }
 {
     Value::from_reader(alloc, bytes)
 }
 
 /// The value of an ASCII property list in the tight dialect.
 pub fn value_of_tight(alloc: Global, text: &[u8]) -> Result<Value, Error>
-    ensures value { IsReadFrom (items_of_text tight text.now) (built_tree result) }
+    ensures value { IsValueOf (items_of_text tight text.now) (built_tree result) }
 {
     Value::from_reader_ascii_with_dialect(alloc, text, Dialect::Tight)
 }

@@ -11,7 +11,7 @@ use Rattle.plist_binread.specs.Advancing.{GivesCurrent}
 use Rattle.plist_reader.specs.Reader.{GivesIfKnown, HoldsSource}
 use Rattle.plist.specs.Events.{BeginsWithStart}
 use Rattle.plist_commands.specs.Items.{ComesIfKnown, GivesNext, failures_if_held}
-use Rattle.plist_commands.specs.Printing.{IsOwnFault}
+use Rattle.plist_commands.specs.Printing.{IsWriterError}
 
 abbrev Done : Type 0
 Done = Unit {0}
@@ -84,7 +84,7 @@ module _ {S : Type 0} (failures : S → ℕ) where
 -- ---- the events of a value
 
 -- want of memory
-pub memory_own : (error : Error) → fault_of error ≡ fault_nowhere OutOfMemory → IsOwnFault error
+pub memory_own : (error : Error) → fault_of error ≡ fault_nowhere OutOfMemory → IsWriterError error
 memory_own error is = (
   ap (λ (f : Fault). f.offset) is,
   MatchFault-at (kind_of (error_kind_of error)) OutOfMemory ⊤ ⊤ ⊥
@@ -122,6 +122,6 @@ pub value_ends : (before after : List PlainEvent) → BeginsWithStart before →
     → length after < length before
 value_ends before after start none = omega (arith, some_left before start, ap length none)
 
-pub own_either : (error : Error) → IsOwnFault error ⊎ IsOwnFault error → IsOwnFault error
+pub own_either : (error : Error) → IsWriterError error ⊎ IsWriterError error → IsWriterError error
 own_either error (inl own) = own
 own_either error (inr own) = own

@@ -7,18 +7,18 @@ use Rattle.std.proofs.KnownBytes.{Appends-nil, Appends-trans}
 use Rattle.plist_base.specs.declared.error.Error.{Error}
 use Rattle.plist_base.specs.Events.{PlainEvent, Item}
 use Rattle.plist_base.specs.Faults.{Fault, FaultKind, Io, MatchFault, OutOfMemory, error_kind_of, fault_nowhere, fault_of, kind_of, offset_of}
-use Rattle.plist_base.specs.Fronts.{AppendsFront}
+use Rattle.plist_base.specs.Prefixes.{AppendsPrefix}
 use Rattle.plist_base.specs.Sources.{CountsIo, Rises}
 use Rattle.plist_base.proofs.Fronts.{Appends-at}
 use Rattle.plist_base.proofs.Refusals.{MatchFault-all, MatchFault-at, MatchFault-weaker}
-use Rattle.plist_commands.specs.Fronts.{PassesOn}
+use Rattle.plist_commands.specs.Prefixes.{PassesOn}
 use Rattle.plist_commands.specs.Items.{ComesIfKnown, GivesNext}
 use Rattle.plist_commands.specs.Lines.{line_of, lines_of, first_fault}
-use Rattle.plist_commands.specs.Printing.{CountsReads, IsOwnFault, PrintsAll, PrintsUntil}
+use Rattle.plist_commands.specs.Printing.{CountsReads, IsWriterError, PrintsAll, PrintsUntil}
 
 -- a beginning of a beginning
-pub front_longer : (a b : Option (List ℕ)) (bytes more : List ℕ) → AppendsFront a b bytes
-    → AppendsFront a b (bytes ++ more)
+pub front_longer : (a b : Option (List ℕ)) (bytes more : List ℕ) → AppendsPrefix a b bytes
+    → AppendsPrefix a b (bytes ++ more)
 front_longer a b bytes more (sent, left, appended, is) =
     (sent, left ++ more, appended, ap (λ xs. xs ++ more) is ∙ append_assoc sent left more)
 
@@ -29,7 +29,7 @@ on_err_of (Err error) p = p
 
 -- ---- the writer's failure, and want of memory
 
-pub device_own : (error : Error) → fault_of error ≡ fault_nowhere Io → IsOwnFault error
+pub device_own : (error : Error) → fault_of error ≡ fault_nowhere Io → IsWriterError error
 device_own error is = (
   ap (λ (f : Fault). f.offset) is,
   MatchFault-at (kind_of (error_kind_of error)) Io ⊤ ⊤ ⊥ (ap (λ (f : Fault). f.kind) is) tt,
@@ -37,14 +37,14 @@ device_own error is = (
 
 -- it may come anywhere
 pub own_ends : (items : Option (List Item)) (error : Error) (old new : Option (List ℕ))
-    → IsOwnFault error → IfSome items (λ all. PrintsUntil error all old new)
+    → IsWriterError error → IfSome items (λ all. PrintsUntil error all old new)
 own_ends None error old new own = tt
 own_ends (Some all) error old new own =
     MatchFault-weaker (kind_of (error_kind_of error)) (λ _. tt) (λ _. tt) (λ none. absurd none)
     own.1
 
 -- the source didn't fail then
-pub own_counts : (error : Error) (old new : ℕ) → IsOwnFault error → new ≡ old
+pub own_counts : (error : Error) (old new : ℕ) → IsWriterError error → new ≡ old
     → CountsReads {A = Unit {0}} (Err error) old new
 own_counts error old new own same =
     MatchFault-all (kind_of (error_kind_of error)) (inl (own.0, same)) same same
@@ -111,7 +111,7 @@ module _ {a b : Option (List ℕ)} {held : List ℕ} {all left : List Item}
   }
 
   -- a beginning of the lines, where a beginning of what was held back went out
-  pub sent_held : (c : Option (List ℕ)) → AppendsFront b c held → AppendsFront a c (lines_of all)
+  pub sent_held : (c : Option (List ℕ)) → AppendsPrefix b c held → AppendsPrefix a c (lines_of all)
   sent_held c (part, rest, more, is) = (
     h.sent ++ part,
     rest ++ lines_of left,
@@ -183,8 +183,8 @@ module _ {items coming after : Option (List Item)} {old now : Option (List ℕ)}
       (next, to, passed_on (with_line p (rw is at g)) new kept passes))
 
   pub line_in_part : (new : Option (List ℕ)) → item ≡ Some (Ok tt)
-      → AppendsFront now new (held ++ line_of last)
-      → IfSome items (λ all. AppendsFront old new (lines_of all))
+      → AppendsPrefix now new (held ++ line_of last)
+      → IfSome items (λ all. AppendsPrefix old new (lines_of all))
   line_in_part new is front =
       IfSome_then items h.next (λ all (left, next, p, to, g).
       sent_held (with_line p (rw is at g)) new front)
@@ -210,15 +210,15 @@ module _ {items coming after : Option (List Item)} {old now : Option (List ℕ)}
 
 -- a beginning of all lines, where a beginning of what was held back went out
 pub front_passed : (items coming : Option (List Item)) (old now new : Option (List ℕ))
-    (held : List ℕ) → HasPassed items coming old now held → AppendsFront now new held
-    → IfSome items (λ all. AppendsFront old new (lines_of all))
+    (held : List ℕ) → HasPassed items coming old now held → AppendsPrefix now new held
+    → IfSome items (λ all. AppendsPrefix old new (lines_of all))
 front_passed items coming old now new held passed front =
     IfSome_then items passed (λ all (left, is, p). sent_held p new front)
 
 -- the fault behind lines is the writer's, or the one that came
 pub whose_fault : (gives : Fault → Type 0) (error answer : Error) {A : Type 0}
     → gives (fault_of error) → ((answer ≡ error) × A) ⊎ (fault_of answer ≡ fault_nowhere Io)
-    → IsOwnFault answer ⊎ gives (fault_of answer)
+    → IsWriterError answer ⊎ gives (fault_of answer)
 whose_fault gives error answer given (inl (same, sent)) =
     inr (subst (λ e. gives (fault_of e)) (sym same) given)
 whose_fault gives error answer given (inr own) = inl (device_own answer own)

@@ -11,12 +11,12 @@ use Rattle.plist_commands.specs.declared.convert.Streamed.TheVariants.{NeedsValu
 use Rattle.plist_base.specs.declared.error.Error.{Error}
 use Rattle.plist_base.specs.Events.{PlainEvent}
 use Rattle.plist_base.specs.Faults.{FaultKind, Io, IsIo, MatchFault, OutOfMemory, error_kind_of, fault_nowhere, fault_of, kind_of, offset_of}
-use Rattle.plist_base.specs.Fronts.{AppendsFront}
+use Rattle.plist_base.specs.Prefixes.{AppendsPrefix}
 use Rattle.plist_base.proofs.Fronts.{Appends-at}
-use Rattle.plist_commands.specs.Fronts.{PassesOn}
+use Rattle.plist_commands.specs.Prefixes.{PassesOn}
 use Rattle.plist_commands.specs.Lines.{line_of, lines_of_events}
-use Rattle.plist_commands.specs.Printing.{IsOwn, IsOwnFault}
-use Rattle.plist_commands.specs.Runs.{ComesOfReading, GoesThrough, Gone, HoldsRun, PrintsRun}
+use Rattle.plist_commands.specs.Printing.{IsWriterFault, IsWriterError}
+use Rattle.plist_commands.specs.Runs.{ComesOfReading, GoesThrough, StepAnswer, HoldsRun, PrintsRun}
 use Rattle.plist_commands.proofs.HeldBack.{device_own}
 
 lines_more : (events : List PlainEvent) (event : PlainEvent)
@@ -26,8 +26,8 @@ lines_more (first ∷ events) event =
     ap (λ l. line_of first ++ l) (lines_more events event)
     ∙ sym (append_assoc (line_of first) (lines_of_events events) (line_of event))
 
-memory_own : (error : Error) → fault_of error ≡ fault_nowhere OutOfMemory → IsOwnFault error
-memory_own error is = subst IsOwn (sym is) (refl, tt)
+memory_own : (error : Error) → fault_of error ≡ fault_nowhere OutOfMemory → IsWriterError error
+memory_own error is = subst IsWriterFault (sym is) (refl, tt)
 
 -- all that was held back went out
 all_sent : (old now after : Option (List ℕ)) (lines held : List ℕ) → PassesOn old now lines held
@@ -37,7 +37,7 @@ all_sent old now after lines held (sent, appended, is) more =
 
 -- a beginning of it did
 front_sent : (old now after : Option (List ℕ)) (lines held : List ℕ) → PassesOn old now lines held
-    → AppendsFront now after held → AppendsFront old after lines
+    → AppendsPrefix now after held → AppendsPrefix old after lines
 front_sent old now after lines held (sent, appended, is) (part, rest, more, split) = (
   sent ++ part,
   rest,
@@ -53,12 +53,12 @@ appends_kept (Some xs) None after bytes appended kept = absurd appended
 appends_kept (Some xs) (Some ys) None bytes appended kept = absurd kept
 appends_kept (Some xs) (Some ys) (Some zs) bytes appended kept = kept ∙ appended
 
-front_kept : (old now after : Option (List ℕ)) (bytes : List ℕ) → AppendsFront old now bytes
-    → Keeps now after → AppendsFront old after bytes
+front_kept : (old now after : Option (List ℕ)) (bytes : List ℕ) → AppendsPrefix old now bytes
+    → Keeps now after → AppendsPrefix old after bytes
 front_kept old now after bytes (sent, rest, appended, is) kept =
     (sent, rest, appends_kept old now after sent appended kept, is)
 
-module _ {I : Type 0} (goes : I → Gone → I → Type 0) (last : I → PlainEvent) where
+module _ {I : Type 0} (goes : I → StepAnswer → I → Type 0) (last : I → PlainEvent) where
   -- so many events came, whose lines were sent or are held back
   abbrev pub HasRun : (old now : I) → (before after : Option (List ℕ)) → (held : List ℕ) → Type 0
   HasRun old now before after held =
@@ -110,7 +110,7 @@ module _ {I : Type 0} (goes : I → Gone → I → Type 0) (last : I → PlainEv
   -- its line didn't go out whole
   pub run_stopped : (old now new : I) (before here after : Option (List ℕ)) (held : List ℕ)
       (error : Error) → HasRun old now before here held → goes now (Some (Ok tt)) new
-      → IsOwnFault error → AppendsFront here after (held ++ line_of (last new))
+      → IsWriterError error → AppendsPrefix here after (held ++ line_of (last new))
       → PrintsRun goes last old (Err error) new before after
   run_stopped old now new before here after held error (events, through, passed) step own front = (
     events ++ last new ∷ [],
@@ -128,7 +128,7 @@ module _ {I : Type 0} (goes : I → Gone → I → Type 0) (last : I → PlainEv
   pub run_faulted : (old now new : I) (before here after : Option (List ℕ)) (held : List ℕ)
       (error answer : Error) → HasRun old now before here held → goes now (Some (Err error)) new
       → ((answer ≡ error) × Appends here after held) ⊎ (fault_of answer ≡ fault_nowhere Io)
-      → AppendsFront here after held → PrintsRun goes last old (Err answer) new before after
+      → AppendsPrefix here after held → PrintsRun goes last old (Err answer) new before after
   run_faulted old now new before here after held error answer (events, through, passed) step
       (inl (same, sent)) front = (
         events,
@@ -156,7 +156,7 @@ module _ {I : Type 0} (goes : I → Gone → I → Type 0) (last : I → PlainEv
       (answer : Result (Unit {0}) Error) → HasRun old now before here held → goes now None new
       → OnOk answer (Appends here after held)
       → IfErr answer (λ error. fault_of error ≡ fault_nowhere Io)
-      → AppendsFront here after held → PrintsRun goes last old answer new before after
+      → AppendsPrefix here after held → PrintsRun goes last old answer new before after
   run_ended old now new before here after held (Ok done) (events, through, passed) step sent own
       front = (
         events,
@@ -205,7 +205,7 @@ module _ {I : Type 0} (goes : I → Gone → I → Type 0) (last : I → PlainEv
 
 -- ---- events that are held
 
-module _ {I : Type 0} (goes : I → Gone → I → Type 0) (last : I → PlainEvent) where
+module _ {I : Type 0} (goes : I → StepAnswer → I → Type 0) (last : I → PlainEvent) where
   -- so many events came, which are held
   abbrev pub HasHeld : (old now : I) → (held : List PlainEvent) → Type 0
   HasHeld old now held =

@@ -17,7 +17,7 @@ use Rattle.plist_reader.specs.declared.format.Format.TheVariants as format
 use Rattle.plist_reader.specs.Formats.{format_of}
 use Rattle.plist_reader.specs.Reader.{items_by, items_of_input}
 use Rattle.plist.specs.Building.{Unfinished, NotBegun, IsNested, events_so_far}
-use Rattle.plist.specs.Inputs.{AreOf, IsReadFrom}
+use Rattle.plist.specs.Inputs.{AreOf, IsValueOf}
 use Rattle.plist.specs.LastWins.{last_wins}
 use Rattle.plist.specs.inner.Following.{taken_before, continues-accepted}
 use Rattle.plist.proofs.Gathered.{sends_tree}
@@ -102,7 +102,7 @@ module _ (all before : List Item) (held : List PlainEvent) (took : TookOf all be
 
   -- the reader's fault
   pub took_fault : (after : List Item) (fault : Fault)
-      → MatchFault fault.kind ⊤ ⊤ (before ≡ Err fault ∷ after) → IsReadFrom all (Err fault)
+      → MatchFault fault.kind ⊤ ⊤ (before ≡ Err fault ∷ after) → IsValueOf all (Err fault)
   took_fault after fault b =
       let (events, u, is, ok, alike, like) = took in
       stops-there all before after events u (Err fault) fault ok alike is b refl

@@ -8,7 +8,7 @@ use Rattle.plist_keyed.specs.Archives.{resolved_tree}
 use Rattle.plist_keyed.specs.Contents.{IsArchiveOf, IsUidAt}
 use Rattle.plist_keyed.specs.Errors.{IsFaultOf}
 use Rattle.plist_commands.specs.Archives.{IsRefusedAt, IsUnprintedAt}
-use Rattle.plist_commands.specs.Failures.{Complaint, OfArchive, OfPlist, NoSuchTop}
+use Rattle.plist_commands.specs.Failures.{PlainFailure, OfArchive, OfPlist, NoSuchTop}
 
 pub refused : (root : Value) (key : List ℕ) (objects : List Value) (names : List (List ℕ × Value))
     (uid : ℕ) (e : KeyedError) → IsArchiveOf root objects names → IsUidAt key names uid
@@ -22,8 +22,8 @@ refused root key objects names uid (error.RecursiveUid n) archive at h =
 refused root key objects names uid error.OutOfMemory archive at h = tt
 
 -- the tree isn't printed where there is none
-pub unprinted : (root : Value) (key : List ℕ) (complaint : Complaint)
-    → IsRefusedAt root key complaint → IsUnprintedAt root key complaint
+pub unprinted : (root : Value) (key : List ℕ) (failure : PlainFailure)
+    → IsRefusedAt root key failure → IsUnprintedAt root key failure
 unprinted root key (OfPlist fault) h = absurd h
 unprinted root key (OfArchive e) h = h
 unprinted root key NoSuchTop h = h

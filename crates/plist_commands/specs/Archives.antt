@@ -10,7 +10,7 @@ use Rattle.plist_keyed.specs.Archives.{ArchiveFault, resolved_tree}
 use Rattle.plist_keyed.specs.Contents.{IsArchive, IsArchiveOf, IsUidAt}
 use Rattle.plist_keyed.specs.Errors.{MatchError}
 use Rattle.plist_commands.specs.Lines.{lines_of_events}
-use Rattle.plist_commands.specs.Failures.{Complaint, OfPlist, OfArchive, NoSuchTop}
+use Rattle.plist_commands.specs.Failures.{PlainFailure, OfPlist, OfArchive, NoSuchTop}
 
 -- the property list is an archive whose key names an object with this tree, or this fault
 abbrev pub IsResolvedAt : (root : Value) → (key : List ℕ) → Result Tree ArchiveFault → Type 0
@@ -28,8 +28,8 @@ IsUnnamed root key =
     (objects : List Value) × (names : List (List ℕ × Value)) × IsArchiveOf root objects names
     × ((uid : ℕ) → ¬ (IsUidAt key names uid))
 
--- the complaint says why there is no tree; want of memory may always be why
-abbrev pub IsRefusedAt : (root : Value) → (key : List ℕ) → Complaint → Type 0
+-- the failure says why there is no tree; want of memory may always be why
+abbrev pub IsRefusedAt : (root : Value) → (key : List ℕ) → PlainFailure → Type 0
 IsRefusedAt root key (OfPlist fault) = ⊥
 IsRefusedAt root key (OfArchive error) =
     MatchError error (¬ (IsArchive root)) ⊤ (λ fault. IsResolvedAt root key (Err fault))
@@ -42,8 +42,8 @@ PrintsTreeAt contents root key old new =
     (tree : Tree) × IsTreeAt root key tree
     × Appends (contents old) (contents new) (lines_of_events (bracketing tree))
 
--- the complaint says why they didn't: there is no tree, or the writer or memory failed
-abbrev pub IsUnprintedAt : (root : Value) → (key : List ℕ) → Complaint → Type 0
+-- the failure says why they didn't: there is no tree, or the writer or memory failed
+abbrev pub IsUnprintedAt : (root : Value) → (key : List ℕ) → PlainFailure → Type 0
 IsUnprintedAt root key (OfPlist fault) = (fault.offset ≡ None) × IsFromOutside fault.kind
 IsUnprintedAt root key (OfArchive error) = IsRefusedAt root key (OfArchive error)
 IsUnprintedAt root key NoSuchTop = IsRefusedAt root key NoSuchTop

@@ -35,8 +35,8 @@ abbrev pub EndsWith : {E : Type 0} → (reports : E → PlainMessage → Bool �
     → CommandOutcome → (status : ℕ)
     → (old new : E) → Type 0
 EndsWith reports (Ok done) status old new = (status ≡ 0) × (new ≡ old)
-EndsWith reports (Err complaint) status old new =
-    (status ≡ 1) × ((whole : Bool) × reports old (Fault complaint) whole new)
+EndsWith reports (Err failure) status old new =
+    (status ≡ 1) × ((whole : Bool) × reports old (Fault failure) whole new)
 
 -- the words ask for a command that may have answered so, and an output whose bytes are known then
 -- holds these

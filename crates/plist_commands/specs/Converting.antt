@@ -13,7 +13,7 @@ use Rattle.plist_binread.specs.declared.counter.DecodeCounter.{Ghosts as Counter
 use Rattle.plist_binread.specs.declared.reader.BinaryReader.{BinaryReader}
 use Rattle.plist_binwrite.specs.Files.{IsFileOf}
 use Rattle.plist_reader.specs.Reader.{items_of_input}
-use Rattle.plist.specs.Inputs.{AreOf, IsReadFrom, IsReadIfKnown}
+use Rattle.plist.specs.Inputs.{AreOf, IsValueOf, IsReadIfKnown}
 use Rattle.plist.specs.LastWins.{last_wins}
 use Rattle.plist.specs.SendingValues.{SendsTree}
 
@@ -55,7 +55,7 @@ module _ {W : Type 0} (contents : W → Option (List ℕ)) (known : Option (List
 -- what went out of these bytes is a file of the tree that they are read as
 abbrev pub SendsBytes : (bytes old new : List ℕ) → Type 0
 SendsBytes bytes old new =
-    (tree : Tree) × IsReadFrom (items_of_input bytes) (Ok tree)
+    (tree : Tree) × IsValueOf (items_of_input bytes) (Ok tree)
     × ((file : List ℕ) × IsFileOf tree file × (new ≡ old ++ file))
 
 -- this is so where a call is done with this answer

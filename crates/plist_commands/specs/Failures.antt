@@ -7,27 +7,27 @@ use Rattle.plist_commands.specs.declared.failure.Failure.{Failure}
 use Rattle.plist_commands.specs.declared.failure.Failure.TheVariants as failure
 
 -- a fault of a property list, one of an archive, or a key that names no object of it
-pub data Complaint : Type 0 where
-  OfPlist : Fault → Complaint
-  OfArchive : KeyedError → Complaint
-  NoSuchTop : Complaint
+pub data PlainFailure : Type 0 where
+  OfPlist : Fault → PlainFailure
+  OfArchive : KeyedError → PlainFailure
+  NoSuchTop : PlainFailure
 
 -- what contracts see of a failure
-abbrev pub complaint_of : Failure → Complaint
-complaint_of (failure.Plist error) = OfPlist (fault_of error)
-complaint_of (failure.Keyed error) = OfArchive error
-complaint_of failure.NoSuchTop = NoSuchTop
+abbrev pub plain_failure_of : Failure → PlainFailure
+plain_failure_of (failure.Plist error) = OfPlist (fault_of error)
+plain_failure_of (failure.Keyed error) = OfArchive error
+plain_failure_of failure.NoSuchTop = NoSuchTop
 
 -- the text of it
-abbrev pub text_of_complaint : Complaint → List ℕ
-text_of_complaint (OfPlist fault) = fault_text fault
-text_of_complaint (OfArchive error) = text_of_error error
-text_of_complaint NoSuchTop = codes "NoSuchTop"
+abbrev pub failure_text : PlainFailure → List ℕ
+failure_text (OfPlist fault) = fault_text fault
+failure_text (OfArchive error) = text_of_error error
+failure_text NoSuchTop = codes "NoSuchTop"
 
 -- what contracts see of a command's answer
 abbrev pub CommandOutcome : Type 0
-CommandOutcome = Result (Unit {0}) Complaint
+CommandOutcome = Result (Unit {0}) PlainFailure
 
 abbrev pub outcome_of : {A : Type 0} → Result A Failure → CommandOutcome
 outcome_of (Ok done) = Ok tt
-outcome_of (Err failure) = Err (complaint_of failure)
+outcome_of (Err failure) = Err (plain_failure_of failure)

@@ -4,8 +4,8 @@ use Rattle.plist_base.specs.declared.error.Error.{Error}
 use Rattle.plist_base.specs.declared.source.Source.{Ghosts}
 use Rattle.plist_base.specs.Events.{PlainEvent, Item}
 use Rattle.plist_base.specs.Faults.{MatchFault, error_kind_of, fault_of, kind_of}
-use Rattle.plist_reader.specs.Reader.{source_of, to_come}
-use Rattle.plist_commands.specs.declared.stream.ReaderEvents.{ReaderEvents}
+use Rattle.plist_reader.specs.Reader.{reader_source, reader_items}
+use Rattle.plist_commands.specs.declared.reader_events.ReaderEvents.{ReaderEvents}
 use Rattle.plist.specs.declared.stream.events.Events.{Events}
 use Rattle.plist.specs.Events.{remaining_events}
 
@@ -27,7 +27,7 @@ ComesIfKnown before item current after =
 -- the items that are still to come of a reader whose last event is held
 abbrev pub items_to_read : {S : Type 0} {g : Ghosts S} → (known : S → Option (List ℕ))
     → ReaderEvents S g → Option (List Item)
-items_to_read known events = to_come known events.reader
+items_to_read known events = reader_items known events.reader
 
 -- how many reads of a source failed, if there is one
 abbrev pub failures_if_held : {S : Type 0} → (failures : S → ℕ) → Option S → ℕ
@@ -36,7 +36,7 @@ failures_if_held failures (Some source) = failures source
 
 -- the same of its source
 abbrev pub failures_in : {S : Type 0} {g : Ghosts S} → (failures : S → ℕ) → ReaderEvents S g → ℕ
-failures_in failures events = failures_if_held failures (source_of events.reader)
+failures_in failures events = failures_if_held failures (reader_source events.reader)
 
 -- the items that the events left of a value are
 abbrev pub items_of_events : Events → Option (List Item)

@@ -1,6 +1,6 @@
 pub mod Lines
 pub mod Examples
-pub mod Fronts
+pub mod Prefixes
 pub mod Printing
 pub mod Runs
 pub mod Items

@@ -1,20 +1,20 @@
 -- What the program says beside its output.
 use Rattle.std.specs.Prelude.{ℕ, Bool, true, false, List, ◌++◌, Option, codes}
 use Rattle.std.specs.Io.KnownBytes.{Appends}
-use Rattle.plist_commands.specs.Failures.{Complaint, complaint_of, text_of_complaint}
-use Rattle.plist_base.specs.Fronts.{AppendsFront}
+use Rattle.plist_commands.specs.Failures.{PlainFailure, plain_failure_of, failure_text}
+use Rattle.plist_base.specs.Prefixes.{AppendsPrefix}
 use Rattle.plist_commands.specs.declared.messages.Message.{Message}
 use Rattle.plist_commands.specs.declared.messages.Message.TheVariants as message
 
 -- how the program is used, or why a command was refused
 pub data PlainMessage : Type 0 where
   Usage : PlainMessage
-  Fault : Complaint → PlainMessage
+  Fault : PlainFailure → PlainMessage
 
 -- what contracts see of a message
 abbrev pub plain_message_of : Message → PlainMessage
 plain_message_of message.Usage = Usage
-plain_message_of (message.Fault failure) = Fault (complaint_of failure.now)
+plain_message_of (message.Fault failure) = Fault (plain_failure_of failure.now)
 
 -- what is said of wrong words
 abbrev pub usage : List ℕ
@@ -23,11 +23,11 @@ usage = codes "Usage: plist_tool print FILE | convert IN OUT | keyed FILE KEY\n"
 -- the text of a message
 abbrev pub message_text : PlainMessage → List ℕ
 message_text Usage = usage
-message_text (Fault complaint) = codes "Error: " ++ text_of_complaint complaint ++ codes "\n"
+message_text (Fault failure) = codes "Error: " ++ failure_text failure ++ codes "\n"
 
 -- what a writer took of a message: all of it where no write failed, and else of the usage a
 -- beginning
 abbrev pub TakesMessage : PlainMessage → (whole : Bool) → (old new : Option (List ℕ)) → Type 0
 TakesMessage said true old new = Appends old new (message_text said)
-TakesMessage Usage false old new = AppendsFront old new usage
-TakesMessage (Fault complaint) false old new = Unit {0}
+TakesMessage Usage false old new = AppendsPrefix old new usage
+TakesMessage (Fault failure) false old new = Unit {0}

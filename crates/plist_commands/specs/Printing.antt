@@ -11,7 +11,7 @@ use Rattle.plist_binread.specs.BinaryReader.{binary_source}
 use Rattle.plist_format.specs.Unfolding.{items_of_file}
 use Rattle.plist_binread.specs.declared.counter.DecodeCounter.{Ghosts as CounterGhosts}
 use Rattle.plist_binread.specs.declared.reader.BinaryReader.{BinaryReader}
-use Rattle.plist_base.specs.Fronts.{AppendsFront}
+use Rattle.plist_base.specs.Prefixes.{AppendsPrefix}
 use Rattle.plist.specs.declared.value.Value.{Value}
 use Rattle.plist.specs.Views.{tree_of}
 use Rattle.plist_commands.specs.Lines.{lines_of, lines_of_events, first_fault}
@@ -37,9 +37,9 @@ module _ {W : Type 0} (contents : W → Option (List ℕ)) (items : Option (List
     EndsItems error = IfSome items (λ all. PrintsUntil error all (contents old) (contents new))
 
     -- a beginning of their lines went out
-    abbrev pub SendsFrontOfItems : Type 0
-    SendsFrontOfItems =
-        IfSome items (λ all. AppendsFront (contents old) (contents new) (lines_of all))
+    abbrev pub SendsPrefixOfItems : Type 0
+    SendsPrefixOfItems =
+        IfSome items (λ all. AppendsPrefix (contents old) (contents new) (lines_of all))
 
 -- the same of all the items of a source's file
 module _ {S W : Type 0} (known : S → Option (List ℕ)) (contents : W → Option (List ℕ)) (source : S)
@@ -52,9 +52,9 @@ module _ {S W : Type 0} (known : S → Option (List ℕ)) (contents : W → Opti
   EndsFile error = IfSome (known source) (λ bytes.
       PrintsUntil error (items_of_file bytes) (contents old) (contents new))
 
-  abbrev pub SendsFrontOfFile : Type 0
-  SendsFrontOfFile = IfSome (known source) (λ bytes.
-      AppendsFront (contents old) (contents new) (lines_of (items_of_file bytes)))
+  abbrev pub SendsPrefixOfFile : Type 0
+  SendsPrefixOfFile = IfSome (known source) (λ bytes.
+      AppendsPrefix (contents old) (contents new) (lines_of (items_of_file bytes)))
 
 -- the lines of all the events of a value went out, or a beginning of them
 module _ {W : Type 0} (contents : W → Option (List ℕ)) (value : Value) (old new : W) where
@@ -62,16 +62,16 @@ module _ {W : Type 0} (contents : W → Option (List ℕ)) (value : Value) (old 
   PrintsValue =
       Appends (contents old) (contents new) (lines_of_events (bracketing (tree_of value)))
 
-  abbrev pub SendsFrontOfValue : Type 0
-  SendsFrontOfValue =
-      AppendsFront (contents old) (contents new) (lines_of_events (bracketing (tree_of value)))
+  abbrev pub SendsPrefixOfValue : Type 0
+  SendsPrefixOfValue =
+      AppendsPrefix (contents old) (contents new) (lines_of_events (bracketing (tree_of value)))
 
 -- the writer's failure, or want of memory for a line: neither has an offset
-abbrev pub IsOwn : Fault → Type 0
-IsOwn fault = (fault.offset ≡ None) × IsFromOutside fault.kind
+abbrev pub IsWriterFault : Fault → Type 0
+IsWriterFault fault = (fault.offset ≡ None) × IsFromOutside fault.kind
 
-abbrev pub IsOwnFault : Error → Type 0
-IsOwnFault error = IsOwn (fault_of error)
+abbrev pub IsWriterError : Error → Type 0
+IsWriterError error = IsWriterFault (fault_of error)
 
 -- the source failed only where the answer is `Io`, and that without an offset may be the writer's
 abbrev pub CountsReads : {A : Type 0} → Result A Error → (old new : ℕ) → Type 0

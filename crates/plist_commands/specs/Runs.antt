@@ -6,24 +6,24 @@ use Rattle.plist_base.specs.declared.source.Source.{Ghosts}
 use Rattle.plist_base.specs.Bracketing.{without_length}
 use Rattle.plist_base.specs.Events.{PlainEvent, event_of}
 use Rattle.plist_base.specs.Faults.{IsIo, OutOfMemory, error_kind_of, fault_nowhere, fault_of, kind_of, offset_of}
-use Rattle.plist_base.specs.Fronts.{AppendsFront}
+use Rattle.plist_base.specs.Prefixes.{AppendsPrefix}
 use Rattle.plist_base.specs.Sources.{Rises}
 use Rattle.plist_binread.specs.BinaryReader.{is_new, binary_source}
 use Rattle.plist_binread.specs.Failures.{HasPlace}
 use Rattle.plist_binread.specs.Advancing.{Advances, current_event}
-use Rattle.plist_reader.specs.Reader.{Gives, OfFile, is_limited, source_of as source_of_any}
-use Rattle.plist_commands.specs.declared.stream.ReaderEvents.{ReaderEvents}
+use Rattle.plist_reader.specs.Reader.{Gives, OfFile, reader_is_limited, reader_source as source_of_any}
+use Rattle.plist_commands.specs.declared.reader_events.ReaderEvents.{ReaderEvents}
 use Rattle.plist_commands.specs.declared.convert.Streamed.{Streamed}
 use Rattle.plist_commands.specs.declared.convert.Streamed.TheVariants.{NeedsValue}
 use Rattle.plist_commands.specs.Lines.{lines_of_events}
 use Rattle.plist_commands.specs.Items.{failures_in}
-use Rattle.plist_commands.specs.Printing.{CountsReads, CountsReadsOf, IsOwnFault}
+use Rattle.plist_commands.specs.Printing.{CountsReads, CountsReadsOf, IsWriterError}
 
 -- what a call of a reader answers that goes on to the next item
-abbrev pub Gone : Type 0
-Gone = Option (Result (Unit {0}) Error)
+abbrev pub StepAnswer : Type 0
+StepAnswer = Option (Result (Unit {0}) Error)
 
-module _ {I : Type 0} (goes : I → Gone → I → Type 0) (last : I → PlainEvent) where
+module _ {I : Type 0} (goes : I → StepAnswer → I → Type 0) (last : I → PlainEvent) where
   -- these events came, one after the other
   abbrev pub GoesThrough : I → List PlainEvent → I → Type 0
   GoesThrough old [] new = old ≡ new
@@ -32,7 +32,7 @@ module _ {I : Type 0} (goes : I → Gone → I → Type 0) (last : I → PlainEv
 
   -- it was asked once at most
   abbrev pub IsAskedOnce : (old new : I) → Type 0
-  IsAskedOnce old new = (new ≡ old) ⊎ ((item : Gone) × goes old item new)
+  IsAskedOnce old new = (new ≡ old) ⊎ ((item : StepAnswer) × goes old item new)
 
   -- Events came, whose lines went out; and then nothing came, or the fault that is the answer. Or a
   -- beginning of the lines went out, and the answer is that the writer failed or memory was wanted.
@@ -42,8 +42,8 @@ module _ {I : Type 0} (goes : I → Gone → I → Type 0) (last : I → PlainEv
       (events : List PlainEvent) × (left : I) × GoesThrough old events left × MatchResult answer
       (λ _. goes left None new × Appends before after (lines_of_events events))
       (λ error. (goes left (Some (Err error)) new × Appends before after (lines_of_events events))
-      ⊎ (IsOwnFault error × IsAskedOnce left new
-      × AppendsFront before after (lines_of_events events)))
+      ⊎ (IsWriterError error × IsAskedOnce left new
+      × AppendsPrefix before after (lines_of_events events)))
 
   -- Events came, and were held where they are a tree's: nothing came behind them then. Or a fault
   -- came, which is the answer; or memory was wanted.
@@ -58,7 +58,7 @@ module _ {I : Type 0} (goes : I → Gone → I → Type 0) (last : I → PlainEv
 
 -- the calls of a reader of a binary source
 abbrev pub AdvancesBinary : {S : Type 0} {g : Ghosts S} (known : S → Option (List ℕ)) (failed : S → ℕ)
-    → OfFile S g → Gone → OfFile S g → Type 0
+    → OfFile S g → StepAnswer → OfFile S g → Type 0
 AdvancesBinary known failed old item new = Advances known failed ⊥ (λ _. 0) old item new
 
 -- what was printed of the events that a reader had still to give
@@ -82,7 +82,7 @@ PrintsSource {S} known failed source answer before after =
 
 -- an event came, which is the one that is held as the last, or a fault, or nothing
 abbrev pub AdvancesReading : {S : Type 0} {g : Ghosts S} (known : S → Option (List ℕ))
-    (failed : S → ℕ) → ReaderEvents S g → Gone → ReaderEvents S g → Type 0
+    (failed : S → ℕ) → ReaderEvents S g → StepAnswer → ReaderEvents S g → Type 0
 AdvancesReading known failed old item new =
     MatchOption item (Gives known failed old.reader None new.reader) (λ answer. MatchResult answer
     (λ _. Gives known failed old.reader (Some (Ok new.last)) new.reader)
@@ -108,7 +108,7 @@ abbrev pub HoldsOther : {S : Type 0} (known : S → Option (List ℕ)) (failed :
 HoldsOther {S} known failed source answer held =
     (events : ReaderEvents S (record { known = known; failures = failed }))
     × (left : ReaderEvents S (record { known = known; failures = failed }))
-    × (source_of_any events.reader ≡ Some source) × (is_limited events.reader ≡ false)
+    × (source_of_any events.reader ≡ Some source) × (reader_is_limited events.reader ≡ false)
     × HoldsRun (AdvancesReading known failed) last_read events answer left held
     × CountsReads answer (failures_in failed events) (failures_in failed left)
 

@@ -2,9 +2,9 @@
 //! words, and how a run ends.
 
 ghost use Rattle.std.specs.Prelude.{◌≡◌, ◌++◌, Bool, Err, IfErr, IfSome, Ok, OnOk, Some, codes, false, true};
-ghost use Rattle.plist_base.specs.Fronts.{AppendsFront};
+ghost use Rattle.plist_base.specs.Prefixes.{AppendsPrefix};
 ghost use Rattle.plist_commands.specs.Commands.{Answered};
-ghost use Rattle.plist_commands.specs.Failures.{Complaint, complaint_of, text_of_complaint};
+ghost use Rattle.plist_commands.specs.Failures.{PlainFailure, plain_failure_of, failure_text};
 ghost use Rattle.plist_commands.specs.Converting.{IfOkIs, LeavesToValue, SendsBytes};
 ghost use Rattle.plist_commands.specs.Lines.{lines_of};
 ghost use Rattle.plist_commands.specs.Messages.{Fault, Usage};
@@ -30,7 +30,7 @@ pub fn print_bytes(alloc: Global, bytes: &[u8], out: &mut Vec<u8>) -> Result<(),
         (PrintsAll (items_of_file bytes.now) (Some out.old.items) (Some out.new.items)) }
     ensures refused { IfErr result (λ error.
         PrintsUntil error (items_of_file bytes.now) (Some out.old.items) (Some out.new.items)) }
-    ensures front { AppendsFront (Some out.old.items) (Some out.new.items)
+    ensures prefix { AppendsPrefix (Some out.old.items) (Some out.new.items)
         (lines_of (items_of_file bytes.now)) }
 {
     print_events(alloc, bytes, out)
@@ -50,7 +50,7 @@ pub fn convert_bytes(alloc: Global, bytes: &[u8], out: &mut Vec<u8>) -> Result<S
 /// What is told of a failure; none where there was no memory for it.
 pub fn text_of_failure(alloc: Global, failure: &Failure) -> Option<Vec<u8>>
     ensures { IfSome result (λ text. text.items
-        ≡ codes "Error: " ++ text_of_complaint (complaint_of failure.now) ++ codes "\n") }
+        ≡ codes "Error: " ++ failure_text (plain_failure_of failure.now) ++ codes "\n") }
 {
     let mut text = Vec::new(alloc);
     match text.report(Message::Fault(failure)) {
@@ -106,9 +106,9 @@ pub fn is_refused<R: Commands, O: Write, E: Messages>(
     out: &mut O,
     err: &mut E,
 ) -> bool
-    ensures { result ≡ true → (complaint : Complaint)
-        × Answered (R.answers rt.now) O.contents words.now out.old (Err complaint) out.new
-        × (whole : Bool) × E.reports err.old (Fault complaint) whole err.new }
+    ensures { result ≡ true → (failure : PlainFailure)
+        × Answered (R.answers rt.now) O.contents words.now out.old (Err failure) out.new
+        × (whole : Bool) × E.reports err.old (Fault failure) whole err.new }
 {
     run_words(rt, alloc, words, out, err) == 1
 }

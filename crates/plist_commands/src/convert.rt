@@ -11,10 +11,10 @@ ghost use Rattle.plist_commands.specs.Printing.{CountsReads};
 ghost use Rattle.plist_commands.specs.Runs.{ConvertsSource, HoldsBinary, HoldsOther, HoldsRun, ReadsSource};
 ghost use Rattle.plist_commands.specs.declared.convert.Streamed.TheVariants.{NeedsValue, Sent};
 
-use crate::holder::Holder;
+use crate::event_sink::EventSink;
 use crate::items::Items;
 use crate::open::open_source;
-use crate::stream::ReaderEvents;
+use crate::reader_events::ReaderEvents;
 use plist::{Output, Value};
 use plist_base::{Error, Source};
 use plist_binread::BinaryReader;
@@ -36,33 +36,33 @@ pub enum Streamed {
 }
 
 // Holds the events that are still to come, and tells whether they are those of a tree.
-fn hold_events<I: Items, H: Holder>(
+fn hold_events<I: Items, H: EventSink>(
     alloc: Global,
     items: &mut I,
-    holder: &mut H,
+    sink: &mut H,
 ) -> Result<bool, Error>
-    requires empty { IsEmpty (H.whole holder.old) (H.held holder.old) }
+    requires empty { IsEmpty (H.whole sink.old) (H.held sink.old) }
     // The answer.
-    ensures held { FindsTree (I.coming items.old) result (H.held holder.new) }
+    ensures held { FindsTree (I.coming items.old) result (H.held sink.new) }
     ensures none { IfOkIs result false (AreNoTree (I.coming items.old)) }
-    ensures answers { HoldsRun I.goes I.last items.old result items.new (H.held holder.new) }
+    ensures answers { HoldsRun I.goes I.last items.old result items.new (H.held sink.new) }
     // A refusal.
     ensures refused { IsRefusedFor (I.coming items.old) result }
     // The state after it.
     ensures failures { CountsReads result (I.failures items.old) (I.failures items.new) }
 {
-    while let Some(item) = items.go_on() {
+    while let Some(item) = items.next_item() {
         match item {
             Ok(()) => {}
             Err(error) => return Err(error),
         }
-        match holder.take(alloc, items.event(), items.scalars_expected()) {
+        match sink.take(alloc, items.event(), items.scalars_expected()) {
             Ok(true) => {}
             Ok(false) => return Ok(false),
             Err(error) => return Err(error),
         }
     }
-    Ok(holder.is_whole())
+    Ok(sink.is_whole())
 }
 
 // Holds the events of a binary source.
@@ -122,7 +122,7 @@ fn hold_source<S: Source>(
 }
 
 // Sends the events of a tree as a file, where no key stands twice in a dictionary.
-fn send_held<W: Write>(
+fn send_events<W: Write>(
     alloc: Global,
     pending: &EventBuffer,
     writer: &mut W,
@@ -167,7 +167,7 @@ pub fn convert_binary<S: Source, W: Write>(
 {
     let mut pending = EventBuffer::new(alloc);
     match hold_source(alloc, source, &mut pending) {
-        Ok(true) => send_held(alloc, &pending, writer),
+        Ok(true) => send_events(alloc, &pending, writer),
         Ok(false) => Ok(Streamed::NeedsValue),
         Err(error) => Err(error),
     }

@@ -2,7 +2,7 @@
 
 ghost use Rattle.std.specs.Prelude.{◌≡◌, Some};
 ghost use Rattle.plist_base.specs.Faults.{fault_of};
-ghost use Rattle.plist_commands.specs.Failures.{OfPlist, complaint_of, text_of_complaint};
+ghost use Rattle.plist_commands.specs.Failures.{OfPlist, plain_failure_of, failure_text};
 
 use plist_base::Error;
 use plist_keyed::KeyedError;
@@ -21,7 +21,7 @@ pub enum Failure {
 
 /// The fault's own text.
 impl fmt::Display for Failure {
-    ghost output = { λ failure. Some (text_of_complaint (complaint_of failure)) };
+    ghost output = { λ failure. Some (failure_text (plain_failure_of failure)) };
 
     fn fmt<W: fmt::Write>(&self, f: &mut fmt::Formatter<W>) -> fmt::Result {
         match self {
@@ -33,7 +33,7 @@ impl fmt::Display for Failure {
 }
 
 impl From<Error> for Failure {
-    ghost from_gives = { λ error failure. complaint_of failure ≡ OfPlist (fault_of error) };
+    ghost from_gives = { λ error failure. plain_failure_of failure ≡ OfPlist (fault_of error) };
 
     fn from(error: Error) -> Failure {
         Failure::Plist(error)

@@ -6,7 +6,7 @@ ghost use Rattle.plist_base.specs.Faults.{Fault};
 ghost use Rattle.plist_base.specs.Outcomes.{IfFault};
 ghost use Rattle.plist_base.specs.Sources.{ItemCountsIo};
 ghost use Rattle.plist_commands.specs.Items.{ComesIfKnown};
-ghost use Rattle.plist_commands.specs.Runs.{Gone};
+ghost use Rattle.plist_commands.specs.Runs.{StepAnswer};
 
 use plist_base::{Error, Event, Source};
 use plist_binread::BinaryReader;
@@ -24,8 +24,8 @@ pub(crate) trait Items {
     ghost failures: { Self → ℕ };
     /// What is so of each fault.
     ghost gives: { Fault → Type 0 };
-    /// What one call of `go_on` does.
-    ghost goes: { Self → Gone → Self → Type 0 };
+    /// What one call of `next_item` does.
+    ghost goes: { Self → StepAnswer → Self → Type 0 };
     /// At most how many items are still to come.
     ghost steps: { Self → ℕ };
 
@@ -33,7 +33,7 @@ pub(crate) trait Items {
     ///
     /// # Errors
     /// The fault that comes in the place of an event.
-    fn go_on(&mut self) -> Option<Result<(), Error>>
+    fn next_item(&mut self) -> Option<Result<(), Error>>
         ensures items { ComesIfKnown (coming self.old) result (last self.new) (coming self.new) }
         ensures answers { goes self.old result self.new }
         ensures fault { IfSome result (λ answer. IfFault answer gives) }
@@ -89,7 +89,7 @@ impl<S: Source> Items for BinaryReader<S> {
     ghost steps = { binary_steps };
 
     #[inline(always)]
-    fn go_on(&mut self) -> Option<Result<(), Error>> {
+    fn next_item(&mut self) -> Option<Result<(), Error>> {
         self.advance()
     }
 

@@ -3,10 +3,10 @@
 ghost use Rattle.std.specs.Prelude.{IfErr, IfOk, OnOk};
 ghost use Rattle.plist.specs.Views.{tree_of};
 ghost use Rattle.plist_commands.specs.Archives.{IsRefusedAt, IsTreeAt, IsUnprintedAt, PrintsTreeAt};
-ghost use Rattle.plist_commands.specs.Failures.{complaint_of};
+ghost use Rattle.plist_commands.specs.Failures.{plain_failure_of};
 
 use crate::failure::Failure;
-use crate::values::print_value;
+use crate::value_events::print_value;
 use plist::Value;
 use plist_keyed::Archive;
 use std::alloc::Global;
@@ -16,7 +16,8 @@ use std::rt::Files;
 // The tree of the object that an archive's `$top` names by this key.
 fn tree_at(alloc: Global, root: &Value, key: &str) -> Result<Value, Failure>
     ensures tree { IfOk result (λ value. IsTreeAt root.now key.now (tree_of value)) }
-    ensures refused { IfErr result (λ error. IsRefusedAt root.now key.now (complaint_of error)) }
+    ensures refused { IfErr result
+        (λ error. IsRefusedAt root.now key.now (plain_failure_of error)) }
 {
     let archive = match Archive::open(root) {
         Ok(archive) => archive,
@@ -44,7 +45,8 @@ pub fn print_at<O: Write>(
     out: &mut O,
 ) -> Result<(), Failure>
     ensures printed { OnOk result (PrintsTreeAt O.contents root.now key.now out.old out.new) }
-    ensures refused { IfErr result (λ error. IsUnprintedAt root.now key.now (complaint_of error)) }
+    ensures refused { IfErr result
+        (λ error. IsUnprintedAt root.now key.now (plain_failure_of error)) }
 {
     let tree = match tree_at(alloc, root, key) {
         Ok(tree) => tree,

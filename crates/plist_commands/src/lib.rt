@@ -7,16 +7,16 @@
 pub mod callers;
 mod commands;
 mod convert;
+mod event_sink;
 mod failure;
-mod holder;
 mod items;
 mod keyed;
 mod lines;
 mod messages;
 mod open;
 mod print;
-mod stream;
-mod values;
+mod reader_events;
+mod value_events;
 mod words;
 
 pub use commands::{Command, Commands, command_of, run_words};
@@ -25,5 +25,5 @@ pub use failure::Failure;
 pub use keyed::{keyed_file, print_at};
 pub use messages::{Message, Messages};
 pub use print::{print_events, print_reader};
-pub use values::print_value;
-pub use words::words_given;
+pub use value_events::print_value;
+pub use words::program_arguments;

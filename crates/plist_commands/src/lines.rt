@@ -250,7 +250,7 @@ fn push_words(line: &mut Vec<u8>, event: &Event<'_>) -> Result<(), AllocError>
 }
 
 /// A bound on the bytes of an event's line; `usize::MAX` stands for any that is larger.
-pub fn most_bytes(event: &Event<'_>) -> usize {
+pub fn line_bound(event: &Event<'_>) -> usize {
     match event {
         Event::String(text) => text.as_str().len().saturating_mul(4).saturating_add(64),
         Event::Data(bytes) => bytes.as_slice().len().saturating_mul(2).saturating_add(64),

@@ -4,12 +4,12 @@ ghost use Rattle.std.specs.Prelude.{◌≡◌, ◌⊎◌, [], IfErr, OnErr, OnOk
 ghost use Rattle.plist_base.specs.Faults.{fault_of};
 ghost use Rattle.plist_binread.specs.BinaryReader.{binary_source};
 ghost use Rattle.plist_commands.specs.Converting.{items_left};
-ghost use Rattle.plist_commands.specs.Fronts.{EndsBehind, MakesRoom, PassesLine, SendsFront, SendsLineInPart};
-ghost use Rattle.plist_commands.specs.Printing.{CountsReads, CountsReadsOf, EndsFile, EndsItems, IsOwnFault, PrintsFile, PrintsItems, SendsFrontOfFile, SendsFrontOfItems};
+ghost use Rattle.plist_commands.specs.Prefixes.{EndsBehind, MakesRoom, PassesLine, SendsPrefix, SendsLineInPart};
+ghost use Rattle.plist_commands.specs.Printing.{CountsReads, CountsReadsOf, EndsFile, EndsItems, IsWriterError, PrintsFile, PrintsItems, SendsPrefixOfFile, SendsPrefixOfItems};
 ghost use Rattle.plist_commands.specs.Runs.{PrintsReader, PrintsRun, PrintsSource};
 
 use crate::items::Items;
-use crate::lines::{most_bytes, push_line};
+use crate::lines::{line_bound, push_line};
 use plist_base::send::{flush, send};
 use plist_base::{Error, Event, Source};
 use plist_binread::BinaryReader;
@@ -22,10 +22,10 @@ const FULL: usize = 65536;
 // Sends what is held back. It stands apart, since most lines fit.
 #[cold]
 #[inline(never)]
-fn send_held<W: Write>(writer: &mut W, lines: &mut Vec<u8>) -> Result<(), Error>
+fn send_waiting<W: Write>(writer: &mut W, lines: &mut Vec<u8>) -> Result<(), Error>
     ensures passed { OnOk result (MakesRoom W.contents writer.old lines.old writer.new lines.new) }
-    ensures fault { IfErr result IsOwnFault }
-    ensures front { OnErr result (SendsFront W.contents writer.old lines.old.items writer.new) }
+    ensures fault { IfErr result IsWriterError }
+    ensures prefix { OnErr result (SendsPrefix W.contents writer.old lines.old.items writer.new) }
 {
     send(writer, lines.as_slice())?;
     lines.clear();
@@ -36,13 +36,13 @@ fn send_held<W: Write>(writer: &mut W, lines: &mut Vec<u8>) -> Result<(), Error>
 #[inline(always)]
 fn make_room<W: Write>(writer: &mut W, lines: &mut Vec<u8>, size: usize) -> Result<(), Error>
     ensures passed { OnOk result (MakesRoom W.contents writer.old lines.old writer.new lines.new) }
-    ensures fault { IfErr result IsOwnFault }
-    ensures front { OnErr result (SendsFront W.contents writer.old lines.old.items writer.new) }
+    ensures fault { IfErr result IsWriterError }
+    ensures prefix { OnErr result (SendsPrefix W.contents writer.old lines.old.items writer.new) }
 {
     if size <= FULL.saturating_sub(lines.len()) {
         return Ok(());
     }
-    send_held(writer, lines)
+    send_waiting(writer, lines)
 }
 
 // Puts the line of an event behind the lines that are held back, which are sent before that where
@@ -51,10 +51,10 @@ fn make_room<W: Write>(writer: &mut W, lines: &mut Vec<u8>, size: usize) -> Resu
 #[inline(always)]
 fn pass_line<W: Write>(out: &mut W, lines: &mut Vec<u8>, event: &Event<'_>) -> Result<(), Error>
     ensures passed { PassesLine W.contents result out.old lines.old event.now out.new lines.new }
-    ensures fault { IfErr result IsOwnFault }
-    ensures front { OnErr result (SendsLineInPart W.contents out.old lines.old event.now out.new) }
+    ensures fault { IfErr result IsWriterError }
+    ensures prefix { OnErr result (SendsLineInPart W.contents out.old lines.old event.now out.new) }
 {
-    make_room(out, lines, most_bytes(event))?;
+    make_room(out, lines, line_bound(event))?;
     push_line(lines, event)?;
     Ok(())
 }
@@ -62,7 +62,7 @@ fn pass_line<W: Write>(out: &mut W, lines: &mut Vec<u8>, event: &Event<'_>) -> R
 // The fault that comes behind lines, once they are sent; or the one for which they can't be.
 fn fault_behind<W: Write>(writer: &mut W, lines: &[u8], fault: Error) -> Error
     ensures sent { EndsBehind W.contents lines.now fault writer.old writer.new result }
-    ensures front { SendsFront W.contents writer.old lines.now writer.new }
+    ensures prefix { SendsPrefix W.contents writer.old lines.now writer.new }
 {
     match send(writer, lines) {
         Ok(()) => fault,
@@ -85,13 +85,13 @@ fn pass_lines<I: Items, W: Write>(
     // A refusal.
     ensures refused { IfErr result
         (EndsItems W.contents (I.coming items.old) writer.old writer.new) }
-    ensures fault { IfErr result (λ error. IsOwnFault error ⊎ I.gives (fault_of error)) }
+    ensures fault { IfErr result (λ error. IsWriterError error ⊎ I.gives (fault_of error)) }
     // The state after it.
-    ensures front { SendsFrontOfItems W.contents (I.coming items.old) writer.old writer.new }
+    ensures prefix { SendsPrefixOfItems W.contents (I.coming items.old) writer.old writer.new }
     ensures unchanged { I.known items.new ≡ I.known items.old }
     ensures failures { CountsReads result (I.failures items.old) (I.failures items.new) }
 {
-    while let Some(item) = items.go_on() {
+    while let Some(item) = items.next_item() {
         match item {
             Ok(()) => {}
             Err(error) => return Err(fault_behind(writer, lines.as_slice(), error)),
@@ -114,9 +114,9 @@ fn send_lines<I: Items, W: Write>(alloc: Global, items: &mut I, writer: &mut W) 
     // A refusal.
     ensures refused { IfErr result
         (EndsItems W.contents (I.coming items.old) writer.old writer.new) }
-    ensures fault { IfErr result (λ error. IsOwnFault error ⊎ I.gives (fault_of error)) }
+    ensures fault { IfErr result (λ error. IsWriterError error ⊎ I.gives (fault_of error)) }
     // The state after it.
-    ensures front { SendsFrontOfItems W.contents (I.coming items.old) writer.old writer.new }
+    ensures prefix { SendsPrefixOfItems W.contents (I.coming items.old) writer.old writer.new }
     ensures unchanged { I.known items.new ≡ I.known items.old }
     ensures failures { CountsReads result (I.failures items.old) (I.failures items.new) }
 {
@@ -138,9 +138,9 @@ pub(crate) fn print_items<I: Items, W: Write>(
     // A refusal.
     ensures refused { IfErr result
         (EndsItems W.contents (I.coming items.old) writer.old writer.new) }
-    ensures fault { IfErr result (λ error. IsOwnFault error ⊎ I.gives (fault_of error)) }
+    ensures fault { IfErr result (λ error. IsWriterError error ⊎ I.gives (fault_of error)) }
     // The state after it.
-    ensures front { SendsFrontOfItems W.contents (I.coming items.old) writer.old writer.new }
+    ensures prefix { SendsPrefixOfItems W.contents (I.coming items.old) writer.old writer.new }
     ensures unchanged { I.known items.new ≡ I.known items.old }
     ensures failures { CountsReads result (I.failures items.old) (I.failures items.new) }
 {
@@ -168,7 +168,7 @@ pub fn print_reader<S: Source, W: Write>(
     ensures refused { IfErr result
         (EndsItems W.contents (items_left S.known reader.old) writer.old writer.new) }
     // The state after it.
-    ensures front { SendsFrontOfItems W.contents (items_left S.known reader.old)
+    ensures prefix { SendsPrefixOfItems W.contents (items_left S.known reader.old)
         writer.old writer.new }
     ensures unchanged { S.known (binary_source reader.new) ≡ S.known (binary_source reader.old) }
     ensures failures { CountsReadsOf S.failures reader.old result reader.new }
@@ -192,7 +192,7 @@ pub fn print_events<S: Source, W: Write>(
     ensures answers { PrintsSource S.known S.failures source result (W.contents writer.old)
         (W.contents writer.new) }
     ensures refused { IfErr result (EndsFile S.known W.contents source writer.old writer.new) }
-    ensures front { SendsFrontOfFile S.known W.contents source writer.old writer.new }
+    ensures prefix { SendsPrefixOfFile S.known W.contents source writer.old writer.new }
 {
     let mut reader = BinaryReader::new(alloc, source);
     print_reader(alloc, &mut reader, writer)

@@ -35,7 +35,7 @@ impl<'a, R: Env> Env for ProgramWords<'a, R> {
 ///
 /// # Errors
 /// `OutOfMemory`, without an offset.
-pub fn words_given<R: Env>(rt: &R, alloc: Global) -> Result<Vec<String>, Error>
+pub fn program_arguments<R: Env>(rt: &R, alloc: Global) -> Result<Vec<String>, Error>
     ensures { OnlyMemory result }
 {
     match env::args(&(ProgramWords { rt }, alloc)) {

@@ -28,7 +28,7 @@ fn told_word<C: DecodeCounter>(
     reader: &BinaryReader<&[u8], C>,
 ) -> Result<String, AllocError> {
     match reader.compact() {
-        CompactEvent::Held => {
+        CompactEvent::Other => {
             let word = word_of(alloc, &reader.event())?;
             format!(in alloc; "held:{word}")
         }

@@ -17,7 +17,7 @@ use Rattle.plist.specs.declared.value.Value.{Value}
 use Rattle.plist.specs.Building.{NotBegun, events_so_far}
 use Rattle.plist.specs.Collecting.{IsRefusal}
 use Rattle.plist.specs.inner.Following.{continues-accepted}
-use Rattle.plist.specs.Inputs.{AreOf, Decides, IsReadFrom, StopsAt}
+use Rattle.plist.specs.Inputs.{AreOf, Decides, IsValueOf, IsFirstFault}
 use Rattle.plist.specs.LastWins.{last_wins}
 use Rattle.plist.specs.Views.{tree_of}
 use Rattle.plist.proofs.Inputs.{all-events, no-events}
@@ -45,7 +45,8 @@ stands (x ∷ es) (y ∷ events) f more next p =
 
 -- reading stops at the fault, or for want of memory: an event before it can come next
 only : (es : List PlainEvent) (f : Fault) (more : List Item) (fault : Fault) → Begins bracketing es
-    → StopsAt (map Ok es ++ Err f ∷ more) fault → (fault ≡ f) ⊎ (fault ≡ fault_nowhere OutOfMemory)
+    → IsFirstFault (map Ok es ++ Err f ∷ more) fault → (fault ≡ f)
+    ⊎ (fault ≡ fault_nowhere OutOfMemory)
 only es f more fault (rest, whole, alike) ((events, next, held, is, ok, like, decides), none) =
     elim (stands es events f more next is) [
       | inl p ↦ inl (subst (λ n. Decides held events n fault) p decides)
@@ -75,11 +76,11 @@ itself_told (RecursiveUid uid) = refl
 
 -- a fault is the tree's, or want of memory
 fault-told : (answer : Result Tree ArchiveFault) (items : List Item) (fault : Fault)
-    → Gives answer items → IsReadFrom items (Err fault) → IsFaultOf answer (error_of_fault fault)
+    → Gives answer items → IsValueOf items (Err fault) → IsFaultOf answer (error_of_fault fault)
 fault-told (Ok t) items fault g h =
-    by_kind fault.kind fault.offset (StopsAt items fault) _ h (λ s. absurd (s.1 t g))
+    by_kind fault.kind fault.offset (IsFirstFault items fault) _ h (λ s. absurd (s.1 t g))
 fault-told (Err f) items fault (es, more, is, begins) h =
-    by_kind fault.kind fault.offset (StopsAt items fault) _ h
+    by_kind fault.kind fault.offset (IsFirstFault items fault) _ h
     (λ s. elim (only es (fault_of_archive f) more fault begins (rw is at s)) [
       | inl p ↦ rw p (itself_told f)
       | inr p ↦ rw p tt
@@ -94,7 +95,7 @@ same_of all t u (events, same, alike) (others, also, like) =
 
 -- a tree that is read is the tree, where no key stands twice in it
 tree-told : (answer : Result Tree ArchiveFault) (items : List Item) (tree : Tree)
-    → Gives answer items → IsReadFrom items (Ok tree) → IfOk answer HasKeysOnce
+    → Gives answer items → IsValueOf items (Ok tree) → IfOk answer HasKeysOnce
     → answer ≡ Ok tree
 tree-told (Ok t) items tree g (whole, of, last) once =
     ap Ok (sym ((keys-once t).0 once) ∙ ap last_wins (same_of items t whole g of) ∙ sym last)
@@ -103,7 +104,7 @@ tree-told (Err f) items tree (es, more, is, begins) (whole, (events, same, alike
 
 -- a fault alone is read as that fault
 pub fault-read : (items : List Item) (fault : Fault)
-    → MatchFault fault.kind ⊤ ⊤ (items ≡ Err fault ∷ []) → IsReadFrom items (Err fault)
+    → MatchFault fault.kind ⊤ ⊤ (items ≡ Err fault ∷ []) → IsValueOf items (Err fault)
 fault-read items fault h =
     MatchFault-weaker fault.kind (λ a. a) (λ a. a) (λ p. (
       ([], items, NotBegun, refl, tt, refl, rw p refl),
@@ -128,7 +129,7 @@ of_value (Some v) t itself p =
 
 -- a tree
 pub tree-read : (objects slice : List Value) (uid : ℕ) (tree : Tree) → slice ≡ objects
-    → ((v : Value) → last_wins (tree_of v) ≡ tree_of v) → IsReadFrom (items_at slice uid) (Ok tree)
+    → ((v : Value) → last_wins (tree_of v) ≡ tree_of v) → IsValueOf (items_at slice uid) (Ok tree)
     → resolved_tree (map tree_of objects) uid ≡ Ok tree
 tree-read objects slice uid tree e itself h =
     let trees = map tree_of objects in
@@ -138,7 +139,7 @@ tree-read objects slice uid tree e itself h =
 
 -- a fault
 pub error-read : (objects slice : List Value) (uid : ℕ) (fault : Fault) (error : KeyedError)
-    → slice ≡ objects → error ≡ error_of_fault fault → IsReadFrom (items_at slice uid) (Err fault)
+    → slice ≡ objects → error ≡ error_of_fault fault → IsValueOf (items_at slice uid) (Err fault)
     → IsFaultOf (resolved_tree (map tree_of objects) uid) error
 error-read objects slice uid fault error e is h =
     rw is (fault-told _ (items_at objects uid) fault (gives-at objects uid) (rw e at h))

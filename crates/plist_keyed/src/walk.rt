@@ -6,7 +6,7 @@ ghost use Rattle.plist_base.specs.Events.{event_of};
 ghost use Rattle.plist_base.specs.Outcomes.{IfFault, OnlyMemory};
 ghost use Rattle.indexmap.specs.IndexSet.{contains};
 ghost use Rattle.plist.specs.Collecting.{built_tree};
-ghost use Rattle.plist.specs.Inputs.{IsReadFrom};
+ghost use Rattle.plist.specs.Inputs.{IsValueOf};
 ghost use Rattle.plist.specs.LastWins.{last_wins};
 ghost use Rattle.plist.specs.Views.{tree_of};
 ghost use Rattle.plist_keyed.specs.inner.RemainingSteps.{items_at, uid_of_event, Enters, YieldsFor};
@@ -201,7 +201,7 @@ impl<'a> Iterator for Walk<'a> {
 /// object, and `RecursiveObject` for one on its own path, each with the Uid's number in the place
 /// of an offset; and `OutOfMemory`.
 pub(crate) fn value_at(alloc: Global, objects: &[Value], uid: Uid) -> Result<Value, Error>
-    ensures read { IsReadFrom (items_at objects.now uid) (built_tree result) }
+    ensures read { IsValueOf (items_at objects.now uid) (built_tree result) }
     ensures itself { OnOk result ((value : Value) → last_wins (tree_of value) ≡ tree_of value) }
 {
     let mut walk = Walk::new(alloc, objects);

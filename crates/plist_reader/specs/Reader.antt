@@ -81,8 +81,8 @@ module _ {R : Type 0} {g : Ghosts R} (known : R → Option (List ℕ)) where
   coming (state.Refused source) = Some []
   coming state.Moved = Some []
 
-  abbrev pub to_come : Reader R g → Option (List Item)
-  to_come reader = coming reader.state
+  abbrev pub reader_items : Reader R g → Option (List Item)
+  reader_items reader = coming reader.state
 
 -- the source
 abbrev pub source_in : {R : Type 0} {g : Ghosts R} → State R g → Option R
@@ -95,8 +95,8 @@ source_in (state.Refused source) = Some source
 source_in state.Moved = None
 
 -- the same of a reader
-abbrev pub source_of : {R : Type 0} {g : Ghosts R} → Reader R g → Option R
-source_of reader = source_in reader.state
+abbrev pub reader_source : {R : Type 0} {g : Ghosts R} → Reader R g → Option R
+reader_source reader = source_in reader.state
 
 -- the reader gives nothing more
 abbrev pub IsOver : {R : Type 0} {g : Ghosts R} → State R g → Type 0
@@ -107,8 +107,8 @@ IsOver (state.Limited reader) = HasEndedLimited reader
 IsOver (state.Refused source) = ⊤
 IsOver state.Moved = ⊤
 
-abbrev pub HasEnded : {R : Type 0} {g : Ghosts R} → Reader R g → Type 0
-HasEnded reader = IsOver reader.state
+abbrev pub HasEndedReader : {R : Type 0} {g : Ghosts R} → Reader R g → Type 0
+HasEndedReader reader = IsOver reader.state
 
 -- are there limits?
 abbrev pub is_limited_in : {R : Type 0} {g : Ghosts R} → State R g → Bool
@@ -119,8 +119,8 @@ is_limited_in (state.Limited reader) = true
 is_limited_in (state.Refused source) = false
 is_limited_in state.Moved = false
 
-abbrev pub is_limited : {R : Type 0} {g : Ghosts R} → Reader R g → Bool
-is_limited reader = is_limited_in reader.state
+abbrev pub reader_is_limited : {R : Type 0} {g : Ghosts R} → Reader R g → Bool
+reader_is_limited reader = is_limited_in reader.state
 
 -- What was to come begins with this item and goes on with what is to come then; nothing comes only
 -- where nothing was to come. After a device's fault and want of memory nothing is to come, and want

@@ -120,7 +120,7 @@ impl<R: Source> Bytes for SourceBytes<R> {
         &self.window[self.from..self.end]
     }
 
-    fn pass(&mut self, count: usize) {
+    fn consume(&mut self, count: usize) {
         self.from += count;
     }
 }

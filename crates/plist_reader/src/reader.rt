@@ -123,13 +123,13 @@ pub struct Reader<R: Source> {
 impl<R: Source> Reader<R> {
     ghost use Rattle.std.specs.Prelude.{◌≡◌, true, false};
     ghost use Rattle.std.specs.Option.{option_map};
-    ghost use Rattle.plist_reader.specs.Reader.{FirstFalls, GivesFirst, is_limited, items_of_input, limited_input, to_come, source_of};
+    ghost use Rattle.plist_reader.specs.Reader.{FirstFalls, GivesFirst, reader_is_limited, items_of_input, limited_input, reader_items, reader_source};
 
     /// A reader over a source. It reads nothing before its first item is asked for.
     pub fn new(alloc: Global, source: R) -> Self
-        ensures items { to_come R.known result ≡ option_map items_of_input (R.known source) }
-        ensures source { source_of result ≡ Some source }
-        ensures limited { is_limited result ≡ false }
+        ensures items { reader_items R.known result ≡ option_map items_of_input (R.known source) }
+        ensures source { reader_source result ≡ Some source }
+        ensures limited { reader_is_limited result ≡ false }
     {
         Reader {
             alloc,
@@ -145,9 +145,9 @@ impl<R: Source> Reader<R> {
     /// Of a binary source no memory is taken for a text or data that is refused, unless it is
     /// short. A text in ASCII is read before it is counted: it takes at most its bytes there.
     pub fn with_limits(alloc: Global, source: R, limits: Limits) -> Self
-        ensures items { to_come R.known result ≡ option_map (limited_input limits) (R.known source) }
-        ensures source { source_of result ≡ Some source }
-        ensures limited { is_limited result ≡ true }
+        ensures items { reader_items R.known result ≡ option_map (limited_input limits) (R.known source) }
+        ensures source { reader_source result ≡ Some source }
+        ensures limited { reader_is_limited result ≡ true }
     {
         Reader {
             alloc,

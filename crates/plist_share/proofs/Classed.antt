@@ -3,13 +3,13 @@ use Rattle.std.proofs.Common.{◌≡◌, ℕ, ◌+◌, List, ◌∷◌, refl, ap
 use Rattle.plist_base.specs.Events.{PlainEvent}
 use Rattle.plist_base.specs.Trees.{Tree, Leaf, Array, Dictionary, Trees, NoTrees, TreeAnd, Members, NoMembers, MemberAnd}
 use Rattle.plist_format.specs.Object as obj
-use Rattle.plist_binwrite.specs.Numberings.{refs, pairs, obj_of}
+use Rattle.plist_binwrite.specs.Numberings.{references, pairs, object_of}
 use Rattle.plist_binwrite.specs.Occurrences.{size, OccursAt, ItemsOccurAt, PairsOccurAt}
 use Rattle.plist_binwrite.proofs.Sitting.{occurs_items, occurs_pairs, occurs_item, occurs_next, occurs_key, occurs_value, occurs_next_pair}
 
 module _ (es : List PlainEvent) (class : ℕ → ℕ)
     (told : (t : Tree) (p q : ℕ) → OccursAt es t p → OccursAt es t q
-    → obj_of class t p ≡ obj_of class t q
+    → object_of class t p ≡ object_of class t q
     → class p ≡ class q) where
   mutual
     -- indices of one tree have one class
@@ -23,7 +23,7 @@ module _ (es : List PlainEvent) (class : ℕ → ℕ)
         (complete_pairs ms _ _ (occurs_pairs s) (occurs_pairs r)))
 
     complete_items : (ts : Trees) (p q : ℕ) → ItemsOccurAt es ts p → ItemsOccurAt es ts q
-        → refs class ts p ≡ refs class ts q
+        → references class ts p ≡ references class ts q
     complete_items NoTrees p q s r = refl
     complete_items (TreeAnd t ts) p q s r =
         let first = complete t p q (occurs_item s) (occurs_item r) in

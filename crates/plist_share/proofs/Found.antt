@@ -10,8 +10,8 @@ use Rattle.plist_format.specs.Object as obj
 use Rattle.plist_format.specs.Object.{dictionary}
 use Rattle.plist_binwrite.specs.Classes.{AreClasses}
 use Rattle.plist_binwrite.specs.Forms.{keys_of, values_of}
-use Rattle.plist_binwrite.specs.EventTable.{item_indices, key_indices, value_indices, keys_in, values_in, held_kind, event_at, num_of}
-use Rattle.plist_binwrite.specs.Numberings.{pairs, obj_of}
+use Rattle.plist_binwrite.specs.EventTable.{item_indices, key_indices, value_indices, keys_in, values_in, entry_kind_of, event_at, nth_number}
+use Rattle.plist_binwrite.specs.Numberings.{pairs, object_of}
 use Rattle.plist_binwrite.specs.Occurrences.{OccursAt}
 use Rattle.plist_binwrite.specs.declared.kinds.EntryKind.TheVariants as kind
 use Rattle.plist_binwrite.specs.inner.Scalars.{AreOwners, AreApart}
@@ -22,7 +22,7 @@ use Rattle.plist_binwrite.proofs.TreeObjects.{refs_are, keys_are, values_are}
 use Rattle.plist_binwrite.proofs.Reading.{dictionary_is, length-keys_of, length-values_of}
 use Rattle.plist_binwrite.proofs.Skipping.{stands_single, starts_array, starts_dictionary, occurs_in}
 use Rattle.plist_share.proofs.Classed.{complete}
-use Rattle.plist_share.specs.inner.Keys.{Key, is_dictionary, IsIndexed, IsClass, HaveTreeClasses, Extends, TellsTreesApart}
+use Rattle.plist_share.specs.inner.Keys.{Key, is_dictionary, IsIndexed, IsClass, HaveTreeClasses, Extends, SeparatesTrees}
 
 -- ---- a dictionary's pairs by their keys and their values, and the other way
 
@@ -86,7 +86,7 @@ module _ {es : List PlainEvent} {scalar class : ℕ → ℕ} {count : ℕ} {keys
 
   -- one class, one object
   pub one_object : (t u : Tree) (p q : ℕ) → OccursAt es t p → OccursAt es u q → class p ≡ class q
-      → obj_of class t p ≡ obj_of class u q
+      → object_of class t p ≡ object_of class u q
   one_object (Leaf x) (Leaf y) p q s r e = ap obj.Scalar (one_scalar x y p q s r e)
   one_object (Array ts) (Array us) p q s r e =
       let k = one_key _ _ p q (all (Array ts) p s) (all (Array us) q r) e in
@@ -115,7 +115,7 @@ module _ {es : List PlainEvent} {scalar class : ℕ → ℕ} {count : ℕ} {keys
         omega arith
 
     told : (t : Tree) (p q : ℕ) → OccursAt es t p → OccursAt es t q
-        → obj_of class t p ≡ obj_of class t q
+        → object_of class t p ≡ object_of class t q
         → class p ≡ class q
     told (Leaf x) p q s r e =
         all (Leaf x) p s ∙ owner_class owners _ _ p q s r refl ∙ sym (all _ q r)
@@ -128,7 +128,7 @@ module _ {es : List PlainEvent} {scalar class : ℕ → ℕ} {count : ℕ} {keys
         (all (Dictionary ms) q r)
 
     -- so one class is one tree
-    pub told_trees : TellsTreesApart es class
+    pub told_trees : SeparatesTrees es class
     told_trees t u p q s r = (
       sound found_classes t u p q s r,
       λ e. complete es class told t p q s (rw e r),
@@ -178,45 +178,47 @@ module _ (class after : ℕ → ℕ) (lo : ℕ) (agree : (q : ℕ) → lo ≤ q 
 
 module _ (es : List PlainEvent) (scalar class : ℕ → ℕ) (count : ℕ) (keys : List Key) where
   -- where a collection begins, the class is one of a collection
-  by_collection : (t : Tree) (p c : ℕ) → OccursAt es t p → held_kind (event_at es p) ≢ kind.Scalar
-      → IsIndexed class count keys (is_dictionary (held_kind (event_at es p))) t p c
+  by_collection : (t : Tree) (p c : ℕ) → OccursAt es t p
+      → entry_kind_of (event_at es p) ≢ kind.Scalar
+      → IsIndexed class count keys (is_dictionary (entry_kind_of (event_at es p))) t p c
       → IsClass class count scalar keys t p c
-  by_collection (Leaf x) p c s k h = absurd (k (ap held_kind (stands_single s)))
+  by_collection (Leaf x) p c s k h = absurd (k (ap entry_kind_of (stands_single s)))
   by_collection (Array ts) p c s k h =
-      subst (λ e. IsIndexed class count keys (is_dictionary (held_kind e)) (Array ts) p c)
+      subst (λ e. IsIndexed class count keys (is_dictionary (entry_kind_of e)) (Array ts) p c)
       (starts_array s) h
   by_collection (Dictionary ms) p c s k h =
-      subst (λ e. IsIndexed class count keys (is_dictionary (held_kind e)) (Dictionary ms) p c)
+      subst (λ e. IsIndexed class count keys (is_dictionary (entry_kind_of e)) (Dictionary ms) p c)
       (starts_dictionary s) h
 
-  by_scalar : (t : Tree) (p c : ℕ) → OccursAt es t p → held_kind (event_at es p) ≢ kind.Array
-      → held_kind (event_at es p) ≢ kind.Dictionary → c ≡ scalar p
+  by_scalar : (t : Tree) (p c : ℕ) → OccursAt es t p → entry_kind_of (event_at es p) ≢ kind.Array
+      → entry_kind_of (event_at es p) ≢ kind.Dictionary → c ≡ scalar p
       → IsClass class count scalar keys t p c
   by_scalar (Leaf x) p c s a d h = h
-  by_scalar (Array ts) p c s a d h = absurd (a (ap held_kind (starts_array s)))
-  by_scalar (Dictionary ms) p c s a d h = absurd (d (ap held_kind (starts_dictionary s)))
+  by_scalar (Array ts) p c s a d h = absurd (a (ap entry_kind_of (starts_array s)))
+  by_scalar (Dictionary ms) p c s a d h = absurd (d (ap entry_kind_of (starts_dictionary s)))
 
 -- where a collection's class was written
 module _ (classes : List ℕ) (p c : ℕ) where
   abbrev after : ℕ → ℕ
-  after = num_of (set classes p c)
+  after = nth_number (set classes p c)
 
-  other : (q : ℕ) → q ≢ p → after q ≡ num_of classes q
+  other : (q : ℕ) → q ≢ p → after q ≡ nth_number classes q
   other q h = get_or-set_other _ p q c 0 h
 
   pub collection_written : {es : List PlainEvent} {scalar : ℕ → ℕ} {count : ℕ} {keys new : List Key}
-      → HaveTreeClasses (num_of classes) count scalar es keys (p + 1)
+      → HaveTreeClasses (nth_number classes) count scalar es keys (p + 1)
       → Extends keys new → p < length classes → c < count + length new
-      → held_kind (event_at es p) ≢ kind.Scalar
+      → entry_kind_of (event_at es p) ≢ kind.Scalar
       → ((t : Tree) → OccursAt es t p
-      → IsIndexed (num_of classes) count new (is_dictionary (held_kind (event_at es p))) t p c)
+      → IsIndexed (nth_number classes) count new
+      (is_dictionary (entry_kind_of (event_at es p))) t p c)
       → HaveTreeClasses after count scalar es new p
   collection_written {es} {scalar} {count} {keys} {new} old more lt low k this = record {
     behind = λ t q le s. at_set classes p c 0 q (IsClass after count scalar new t q) lt
         (λ e. subst (λ r. OccursAt es t r → IsClass after count scalar new t r c) (sym e)
         (λ r. stays new (λ i h. refl) t p c (omega arith)
-        (by_collection es scalar (num_of classes) count new t p c r k (this t r))) s)
-        (λ d. stays keys more.keeps t q (num_of classes q) (omega (arith, le))
+        (by_collection es scalar (nth_number classes) count new t p c r k (this t r))) s)
+        (λ d. stays keys more.keeps t q (nth_number classes q) (omega (arith, le))
         (old.behind t q (omega (arith, le, d)) s));
     before = λ q h. other q (λ e. absurd (omega (arith, h, e))) ∙ old.before q (omega (arith, h));
     below = λ q h. at_set classes p c 0 q (λ v. v < count + length new) lt (λ e. low)
@@ -225,15 +227,18 @@ module _ (classes : List ℕ) (p c : ℕ) where
     where
       stays : (keys : List Key)
           → ((i : ℕ) → i < length keys → slice_get new i ≡ slice_get keys i)
-          → (t : Tree) (q v : ℕ) → p + 1 ≤ q + 1 → IsClass (num_of classes) count scalar keys t q v
+          → (t : Tree) (q v : ℕ) → p + 1 ≤ q + 1
+          → IsClass (nth_number classes) count scalar keys t q v
           → IsClass after count scalar new t q v
       stays keys kept =
-          class_stays (num_of classes) after (p + 1) (λ q h. other q (λ e. absurd (omega arith)))
+          class_stays (nth_number classes) after (p + 1)
+          (λ q h. other q (λ e. absurd (omega arith)))
           scalar count keys new kept
 
 -- where no collection begins, the classes are there
 pub none_written : {es : List PlainEvent} {scalar class : ℕ → ℕ} {count : ℕ} {keys : List Key}
-    (p : ℕ) → held_kind (event_at es p) ≢ kind.Array → held_kind (event_at es p) ≢ kind.Dictionary
+    (p : ℕ) → entry_kind_of (event_at es p) ≢ kind.Array
+    → entry_kind_of (event_at es p) ≢ kind.Dictionary
     → HaveTreeClasses class count scalar es keys (p + 1)
     → HaveTreeClasses class count scalar es keys p
 none_written {es} {scalar} {class} {count} {keys} p a d old = record {

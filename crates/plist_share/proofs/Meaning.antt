@@ -23,7 +23,8 @@ module _ (table : List TableEntry) where
   abbrev mutual
     pub Means : Tree → ℕ → Type 0
     Means (Leaf x) i = Stands i (obj.Scalar x)
-    Means (Array ts) i = (refs : List ℕ) × Stands i (obj.Array refs) × MeansItems ts refs
+    Means (Array ts) i = (references : List ℕ) × Stands i (obj.Array references)
+        × MeansItems ts references
     Means (Dictionary ms) i =
         (pairs : List _) × Stands i (obj.Dictionary pairs) × MeansPairs ms pairs
 
@@ -61,8 +62,9 @@ module _ (table : List TableEntry) where
         ap Dictionary (one_pairs ms ns m.0 m.2
         (rw (← (the_pairs _ _ (one_object n.1 m.1))) n.2))
 
-    one_items : (ts us : Trees) (refs : List ℕ) → MeansItems ts refs → MeansItems us refs → ts ≡ us
-    one_items NoTrees NoTrees refs m n = refl
+    one_items : (ts us : Trees) (references : List ℕ) → MeansItems ts references
+        → MeansItems us references → ts ≡ us
+    one_items NoTrees NoTrees references m n = refl
     one_items NoTrees (TreeAnd u us) [] m n = absurd n
     one_items NoTrees (TreeAnd u us) (c ∷ cs) m n = absurd m
     one_items (TreeAnd t ts) NoTrees [] m n = absurd m
@@ -105,9 +107,9 @@ module _ (table : List TableEntry) where
     all_numbered (Array ts) i m = (numbered (Array ts) i m, items_numbered ts m.0 m.2)
     all_numbered (Dictionary ms) i m = (numbered (Dictionary ms) i m, pairs_numbered ms m.0 m.2)
 
-    items_numbered : (ts : Trees) (refs : List ℕ) → MeansItems ts refs
+    items_numbered : (ts : Trees) (references : List ℕ) → MeansItems ts references
         → AllByRecursion Numbered (subtrees_of_items ts)
-    items_numbered NoTrees refs m = tt
+    items_numbered NoTrees references m = tt
     items_numbered (TreeAnd t ts) [] m = absurd m
     items_numbered (TreeAnd t ts) (c ∷ cs) m =
         all_both Numbered (subtrees t) (subtrees_of_items ts) (all_numbered t c m.0)

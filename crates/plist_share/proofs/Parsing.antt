@@ -45,9 +45,9 @@ module _ (table : List TableEntry) where
 
 module _ (table : List TableEntry) (child : ℕ → List Item)
     (good : (c : ℕ) → IsTree table c (child c)) where
-  items_parse : (refs : List ℕ) (ts : Trees) (es : List PlainEvent) (xs : List Item)
-      → flat_map child refs ++ Ok EndCollection ∷ xs
-      ≡ map Ok (bracketing_of_items ts ++ EndCollection ∷ es) → MeansItems table ts refs
+  items_parse : (references : List ℕ) (ts : Trees) (es : List PlainEvent) (xs : List Item)
+      → flat_map child references ++ Ok EndCollection ∷ xs
+      ≡ map Ok (bracketing_of_items ts ++ EndCollection ∷ es) → MeansItems table ts references
       × (xs ≡ map Ok es)
   items_parse [] NoTrees es xs p = (tt, tail_is _ _ xs (map Ok es) p)
   items_parse [] (TreeAnd t ts) es xs p = absurd (not_end t _ xs (simp append_assoc at p))
@@ -87,9 +87,9 @@ module _ (table : List TableEntry) (child : ℕ → List Item)
     },
     tail_is _ _ xs (map Ok es) p,
   )
-  object_parses i place (obj.Array refs) is (Array ts) es xs p =
-      let inner = items_parse refs ts es xs (simp append_assoc at (tail_is _ _ _ _ p)) in
-      ((refs, is, inner.0), inner.1)
+  object_parses i place (obj.Array references) is (Array ts) es xs p =
+      let inner = items_parse references ts es xs (simp append_assoc at (tail_is _ _ _ _ p)) in
+      ((references, is, inner.0), inner.1)
   object_parses i place (obj.Dictionary pairs) is (Dictionary ms) es xs p =
       let inner = pairs_parse pairs ms es xs (simp append_assoc at (tail_is _ _ _ _ p)) in
       ((pairs, is, inner.0), inner.1)
@@ -100,7 +100,7 @@ module _ (table : List TableEntry) (child : ℕ → List Item)
   object_begins : (place : ℕ) (o : Object) → (xs ys : List Item)
       → items_of place o child ++ xs ≡ Ok EndCollection ∷ ys → ⊥
   object_begins place (obj.Scalar y) xs ys p = cc
-  object_begins place (obj.Array refs) xs ys p = cc
+  object_begins place (obj.Array references) xs ys p = cc
   object_begins place (obj.Dictionary pairs) xs ys p = cc
   object_begins place (obj.Faulty kind) xs ys p = cc
 

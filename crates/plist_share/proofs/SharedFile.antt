@@ -11,14 +11,14 @@ use Rattle.plist_binwrite.specs.Occurrences.{OccursAt}
 use Rattle.plist_binwrite.proofs.SendingFiles.{sends_as}
 use Rattle.plist_binwrite.proofs.Sitting.{occurs_whole}
 use Rattle.plist_binwrite.proofs.Unhinted.{plain_lengthless}
-use Rattle.plist_share.specs.inner.Keys.{TellsTreesApart}
+use Rattle.plist_share.specs.inner.Keys.{SeparatesTrees}
 use Rattle.plist_share.specs.SharedFiles.{IsSharedFileOf}
 use Rattle.plist_share.specs.SharedSizes.{shared_file_size}
 use Rattle.plist_share.specs.Sharing.{SendsShared}
 use Rattle.plist_share.proofs.Shares.{shared_file, size_is}
 
 module _ {W : Type 0} (contents : W → Option (List ℕ)) (events : EventTable) (class : ℕ → ℕ)
-    (told : TellsTreesApart (plain_events events) class) where
+    (told : SeparatesTrees (plain_events events) class) where
   occurs : (t : Tree) → AreAlike (plain_events events) (bracketing t)
       → OccursAt (plain_events events) t 0
   occurs t alike = occurs_whole (plain_lengthless events t alike)

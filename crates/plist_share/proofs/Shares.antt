@@ -12,7 +12,7 @@ use Rattle.plist_binwrite.specs.Written.{reference_width}
 use Rattle.plist_binwrite.proofs.Inside.{Stands, positions_stand}
 use Rattle.plist_binwrite.proofs.Uniques.{unique_seen}
 use Rattle.plist_share.specs.Distinct.{tree_eq, subtrees, subtrees_of_items, subtrees_of_pairs, distinct_subtrees}
-use Rattle.plist_share.specs.inner.Keys.{TellsTreesApart}
+use Rattle.plist_share.specs.inner.Keys.{SeparatesTrees}
 use Rattle.plist_share.specs.SharedFiles.{IsSharedFileOf}
 use Rattle.plist_share.specs.SharedSizes.{shared_objects_size, shared_file_size}
 use Rattle.plist_share.proofs.Least.{least}
@@ -50,7 +50,7 @@ total_trees : (weight : Tree → ℕ) (xs : List (ℕ × Tree))
 total_trees weight [] = refl
 total_trees weight (x ∷ xs) = ap (λ n. weight x.1 + n) (total_trees _ xs)
 
-module _ (es : List PlainEvent) (class : ℕ → ℕ) (told : TellsTreesApart es class) where
+module _ (es : List PlainEvent) (class : ℕ → ℕ) (told : SeparatesTrees es class) where
   told_alike : (a b : ℕ × Tree) → OccursAt es a.1 a.0 → OccursAt es b.1 b.0
       → nat_eq (class a.0) (class b.0) ≡ tree_eq a.1 b.1
   told_alike a b s r =

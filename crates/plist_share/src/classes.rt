@@ -3,9 +3,9 @@
 ghost use Rattle.std.specs.Prelude.{◌≡◌, ◌+◌, ◌<◌, length, IfOk, OnOk};
 ghost use Rattle.plist_base.specs.Outcomes.{OnlyMemory};
 ghost use Rattle.plist_binwrite.specs.Classes.{AreClasses};
-ghost use Rattle.plist_binwrite.specs.EventTable.{plain_events, AllBelow, num_of, held_at, held_kind};
+ghost use Rattle.plist_binwrite.specs.EventTable.{plain_events, AllBelow, nth_number, table_event, entry_kind_of};
 ghost use Rattle.plist_binwrite.specs.inner.Scalars.{AreApart};
-ghost use Rattle.plist_share.specs.inner.Keys.{TellsTreesApart, Extends, keys_seen, AddsClasses, AreClassesWithin, HaveFrom, IsClassAt, IsKeyAt, is_dictionary};
+ghost use Rattle.plist_share.specs.inner.Keys.{SeparatesTrees, Extends, keys_seen, AddsClasses, AreClassesWithin, HaveFrom, IsClassAt, IsKeyAt, is_dictionary};
 
 use indexmap::IndexSet;
 use plist_base::{Error, ErrorKind};
@@ -86,7 +86,7 @@ fn classes_within(
 // Whether a dictionary begins here.
 fn begins_dictionary(events: &EventTable<'_>, index: usize) -> bool
     requires { index < length (plain_events events.now) }
-    ensures { result ≡ is_dictionary (held_kind (held_at events.now index)) }
+    ensures { result ≡ is_dictionary (entry_kind_of (table_event events.now index)) }
 {
     match events.kind_at(index) {
         EntryKind::Dictionary => true,
@@ -164,8 +164,8 @@ fn give_class(
 /// `OutOfMemory`, without an offset.
 pub fn tree_classes(alloc: Global, events: &EventTable<'_>) -> Result<Classes, Error>
     // The answer.
-    ensures objects { IfOk result (λ r. AreClasses (plain_events events.now) (num_of r.of)) }
-    ensures trees { IfOk result (λ r. TellsTreesApart (plain_events events.now) (num_of r.of)) }
+    ensures objects { IfOk result (λ r. AreClasses (plain_events events.now) (nth_number r.of)) }
+    ensures trees { IfOk result (λ r. SeparatesTrees (plain_events events.now) (nth_number r.of)) }
     ensures long { IfOk result (λ r. length r.of ≡ length (plain_events events.now)) }
     ensures below { IfOk result (λ r. AllBelow r.count r.of) }
     // A refusal.

@@ -9,7 +9,7 @@ ghost use Rattle.plist_base.specs.Outcomes.{OnlyMemory};
 ghost use Rattle.plist_tool.specs.Exits.{IsStatusOf, ReportsFault};
 
 use plist_base::Error;
-use plist_commands::{Failure, Message, Messages, run_words, words_given};
+use plist_commands::{Failure, Message, Messages, program_arguments, run_words};
 use std::env::Env;
 use std::io;
 use std::io::Write;
@@ -25,7 +25,7 @@ fn run<R: Files + Env + AllocGlobal, O: Write, E: Messages>(
     ensures status { IfOk result (λ status. status ≤ 2) }
     ensures memory { OnlyMemory result }
 {
-    let words = words_given(rt, rt.alloc())?;
+    let words = program_arguments(rt, rt.alloc())?;
     Ok(run_words(rt, rt.alloc(), words.as_slice(), out, err))
 }
 

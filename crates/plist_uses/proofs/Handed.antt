@@ -4,7 +4,7 @@ use Rattle.plist_base.specs.Bracketing.{bracketing, bracketing_of_items}
 use Rattle.plist_base.specs.Events.{PlainEvent, EndCollection}
 use Rattle.plist_base.specs.Trees.{Tree, trees_of, number_of_trees}
 use Rattle.plist_base.specs.Writing.{Answer}
-use Rattle.plist.specs.Handing.{Took}
+use Rattle.plist.specs.Handing.{TakesAll}
 use Rattle.plist_uses.specs.declared.generated.Reading.{Reading}
 use Rattle.plist_uses.specs.Generated.{reading_tree}
 
@@ -23,16 +23,17 @@ number (reading ∷ readings) = omega (arith, number readings)
 
 module _ {S : Type 0} (Step : S → PlainEvent → Answer → S → Type 0) where
   took-more : (first second : List PlainEvent) (before between after : S)
-      → Took Step before first between → Took Step between second after
-      → Took Step before (first ++ second) after
+      → TakesAll Step before first between → TakesAll Step between second after
+      → TakesAll Step before (first ++ second) after
   took-more [] second before between after is more = rw is more
   took-more (event ∷ first) second before between after (next, step, took) more =
       (next, step, took-more first second next between after took more)
 
   -- an item is handed over, and then those behind it
   pub item-more : (tree : Tree) (trees : List Tree) (before between after : S)
-      → Took Step before (bracketing tree) between → Took Step between (events_left trees) after
-      → Took Step before (events_left (tree ∷ trees)) after
+      → TakesAll Step before (bracketing tree) between
+      → TakesAll Step between (events_left trees) after
+      → TakesAll Step before (events_left (tree ∷ trees)) after
   item-more tree trees before between after took more =
       rw (append_assoc (bracketing tree) (bracketing_of_items (trees_of trees))
       (EndCollection ∷ []))

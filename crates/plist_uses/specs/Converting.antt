@@ -7,14 +7,14 @@ use Rattle.plist_base.specs.Trees.{Tree}
 use Rattle.plist_binwrite.specs.Files.{IsFileOf}
 use Rattle.plist_reader.specs.Reader.{items_of_input}
 use Rattle.plist.specs.declared.value.Value.{Value}
-use Rattle.plist.specs.Inputs.{IsReadFrom}
+use Rattle.plist.specs.Inputs.{IsValueOf}
 use Rattle.plist.specs.SendingValues.{SendsValue}
 use Rattle.plist.specs.Views.{tree_of}
 
 -- where the bytes of a source are known, their items are those of the value
 abbrev pub IsReadBy : (known : Option (List ℕ)) → Result Value Error → Type 0
 IsReadBy known answer = IfSome known (λ bytes. IfOk answer (λ value.
-    IsReadFrom (items_of_input bytes) (Ok (tree_of value))))
+    IsValueOf (items_of_input bytes) (Ok (tree_of value))))
 
 -- a file of the value went out
 abbrev pub SendsFileOf : {W : Type 0} → (contents : W → Option (List ℕ)) → Value → (old new : W)
@@ -26,10 +26,10 @@ SendsFileOf contents value old new = (file : List ℕ) × IsFileOf (tree_of valu
 abbrev pub RefusesConverting : {W : Type 0} → (known : Option (List ℕ))
     → (contents : W → Option (List ℕ)) → (old new : W) → Error → Type 0
 RefusesConverting known contents old new error =
-    (IfSome known (λ bytes. IsReadFrom (items_of_input bytes) (Err (fault_of error))) × (new ≡ old))
+    (IfSome known (λ bytes. IsValueOf (items_of_input bytes) (Err (fault_of error))) × (new ≡ old))
     ⊎ ((value : Value) × IsReadBy known (Ok value) × SendsValue contents value (Err error) old new)
 
 -- the bytes are a file of what an input holds
 abbrev pub IsFileOfInput : (input bytes : List ℕ) → Type 0
 IsFileOfInput input bytes =
-    (tree : Tree) × IsReadFrom (items_of_input input) (Ok tree) × IsFileOf tree bytes
+    (tree : Tree) × IsValueOf (items_of_input input) (Ok tree) × IsFileOf tree bytes

@@ -10,7 +10,7 @@ use Rattle.plist_uses.specs.declared.settings.SettingsError.TheVariants as setti
 use Rattle.plist_binwrite.specs.Files.{IsFileOf}
 use Rattle.plist.specs.declared.value.Value.{Value}
 use Rattle.plist.specs.Contents.{dictionary_in, text_in}
-use Rattle.plist.specs.Inputs.{IsReadFrom}
+use Rattle.plist.specs.Inputs.{IsValueOf}
 use Rattle.plist.specs.Views.{pair_trees, tree_of}
 use Rattle.plist_reader.specs.Reader.{items_of_input}
 use Rattle.plist_uses.specs.declared.settings.Settings.{Settings}
@@ -25,11 +25,11 @@ tree_in settings = Dictionary (pair_trees settings.pairs)
 
 -- where the bytes of a file are known, their items are those of this property list
 abbrev pub IsReadOf : (known : Option (List ℕ)) → Tree → Type 0
-IsReadOf known tree = IfSome known (λ bytes. IsReadFrom (items_of_input bytes) (Ok tree))
+IsReadOf known tree = IfSome known (λ bytes. IsValueOf (items_of_input bytes) (Ok tree))
 
 -- it is the fault of a device or want of memory, or that of those items
 abbrev pub IsFaultOfFile : (known : Option (List ℕ)) → Fault → Type 0
-IsFaultOfFile known fault = IfSome known (λ bytes. IsReadFrom (items_of_input bytes) (Err fault))
+IsFaultOfFile known fault = IfSome known (λ bytes. IsValueOf (items_of_input bytes) (Err fault))
 
 -- why a file has no settings: its fault, or what it holds is no dictionary
 abbrev pub RefusesOpening : (known : Option (List ℕ)) → SettingsError → Type 0

@@ -2,7 +2,7 @@
 
 ghost use Rattle.std.specs.Prelude.{◌≡◌, ◌∷◌, [], IfOk, IfSome, OnOk, string_bytes};
 ghost use Rattle.std.specs.Option.{option_copied};
-ghost use Rattle.plist.specs.Handing.{Took};
+ghost use Rattle.plist.specs.Handing.{TakesAll};
 ghost use Rattle.plist.specs.Limiting.{NestsWithin};
 ghost use Rattle.plist.specs.Views.{tree_of};
 ghost use Rattle.plist_reader.specs.Reader.{items_of_input};
@@ -97,7 +97,8 @@ pub fn counted(alloc: Global, bytes: &[u8]) -> Result<Counts, Error>
 ///
 /// Those of [`write_readings`].
 pub fn write_one<W: Writer>(reading: Reading, writer: &mut W) -> Result<(), Error>
-    ensures handed { OnOk result (Took W.Step writer.old (list_events (reading ∷ [])) writer.new) }
+    ensures handed { OnOk result
+        (TakesAll W.Step writer.old (list_events (reading ∷ [])) writer.new) }
 {
     write_readings(&[reading], writer)
 }

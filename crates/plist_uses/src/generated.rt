@@ -1,7 +1,7 @@
 //! Writing a list straight from events, with no value of it in memory.
 
 ghost use Rattle.std.specs.Prelude.{OnOk};
-ghost use Rattle.plist.specs.Handing.{Took};
+ghost use Rattle.plist.specs.Handing.{TakesAll};
 ghost use Rattle.plist_uses.specs.Generated.{reading_events, list_events};
 
 use plist::stream::Writer;
@@ -17,7 +17,8 @@ pub struct Reading {
 
 // Writes a reading as a dictionary.
 fn write_reading<W: Writer>(reading: &Reading, writer: &mut W) -> Result<(), Error>
-    ensures handed { OnOk result (Took W.Step writer.old (reading_events reading.now) writer.new) }
+    ensures handed { OnOk result
+        (TakesAll W.Step writer.old (reading_events reading.now) writer.new) }
 {
     writer.write_start_dictionary(Some(2))?;
     writer.write_string(CowStr::Borrowed("second"))?;
@@ -34,7 +35,8 @@ fn write_reading<W: Writer>(reading: &Reading, writer: &mut W) -> Result<(), Err
 ///
 /// The writer's first refusal, after which it is handed nothing more.
 pub fn write_readings<W: Writer>(readings: &[Reading], writer: &mut W) -> Result<(), Error>
-    ensures handed { OnOk result (Took W.Step writer.old (list_events readings.now) writer.new) }
+    ensures handed { OnOk result
+        (TakesAll W.Step writer.old (list_events readings.now) writer.new) }
 {
     writer.write_start_array(Some(readings.len() as u64))?;
     for reading in readings {

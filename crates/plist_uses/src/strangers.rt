@@ -4,7 +4,7 @@ ghost use Rattle.std.specs.Prelude.{◌≤◌, ◌^◌, IfOk, length};
 ghost use Rattle.plist_base.specs.Bracketing.{bracketing};
 ghost use Rattle.plist_base.specs.Limits.{total_bytes};
 ghost use Rattle.plist.specs.Collecting.{built_tree};
-ghost use Rattle.plist.specs.Inputs.{IsReadFrom};
+ghost use Rattle.plist.specs.Inputs.{IsValueOf};
 ghost use Rattle.plist.specs.Limiting.{NestsWithin};
 ghost use Rattle.plist.specs.Views.{tree_of};
 ghost use Rattle.plist_uses.specs.Uploads.{items_of_upload};
@@ -21,7 +21,7 @@ use std::alloc::Global;
 ///
 /// Those of [`Value::from_reader_with_limits`].
 pub fn read_upload(alloc: Global, bytes: &[u8]) -> Result<Value, Error>
-    ensures value { IsReadFrom (items_of_upload bytes.now) (built_tree result) }
+    ensures value { IsValueOf (items_of_upload bytes.now) (built_tree result) }
     ensures shallow { IfOk result (λ value. NestsWithin (tree_of value) 64) }
     ensures short { IfOk result (λ value. length (bracketing (tree_of value)) ≤ 100000) }
     ensures light { IfOk result (λ value. total_bytes (bracketing (tree_of value)) ≤ 2 ^ 24) }

@@ -4,7 +4,7 @@
 ghost use Rattle.std.specs.Prelude.{◌≡◌, ◌<◌};
 
 use crate::support::must;
-use plist_binread::{BinaryReader, Decodings};
+use plist_binread::{BinaryReader, CountedDecodings};
 use plist_support::file;
 use std::alloc::Global;
 use std::marker::Brand;
@@ -17,7 +17,7 @@ fn items_counted<L: Ledger>(alloc: Global, bytes: &[u8], blank: Blank) -> u64
     requires some { 0 < L.parts }
 {
     let mut items: u64 = 0;
-    for _ in BinaryReader::with_counter(alloc, bytes, Decodings::<L>::new(blank)) {
+    for _ in BinaryReader::with_counter(alloc, bytes, CountedDecodings::<L>::new(blank)) {
         items = items.saturating_add(1);
     }
     items

@@ -5,10 +5,10 @@ ghost use Rattle.plist_base.specs.Events.{event_of};
 ghost use Rattle.plist_base.specs.Outcomes.{IfFault};
 ghost use Rattle.plist_base.specs.Writing.{answer_of};
 ghost use Rattle.plist.specs.Building.{IsNested, IsNested-prop, IsUnfinished, nothing_built};
-ghost use Rattle.plist.specs.Partials.{unfinished_of};
+ghost use Rattle.plist.specs.UnfinishedValues.{unfinished_of};
 
 use crate::Value;
-use crate::partial::Partial;
+use crate::unfinished::UnfinishedValue;
 use plist_base::{Error, ErrorKind, Event, Sealed, Writer};
 use std::alloc::Global;
 
@@ -22,9 +22,10 @@ use std::alloc::Global;
 #[derive(Drop)]
 pub struct Builder {
     alloc: Global,
-    partial: Partial,
+    unfinished: UnfinishedValue,
     failed: bool,
-    ghost nested: { IsNested (unfinished_of partial) } by { IsNested-prop (unfinished_of partial) },
+    ghost nested: { IsNested (unfinished_of unfinished) } by { IsNested-prop
+        (unfinished_of unfinished) },
 }
 
 impl Builder {
@@ -37,7 +38,7 @@ impl Builder {
     {
         Builder {
             alloc,
-            partial: Partial::new(alloc),
+            unfinished: UnfinishedValue::new(alloc),
             failed: false,
         }
     }
@@ -51,14 +52,14 @@ impl Builder {
         if self.failed {
             return Err(ErrorKind::WriterFailed.without_position());
         }
-        match self.partial.refusal(&event) {
+        match self.unfinished.refusal(&event) {
             Some(kind) => return Err(kind.without_position()),
             None => {}
         }
-        match self.partial.take(self.alloc, event) {
+        match self.unfinished.take(self.alloc, event) {
             Ok(()) => Ok(()),
             Err(_) => {
-                self.partial.clear();
+                self.unfinished.clear();
                 self.failed = true;
                 Err(ErrorKind::OutOfMemory.without_position())
             }
@@ -98,7 +99,7 @@ impl Builder {
         if failed {
             return Err(ErrorKind::WriterFailed.without_position());
         }
-        match self.partial.take_root() {
+        match self.unfinished.take_root() {
             Some(root) => Ok(root),
             None => Err(ErrorKind::UnexpectedEndOfEventStream.without_position()),
         }

@@ -8,7 +8,7 @@ use Rattle.plist_base.specs.declared.error.Error.{Error}
 use Rattle.plist_base.specs.declared.event.Event.{Event}
 use Rattle.plist_base.specs.Events.{event_of}
 use Rattle.plist_base.specs.Faults.{FaultKind, OutOfMemory, UnclosedString, fault_of, fault_at, kind_of, error_kind_of}
-use Rattle.plist_ascii.specs.declared.escape.Piece.{Piece}
+use Rattle.plist_ascii.specs.declared.escape.Escaped.{Escaped}
 use Rattle.plist_ascii.specs.declared.input.Input.{Input}
 use Rattle.plist_ascii.specs.declared.input.Stop.{Stop}
 use Rattle.plist_ascii.specs.Taken.{Taken, run}
@@ -16,9 +16,9 @@ use Rattle.plist_ascii.specs.Texts.{Token, bare}
 use Rattle.plist_ascii.specs.Ascii.{lead_of, token_by, placed_items, IsTextToken}
 use Rattle.plist_ascii.specs.Kinds.{BehindBracket}
 use Rattle.plist_ascii.specs.Incoming.{AnswersIoIfCounted, ItemCountsIoIfCounted}
-use Rattle.plist_ascii.specs.Unread.{unread, Known, first, stops, IsAt, is_from_outside, FirstIsTaken, TakesPart, Answers}
+use Rattle.plist_ascii.specs.Unread.{unread, IfKnown, first, stops, IsAt, is_from_outside, FirstIsTaken, TakesPart, Answers}
 use Rattle.plist_ascii.specs.AsciiReader.{GivesAsciiItem, BehindQuoted, bytes_to_come}
-use Rattle.plist_ascii.specs.inner.Parts.{piece_bytes, Parts, EndsRun}
+use Rattle.plist_ascii.specs.inner.Parts.{escaped_bytes, Parts, EndsRun}
 
 -- ---- failures
 
@@ -89,11 +89,11 @@ module _ {R : Type 0} (known : R → Option (List ℕ)) where
   -- the byte is the first of those to be taken, which stay
   abbrev pub LooksAt : Input R → Option ℕ → Input R → Type 0
   LooksAt old byte new =
-      Known (unread known old) (λ xs. (unread known new ≡ Some xs) × (byte ≡ first xs))
+      IfKnown (unread known old) (λ xs. (unread known new ≡ Some xs) × (byte ≡ first xs))
 
   -- the first byte is taken
   abbrev pub DropsOne : Input R → Input R → Type 0
-  DropsOne old new = Known (unread known old) (λ xs. unread known new ≡ Some (drop 1 xs))
+  DropsOne old new = IfKnown (unread known old) (λ xs. unread known new ≡ Some (drop 1 xs))
 
   -- this byte was the first, and is taken
   abbrev pub TakesByte : Input R → ℕ → Input R → Type 0
@@ -102,17 +102,17 @@ module _ {R : Type 0} (known : R → Option (List ℕ)) where
   -- nothing is left to be taken
   abbrev pub HasNothingLeft : Input R → Input R → Type 0
   HasNothingLeft old new =
-      Known (unread known old) (λ xs. (unread known new ≡ Some xs) × (xs ≡ []))
+      IfKnown (unread known old) (λ xs. (unread known new ≡ Some xs) × (xs ≡ []))
 
   -- the bytes to be taken stay, and the run is at its end
   abbrev pub StopsRun : Stop → Input R → Input R → Type 0
   StopsRun stop old new =
-      Known (unread known old) (λ xs. (unread known new ≡ Some xs) × (run (stops stop) xs ≡ 0))
+      IfKnown (unread known old) (λ xs. (unread known new ≡ Some xs) × (run (stops stop) xs ≡ 0))
 
   -- this byte was taken, which doesn't end the run
   abbrev pub TakesPlain : Stop → Input R → ℕ → Input R
       → Type 0
-  TakesPlain stop old byte new = Known (unread known old) (λ xs.
+  TakesPlain stop old byte new = IfKnown (unread known old) (λ xs.
       (ys : List ℕ) × (xs ≡ byte ∷ ys) × (unread known new ≡ Some ys) × (stops stop byte ≡ false))
 
   -- a fault from outside; or the text isn't closed, where nothing is left
@@ -123,40 +123,40 @@ module _ {R : Type 0} (known : R → Option (List ℕ)) where
 
   -- the run was taken
   abbrev pub SkipsRun : Stop → Input R → Input R → Type 0
-  SkipsRun stop old new = Known (unread known old) (λ xs.
+  SkipsRun stop old new = IfKnown (unread known old) (λ xs.
       (unread known new ≡ Some (drop (run (stops stop) xs) xs))
       × (new.taken ≡ old.taken + run (stops stop) xs))
 
   -- the run was taken, and stands behind the text
   abbrev pub AddsRun : Stop → Input R
       → (text : Vec ℕ Global) → Input R → (longer : Vec ℕ Global) → Type 0
-  AddsRun stop old text new longer = Known (unread known old) (λ xs.
+  AddsRun stop old text new longer = IfKnown (unread known old) (λ xs.
       (longer.items ≡ text.items ++ take (run (stops stop) xs) xs)
       × (unread known new ≡ Some (drop (run (stops stop) xs) xs))
       × (new.taken ≡ old.taken + run (stops stop) xs))
 
   -- some of the run was taken
   abbrev pub SkipsSome : Stop → Input R → Input R → Type 0
-  SkipsSome stop old new = Known (unread known old) (λ xs. (part : List ℕ)
+  SkipsSome stop old new = IfKnown (unread known old) (λ xs. (part : List ℕ)
       × TakesPart (stops stop) old.taken [] (unread known new) new.taken part xs)
 
   -- some of the run was taken, and stands behind the text
   abbrev pub AddsTo : Stop → Input R
       → (text : Vec ℕ Global) → Input R → (longer : Vec ℕ Global) → Type 0
-  AddsTo stop old text new longer = Known (unread known old)
+  AddsTo stop old text new longer = IfKnown (unread known old)
       (TakesPart (stops stop) old.taken text.items (unread known new) new.taken longer.items)
 
   -- what stands behind a run was taken: the closing quote, or an escape that stands for a piece
   abbrev pub TakesEnd : (quote : ℕ) → Input R → Input R
-      → Option Piece → Type 0
-  TakesEnd quote old new piece = Known (unread known old) (λ xs. (n : ℕ)
+      → Option Escaped → Type 0
+  TakesEnd quote old new piece = IfKnown (unread known old) (λ xs. (n : ℕ)
       × EndsRun quote xs piece n × (unread known new ≡ Some (drop n xs))
       × (new.taken ≡ old.taken + n))
 
   -- a run and what stands behind it were taken, and what they mean stands behind the text
   abbrev pub Quotes : (quote : ℕ) → Input R
       → (text : Vec ℕ Global) → Input R → (longer : Vec ℕ Global) → (closed : Bool) → Type 0
-  Quotes quote old text new longer closed = Known (unread known old) (λ xs. (n : ℕ)
+  Quotes quote old text new longer closed = IfKnown (unread known old) (λ xs. (n : ℕ)
       × (part : List ℕ) × Parts quote xs closed n part × (longer.items ≡ text.items ++ part)
       × (unread known new ≡ Some (drop n xs)) × (new.taken ≡ old.taken + n))
 
@@ -166,7 +166,7 @@ module _ {R : Type 0} (known : R → Option (List ℕ)) where
   FailsBehind fails old new error = IsAt (fault_of error) new.taken
       × (old.taken ≤ new.taken)
       × (is_from_outside (kind_of (error_kind_of error)) ≡ false
-      → Known (unread known old) (λ xs. (n : ℕ) × fails xs (kind_of (error_kind_of error)) n
+      → IfKnown (unread known old) (λ xs. (n : ℕ) × fails xs (kind_of (error_kind_of error)) n
       × (unread known new ≡ Some (drop n xs)) × (new.taken ≡ old.taken + n)))
 
   -- what stands at the front was taken, and gave what the answer says, seen by view
@@ -190,9 +190,9 @@ module _ {R : Type 0} (known : R → Option (List ℕ)) where
   GivesText = GivesBy vec_items
 
   -- of what an escape stands for
-  abbrev pub GivesPiece : (List ℕ → Taken (List ℕ)) → Input R → Result Piece Error → Input R
+  abbrev pub GivesEscaped : (List ℕ → Taken (List ℕ)) → Input R → Result Escaped Error → Input R
       → Type 0
-  GivesPiece = GivesBy piece_bytes
+  GivesEscaped = GivesBy escaped_bytes
 
   -- and of a unit of UTF-16
   abbrev pub GivesUnit : (List ℕ → Taken (Option ℕ)) → Input R → Result (Option ℕ) Error → Input R
@@ -203,16 +203,16 @@ module _ {R : Type 0} (known : R → Option (List ℕ)) where
   abbrev pub WantsForText : (List ℕ → Token) → Input R
       → Error → Type 0
   WantsForText front old error = kind_of (error_kind_of error) ≡ OutOfMemory
-      → Known (unread known old) (λ xs. IsTextToken (front xs).gives)
+      → IfKnown (unread known old) (λ xs. IsTextToken (front xs).gives)
 
   -- the first item of the bytes to be taken came
   abbrev pub GivesToStop : Stop → Input R
       → Option (Result Event Error) → Input R → Type 0
-  GivesToStop stop old item new = Known (unread known old) (λ xs. (ys : List ℕ)
+  GivesToStop stop old item new = IfKnown (unread known old) (λ xs. (ys : List ℕ)
       × (unread known new ≡ Some ys)
       × GivesAsciiItem (stops stop) xs old.taken item ys new.taken)
 
   -- behind a quoted text no byte has been looked at
   abbrev pub StopsAtQuote : Stop → Input R → Option (Result Event Error) → Input R → Type 0
-  StopsAtQuote stop old item new = Known (unread known old) (λ xs.
+  StopsAtQuote stop old item new = IfKnown (unread known old) (λ xs.
       BehindQuoted (placed_items (stops stop) xs old.taken) item (new.peeked ≡ None))

@@ -7,15 +7,15 @@ use Rattle.std.specs.declared.string.String.{String}
 use Rattle.plist_base.specs.declared.error.ErrorKind.{ErrorKind}
 use Rattle.plist_base.specs.Faults.{FaultKind, InvalidUtf8AsciiStream, kind_of}
 use Rattle.plist_ascii.specs.Escapes.{is_surrogate}
-use Rattle.plist_ascii.specs.declared.escape.Piece.{Piece}
-use Rattle.plist_ascii.specs.declared.escape.Piece.TheVariants as piece
+use Rattle.plist_ascii.specs.declared.escape.Escaped.{Escaped}
+use Rattle.plist_ascii.specs.declared.escape.Escaped.TheVariants as piece
 use Rattle.plist_ascii.specs.Taken.{Taken, taken}
 use Rattle.plist_ascii.specs.Quoted.{behind, run_end, quoted_by}
 
 -- the bytes of the text that a piece stands for
-abbrev pub piece_bytes : Piece → List ℕ
-piece_bytes (piece.Byte byte) = byte ∷ []
-piece_bytes (piece.Char c) = encode_utf8 c
+abbrev pub escaped_bytes : Escaped → List ℕ
+escaped_bytes (piece.Byte byte) = byte ∷ []
+escaped_bytes (piece.Char c) = encode_utf8 c
 
 -- these bytes are UTF-8, and the text's
 abbrev pub IsTextOf : List ℕ → String Global → Type 0
@@ -54,12 +54,12 @@ PartFails quote bytes kind n =
     (more : List ℕ → Taken (List ℕ)) → quoted_by quote more bytes ≡ taken n (Err kind)
 
 -- behind a run stands the closing quote, or an escape that stands for a piece
-abbrev pub EndsRun : (quote : ℕ) → List ℕ → Option Piece → ℕ → Type 0
+abbrev pub EndsRun : (quote : ℕ) → List ℕ → Option Escaped → ℕ → Type 0
 EndsRun quote bytes None n =
     (more : List ℕ → Taken (List ℕ)) → run_end quote more bytes ≡ taken n (Ok [])
 EndsRun quote bytes (Some piece) n =
     (more : List ℕ → Taken (List ℕ)) → run_end quote more bytes
-    ≡ behind n (piece_bytes piece) (more (drop n bytes))
+    ≡ behind n (escaped_bytes piece) (more (drop n bytes))
 
 -- or a fault
 abbrev pub EndFails : (quote : ℕ) → List ℕ → FaultKind → ℕ → Type 0

@@ -12,26 +12,26 @@ pub data Expect : Type 0 where
 -- what an event does to the topmost expectation
 pub data Change : Type 0 where
   Refused : Change
-  Gone : Change
+  Popped : Change
   Kept : Change
   Pushed : Expect → Change
-  Became : Expect → Change
+  Replaced : Expect → Change
 
 -- where a value is wanted, or an item of an array
 abbrev pub change_of_value : PlainEvent → Change
-change_of_value (StartArray length) = Became Items
-change_of_value (StartDictionary length) = Became Pairs
+change_of_value (StartArray length) = Replaced Items
+change_of_value (StartDictionary length) = Replaced Pairs
 change_of_value EndCollection = Refused
-change_of_value (Single scalar) = Gone
+change_of_value (Single scalar) = Popped
 
 abbrev pub change_of_items : PlainEvent → Change
 change_of_items (StartArray length) = Pushed Items
 change_of_items (StartDictionary length) = Pushed Pairs
-change_of_items EndCollection = Gone
+change_of_items EndCollection = Popped
 change_of_items (Single scalar) = Kept
 
 abbrev pub change_of_pairs : PlainEvent → Change
-change_of_pairs EndCollection = Gone
+change_of_pairs EndCollection = Popped
 change_of_pairs (Single (String text)) = Pushed OneValue
 change_of_pairs event = Refused
 
@@ -43,10 +43,10 @@ change_of Pairs event = change_of_pairs event
 -- the stack after a change, topmost first
 abbrev pub changed : Change → Expect → List Expect → Option (List Expect)
 changed Refused top rest = None
-changed Gone top rest = Some rest
+changed Popped top rest = Some rest
 changed Kept top rest = Some (top ∷ rest)
 changed (Pushed expect) top rest = Some (expect ∷ top ∷ rest)
-changed (Became expect) top rest = Some (expect ∷ rest)
+changed (Replaced expect) top rest = Some (expect ∷ rest)
 
 -- the stack after an event, unless it is refused
 abbrev pub step : List Expect → PlainEvent → Option (List Expect)

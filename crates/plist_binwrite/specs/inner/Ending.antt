@@ -9,8 +9,8 @@ use Rattle.plist_binwrite.specs.declared.completion.Draft.{Draft}
 use Rattle.plist_binwrite.specs.declared.completion.Ready.{Ready}
 use Rattle.plist_binwrite.specs.declared.event_table.EventTable.{EventTable}
 use Rattle.plist_binwrite.specs.Classes.{IsFileBy, IsOversized}
-use Rattle.plist_base.specs.Fronts.{AppendsFront}
-use Rattle.plist_binwrite.specs.EventTable.{AllBelow, Describes, num_of, plain_events}
+use Rattle.plist_base.specs.Prefixes.{AppendsPrefix}
+use Rattle.plist_binwrite.specs.EventTable.{AllBelow, Describes, nth_number, plain_events}
 use Rattle.plist_binwrite.specs.inner.Laying.{laid_out, closed}
 use Rattle.plist_base.specs.Events.{PlainEvent}
 use Rattle.plist_base.specs.Trees.{Tree}
@@ -65,7 +65,7 @@ pub record IsDraftOf (es : List PlainEvent) (draft : Draft) : Type 0 where
       → IsOversized class es
 
 abbrev pub IsDraftBy : Classes → EventTable → Draft → Type 0
-IsDraftBy classes held draft = GoesBy (plain_events held) (num_of classes.of) draft.plan
+IsDraftBy classes held draft = GoesBy (plain_events held) (nth_number classes.of) draft.plan
 
 -- want of memory isn't why
 abbrev pub NeedsNoMemory : Fault → Type 0
@@ -79,4 +79,4 @@ module _ {W : Type 0} (contents : W → Option (List ℕ)) where
       → Appends (contents old) (contents new) (file_of ready objects)
   SendsReady es ready (Err fault) old new = (fault ≡ fault_nowhere Io)
       × ((objects : ℕ → Object) → Describes es (numbers_of ready.plan) objects
-      → AppendsFront (contents old) (contents new) (file_of ready objects))
+      → AppendsPrefix (contents old) (contents new) (file_of ready objects))

@@ -74,7 +74,7 @@ ended_at entries start =
 
 -- each entry of a scalar names one; these are the starts that have no end, the innermost last; and
 -- the entries tell where trees end
-pub record IsTold (scalars : List PlainEvent) (entries : List EventEntry)
+pub record AreEntriesOf (scalars : List PlainEvent) (entries : List EventEntry)
     (begun : List ℕ) : Type 0 where
   pub sound : (p : ℕ) → p < length entries → is_sound scalars (entry_at entries p) ≡ true
   pub starts : reverse begun ≡ open_after (all_shown scalars entries)
@@ -86,7 +86,7 @@ pub record IsKept (scalars : List PlainEvent) (entries : List EventEntry)
     (begun : List ℕ) : Type 0 where
   pub apart : AreApart scalars
   pub used : (i : ℕ) → i < length scalars → list_any (names i) entries ≡ true
-  pub told : IsTold scalars entries begun
+  pub told : AreEntriesOf scalars entries begun
 
 -- the same of events, which are the different scalars
 abbrev pub KeepsScalars : List Event → List EventEntry → (begun : List ℕ) → Type 0

@@ -8,7 +8,7 @@ use Rattle.plist_binwrite.specs.declared.event_table.EventTable.{EventTable}
 use Rattle.plist_binwrite.specs.declared.numbering.Classed.{Classed}
 use Rattle.plist_binwrite.specs.declared.numbering.Numbered.{Numbered}
 use Rattle.plist_binwrite.specs.declared.numbering.Numbering.{Numbering}
-use Rattle.plist_binwrite.specs.EventTable.{plain_events, is_stop, event_at, num_of, item_indices, half_indices, keys_in, values_in, AllNumbered, IsNumbered, Keeps}
+use Rattle.plist_binwrite.specs.EventTable.{plain_events, is_end, event_at, nth_number, item_indices, half_indices, keys_in, values_in, AllNumbered, IsNumbered, Keeps}
 use Rattle.plist_binwrite.specs.inner.PlansBy.{IsPlan, HaveIds}
 
 -- so many numbers, none of which is given yet
@@ -18,12 +18,12 @@ AreMarks count numbers = numbers ≡ replicate count (2 ^ 64 - 1)
 -- these numbers go by these classes
 abbrev pub IsNumberingOf : EventTable → (classes : List ℕ) → Numbering → Type 0
 IsNumberingOf held classes numbering =
-    IsPlan (plain_events held) (num_of classes) numbering.numbers numbering.firsts
+    IsPlan (plain_events held) (nth_number classes) numbering.numbers numbering.firsts
 
 -- those given so far go by them
 abbrev pub IsPlanOf : Classed → Numbered → Type 0
 IsPlanOf given found =
-    IsPlan (plain_events given.events.now) (num_of given.classes.now) found.numbers found.firsts
+    IsPlan (plain_events given.events.now) (nth_number given.classes.now) found.numbers found.firsts
 
 abbrev pub HaveIdsOf : Classed → Numbered → Type 0
 HaveIdsOf given found = HaveIds given.classes.now found.ids found.firsts
@@ -41,13 +41,13 @@ KeepsNumbers old new = Keeps old.numbers old.firsts new.numbers new.firsts
 -- an item that is numbered before all others has the first number
 abbrev pub BeginsAt : Classed → (index : ℕ) → (old new : Numbered) → Type 0
 BeginsAt given index old new = length old.firsts ≡ 0
-    → is_stop (event_at (plain_events given.events.now) index) ≡ false
+    → is_end (event_at (plain_events given.events.now) index) ≡ false
     → get_or new.firsts 0 0 ≡ index
 
 module _ (given : Classed) where
   -- an item that stands here has a number
   abbrev pub NumbersItem : (index : ℕ) → Numbered → Type 0
-  NumbersItem index found = is_stop (event_at (plain_events given.events.now) index) ≡ false
+  NumbersItem index found = is_end (event_at (plain_events given.events.now) index) ≡ false
       → IsNumbered found.numbers found.firsts index
 
   -- the items of an array have numbers, from here on
@@ -75,7 +75,7 @@ module _ (given : Classed) where
   -- where they are, the root has the first number
   abbrev pub RootIsFirst : Numbered → Type 0
   RootIsFirst found = (t : Tree) → plain_events given.events.now ≡ lengthless t
-      → num_of found.numbers 0 ≡ 0
+      → nth_number found.numbers 0 ≡ 0
 
 -- the same of the numbers alone
 abbrev pub NumbersTree : EventTable → Numbering → Type 0
@@ -84,4 +84,4 @@ NumbersTree held numbering = (t : Tree) → plain_events held ≡ lengthless t
 
 abbrev pub NumbersRoot : EventTable → Numbering → Type 0
 NumbersRoot held numbering = (t : Tree) → plain_events held ≡ lengthless t
-    → num_of numbering.numbers 0 ≡ 0
+    → nth_number numbering.numbers 0 ≡ 0

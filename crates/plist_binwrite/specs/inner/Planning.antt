@@ -4,7 +4,7 @@ use Rattle.plist_binwrite.specs.declared.plan.Plan.{Plan}
 use Rattle.plist_binwrite.specs.declared.plan.Planned.{Planned}
 use Rattle.plist_base.specs.Events.{PlainEvent}
 use Rattle.plist_binwrite.specs.Classes.{AreClasses}
-use Rattle.plist_binwrite.specs.EventTable.{plain_events, IsBracketed, AllNumbered, num_of}
+use Rattle.plist_binwrite.specs.EventTable.{plain_events, IsBracketed, AllNumbered, nth_number}
 use Rattle.plist_binwrite.specs.inner.PlansBy.{IsPlan}
 
 -- by event, the number of its object; and by number, the index of the first event of that object
@@ -25,7 +25,7 @@ pub record IsPlanned (es : List PlainEvent) (plan : Plan) : Type 0 where
   pub classes : AreClasses es class
   pub numbered : IsPlan es class (numbers_of plan) (firsts_of plan)
   pub all : AllNumbered es (numbers_of plan) (count_of plan)
-  pub root : num_of (numbers_of plan) 0 ≡ 0
+  pub root : nth_number (numbers_of plan) 0 ≡ 0
 
 -- these are the classes that a plan goes by
 abbrev pub GoesBy : List PlainEvent → (class : ℕ → ℕ) → Plan → Type 0
@@ -36,7 +36,7 @@ abbrev pub events_in : Planned → List PlainEvent
 events_in file = plain_events file.events.now
 
 abbrev pub numbers_by : Planned → ℕ → ℕ
-numbers_by file = num_of (numbers_of file.plan.now)
+numbers_by file = nth_number (numbers_of file.plan.now)
 
 -- a file that can be put: its numbers are planned, and its references have a form
 pub record CanPut (file : Planned) : Type 0 where

@@ -2,14 +2,14 @@
 -- index of the first event of that object.
 use Rattle.std.specs.Prelude.{◌≡◌, ◌⊎◌, ℕ, ◌-◌, ◌^◌, ◌<◌, false, List, length, get_or}
 use Rattle.plist_base.specs.Events.{PlainEvent}
-use Rattle.plist_binwrite.specs.EventTable.{is_stop, event_at, IsNumbered, AllBelow, num_of}
+use Rattle.plist_binwrite.specs.EventTable.{is_end, event_at, IsNumbered, AllBelow, nth_number}
 
 pub record IsPlan (es : List PlainEvent) (class : ℕ → ℕ) (numbers firsts : List ℕ) : Type 0 where
   pub long : length numbers ≡ length es
   pub small : length firsts < 2 ^ 64
   pub known : (k : ℕ) → k < length firsts → (get_or firsts k 0 < length es)
       × (get_or numbers (get_or firsts k 0) 0 ≡ k)
-      × (is_stop (event_at es (get_or firsts k 0)) ≡ false)
+      × (is_end (event_at es (get_or firsts k 0)) ≡ false)
   pub same : (p : ℕ) → p < length es → IsNumbered numbers firsts p
       → class (get_or firsts (get_or numbers p 0) 0) ≡ class p
   pub free : (p : ℕ) → p < length es → IsNumbered numbers firsts p
@@ -21,7 +21,8 @@ pub record IsPlan (es : List PlainEvent) (class : ℕ → ℕ) (numbers firsts :
 pub record HaveIds (classes ids firsts : List ℕ) : Type 0 where
   pub below : AllBelow (length ids) classes
   pub sound : (c : ℕ) → c < length ids → get_or ids c 0 < length firsts
-      → num_of classes (get_or firsts (get_or ids c 0) 0) ≡ c
-  pub complete : (k : ℕ) → k < length firsts → get_or ids (num_of classes (get_or firsts k 0)) 0 ≡ k
+      → nth_number classes (get_or firsts (get_or ids c 0) 0) ≡ c
+  pub complete : (k : ℕ) → k < length firsts
+      → get_or ids (nth_number classes (get_or firsts k 0)) 0 ≡ k
   pub free : (c : ℕ) → c < length ids → (get_or ids c 0 < length firsts)
       ⊎ (get_or ids c 0 ≡ 2 ^ 64 - 1)

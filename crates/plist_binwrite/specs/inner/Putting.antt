@@ -8,8 +8,8 @@ use Rattle.plist_base.specs.Trees.{Tree, Trees, Members, Array, Dictionary}
 use Rattle.plist_format.specs.Object.{Object}
 use Rattle.plist_binwrite.specs.Forms.{form, table_form}
 use Rattle.plist_binwrite.specs.EventTable.{plain_events, item_indices, half_indices, Describes}
-use Rattle.plist_binwrite.specs.Numberings.{obj_of}
-use Rattle.plist_binwrite.specs.Outlets.{Puts}
+use Rattle.plist_binwrite.specs.Numberings.{object_of}
+use Rattle.plist_binwrite.specs.OutputBuffer.{Puts}
 use Rattle.plist_binwrite.specs.Occurrences.{OccursAt, ItemsOccurAt, PairsOccurAt}
 use Rattle.plist_binwrite.specs.Written.{bodies}
 use Rattle.plist_binwrite.specs.Classes.{SendsBy}
@@ -44,20 +44,20 @@ module _ {W : Type 0} (contents : W → Option (List ℕ)) (old : W) (buffer : V
   PutsArray file index result new holds = (ts : Trees) → ItemsOccurAt (events_in file) ts
       (index + 1)
       → Puts contents old buffer
-      (form file.width (obj_of (numbers_by file) (Array ts) index)) result new holds
+      (form file.width (object_of (numbers_by file) (Array ts) index)) result new holds
 
   abbrev pub PutsDictionary : Planned → (index : ℕ) → Result (Unit {0}) Error → (new : W)
       → (holds : Vec ℕ Global) → Type 0
   PutsDictionary file index result new holds =
       (ms : Members) → PairsOccurAt (events_in file) ms (index + 1)
       → Puts contents old buffer
-      (form file.width (obj_of (numbers_by file) (Dictionary ms) index)) result new holds
+      (form file.width (object_of (numbers_by file) (Dictionary ms) index)) result new holds
 
   abbrev pub PutsObject : Planned → (index : ℕ) → Result (Unit {0}) Error → (new : W)
       → (holds : Vec ℕ Global) → Type 0
   PutsObject file index result new holds = (t : Tree) → OccursAt (events_in file) t index
       → Puts contents old buffer
-      (form file.width (obj_of (numbers_by file) t index)) result new holds
+      (form file.width (object_of (numbers_by file) t index)) result new holds
 
   -- the objects in this order
   abbrev pub PutsOrder : Planned → (order : List ℕ) → Result (Unit {0}) Error → (new : W)

@@ -3,8 +3,8 @@ use Rattle.std.specs.Prelude.{◌≡◌, ◌≢◌, ℕ, ◌+◌, ◌^◌, ◌<�
 use Rattle.plist_base.specs.Trees.{Tree, Trees, number_of_trees}
 use Rattle.plist_format.specs.Object.{Object}
 use Rattle.plist_binwrite.specs.Forms.{IsWritable}
-use Rattle.plist_binwrite.specs.EventTable.{plain_events, is_stop, held_at, num_of, Describes}
-use Rattle.plist_binwrite.specs.Numberings.{obj_of}
+use Rattle.plist_binwrite.specs.EventTable.{plain_events, is_end, table_event, nth_number, Describes}
+use Rattle.plist_binwrite.specs.Numberings.{object_of}
 use Rattle.plist_binwrite.specs.Sizes.{IsSizeOrNone, object_size, size_with}
 use Rattle.plist_binwrite.specs.Occurrences.{OccursAt, ItemsOccurAt}
 use Rattle.plist_binwrite.specs.Written.{Laid}
@@ -17,8 +17,8 @@ use Rattle.plist_binwrite.specs.inner.Planning.{numbers_of, events_in, numbers_b
 -- the object of an item that stands here has a mark
 abbrev pub MarksItem : EventTable → Plan → (index : ℕ) → (marks : List ℕ) → Type 0
 MarksItem held plan index marks = index < length (plain_events held)
-    → is_stop (held_at held index) ≡ false
-    → get_or marks (num_of (numbers_of plan) index) 0 ≢ 0
+    → is_end (table_event held index) ≡ false
+    → get_or marks (nth_number (numbers_of plan) index) 0 ≢ 0
 
 -- so many items of an array stand from here on
 abbrev pub CountsItems : EventTable → (from count : ℕ) → Type 0
@@ -43,7 +43,7 @@ module _ (file : Planned) where
   -- the form holds the object of the tree that begins here
   abbrev pub IsWritableAt : (index : ℕ) → Type 0
   IsWritableAt index = (t : Tree) → OccursAt (events_in file) t index
-      → IsWritable file.width (obj_of (numbers_by file) t index)
+      → IsWritable file.width (object_of (numbers_by file) t index)
 
   -- the objects of the plan end here, in this order
   abbrev pub IsEndOrNone : (order : List ℕ) → Option ℕ → Type 0

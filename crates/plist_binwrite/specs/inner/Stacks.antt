@@ -2,7 +2,7 @@
 -- nothing is held. In these lists the topmost one comes first.
 use Rattle.std.specs.Prelude.{◌≡◌, Bool, true, false, List, [], ◌∷◌, Some, map, reverse, ⊤}
 use Rattle.plist_base.specs.Events.{PlainEvent}
-use Rattle.plist_base.specs.inner.Expects.{Expect, OneValue, Items, Pairs, Change, Refused, Gone, Kept, Pushed, Became, change_of, expected_after}
+use Rattle.plist_base.specs.inner.Expects.{Expect, OneValue, Items, Pairs, Change, Refused, Popped, Kept, Pushed, Replaced, change_of, expected_after}
 use Rattle.plist_binwrite.specs.declared.expects.Expect as code_expect
 use Rattle.plist_binwrite.specs.declared.expects.Expect.TheVariants as expect
 use Rattle.plist_binwrite.specs.declared.expects.Change as code_change
@@ -16,10 +16,10 @@ expect_seen expect.Pairs = Pairs
 
 abbrev pub change_seen : code_change.Change → Change
 change_seen change.Refused = Refused
-change_seen change.Gone = Gone
+change_seen change.Popped = Popped
 change_seen change.Kept = Kept
 change_seen (change.Pushed w) = Pushed (expect_seen w)
-change_seen (change.Became w) = Became (expect_seen w)
+change_seen (change.Replaced w) = Replaced (expect_seen w)
 
 abbrev pub stack_of : List code_expect.Expect → List Expect
 stack_of expects = map expect_seen (reverse expects)
@@ -41,14 +41,14 @@ IsChangeBy expects event change = change_seen change ≡ change_on_top (stack_of
 -- the stack after a change that isn't refused
 abbrev pub ChangesTo : (old : List Expect) → Change → (new : List Expect) → Type 0
 ChangesTo old Refused new = ⊤
-ChangesTo [] Gone new = new ≡ []
-ChangesTo (top ∷ rest) Gone new = new ≡ rest
+ChangesTo [] Popped new = new ≡ []
+ChangesTo (top ∷ rest) Popped new = new ≡ rest
 ChangesTo [] Kept new = ⊤
 ChangesTo (top ∷ rest) Kept new = new ≡ top ∷ rest
 ChangesTo [] (Pushed expect) new = ⊤
 ChangesTo (top ∷ rest) (Pushed expect) new = new ≡ expect ∷ top ∷ rest
-ChangesTo [] (Became expect) new = new ≡ expect ∷ []
-ChangesTo (top ∷ rest) (Became expect) new = new ≡ expect ∷ rest
+ChangesTo [] (Replaced expect) new = new ≡ expect ∷ []
+ChangesTo (top ∷ rest) (Replaced expect) new = new ≡ expect ∷ rest
 
 -- nothing more is wanted
 abbrev pub is_nothing : List Expect → Bool

@@ -4,7 +4,7 @@ use Rattle.plist_base.specs.Events.{PlainEvent}
 use Rattle.plist_base.specs.Trees.{Tree, Leaf, Array, Dictionary}
 use Rattle.std.specs.declared.alloc.Global.{Global}
 use Rattle.std.specs.declared.vec.Vec.{Vec}
-use Rattle.plist_binwrite.specs.EventTable.{held_at, keys_in, held_kind, num_of, plain_events, values_in}
+use Rattle.plist_binwrite.specs.EventTable.{table_event, keys_in, entry_kind_of, nth_number, plain_events, values_in}
 use Rattle.plist_binwrite.specs.declared.event_table.EventTable.{EventTable}
 use Rattle.plist_binwrite.specs.declared.kinds.EntryKind.{EntryKind}
 use Rattle.plist_binwrite.specs.declared.kinds.EntryKind.TheVariants as kind
@@ -53,8 +53,8 @@ module _ (class : ℕ → ℕ) (count : ℕ) where
       pub below : (p : ℕ) → p < length es → class p < count + length keys
 
 -- two indices have one class exactly where the same tree begins
-abbrev pub TellsTreesApart : List PlainEvent → (class : ℕ → ℕ) → Type 0
-TellsTreesApart es class =
+abbrev pub SeparatesTrees : List PlainEvent → (class : ℕ → ℕ) → Type 0
+SeparatesTrees es class =
     (t u : Tree) (p q : ℕ) → OccursAt es t p → OccursAt es u q → (class p ≡ class q) ↔ (t ≡ u)
 
 -- ---- of held events
@@ -66,13 +66,13 @@ IsKeyAt seen collection index = slice_get (keys_seen seen) index ≡ Some (key_o
 -- the classes of the events at these indices are added
 abbrev pub AddsClasses : (old : Vec ℕ Global) → (classes indices : List ℕ) → (new : Vec ℕ Global)
     → Type 0
-AddsClasses old classes indices new = new.items ≡ old.items ++ map (num_of classes) indices
+AddsClasses old classes indices new = new.items ≡ old.items ++ map (nth_number classes) indices
 
 -- the classes of the children of the collection that begins here
 abbrev pub AreClassesWithin : EventTable → (classes : List ℕ) → (index : ℕ) → Vec ℕ Global → Type 0
 AreClassesWithin held classes index found = (t : Tree) → OccursAt (plain_events held) t index
-    → found.items ≡ map (num_of classes) (keys_in t index)
-    ++ map (num_of classes) (values_in t index)
+    → found.items ≡ map (nth_number classes) (keys_in t index)
+    ++ map (nth_number classes) (values_in t index)
 
 -- is it the start of a dictionary?
 abbrev pub is_dictionary : EntryKind → Bool
@@ -85,8 +85,8 @@ is_dictionary kind.End = false
 abbrev pub IsClassAt : EventTable → (classes : List ℕ) → (base : ℕ) → (seen : List Collection)
     → (index class : ℕ) → Type 0
 IsClassAt held classes base seen index class = (t : Tree) → OccursAt (plain_events held) t index
-    → IsIndexed (num_of classes) base (keys_seen seen)
-    (is_dictionary (held_kind (held_at held index)))
+    → IsIndexed (nth_number classes) base (keys_seen seen)
+    (is_dictionary (entry_kind_of (table_event held index)))
     t index class
 
 -- from this index on each tree has its class, and before it the scalars have theirs
@@ -94,4 +94,4 @@ abbrev pub HaveFrom : EventTable → (base : ℕ) → (classes : List ℕ) → (
     → (from : ℕ) → Type 0
 HaveFrom held base classes seen from =
     (scalar : ℕ → ℕ) × AreOwners (plain_events held) scalar base
-    × HaveTreeClasses (num_of classes) base scalar (plain_events held) (keys_seen seen) from
+    × HaveTreeClasses (nth_number classes) base scalar (plain_events held) (keys_seen seen) from

@@ -2,7 +2,7 @@
 
 use crate::support::files::path_of;
 use crate::support::must;
-use plist_commands::{Messages, run_words, words_given};
+use plist_commands::{Messages, program_arguments, run_words};
 use std::env::{Env, FillError};
 use std::io::Write;
 use std::process::Abort;
@@ -65,7 +65,7 @@ pub(crate) fn expect_given(
     said: &[u8],
     status: u8,
 ) {
-    let given = must(rt, words_given(&Given { words }, rt.alloc()));
+    let given = must(rt, program_arguments(&Given { words }, rt.alloc()));
     let mut out = Vec::new(rt.alloc());
     let mut err = Vec::new(rt.alloc());
     let found = run_words(rt, rt.alloc(), given.as_slice(), &mut out, &mut err);

@@ -11,12 +11,12 @@ loop-done-preserved g c = record {
       c.in-Ok.ensures.bytes);
 }
 
-pub returns-in-Ok-eq0-clause-front : goal.returns-in-Ok-eq0-clause-front
-returns-in-Ok-eq0-clause-front g c =
+pub returns-in-Ok-eq0-clause-prefix : goal.returns-in-Ok-eq0-clause-prefix
+returns-in-Ok-eq0-clause-prefix g c =
     front_none _ _ _ c.args.bytes.now c.loop-done.done c.loop-done.invariant.sent
     (rw c.in-Ok-eq0.field-0-test at c.in-Ok-eq0.ensures.bytes)
 
-pub returns-in-Err-clause-front : goal.returns-in-Err-clause-front
-returns-in-Err-clause-front g c =
+pub returns-in-Err-clause-prefix : goal.returns-in-Err-clause-prefix
+returns-in-Err-clause-prefix g c =
     front_kept _ _ _ c.args.bytes.now c.loop-done.done c.loop-done.invariant.sent
     c.in-Err.ensures.bytes

@@ -1,7 +1,7 @@
 use Rattle.std.proofs.Common.{◌≡◌, arith, sym, ◌<◌, get_or, length, ◌-◌, reverse, IfSome, refl}
 use Rattle.std.proofs.lemmas.List.{length-reverse, get_or_read_under}
 use Rattle.std.proofs.lemmas.Result.{on_ok_weaker}
-use Rattle.plist_binread.specs.declared.walk.Turn.TheVariants.{Child}
+use Rattle.plist_binread.specs.declared.walk.NextChild.TheVariants.{Child}
 use Rattle.plist_binread.specs.Slot.{answer_in}
 use Rattle.plist_binread.specs.Walking.{weight_in}
 use Rattle.plist_binread.proofs.Lengths.{child_limits}
@@ -14,18 +14,19 @@ use Rattle.plist_binread.proofs.advance.advance.Goals.{In-Child, After-enter, Af
 
 -- what the turn does
 child : (g : _) (c : In-Child g) → IfSome (g.S.Source.known c.args.source.now) (λ bytes.
-    Turned bytes c.args.bounds.now c.turn.new.self.tags.items c.turn.new.self.contents.items
+    Turned bytes c.args.bounds.now c.next_child.new.self.tags.items
+    c.next_child.new.self.contents.items
     (reverse c.args.walk.now.frames) (Child c.in-Child.object c.in-Child.index)
-    (reverse c.turn.new.self.frames))
+    (reverse c.next_child.new.self.frames))
 child g c =
     known_turned _ _ _ _ _ _ _ _ (Child _ _) c.requires.known
     c.in-Child.ensures.remaining
 
 -- the place of the collection
 place : (g : _) (c : After-read_child g)
-    → c.index-at.result.now ≡ get_or c.turn.new.self.contents.items c.in-Child.object 0
+    → c.index-at.result.now ≡ get_or c.next_child.new.self.contents.items c.in-Child.object 0
 place g c =
-    let h : c.in-Child.object < length c.turn.new.self.contents.items = omega
+    let h : c.in-Child.object < length c.next_child.new.self.contents.items = omega
     (arith, c.in-Child.ensures.within.0) in
     get_or_read_under _ _ _ _ 0 c.index-at.ensures h refl
 
@@ -34,7 +35,7 @@ some : (g : _) (c : In-Child g) → 0 < weight_in c.args.walk.now
 some g c =
     let n = length c.args.walk.now.tags.items in
     let e = rw length-reverse at (c.in-Child.ensures.weight n) in
-    omega (arith, steps_positive (n - length c.turn.new.self.frames))
+    omega (arith, steps_positive (n - length c.next_child.new.self.frames))
 
 -- ---- a child that isn't found
 
@@ -56,12 +57,12 @@ returns-in-Ok-clause-falls g c =
     let n = length c.args.walk.now.tags.items in
     let e = rw length-reverse at (c.in-Child.ensures.weight n) in (
       some g (goal.at.returns-in-Ok-clause-falls g c).In-Child,
-      on_ok_weaker c.enter.result (λ h. omega (arith, e, rw c.turn.ensures.size at h))
+      on_ok_weaker c.enter.result (λ h. omega (arith, e, rw c.next_child.ensures.size at h))
           c.enter.ensures.falls,
     )
 
 goes : (g : _) (c : After-enter g)
-    → c.index-at.result.now ≡ get_or c.turn.new.self.contents.items c.in-Child.object 0
+    → c.index-at.result.now ≡ get_or c.next_child.new.self.contents.items c.in-Child.object 0
     → GoesOn (g.S.Source.known c.args.source.now) c.args.bounds.now c.args.walk.now
     (answer_in c.enter.result c.enter.new.slot) c.enter.new.slot c.enter.new.walk
 goes g c read =
@@ -70,8 +71,8 @@ goes g c read =
     c.requires.known c.in-Child.ensures.remaining in
     known_child_goes _ _ _ _ _ _ _ _ _ _ answer _
     c.in-Child.ensures.within.0 c.in-Child.ensures.within.1 turned
-    (known_goes _ _ _ _ _ _ _ _ (length c.turn.new.self.frames) _ _ c.in-Ok.number answer
-    _ c.in-Ok.ensures.unchanged (sym (length-reverse c.turn.new.self.frames))
+    (known_goes _ _ _ _ _ _ _ _ (length c.next_child.new.self.frames) _ _ c.in-Ok.number answer
+    _ c.in-Ok.ensures.unchanged (sym (length-reverse c.next_child.new.self.frames))
     (known_after _ _ _ _ _ _ (Child c.in-Child.object c.in-Child.index) turned)
     (rw read at c.in-Ok.ensures.child) c.enter.ensures.kept
     (rw read at c.enter.ensures.yields))
@@ -90,6 +91,6 @@ pub returns-in-Ok-clause-limit : goal.returns-in-Ok-clause-limit
 returns-in-Ok-clause-limit g c =
     let t = goal.at.returns-in-Ok-clause-limit g c in
     child_limits c.enter.result c.args.left c.enter.new.slot _ _ _ _ _ _ _ _ _ c.in-Child.index
-    c.in-Ok.number c.in-Ok.ensures.unchanged (sym (length-reverse c.turn.new.self.frames))
+    c.in-Ok.number c.in-Ok.ensures.unchanged (sym (length-reverse c.next_child.new.self.frames))
     c.in-Child.ensures.within.0 c.in-Child.ensures.within.1 (child g t.In-Child)
     (rw (place g t.After-read_child) at c.in-Ok.ensures.child) c.enter.ensures.limit

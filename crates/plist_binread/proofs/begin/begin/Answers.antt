@@ -10,14 +10,14 @@ use Rattle.plist_binread.proofs.begin.begin.Goals as goal
 pub returns-in_err-head-clause-yields : goal.returns-in_err-head-clause-yields
 returns-in_err-head-clause-yields g c =
     let p = err_from_is_err_and c.from_residual.result c.from_residual.ensures.1 in
-    rw p.1 (known_unread (g.S.Source.known c.args.source.now) c.note.new.self.fault
+    rw p.1 (known_unread (g.S.Source.known c.args.source.now) c.keep_error.new.self.fault
     (rw (← c.in_err-head.ensures.answer) at c.read.ensures.refused))
 
 pub returns-in_err-none-clause-yields : goal.returns-in_err-none-clause-yields
 returns-in_err-none-clause-yields g c =
     let p = err_from_is_err_and c.from_residual-in_err-none.result
     c.from_residual-in_err-none.ensures.1 in
-    rw p.1 (known_wanted (g.S.Source.known c.args.source.now) c.note-2.new.self.fault
+    rw p.1 (known_wanted (g.S.Source.known c.args.source.now) c.keep_error-2.new.self.fault
     (rw (← c.in_err-none.ensures.answer) at c.no_tags.ensures.memory))
 
 pub invariant_of-walk : goal.invariant_of-walk

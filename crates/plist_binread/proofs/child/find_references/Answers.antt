@@ -5,7 +5,8 @@ use Rattle.plist_binread.proofs.child.find_references.Goals as goal
 
 pub returns-then-place-bounds-clause-slots : goal.returns-then-place-bounds-clause-slots
 returns-then-place-bounds-clause-slots g c = λ index.
-    known_beyond _ c.args.bounds.now _ _ (Err c.exceed.new.self.fault) c.if-place-bounds.true
+    known_beyond _ c.args.bounds.now _ _
+    (Err c.refuse_overrun.new.self.fault) c.if-place-bounds.true
 
 pub returns-in-Some-clause-slots : goal.returns-in-Some-clause-slots
 returns-in-Some-clause-slots g c =
@@ -17,5 +18,5 @@ returns-in-Some-clause-slots g c =
 pub returns-in-None-clause-slots : goal.returns-in-None-clause-slots
 returns-in-None-clause-slots g c = λ index.
     known_childless _ c.args.bounds.now c.args.place index _
-    (Err c.exceed-in-None.new.self.fault) (search rules)
+    (Err c.refuse_overrun-in-None.new.self.fault) (search rules)
     (known_prefix _ _ _ _ (omega arith) c.buffered-buffered.ensures.bytes) c.in-None.ensures.none

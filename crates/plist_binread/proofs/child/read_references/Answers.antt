@@ -14,5 +14,5 @@ returns-in-Some-clause-slots g c =
 pub returns-in-None-clause-slots : goal.returns-in-None-clause-slots
 returns-in-None-clause-slots g c = λ index.
     known_childless _ c.args.bounds.now c.args.place index c.read_exact_at.new.buf
-    (Err c.exceed.new.self.fault) (search rules) c.in-Ok.ensures.bytes
+    (Err c.refuse_overrun.new.self.fault) (search rules) c.in-Ok.ensures.bytes
     (rw c.requires.extent at c.in-None.ensures.none)

@@ -88,5 +88,5 @@ returns-else-keep_or_open-clause-yields g c =
     c.in_ok-found.ensures.found)
     (known_full _ c.args.bounds.now.trailer c.in-Some.place
     (object_at c.args.bounds.now c.in-Some.place) (event_in c.decode.new.slot)
-    c.in_ok-outcome-in-Some.outcome c.want_memory.new.self.fault c.want_memory.ensures.fault
+    c.in_ok-outcome-in-Some.outcome c.refuse_memory.new.self.fault c.refuse_memory.ensures.fault
     (c.keep_or_open.ensures.wanted c.if-keep_or_open.false) c.in_ok-outcome-in-Some.ensures.decoded)

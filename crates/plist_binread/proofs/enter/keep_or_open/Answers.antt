@@ -12,7 +12,7 @@ use Rattle.plist_binread.proofs.enter.keep_or_open.Goals as goal
 pub returns-in-Some-clause-counted : goal.returns-in-Some-clause-counted
 returns-in-Some-clause-counted c =
     rw c.in-Scalar.is (cached_count-keep _ _ _ _ c.requires.below
-    (ap unmarked c.requires.new) c.in-Some.ensures.tag.0 c.keep.ensures.tags
+    (ap unmarked c.requires.new) c.in-Some.ensures.tag.0 c.cache.ensures.tags
     ∙ ap (λ b. cached_count c.args.walk.now.tags.items + cond b 1 0)
     (sym c.in-Some.ensures.small))
 
@@ -26,9 +26,9 @@ returns-in-Some-clause-yields c = λ _ bytes bounds entry k is decoded.
           (length-reverse _))
           c.args.walk.now.path c.requires.below is
           (not_open c.args.walk.now.path c.requires.below c.requires.new) _ scalar),
-      rw c.keep.ensures.contents (known_kept bytes bounds _ _ _ k _ c.in-Some.tag
+      rw c.cache.ensures.contents (known_kept bytes bounds _ _ _ k _ c.in-Some.tag
           c.in-Some.content _ (event_in c.args.slot.now) c.requires.below c.args.walk.now.same
-          c.in-Some.ensures.tag.0 c.keep.ensures.tags c.in-Some.ensures.scalar
+          c.in-Some.ensures.tag.0 c.cache.ensures.tags c.in-Some.ensures.scalar
           (ap (λ found. single (scalar_at found)) is ∙ scalar)),
     )
 
@@ -46,16 +46,16 @@ returns-in-None-clause-yields c = λ _ bytes bounds entry k is decoded. (
 
 pub invariant_of-walk-then-open_frame : goal.invariant_of-walk-then-open_frame
 invariant_of-walk-then-open_frame c = record {
-  same = c.args.walk.now.same ∙ sym c.mark.ensures.size;
+  same = c.args.walk.now.same ∙ sym c.mark_open.ensures.size;
   path = rw (reverse-push _ _ _ (c.open_frame.ensures.pushed c.if-open_frame.true))
       (IsOpen-push _ _ _ _ c.args.walk.now.path c.requires.below
       (not_open c.args.walk.now.path c.requires.below c.requires.new)
-      (ap unmarked c.requires.new) c.mark.ensures);
+      (ap unmarked c.requires.new) c.mark_open.ensures);
 }
 
 pub returns-then-open_frame-clause-counted : goal.returns-then-open_frame-clause-counted
 returns-then-open_frame-clause-counted c =
-    let same = cached_count-mark _ _ _ _ c.mark.ensures in
+    let same = cached_count-mark _ _ _ _ c.mark_open.ensures in
     rw c.in-Collection.is (omega arith)
 
 pub returns-then-open_frame-clause-kept : goal.returns-then-open_frame-clause-kept
@@ -79,5 +79,5 @@ returns-then-open_frame-clause-yields c = λ _ bytes bounds entry k is outcome.
           (reverse-push _ _ _ (c.open_frame.ensures.pushed c.if-open_frame.true)) refl refl
           collection),
       rw (reverse-push _ _ _ (c.open_frame.ensures.pushed c.if-open_frame.true))
-          (known_opened bytes bounds _ _ _ k _ _ _ entry c.mark.ensures is collection),
+          (known_opened bytes bounds _ _ _ k _ _ _ entry c.mark_open.ensures is collection),
     )

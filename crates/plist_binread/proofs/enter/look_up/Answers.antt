@@ -17,5 +17,5 @@ returns-then-tag-ge128-clause-refused c = λ bytes bounds fs o k.
 pub returns-clause-refused : goal.returns-clause-refused
 returns-clause-refused c = λ bytes bounds fs o k.
     unfound_memory bytes bounds c.args.tags.now c.args.contents.now fs k o c.args.at
-    c.args.number c.want_memory.new.self.fault (omega arith) (leb_short 128 _ (omega arith))
-    (omega arith) c.want_memory.ensures.fault (c.unpack.ensures.wanted c.if-unpack.false)
+    c.args.number c.refuse_memory.new.self.fault (omega arith) (leb_short 128 _ (omega arith))
+    (omega arith) c.refuse_memory.ensures.fault (c.unpack.ensures.wanted c.if-unpack.false)

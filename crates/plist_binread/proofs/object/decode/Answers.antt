@@ -8,7 +8,7 @@ use Rattle.plist_binread.proofs.object.decode.Goals as goal
 pub returns-then-place-bounds-clause-decoded : goal.returns-then-place-bounds-clause-decoded
 returns-then-place-bounds-clause-decoded g c =
     known_beyond _ c.args.bounds.now.reference_width c.args.bounds.now.trailer c.args.place
-    c.exceed.new.self.fault c.if-place-bounds.true c.exceed.ensures.fault
+    c.refuse_overrun.new.self.fault c.if-place-bounds.true c.refuse_overrun.ensures.fault
 
 pub returns-in-Long-clause-decoded : goal.returns-in-Long-clause-decoded
 returns-in-Long-clause-decoded g c =

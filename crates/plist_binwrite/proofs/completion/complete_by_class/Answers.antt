@@ -1,6 +1,6 @@
 use Rattle.std.proofs.Common.{rules}
 use Rattle.std.proofs.lemmas.Result.{err_from_is_err_and}
-use Rattle.plist_binwrite.specs.EventTable.{num_of}
+use Rattle.plist_binwrite.specs.EventTable.{nth_number}
 use Rattle.plist_binwrite.proofs.SendingFiles.{sends_nothing}
 use Rattle.plist_binwrite.proofs.Unhinted.{whole_bracketed}
 use Rattle.plist_binwrite.proofs.completion.complete_by_class.Goals as goal
@@ -14,7 +14,7 @@ draft_file-requires g c = record {
 }
 
 pub returns : goal.returns
-returns g c = c.send_draft.ensures.sent (num_of c.args.classes.of) c.in_ok-draft.ensures.goes
+returns g c = c.send_draft.ensures.sent (nth_number c.args.classes.of) c.in_ok-draft.ensures.goes
 
 pub returns-in_err-buffer : goal.returns-in_err-buffer
 returns-in_err-buffer g c =

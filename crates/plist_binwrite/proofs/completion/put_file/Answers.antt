@@ -23,4 +23,4 @@ returns-in-Ok-put_objects g c = λ objects d.
     (c.reference_width-width.ensures.value ∙ ap reference_width c.len.ensures)
     (c.requires.ready.table objects d))
     (puts_then c.in-Ok.ensures
-    (puts_then (c.in-Ok-put_objects.ensures objects d) c.put_ending.ensures))
+    (puts_then (c.in-Ok-put_objects.ensures objects d) c.put_table_and_trailer.ensures))

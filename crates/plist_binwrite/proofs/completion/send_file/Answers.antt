@@ -8,7 +8,7 @@ pub returns-in-Ok : goal.returns-in-Ok
 returns-in-Ok g c =
     sends_end g.W.Write.contents (plain_events c.args.events.now) c.args.ready.now c.args.out.now
     c.put_file.new.out c.finish.new.out c.as_slice.result.now c.finish.result
-    c.finish.ensures.sent c.finish.ensures.front c.finish.ensures.fault
+    c.finish.ensures.sent c.finish.ensures.prefix c.finish.ensures.fault
     (λ objects d. rw c.as_slice.ensures.value
     (from_empty c.requires.empty (c.in-Ok.ensures objects d)))
 

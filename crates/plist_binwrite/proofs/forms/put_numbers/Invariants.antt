@@ -1,6 +1,6 @@
 use Rattle.std.proofs.Common.{take, Ok}
 use Rattle.plist_binwrite.specs.Forms.{table_form}
-use Rattle.plist_binwrite.specs.Outlets.{PutsBytes}
+use Rattle.plist_binwrite.specs.OutputBuffer.{PutsBytes}
 use Rattle.plist_binwrite.proofs.forms.put_numbers.Given as goal
 
 abbrev pub invariant-loop-index : goal.invariant-loop-index

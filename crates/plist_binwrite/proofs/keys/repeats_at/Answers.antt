@@ -1,7 +1,7 @@
 use Rattle.std.proofs.Common.{rules, ◌+◌, ◌<◌, length, arith, refl, ap, ◌∙◌}
 use Rattle.std.proofs.lemmas.List.{length-set}
 use Rattle.std.proofs.lemmas.Option.{slice_get_within}
-use Rattle.plist_binwrite.specs.EventTable.{scalars_of, held_kind}
+use Rattle.plist_binwrite.specs.EventTable.{scalars_of, entry_kind_of}
 use Rattle.plist_binwrite.proofs.KeyStamps.{walked_start, walked_end, walked_leaf, walked_repeats, walked_next, below_set}
 use Rattle.plist_binwrite.proofs.Skipping.{starts_dictionary}
 use Rattle.plist_binwrite.proofs.keys.repeats_at.Goals as goal
@@ -52,9 +52,10 @@ walk-preserved c =
           (omega arith) c.walk.invariant.newer);
       walked = λ ms s. rw c.stamp.ensures.stamped
           (walked_next (c.walk.invariant.walked ms s) c.in-Some.scalar c.args.events.now.kept.apart
-          c.in-Some.ensures.some c.skip_pair-key.result (c.stamp.ensures.other c.if-stamp.false)
+          c.in-Some.ensures.some c.index_behind_pair-key.result
+          (c.stamp.ensures.other c.if-stamp.false)
           within
-          (c.has_item.ensures.yes c.walk-test.true).1 c.skip_pair-key.ensures.ends);
+          (c.has_item.ensures.yes c.walk-test.true).1 c.index_behind_pair-key.ensures.ends);
     }
 
 pub returns-clause-repeats : goal.returns-clause-repeats
@@ -63,7 +64,8 @@ returns-clause-repeats c = λ ms s.
 
 pub returns-in_default-clause-repeats : goal.returns-in_default-clause-repeats
 returns-in_default-clause-repeats c = λ ms s.
-    absurd (c.in_default.not-Dictionary (c.kind_at.ensures ∙ ap held_kind (starts_dictionary s)))
+    absurd (c.in_default.not-Dictionary
+    (c.kind_at.ensures ∙ ap entry_kind_of (starts_dictionary s)))
 
 pub returns-in_default-clause-newer : goal.returns-in_default-clause-newer
 returns-in_default-clause-newer c = λ i h. omega (arith, c.requires.older i h)

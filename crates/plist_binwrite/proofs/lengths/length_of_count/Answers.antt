@@ -10,7 +10,7 @@ pub returns-else-count-lt15-clause-value : goal.returns-else-count-lt15-clause-v
 returns-else-count-lt15-clause-value c =
     λ high. omega (
       arith,
-      c.length_of_natural.ensures.value,
+      c.length_of_unsigned.ensures.value,
       ap length
           (length_long high c.args.count (omega (arith, c.if-count-lt15.false))),
     )

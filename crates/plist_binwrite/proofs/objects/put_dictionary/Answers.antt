@@ -7,13 +7,13 @@ returns-in-Err g c = λ ms s.
     puts_as (dictionary_is _ _ _ ms _ s c.count_items-count.ensures.value)
     (puts_front _ c.in-Err.ensures)
 
-pub returns-in-Ok-put_halves : goal.returns-in-Ok-put_halves
-returns-in-Ok-put_halves g c = λ ms s.
+pub returns-in-Ok-put_keys_or_values : goal.returns-in-Ok-put_keys_or_values
+returns-in-Ok-put_keys_or_values g c = λ ms s.
     puts_as (dictionary_is _ _ _ ms _ s c.count_items-count.ensures.value)
-    (puts_then c.in-Ok.ensures (puts_then (c.in-Ok-put_halves.ensures ms s)
-    (c.put_halves-in-Ok-put_halves.ensures ms s)))
+    (puts_then c.in-Ok.ensures (puts_then (c.in-Ok-put_keys_or_values.ensures ms s)
+    (c.put_keys_or_values-in-Ok-put_keys_or_values.ensures ms s)))
 
-pub returns-in-Err-put_halves : goal.returns-in-Err-put_halves
-returns-in-Err-put_halves g c = λ ms s.
+pub returns-in-Err-put_keys_or_values : goal.returns-in-Err-put_keys_or_values
+returns-in-Err-put_keys_or_values g c = λ ms s.
     puts_as (dictionary_is _ _ _ ms _ s c.count_items-count.ensures.value)
-    (puts_then c.in-Ok.ensures (puts_front _ (c.in-Err-put_halves.ensures ms s)))
+    (puts_then c.in-Ok.ensures (puts_front _ (c.in-Err-put_keys_or_values.ensures ms s)))

@@ -6,7 +6,7 @@ use Rattle.plist_binwrite.proofs.objects.put_items.Goals as goal
 pub walk-preserved : goal.walk-preserved
 walk-preserved g c = λ ts s.
     onward (items_first (c.walk.invariant ts s) (c.walk-test.ensures.yes refl).1)
-    c.skip-index.ensures.ends (λ goes answer d k p. goes _ d k
+    c.index_behind-index.ensures.ends (λ goes answer d k p. goes _ d k
     (puts_then (rw c.number-number.ensures at c.in-Ok.ensures) p))
 
 pub returns-in-Err : goal.returns-in-Err

@@ -3,7 +3,7 @@ use Rattle.std.proofs.lemmas.List.{take_all}
 use Rattle.plist_format.specs.Object.{Object}
 use Rattle.plist_binwrite.specs.Forms.{form}
 use Rattle.plist_binwrite.specs.EventTable.{Describes}
-use Rattle.plist_binwrite.specs.Outlets.{Puts}
+use Rattle.plist_binwrite.specs.OutputBuffer.{Puts}
 use Rattle.plist_binwrite.specs.Written.{bodies}
 use Rattle.plist_binwrite.specs.inner.Planning.{events_in, numbers_of}
 use Rattle.plist_binwrite.proofs.Outgoing.{puts_none, puts_then, puts_front, puts_as, one_part, all_parts}

@@ -1,7 +1,7 @@
 use Rattle.std.proofs.Common.{ℕ, take, Ok}
 use Rattle.plist_format.specs.Object.{Object}
 use Rattle.plist_binwrite.specs.EventTable.{Describes}
-use Rattle.plist_binwrite.specs.Outlets.{PutsBytes}
+use Rattle.plist_binwrite.specs.OutputBuffer.{PutsBytes}
 use Rattle.plist_binwrite.specs.inner.Planning.{numbers_of}
 use Rattle.plist_binwrite.specs.Written.{bodies}
 use Rattle.plist_binwrite.specs.inner.Putting.{events_in}

@@ -1,7 +1,7 @@
 use Rattle.std.proofs.Common.{◌≡◌, ℕ, List, ◌++◌, IsUtf8, flat_map, Ok}
 use Rattle.std.specs.Str.Iter.{chars_rest}
 use Rattle.plist_binwrite.specs.Forms.{big_endian, units_of}
-use Rattle.plist_binwrite.specs.Outlets.{PutsBytes}
+use Rattle.plist_binwrite.specs.OutputBuffer.{PutsBytes}
 use Rattle.plist_binwrite.proofs.text.put_units.Given as goal
 
 abbrev pub invariant-loop-c : goal.invariant-loop-c

@@ -5,7 +5,7 @@ use Rattle.plist_commands.proofs.convert.hold_any.Goals as goal
 
 pub returns-clause-held : goal.returns-clause-held
 returns-clause-held g c =
-    subst (λ items. FindsTree items c.hold_events.result (buffered_events c.hold_events.new.holder))
+    subst (λ items. FindsTree items c.hold_events.result (buffered_events c.hold_events.new.sink))
     c.new-events.ensures.items c.hold_events.ensures.held
 
 pub returns-clause-none : goal.returns-clause-none

@@ -18,7 +18,7 @@ same_items g c =
 
 pub returns-clause-held : goal.returns-clause-held
 returns-clause-held g c =
-    subst (λ items. FindsTree items c.hold_events.result (buffered_events c.hold_events.new.holder))
+    subst (λ items. FindsTree items c.hold_events.result (buffered_events c.hold_events.new.sink))
     (same_items g (goal.at.returns-clause-held g c).After-hold_events) c.hold_events.ensures.held
 
 pub returns-clause-none : goal.returns-clause-none

@@ -5,13 +5,13 @@ use Rattle.plist_base.proofs.Refusals.{MatchFault-weaker}
 use Rattle.plist_commands.proofs.Runs.{held_faulted, held_more, held_none, held_refused, held_stopped, held_whole}
 use Rattle.plist_commands.proofs.Streaming.{Came, came_next, tells_none, tells_next, taken_none, took_event, took_fault, goes_on, held_at_end, whole_at_end}
 use Rattle.plist_commands.proofs.convert.hold_events.Goals as goal
-use Rattle.plist_commands.proofs.convert.hold_events.Goals.{After-go_on}
+use Rattle.plist_commands.proofs.convert.hold_events.Goals.{After-next_item}
 
 -- what the call gave
-came : (g : _) (c : After-go_on g) → Came (g.I.Items.coming c.args.items.now)
-    (g.I.Items.coming c.go_on.new.self) (g.H.Holder.held c.loop-item.holder) c.go_on.result
-    (g.I.Items.last c.go_on.new.self)
-came g c = came_next _ _ _ _ _ _ c.loop-item.invariant.so_far c.go_on.ensures.items
+came : (g : _) (c : After-next_item g) → Came (g.I.Items.coming c.args.items.now)
+    (g.I.Items.coming c.next_item.new.self) (g.H.EventSink.held c.loop-item.sink) c.next_item.result
+    (g.I.Items.last c.next_item.new.self)
+came g c = came_next _ _ _ _ _ _ c.loop-item.invariant.so_far c.next_item.ensures.items
 
 pub loop-item-init : goal.loop-item-init
 loop-item-init g c = record {
@@ -23,37 +23,37 @@ loop-item-init g c = record {
 
 pub returns-in-Err-clause-refused : goal.returns-in-Err-clause-refused
 returns-in-Err-clause-refused g c =
-    let is : c.go_on.result ≡ Some (Err c.in-Err.error) = search rules in
+    let is : c.next_item.result ≡ Some (Err c.in-Err.error) = search rules in
     IfSome_then (g.I.Items.coming c.args.items.now)
-    (came g (goal.at.returns-in-Err-clause-refused g c).After-go_on)
+    (came g (goal.at.returns-in-Err-clause-refused g c).After-next_item)
     (λ all (left, next, took, to, t). took_fault all left _ took next (fault_of c.in-Err.error)
     (MatchFault-weaker (kind_of (error_kind_of c.in-Err.error)) (λ _. tt) (λ _. tt) (λ b. b)
     (rw is at t)))
 
 pub returns-in-Err-clause-answers : goal.returns-in-Err-clause-answers
 returns-in-Err-clause-answers g c =
-    let is : c.go_on.result ≡ Some (Err c.in-Err.error) = search rules in
-    held_faulted g.I.Items.goes g.I.Items.last _ _ _ _ (g.H.Holder.held c.loop-item.holder)
-    c.in-Err.error c.loop-item.invariant.ran (rw is at c.go_on.ensures.answers)
+    let is : c.next_item.result ≡ Some (Err c.in-Err.error) = search rules in
+    held_faulted g.I.Items.goes g.I.Items.last _ _ _ _ (g.H.EventSink.held c.loop-item.sink)
+    c.in-Err.error c.loop-item.invariant.ran (rw is at c.next_item.ensures.answers)
 
 pub returns-in-Err-take-clause-answers : goal.returns-in-Err-take-clause-answers
 returns-in-Err-take-clause-answers g c =
-    let is : c.go_on.result ≡ Some (Ok c.in-Ok.field-0) = search rules in
-    held_stopped g.I.Items.goes g.I.Items.last _ _ _ _ (g.H.Holder.held c.loop-item.holder)
-    c.in-Err-take.error c.loop-item.invariant.ran (rw is at c.go_on.ensures.answers)
+    let is : c.next_item.result ≡ Some (Ok c.in-Ok.field-0) = search rules in
+    held_stopped g.I.Items.goes g.I.Items.last _ _ _ _ (g.H.EventSink.held c.loop-item.sink)
+    c.in-Err-take.error c.loop-item.invariant.ran (rw is at c.next_item.ensures.answers)
     c.in-Err-take.ensures.memory
 
 pub returns-in-Ok-false-clause-answers : goal.returns-in-Ok-false-clause-answers
 returns-in-Ok-false-clause-answers g c =
-    let is : c.go_on.result ≡ Some (Ok c.in-Ok.field-0) = search rules in
+    let is : c.next_item.result ≡ Some (Ok c.in-Ok.field-0) = search rules in
     held_refused g.I.Items.goes g.I.Items.last _ _ _ _ _ c.loop-item.invariant.ran
-    (rw is at c.go_on.ensures.answers)
+    (rw is at c.next_item.ensures.answers)
 
 pub returns-in-Ok-false-clause-none : goal.returns-in-Ok-false-clause-none
 returns-in-Ok-false-clause-none g c = λ e.
-    let is : c.go_on.result ≡ Some (Ok c.in-Ok.field-0) = search rules in
+    let is : c.next_item.result ≡ Some (Ok c.in-Ok.field-0) = search rules in
     IfSome_then (g.I.Items.coming c.args.items.now)
-    (came g (goal.at.returns-in-Ok-false-clause-none g c).After-go_on)
+    (came g (goal.at.returns-in-Ok-false-clause-none g c).After-next_item)
     (λ all (left, next, took, to, t) tree of.
     (rw c.event.ensures at c.in-Ok-false.ensures.refused c.in-Ok-false.field-0-test)
     (goes_on all left _ took next _ (rw is at t) tree of))
@@ -61,41 +61,41 @@ returns-in-Ok-false-clause-none g c = λ e.
 pub loop-item-preserved : goal.loop-item-preserved
 loop-item-preserved g c =
     let taken = rw c.event.ensures at c.in-Ok-true.ensures.taken c.in-Ok-true.field-0-test in
-    let is : c.go_on.result ≡ Some (Ok c.in-Ok.field-0) = search rules in
+    let is : c.next_item.result ≡ Some (Ok c.in-Ok.field-0) = search rules in
     record {
       failures = search rules;
-      told = tells_next (g.H.Holder.whole c.take.new.self) (g.H.Holder.held c.loop-item.holder)
-          (g.H.Holder.held c.take.new.self) (g.I.Items.last c.go_on.new.self) taken.1
+      told = tells_next (g.H.EventSink.whole c.take.new.self) (g.H.EventSink.held c.loop-item.sink)
+          (g.H.EventSink.held c.take.new.self) (g.I.Items.last c.next_item.new.self) taken.1
           taken.2;
       so_far = IfSome_then (g.I.Items.coming c.args.items.now)
-          (came g (goal.at.loop-item-preserved g c).After-go_on)
+          (came g (goal.at.loop-item-preserved g c).After-next_item)
           (λ all (left, next, took, to, t).
           (next, to, took_event all left _ took next _ _ (rw is at t) taken.0 taken.1));
       ran = held_more g.I.Items.goes g.I.Items.last _ _ _ _ _ c.loop-item.invariant.ran
-          (rw is at c.go_on.ensures.answers) taken.1;
+          (rw is at c.next_item.ensures.answers) taken.1;
     }
 
 pub returns-clause-held : goal.returns-clause-held
 returns-clause-held g c = λ e.
-    let is : c.go_on.result ≡ None = search rules in
+    let is : c.next_item.result ≡ None = search rules in
     let whole = (rw (sym c.is_whole.ensures ∙ e) at c.loop-item.invariant.told).0 in (
       whole,
       IfSome_then (g.I.Items.coming c.args.items.now)
-          (came g (goal.at.returns-clause-held g c).After-go_on)
+          (came g (goal.at.returns-clause-held g c).After-next_item)
           (λ all (left, next, took, to, t). held_at_end all left _ took (rw is at t) whole),
     )
 
 pub returns-clause-none : goal.returns-clause-none
 returns-clause-none g c = λ e.
-    let is : c.go_on.result ≡ None = search rules in
+    let is : c.next_item.result ≡ None = search rules in
     IfSome_then (g.I.Items.coming c.args.items.now)
-    (came g (goal.at.returns-clause-none g c).After-go_on)
+    (came g (goal.at.returns-clause-none g c).After-next_item)
     (λ all (left, next, took, to, t) tree of.
     (rw (sym c.is_whole.ensures ∙ e) at c.loop-item.invariant.told)
     (whole_at_end all left _ took (rw is at t) tree of))
 
 pub returns-clause-answers : goal.returns-clause-answers
 returns-clause-answers g c =
-    let is : c.go_on.result ≡ None = search rules in
+    let is : c.next_item.result ≡ None = search rules in
     held_whole g.I.Items.goes g.I.Items.last _ _ _ _ _ c.loop-item.invariant.ran
-    (rw is at c.go_on.ensures.answers)
+    (rw is at c.next_item.ensures.answers)

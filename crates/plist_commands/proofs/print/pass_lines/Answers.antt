@@ -7,14 +7,14 @@ use Rattle.plist_commands.specs.Printing.{EndsItems}
 use Rattle.plist_commands.proofs.HeldBack.{Came, came, all_passed, device_own, fault_counts, fault_passed, front_passed, line_in_part, line_passed, own_counts, own_ends, passed_none, sent_counts, whose_fault}
 use Rattle.plist_commands.proofs.Runs.{run_ended, run_faulted, run_more, run_none, run_stopped}
 use Rattle.plist_commands.proofs.print.pass_lines.Goals as goal
-use Rattle.plist_commands.proofs.print.pass_lines.Goals.{After-go_on}
+use Rattle.plist_commands.proofs.print.pass_lines.Goals.{After-next_item}
 
 -- what was passed on so far, and what came
-now : (g : _) (c : After-go_on g) → Came (g.I.Items.coming c.args.items.now)
-    (g.I.Items.coming c.loop-item.items) (g.I.Items.coming c.go_on.new.self)
+now : (g : _) (c : After-next_item g) → Came (g.I.Items.coming c.args.items.now)
+    (g.I.Items.coming c.loop-item.items) (g.I.Items.coming c.next_item.new.self)
     (g.W.Write.contents c.args.writer.now) (g.W.Write.contents c.loop-item.writer)
-    c.loop-item.lines.items c.go_on.result (g.I.Items.last c.go_on.new.self)
-now g c = came _ _ _ _ _ _ _ _ c.loop-item.invariant.so_far c.go_on.ensures.items
+    c.loop-item.lines.items c.next_item.result (g.I.Items.last c.next_item.new.self)
+now g c = came _ _ _ _ _ _ _ _ c.loop-item.invariant.so_far c.next_item.ensures.items
 
 pub loop-item-init : goal.loop-item-init
 loop-item-init g c = record {
@@ -26,109 +26,111 @@ loop-item-init g c = record {
 
 pub loop-item-preserved : goal.loop-item-preserved
 loop-item-preserved g c =
-    let is : c.go_on.result ≡ Some (Ok (tt {0})) = search rules in
+    let is : c.next_item.result ≡ Some (Ok (tt {0})) = search rules in
     record {
       unchanged = search rules;
       failures = search rules;
-      so_far = line_passed (now g (goal.at.loop-item-preserved g c).After-go_on) _ _ is
+      so_far = line_passed (now g (goal.at.loop-item-preserved g c).After-next_item) _ _ is
           (rw c.event.ensures at c.in-Ok-pass_line.ensures.passed);
       ran = run_more g.I.Items.goes g.I.Items.last _ _ _ _ _ _ _ _ c.loop-item.invariant.ran
-          (rw is at c.go_on.ensures.answers)
+          (rw is at c.next_item.ensures.answers)
           (rw c.event.ensures at c.in-Ok-pass_line.ensures.passed);
     }
 
 pub loop-item-preserved-in-Ok-pass_line : goal.loop-item-preserved-in-Ok-pass_line
 loop-item-preserved-in-Ok-pass_line g c =
-    let is : c.go_on.result ≡ Some (Ok (tt {0})) = search rules in
+    let is : c.next_item.result ≡ Some (Ok (tt {0})) = search rules in
     record {
       unchanged = search rules;
       failures = search rules;
-      so_far = line_passed (now g (goal.at.loop-item-preserved-in-Ok-pass_line g c).After-go_on) _ _ is
+      so_far = line_passed (now g (goal.at.loop-item-preserved-in-Ok-pass_line g c).After-next_item) _ _ is
           (rw c.event.ensures at c.in-Ok-pass_line.ensures.passed);
       ran = run_more g.I.Items.goes g.I.Items.last _ _ _ _ _ _ _ _ c.loop-item.invariant.ran
-          (rw is at c.go_on.ensures.answers)
+          (rw is at c.next_item.ensures.answers)
           (rw c.event.ensures at c.in-Ok-pass_line.ensures.passed);
     }
 
 pub loop-item-preserved-in-Ok-pass_line-2 : goal.loop-item-preserved-in-Ok-pass_line-2
 loop-item-preserved-in-Ok-pass_line-2 g c =
-    let is : c.go_on.result ≡ Some (Ok (tt {0})) = search rules in
+    let is : c.next_item.result ≡ Some (Ok (tt {0})) = search rules in
     record {
       unchanged = search rules;
       failures = search rules;
-      so_far = line_passed (now g (goal.at.loop-item-preserved-in-Ok-pass_line-2 g c).After-go_on) _ _ is
+      so_far = line_passed (now g (goal.at.loop-item-preserved-in-Ok-pass_line-2 g c).After-next_item) _ _ is
           (rw c.event.ensures at c.in-Ok-pass_line.ensures.passed);
       ran = run_more g.I.Items.goes g.I.Items.last _ _ _ _ _ _ _ _ c.loop-item.invariant.ran
-          (rw is at c.go_on.ensures.answers)
+          (rw is at c.next_item.ensures.answers)
           (rw c.event.ensures at c.in-Ok-pass_line.ensures.passed);
     }
 
 pub loop-item-preserved-in-Ok-pass_line-3 : goal.loop-item-preserved-in-Ok-pass_line-3
 loop-item-preserved-in-Ok-pass_line-3 g c =
-    let is : c.go_on.result ≡ Some (Ok (tt {0})) = search rules in
+    let is : c.next_item.result ≡ Some (Ok (tt {0})) = search rules in
     record {
       unchanged = search rules;
       failures = search rules;
-      so_far = line_passed (now g (goal.at.loop-item-preserved-in-Ok-pass_line-3 g c).After-go_on) _ _ is
+      so_far = line_passed (now g (goal.at.loop-item-preserved-in-Ok-pass_line-3 g c).After-next_item) _ _ is
           (rw c.event.ensures at c.in-Ok-pass_line.ensures.passed);
       ran = run_more g.I.Items.goes g.I.Items.last _ _ _ _ _ _ _ _ c.loop-item.invariant.ran
-          (rw is at c.go_on.ensures.answers)
+          (rw is at c.next_item.ensures.answers)
           (rw c.event.ensures at c.in-Ok-pass_line.ensures.passed);
     }
 
 pub loop-item-preserved-in-Ok-pass_line-4 : goal.loop-item-preserved-in-Ok-pass_line-4
 loop-item-preserved-in-Ok-pass_line-4 g c =
-    let is : c.go_on.result ≡ Some (Ok (tt {0})) = search rules in
+    let is : c.next_item.result ≡ Some (Ok (tt {0})) = search rules in
     record {
       unchanged = search rules;
       failures = search rules;
-      so_far = line_passed (now g (goal.at.loop-item-preserved-in-Ok-pass_line-4 g c).After-go_on) _ _ is
+      so_far = line_passed (now g (goal.at.loop-item-preserved-in-Ok-pass_line-4 g c).After-next_item) _ _ is
           (rw c.event.ensures at c.in-Ok-pass_line.ensures.passed);
       ran = run_more g.I.Items.goes g.I.Items.last _ _ _ _ _ _ _ _ c.loop-item.invariant.ran
-          (rw is at c.go_on.ensures.answers)
+          (rw is at c.next_item.ensures.answers)
           (rw c.event.ensures at c.in-Ok-pass_line.ensures.passed);
     }
 
 pub returns-in-Err-clause-refused : goal.returns-in-Err-clause-refused
 returns-in-Err-clause-refused g c =
-    let is : c.go_on.result ≡ Some (Err c.in-Err.error) = search rules in
-    fault_passed (now g (goal.at.returns-in-Err-clause-refused g c).After-go_on) _ c.in-Err.error
+    let is : c.next_item.result ≡ Some (Err c.in-Err.error) = search rules in
+    fault_passed (now g (goal.at.returns-in-Err-clause-refused g c).After-next_item) _
+    c.in-Err.error
     c.fault_behind.result is (rw c.as_slice.ensures.value at c.fault_behind.ensures.sent)
 
 pub returns-in-Err-clause-fault : goal.returns-in-Err-clause-fault
 returns-in-Err-clause-fault g c =
-    let is : c.go_on.result ≡ Some (Err c.in-Err.error) = search rules in
+    let is : c.next_item.result ≡ Some (Err c.in-Err.error) = search rules in
     whose_fault g.I.Items.gives c.in-Err.error c.fault_behind.result
-    (subst (λ i. IfSome i (λ answer. IfFault answer g.I.Items.gives)) is c.go_on.ensures.fault)
+    (subst (λ i. IfSome i (λ answer. IfFault answer g.I.Items.gives)) is c.next_item.ensures.fault)
     c.fault_behind.ensures.sent
 
-pub returns-in-Err-clause-front : goal.returns-in-Err-clause-front
-returns-in-Err-clause-front g c =
+pub returns-in-Err-clause-prefix : goal.returns-in-Err-clause-prefix
+returns-in-Err-clause-prefix g c =
     front_passed _ _ _ _ _ _ c.loop-item.invariant.so_far
-    (rw c.as_slice.ensures.value at c.fault_behind.ensures.front)
+    (rw c.as_slice.ensures.value at c.fault_behind.ensures.prefix)
 
 pub returns-in-Err-clause-failures : goal.returns-in-Err-clause-failures
 returns-in-Err-clause-failures g c =
-    let is : c.go_on.result ≡ Some (Err c.in-Err.error) = search rules in
+    let is : c.next_item.result ≡ Some (Err c.in-Err.error) = search rules in
     fault_counts c.in-Err.error c.fault_behind.result _ _ _ c.loop-item.invariant.failures
     (subst (λ i. ItemCountsIo i (g.I.Items.failures c.loop-item.items)
-    (g.I.Items.failures c.go_on.new.self)) is c.go_on.ensures.failures)
+    (g.I.Items.failures c.next_item.new.self)) is c.next_item.ensures.failures)
     c.fault_behind.ensures.sent
 
 pub returns-in-Err-clause-answers : goal.returns-in-Err-clause-answers
 returns-in-Err-clause-answers g c =
-    let is : c.go_on.result ≡ Some (Err c.in-Err.error) = search rules in
+    let is : c.next_item.result ≡ Some (Err c.in-Err.error) = search rules in
     run_faulted g.I.Items.goes g.I.Items.last _ _ _ _ _ _ _ c.in-Err.error c.fault_behind.result
-    c.loop-item.invariant.ran (rw is at c.go_on.ensures.answers)
+    c.loop-item.invariant.ran (rw is at c.next_item.ensures.answers)
     (rw c.as_slice.ensures.value at c.fault_behind.ensures.sent)
-    (rw c.as_slice.ensures.value at c.fault_behind.ensures.front)
+    (rw c.as_slice.ensures.value at c.fault_behind.ensures.prefix)
 
 pub returns-in-Err-pass_line-clause-answers : goal.returns-in-Err-pass_line-clause-answers
 returns-in-Err-pass_line-clause-answers g c =
-    let is : c.go_on.result ≡ Some (Ok (tt {0})) = search rules in
+    let is : c.next_item.result ≡ Some (Ok (tt {0})) = search rules in
     run_stopped g.I.Items.goes g.I.Items.last _ _ _ _ _ _ _ c.in-Err-pass_line.error
-    c.loop-item.invariant.ran (rw is at c.go_on.ensures.answers) c.in-Err-pass_line.ensures.fault
-    (rw c.event.ensures at c.in-Err-pass_line.ensures.front)
+    c.loop-item.invariant.ran
+    (rw is at c.next_item.ensures.answers) c.in-Err-pass_line.ensures.fault
+    (rw c.event.ensures at c.in-Err-pass_line.ensures.prefix)
 
 pub returns-in-Err-pass_line-clause-refused : goal.returns-in-Err-pass_line-clause-refused
 returns-in-Err-pass_line-clause-refused g c =
@@ -138,33 +140,33 @@ returns-in-Err-pass_line-clause-refused g c =
 pub returns-in-Err-pass_line-clause-fault : goal.returns-in-Err-pass_line-clause-fault
 returns-in-Err-pass_line-clause-fault g c = inl c.in-Err-pass_line.ensures.fault
 
-pub returns-in-Err-pass_line-clause-front : goal.returns-in-Err-pass_line-clause-front
-returns-in-Err-pass_line-clause-front g c =
-    let is : c.go_on.result ≡ Some (Ok (tt {0})) = search rules in
-    line_in_part (now g (goal.at.returns-in-Err-pass_line-clause-front g c).After-go_on) _ is
-    (rw c.event.ensures at c.in-Err-pass_line.ensures.front)
+pub returns-in-Err-pass_line-clause-prefix : goal.returns-in-Err-pass_line-clause-prefix
+returns-in-Err-pass_line-clause-prefix g c =
+    let is : c.next_item.result ≡ Some (Ok (tt {0})) = search rules in
+    line_in_part (now g (goal.at.returns-in-Err-pass_line-clause-prefix g c).After-next_item) _ is
+    (rw c.event.ensures at c.in-Err-pass_line.ensures.prefix)
 
 pub returns-in-Err-pass_line-clause-failures : goal.returns-in-Err-pass_line-clause-failures
 returns-in-Err-pass_line-clause-failures g c =
-    let is : c.go_on.result ≡ Some (Ok (tt {0})) = search rules in
+    let is : c.next_item.result ≡ Some (Ok (tt {0})) = search rules in
     own_counts c.in-Err-pass_line.error _ _ c.in-Err-pass_line.ensures.fault
     (subst (λ i. ItemCountsIo i (g.I.Items.failures c.loop-item.items)
-    (g.I.Items.failures c.go_on.new.self)) is c.go_on.ensures.failures
+    (g.I.Items.failures c.next_item.new.self)) is c.next_item.ensures.failures
     ∙ c.loop-item.invariant.failures)
 
 pub returns-clause-printed : goal.returns-clause-printed
 returns-clause-printed g c =
-    let is : c.go_on.result ≡ None = search rules in
+    let is : c.next_item.result ≡ None = search rules in
     on_ok_weaker c.send.result
-    (λ sent. all_passed (now g (goal.at.returns-clause-printed g c).After-go_on) _ is
+    (λ sent. all_passed (now g (goal.at.returns-clause-printed g c).After-next_item) _ is
     (rw c.as_slice-2.ensures.value at sent)) c.send.ensures.sent
 
 pub returns-clause-answers : goal.returns-clause-answers
 returns-clause-answers g c =
-    let is : c.go_on.result ≡ None = search rules in
+    let is : c.next_item.result ≡ None = search rules in
     run_ended g.I.Items.goes g.I.Items.last _ _ _ _ _ _ _ c.send.result c.loop-item.invariant.ran
-    (rw is at c.go_on.ensures.answers) (rw c.as_slice-2.ensures.value at c.send.ensures.sent)
-    c.send.ensures.fault (rw c.as_slice-2.ensures.value at c.send.ensures.front)
+    (rw is at c.next_item.ensures.answers) (rw c.as_slice-2.ensures.value at c.send.ensures.sent)
+    c.send.ensures.fault (rw c.as_slice-2.ensures.value at c.send.ensures.prefix)
 
 pub returns-clause-refused : goal.returns-clause-refused
 returns-clause-refused g c =
@@ -179,15 +181,15 @@ returns-clause-fault g c =
     IfErr-weaker c.send.result (λ error. fault_of error ≡ fault_nowhere Io) _
     (λ error own. inl (device_own error own)) c.send.ensures.fault
 
-pub returns-clause-front : goal.returns-clause-front
-returns-clause-front g c =
+pub returns-clause-prefix : goal.returns-clause-prefix
+returns-clause-prefix g c =
     front_passed _ _ _ _ _ _ c.loop-item.invariant.so_far
-    (rw c.as_slice-2.ensures.value at c.send.ensures.front)
+    (rw c.as_slice-2.ensures.value at c.send.ensures.prefix)
 
 pub returns-clause-failures : goal.returns-clause-failures
 returns-clause-failures g c =
-    let is : c.go_on.result ≡ None = search rules in
+    let is : c.next_item.result ≡ None = search rules in
     sent_counts c.send.result _ _ c.send.ensures.fault
     (subst (λ i. ItemCountsIo i (g.I.Items.failures c.loop-item.items)
-    (g.I.Items.failures c.go_on.new.self)) is c.go_on.ensures.failures
+    (g.I.Items.failures c.next_item.new.self)) is c.next_item.ensures.failures
     ∙ c.loop-item.invariant.failures)

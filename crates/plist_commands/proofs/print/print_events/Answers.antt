@@ -1,6 +1,6 @@
 use Rattle.std.proofs.Common.{ap}
 use Rattle.std.proofs.lemmas.Result.{IfErr-weaker, on_ok_weaker}
-use Rattle.plist_base.specs.Fronts.{AppendsFront}
+use Rattle.plist_base.specs.Prefixes.{AppendsPrefix}
 use Rattle.plist_binread.specs.BinaryReader.{items_to_come}
 use Rattle.plist_format.specs.Unfolding.{items_of_file}
 use Rattle.plist_commands.specs.Converting.{items_left}
@@ -30,13 +30,13 @@ returns-clause-refused g c =
     (g.W.Write.contents c.print_reader.new.writer)) (ap g.S.Source.known c.new-reader.ensures.source)
     c.new-reader.ensures.items) c.print_reader.ensures.refused
 
-pub returns-clause-front : goal.returns-clause-front
-returns-clause-front g c =
+pub returns-clause-prefix : goal.returns-clause-prefix
+returns-clause-prefix g c =
     of_file (g.S.Source.known c.args.source) _ (λ bytes. items_to_come bytes c.new-reader.result)
-    items_of_file (λ items. AppendsFront (g.W.Write.contents c.args.writer.now)
+    items_of_file (λ items. AppendsPrefix (g.W.Write.contents c.args.writer.now)
     (g.W.Write.contents c.print_reader.new.writer) (lines_of items))
     (ap g.S.Source.known c.new-reader.ensures.source) c.new-reader.ensures.items
-    c.print_reader.ensures.front
+    c.print_reader.ensures.prefix
 
 pub returns-clause-answers : goal.returns-clause-answers
 returns-clause-answers g c = (

@@ -2,7 +2,7 @@ use Rattle.std.proofs.Common.{◌∙◌, ap, refl, subst, Some}
 use Rattle.std.specs.Borrow.{Bor}
 use Rattle.plist_base.specs.Faults.{fault_of}
 use Rattle.plist.specs.Collecting.{built_tree}
-use Rattle.plist.specs.Inputs.{IsReadFrom}
+use Rattle.plist.specs.Inputs.{IsValueOf}
 use Rattle.plist_keyed.specs.inner.RemainingSteps.{items_at, remaining_steps}
 use Rattle.plist_keyed.specs.inner.Walks.{items_of_steps}
 use Rattle.plist_keyed.proofs.Told.{fault-read}
@@ -13,7 +13,7 @@ pub returns-in-Ok-clause-read : goal.returns-in-Ok-clause-read
 returns-in-Ok-clause-read c =
     let (iter, is, seen) = c.from_events.ensures.shown in
     let start = c.new-walk.result in
-    subst (λ l. IsReadFrom l (built_tree c.from_events.result))
+    subst (λ l. IsValueOf l (built_tree c.from_events.result))
     (ap (λ w. items_of_steps (remaining_steps w)) is
     ∙ begun start c.args.objects.now (ap (λ (b : Bor _). b.now) c.new-walk.ensures.objects)
     c.new-walk.ensures.path c.new-walk.ensures.levels c.enter.new.self c.get.result c.args.uid

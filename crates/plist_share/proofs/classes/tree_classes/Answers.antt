@@ -1,5 +1,5 @@
 use Rattle.std.proofs.Common.{arith, refl, sym, subst}
-use Rattle.plist_binwrite.specs.EventTable.{plain_events, num_of}
+use Rattle.plist_binwrite.specs.EventTable.{plain_events, nth_number}
 use Rattle.plist_binwrite.specs.inner.Scalars.{AreApart}
 use Rattle.plist_binwrite.proofs.Skipping.{occurs_in}
 use Rattle.plist_share.specs.inner.Keys.{keys_seen}
@@ -13,7 +13,7 @@ back-init c =
     let index = c.len-index.ensures in
     record {
       have = (
-        num_of c.in_ok-scalars.scalars.of,
+        nth_number c.in_ok-scalars.scalars.of,
         owners,
         record {
           behind = λ t p le s. absurd (omega (arith, le, index, occurs_in s));

@@ -1,7 +1,7 @@
 use Rattle.std.proofs.lemmas.Result.{err_from_is_err_and}
 use Rattle.std.proofs.Common.{ℕ, List, None, Option, Some, IfSome}
 use Rattle.std.specs.Prelude.{⊤}
-use Rattle.plist_reader.specs.Reader.{to_come}
+use Rattle.plist_reader.specs.Reader.{reader_items}
 use Rattle.plist_uses.proofs.Tallies.{begun, counted, all-counted, stopped}
 use Rattle.plist_uses.proofs.counting.count.Goals as goal
 
@@ -10,14 +10,15 @@ loop-item-init g c = begun _ _ c.none-counts.ensures
 
 pub loop-item-preserved : goal.loop-item-preserved
 loop-item-preserved g c =
-    counted _ (to_come g.R.Source.known c.loop-item.reader)
-    (to_come g.R.Source.known c.next.new.self) c.in-Some.item c.loop-item.counts
+    counted _ (reader_items g.R.Source.known c.loop-item.reader)
+    (reader_items g.R.Source.known c.next.new.self) c.in-Some.item c.loop-item.counts
     c.take.new.self c.loop-item.invariant c.in-Some.ensures.steps.items c.in_ok-take.ensures.counted
 
 pub returns-clause-value : goal.returns-clause-value
 returns-clause-value g c =
-    all-counted (g.R.Source.known c.args.source) (to_come g.R.Source.known c.new-reader.result)
-    (to_come g.R.Source.known c.loop-item.reader) (to_come g.R.Source.known c.next.new.self)
+    all-counted (g.R.Source.known c.args.source) (reader_items g.R.Source.known c.new-reader.result)
+    (reader_items g.R.Source.known c.loop-item.reader)
+    (reader_items g.R.Source.known c.next.new.self)
     c.loop-item.counts c.new-reader.ensures.items c.loop-item.invariant
     c.in_default.ensures.steps.items
 
@@ -34,7 +35,8 @@ pub returns-in_err-take-clause-refused : goal.returns-in_err-take-clause-refused
 returns-in_err-take-clause-refused g c =
     let p = err_from_is_err_and c.from_residual.result c.from_residual.ensures.1 in
     rw (p.1, p.2) (stopped (g.R.Source.known c.args.source)
-    (to_come g.R.Source.known c.new-reader.result) (to_come g.R.Source.known c.loop-item.reader)
-    (to_come g.R.Source.known c.next.new.self) c.in-Some.item _ c.loop-item.counts
+    (reader_items g.R.Source.known c.new-reader.result)
+    (reader_items g.R.Source.known c.loop-item.reader)
+    (reader_items g.R.Source.known c.next.new.self) c.in-Some.item _ c.loop-item.counts
     c.new-reader.ensures.items c.loop-item.invariant c.in-Some.ensures.steps.items
     c.in_err-take.ensures.refused)

@@ -1,8 +1,9 @@
-use Rattle.plist_reader.specs.Reader.{to_come}
+use Rattle.plist_reader.specs.Reader.{reader_items}
 use Rattle.plist_uses.proofs.Tallies.{CountedSoFar}
 use Rattle.plist_uses.proofs.counting.count.Given as goal
 
 abbrev pub invariant-loop-item : goal.invariant-loop-item
 invariant-loop-item g l =
-    CountedSoFar (to_come g.R.Source.known l.initial.reader) (to_come g.R.Source.known l.reader)
+    CountedSoFar (reader_items g.R.Source.known l.initial.reader)
+    (reader_items g.R.Source.known l.reader)
     l.counts

@@ -1,4 +1,4 @@
-use Rattle.plist_reader.specs.Reader.{items_of_input, to_come}
+use Rattle.plist_reader.specs.Reader.{items_of_input, reader_items}
 use Rattle.plist.specs.Collecting.{built_tree}
 use Rattle.plist.proofs.ReadFaults.{reader-tells}
 use Rattle.plist.proofs.Shown.{of-items, reader-shows, reads-back}
@@ -7,7 +7,7 @@ use Rattle.plist.proofs.value.Value.from_reader.Goals as goal
 pub returns-clause-value : goal.returns-clause-value
 returns-clause-value g c =
     of-items items_of_input _ _ (built_tree c.collect.result) c.new-reader.ensures.items
-    (c.collect.ensures.shown (to_come g.R.Source.known)
+    (c.collect.ensures.shown (reader_items g.R.Source.known)
     (λ old item new gives. reader-shows _ _ item gives.items))
 
 pub returns-clause-reads_back : goal.returns-clause-reads_back

@@ -23,7 +23,7 @@ returns-clause-read g c = (
   c.with_dialect.ensures.inner,
   c.with_dialect.ensures.dialect,
   c.with_dialect.ensures.place,
-  c.with_dialect.ensures.looked_at,
+  c.with_dialect.ensures.peeked_byte,
   c.with_dialect.ensures.bytes,
   c.collect.ensures.value,
 )

@@ -1,6 +1,6 @@
 use Rattle.plist_base.specs.Limits.{come_of, iterator_of}
 use Rattle.std.proofs.Common.{ap, ◌∙◌, option_map}
-use Rattle.plist_reader.specs.Reader.{Gives, limited_input, source_of, to_come}
+use Rattle.plist_reader.specs.Reader.{Gives, limited_input, reader_source, reader_items}
 use Rattle.plist.specs.Collecting.{built_tree}
 use Rattle.plist.proofs.ReadFaults.{limited-tells}
 use Rattle.plist.proofs.Shown.{of-items, reader-shows}
@@ -12,10 +12,10 @@ returns-clause-value g c =
     let known = g.R.Source.known in
     of-items (limited_input c.args.limits) _ _ (built_tree c.collect.result)
     ((λ j. option_map (c.new.ensures.items j)
-    ((ap (to_come known) c.new.ensures.inner ∙ c.with_limits-reader.ensures.items) j))
+    ((ap (reader_items known) c.new.ensures.inner ∙ c.with_limits-reader.ensures.items) j))
     ∙ input-twice c.args.limits _)
-    (c.collect.ensures.shown (λ l. option_map (come_of l) (to_come known (iterator_of l)))
-    (limited-shows (Gives known g.R.Source.failures) (to_come known)
+    (c.collect.ensures.shown (λ l. option_map (come_of l) (reader_items known (iterator_of l)))
+    (limited-shows (Gives known g.R.Source.failures) (reader_items known)
     (λ old item new gives. reader-shows _ _ item gives.items)))
 
 pub returns-clause-within : goal.returns-clause-within
@@ -27,8 +27,8 @@ pub returns-clause-read : goal.returns-clause-read
 returns-clause-read g c = (
   c.new.result,
   c.new.ensures.items,
-  ap source_of c.new.ensures.inner ∙ c.with_limits-reader.ensures.source,
-  ap (to_come _) c.new.ensures.inner
+  ap reader_source c.new.ensures.inner ∙ c.with_limits-reader.ensures.source,
+  ap (reader_items _) c.new.ensures.inner
       ∙ c.with_limits-reader.ensures.items,
   c.collect.ensures.value,
 )

@@ -1,7 +1,7 @@
 use Rattle.std.proofs.Common.{refl}
 use Rattle.std.proofs.lemmas.Result.{err_from_is_err_and}
 use Rattle.plist_ascii.specs.Escapes.{escape}
-use Rattle.plist_ascii.specs.inner.Parts.{piece_bytes}
+use Rattle.plist_ascii.specs.inner.Parts.{escaped_bytes}
 use Rattle.plist_ascii.proofs.Answering.{answers_past, answers_unclosed}
 use Rattle.plist_ascii.proofs.input.Input.escape.Goals as goal
 
@@ -15,5 +15,5 @@ pub returns-in_err-byte-clause-answers : goal.returns-in_err-byte-clause-answers
 unfolding escape
 returns-in_err-byte-clause-answers g c =
     let p = err_from_is_err_and c.from_residual.result c.from_residual.ensures.1 in
-    rw (p.1, p.2) (answers_unclosed piece_bytes escape _ _ _ _ _ c.in_err-byte.ensures.fault
+    rw (p.1, p.2) (answers_unclosed escaped_bytes escape _ _ _ _ _ c.in_err-byte.ensures.fault
     c.in_err-byte.ensures.unchanged refl)

@@ -1,6 +1,6 @@
 use Rattle.std.proofs.Common.{refl, sym, ◌∙◌, arith}
-use Rattle.plist_ascii.specs.inner.Parts.{piece_bytes}
-use Rattle.plist_ascii.specs.declared.escape.Piece.TheVariants.{Byte}
+use Rattle.plist_ascii.specs.inner.Parts.{escaped_bytes}
+use Rattle.plist_ascii.specs.declared.escape.Escaped.TheVariants.{Byte}
 use Rattle.plist_ascii.proofs.Answering.{answers_same, answers_here, answers_fault, front_from}
 use Rattle.std.proofs.lemmas.Bool.{ne_eqb}
 use Rattle.plist_ascii.specs.Escapes.{escape_by}
@@ -16,7 +16,7 @@ returns-then-is_octal-clause-answers g c =
 
 pub returns-in-Some-clause-answers : goal.returns-in-Some-clause-answers
 returns-in-Some-clause-answers g c =
-    answers_here piece_bytes (escape_by c.args.byte) _ _ (Byte c.in-Some.other)
+    answers_here escaped_bytes (escape_by c.args.byte) _ _ (Byte c.in-Some.other)
     (λ xs. rw (
       ne_eqb _ _ c.if-byte-eq85.false,
       sym c.is_octal.ensures ∙ c.if-is_octal.false,
@@ -25,7 +25,7 @@ returns-in-Some-clause-answers g c =
 
 pub returns-in-None-clause-answers : goal.returns-in-None-clause-answers
 returns-in-None-clause-answers g c =
-    answers_fault piece_bytes (escape_by c.args.byte) _ _ _ _ _ _ c.fault.ensures tt
+    answers_fault escaped_bytes (escape_by c.args.byte) _ _ _ _ _ _ c.fault.ensures tt
     (omega arith) (λ xs e. front_from (escape_by c.args.byte xs) _ _ _ _ 0 xs (rw (
       ne_eqb _ _ c.if-byte-eq85.false,
       sym c.is_octal.ensures ∙ c.if-is_octal.false,

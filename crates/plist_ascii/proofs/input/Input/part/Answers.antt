@@ -3,7 +3,7 @@ use Rattle.std.proofs.Common.{ap, Some, ◌∙◌, ◌+◌, ◌++◌, [], arith,
 use Rattle.std.proofs.lemmas.Result.{err_from_is_err_and}
 use Rattle.plist_ascii.specs.Taken.{run}
 use Rattle.plist_ascii.specs.Quoted.{ends_run}
-use Rattle.plist_ascii.specs.inner.Parts.{piece_bytes}
+use Rattle.plist_ascii.specs.inner.Parts.{escaped_bytes}
 use Rattle.plist_ascii.proofs.Quotes.{part_ends, part_goes_on, text_closes, text_goes_on}
 use Rattle.plist_ascii.proofs.input.Input.part.Goals as goal
 
@@ -22,19 +22,19 @@ returns-in-None-clause-value g c = λ xs e.
       omega arith,
     )
 
-pub returns-in_ok-push_piece-in-Some-clause-value
-    : goal.returns-in_ok-push_piece-in-Some-clause-value
-returns-in_ok-push_piece-in-Some-clause-value g c = λ xs e.
+pub returns-in_ok-push_escaped-in-Some-clause-value
+    : goal.returns-in_ok-push_escaped-in-Some-clause-value
+returns-in_ok-push_escaped-in-Some-clause-value g c = λ xs e.
     let quote = c.args.quote in
     let m = run (ends_run quote) xs in
     let r = c.in_ok-take_run.ensures.value xs e in
     let ok = rw c.in-Some.is at c.in_ok-piece.ensures.value in
     let t = ok (drop m xs) r.1 in
-    let piece = piece_bytes c.in-Some.piece in (
+    let piece = escaped_bytes c.in-Some.piece in (
       m + t.0,
       take m xs ++ piece,
       part_goes_on quote t.0 xs piece t.1,
-      text_goes_on _ _ _ _ _ r.0 c.in_ok-push_piece-in-Some.ensures.value,
+      text_goes_on _ _ _ _ _ r.0 c.in_ok-push_escaped-in-Some.ensures.value,
       t.2 ∙ ap Some (drop-drop t.0 m xs),
       omega (arith, t.3, r.2),
     )

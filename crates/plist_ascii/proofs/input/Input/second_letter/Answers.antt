@@ -1,7 +1,7 @@
 use Rattle.std.proofs.Common.{arith, Err, refl, sym, ◌∙◌}
 use Rattle.plist_base.specs.Faults.{InvalidUtf16String}
 use Rattle.plist_ascii.specs.Escapes.{second_letter, bad_unit}
-use Rattle.plist_ascii.specs.inner.Parts.{piece_bytes}
+use Rattle.plist_ascii.specs.inner.Parts.{escaped_bytes}
 use Rattle.plist_ascii.proofs.Answering.{answers_past, answers_looked, answers_fault}
 use Rattle.plist_ascii.proofs.Unread.{takes_looked, first_splits, first_none}
 use Rattle.plist_ascii.proofs.Loops.{nothing_taken}
@@ -18,7 +18,7 @@ returns-in-Some-clause-answers g c =
 
 pub returns-in_default-clause-answers : goal.returns-in_default-clause-answers
 returns-in_default-clause-answers g c =
-    answers_looked piece_bytes (second_letter c.args.high) (λ _. bad_unit 0) _ _ _ _ _ _
+    answers_looked escaped_bytes (second_letter c.args.high) (λ _. bad_unit 0) _ _ _ _ _ _
     (Err c.fault.result)
     (λ xs e. let h = c.in_ok-byte.ensures.next xs e in (
       h.0,
@@ -31,5 +31,5 @@ returns-in_default-clause-answers g c =
             (first_none _ xs (nothing_taken _ w.in_default.not-Some) h.1) refl
       ],
     ))
-    c.look.ensures.place (answers_fault piece_bytes (λ _. bad_unit 0) _ _ _ _ c.fault.result
+    c.look.ensures.place (answers_fault escaped_bytes (λ _. bad_unit 0) _ _ _ _ c.fault.result
     InvalidUtf16String c.fault.ensures tt (omega arith) (λ xs e. (refl, e, omega arith)))

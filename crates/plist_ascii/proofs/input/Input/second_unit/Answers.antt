@@ -1,25 +1,25 @@
 use Rattle.std.proofs.Common.{Err, refl}
 use Rattle.std.proofs.lemmas.Bool.{ne_eqb}
 use Rattle.plist_ascii.specs.Escapes.{bad_unit, second_unit, second_letter}
-use Rattle.plist_ascii.specs.inner.Parts.{piece_bytes}
+use Rattle.plist_ascii.specs.inner.Parts.{escaped_bytes}
 use Rattle.plist_ascii.proofs.Answering.{answers_passed, answers_unclosed, answers_past, answers_bad}
 use Rattle.plist_ascii.proofs.input.Input.second_unit.Goals as goal
 
-pub returns-in_err-must_take-clause-answers : goal.returns-in_err-must_take-clause-answers
-returns-in_err-must_take-clause-answers g c =
-    answers_passed piece_bytes (second_unit c.args.high) _ _ _ _ _ _ c.from_residual.ensures.1
-    (answers_unclosed piece_bytes (second_unit c.args.high) _ _ _ _ _
-    c.in_err-must_take.ensures.fault c.in_err-must_take.ensures.unchanged refl)
+pub returns-in_err-expect_byte-clause-answers : goal.returns-in_err-expect_byte-clause-answers
+returns-in_err-expect_byte-clause-answers g c =
+    answers_passed escaped_bytes (second_unit c.args.high) _ _ _ _ _ _ c.from_residual.ensures.1
+    (answers_unclosed escaped_bytes (second_unit c.args.high) _ _ _ _ _
+    c.in_err-expect_byte.ensures.fault c.in_err-expect_byte.ensures.unchanged refl)
 
 pub returns-then-branch-eq92-clause-answers : goal.returns-then-branch-eq92-clause-answers
 returns-then-branch-eq92-clause-answers g c =
-    answers_past piece_bytes (second_unit c.args.high) (second_letter c.args.high) _ _ _ _ _ _ _ _
-    c.in_ok-must_take.ensures.value c.in_ok-must_take.ensures.place.0
+    answers_past escaped_bytes (second_unit c.args.high) (second_letter c.args.high) _ _ _ _ _ _ _ _
+    c.in_ok-expect_byte.ensures.value c.in_ok-expect_byte.ensures.place.0
     (λ ys. rw c.if-branch-eq92.true refl) c.second_letter.ensures.answers
 
 pub returns-clause-answers : goal.returns-clause-answers
 returns-clause-answers g c =
-    answers_past piece_bytes (second_unit c.args.high) (λ _. bad_unit 0) _ _ _ _ _ _ _
-    (Err c.fault.result) c.in_ok-must_take.ensures.value c.in_ok-must_take.ensures.place.0
+    answers_past escaped_bytes (second_unit c.args.high) (λ _. bad_unit 0) _ _ _ _ _ _ _
+    (Err c.fault.result) c.in_ok-expect_byte.ensures.value c.in_ok-expect_byte.ensures.place.0
     (λ ys. rw (ne_eqb _ _ c.if-branch-eq92.false) refl)
-    (answers_bad piece_bytes (λ _. bad_unit 0) _ _ _ _ c.fault.ensures tt (λ xs. refl))
+    (answers_bad escaped_bytes (λ _. bad_unit 0) _ _ _ _ c.fault.ensures tt (λ xs. refl))

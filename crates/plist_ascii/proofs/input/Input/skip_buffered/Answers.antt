@@ -9,5 +9,5 @@ returns-clause-bytes g c = λ xs e.
       part_taken _ _ _ _ _ _ _ _ [] _ xs c.if-self.false
           (cc) c.run_length-count.ensures.within
           (omega arith) c.run_length-count.ensures.run
-          (rw c.buffered.ensures c.pass.ensures.bytes) refl e,
+          (rw c.buffered.ensures c.consume.ensures.bytes) refl e,
     )

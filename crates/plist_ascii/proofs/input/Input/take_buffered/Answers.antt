@@ -7,4 +7,4 @@ returns-clause-value g c = λ xs e.
     part_taken _ c.buffered-bytes.result.now _ _ _ _ _ _ _ _ xs c.if-self.false
     (sym c.is_some.ensures ∙ c.if-is_some.false) c.run_length-count.ensures.within
     (omega (arith, c.run_length-count.ensures.most)) c.run_length-count.ensures.run
-    (rw c.buffered-bytes.ensures c.pass.ensures.bytes) c.in_ok-extend_from_slice.ensures.items e
+    (rw c.buffered-bytes.ensures c.consume.ensures.bytes) c.in_ok-extend_from_slice.ensures.items e

@@ -49,7 +49,7 @@ invariant_of-self g c = record {
   known = λ walking. rw c.begin.ensures.unchanged
       (walks_on_ok c.begin.result _ _ c.state_after-self.ensures c.begin.ensures.known walking);
   refers = λ _. known_no_references (g.R.Source.known c.begin.new.source) c.begin.new.bounds
-      c.nothing-self.result c.nothing-self.ensures;
+      c.none-self.result c.none-self.ensures;
 }
 
 pub invariant_of-self-in-Walking : goal.invariant_of-self-in-Walking

@@ -85,26 +85,26 @@ pub returns-in-Some-Err-TooLong : goal.returns-in-Some-Err-TooLong
 returns-in-Some-Err-TooLong g c =
     let old = c.args.self.now in
     let mid = c.step.new.self in
-    let error = c.reach_limit.new.self.fault in
+    let error = c.refuse_limit.new.self.fault in
     let w = rw c.in-Some-Err-TooLong.field-0-is at c.in-Some-Err-TooLong.ensures.walks in
     let long = rw (c.in-Some-Err-TooLong.field-0-is, c.in-Some-Err-TooLong.field-0-0-is) at
     c.in-Some-Err-TooLong.ensures.limit in
     record {
       unchanged = w.unchanged;
-      items = long-current (is_new old) (event_in c.reach_limit.new.self) (event_in mid.slot)
+      items = long-current (is_new old) (event_in c.refuse_limit.new.self) (event_in mid.slot)
           (g.R.Source.known (binary_source old)) old.limiter mid.limiter
           (λ bytes. walk_to_come bytes old) (λ bytes. walk_to_come bytes mid) error mid.slot.fault
-          c.reach_limit.ensures.fault long.1 w.items long.2;
-      failures = limit-counts error mid.slot.fault _ _ c.reach_limit.ensures.fault long.0 w.failures;
+          c.refuse_limit.ensures.fault long.1 w.items long.2;
+      failures = limit-counts error mid.slot.fault _ _ c.refuse_limit.ensures.fault long.0 w.failures;
       ended = λ e. (let no = w.ended e in absurd (cc));
       ends = w.ends;
       begun = w.begun;
       faults = limit-given 0 (2 ^ 64) (has_limits old) (fault_of error) limit.Bytes
-          (limited-below old.limiter long.1) c.reach_limit.ensures.fault;
+          (limited-below old.limiter long.1) c.refuse_limit.ensures.fault;
       closes = λ h. absurd (w.closes (walk-closes old.limiter (walk_closes old) h));
       head = w.head;
       cached = kept_fault _ (λ bytes. number_to_come bytes old) mid.walk.tags.items error
-          (event_in c.reach_limit.new.self);
+          (event_in c.refuse_limit.new.self);
       leaves = record {
         nested = w.leaves.nested;
         marked = w.leaves.marked;

@@ -2,7 +2,7 @@ use Rattle.std.proofs.Common.{◌≡◌, ◌<◌, ◌≤◌, ◌+◌, ◌^◌, �
 use Rattle.std.proofs.lemmas.List.{get_or-set_same}
 use Rattle.std.proofs.Math.ListN.{get_or-append}
 use Rattle.std.proofs.Math.Seq.{get_or-append_seam}
-use Rattle.plist_binwrite.specs.EventTable.{plain_events, num_of}
+use Rattle.plist_binwrite.specs.EventTable.{plain_events, nth_number}
 use Rattle.plist_binwrite.proofs.PlannedBy.{plan_new, plan_known, ids_new, none_yet, keeps_self, keeps_set}
 use Rattle.plist_binwrite.proofs.numbering.Numbered.number_one.Goals as goal
 use Rattle.plist_binwrite.proofs.numbering.Numbered.number_one.Goals.{In_ok-set-3 as Anew, In_ok-set as Known}
@@ -51,7 +51,7 @@ returns-then-number-len-clause-plan c =
     ) in
     rw c.in_ok-set.ensures.set (plan_known c.args.index c.get-number.result
     c.requires.so_far.plan within (low c) (omega arith)
-    (ap (λ k. num_of classes (get_or found.firsts k 0)) c.get-number.ensures
+    (ap (λ k. nth_number classes (get_or found.firsts k 0)) c.get-number.ensures
     ∙ ids.sound c.get-class.result known (omega (arith, low c, c.get-number.ensures))
     ∙ c.get-class.ensures))
 
@@ -78,7 +78,7 @@ place : (c : Anew) → c.args.index < length c.args.self.now.numbers
 place c = omega (arith, within c, c.requires.so_far.plan.long)
 
 without : (c : Anew) → length c.args.self.now.firsts
-    ≤ get_or c.args.self.now.ids (num_of c.args.given.now.classes.now c.args.index) 0
+    ≤ get_or c.args.self.now.ids (nth_number c.args.given.now.classes.now c.args.index) 0
 without c =
     let here = ap (λ k. get_or c.args.self.now.ids k 0) c.get-class.ensures in
     omega arith
@@ -88,7 +88,7 @@ more : (c : Anew) → length (c.args.self.now.firsts ++ c.args.index ∷ [])
 more c = length-append c.args.self.now.firsts (c.args.index ∷ [])
 
 ids_are : (c : Anew) → c.set-2.new.self
-    ≡ set c.args.self.now.ids (num_of c.args.given.now.classes.now c.args.index)
+    ≡ set c.args.self.now.ids (nth_number c.args.given.now.classes.now c.args.index)
     (length c.args.self.now.firsts)
 ids_are c =
     c.in_ok-set-2.ensures.set

@@ -10,7 +10,7 @@ returns-in-Ok-Some g c =
     let r = rw c.in-Ok-Some.field-0-is at c.in-Ok-Some.ensures.refused in
     takes_refused g.S.Sharing.IsFile g.S.Sharing.size g.W.Write.contents
     c.args.self.now _ (event_of c.args.event) (search rules) (fault_of c.in-Ok-Some.refusal)
-    r.0.0 r.0.1 (same_state c.args.self.now c.offer.new.self r.1 _)
+    r.0.0 r.0.1 (same_state c.args.self.now c.try_push.new.self r.1 _)
 
 pub returns-in-Err-complete : goal.returns-in-Err-complete
 returns-in-Err-complete g c =

@@ -1,20 +1,20 @@
 use Rattle.std.proofs.Common.{Ok, Err, rules}
 use Rattle.std.proofs.lemmas.Result.{err_from_is_err_and}
 use Rattle.plist_base.specs.Faults.{fault_of}
-use Rattle.plist_binwrite.specs.EventTable.{num_of}
+use Rattle.plist_binwrite.specs.EventTable.{nth_number}
 use Rattle.plist_share.proofs.SharedFile.{sends_shared, sends_nothing}
 use Rattle.plist_share.proofs.completion.EqualTreesSharing.complete.Goals as goal
 
 pub returns-in-Ok : goal.returns-in-Ok
 returns-in-Ok g c =
     sends_shared g.W.Write.contents c.args.events.now
-    (num_of c.in_ok-classes.classes.of) c.in_ok-classes.ensures.trees (Ok tt)
+    (nth_number c.in_ok-classes.classes.of) c.in_ok-classes.ensures.trees (Ok tt)
     c.args.writer.now c.complete_by_class.new.writer c.in-Ok.ensures
 
 pub returns-in-Err : goal.returns-in-Err
 returns-in-Err g c =
     sends_shared g.W.Write.contents c.args.events.now
-    (num_of c.in_ok-classes.classes.of) c.in_ok-classes.ensures.trees
+    (nth_number c.in_ok-classes.classes.of) c.in_ok-classes.ensures.trees
     (Err (fault_of c.in-Err.error)) c.args.writer.now c.complete_by_class.new.writer
     c.in-Err.ensures
 

@@ -12,8 +12,8 @@ returns-in-Ok-clause-step c =
         c.if-self.false,
         taken,
         c.if-self.false,
-        carry held.partial.root
-            (reverse held.partial.collections.items) (event_of c.args.event) _ held.nested taken
+        carry held.unfinished.root
+            (reverse held.unfinished.collections.items) (event_of c.args.event) _ held.nested taken
             c.in-Ok.ensures,
       ),
     )

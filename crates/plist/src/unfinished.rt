@@ -1,0 +1,207 @@
+//! A value that isn't complete yet: the open collections, and at last the root.
+
+ghost use Rattle.std.specs.Prelude.{◌≡◌, None, OnOk, option_map};
+ghost use Rattle.plist_base.specs.Events as events;
+ghost use Rattle.plist_base.specs.Events.{event_of};
+ghost use Rattle.plist_base.specs.Faults.{kind_of};
+ghost use Rattle.plist.specs.Building.{NotBegun, complete_tree, refusal_at, refusal_of_key, refusal_of_value};
+ghost use Rattle.plist.specs.UnfinishedValues.{AddsValue, CarriesOn, IsLeft, IsRefusalOf, Opens, TakesText, unfinished_of};
+ghost use Rattle.plist.specs.Views.{tree_of};
+
+use crate::{Dictionary, Value};
+use plist_base::{ErrorKind, Event, EventKind};
+use std::alloc::{AllocError, Global};
+
+/// A collection that hasn't ended.
+#[derive(Drop)]
+pub(crate) enum Unended {
+    /// An array with its items so far.
+    Array(Vec<Value>),
+    /// A dictionary with its pairs so far.
+    Dictionary(Dictionary),
+    /// A dictionary with its pairs so far, and a key whose value is to come.
+    AfterKey(Dictionary, String),
+}
+
+/// The open collections, innermost last, and the root once it is complete.
+#[derive(Drop)]
+pub(crate) struct UnfinishedValue {
+    collections: Vec<Unended>,
+    root: Option<Value>,
+}
+
+// Why the event can't come where a value is to come.
+fn value_refusal(event: &Event<'_>) -> Option<ErrorKind>
+    ensures { option_map kind_of result ≡ refusal_of_value (event_of event.now) }
+{
+    match event {
+        Event::EndCollection => Some(ErrorKind::UnexpectedEventType {
+            expected: EventKind::ValueOrStartCollection,
+            found: EventKind::EndCollection,
+        }),
+        Event::StartArray(_)
+        | Event::StartDictionary(_)
+        | Event::Boolean(_)
+        | Event::Data(_)
+        | Event::Date(_)
+        | Event::Integer(_)
+        | Event::Real(_)
+        | Event::String(_)
+        | Event::Uid(_) => None,
+    }
+}
+
+// Why the event can't come where a key or a dictionary's end is to come.
+fn key_refusal(event: &Event<'_>) -> Option<ErrorKind>
+    ensures { option_map kind_of result ≡ refusal_of_key (event_of event.now) }
+{
+    match event {
+        Event::String(_) | Event::EndCollection => None,
+        Event::StartArray(_)
+        | Event::StartDictionary(_)
+        | Event::Boolean(_)
+        | Event::Data(_)
+        | Event::Date(_)
+        | Event::Integer(_)
+        | Event::Real(_)
+        | Event::Uid(_) => Some(ErrorKind::UnexpectedEventType {
+            expected: EventKind::DictionaryKeyOrEndCollection,
+            found: EventKind::of_event(event),
+        }),
+    }
+}
+
+impl UnfinishedValue {
+    /// No events yet.
+    pub(crate) fn new(alloc: Global) -> UnfinishedValue
+        ensures { unfinished_of result ≡ NotBegun }
+    {
+        UnfinishedValue {
+            collections: Vec::new(alloc),
+            root: None,
+        }
+    }
+
+    /// Drops what is held.
+    pub(crate) fn clear(&mut self)
+        ensures { unfinished_of self.new ≡ NotBegun }
+    {
+        self.collections.clear();
+        self.root = None;
+    }
+
+    /// Why the event can't come next, if it can't.
+    pub(crate) fn refusal(&self, event: &Event<'_>) -> Option<ErrorKind>
+        ensures { IsRefusalOf self.now event.now result }
+    {
+        if self.root.is_some() {
+            return Some(ErrorKind::ExpectedEndOfEventStream {
+                found: EventKind::of_event(event),
+            });
+        }
+        match self.collections.last() {
+            Some(Unended::Array(_)) => None,
+            Some(Unended::Dictionary(_)) => key_refusal(event),
+            Some(Unended::AfterKey(..)) | None => value_refusal(event),
+        }
+    }
+
+    // Opens a collection.
+    fn begin(&mut self, collection: Unended) -> Result<(), AllocError>
+        requires { self.old.root ≡ None }
+        ensures { OnOk result (Opens self.old collection self.new) }
+    {
+        self.collections.push(collection)?;
+        Ok(())
+    }
+
+    // Puts a complete value where it belongs.
+    fn add(&mut self, value: Value) -> Result<(), AllocError>
+        requires { self.old.root ≡ None }
+        ensures { OnOk result (AddsValue self.old value self.new) }
+    {
+        match self.collections.pop() {
+            None => self.root = Some(value),
+            Some(Unended::Array(mut items)) => {
+                items.push(value)?;
+                self.collections.push_reserved(Unended::Array(items));
+            }
+            Some(Unended::Dictionary(pairs)) => self
+                .collections
+                .push_reserved(Unended::Dictionary(pairs)),
+            Some(Unended::AfterKey(mut pairs, key)) => {
+                match pairs.insert(key, value) {
+                    Ok(_) => {}
+                    Err(_) => return Err(AllocError),
+                }
+                // it tells that no key stands twice
+                let _ = pairs.pair_count();
+                self.collections.push_reserved(Unended::Dictionary(pairs));
+            }
+        }
+        Ok(())
+    }
+
+    // Ends the innermost collection, which is a value then.
+    fn end(&mut self) -> Result<(), AllocError>
+        requires order { refusal_at (unfinished_of self.old) events.EndCollection ≡ None }
+        requires root { self.old.root ≡ None }
+        ensures { OnOk result (CarriesOn self.old events.EndCollection self.new) }
+    {
+        match self.collections.pop() {
+            Some(Unended::Array(items)) => self.add(Value::Array(items)),
+            Some(Unended::Dictionary(pairs)) => self.add(Value::Dictionary(pairs)),
+            Some(Unended::AfterKey(..)) | None => Ok(()),
+        }
+    }
+
+    // Puts a text where it belongs, as a key or as a value.
+    fn add_text(&mut self, text: String) -> Result<(), AllocError>
+        requires { self.old.root ≡ None }
+        ensures { OnOk result (TakesText self.old text self.new) }
+    {
+        match self.collections.pop() {
+            Some(Unended::Dictionary(pairs)) => {
+                self.collections
+                    .push_reserved(Unended::AfterKey(pairs, text));
+                Ok(())
+            }
+            Some(other) => {
+                self.collections.push_reserved(other);
+                self.add(Value::String(text))
+            }
+            None => self.add(Value::String(text)),
+        }
+    }
+
+    /// Carries on what is held with an event that can come next.
+    ///
+    /// After a failure what is held isn't known.
+    pub(crate) fn take(&mut self, alloc: Global, event: Event<'_>) -> Result<(), AllocError>
+        requires { refusal_at (unfinished_of self.old) (event_of event) ≡ None }
+        ensures { OnOk result (CarriesOn self.old (event_of event.entry) self.new) }
+    {
+        match event {
+            Event::StartArray(_) => self.begin(Unended::Array(Vec::new(alloc))),
+            Event::StartDictionary(_) => self.begin(Unended::Dictionary(Dictionary::new(alloc))),
+            Event::EndCollection => self.end(),
+            Event::Boolean(value) => self.add(Value::Boolean(value)),
+            Event::Data(bytes) => self.add(Value::Data(bytes.into_owned(alloc)?)),
+            Event::Date(date) => self.add(Value::Date(date)),
+            Event::Integer(value) => self.add(Value::Integer(value)),
+            Event::Real(bits) => self.add(Value::Real(bits)),
+            Event::String(text) => self.add_text(text.into_owned(alloc)?),
+            Event::Uid(uid) => self.add(Value::Uid(uid)),
+        }
+    }
+
+    /// Takes the root out, if it is complete; nothing is held then.
+    pub(crate) fn take_root(&mut self) -> Option<Value>
+        ensures root { option_map tree_of result ≡ complete_tree (unfinished_of self.old) }
+        ensures left { IsLeft self.old result self.new }
+    {
+        let root = self.root.take()?;
+        self.collections.clear();
+        Some(root)
+    }
+}

@@ -1,0 +1,76 @@
+use Rattle.std.proofs.Common.{sym, ◌∙◌}
+use Rattle.plist_binread.specs.Frames.{frame_of}
+use Rattle.plist_binread.proofs.Turned.{next_path, child_remaining, closed_remaining, child_weight, closed_weight, closes-none, closes-child}
+use Rattle.plist_binread.proofs.Opened.{IsOpen-pop, first_below, first_uncached, cached_count-mark}
+use Rattle.plist_binread.proofs.walk.Walk.next_child.Goals as goal
+
+pub returns-in-Nothing-clause-closes : goal.returns-in-Nothing-clause-closes
+returns-in-Nothing-clause-closes c = λ e. absurd (closes-none _ c.in-Nothing.ensures.0 e)
+
+pub returns-in-Nothing-clause-remaining : goal.returns-in-Nothing-clause-remaining
+returns-in-Nothing-clause-remaining c =
+    let is = c.in-Nothing.ensures in
+    λ bytes bounds k. ((is.0, is.1), rw is.1 (rw is.0 at k))
+
+pub unmark_open-requires : goal.unmark_open-requires
+unmark_open-requires c =
+    let is = c.in-End.ensures in
+    first_below _ _ _ (rw is.2 at c.args.self.now.path)
+
+pub invariant_of-self-in-End : goal.invariant_of-self-in-End
+invariant_of-self-in-End c =
+    let is = c.in-End.ensures in
+    record {
+      same = c.args.self.now.same ∙ sym c.unmark_open.ensures.size;
+      path = IsOpen-pop c.args.self.now.tags.items _ _ _ (rw is.2 at c.args.self.now.path)
+          c.unmark_open.ensures;
+    }
+
+pub returns-in-End-clause-counted : goal.returns-in-End-clause-counted
+returns-in-End-clause-counted c = cached_count-mark _ _ _ _ c.unmark_open.ensures
+
+pub returns-in-End-clause-remaining : goal.returns-in-End-clause-remaining
+returns-in-End-clause-remaining c =
+    let is = c.in-End.ensures in
+    λ bytes bounds k. rw is.2
+    (closed_remaining _ _ _ _ _ _
+    (rw is.2 at k) _ is.3 c.unmark_open.ensures)
+
+pub returns-in-End-clause-weight : goal.returns-in-End-clause-weight
+returns-in-End-clause-weight c =
+    let is = c.in-End.ensures in
+    λ n. rw is.2 (closed_weight n (frame_of c.in-End.object _ _) _ is.3)
+
+pub invariant_of-self-in-Child-1 : goal.invariant_of-self-in-Child-1
+invariant_of-self-in-Child-1 c =
+    let is = c.in-Child.ensures in
+    record {
+      same = c.args.self.now.same;
+      path = rw is.3 (next_path c.args.self.now.tags.items
+          (frame_of c.in-Child.object c.in-Child.index is.0) _ is.1
+          (rw is.2 at c.args.self.now.path));
+    }
+
+pub returns-in-Child-clause-within : goal.returns-in-Child-clause-within
+returns-in-Child-clause-within c =
+    let is = c.in-Child.ensures in (
+      first_below _ _ _ (rw is.2 at c.args.self.now.path),
+      first_uncached _ _ _ (rw is.2 at c.args.self.now.path),
+    )
+
+pub returns-in-Child-clause-closes : goal.returns-in-Child-clause-closes
+returns-in-Child-clause-closes c =
+    let is = c.in-Child.ensures in λ e. absurd (closes-child _ _ _ is.2 is.4 e)
+
+pub returns-in-Child-clause-remaining : goal.returns-in-Child-clause-remaining
+returns-in-Child-clause-remaining c =
+    let is = c.in-Child.ensures in
+    λ bytes bounds k. rw (is.2, is.3)
+    (child_remaining _ _ _ _
+    _ _ (rw is.2 at k) is.4)
+
+pub returns-in-Child-clause-weight : goal.returns-in-Child-clause-weight
+returns-in-Child-clause-weight c =
+    let is = c.in-Child.ensures in
+    λ n. rw (is.2, is.3) (child_weight n
+    (frame_of c.in-Child.object _ _) _ is.4)

@@ -1,0 +1,50 @@
+use Rattle.std.proofs.Common.{ap, refl}
+use Rattle.std.proofs.lemmas.Result.{err_from_is_err_and}
+use Rattle.plist_base.specs.Events.{event_of}
+use Rattle.plist_binwrite.specs.inner.Stacks.{change_seen}
+use Rattle.plist_binwrite.proofs.Pended.{seen, can_take, cannot_take}
+use Rattle.plist_binwrite.proofs.event_buffer.EventBuffer.try_push.Goals as goal
+
+pub returns-in-Refused-clause-refused : goal.returns-in-Refused-clause-refused
+returns-in-Refused-clause-refused c = (
+  (
+    cannot_take c.args.self.now _ _ c.requires.still
+        c.as_slice.ensures.value c.change_on-change.ensures (ap change_seen c.in-Refused.is),
+    c.fault_of_event.ensures,
+  ),
+  refl,
+)
+
+pub hold-requires : goal.hold-requires
+hold-requires c = record {
+  still = c.requires.still;
+  accepted = can_take c.args.self.now (event_of c.args.event) c.change_on-change.result
+      c.requires.still c.as_slice.ensures.value c.change_on-change.ensures
+      c.in_default.not-Refused;
+  change = seen c.args.self.now (event_of c.args.event) c.change_on-change.result
+      c.requires.still c.as_slice.ensures.value c.change_on-change.ensures;
+}
+
+pub returns-in_err-hold-in_default : goal.returns-in_err-hold-in_default
+returns-in_err-hold-in_default c =
+    let p = err_from_is_err_and c.from_residual.result c.from_residual.ensures.1 in
+    rw (p.1, p.2) (record {
+      refused = tt;
+      taken = tt;
+      accepted = can_take c.args.self.now (event_of c.args.event) c.change_on-change.result
+          c.requires.still c.as_slice.ensures.value c.change_on-change.ensures
+          c.in_default.not-Refused;
+      memory = c.in_err-hold-in_default.ensures.memory;
+    })
+
+pub returns-in_ok-hold-in_default : goal.returns-in_ok-hold-in_default
+returns-in_ok-hold-in_default c = record {
+  refused = tt;
+  taken = λ none. (
+    can_take c.args.self.now (event_of c.args.event) c.change_on-change.result c.requires.still
+        c.as_slice.ensures.value c.change_on-change.ensures c.in_default.not-Refused,
+    c.in_ok-hold-in_default.ensures.taken,
+  );
+  accepted = tt;
+  memory = tt;
+}

@@ -1,0 +1,24 @@
+use Rattle.std.proofs.Common.{arith, refl}
+use Rattle.plist_binwrite.proofs.Outgoing.{puts_none, puts_then, puts_front}
+use Rattle.plist_binwrite.proofs.Passing.{pairs_first, pairs_within, onward, pairs_stop}
+use Rattle.plist_binwrite.proofs.objects.put_keys_or_values.Goals as goal
+
+pub walk-preserved : goal.walk-preserved
+walk-preserved g c = λ ms s.
+    onward (pairs_first (c.walk.invariant ms s) (c.walk-test.ensures.yes refl).1).value
+    c.index_behind-key.ensures.ends (λ goes answer d k p. goes _ d k
+    (puts_then (rw (c.number-number.ensures, c.key_or_value.ensures.half) at c.in-Ok.ensures) p))
+
+pub returns-in-Err : goal.returns-in-Err
+returns-in-Err g c = λ ms s.
+    (pairs_first (c.walk.invariant ms s) (c.walk-test.ensures.yes refl).1).goes _ _ _
+    (puts_front _ (rw (c.number-number.ensures, c.key_or_value.ensures.half) at c.in-Err.ensures))
+
+pub returns : goal.returns
+returns g c = λ ms s. pairs_stop (c.walk.invariant ms s)
+    (c.walk-test.ensures.no refl) _ _ _ puts_none
+
+pub returns-then-value-len : goal.returns-then-value-len
+returns-then-value-len g c = λ ms s.
+    pairs_within (c.walk.invariant ms s) (c.walk-test.ensures.yes refl).1
+    (omega arith)

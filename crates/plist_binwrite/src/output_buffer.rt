@@ -1,0 +1,127 @@
+//! Sends bytes part by part, through a buffer of fixed size.
+
+ghost use Rattle.std.specs.Prelude.{◌≡◌, ◌≤◌, ◌++◌, true, false, length, OnOk};
+ghost use Rattle.plist_base.specs.Outcomes.{OnlyDevice};
+ghost use Rattle.plist_binwrite.specs.OutputBuffer.{Puts, SendsRest, SendsRestInPart, buffer_size};
+
+use plist_base::Error;
+use plist_base::send::{send, send_and_flush};
+use std::io::Write;
+
+/// How many bytes wait together at most.
+pub const BUFFER: usize = 1 << 16;
+
+// Has bytes wait, where they fit into the buffer.
+fn hold(buffer: &mut Vec<u8>, bytes: &[u8]) -> bool
+    ensures yes { result ≡ true → buffer.new.items ≡ buffer.old.items ++ bytes.now }
+    ensures waits { result ≡ true → length buffer.new.items ≤ buffer_size }
+    ensures no { result ≡ false → buffer.new.items ≡ buffer.old.items }
+{
+    let waiting = buffer.len();
+    if waiting > BUFFER || bytes.len() > BUFFER - waiting {
+        return false;
+    }
+    buffer.extend_from_slice(bytes).is_ok()
+}
+
+// Sends what waits, and then these bytes. It stands apart, since most bytes fit into the buffer.
+#[cold]
+#[inline(never)]
+fn pass_on<W: Write>(out: &mut W, buffer: &mut Vec<u8>, bytes: &[u8]) -> Result<(), Error>
+    ensures { Puts W.contents out.old buffer.old bytes.now result out.new buffer.new }
+{
+    match send(out, buffer.as_slice()) {
+        Ok(()) => {}
+        Err(error) => return Err(error),
+    }
+    buffer.clear();
+    match send(out, bytes) {
+        Ok(()) => Ok(()),
+        Err(error) => Err(error),
+    }
+}
+
+/// Bytes that fit wait in the buffer; where they don't, those that wait go out, and then these. No
+/// more than [`BUFFER`] bytes ever wait, so a buffer of that size never grows.
+///
+/// # Errors
+/// `Io` without an offset where a write fails or takes no byte; a beginning of all that was put
+/// went out.
+#[tactic(auto, using(crate::proofs::Outgoing::puts_waiting))]
+pub fn put<W: Write>(out: &mut W, buffer: &mut Vec<u8>, bytes: &[u8]) -> Result<(), Error>
+    ensures { Puts W.contents out.old buffer.old bytes.now result out.new buffer.new }
+{
+    if hold(buffer, bytes) {
+        return Ok(());
+    }
+    pass_on(out, buffer, bytes)
+}
+
+// Has bytes wait and others behind them, where all of them fit into the buffer.
+fn hold_both(buffer: &mut Vec<u8>, first: &[u8], second: &[u8]) -> bool
+    ensures yes { result ≡ true → buffer.new.items ≡ buffer.old.items ++ first.now ++ second.now }
+    ensures waits { result ≡ true → length buffer.new.items ≤ buffer_size }
+    ensures no { result ≡ false → buffer.new.items ≡ buffer.old.items }
+{
+    let before = buffer.len();
+    if !hold(buffer, first) {
+        return false;
+    }
+    if hold(buffer, second) {
+        return true;
+    }
+    buffer.truncate(before);
+    false
+}
+
+#[cold]
+#[inline(never)]
+fn pass_both<W: Write>(
+    out: &mut W,
+    buffer: &mut Vec<u8>,
+    first: &[u8],
+    second: &[u8],
+) -> Result<(), Error>
+    ensures { Puts W.contents out.old buffer.old (first.now ++ second.now) result out.new
+        buffer.new }
+{
+    match put(out, buffer, first) {
+        Ok(()) => put(out, buffer, second),
+        Err(error) => Err(error),
+    }
+}
+
+/// Puts bytes and others behind them, as `put` does.
+///
+/// # Errors
+/// Those of `put`.
+#[tactic(auto, using(crate::proofs::Outgoing::puts_waiting))]
+pub fn put_both<W: Write>(
+    out: &mut W,
+    buffer: &mut Vec<u8>,
+    first: &[u8],
+    second: &[u8],
+) -> Result<(), Error>
+    ensures { Puts W.contents out.old buffer.old (first.now ++ second.now) result out.new
+        buffer.new }
+{
+    if hold_both(buffer, first, second) {
+        return Ok(());
+    }
+    pass_both(out, buffer, first, second)
+}
+
+/// Sends what waits, and then has the writer pass on what it holds back.
+///
+/// # Errors
+/// Those of `put`; and where the flush fails, after all of it went out.
+pub fn finish<W: Write>(out: &mut W, buffer: &[u8]) -> Result<(), Error>
+    ensures sent { OnOk result (SendsRest W.contents out.old buffer.now out.new) }
+    ensures prefix { SendsRestInPart W.contents out.old buffer.now out.new }
+    ensures fault { OnlyDevice result }
+{
+    match send_and_flush(out, buffer) {
+        Ok(()) => Ok(()),
+        Err(error) => Err(error),
+    }
+}
