@@ -12,6 +12,6 @@ pub use plist_base::{
 pub use plist_binread::{BinaryReader, CompactEvent, CountedDecodings, DecodeCounter, Uncounted};
 pub use plist_binwrite::{
     BinaryWriter, EqualScalars, EventTable, FileWriter, Sharing, classes, complete,
-    complete_by_class, forms, numbers, output_buffer,
+    complete_by_class, forms, numbers, output_buffer, widths,
 };
 pub use plist_reader::{Format, Reader, format_of};

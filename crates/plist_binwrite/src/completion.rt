@@ -14,13 +14,14 @@ ghost use Rattle.plist_binwrite.specs.inner.Putting.{PutsFile, SendsDraft, Sends
 
 use crate::classes::{Classes, classes_of};
 use crate::event_table::EventTable;
-use crate::forms::{put_table_and_trailer, reference_width};
+use crate::forms::put_table_and_trailer;
 use crate::layout::order_objects;
 use crate::numbers::Numbers;
 use crate::objects::put_objects;
 use crate::output_buffer::{BUFFER, finish, put};
 use crate::plan::{Plan, Planned, plan_by_class};
 use crate::size::{check_size, place_objects};
+use crate::widths::reference_width;
 use plist_base::{Error, ErrorKind};
 use std::alloc::Global;
 use std::io::Write;

@@ -1,56 +1,21 @@
 //! The bytes of each form of a file: scalars, lengths, references, the offset table and the
 //! trailer, each in the least form that holds it.
 //!
-//! Each function puts its bytes through a buffer to a writer, as [`put`](crate::output_buffer::put) does.
-//! The one refusal is `Io` without an offset; a beginning of all that was put went out then.
+//! Each function puts its bytes through a buffer to a writer, as [`put`](crate::output_buffer::put)
+//! does. The one refusal is `Io` without an offset; a beginning of all that was put went out then.
 
-ghost use Rattle.std.specs.Prelude.{◌≡◌, ◌∷◌, [], ◌≤◌, ◌<◌, ◌^◌};
-ghost use Rattle.plist_binwrite.specs.Forms.{big_endian, doublings, least_width, unsigned_form, integer_form, uid_form, length_form, boolean_form, data_form, date_form, real_form, table_form, marked};
+ghost use Rattle.std.specs.Prelude.{◌≡◌, ◌∷◌, [], ◌≤◌, ◌<◌};
+ghost use Rattle.plist_binwrite.specs.Forms.{big_endian, doublings, unsigned_form, integer_form, uid_form, length_form, boolean_form, data_form, date_form, real_form, table_form, marked};
 ghost use Rattle.plist_binwrite.specs.OutputBuffer.{Puts};
-ghost use Rattle.plist_binwrite.specs.Written.{reference_width, offset_width, ending, trailer_of};
+ghost use Rattle.plist_binwrite.specs.Written.{ending, trailer_of};
 
 use crate::numbers::Numbers;
 use crate::output_buffer::{put, put_both};
 pub use crate::scalar::put_scalar;
 pub use crate::text::put_text;
+use crate::widths::{least_width, offset_width, reference_width};
 use plist_base::{Date, Error, Integer, RealBits, Uid};
 use std::io::Write;
-
-/// The least of 1, 2, 4 and 8 bytes that hold a number.
-#[tactic(auto, using(crate::proofs::Widths::widths))]
-pub fn least_width(number: u64) -> usize
-    ensures value { result ≡ least_width number }
-    ensures range { (1 ≤ result) × (result ≤ 8) }
-    ensures holds { number < 256 ^ result }
-{
-    if number < 1 << 8 {
-        1
-    } else if number < 1 << 16 {
-        2
-    } else if number < 1 << 32 {
-        4
-    } else {
-        8
-    }
-}
-
-/// How many bytes a reference has among so many objects.
-pub fn reference_width(count: u64) -> usize
-    ensures value { result ≡ reference_width count }
-    ensures range { (1 ≤ result) × (result ≤ 8) }
-    ensures holds { count ≤ 256 ^ result }
-{
-    least_width(count.saturating_sub(1))
-}
-
-/// How many bytes a place has in an offset table that lies here.
-pub fn offset_width(table: u64) -> usize
-    ensures value { result ≡ offset_width table }
-    ensures range { (1 ≤ result) × (result ≤ 8) }
-    ensures holds { table < 256 ^ result }
-{
-    least_width(table)
-}
 
 // How often 1 is doubled to give a width.
 fn doublings(width: usize) -> u8

@@ -6,8 +6,8 @@ ghost use Rattle.plist_binwrite.specs.Forms.{IsDateBytes, IsInteger, IsReal, IsT
 ghost use Rattle.plist_binwrite.specs.EventTable.{IfScalar};
 ghost use Rattle.plist_binwrite.specs.Sizes.{IsSizeOrNone, marked_size, scalar_size};
 
-use crate::forms::least_width;
 use crate::text::{count_units, is_ascii_text};
+use crate::widths::least_width;
 use plist_base::{Date, Event, Integer, RealBits, Uid};
 
 /// So many bytes, and so many more.

@@ -25,6 +25,7 @@ mod scalar;
 mod shared;
 mod size;
 mod text;
+pub mod widths;
 mod writer;
 
 pub use completion::{complete, complete_by_class};

@@ -9,11 +9,11 @@ ghost use Rattle.plist_binwrite.specs.Sizes.{IsSizeOrNone, size_with};
 ghost use Rattle.plist_binwrite.specs.inner.Sizing.{AreLaid, CountsItems, ExceedsWith, FitsWith, IsWritableAt, IsEndOrNone, IsSizeOrNoneAt};
 
 use crate::event_table::EventTable;
-use crate::forms::offset_width;
 use crate::kinds::EntryKind;
 use crate::lengths::{add, length_of_collection, length_of_scalar};
 use crate::numbers::Numbers;
 use crate::plan::Planned;
+use crate::widths::offset_width;
 use plist_base::Error;
 
 /// The number of items of an array from here on; a key is an item, and so is its value.
