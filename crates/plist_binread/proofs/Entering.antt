@@ -6,7 +6,7 @@ use Rattle.plist_base.specs.declared.error.Error.{Error}
 use Rattle.plist_binread.specs.Reading.{ReadsChildAt, object_at}
 use Rattle.plist_binread.specs.declared.frames.Frame.{Frame}
 use Rattle.plist_binread.specs.declared.walk.NextChild.TheVariants.{Child}
-use Rattle.plist_binread.specs.declared.front.Outcome.{Outcome}
+use Rattle.plist_binread.specs.declared.object_faults.Outcome.{Outcome}
 use Rattle.plist_binread.specs.declared.head.Bounds.{Bounds}
 use Rattle.plist_binread.specs.Remaining.{IsOpen, IsKnown, next_number, children_at, entries_of, remaining_items, path_of}
 use Rattle.plist_binread.specs.Turns.{IsCurrentCached, ReadsChild}

@@ -10,8 +10,8 @@ use Rattle.plist_base.specs.Events.{PlainEvent, Single, Item}
 use Rattle.plist_base.specs.Trees.{Scalar}
 use Rattle.plist_base.proofs.Refusals.{MatchFault-at, MatchFault-weaker}
 use Rattle.plist_binread.specs.declared.frames.Frame.{Frame}
-use Rattle.plist_binread.specs.declared.front.Outcome.{Outcome}
-use Rattle.plist_binread.specs.declared.front.Outcome.TheVariants.{Scalar as ScalarOutcome, Collection}
+use Rattle.plist_binread.specs.declared.object_faults.Outcome.{Outcome}
+use Rattle.plist_binread.specs.declared.object_faults.Outcome.TheVariants.{Scalar as ScalarOutcome, Collection}
 use Rattle.plist_binread.specs.Outcome.{IsOutcomeOf, YieldsAnswer}
 use Rattle.plist_binread.specs.Step.{WantsRoom}
 use Rattle.plist_binread.specs.declared.head.Bounds.{Bounds}

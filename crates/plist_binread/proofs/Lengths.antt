@@ -9,7 +9,7 @@ use Rattle.plist_format.specs.Object.{Object}
 use Rattle.plist_format.specs.Unfolding.{unfolding_of, until_fault}
 use Rattle.plist_binread.specs.declared.frames.Frame.{Frame}
 use Rattle.plist_binread.specs.declared.front.Content.{Content}
-use Rattle.plist_binread.specs.declared.front.Outcome.{Outcome}
+use Rattle.plist_binread.specs.declared.object_faults.Outcome.{Outcome}
 use Rattle.plist_binread.specs.declared.head.Bounds.{Bounds}
 use Rattle.plist_binread.specs.declared.slot.EventSlot.{EventSlot}
 use Rattle.plist_binread.specs.declared.slot.Refused.{Refused}

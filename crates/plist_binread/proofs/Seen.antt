@@ -8,11 +8,11 @@ use Rattle.plist_binread.specs.Front.{IfLong, LeavesLong, DecodesWhole, LongBehi
 use Rattle.plist_base.specs.declared.error.Error.{Error}
 use Rattle.plist_binread.specs.declared.slot.EventSlot.{EventSlot}
 use Rattle.plist_binread.specs.Slot.{event_in}
-use Rattle.plist_binread.specs.declared.front.Outcome.{Outcome}
+use Rattle.plist_binread.specs.declared.object_faults.Outcome.{Outcome}
 use Rattle.plist_binread.specs.declared.head.Bounds.{Bounds}
 use Rattle.plist_base.specs.Events.{PlainEvent}
 use Rattle.plist_binread.specs.Outcome.{IsOutcomeOf, IsSlots, small_outcome}
-use Rattle.plist_binread.specs.declared.front.Outcome.TheVariants as tag
+use Rattle.plist_binread.specs.declared.object_faults.Outcome.TheVariants as tag
 use Rattle.plist_format.specs.Object.{Object, layout_of, length_in, object_behind, object_in}
 use Rattle.plist_binread.proofs.Columns.{take-drop-take}
 use Rattle.std.proofs.lemmas.Option.{IfSome_then}

@@ -6,8 +6,8 @@ use Rattle.plist_base.specs.Events.{PlainEvent, StartArray, StartDictionary, eve
 use Rattle.plist_base.specs.Trees as trees
 use Rattle.plist_base.specs.Trees.{Data, String}
 use Rattle.plist_base.specs.declared.event.Event.{Event}
-use Rattle.plist_binread.specs.declared.front.Outcome.{Outcome}
-use Rattle.plist_binread.specs.declared.front.Outcome.TheVariants as outcome
+use Rattle.plist_binread.specs.declared.object_faults.Outcome.{Outcome}
+use Rattle.plist_binread.specs.declared.object_faults.Outcome.TheVariants as outcome
 use Rattle.plist_binread.specs.Packed.{is_small_event, single}
 use Rattle.plist_format.specs.Object.{Object, Scalar, Array, Dictionary, Faulty, children_of}
 

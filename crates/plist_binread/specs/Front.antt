@@ -15,8 +15,8 @@ use Rattle.plist_format.specs.Object.{Array, Object, dictionary, length_in, mean
 use Rattle.plist_binread.specs.Packed.{content_bytes, is_small_event, scalar_of, single}
 use Rattle.plist_binread.specs.Slot.{answer_in, event_in}
 use Rattle.plist_binread.specs.declared.slot.Refused.{Refused}
-use Rattle.plist_binread.specs.declared.front.Outcome.{Outcome}
-use Rattle.plist_binread.specs.declared.front.Outcome.TheVariants as outcome
+use Rattle.plist_binread.specs.declared.object_faults.Outcome.{Outcome}
+use Rattle.plist_binread.specs.declared.object_faults.Outcome.TheVariants as outcome
 use Rattle.plist_binread.specs.declared.front.ContentKind.{ContentKind}
 use Rattle.plist_binread.specs.declared.front.ContentKind.TheVariants as kind
 use Rattle.plist_binread.specs.declared.front.Content.{Content}

@@ -4,8 +4,8 @@ use Rattle.plist_base.specs.declared.error.Error.{Error}
 use Rattle.plist_base.specs.Faults.{ObjectOffsetTooLarge, NullObjectUnimplemented, FillObjectUnimplemented, UnknownObjectType, IntegerOutOfRange, OverflowOrNanDate, InvalidUtf8String, InvalidUtf16String}
 use Rattle.plist_base.specs.Events.{PlainEvent, EndCollection, Item}
 use Rattle.plist_binread.specs.declared.child.References.{References}
-use Rattle.plist_binread.specs.declared.front.Outcome.{Outcome}
-use Rattle.plist_binread.specs.declared.front.Outcome.TheVariants as outcome
+use Rattle.plist_binread.specs.declared.object_faults.Outcome.{Outcome}
+use Rattle.plist_binread.specs.declared.object_faults.Outcome.TheVariants as outcome
 use Rattle.plist_binread.specs.declared.head.Bounds.{Bounds}
 use Rattle.plist_format.specs.Container.{number_at}
 use Rattle.plist_binread.specs.Remaining.{Explains}

@@ -16,8 +16,8 @@ use Rattle.plist_binread.specs.Turns.{IsFound, IsCurrentCached, Falls, Turns}
 use Rattle.plist_format.specs.Unfolding.{TableEntry, unfolding_of, until_fault}
 use Rattle.plist_binread.specs.Walking.{IsWalkOf, walk_objects, open_in, remaining_entering, remaining_in, weight_entering, weight_in}
 use Rattle.plist_binread.specs.declared.frames.Frame.{Frame}
-use Rattle.plist_binread.specs.declared.front.Outcome.{Outcome}
-use Rattle.plist_binread.specs.declared.front.Outcome.TheVariants as outcome
+use Rattle.plist_binread.specs.declared.object_faults.Outcome.{Outcome}
+use Rattle.plist_binread.specs.declared.object_faults.Outcome.TheVariants as outcome
 use Rattle.plist_binread.specs.declared.head.Bounds.{Bounds}
 use Rattle.plist_binread.specs.declared.slot.EventSlot.{EventSlot}
 use Rattle.plist_binread.specs.declared.walk.NextChild.{NextChild}

@@ -14,9 +14,9 @@ ghost use Rattle.plist_binread.specs.declared.slot.Refused.TheVariants.{Fault};
 
 use crate::counter::DecodeCounter;
 use crate::frames::Frames;
-use crate::front::Outcome;
 use crate::head::Bounds;
 use crate::object::decode;
+use crate::object_faults::Outcome;
 use crate::packed::{cache, mark_open};
 use crate::slot::{EventSlot, Refused};
 use crate::walk::Walk;

@@ -1,19 +1,19 @@
 //! Objects that are decoded by the bytes at their front: all up to the trailer, or at least as many
 //! as tell what isn't a long text or data.
 
-ghost use Rattle.std.specs.Prelude.{◌≡◌, ◌-◌, ◌*◌, ◌%◌, ◌^◌, ◌<◌, ◌≤◌, length, true, Some, IfSome, IfNone, IfOk, IfErr, cond};
+ghost use Rattle.std.specs.Prelude.{◌≡◌, ◌-◌, ◌*◌, ◌%◌, ◌^◌, ◌<◌, ◌≤◌, length, Some, IfSome, IfNone, IfOk, IfErr, cond};
 ghost use Rattle.plist_base.specs.declared.real.RealBits.TheVariants.{Eight};
 ghost use Rattle.plist_base.specs.Trees.{Real};
 ghost use Rattle.plist_binread.specs.Outcome.{small_outcome};
 ghost use Rattle.plist_format.specs.Object.{Scalar, Array, date, unsigned_integer, signed_integer, wide_integer, object_in};
 ghost use Rattle.plist_binread.specs.Slot.{event_in};
-ghost use Rattle.plist_binread.specs.Front.{CountsOutcome, EndsBefore, HasUnits, IsContent, IsCount, IsCounted, IsLength, IsLengthCut, IsNumber, IsAllSeen, LeavesLong, DecodesFront, DecodesWhole, LiesBehind, LongBehind, LongCounted, ReachesFar, RefusesCounted, ShowsFront, array_with, counted_with, pairs_with, unit_size};
-ghost use Rattle.plist_binread.specs.declared.front.Outcome.TheVariants.{Scalar as ScalarOutcome};
+ghost use Rattle.plist_binread.specs.Front.{CountsOutcome, EndsBefore, HasUnits, IsContent, IsCount, IsCounted, IsLength, IsLengthCut, IsNumber, IsAllSeen, LeavesLong, DecodesFront, DecodesWhole, LiesBehind, LongCounted, ReachesFar, RefusesCounted, ShowsFront, array_with, counted_with, pairs_with, unit_size};
 ghost use Rattle.plist_binread.specs.declared.front.ContentKind.TheVariants.{Data as KindData, Text as KindText, WideText as KindWideText};
-ghost use Rattle.plist_binread.specs.Reading.{short_real, long_real, uid_of_content, object_with};
+ghost use Rattle.plist_binread.specs.Reading.{short_real, long_real, uid_of_content};
 
 use crate::counter::DecodeCounter;
 use crate::numbers::{number_from, write_units};
+use crate::object_faults::{Outcome, front_behind};
 use crate::slot::{CompactEvent, EventSlot};
 use plist_base::{Date, Event, RealBits};
 
@@ -50,46 +50,6 @@ pub struct Content {
     pub start: u64,
     /// How many elements it has.
     pub count: u64,
-}
-
-/// What was decoded of the bytes at an object's front, or what is wrong with it.
-///
-/// It is a tag and a number, and no more, since one is made for each item.
-#[derive(Clone, Copy)]
-pub enum Outcome {
-    /// A text or data whose content isn't all seen there, and is held.
-    Long,
-    /// It doesn't end before the trailer.
-    TooLarge,
-    /// It is a null.
-    Null,
-    /// It is a fill byte.
-    Fill,
-    /// No object has this marker.
-    Unknown(u8),
-    /// The number isn't one of 64 bits without sign.
-    OutOfRange,
-    /// It is no date.
-    NoDate,
-    /// The bytes of a text aren't UTF-8.
-    NotUtf8,
-    /// The units of a text aren't UTF-16.
-    NotUtf16,
-    /// No memory was found for a text or data.
-    NoMemory,
-    /// A scalar, which is the current event.
-    Scalar,
-    /// A collection of so many children, whose start is the current event.
-    Collection(u64),
-}
-
-impl Outcome {
-    /// Is it a scalar, which is the current event?
-    pub fn is_scalar(self) -> bool
-        ensures { result ≡ true → self ≡ ScalarOutcome }
-    {
-        matches!(self, Outcome::Scalar)
-    }
 }
 
 // The number in so many bytes.
@@ -200,7 +160,8 @@ fn front_content_of<'a>(
     Ok(&behind[..all as usize])
 }
 
-fn front_unsigned(rest: &[u8], extent: u64, width: usize, slot: &mut EventSlot) -> Outcome
+/// A number without sign.
+pub fn front_unsigned(rest: &[u8], extent: u64, width: usize, slot: &mut EventSlot) -> Outcome
     requires width { width ≤ 8 }
     requires extent { length rest.now ≤ extent }
     requires far { ReachesFar extent rest.now }
@@ -216,7 +177,8 @@ fn front_unsigned(rest: &[u8], extent: u64, width: usize, slot: &mut EventSlot) 
     }
 }
 
-fn front_signed(rest: &[u8], extent: u64, slot: &mut EventSlot) -> Outcome
+/// A number of eight bytes with a sign.
+pub fn front_signed(rest: &[u8], extent: u64, slot: &mut EventSlot) -> Outcome
     requires extent { length rest.now ≤ extent }
     requires far { ReachesFar extent rest.now }
     ensures outcome { DecodesFront extent 8 signed_integer rest.now slot.new result }
@@ -228,8 +190,8 @@ fn front_signed(rest: &[u8], extent: u64, slot: &mut EventSlot) -> Outcome
     }
 }
 
-// A whole number of sixteen bytes, of which the first eight have to be zero.
-fn front_wide(rest: &[u8], extent: u64, slot: &mut EventSlot) -> Outcome
+/// A whole number of sixteen bytes, of which the first eight have to be zero.
+pub fn front_wide(rest: &[u8], extent: u64, slot: &mut EventSlot) -> Outcome
     requires extent { length rest.now ≤ extent }
     requires far { ReachesFar extent rest.now }
     ensures outcome { DecodesFront extent 16 wide_integer rest.now slot.new result }
@@ -247,7 +209,8 @@ fn front_wide(rest: &[u8], extent: u64, slot: &mut EventSlot) -> Outcome
     Outcome::Scalar
 }
 
-fn front_uid(rest: &[u8], extent: u64, width: usize, slot: &mut EventSlot) -> Outcome
+/// A Uid.
+pub fn front_uid(rest: &[u8], extent: u64, width: usize, slot: &mut EventSlot) -> Outcome
     requires width { width ≤ 8 }
     requires extent { length rest.now ≤ extent }
     requires far { ReachesFar extent rest.now }
@@ -263,7 +226,8 @@ fn front_uid(rest: &[u8], extent: u64, width: usize, slot: &mut EventSlot) -> Ou
     }
 }
 
-fn front_real(rest: &[u8], extent: u64, slot: &mut EventSlot) -> Outcome
+/// A real of eight bytes.
+pub fn front_real(rest: &[u8], extent: u64, slot: &mut EventSlot) -> Outcome
     requires extent { length rest.now ≤ extent }
     requires far { ReachesFar extent rest.now }
     ensures outcome { DecodesFront extent 8 long_real rest.now slot.new result }
@@ -278,7 +242,8 @@ fn front_real(rest: &[u8], extent: u64, slot: &mut EventSlot) -> Outcome
     }
 }
 
-fn front_short_real(rest: &[u8], extent: u64, slot: &mut EventSlot) -> Outcome
+/// A real of four bytes.
+pub fn front_short_real(rest: &[u8], extent: u64, slot: &mut EventSlot) -> Outcome
     requires extent { length rest.now ≤ extent }
     requires far { ReachesFar extent rest.now }
     ensures outcome { DecodesFront extent 4 short_real rest.now slot.new result }
@@ -293,7 +258,8 @@ fn front_short_real(rest: &[u8], extent: u64, slot: &mut EventSlot) -> Outcome
     }
 }
 
-fn front_date(rest: &[u8], extent: u64, slot: &mut EventSlot) -> Outcome
+/// A date.
+pub fn front_date(rest: &[u8], extent: u64, slot: &mut EventSlot) -> Outcome
     requires extent { length rest.now ≤ extent }
     requires far { ReachesFar extent rest.now }
     ensures outcome { DecodesFront extent 8 date rest.now slot.new result }
@@ -314,7 +280,8 @@ fn front_date(rest: &[u8], extent: u64, slot: &mut EventSlot) -> Outcome
 // A text or data of at most so many bytes is decoded whatever number may come.
 const SHORT: u64 = 96;
 
-fn front_data(marker: u8, rest: &[u8], extent: u64, left: u64, slot: &mut EventSlot) -> Outcome
+/// Data.
+pub fn front_data(marker: u8, rest: &[u8], extent: u64, left: u64, slot: &mut EventSlot) -> Outcome
     requires extent { length rest.now ≤ extent }
     requires far { ReachesFar extent rest.now }
     ensures outcome { DecodesWhole extent (counted_with KindData marker) rest.now slot.new result }
@@ -333,7 +300,8 @@ fn front_data(marker: u8, rest: &[u8], extent: u64, left: u64, slot: &mut EventS
     }
 }
 
-fn front_text(marker: u8, rest: &[u8], extent: u64, left: u64, slot: &mut EventSlot) -> Outcome
+/// A text in UTF-8.
+pub fn front_text(marker: u8, rest: &[u8], extent: u64, left: u64, slot: &mut EventSlot) -> Outcome
     requires extent { length rest.now ≤ extent }
     requires far { ReachesFar extent rest.now }
     ensures outcome { DecodesWhole extent (counted_with KindText marker) rest.now slot.new result }
@@ -355,7 +323,8 @@ fn front_text(marker: u8, rest: &[u8], extent: u64, left: u64, slot: &mut EventS
 // A text of at most so many units is decoded without memory for its units.
 const UNITS: usize = 32;
 
-fn front_wide_text(marker: u8, rest: &[u8], extent: u64, slot: &mut EventSlot) -> Outcome
+/// A text in UTF-16.
+pub fn front_wide_text(marker: u8, rest: &[u8], extent: u64, slot: &mut EventSlot) -> Outcome
     requires extent { length rest.now ≤ extent }
     requires far { ReachesFar extent rest.now }
     ensures outcome { DecodesWhole extent (counted_with KindWideText marker) rest.now slot.new
@@ -380,7 +349,14 @@ fn front_wide_text(marker: u8, rest: &[u8], extent: u64, slot: &mut EventSlot) -
     }
 }
 
-fn front_array(marker: u8, rest: &[u8], extent: u64, width: usize, slot: &mut EventSlot) -> Outcome
+/// The start of an array, whose references lie before the trailer.
+pub fn front_array(
+    marker: u8,
+    rest: &[u8],
+    extent: u64,
+    width: usize,
+    slot: &mut EventSlot,
+) -> Outcome
     requires extent { length rest.now ≤ extent }
     requires far { ReachesFar extent rest.now }
     requires width { 0 < width }
@@ -396,7 +372,8 @@ fn front_array(marker: u8, rest: &[u8], extent: u64, width: usize, slot: &mut Ev
     }
 }
 
-fn front_dictionary(
+/// The start of a dictionary, whose references lie before the trailer.
+pub fn front_dictionary(
     marker: u8,
     rest: &[u8],
     extent: u64,
@@ -415,45 +392,6 @@ fn front_dictionary(
             Outcome::Collection(2 * count)
         }
         Err(outcome) => outcome,
-    }
-}
-
-// The object behind a marker. A text or data of more than `left` bytes isn't all read, unless it is
-// short.
-fn front_behind(
-    marker: u8,
-    rest: &[u8],
-    extent: u64,
-    width: usize,
-    left: u64,
-    slot: &mut EventSlot,
-) -> Outcome
-    requires extent { length rest.now ≤ extent }
-    requires far { ReachesFar extent rest.now }
-    requires width { (0 < width) × (width ≤ 8) }
-    ensures outcome { DecodesWhole extent (object_with width marker) rest.now slot.new result }
-    ensures long { LongBehind marker extent (object_with width marker) rest.now slot.new result }
-{
-    match marker {
-        0x00 => Outcome::Null,
-        0x08 => slot.set_boolean(false),
-        0x09 => slot.set_boolean(true),
-        0x0f => Outcome::Fill,
-        0x10 => front_unsigned(rest, extent, 1, slot),
-        0x11 => front_unsigned(rest, extent, 2, slot),
-        0x12 => front_unsigned(rest, extent, 4, slot),
-        0x13 => front_signed(rest, extent, slot),
-        0x14 => front_wide(rest, extent, slot),
-        0x22 => front_short_real(rest, extent, slot),
-        0x23 => front_real(rest, extent, slot),
-        0x33 => front_date(rest, extent, slot),
-        0x40..=0x4f => front_data(marker, rest, extent, left, slot),
-        0x50..=0x5f => front_text(marker, rest, extent, left, slot),
-        0x60..=0x6f => front_wide_text(marker, rest, extent, slot),
-        0x80..=0x87 => front_uid(rest, extent, usize::from(marker - 0x7f), slot),
-        0xa0..=0xaf => front_array(marker, rest, extent, width, slot),
-        0xd0..=0xdf => front_dictionary(marker, rest, extent, width, slot),
-        other => Outcome::Unknown(other),
     }
 }
 

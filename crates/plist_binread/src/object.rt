@@ -1,66 +1,20 @@
 //! One object, decoded by its bytes.
 
-ghost use Rattle.std.specs.Prelude.{ℕ, ◌≡◌, ◌-◌, ◌<◌, None, true, IfOk, OnOk, ⊤};
-ghost use Rattle.plist_base.specs.Events.{PlainEvent};
-ghost use Rattle.plist_base.specs.Faults.{MatchFault, fault_of, kind_of};
-ghost use Rattle.plist_base.specs.Sources.{CountsIo};
-ghost use Rattle.plist_format.specs.Object.{Faulty, Object};
-ghost use Rattle.plist_binread.specs.Decoding.{IsRefusedAs};
-ghost use Rattle.plist_binread.specs.Failures.{ErrWithin, FailsWithin, MatchReader};
-ghost use Rattle.plist_binread.specs.Outcome.{IsOutcomeOf, small_outcome};
-ghost use Rattle.plist_binread.specs.Front.{CountsFound, EndsIn64Bits, FailsInContent, IsLargeScalar, DecodesAt, LongAt, DecodesContentAt, DecodesObject, is_fault, is_wrong};
+ghost use Rattle.std.specs.Prelude.{◌≡◌, ◌-◌, ◌<◌, IfOk, OnOk};
+ghost use Rattle.plist_binread.specs.Failures.{ErrWithin};
+ghost use Rattle.plist_binread.specs.Front.{CountsFound, EndsIn64Bits, FailsInContent, IsLargeScalar, DecodesAt, LongAt, DecodesContentAt, DecodesObject};
 ghost use Rattle.plist_binread.specs.Lengths.{LimitsContent, LimitsObject, RefusesContent};
-ghost use Rattle.plist_binread.specs.Measuring.{Measures};
 ghost use Rattle.plist_binread.specs.Slot.{AnswersIn, answer_in};
-ghost use Rattle.plist_binread.specs.declared.slot.Refused.TheVariants.{Fault};
 
 use crate::counter::DecodeCounter;
-use crate::front::{ContentKind, Outcome, decode_seen};
+use crate::front::decode_seen;
 use crate::head::Bounds;
 use crate::measure::measure;
+use crate::object_faults::{Outcome, no_text, refuse_object};
 use crate::slot::{EventSlot, Refused};
 use crate::text::read_long;
-use plist_base::{Error, ErrorKind, Source, read_exact_at};
+use plist_base::{Source, read_exact_at};
 use std::alloc::Global;
-
-// What is wrong with an object.
-fn fault_kind(outcome: Outcome) -> ErrorKind
-    requires { is_wrong outcome ≡ true }
-    ensures faulty { (object : Object) (current : PlainEvent) → IsOutcomeOf object current outcome
-        → object ≡ Faulty (kind_of result) }
-    ensures inside { MatchFault (kind_of result) ⊥ ⊥ ⊤ }
-    ensures reader { MatchReader (kind_of result) ⊥ ⊥ ⊤ }
-{
-    match outcome {
-        Outcome::TooLarge => ErrorKind::ObjectOffsetTooLarge,
-        Outcome::Null => ErrorKind::NullObjectUnimplemented,
-        Outcome::Fill => ErrorKind::FillObjectUnimplemented,
-        Outcome::Unknown(marker) => ErrorKind::UnknownObjectType(marker),
-        Outcome::OutOfRange => ErrorKind::IntegerOutOfRange,
-        Outcome::NoDate => ErrorKind::OverflowOrNanDate,
-        Outcome::NotUtf8 => ErrorKind::InvalidUtf8String,
-        Outcome::NotUtf16 => ErrorKind::InvalidUtf16String,
-        Outcome::Long | Outcome::NoMemory | Outcome::Scalar | Outcome::Collection(_) =>
-            unreachable!(),
-    }
-}
-
-// The fault of the object at a place.
-#[cold]
-#[inline(never)]
-fn object_fault(outcome: Outcome, place: u64) -> Error
-    requires { is_fault outcome ≡ true }
-    ensures refused { (object : Object) (current : PlainEvent) → IsOutcomeOf object current outcome
-        → IsRefusedAs object place result }
-    ensures fault { (end : ℕ) → FailsWithin place end (fault_of result) }
-    ensures failures { (count : ℕ) → CountsIo result count count }
-    ensures small { (current : PlainEvent) → small_outcome outcome current ≡ 0 }
-{
-    match outcome {
-        Outcome::NoMemory => ErrorKind::OutOfMemory.without_position(),
-        _ => fault_kind(outcome).with_byte_offset(place),
-    }
-}
 
 // As many bytes as tell any object but a long text or data: a marker, a length of nine bytes, and
 // sixteen of content.
@@ -128,19 +82,6 @@ fn decode_front<S: Source, C: DecodeCounter>(
     read_front(source, counter, bounds, place, extent, left, slot)
 }
 
-// The fault of the text at a place that is none.
-fn no_text(kind: ContentKind, place: u64) -> Error
-    ensures refused { (object : Object) → Measures kind object None
-        → IsRefusedAs object place result }
-    ensures fault { (end : ℕ) → FailsWithin place end (fault_of result) }
-    ensures failures { (count : ℕ) → CountsIo result count count }
-{
-    match kind {
-        ContentKind::WideText => ErrorKind::InvalidUtf16String.with_byte_offset(place),
-        _ => ErrorKind::InvalidUtf8String.with_byte_offset(place),
-    }
-}
-
 // Refuses the text or data whose content is held, of the object at a place, where it has more than
 // `left` bytes. No memory is taken for it.
 fn weigh<S: Source>(
@@ -206,21 +147,6 @@ fn decode_long<S: Source>(
         }
         Err(error) => Err(slot.refuse(error)),
     }
-}
-
-// Holds the fault of the object at a place.
-#[cold]
-#[inline(never)]
-fn refuse_object(outcome: Outcome, place: u64, slot: &mut EventSlot) -> Refused
-    requires { is_fault outcome ≡ true }
-    ensures refused { (object : Object) (current : PlainEvent) → IsOutcomeOf object current outcome
-        → IsRefusedAs object place slot.new.fault }
-    ensures fault { (end : ℕ) → FailsWithin place end (fault_of slot.new.fault) }
-    ensures failures { (count : ℕ) → CountsIo slot.new.fault count count }
-    ensures small { (current : PlainEvent) → small_outcome outcome current ≡ 0 }
-    ensures held { result ≡ Fault }
-{
-    slot.refuse(object_fault(outcome, place))
 }
 
 /// Tells the object at a place, and counts it where it is small. A text or data of more than `left`

@@ -6,13 +6,14 @@ ghost use Rattle.plist_base.specs.Faults.{LimitReached, ObjectOffsetTooLarge, Ou
 ghost use Rattle.plist_base.specs.declared.limits.Limit.TheVariants.{Bytes};
 ghost use Rattle.plist_base.specs.Trees.{Boolean as BooleanScalar, Integer as IntegerScalar};
 ghost use Rattle.plist_binread.specs.declared.slot.Refused.TheVariants.{Fault};
-ghost use Rattle.plist_binread.specs.declared.front.Outcome.TheVariants.{Scalar as ScalarOutcome};
+ghost use Rattle.plist_binread.specs.declared.object_faults.Outcome.TheVariants.{Scalar as ScalarOutcome};
 ghost use Rattle.plist_format.specs.Object.{signed};
 ghost use Rattle.plist_binread.specs.Packed.{MayWantMemory, cached, is_small_event, single};
 ghost use Rattle.plist_binread.specs.Slot.{answer_in, event_in, compact_event_of, is_in_slot};
 ghost use Rattle.plist_binread.specs.Front.{PacksEvent, DecodesData, DecodesText, DecodesUnits};
 
-use crate::front::{Content, ContentKind, Outcome};
+use crate::front::{Content, ContentKind};
+use crate::object_faults::Outcome;
 use crate::packed::{is_small, pack, pack_bytes, pack_text};
 use plist_base::{Error, ErrorKind, Event, Integer, Limit, OwnedEvent, RealBits, Uid};
 use std::alloc::Global;

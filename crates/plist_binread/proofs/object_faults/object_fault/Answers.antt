@@ -2,7 +2,7 @@ use Rattle.std.proofs.Common.{refl}
 use Rattle.plist_binread.proofs.Contents.{refused_as}
 use Rattle.plist_binread.proofs.Failing.{counts_at, from_fault}
 use Rattle.plist_binread.proofs.Seen.{fault_small}
-use Rattle.plist_binread.proofs.object.object_fault.Goals as goal
+use Rattle.plist_binread.proofs.object_faults.object_fault.Goals as goal
 
 pub returns-in_default : goal.returns-in_default
 returns-in_default c = record {

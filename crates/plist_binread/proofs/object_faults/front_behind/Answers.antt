@@ -1,6 +1,6 @@
 use Rattle.std.proofs.Common.{arith}
 use Rattle.plist_format.proofs.Layouts.{layout-data, layout-text, layout-wide_text, layout-uid, layout-array, layout-dictionary}
-use Rattle.plist_binread.proofs.front.front_behind.Goals as goal
+use Rattle.plist_binread.proofs.object_faults.front_behind.Goals as goal
 
 pub returns-in-16-clause-outcome : goal.returns-in-16-clause-outcome
 returns-in-16-clause-outcome c = rw c.in-16.is c.front_unsigned.ensures.outcome

@@ -1,0 +1,172 @@
+//! What is wrong with an object, and which of its faults is told: that its place doesn't lie before
+//! the trailer (`decode`), else its marker's, else that it doesn't end before the trailer, else its
+//! content's.
+
+ghost use Rattle.std.specs.Prelude.{ℕ, ◌≡◌, ◌<◌, ◌≤◌, length, None, true, ⊤};
+ghost use Rattle.plist_base.specs.Events.{PlainEvent};
+ghost use Rattle.plist_base.specs.Faults.{MatchFault, fault_of, kind_of};
+ghost use Rattle.plist_base.specs.Sources.{CountsIo};
+ghost use Rattle.plist_format.specs.Object.{Faulty, Object};
+ghost use Rattle.plist_binread.specs.Decoding.{IsRefusedAs};
+ghost use Rattle.plist_binread.specs.Failures.{FailsWithin, MatchReader};
+ghost use Rattle.plist_binread.specs.Front.{DecodesWhole, LongBehind, ReachesFar, is_fault, is_wrong};
+ghost use Rattle.plist_binread.specs.Measuring.{Measures};
+ghost use Rattle.plist_binread.specs.Outcome.{IsOutcomeOf, small_outcome};
+ghost use Rattle.plist_binread.specs.Reading.{object_with};
+ghost use Rattle.plist_binread.specs.declared.object_faults.Outcome.TheVariants.{Scalar as ScalarOutcome};
+ghost use Rattle.plist_binread.specs.declared.slot.Refused.TheVariants.{Fault};
+
+use crate::front::{
+    ContentKind, front_array, front_data, front_date, front_dictionary, front_real,
+    front_short_real, front_signed, front_text, front_uid, front_unsigned, front_wide,
+    front_wide_text,
+};
+use crate::slot::{EventSlot, Refused};
+use plist_base::{Error, ErrorKind};
+
+/// What was decoded of the bytes at an object's front, or what is wrong with it.
+///
+/// It is a tag and a number, and no more, since one is made for each item.
+#[derive(Clone, Copy)]
+pub enum Outcome {
+    /// A text or data whose content isn't all seen there, and is held.
+    Long,
+    /// It doesn't end before the trailer.
+    TooLarge,
+    /// It is a null.
+    Null,
+    /// It is a fill byte.
+    Fill,
+    /// No object has this marker.
+    Unknown(u8),
+    /// The number isn't one of 64 bits without sign.
+    OutOfRange,
+    /// It is no date.
+    NoDate,
+    /// The bytes of a text aren't UTF-8.
+    NotUtf8,
+    /// The units of a text aren't UTF-16.
+    NotUtf16,
+    /// No memory was found for a text or data.
+    NoMemory,
+    /// A scalar, which is the current event.
+    Scalar,
+    /// A collection of so many children, whose start is the current event.
+    Collection(u64),
+}
+
+impl Outcome {
+    /// Is it a scalar, which is the current event?
+    pub fn is_scalar(self) -> bool
+        ensures { result ≡ true → self ≡ ScalarOutcome }
+    {
+        matches!(self, Outcome::Scalar)
+    }
+}
+
+/// The object behind a marker, or the first of its faults: the marker's; that it doesn't end before
+/// the trailer; and then that of its content. A text or data of more than `left` bytes isn't all
+/// read, unless it is short.
+pub fn front_behind(
+    marker: u8,
+    rest: &[u8],
+    extent: u64,
+    width: usize,
+    left: u64,
+    slot: &mut EventSlot,
+) -> Outcome
+    requires extent { length rest.now ≤ extent }
+    requires far { ReachesFar extent rest.now }
+    requires width { (0 < width) × (width ≤ 8) }
+    ensures outcome { DecodesWhole extent (object_with width marker) rest.now slot.new result }
+    ensures long { LongBehind marker extent (object_with width marker) rest.now slot.new result }
+{
+    match marker {
+        0x00 => Outcome::Null,
+        0x08 => slot.set_boolean(false),
+        0x09 => slot.set_boolean(true),
+        0x0f => Outcome::Fill,
+        0x10 => front_unsigned(rest, extent, 1, slot),
+        0x11 => front_unsigned(rest, extent, 2, slot),
+        0x12 => front_unsigned(rest, extent, 4, slot),
+        0x13 => front_signed(rest, extent, slot),
+        0x14 => front_wide(rest, extent, slot),
+        0x22 => front_short_real(rest, extent, slot),
+        0x23 => front_real(rest, extent, slot),
+        0x33 => front_date(rest, extent, slot),
+        0x40..=0x4f => front_data(marker, rest, extent, left, slot),
+        0x50..=0x5f => front_text(marker, rest, extent, left, slot),
+        0x60..=0x6f => front_wide_text(marker, rest, extent, slot),
+        0x80..=0x87 => front_uid(rest, extent, usize::from(marker - 0x7f), slot),
+        0xa0..=0xaf => front_array(marker, rest, extent, width, slot),
+        0xd0..=0xdf => front_dictionary(marker, rest, extent, width, slot),
+        other => Outcome::Unknown(other),
+    }
+}
+
+// What is wrong with an object.
+fn fault_kind(outcome: Outcome) -> ErrorKind
+    requires { is_wrong outcome ≡ true }
+    ensures faulty { (object : Object) (current : PlainEvent) → IsOutcomeOf object current outcome
+        → object ≡ Faulty (kind_of result) }
+    ensures inside { MatchFault (kind_of result) ⊥ ⊥ ⊤ }
+    ensures reader { MatchReader (kind_of result) ⊥ ⊥ ⊤ }
+{
+    match outcome {
+        Outcome::TooLarge => ErrorKind::ObjectOffsetTooLarge,
+        Outcome::Null => ErrorKind::NullObjectUnimplemented,
+        Outcome::Fill => ErrorKind::FillObjectUnimplemented,
+        Outcome::Unknown(marker) => ErrorKind::UnknownObjectType(marker),
+        Outcome::OutOfRange => ErrorKind::IntegerOutOfRange,
+        Outcome::NoDate => ErrorKind::OverflowOrNanDate,
+        Outcome::NotUtf8 => ErrorKind::InvalidUtf8String,
+        Outcome::NotUtf16 => ErrorKind::InvalidUtf16String,
+        Outcome::Long | Outcome::NoMemory | Outcome::Scalar | Outcome::Collection(_) =>
+            unreachable!(),
+    }
+}
+
+// The fault of the object at a place.
+#[cold]
+#[inline(never)]
+fn object_fault(outcome: Outcome, place: u64) -> Error
+    requires { is_fault outcome ≡ true }
+    ensures refused { (object : Object) (current : PlainEvent) → IsOutcomeOf object current outcome
+        → IsRefusedAs object place result }
+    ensures fault { (end : ℕ) → FailsWithin place end (fault_of result) }
+    ensures failures { (count : ℕ) → CountsIo result count count }
+    ensures small { (current : PlainEvent) → small_outcome outcome current ≡ 0 }
+{
+    match outcome {
+        Outcome::NoMemory => ErrorKind::OutOfMemory.without_position(),
+        _ => fault_kind(outcome).with_byte_offset(place),
+    }
+}
+
+/// The fault of the text at a place that is none.
+pub fn no_text(kind: ContentKind, place: u64) -> Error
+    ensures refused { (object : Object) → Measures kind object None
+        → IsRefusedAs object place result }
+    ensures fault { (end : ℕ) → FailsWithin place end (fault_of result) }
+    ensures failures { (count : ℕ) → CountsIo result count count }
+{
+    match kind {
+        ContentKind::WideText => ErrorKind::InvalidUtf16String.with_byte_offset(place),
+        _ => ErrorKind::InvalidUtf8String.with_byte_offset(place),
+    }
+}
+
+/// Holds the fault of the object at a place.
+#[cold]
+#[inline(never)]
+pub fn refuse_object(outcome: Outcome, place: u64, slot: &mut EventSlot) -> Refused
+    requires { is_fault outcome ≡ true }
+    ensures refused { (object : Object) (current : PlainEvent) → IsOutcomeOf object current outcome
+        → IsRefusedAs object place slot.new.fault }
+    ensures fault { (end : ℕ) → FailsWithin place end (fault_of slot.new.fault) }
+    ensures failures { (count : ℕ) → CountsIo slot.new.fault count count }
+    ensures small { (current : PlainEvent) → small_outcome outcome current ≡ 0 }
+    ensures held { result ≡ Fault }
+{
+    slot.refuse(object_fault(outcome, place))
+}
