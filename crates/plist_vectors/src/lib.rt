@@ -13,6 +13,8 @@ mod events;
 #[cfg(test)]
 mod faults;
 #[cfg(test)]
+mod interrupted;
+#[cfg(test)]
 mod numbers;
 #[cfg(test)]
 mod reading;

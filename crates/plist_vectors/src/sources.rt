@@ -12,7 +12,7 @@ fn byte_at(place: u32) -> u8 {
     (place % 251) as u8
 }
 
-fn sample(rt: &(impl Abort + AllocGlobal), size: u32) -> Vec<u8> {
+pub(crate) fn sample(rt: &(impl Abort + AllocGlobal), size: u32) -> Vec<u8> {
     let mut bytes = Vec::new(rt.alloc());
     for place in 0..size {
         must(rt, bytes.push(byte_at(place)));
@@ -197,56 +197,6 @@ fn goes_on_after_a_failure(rt: HostRuntime) {
     }
 }
 
-// Asks for the size, for what a short read of a window doesn't reach, and for what is longer than a
-// window. Answers which of the three failed, and the kind of its error.
-fn first_failure<S: Source>(source: &mut S) -> Option<(u64, ErrorKind)> {
-    if let Err(error) = source.size() {
-        return Some((0, error.kind()));
-    }
-    if let Err(error) = source.read_at(150, &mut [0; 3]) {
-        return Some((1, error.kind()));
-    }
-    match source.read_at(12_000, &mut [0; 9_000]) {
-        Ok(_) => None,
-        Err(error) => Some((2, error.kind())),
-    }
-}
-
-// The same over a disk that fails at this call in this way, with the number of its calls.
-fn failure_of_disk(
-    rt: &(impl Abort + AllocGlobal),
-    call: u64,
-    kind: ErrorKind,
-) -> (Option<(u64, ErrorKind)>, u64) {
-    let mut disk = Disk::new(sample(rt, 25_000), call);
-    disk.most = 100;
-    disk.kind = kind;
-    let found = first_failure(&mut Seeking::with_windows(rt.alloc(), &mut disk));
-    (found, disk.calls)
-}
-
-const KINDS: [ErrorKind; 5] = [
-    ErrorKind::Interrupted,
-    ErrorKind::WouldBlock,
-    ErrorKind::PermissionDenied,
-    ErrorKind::UnexpectedEof,
-    ErrorKind::Other,
-];
-
-// The size is one seek. A window is a seek and a read, and so is what lies past it, and what is
-// longer. What fails of that is told as it is, and nothing is tried again.
-#[test]
-fn tries_nothing_twice(rt: HostRuntime) {
-    for kind in KINDS {
-        for (call, asked) in [(0, 0), (1, 1), (2, 1), (3, 1), (4, 1), (5, 2), (6, 2)] {
-            let (found, calls) = failure_of_disk(&rt, call, kind);
-            assert_eq!(rt; found, Some((asked, kind)), "at call {call}");
-            assert_eq!(rt; calls, call.saturating_add(1));
-        }
-        assert_eq!(rt; failure_of_disk(&rt, 7, kind), (None, 7));
-    }
-}
-
 // The items of a file of seven events that gives a byte a read and fails at this call, with the
 // offset of `Io` left out. Tells whether it failed.
 fn expect_items_of_disk(rt: &(impl Abort + AllocGlobal), windows: bool, call: u64) -> bool {
@@ -330,21 +280,6 @@ fn a_failed_read_takes_nothing(rt: HostRuntime) {
     let device = reader.into_inner();
     assert_eq!(rt; device.calls, 3);
     assert_eq!(rt; device.place, 1);
-}
-
-// Four bytes of ten are read from place 2 on, one a call. A failure is that of its own place, with
-// the device's error, and isn't tried again.
-#[test]
-fn a_failed_read_has_its_place(rt: HostRuntime) {
-    for call in 0..4 {
-        let mut device = Device::new(sample(&rt, 10), call);
-        let answer = read_exact_at(&mut device, 2, &mut [0; 4]);
-        must(
-            &rt,
-            expect_io(answer, ErrorKind::Interrupted, Some(call + 2)),
-        );
-        assert_eq!(rt; device.calls, call + 1);
-    }
 }
 
 // The bytes end where a read gives none.
