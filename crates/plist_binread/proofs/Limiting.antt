@@ -1,19 +1,18 @@
 -- What limits make of one call.
 use Rattle.std.proofs.lemmas.Bool.Decides.{nat_tests}
-use Rattle.std.proofs.Common.{◌≡◌, ℕ, ◌-◌, ◌^◌, ◌<◌, Bool, true, false, cond, List, [], ◌∷◌, length, Option, None, Some, Ok, Err, IfSome, MatchBool, refl, sym, ap, ◌∙◌, arith}
-use Rattle.std.specs.Prelude.{not, ◌&&◌, nat_lt}
+use Rattle.std.proofs.Common.{◌≡◌, ℕ, ◌-◌, ◌^◌, ◌<◌, Bool, true, false, List, [], ◌∷◌, length, Option, None, Some, Ok, Err, IfSome, MatchBool, refl, sym, ap, ◌∙◌, arith}
+use Rattle.std.specs.Prelude.{nat_lt}
 use Rattle.std.specs.Option.{is_some}
 use Rattle.plist_base.specs.declared.error.Error.{Error}
 use Rattle.plist_base.specs.declared.limits.Limit.{Limit}
 use Rattle.plist_base.specs.declared.limits.Limit.TheVariants as limit
 use Rattle.plist_base.specs.declared.limits.Limiter.{Limiter}
 use Rattle.plist_base.specs.declared.limits.Limits.{Limits}
-use Rattle.plist_base.specs.Events.{PlainEvent, Item, StartArray, StartDictionary, EndCollection, Single}
+use Rattle.plist_base.specs.Events.{PlainEvent, Item, StartArray, StartDictionary, Single}
 use Rattle.plist_base.specs.Trees.{Data, String}
 use Rattle.plist_base.specs.Faults.{FaultKind, Fault, LimitReached, MatchFault, OutOfMemory, fault_of, fault_nowhere, kind_of, error_kind_of}
-use Rattle.plist_base.specs.Limits.{AdmitsAny, RefusesAny, bytes_in, event_or_limit, is_too_long, left_or_all, limit_at, under, under_any}
+use Rattle.plist_base.specs.Limits.{AdmitsAny, RefusesAny, bytes_in, event_or_limit, left_or_all, limit_at, under_any}
 use Rattle.plist_base.specs.Sources.{CountsIo, IsPlaceWithin}
-use Rattle.plist_binread.specs.BinaryReader.{admits_more_in}
 use Rattle.plist_binread.specs.Lengths.{BeginsTooLong, left_under}
 use Rattle.plist_binread.specs.Advancing.{GivesCurrent}
 use Rattle.plist_binread.proofs.OverKnown.{IfSome-both}
@@ -225,38 +224,3 @@ pub limit-counts : (error held : Error) (old now : ℕ)
 limit-counts error held old now is want h =
     let kind = ap (λ (f : Fault). f.kind) want in
     limit-refused _ limit.Bytes _ _ _ (ap (λ (f : Fault). f.kind) is) (rw kind at h)
-
--- ---- an end that comes
-
-both : (a b : Bool) → (a && b) ≡ true → (a ≡ true) × (b ≡ true)
-both true true h = (refl, refl)
-both true false h = let no : false ≡ true → (true ≡ true) × (false ≡ true) = λ q. cc in no h
-both false b h = let no : false ≡ true → (false ≡ true) × (b ≡ true) = λ q. cc in no h
-
-never-long : (left : Option ℕ) → is_too_long left EndCollection ≡ false
-never-long None = refl
-never-long (Some left) = grind (arith, nat_tests)
-
-end-passes : (t b : Bool) (behind : List Item) (fault : Fault) → t ≡ false → not b ≡ true
-    → event_or_limit (cond t (Some limit.Bytes) (cond b (Some limit.Items) None)) EndCollection
-    behind ≡ Err fault ∷ [] → ⊥
-end-passes true b behind fault never h e = let no : true ≡ false → ⊥ = λ q. cc in no never
-end-passes false true behind fault never h e = let no : false ≡ true → ⊥ = λ q. cc in no h
-end-passes false false behind fault never h e =
-    let no : ◌≡◌ {A = List Item} (Ok EndCollection ∷ behind) (Err fault ∷ []) → ⊥ = λ q. cc in no e
-
--- an end is refused only where no event may come
-pub refused-closes : (limiter : Option Limiter) (closing : Bool) (current : PlainEvent)
-    (fault : Fault)
-    → RefusesAny limiter current fault → (closing ≡ true → current ≡ EndCollection)
-    → (admits_more_in limiter && closing) ≡ true → ⊥
-refused-closes None closing current fault r w h = absurd r
-refused-closes (Some limiter) closing current fault r w h =
-    let two = both _ _ h in
-    end-passes _ _ [] fault (never-long limiter.left) two.0
-    (ap (λ e. under limiter (Ok e ∷ [])) (sym (w two.1)) ∙ r.2 [])
-
--- the end comes where the walk's comes
-pub walk-closes : (limiter : Option Limiter) (closing : Bool)
-    → (admits_more_in limiter && closing) ≡ true → closing ≡ true
-walk-closes limiter closing h = (both _ _ h).1

@@ -17,18 +17,18 @@ use Rattle.plist_binread.specs.Beginning.{GivesRoot, IsBounded, IsKnownWalk, Kee
 use Rattle.plist_binread.specs.BinaryReader.{objects_in_head}
 use Rattle.plist_binread.specs.Remaining.{AreBoundsOf, IsKnown, entries_of, next_number, remaining_items, steps_left, remaining_now, walk_steps, walk_weight}
 use Rattle.plist_binread.specs.Failures.{ErrWithin, ItemGivenWithin, ItemWithin}
-use Rattle.plist_binread.specs.Outcome.{IsCurrentEnd, YieldsNext}
+use Rattle.plist_binread.specs.Outcome.{YieldsNext}
 use Rattle.plist_binread.specs.Step.{KeepsItem, LightensNext}
 use Rattle.plist_binread.specs.Advancing.{GivesCurrent, WalksIn}
 use Rattle.plist_binread.specs.declared.slot.EventSlot.{EventSlot}
 use Rattle.plist_binread.specs.declared.slot.Refused.{Refused}
 use Rattle.plist_binread.specs.Slot.{AnswersIn, ItemAnswersIn, answer_in, event_in, item_in}
-use Rattle.plist_binread.specs.Turns.{IsCurrentCached, closes, is_fresh, is_walking, upcoming_number, root_with, state_after}
-use Rattle.plist_binread.specs.Walking.{cached_in, open_in, remaining_in, walk_objects, weight_in}
+use Rattle.plist_binread.specs.Turns.{IsCurrentCached, is_fresh, is_walking, upcoming_number, root_with, state_after}
+use Rattle.plist_binread.specs.Walking.{cached_in, remaining_in, walk_objects, weight_in}
 use Rattle.plist_binread.proofs.Failing.{from_within}
 use Rattle.plist_binread.proofs.Limiting.{given-within}
 use Rattle.plist_binread.proofs.Steps.{fresh_falls}
-use Rattle.plist_binread.proofs.Taken.{closes-fresh, holds_head, left_behind}
+use Rattle.plist_binread.proofs.Taken.{holds_head, left_behind}
 use Rattle.std.proofs.lemmas.Option.{IfSome_then}
 
 -- ---- the state
@@ -191,12 +191,6 @@ ok_in : (noted : Result (Unit {0}) Refused) (slot : EventSlot) (P : Type 0) → 
 ok_in (Ok value) slot P h = h
 ok_in (Err refused) slot P h = tt
 
-end_in : (noted : Noted) (slot : EventSlot) (current : PlainEvent) → IsCurrentEnd noted current
-    → IsCurrentEnd (item_in noted slot) current
-end_in None slot current h = h
-end_in (Some (Ok value)) slot current h = h
-end_in (Some (Err refused)) slot current h = absurd h
-
 falls_in : (noted : Noted) (slot : EventSlot) (P Q : Type 0) → IfSome noted (λ answer. P
     × OnOk answer Q)
     → IfSome (item_in noted slot) (λ answer. P × OnOk answer Q)
@@ -233,7 +227,6 @@ module _ {R C : Type 0} {g : Ghosts R} {h : CounterGhosts C} (known : R → Opti
         ends = ends_after (Some answer) new.state after;
         begun = never_fresh (Some answer) new.state after;
         faults = given_within (Some answer) (2 ^ 64) (omega arith) within;
-        closes = λ e. absurd (closes-fresh old.state old.walk.frames fresh e);
         head = holds_walking (known old.source) new.bounds new.walk.tags.items new.walk.contents.items
             (reverse new.walk.frames) (is_walking new.state ≡ true)
             (walks_on_ok answer new.state _ after (ok_in noted new.slot _ held));
@@ -249,7 +242,6 @@ module _ {R C : Type 0} {g : Ghosts R} {h : CounterGhosts C} (known : R → Opti
   pub item_walks : (noted : Noted) → old.state ≡ Walking → new.state ≡ state_after noted
       → IfSome (known old.source) (λ bytes. YieldsNext (remaining_in bytes old.bounds old.walk)
       (item_in noted new.slot) (event_in new.slot) (remaining_in bytes new.bounds new.walk))
-      → (closes (open_in old.walk) ≡ true → IsCurrentEnd noted (event_in new.slot))
       → ItemWithin 0 old.bounds.trailer (item_in noted new.slot)
       → walk_objects new.walk ≡ walk_objects old.walk
       → IfSome (known old.source) (IsBounded old.walk)
@@ -258,7 +250,7 @@ module _ {R C : Type 0} {g : Ghosts R} {h : CounterGhosts C} (known : R → Opti
       → LightensNext old.walk noted new.walk
       → ItemAnswersIn failed noted new.slot old.source new.source
       → WalksIn known failed counts count old noted new
-  item_walks noted walking is yields ends within size bounded held kept falls failures =
+  item_walks noted walking is yields within size bounded held kept falls failures =
       let item = item_in noted new.slot in
       let after = after_in noted new.slot new.state is in
       record {
@@ -270,7 +262,6 @@ module _ {R C : Type 0} {g : Ghosts R} {h : CounterGhosts C} (known : R → Opti
         ends = ends_after item new.state after;
         begun = never_fresh item new.state after;
         faults = given_within item old.bounds.trailer (omega (arith, old.bounds.small)) within;
-        closes = λ e. end_in noted new.slot _ (ends (rw walking at e));
         head = holds_head (known old.source) new.bounds new.walk.tags.items new.walk.contents.items
             (reverse new.walk.frames) (is_walking new.state ≡ true) held;
         cached = item_kept old.state new.walk.tags.items (event_in new.slot) (known old.source)

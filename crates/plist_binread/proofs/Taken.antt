@@ -8,12 +8,12 @@ use Rattle.plist_binread.specs.declared.frames.Frame.{Frame}
 use Rattle.plist_binread.specs.declared.counter.DecodeCounter.{Ghosts as CounterGhosts}
 use Rattle.plist_binread.specs.declared.reader.BinaryReader.{BinaryReader}
 use Rattle.plist_binread.specs.declared.reader.WalkState.{WalkState}
-use Rattle.plist_binread.specs.declared.reader.WalkState.TheVariants.{Fresh, Ended}
+use Rattle.plist_binread.specs.declared.reader.WalkState.TheVariants.{Ended}
 use Rattle.plist_binread.specs.declared.head.Bounds.{Bounds}
 use Rattle.plist_format.specs.Container.{head_of}
 use Rattle.plist_binread.specs.BinaryReader.{GivesBinaryItem, AreListsWithin, Leaves}
 use Rattle.plist_binread.specs.Remaining.{IsOpen, IsKnown, cached_count, AreBoundsOf, places_of, remaining_now}
-use Rattle.plist_binread.specs.Turns.{IsCurrentCached, is_fresh, is_walking, ends_next}
+use Rattle.plist_binread.specs.Turns.{IsCurrentCached, is_fresh, is_walking}
 use Rattle.plist_binread.proofs.Opened.{IsOpen-length}
 use Rattle.std.proofs.lemmas.Option.{IfSome_then}
 use Rattle.plist_binread.proofs.OverKnown.{IfSome-all}
@@ -77,17 +77,6 @@ pub nothing_ended : (known : Option (List ℕ)) (bounds : Bounds) (fs : List Fra
     (remaining_now bytes Ended bounds fs) None
     (remaining_now bytes Ended bounds fs))
 nothing_ended known bounds fs = IfSome-all known (λ bytes. (refl, refl))
-
--- no end comes first, or after the last item
-pub closes-fresh : (state : WalkState) (fs : List Frame) → state ≡ Fresh
-    → ends_next state fs ≡ true → ⊥
-closes-fresh state fs is e =
-    let no = ap (λ s. ends_next s fs) is in absurd (cc)
-
-pub closes-ended : (state : WalkState) (fs : List Frame) → state ≡ Ended
-    → ends_next state fs ≡ true → ⊥
-closes-ended state fs is e =
-    let no = ap (λ s. ends_next s fs) is in absurd (cc)
 
 pub walking-ended : (state : WalkState) → state ≡ Ended → is_walking state ≡ true → ⊥
 walking-ended state is e = let no = ap is_walking is in absurd (cc)

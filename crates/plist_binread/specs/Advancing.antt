@@ -1,5 +1,5 @@
 -- What one call of a reader's `advance` does, and the current event.
-use Rattle.std.specs.Prelude.{◌≡◌, ℕ, ◌^◌, ◌<◌, Bool, true, false, List, Option, None, Result, IfSome}
+use Rattle.std.specs.Prelude.{◌≡◌, ℕ, ◌^◌, ◌<◌, Bool, false, List, Option, None, Result, IfSome}
 use Rattle.plist_base.specs.declared.error.Error.{Error}
 use Rattle.plist_base.specs.declared.source.Source.{Ghosts}
 use Rattle.plist_base.specs.Events.{PlainEvent, Item}
@@ -8,13 +8,12 @@ use Rattle.plist_binread.specs.Failures.{ItemGivenWithin}
 use Rattle.plist_binread.specs.declared.reader.BinaryReader.{BinaryReader}
 use Rattle.plist_binread.specs.declared.counter.DecodeCounter.{Ghosts as CounterGhosts}
 use Rattle.plist_binread.specs.Lengths.{BeginsTooLong, RefusesLong, left_under}
-use Rattle.plist_binread.specs.Outcome.{IsCurrentEnd}
 use Rattle.plist_binread.specs.Slot.{event_in, compact_event_of, item_in}
 use Rattle.plist_binread.specs.declared.slot.Refused.{Refused}
 use Rattle.plist_binread.specs.declared.slot.CompactEvent.{CompactEvent}
 use Rattle.std.specs.String.{string_bytes}
 use Rattle.plist_binread.specs.Turns.{IsCurrentCached}
-use Rattle.plist_binread.specs.BinaryReader.{EndsAfterFault, GivesAs, HasEndedBinary, HoldsHead, KeepsCounts, Leaves, end_comes, has_limits, is_new, number_to_come, binary_source, binary_steps, items_to_come, walk_closes, walk_to_come}
+use Rattle.plist_binread.specs.BinaryReader.{EndsAfterFault, GivesAs, HasEndedBinary, HoldsHead, KeepsCounts, Leaves, has_limits, is_new, number_to_come, binary_source, binary_steps, items_to_come, walk_to_come}
 
 module _ {R C : Type 0} {g : Ghosts R} {h : CounterGhosts C} where
   -- the current event
@@ -43,11 +42,11 @@ abbrev pub CachesCurrent : {A R C : Type 0} {g : Ghosts R} {h : CounterGhosts C}
 CachesCurrent number item reader = IsCurrentCached number item
     (current_event reader) reader.walk.tags.items
 
--- one call of `advance`: as one of `next`, of the current event. What is to come, whether an
--- end comes next and whether there are limits are words of the reader's.
+-- one call of `advance`: as one of `next`, of the current event. What is to come, and
+-- whether there are limits, are words of the reader's.
 pub record AdvancesBy {A R C : Type 0} {g : Ghosts R} {h : CounterGhosts C}
     (coming : List ℕ → BinaryReader R C g h → List Item)
-    (closing limited : BinaryReader R C g h → Bool) (known : R → Option (List ℕ)) (failed : R → ℕ)
+    (limited : BinaryReader R C g h → Bool) (known : R → Option (List ℕ)) (failed : R → ℕ)
     (counts : Type 0) (count : C → ℕ) (old : BinaryReader R C g h) (item : Option (Result A Error))
     (new : BinaryReader R C g h) : Type 0 where
   pub unchanged : known (binary_source new) ≡ known (binary_source old)
@@ -59,7 +58,6 @@ pub record AdvancesBy {A R C : Type 0} {g : Ghosts R} {h : CounterGhosts C}
   pub ends : EndsAfterFault item new
   pub begun : is_new new ≡ false
   pub faults : ItemGivenWithin 0 (2 ^ 64) (limited old) item
-  pub closes : closing old ≡ true → IsCurrentEnd item (current_event new)
   pub head : IfSome (known (binary_source old)) (λ bytes. HoldsHead bytes new)
   pub cached : IfSome (known (binary_source old))
       (λ bytes. CachesCurrent (number_to_come bytes old) item new)
@@ -79,13 +77,13 @@ module _ {R C : Type 0} {g : Ghosts R} {h : CounterGhosts C} (known : R → Opti
     (failed : R → ℕ) (counts : Type 0) (count : C → ℕ) (old : BinaryReader R C g h) where
   abbrev pub Advances : {A : Type 0} → Option (Result A Error) → (new : BinaryReader R C g h)
       → Type 0
-  Advances item new = AdvancesBy items_to_come end_comes has_limits known failed counts count old
+  Advances item new = AdvancesBy items_to_come has_limits known failed counts count old
       item new
 
   -- the same of the walk that knows no limits
   abbrev pub Walks : {A : Type 0} → Option (Result A Error) → (new : BinaryReader R C g h) → Type 0
   Walks item new =
-      AdvancesBy walk_to_come walk_closes (λ _. false) known failed counts count old item new
+      AdvancesBy walk_to_come (λ _. false) known failed counts count old item new
 
   -- the same where the error is held
   abbrev pub AdvancesIn : {A : Type 0} → Option (Result A Refused) → (new : BinaryReader R C g h)

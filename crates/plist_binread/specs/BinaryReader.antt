@@ -1,8 +1,7 @@
 -- What contracts see of a reader: the items that it has still to give, and how much it holds open.
-use Rattle.std.specs.Prelude.{◌≡◌, ℕ, ◌^◌, ◌≤◌, Bool, true, false, ◌&&◌, List, [], ◌∷◌, length, reverse, Option, None, Some, Result, Ok, Err, MatchBool, MatchOption, MatchResult, OnErr, IfSome}
+use Rattle.std.specs.Prelude.{◌≡◌, ℕ, ◌^◌, ◌≤◌, Bool, true, false, List, [], ◌∷◌, length, reverse, Option, None, Result, Ok, Err, MatchBool, MatchOption, MatchResult, OnErr, IfSome}
 use Rattle.plist_base.specs.declared.error.Error.{Error}
 use Rattle.plist_base.specs.declared.event.Event.{Event}
-use Rattle.plist_base.specs.declared.event.Event.TheVariants.{EndCollection}
 use Rattle.plist_base.specs.declared.source.Source.{Ghosts}
 use Rattle.plist_base.specs.Faults.{MatchFault, kind_of, error_kind_of, fault_of}
 use Rattle.plist_base.specs.Events.{PlainEvent, Item, event_of}
@@ -10,7 +9,7 @@ use Rattle.plist_base.specs.Sources.{ItemCountsIo}
 use Rattle.plist_format.specs.Container.{head_of}
 use Rattle.std.specs.Option.{is_some}
 use Rattle.plist_base.specs.declared.limits.Limiter.{Limiter}
-use Rattle.plist_base.specs.Limits.{admits_more, limited_items, under_any}
+use Rattle.plist_base.specs.Limits.{limited_items, under_any}
 use Rattle.plist_base.specs.declared.limits.Limits.{Limits}
 use Rattle.plist_format.specs.Unfolding.{items_of_file}
 use Rattle.plist_binread.specs.Failures.{ItemGivenWithin}
@@ -19,12 +18,7 @@ use Rattle.plist_binread.specs.declared.reader.WalkState.TheVariants.{Ended}
 use Rattle.plist_binread.specs.declared.frames.Frame.{Frame}
 use Rattle.plist_binread.specs.declared.counter.DecodeCounter.{Ghosts as CounterGhosts}
 use Rattle.plist_binread.specs.Remaining.{IsOpen, remaining_now, cached_count, places_of, AreBoundsOf, SomeRemain, WantsMemory, steps_left}
-use Rattle.plist_binread.specs.Turns.{upcoming_number, IsCachedIfSmall, is_fresh, is_walking, ends_next}
-
--- may one more event come?
-abbrev pub admits_more_in : Option Limiter → Bool
-admits_more_in None = true
-admits_more_in (Some limiter) = admits_more limiter
+use Rattle.plist_binread.specs.Turns.{upcoming_number, IsCachedIfSmall, is_fresh, is_walking}
 
 -- how many objects the head of these bytes counts
 abbrev pub objects_in_head : List ℕ → ℕ
@@ -86,15 +80,6 @@ module _ {R C : Type 0} {g : Ghosts R} {h : CounterGhosts C} where
   -- how many collections are open
   abbrev pub open_collections : BinaryReader R C g h → ℕ
   open_collections reader = length reader.walk.frames
-
-  -- does the end of the innermost collection come next, none of whose children is left, were there
-  -- no limits?
-  abbrev pub walk_closes : BinaryReader R C g h → Bool
-  walk_closes reader = ends_next reader.state reader.walk.frames
-
-  -- does that end come next?
-  abbrev pub end_comes : BinaryReader R C g h → Bool
-  end_comes reader = admits_more_in reader.limiter && walk_closes reader
 
   -- how many objects the file has, as far as that has been read
   abbrev pub objects_in_file : BinaryReader R C g h → ℕ
@@ -176,7 +161,6 @@ pub record GivesBinary {R C : Type 0} {g : Ghosts R} {h : CounterGhosts C} (know
   pub ends : EndsAfterFault item new
   pub begun : is_new new ≡ false
   pub faults : ItemGivenWithin 0 (2 ^ 64) (has_limits old) item
-  pub closes : end_comes old ≡ true → item ≡ Some (Ok EndCollection)
   pub head : IfSome (known (binary_source old)) (λ bytes. HoldsHead bytes new)
   pub cached : IfSome (known (binary_source old))
       (λ bytes. CachesItem (number_to_come bytes old) item new)

@@ -60,10 +60,6 @@ closes [] = false
 closes (frame ∷ below) = not (nat_lt frame.next frame.count)
 
 -- does an end come next?
-abbrev pub ends_next : WalkState → List Frame → Bool
-ends_next Fresh frames = false
-ends_next Walking frames = closes (reverse frames)
-ends_next Ended frames = false
 
 -- ---- what is looked up and read
 

@@ -1,6 +1,6 @@
 use Rattle.std.proofs.Common.{refl, None, Some}
 use Rattle.plist_binread.specs.Slot.{event_in}
-use Rattle.plist_binread.proofs.Taken.{closes-ended, walking-ended, holds_none, left_behind, nothing_ended, kept_end}
+use Rattle.plist_binread.proofs.Taken.{walking-ended, holds_none, left_behind, nothing_ended, kept_end}
 use Rattle.plist_binread.proofs.Children.{known_no_references}
 use Rattle.plist_binread.proofs.Stepped.{first_walks, item_walks, not_fresh, walks_on_ok}
 use Rattle.plist_binread.proofs.reader.BinaryReader.step.Goals as goal
@@ -15,7 +15,6 @@ returns-in-Ended-clause-walks g c = record {
   ends = c.in-Ended.is;
   begun = rw c.in-Ended.is refl;
   faults = tt;
-  closes = λ e. (let f = c.in-Ended.is in absurd (closes-ended _ _ f e));
   head = holds_none _ c.args.self.now.bounds c.args.self.now.walk.tags.items _
       (λ w. walking-ended _ c.in-Ended.is w);
   cached = rw c.in-Ended.is (kept_end _ (λ bytes. None) c.args.self.now.walk.tags.items
@@ -37,8 +36,7 @@ pub returns-in-Walking-clause-walks : goal.returns-in-Walking-clause-walks
 returns-in-Walking-clause-walks g c =
     item_walks _ _ _ _ c.args.self.now _ c.advance-item.ensures.unchanged c.advance-item.ensures.counted refl
     c.advance-item.result c.in-Walking.is c.state_after-self-in-Walking.ensures c.advance-item.ensures.yields
-    c.advance-item.ensures.closes c.advance-item.ensures.fault c.advance-item.ensures.size
-    c.args.self.now.bounded c.advance-item.ensures.known c.advance-item.ensures.kept
+    c.advance-item.ensures.fault c.advance-item.ensures.size c.args.self.now.bounded c.advance-item.ensures.known c.advance-item.ensures.kept
     c.advance-item.ensures.falls c.advance-item.ensures.failures
 
 pub invariant_of-self : goal.invariant_of-self

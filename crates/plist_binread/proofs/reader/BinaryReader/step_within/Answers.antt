@@ -3,9 +3,9 @@ use Rattle.plist_base.specs.declared.limits.Limit.TheVariants as limit
 use Rattle.plist_base.specs.Faults.{fault_of}
 use Rattle.plist_base.specs.Limits.{AdmitsAny, RefusesAny}
 use Rattle.plist_base.specs.Sources.{Rises}
-use Rattle.plist_binread.specs.BinaryReader.{has_limits, is_new, number_to_come, binary_source, walk_closes, walk_to_come}
+use Rattle.plist_binread.specs.BinaryReader.{has_limits, is_new, number_to_come, binary_source, walk_to_come}
 use Rattle.plist_binread.specs.Slot.{event_in}
-use Rattle.plist_binread.proofs.Limiting.{event-current, fault-current, limit-counts, limit-given, limit-current, limited-below, long-current, none-current, refused-closes, refused-given, refused-other, still-given, walk-closes}
+use Rattle.plist_binread.proofs.Limiting.{event-current, fault-current, limit-counts, limit-given, limit-current, limited-below, long-current, none-current, refused-given, refused-other, still-given}
 use Rattle.plist_binread.proofs.Taken.{holds_none, kept_fault}
 use Rattle.plist_binread.proofs.reader.BinaryReader.step_within.Goals as goal
 
@@ -21,10 +21,9 @@ returns-in-Ok g c =
     let items = event-current (is_new old) current (g.R.Source.known (binary_source old))
     old.limiter c.admit.new.limiter (λ bytes. walk_to_come bytes old)
     (λ bytes. walk_to_come bytes mid) tt admitted (rw (← same) at w.items) in
-    let closes = rw (← same) at w.closes in
     let cached = rw (← same) at w.cached in
     let limited = c.admit.ensures.limited ∙ w.kept.0 in
-    search (w, closes, items, cached, limited, walk-closes old.limiter (walk_closes old))
+    search (w, items, cached, limited)
 
 pub returns-in-Err : goal.returns-in-Err
 returns-in-Err g c =
@@ -49,8 +48,6 @@ returns-in-Err g c =
       ends = refl;
       begun = refl;
       faults = refused-given 0 (2 ^ 64) old.limiter (event_in mid.slot) fault r;
-      closes = λ h. absurd (refused-closes old.limiter (walk_closes old) (event_in mid.slot) fault r
-          (λ e. w.closes e) h);
       head = holds_none _ mid.bounds mid.walk.tags.items _ (λ v. absurd (cc));
       cached = kept_fault _ (λ bytes. number_to_come bytes old) mid.walk.tags.items
           c.admit.new.slot.fault (event_in c.admit.new.slot);
@@ -75,9 +72,7 @@ returns-in-Some-Err-Fault g c =
     new.slot.fault w.items in
     search (
       w,
-      w.closes,
       items,
-      walk-closes old.limiter (walk_closes old),
       still-given 0 (2 ^ 64) (has_limits old) (fault_of new.slot.fault) w.faults,
     )
 
@@ -101,7 +96,6 @@ returns-in-Some-Err-TooLong g c =
       begun = w.begun;
       faults = limit-given 0 (2 ^ 64) (has_limits old) (fault_of error) limit.Bytes
           (limited-below old.limiter long.1) c.refuse_limit.ensures.fault;
-      closes = λ h. absurd (w.closes (walk-closes old.limiter (walk_closes old) h));
       head = w.head;
       cached = kept_fault _ (λ bytes. number_to_come bytes old) mid.walk.tags.items error
           (event_in c.refuse_limit.new.self);
@@ -123,4 +117,4 @@ returns-in-None g c =
     let items = none-current (is_new old) (event_in new.slot) (g.R.Source.known (binary_source old))
     old.limiter new.limiter (λ bytes. walk_to_come bytes old) (λ bytes. walk_to_come bytes new)
     w.items in
-    search (w, w.closes, items, walk-closes old.limiter (walk_closes old))
+    search (w, items)
