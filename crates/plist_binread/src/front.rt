@@ -401,7 +401,17 @@ fn is_small_outcome(outcome: Outcome, slot: &EventSlot) -> bool
 {
     match outcome {
         Outcome::Scalar => slot.is_small(),
-        _ => false,
+        Outcome::Long
+        | Outcome::TooLarge
+        | Outcome::Null
+        | Outcome::Fill
+        | Outcome::Unknown(_)
+        | Outcome::OutOfRange
+        | Outcome::NoDate
+        | Outcome::NotUtf8
+        | Outcome::NotUtf16
+        | Outcome::NoMemory
+        | Outcome::Collection(_) => false,
     }
 }
 

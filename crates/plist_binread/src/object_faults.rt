@@ -137,10 +137,10 @@ fn object_fault(outcome: Outcome, place: u64) -> Error
     ensures failures { (count : ℕ) → CountsIo result count count }
     ensures small { (current : PlainEvent) → small_outcome outcome current ≡ 0 }
 {
-    match outcome {
-        Outcome::NoMemory => ErrorKind::OutOfMemory.without_position(),
-        _ => fault_kind(outcome).with_byte_offset(place),
+    if let Outcome::NoMemory = outcome {
+        return ErrorKind::OutOfMemory.without_position();
     }
+    fault_kind(outcome).with_byte_offset(place)
 }
 
 /// The fault of the text at a place that is none.
@@ -152,7 +152,9 @@ pub fn no_text(kind: ContentKind, place: u64) -> Error
 {
     match kind {
         ContentKind::WideText => ErrorKind::InvalidUtf16String.with_byte_offset(place),
-        _ => ErrorKind::InvalidUtf8String.with_byte_offset(place),
+        ContentKind::Text | ContentKind::Data => {
+            ErrorKind::InvalidUtf8String.with_byte_offset(place)
+        }
     }
 }
 

@@ -4,8 +4,8 @@ use Rattle.plist_binread.proofs.Failing.{counts_at, from_fault}
 use Rattle.plist_binread.proofs.Seen.{fault_small}
 use Rattle.plist_binread.proofs.object_faults.object_fault.Goals as goal
 
-pub returns-in_default : goal.returns-in_default
-returns-in_default c = record {
+pub returns : goal.returns
+returns c = record {
   refused = λ object current outcome. refused_as object c.args.place _ _ c.with_byte_offset.ensures.fault
       c.fault_kind.ensures.inside (c.fault_kind.ensures.faulty object current outcome);
   fault = λ end. from_fault _ _ _ c.args.place end c.with_byte_offset.ensures.fault
