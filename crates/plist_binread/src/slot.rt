@@ -14,7 +14,7 @@ ghost use Rattle.plist_binread.specs.Front.{PacksEvent, DecodesData, DecodesText
 
 use crate::front::{Content, ContentKind};
 use crate::object_faults::Outcome;
-use crate::packed::{is_small, pack, pack_bytes, pack_text};
+use crate::packed::{is_small, pack};
 use plist_base::{Error, ErrorKind, Event, Integer, Limit, OwnedEvent, RealBits, Uid};
 use std::alloc::Global;
 use std::borrow::{CowSlice, CowStr};
@@ -305,13 +305,7 @@ impl EventSlot {
     pub fn is_small(&self) -> bool
         ensures { result ≡ is_small_event (event_in self.now) }
     {
-        match self.current {
-            CompactEvent::Boolean(_) | CompactEvent::Unsigned(_) | CompactEvent::Uid(_) => true,
-            CompactEvent::Text => self.text.as_str().len() <= 8,
-            CompactEvent::Data => self.data.len() <= 8,
-            CompactEvent::Other => is_small(&self.held),
-            CompactEvent::Array(_) | CompactEvent::Dictionary(_) | CompactEvent::End => false,
-        }
+        is_small(&self.lend())
     }
 
     /// The tag and the content of a scalar, if it is small enough.
@@ -320,16 +314,7 @@ impl EventSlot {
         ensures small { IfSome result (λ packed. is_small_event (event_in self.now) ≡ true) }
         ensures tag { IfSome result (λ packed. (0 < packed.0) × (packed.0 < 128)) }
     {
-        match self.current {
-            CompactEvent::Boolean(false) => Some((1, 0)),
-            CompactEvent::Boolean(true) => Some((2, 0)),
-            CompactEvent::Unsigned(number) => Some((3, number)),
-            CompactEvent::Uid(number) => Some((7, number)),
-            CompactEvent::Array(_) | CompactEvent::Dictionary(_) | CompactEvent::End => None,
-            CompactEvent::Other => pack(&self.held),
-            CompactEvent::Text => pack_text(self.text.as_str()),
-            CompactEvent::Data => pack_bytes(8, self.data.as_slice()),
-        }
+        pack(&self.lend())
     }
 
     /// Unpacks the scalar of a tag and a content, if they hold one and there is memory for it.
