@@ -7,20 +7,22 @@ use Rattle.std.proofs.Math.ListN.{length-replicate}
 use Rattle.plist_base.specs.declared.error.Error.{Error}
 use Rattle.plist_base.specs.Faults.{Fault, OutOfMemory, MatchFault, fault_nowhere, kind_of, error_kind_of, fault_of}
 use Rattle.plist_base.specs.Events.{PlainEvent, Item}
-use Rattle.plist_base.proofs.Refusals.{MatchFault-at, MatchFault-weaker}
+use Rattle.plist_base.proofs.Refusals.{MatchFault-all, MatchFault-at, MatchFault-weaker}
 use Rattle.plist_binread.specs.declared.frames.Frame.{Frame}
 use Rattle.plist_binread.specs.declared.head.Head as code
 use Rattle.plist_format.specs.Container.{Head, head_of}
 use Rattle.plist_format.specs.Object.{Object}
 use Rattle.plist_format.specs.Unfolding.{table_of, items_of, unfolding_of, until_fault, items_with, items_of_file}
 use Rattle.plist_binread.specs.declared.head.Bounds.{Bounds}
-use Rattle.plist_binread.specs.Remaining.{path_of, remaining_items, entries_of, places_with, places_of, IsHeld, IsKnown, SomeRemain, WantsMemory}
-use Rattle.plist_binread.specs.Beginning.{RefusesFirst}
+use Rattle.plist_binread.specs.Remaining.{path_of, remaining_items, entries_of, places_with, places_of, CountsObjects, IsHeld, IsKnown, SomeRemain, WantsMemory}
+use Rattle.plist_binread.specs.Beginning.{CountsRoot, RefusesFirst}
 use Rattle.plist_binread.specs.Lengths.{BeginsTooLong, RefusesLong}
 use Rattle.plist_binread.specs.declared.slot.EventSlot.{EventSlot}
 use Rattle.plist_binread.specs.declared.slot.Refused.{Refused}
 use Rattle.plist_binread.specs.declared.slot.Refused.TheVariants as refusal
 use Rattle.plist_binread.specs.Outcome.{YieldsAnswer}
+use Rattle.plist_binread.specs.Walking.{walk_objects}
+use Rattle.plist_binread.specs.declared.walk.Walk.{Walk}
 use Rattle.plist_binread.specs.inner.Heads.{head_seen}
 use Rattle.plist_binread.proofs.Steps.{items_beyond, items_step, remaining_at}
 use Rattle.plist_format.proofs.Tables.{slice_get-within, slice_get-beyond}
@@ -181,6 +183,40 @@ first_limits (Err refusal.TooLong) left slot known now head bounds tags fs same 
           ∙ ap until_fault (sym (append-nil (unfolding_of (entries_of bytes bounds)
           (length head.places.items) [] head.trailer head.root)))) (limited head.trailer)),
     )
+
+-- ---- how many objects there are
+
+pub counted_root : (bytes : List ℕ) (answer : Result (Unit {0}) Refused) (slot : EventSlot)
+    (walk : Walk) → walk_objects walk ≡ length (places_of bytes) → CountsRoot answer slot walk bytes
+counted_root bytes (Ok value) slot walk same = same
+counted_root bytes (Err refusal.TooLong) slot walk same = same
+counted_root bytes (Err refusal.Fault) slot walk same =
+    MatchFault-all (kind_of (error_kind_of slot.fault)) tt tt same
+
+pub known_counted : (known : Option (List ℕ)) (head : code.Head)
+    (answer : Result (Unit {0}) Refused) (slot : EventSlot) (walk : Walk)
+    → walk_objects walk ≡ length head.places.items
+    → IfSome known (λ bytes. head_of bytes ≡ Ok (head_seen head))
+    → IfSome known (CountsRoot answer slot walk)
+known_counted known head answer slot walk count value = IfSome_then known value (λ bytes is.
+    counted_root bytes answer slot walk
+    (count ∙ sym (ap (λ head. length (places_with head)) is)))
+
+-- a head that isn't read counts none
+pub known_uncounted : (known : Option (List ℕ)) (e : Error) (count : ℕ) → count ≡ 0
+    → IfSome known (λ bytes. MatchFault (kind_of (error_kind_of e)) ⊤ ⊤
+    (head_of bytes ≡ Err (fault_of e)))
+    → IfSome known (λ bytes. CountsObjects {A = Unit {0}} bytes (Err e) count)
+known_uncounted known e count none refused = IfSome_then known refused (λ bytes.
+    MatchFault-weaker (kind_of (error_kind_of e)) (λ _. tt) (λ _. tt)
+    (λ is. none ∙ sym (ap (λ head. length (places_with head)) is)))
+
+pub known_hidden : (known : Option (List ℕ)) (e : Error) (count : ℕ)
+    → fault_of e ≡ fault_nowhere OutOfMemory
+    → IfSome known (λ bytes. CountsObjects {A = Unit {0}} bytes (Err e) count)
+known_hidden known e count memory = IfSome-all known (λ bytes.
+    MatchFault-at (kind_of (error_kind_of e)) OutOfMemory _ _ _ (ap (λ (f : Fault). f.kind) memory)
+    tt)
 
 pub known_few : (known : Option (List ℕ)) (tags : List ℕ) → length tags ≡ 0
     → IfSome known (λ bytes. length tags ≤ length (places_of bytes))

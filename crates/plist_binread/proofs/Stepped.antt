@@ -1,9 +1,10 @@
 -- One step of a reader that knows no limits.
 use Rattle.std.proofs.Common.{◌≡◌, ℕ, ◌^◌, ◌<◌, ◌≤◌, true, false, List, ◌∷◌, length, reverse, Option, None, Some, Result, Ok, Err, IfSome, refl, ap, sym, arith}
 use Rattle.std.specs.Option.{is_some}
-use Rattle.std.specs.Prelude.{MatchOption, MatchResult, OnErr, OnOk}
+use Rattle.std.specs.Prelude.{MatchOption, MatchResult, OnErr, OnOk, ⊤}
 use Rattle.plist_base.specs.declared.error.Error.{Error}
 use Rattle.plist_base.specs.declared.source.Source.{Ghosts}
+use Rattle.plist_base.specs.Faults.{error_kind_of, kind_of}
 use Rattle.plist_base.specs.Events.{PlainEvent}
 use Rattle.plist_format.specs.Container.{head_of}
 use Rattle.plist_format.specs.Unfolding.{items_of_file, until_fault}
@@ -13,18 +14,22 @@ use Rattle.plist_binread.specs.declared.head.Bounds.{Bounds}
 use Rattle.plist_binread.specs.declared.reader.BinaryReader.{BinaryReader}
 use Rattle.plist_binread.specs.declared.reader.WalkState.{WalkState}
 use Rattle.plist_binread.specs.declared.reader.WalkState.TheVariants.{Fresh, Walking, Ended}
-use Rattle.plist_binread.specs.Beginning.{GivesRoot, IsBounded, IsKnownWalk, KeepsRoot, RefusesFirst}
+use Rattle.plist_binread.specs.Beginning.{CountsRoot, CountsStep, GivesRoot, IsBounded, IsKnownWalk, KeepsRoot, RefusesFirst}
 use Rattle.plist_binread.specs.BinaryReader.{objects_in_head}
-use Rattle.plist_binread.specs.Remaining.{AreBoundsOf, IsKnown, entries_of, next_number, remaining_items, steps_left, remaining_now, walk_steps, walk_weight}
+use Rattle.plist_binread.specs.Remaining.{AreBoundsOf, CountsObjects, IsKnown, entries_of, next_number, remaining_items, steps_left, remaining_now, walk_steps, walk_weight}
 use Rattle.plist_binread.specs.Failures.{ErrWithin, ItemGivenWithin, ItemWithin}
 use Rattle.plist_binread.specs.Outcome.{YieldsNext}
 use Rattle.plist_binread.specs.Step.{KeepsItem, LightensNext}
 use Rattle.plist_binread.specs.Advancing.{GivesCurrent, WalksIn}
 use Rattle.plist_binread.specs.declared.slot.EventSlot.{EventSlot}
 use Rattle.plist_binread.specs.declared.slot.Refused.{Refused}
+use Rattle.plist_binread.specs.declared.slot.Refused.TheVariants as refusal
+use Rattle.plist_binread.specs.declared.walk.Walk.{Walk}
 use Rattle.plist_binread.specs.Slot.{AnswersIn, ItemAnswersIn, answer_in, event_in, item_in}
 use Rattle.plist_binread.specs.Turns.{IsCurrentCached, is_fresh, is_walking, upcoming_number, root_with, state_after}
 use Rattle.plist_binread.specs.Walking.{cached_in, remaining_in, walk_objects, weight_in}
+use Rattle.plist_base.proofs.Refusals.{MatchFault-all}
+use Rattle.plist_binread.proofs.Begun.{counted_root}
 use Rattle.plist_binread.proofs.Failing.{from_within}
 use Rattle.plist_binread.proofs.Limiting.{given-within}
 use Rattle.plist_binread.proofs.Steps.{fresh_falls}
@@ -174,6 +179,37 @@ holds_walking None bounds tags contents fs walking k = tt
 holds_walking (Some bytes) bounds tags contents fs walking k = λ w.
     let held = k w in (held.head, sym held.size)
 
+-- ---- how many objects there are
+
+tells_root : (bytes : List ℕ) (noted : Result (Unit {0}) Refused) (slot : EventSlot) (walk : Walk)
+    → CountsRoot noted slot walk bytes
+    → CountsObjects bytes (answer_in noted slot) (walk_objects walk)
+tells_root bytes (Ok value) slot walk counted = counted
+tells_root bytes (Err refusal.Fault) slot walk counted = counted
+tells_root bytes (Err refusal.TooLong) slot walk counted =
+    MatchFault-all (kind_of (error_kind_of slot.fault)) tt tt counted
+
+tells_item : (bytes : List ℕ) (item : Step) (count : ℕ) → count ≡ objects_in_head bytes
+    → MatchOption item ⊤ (λ answer. CountsObjects bytes answer count)
+tells_item bytes None count same = tt
+tells_item bytes (Some (Ok value)) count same = same
+tells_item bytes (Some (Err error)) count same =
+    MatchFault-all (kind_of (error_kind_of error)) tt tt same
+
+-- and so it tells in the place of an event
+pub tells_fault : (known : Option (List ℕ)) (error : Error) (count : ℕ)
+    → IfSome known (λ bytes. count ≡ objects_in_head bytes)
+    → IfSome known (λ bytes. CountsObjects {A = Unit {0}} bytes (Err error) count)
+tells_fault known error count same = IfSome_then known same (λ bytes same.
+    MatchFault-all (kind_of (error_kind_of error)) tt tt same)
+
+pub item_counts : (known : Option (List ℕ)) (bounds : Bounds) (noted : Option (Result (Unit {0})
+    Refused)) (slot : EventSlot) (walk : Walk) → IsKnownWalk known bounds walk
+    → CountsStep known noted slot walk
+item_counts known bounds None slot walk held = tt
+item_counts known bounds (Some answer) slot walk held = IfSome_then known held (λ bytes held.
+    counted_root bytes answer slot walk (sym held.size))
+
 -- ---- an answer whose error is held
 
 -- what a step answers
@@ -210,12 +246,13 @@ module _ {R C : Type 0} {g : Ghosts R} {h : CounterGhosts C} (known : R → Opti
       → IfSome (known old.source) (GivesRoot noted new.bounds new.slot new.walk)
       → ErrWithin 0 (2 ^ 64) (answer_in noted new.slot)
       → IfSome (known old.source) (IsBounded new.walk)
+      → IfSome (known old.source) (CountsRoot noted new.slot new.walk)
       → OnOk noted (IsKnownWalk (known old.source) new.bounds new.walk)
       → IfSome (known old.source) (KeepsRoot noted new.slot new.walk)
       → OnOk noted (weight_in new.walk < walk_steps (walk_objects new.walk))
       → AnswersIn failed noted new.slot old.source new.source
       → WalksIn known failed counts count old (Some noted) new
-  first_walks noted fresh is yields within bounded held kept falls failures =
+  first_walks noted fresh is yields within bounded objects held kept falls failures =
       let answer = answer_in noted new.slot in
       let after = after_in (Some noted) new.slot new.state is in
       record {
@@ -233,6 +270,8 @@ module _ {R C : Type 0} {g : Ghosts R} {h : CounterGhosts C} (known : R → Opti
         cached = first_kept old.state new.walk.tags.items (event_in new.slot) (known old.source)
             old.bounds old.walk.frames answer fresh kept;
         leaves = left_behind known counts count old new new.walk.path new.walk.same counted bounded;
+        objects = IfSome_then (known old.source) objects
+            (λ bytes objects. tells_root bytes noted new.slot new.walk objects);
         kept = (ap is_some limiter, λ begun. absurd (cc (ap is_fresh fresh)));
         falls = first_falls old.state new.state old.walk.frames new.walk.frames answer after
             (walk_objects new.walk) (walk_objects old.walk) fresh
@@ -268,6 +307,8 @@ module _ {R C : Type 0} {g : Ghosts R} {h : CounterGhosts C} (known : R → Opti
             old.bounds old.walk.frames item walking kept;
         leaves = left_behind known counts count old new new.walk.path new.walk.same counted
             (rw size bounded);
+        objects = IfSome_then (known old.source) held
+            (λ bytes held. tells_item bytes item (walk_objects new.walk) (sym held.size));
         kept = (ap is_some limiter, λ _. size);
         falls = item_falls old.state new.state old.walk.frames new.walk.frames item after
             (walk_objects old.walk) (walk_objects new.walk) walking size

@@ -13,7 +13,7 @@ use Rattle.plist_binread.specs.declared.slot.Refused.{Refused}
 use Rattle.plist_binread.specs.declared.slot.CompactEvent.{CompactEvent}
 use Rattle.std.specs.String.{string_bytes}
 use Rattle.plist_binread.specs.Turns.{IsCurrentCached}
-use Rattle.plist_binread.specs.BinaryReader.{EndsAfterFault, GivesAs, HasEndedBinary, HoldsHead, KeepsCounts, Leaves, has_limits, is_new, number_to_come, binary_source, binary_steps, items_to_come, walk_to_come}
+use Rattle.plist_binread.specs.BinaryReader.{EndsAfterFault, GivesAs, HasEndedBinary, HoldsHead, KeepsCounts, Leaves, TellsObjects, has_limits, is_new, number_to_come, binary_source, binary_steps, items_to_come, walk_to_come}
 
 module _ {R C : Type 0} {g : Ghosts R} {h : CounterGhosts C} where
   -- the current event
@@ -62,6 +62,7 @@ pub record AdvancesBy {A R C : Type 0} {g : Ghosts R} {h : CounterGhosts C}
   pub cached : IfSome (known (binary_source old))
       (λ bytes. CachesCurrent (number_to_come bytes old) item new)
   pub leaves : Leaves known counts count old new
+  pub objects : TellsObjects (known (binary_source old)) item new
   pub kept : KeepsCounts old new
   pub falls : IfSome item (λ _. binary_steps new < binary_steps old)
 

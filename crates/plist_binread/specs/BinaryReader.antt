@@ -1,5 +1,5 @@
 -- What contracts see of a reader: the items that it has still to give, and how much it holds open.
-use Rattle.std.specs.Prelude.{◌≡◌, ℕ, ◌^◌, ◌≤◌, Bool, true, false, List, [], ◌∷◌, length, reverse, Option, None, Result, Ok, Err, MatchBool, MatchOption, MatchResult, OnErr, IfSome}
+use Rattle.std.specs.Prelude.{◌≡◌, ℕ, ◌^◌, ◌≤◌, Bool, true, false, List, [], ◌∷◌, length, reverse, Option, None, Result, Ok, Err, MatchBool, MatchOption, MatchResult, OnErr, IfSome, ⊤}
 use Rattle.plist_base.specs.declared.error.Error.{Error}
 use Rattle.plist_base.specs.declared.event.Event.{Event}
 use Rattle.plist_base.specs.declared.source.Source.{Ghosts}
@@ -17,7 +17,7 @@ use Rattle.plist_binread.specs.declared.reader.BinaryReader.{BinaryReader}
 use Rattle.plist_binread.specs.declared.reader.WalkState.TheVariants.{Ended}
 use Rattle.plist_binread.specs.declared.frames.Frame.{Frame}
 use Rattle.plist_binread.specs.declared.counter.DecodeCounter.{Ghosts as CounterGhosts}
-use Rattle.plist_binread.specs.Remaining.{IsOpen, remaining_now, cached_count, places_of, AreBoundsOf, SomeRemain, WantsMemory, steps_left}
+use Rattle.plist_binread.specs.Remaining.{IsOpen, remaining_now, cached_count, places_of, AreBoundsOf, CountsObjects, SomeRemain, WantsMemory, steps_left}
 use Rattle.plist_binread.specs.Turns.{upcoming_number, IsCachedIfSmall, is_fresh, is_walking}
 
 -- how many objects the head of these bytes counts
@@ -131,6 +131,12 @@ module _ {R C : Type 0} {g : Ghosts R} {h : CounterGhosts C} where
       → BinaryReader R C g h → Type 0
   HasToCome known items reader = IfSome known (λ bytes. items_to_come bytes reader ≡ items bytes)
 
+-- a reader that gave this item tells as many objects as the head of known bytes counts
+abbrev pub TellsObjects : {A R C : Type 0} {g : Ghosts R} {h : CounterGhosts C}
+    → (known : Option (List ℕ)) → Option (Result A Error) → BinaryReader R C g h → Type 0
+TellsObjects known item reader = IfSome known (λ bytes. MatchOption item ⊤ (λ answer.
+    CountsObjects bytes answer (objects_in_file reader)))
+
 -- limits stay, and so does the number of objects once the first item came
 abbrev pub KeepsCounts : {R C : Type 0} {g : Ghosts R} {h : CounterGhosts C}
     → (old new : BinaryReader R C g h) → Type 0
@@ -165,4 +171,5 @@ pub record GivesBinary {R C : Type 0} {g : Ghosts R} {h : CounterGhosts C} (know
   pub cached : IfSome (known (binary_source old))
       (λ bytes. CachesItem (number_to_come bytes old) item new)
   pub leaves : Leaves known counts count old new
+  pub objects : TellsObjects (known (binary_source old)) item new
   pub kept : KeepsCounts old new

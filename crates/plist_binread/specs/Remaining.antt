@@ -76,6 +76,12 @@ places_with (Err fault) = []
 abbrev pub places_of : List ℕ → List ℕ
 places_of bytes = places_with (head_of bytes)
 
+-- so many objects were found as the head of these bytes counts, unless a device failed or memory
+-- was wanted
+abbrev pub CountsObjects : {A : Type 0} → List ℕ → Result A Error → (found : ℕ) → Type 0
+CountsObjects bytes answer found = MatchResult answer (λ _. found ≡ length (places_of bytes))
+    (λ error. MatchFault (kind_of (error_kind_of error)) ⊤ ⊤ (found ≡ length (places_of bytes)))
+
 -- the file's objects, with these bounds
 abbrev pub entries_of : List ℕ → Bounds → List TableEntry
 entries_of bytes bounds =

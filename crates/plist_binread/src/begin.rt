@@ -7,7 +7,7 @@ ghost use Rattle.plist_binread.specs.Failures.{ErrWithin};
 ghost use Rattle.plist_binread.specs.Slot.{AnswersIn, answer_in};
 ghost use Rattle.plist_binread.specs.Walking.{IsEmptyWalk, cached_in, walk_objects, weight_in};
 ghost use Rattle.plist_binread.specs.Lengths.{LimitsFirst};
-ghost use Rattle.plist_binread.specs.Beginning.{GivesRoot, IsBounded, IsKnownWalk, KeepsRoot};
+ghost use Rattle.plist_binread.specs.Beginning.{CountsRoot, GivesRoot, IsBounded, IsKnownWalk, KeepsRoot};
 
 use crate::counter::DecodeCounter;
 use crate::enter::enter;
@@ -49,6 +49,7 @@ pub fn begin<S: Source, C: DecodeCounter>(
     // The state after it.
     ensures counted { C.counts → C.count counter.new ≡ cached_in walk.new }
     ensures bounded { IfSome (S.known source.old) (IsBounded walk.new) }
+    ensures objects { IfSome (S.known source.old) (CountsRoot result slot.new walk.new) }
     ensures known { OnOk result (IsKnownWalk (S.known source.old) bounds.new walk.new) }
     ensures kept { IfSome (S.known source.old) (KeepsRoot result slot.new walk.new) }
     ensures falls { OnOk result (weight_in walk.new < walk_steps (walk_objects walk.new)) }

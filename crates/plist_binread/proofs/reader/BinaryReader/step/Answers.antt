@@ -2,7 +2,8 @@ use Rattle.std.proofs.Common.{refl, None, Some}
 use Rattle.plist_binread.specs.Slot.{event_in}
 use Rattle.plist_binread.proofs.Taken.{walking-ended, holds_none, left_behind, nothing_ended, kept_end}
 use Rattle.plist_binread.proofs.Children.{known_no_references}
-use Rattle.plist_binread.proofs.Stepped.{first_walks, item_walks, not_fresh, walks_on_ok}
+use Rattle.plist_binread.proofs.OverKnown.{IfSome-all}
+use Rattle.plist_binread.proofs.Stepped.{first_walks, item_counts, item_walks, not_fresh, walks_on_ok}
 use Rattle.plist_binread.proofs.reader.BinaryReader.step.Goals as goal
 
 pub returns-in-Ended-clause-walks : goal.returns-in-Ended-clause-walks
@@ -21,6 +22,7 @@ returns-in-Ended-clause-walks g c = record {
       (event_in c.args.self.now.slot));
   leaves = left_behind _ _ _ _ _ c.args.self.now.walk.path c.args.self.now.walk.same
       c.args.self.now.counted c.args.self.now.bounded;
+  objects = IfSome-all _ (λ bytes. tt);
   kept = (refl, λ _. refl);
   falls = tt;
 }
@@ -29,8 +31,8 @@ pub returns-in-Fresh-clause-walks : goal.returns-in-Fresh-clause-walks
 returns-in-Fresh-clause-walks g c =
     first_walks _ _ _ _ c.args.self.now _ c.begin.ensures.unchanged c.begin.ensures.counted refl
     c.begin.result c.in-Fresh.is c.state_after-self.ensures c.begin.ensures.yields c.begin.ensures.fault
-    c.begin.ensures.bounded c.begin.ensures.known c.begin.ensures.kept c.begin.ensures.falls
-    c.begin.ensures.failures
+    c.begin.ensures.bounded c.begin.ensures.objects c.begin.ensures.known c.begin.ensures.kept
+    c.begin.ensures.falls c.begin.ensures.failures
 
 pub returns-in-Walking-clause-walks : goal.returns-in-Walking-clause-walks
 returns-in-Walking-clause-walks g c =
@@ -38,6 +40,15 @@ returns-in-Walking-clause-walks g c =
     c.advance-item.result c.in-Walking.is c.state_after-self-in-Walking.ensures c.advance-item.ensures.yields
     c.advance-item.ensures.fault c.advance-item.ensures.size c.args.self.now.bounded c.advance-item.ensures.known c.advance-item.ensures.kept
     c.advance-item.ensures.falls c.advance-item.ensures.failures
+
+pub returns-in-Fresh-clause-objects : goal.returns-in-Fresh-clause-objects
+returns-in-Fresh-clause-objects g c = c.begin.ensures.objects
+
+pub returns-in-Walking-clause-objects : goal.returns-in-Walking-clause-objects
+returns-in-Walking-clause-objects g c =
+    item_counts (g.R.Source.known c.args.self.now.source) c.args.self.now.bounds
+    c.advance-item.result c.advance-item.new.slot c.advance-item.new.walk
+    c.advance-item.ensures.known
 
 pub invariant_of-self : goal.invariant_of-self
 invariant_of-self g c = record {

@@ -6,6 +6,7 @@ use Rattle.plist_base.specs.Sources.{Rises}
 use Rattle.plist_binread.specs.BinaryReader.{has_limits, is_new, number_to_come, binary_source, walk_to_come}
 use Rattle.plist_binread.specs.Slot.{event_in}
 use Rattle.plist_binread.proofs.Limiting.{event-current, fault-current, limit-counts, limit-given, limit-current, limited-below, long-current, none-current, refused-given, refused-other, still-given}
+use Rattle.plist_binread.proofs.Stepped.{tells_fault}
 use Rattle.plist_binread.proofs.Taken.{holds_none, kept_fault}
 use Rattle.plist_binread.proofs.reader.BinaryReader.step_within.Goals as goal
 
@@ -57,6 +58,7 @@ returns-in-Err g c =
         counted = w.leaves.counted;
         lists = w.leaves.lists;
       };
+      objects = tells_fault _ c.admit.new.slot.fault _ w.objects;
       kept = (c.admit.ensures.limited ∙ w.kept.0, w.kept.1);
       falls = let falls = w.falls in omega (arith, falls);
     }
@@ -105,6 +107,10 @@ returns-in-Some-Err-TooLong g c =
         counted = w.leaves.counted;
         lists = w.leaves.lists;
       };
+      objects = tells_fault _ error _ (rw (
+        c.in-Some-Err-TooLong.field-0-is,
+        c.in-Some-Err-TooLong.field-0-0-is,
+      ) at c.in-Some-Err-TooLong.ensures.objects);
       kept = w.kept;
       falls = w.falls;
     }
