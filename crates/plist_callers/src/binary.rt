@@ -1,6 +1,6 @@
 //! Proved callers of a reader: how many objects it tells of a file, and what comes behind a fault.
 
-ghost use Rattle.std.specs.Prelude.{◌≡◌, ◌≤◌, None, false};
+ghost use Rattle.std.specs.Prelude.{◌≡◌, ◌≤◌, None, IfSome, false};
 ghost use Rattle.plist_binread.specs.BinaryReader.{objects_in_head};
 
 use plist_base::{Error, ErrorKind, OwnedEvent, Source};
@@ -17,6 +17,20 @@ pub fn count_objects(alloc: Global, bytes: &[u8]) -> (usize, usize)
     let before = reader.objects_in_file();
     let _ = reader.advance();
     (before, reader.objects_in_file())
+}
+
+/// How many objects a reader tells of a file whose root is none of them: as many as its head tells.
+pub fn count_without_root(alloc: Global, bytes: &[u8]) -> Option<usize>
+    ensures { IfSome result (λ count. count ≡ objects_in_head bytes.now) }
+{
+    let mut reader = BinaryReader::new(alloc, bytes);
+    match reader.advance() {
+        Some(Err(error)) => match error.kind() {
+            ErrorKind::ObjectReferenceTooLarge => Some(reader.objects_in_file()),
+            _ => None,
+        },
+        _ => None,
+    }
 }
 
 /// What a reader gives behind a fault, be it a limit's or a device's: nothing.
