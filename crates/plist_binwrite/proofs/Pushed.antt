@@ -5,7 +5,7 @@ use Rattle.std.proofs.lemmas.Bool.{lt-ltb, le-ltb}
 use Rattle.std.proofs.lemmas.Int.{ints}
 use native.Mathlib.Nat.{div-eq_of_lt}
 use Rattle.plist_binwrite.specs.Forms.{big_endian, doublings, least_width, unsigned_form, integer_form, length_form}
-use Rattle.plist_binwrite.proofs.Widths.{tail_of_digits}
+use Rattle.plist_binwrite.proofs.LeastWidths.{tail_of_digits}
 
 pub length_short : (high count : ℕ) → count < 15 → length_form high count ≡ (high * 16 + count) ∷ []
 unfolding length_form

@@ -30,7 +30,7 @@ use Rattle.plist_binwrite.proofs.Reading.{form_read}
 use Rattle.plist_binwrite.proofs.ReadingNumbers.{drop_front, width_positive, last, length_closed, front_is, head_is}
 use Rattle.plist_binwrite.proofs.Sitting.{occurs_whole}
 use Rattle.plist_binwrite.proofs.Unfold.{Shows, unfolds_whole, no_fault}
-use Rattle.plist_binwrite.proofs.Widths.{width_holds}
+use Rattle.plist_binwrite.proofs.LeastWidths.{width_holds}
 use Rattle.plist_base.specs.Outcomes.{IfFault, OnlyDevice}
 use Rattle.plist_base.specs.declared.error.Error.{Error}
 use Rattle.plist_binwrite.specs.declared.event_table.EventTable.{EventTable}

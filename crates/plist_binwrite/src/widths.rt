@@ -5,7 +5,7 @@ ghost use Rattle.plist_binwrite.specs.Forms.{least_width};
 ghost use Rattle.plist_binwrite.specs.Written.{reference_width, offset_width};
 
 /// The least of 1, 2, 4 and 8 bytes that hold a number.
-#[tactic(auto, using(crate::proofs::Widths::widths))]
+#[tactic(auto, using(crate::proofs::LeastWidths::widths))]
 pub fn least_width(number: u64) -> usize
     ensures value { result ≡ least_width number }
     ensures range { (1 ≤ result) × (result ≤ 8) }

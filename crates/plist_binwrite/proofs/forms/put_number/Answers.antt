@@ -1,4 +1,4 @@
-use Rattle.plist_binwrite.proofs.Widths.{tail_of_digits}
+use Rattle.plist_binwrite.proofs.LeastWidths.{tail_of_digits}
 use Rattle.plist_binwrite.proofs.forms.put_number.Goals as goal
 
 pub returns : goal.returns
