@@ -87,7 +87,7 @@ impl<'e> EventTable<'e> {
         }
         match self.kind_at(index) {
             EntryKind::End => false,
-            _ => true,
+            EntryKind::Array | EntryKind::Dictionary | EntryKind::Scalar => true,
         }
     }
 

@@ -85,7 +85,7 @@ impl FileLayout {
         self.put(events, plan, index)?;
         match events.kind_at(index) {
             EntryKind::Dictionary => self.put_keys(events, plan, index + 1),
-            _ => Ok(()),
+            EntryKind::Array | EntryKind::Scalar | EntryKind::End => Ok(()),
         }
     }
 }

@@ -126,7 +126,7 @@ impl Numbered {
                 self.number_keys_or_values(given, inside, true)?;
                 Ok(())
             }
-            _ => Ok(()),
+            EntryKind::Scalar | EntryKind::End => Ok(()),
         }
     }
 
