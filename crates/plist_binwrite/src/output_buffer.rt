@@ -120,8 +120,5 @@ pub fn finish<W: Write>(out: &mut W, buffer: &[u8]) -> Result<(), Error>
     ensures prefix { SendsRestInPart W.contents out.old buffer.now out.new }
     ensures fault { OnlyDevice result }
 {
-    match send_and_flush(out, buffer) {
-        Ok(()) => Ok(()),
-        Err(error) => Err(error),
-    }
+    send_and_flush(out, buffer)
 }
