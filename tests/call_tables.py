@@ -160,6 +160,12 @@ def writers(calls):
         calls.sweep("SharingWriter", words, "ok; " * count + f"\nok | {both}", wants)
 
 
+def buffers(calls):
+    # five bytes for each event, in rooms that are doubled; room for a thousand different scalars
+    calls.within("EventBuffer", " ".join(["[", *["true"] * 999]), "held", 12 * 1000)
+    calls.within("EventBuffer with a wrong hint", "[ true", "held", 100 * 1000)
+
+
 def values(calls):
     simple = joined(SIMPLE)
     inputs = [(BINARY, joined(VALUE)), (ASCII, joined(ASCII_VALUE)), (TRUE_FILE, "true"),
@@ -326,6 +332,9 @@ def still_writers(calls):
     for name in ("a BinaryWriter", "a SharingWriter"):
         calls.still(f"refused by {name}", "{ 'k' | end", refusal(key, end))
         calls.still(f"refused by {name}", "true | end", refusal(place, end))
+        # what equals one that is held isn't copied, and the room of an earlier plist is kept
+        calls.still(f"taken by {name}", "[ 'x' 'x' 'x' 'x' | 'x'", "ok; ")
+        calls.still(f"taken by {name}", "[ 'x' 'y' end | [ 1 2", "ok; ok; ok; ")
     behind = "".join(f"ExpectedEndOfEventStream {{ found: {kind} }}; "
                      for kind in ("String", "StartArray", end))
     calls.still("refused by a Builder", "'a' | 'b' [ end", behind)
@@ -368,6 +377,7 @@ def still_scalars(calls):
 def run(calls):
     readers(calls)
     writers(calls)
+    buffers(calls)
     values(calls)
     files(calls)
     dictionaries(calls)

@@ -143,6 +143,16 @@ class Calls:
             self.bad(f"{call}, {len(file)} bytes: {found!r} for {ample!r}, {asked} bytes of memory")
         self.all["files that lie"] += 1
 
+    def within(self, name, given, ample, most):
+        """All requests together are for at most so many bytes."""
+        self.add("once", name, given, lambda call, runs: self.test_within(call, runs, ample, most))
+
+    def test_within(self, call, runs, ample, most):
+        found, _, asked = next(runs)
+        if found != ample or asked > most:
+            self.bad(f"{call}: {found!r} for {ample!r}, {asked} bytes of memory and not {most}")
+        self.all["calls of little memory"] += 1
+
     def look_at(self, calls):
         for (call, test), runs in zip(self.tests, calls, strict=True):
             runs = iter(runs)

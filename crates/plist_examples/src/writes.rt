@@ -143,10 +143,11 @@ fn expect_whole(alloc: Global, device: &Device, bytes: &[u8]) -> Result<(), Wron
         is_flushed,
         "a call for each byte, and one flush behind them",
     )?;
+    let is_at_once = device.longest == bytes.len() || bytes.len() > ROOM;
     expect_that(
         alloc,
-        device.longest <= ROOM,
-        "no more than the room holds is sent at once",
+        device.longest <= ROOM && is_at_once,
+        "a file that the room holds is sent at once, and no more than it holds",
     )
 }
 
