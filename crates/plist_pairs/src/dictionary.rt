@@ -150,10 +150,8 @@ impl<V> Pairs<V> {
         if let Some(store) = &mut self.store {
             return store.insert(key, value);
         }
-        match self.push(key, value) {
-            Ok(()) => Ok(None),
-            Err(back) => Err(back),
-        }
+        self.push(key, value)?;
+        Ok(None)
     }
 
     /// Removes the key, and returns its value, if it is there.

@@ -141,10 +141,8 @@ impl<'a, V> VacantEntry<'a, V> {
     {
         let VacantEntry { pairs, key } = self;
         let at = pairs.len();
-        match pairs.push(key, value) {
-            Err(back) => Err(back),
-            Ok(()) => Ok(pairs.value_at(at)),
-        }
+        pairs.push(key, value)?;
+        Ok(pairs.value_at(at))
     }
 }
 
