@@ -218,8 +218,9 @@ def dictionaries(calls):
     for key in "bcadefg":
         states.append(joined(state))
         state[key] = True
-    wants = {f"{WANT} | {words}" for words in states}
-    calls.sweep("extend", joined(old), "ok | " + joined(state), wants)
+    # those behind the pair that found no memory aren't asked for
+    wants = {f"{WANT} {6 - place} | {words}" for place, words in enumerate(states)}
+    calls.sweep("extend", joined(old), "ok 0 | " + joined(state), wants)
     made = joined(dict.fromkeys("bcadefg", True))
     calls.sweep("from_pairs", "-", f"{made} | {{0 end", {f"{WANT} | {{0 end"})
     old = {"b": 2, "a": [1], "c": {"z": 1, "y": 2}}
@@ -345,7 +346,7 @@ def still_values(calls):
     calls.still("later events", "[ 1 true uid:4 'x' <00> end", "[5 1 true uid:4 'x' <00> end")
     calls.still("into and out of a Value", "-", "Some(7) Some(4) true true")
     calls.still("Dictionary", "{ 'a' 1 'b' 2 'c' 3 'd' 4 end",
-                 "true false true false 2 2 2 2 true | {2 'd' 4 'c' true end")
+                 "true false true false 2 2 2 2 true true | {2 'd' 4 'c' true end")
     calls.still("entries", "{ 'a' 1 'b' 2 'c' 3 end", "Some(1) true false | {2 'c' 3 'b' 9 end")
     archive = "{ '$objects' [ '$null' 'x' end '$top' { 'root' uid:1 end end"
     calls.still("Archive", archive, "Some(1) 'x'")

@@ -4,6 +4,7 @@ use crate::support::{expect_value, must, value_of};
 use plist::dictionary::Entry;
 use plist::{Dictionary, Value};
 use plist_base::{Date, Integer, RealBits, Uid};
+use std::cell::Cell;
 use std::process::Abort;
 
 fn text(rt: &(impl Abort + AllocGlobal), text: &str) -> String {
@@ -116,6 +117,17 @@ fn retain_keeps_what_passes(rt: HostRuntime) {
     expect_dictionary(&rt, pairs, "{3 'a' 1 'c' 3 'e' 5 end");
     let mut pairs = dictionary_of(&rt, "{ 'a' 1 'b' 2 end");
     pairs.retain(|key: &String, _| key.as_str() == "b");
+    expect_dictionary(&rt, pairs, "{1 'b' 2 end");
+}
+
+#[test]
+fn retain_asks_once_in_order(rt: HostRuntime) {
+    let asked = Cell::new(0u8);
+    let mut pairs = dictionary_of(&rt, "{ 'a' 1 'b' 2 'c' 3 'd' 4 end");
+    pairs.retain(|_: &String, _: &Value| {
+        asked.set(asked.get().wrapping_add(1));
+        asked.get() == 2
+    });
     expect_dictionary(&rt, pairs, "{1 'b' 2 end");
 }
 

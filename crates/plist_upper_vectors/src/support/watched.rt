@@ -47,7 +47,7 @@ impl<'a, F> WatchedFile<'a, F> {
 }
 
 // Goes on to a stage, where the file stands at one of these two.
-fn next_item(stage: &Cell<Stage>, from: [Stage; 2], to: Stage) {
+fn go_on(stage: &Cell<Stage>, from: [Stage; 2], to: Stage) {
     let now = stage.get();
     stage.set(if now == from[0] || now == from[1] {
         to
@@ -58,19 +58,19 @@ fn next_item(stage: &Cell<Stage>, from: [Stage; 2], to: Stage) {
 
 impl<'a, F: Read> Read for WatchedFile<'a, F> {
     fn read(&mut self, buf: &mut [u8]) -> io::Result<usize> {
-        next_item(self.stage, [Stage::Untouched; 2], Stage::Untouched);
+        go_on(self.stage, [Stage::Untouched; 2], Stage::Untouched);
         self.file.read(buf)
     }
 }
 
 impl<'a, F: Write> Write for WatchedFile<'a, F> {
     fn write(&mut self, buf: &[u8]) -> io::Result<usize> {
-        next_item(self.stage, [Stage::Made, Stage::Written], Stage::Written);
+        go_on(self.stage, [Stage::Made, Stage::Written], Stage::Written);
         self.file.write(buf)
     }
 
     fn flush(&mut self) -> io::Result<()> {
-        next_item(self.stage, [Stage::Written; 2], Stage::Written);
+        go_on(self.stage, [Stage::Written; 2], Stage::Written);
         self.fail_at(Stage::Written)?;
         self.file.flush()
     }
@@ -92,7 +92,7 @@ impl<'a, F: OpenFile> OpenFile for WatchedFile<'a, F> {
     }
 
     fn sync_all(&self) -> io::Result<()> {
-        next_item(self.stage, [Stage::Written; 2], Stage::Stored);
+        go_on(self.stage, [Stage::Written; 2], Stage::Stored);
         self.fail_at(Stage::Stored)?;
         self.file.sync_all()
     }
@@ -110,7 +110,7 @@ impl<'a, R: Files> Files for Watched<'a, R> {
     fn open_file(&self, how: &OpenOptions, path: &str) -> io::Result<Self::File> {
         self.opened.set(self.opened.get().saturating_add(1));
         if how.asks_write() {
-            next_item(self.stage, [Stage::Untouched; 2], Stage::Made);
+            go_on(self.stage, [Stage::Untouched; 2], Stage::Made);
         }
         Ok(WatchedFile {
             file: self.rt.open_file(how, path)?,
