@@ -314,6 +314,11 @@ def still_readers(calls):
     fault("337ff0000000000000", 19, "OverflowOrNanDate")
     fault("14" + "ff" * 16, 27, "IntegerOutOfRange")
     fault("13", 11, "ObjectOffsetTooLarge")
+    # a text, data and a wide text of 200 elements, none of which is read into memory
+    for long in ("5f10c8" + "61" * 200, "4f10c8" + "00" * 200, "6f10c8" + "0061" * 200):
+        content = file_of(f"a20102 09 {long} 080b0c", 3, 12 + len(long) // 2)
+        for name in ("later items within ten bytes", "later items of a device within ten bytes"):
+            still(name, content, "true true LimitReached(Bytes)")
 
 
 def refusal(expected, found):
