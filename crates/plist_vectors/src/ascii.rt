@@ -1,6 +1,7 @@
-//! How `AsciiReader` ends.
+//! How `AsciiReader` ends, and how far a value's items are read.
 
-use crate::support::must;
+use crate::support::{expect_value, must};
+use plist::Value;
 use plist_ascii::AsciiReader;
 use plist_base::{Error, OwnedEvent};
 use plist_support::{Device, DeviceFault, READ_FAILURES, expect_io};
@@ -78,4 +79,21 @@ fn ends_at_the_end(rt: HostRuntime) {
     let device = reader.into_inner();
     assert_eq!(rt; device.calls, 3);
     assert_eq!(rt; device.moved, 2);
+}
+
+// This is the value of a text's items, for which its device is called so often.
+fn expect_asked(rt: &(impl Abort + AllocGlobal), text: &str, wanted: &str, calls: u64) {
+    let mut device = device_of(rt, text, u64::MAX, DeviceFault::MovesNothing);
+    let reader = AsciiReader::new(rt.alloc(), &mut device);
+    expect_value(rt, Value::from_events(rt.alloc(), reader), wanted);
+    assert_eq!(rt; device.calls, calls);
+}
+
+// Behind an item that is refused none is asked for, and behind the last one just once.
+#[test]
+fn a_value_takes_no_item_more(rt: HostRuntime) {
+    expect_asked(&rt, "(a)", "[1 'a' end", 4);
+    let refusal = "ExpectedEndOfEventStream { found: String }";
+    expect_asked(&rt, "(a) b c", refusal, 6);
+    expect_asked(&rt, "(\"\\9\" b", "InvalidUtf8AsciiStream (offset 4)", 4);
 }
