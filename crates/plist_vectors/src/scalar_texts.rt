@@ -2,7 +2,8 @@
 
 use crate::support::must;
 use plist_base::{Error, InvalidXmlDate};
-use plist_data::{Data, InvalidXmlData};
+use plist_data::{Data, DecodeError, InvalidXmlData};
+use std::process::Abort;
 
 #[test]
 fn data_of_bytes(rt: HostRuntime) {
@@ -20,6 +21,24 @@ fn data_of_bytes(rt: HostRuntime) {
     assert_eq!(rt; bytes.as_slice(), [0, 255].as_slice());
     let shown = must(&rt, InvalidXmlData::OutOfMemory.to_string(rt.alloc()));
     assert_eq!(rt; shown.as_str(), "OutOfMemory");
+}
+
+// The text is no data's because of the dash that has this place.
+fn expect_dash(rt: &(impl Abort + AllocGlobal), text: &str, place: usize) {
+    match Data::from_xml_format(rt.alloc(), text) {
+        Err(InvalidXmlData::Decode(DecodeError::InvalidByte(found, b'-'))) => {
+            assert_eq!(rt; found, place, "in {text:?}");
+        }
+        _ => panic!(rt; "{text:?} has a dash"),
+    }
+}
+
+// The places in a fault count what is left without white space.
+#[test]
+fn places_in_data_texts(rt: HostRuntime) {
+    expect_dash(&rt, "A-AA", 1);
+    expect_dash(&rt, " A\n-AA", 1);
+    expect_dash(&rt, " A A\tA\r-", 3);
 }
 
 #[test]
