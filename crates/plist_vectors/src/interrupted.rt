@@ -35,9 +35,11 @@ fn failure_of_disk(
     (found, disk.calls)
 }
 
-const KINDS: [ErrorKind; 5] = [
+const KINDS: [ErrorKind; 7] = [
     ErrorKind::Interrupted,
     ErrorKind::WouldBlock,
+    ErrorKind::TimedOut,
+    ErrorKind::ResourceBusy,
     ErrorKind::PermissionDenied,
     ErrorKind::UnexpectedEof,
     ErrorKind::Other,
