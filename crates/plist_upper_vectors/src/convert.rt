@@ -93,6 +93,27 @@ fn converts_binary_files(rt: HostRuntime) {
     expect_converted(&rt, CONVERTED, CONVERTED);
 }
 
+// Data of 100,000 bytes.
+fn add_data(rt: &impl Abort, file: &mut Vec<u8>, first: u32) {
+    must(rt, file.extend_from_slice(b"\x4f\x12\0\x01\x86\xa0"));
+    for place in 0..100_000u32 {
+        must(rt, file.push((place.saturating_add(first) % 251) as u8));
+    }
+}
+
+const TABLE_OF_TWO: &[u8] = b"\0\0\0\x08\0\0\0\x0b\0\x01\x86\xb1\
+    \0\0\0\0\0\0\x04\x01\0\0\0\0\0\0\0\x03\0\0\0\0\0\0\0\0\0\0\0\0\0\x03\x0d\x57";
+
+// An array of two data: the file goes out by five writes.
+#[test]
+fn converts_large_files(rt: HostRuntime) {
+    let mut file = must(&rt, Vec::from_slice(rt.alloc(), b"bplist00\xa2\x01\x02"));
+    add_data(&rt, &mut file, 0);
+    add_data(&rt, &mut file, 100);
+    must(&rt, file.extend_from_slice(TABLE_OF_TWO));
+    expect_converted(&rt, file.as_slice(), file.as_slice());
+}
+
 // A dictionary whose only key is 1.
 #[test]
 fn an_integer_is_no_key(rt: HostRuntime) {
