@@ -27,7 +27,7 @@ fn ends_for_good(rt: HostRuntime) {
     expect_end(&rt, b"bplist01", false);
 }
 
-// A device over a file of seven events, with a fault at this call.
+// A device over a file of eight events, with a fault at this call.
 fn device_of(rt: &(impl Abort + AllocGlobal), call: u64, fault: DeviceFault) -> Device {
     let body = "d201020301 5161 5162 a104 5178 080d0f1113";
     Device::with_fault(
@@ -37,28 +37,49 @@ fn device_of(rt: &(impl Abort + AllocGlobal), call: u64, fault: DeviceFault) -> 
     )
 }
 
-// The reader's first item, behind which nothing comes.
-fn only_item(
+// The reader's last item, behind which nothing comes.
+fn last_item(
     rt: &(impl Abort + AllocGlobal),
     device: &mut Device,
 ) -> Option<Result<OwnedEvent, Error>> {
     let mut reader = BinaryReader::new(rt.alloc(), device);
-    let first = reader.next();
+    let mut last = None;
+    for _ in 0..8 {
+        match reader.next() {
+            Some(item) => last = Some(item),
+            None => break,
+        }
+    }
     for _ in 0..3 {
         assert!(rt; reader.next().is_none());
     }
-    first
+    last
 }
 
-// A device's own error is handed on by the reader and by `read_exact_at`, and what failed isn't
-// tried again, though the device would go on.
-fn expect_handed_on(rt: &(impl Abort + AllocGlobal), kind: ErrorKind) {
-    let mut device = device_of(rt, 2, DeviceFault::Fails(kind));
-    match only_item(rt, &mut device) {
+// A device that fails at this call hands on its own error, and what failed isn't tried again, though
+// the device would go on. Tells whether there is such a call.
+fn expect_failure(rt: &(impl Abort + AllocGlobal), call: u64, kind: ErrorKind) -> bool {
+    let mut device = device_of(rt, call, DeviceFault::Fails(kind));
+    let last = last_item(rt, &mut device);
+    if device.failures == 0 {
+        return false;
+    }
+    match last {
         Some(item) => must(rt, expect_io(item, kind, Some(device.place))),
         None => panic!(rt; "no item"),
     }
-    assert_eq!(rt; device.calls, 3);
+    assert_eq!(rt; device.calls, call.saturating_add(1));
+    true
+}
+
+// So it is at each call of a reader, of which 46 are made for the head alone, and so it is with
+// `read_exact_at`.
+fn expect_handed_on(rt: &(impl Abort + AllocGlobal), kind: ErrorKind) {
+    let mut calls = 0;
+    while calls < 1000 && expect_failure(rt, calls, kind) {
+        calls += 1;
+    }
+    assert!(rt; calls > 46 && calls < 1000, "{calls} calls");
     let mut device = device_of(rt, 2, DeviceFault::Fails(kind));
     let answer = read_exact_at(&mut device, 8, &mut [0; 4]);
     must(rt, expect_io(answer, kind, Some(10)));
@@ -70,4 +91,33 @@ fn ends_after_a_failure(rt: HostRuntime) {
     for kind in READ_FAILURES {
         expect_handed_on(&rt, kind);
     }
+}
+
+// A read that gives nothing at this call ends the items at its place, and isn't tried again. Tells
+// whether there is such a call.
+fn expect_short(rt: &(impl Abort + AllocGlobal), call: u64) -> bool {
+    let mut device = device_of(rt, call, DeviceFault::MovesNothing);
+    let last = last_item(rt, &mut device);
+    if device.calls <= call {
+        return false;
+    }
+    match last {
+        Some(Err(error)) => {
+            assert!(rt; error.is_eof());
+            assert_eq!(rt; error.offset(), Some(device.place));
+        }
+        _ => panic!(rt; "no fault"),
+    }
+    assert_eq!(rt; device.calls, call.saturating_add(1));
+    true
+}
+
+// So it is at each read, the first of which is the second call.
+#[test]
+fn ends_where_a_read_gives_nothing(rt: HostRuntime) {
+    let mut calls = 1;
+    while calls < 1000 && expect_short(&rt, calls) {
+        calls += 1;
+    }
+    assert!(rt; calls > 46 && calls < 1000, "{calls} calls");
 }

@@ -197,7 +197,7 @@ fn goes_on_after_a_failure(rt: HostRuntime) {
     }
 }
 
-// The items of a file of seven events that gives a byte a read and fails at this call, with the
+// The items of a file of eight events that gives a byte a read and fails at this call, with the
 // offset of `Io` left out. Tells whether it failed.
 fn expect_items_of_disk(rt: &(impl Abort + AllocGlobal), windows: bool, call: u64) -> bool {
     let body = "d201020301 5161 5162 a104 5178 080d0f1113";
