@@ -1,48 +1,54 @@
--- Hexadecimal digits, block by block.
-use Rattle.std.proofs.Common.{◌≡◌, ℕ, zero, suc, ◌+◌, ◌*◌, ◌/◌, ◌%◌, ◌<◌, List, [], ◌∷◌, ◌++◌, length, get_or, take, drop, refl, sym, ap, ◌∙◌, arith, append_assoc, drop-drop, take-add}
+-- Bytes that are printed block by block.
+use Rattle.std.proofs.Common.{◌≡◌, ℕ, zero, suc, ◌+◌, ◌*◌, ◌/◌, ◌%◌, ◌<◌, List, [], ◌∷◌, ◌++◌, length, get_or, take, drop, sym, ap, ◌∙◌, arith, append_assoc, drop-drop, take-add}
 use Rattle.std.specs.Simd.{first_chunks}
 use Rattle.std.proofs.lemmas.Grind.{flat_map-append}
 use Rattle.std.proofs.lemmas.List.{take-append-drop}
-use Rattle.plist_commands.specs.Lines.{hexadecimal, hexadecimal_digit}
+use Rattle.plist_commands.specs.declared.lines.Notation.{Notation}
+use Rattle.plist_commands.specs.declared.lines.Notation.TheVariants as notation
+use Rattle.plist_commands.specs.Lines.{hexadecimal_digit, noted, text_of_byte}
 
-both : (left right : List ℕ) → hexadecimal left ++ hexadecimal right ≡ hexadecimal (left ++ right)
-both left right =
+-- what is printed of two parts is printed of both
+pub both_noted : (n : Notation) (left right : List ℕ)
+    → noted n left ++ noted n right ≡ noted n (left ++ right)
+both_noted notation.Text left right = sym (flat_map-append text_of_byte left right)
+both_noted notation.Hexadecimal left right =
     sym (flat_map-append (λ byte. hexadecimal_digit (byte / 16) ∷ hexadecimal_digit (byte % 16) ∷ [])
     left right)
 
-block_at : (count i : ℕ) (bytes none : List ℕ) → i < count
-    → get_or (first_chunks 64 count bytes) i none ≡ take 64 (drop (i * 64) bytes)
-block_at zero i bytes none below = absurd (omega (arith, below))
-block_at (suc count) zero bytes none below = refl
-block_at (suc count) (suc i) bytes none below =
-    block_at count i (drop 64 bytes) none (omega (arith, below))
-    ∙ ap (take 64) (drop-drop (i * 64) 64 bytes
-    ∙ ap (λ n. drop n bytes) {x = 64 + i * 64} {y = suc i * 64} (omega arith))
+block_at : (size count i : ℕ) (bytes none : List ℕ) → i < count
+    → get_or (first_chunks size count bytes) i none ≡ take size (drop (i * size) bytes)
+block_at size zero i bytes none below = absurd (omega (arith, below))
+block_at size (suc count) zero bytes none below =
+    ap (λ n. take size (drop n bytes)) {x = 0} {y = 0 * size} (omega arith)
+block_at size (suc count) (suc i) bytes none below =
+    block_at size count i (drop size bytes) none (omega (arith, below))
+    ∙ ap (take size) (drop-drop (i * size) size bytes
+    ∙ ap (λ n. drop n bytes) {x = size + i * size} {y = suc i * size} (omega arith))
 
--- the digits of one more block
-pub block_more : (bytes old line digits new none : List ℕ) (blocks : List (List ℕ)) (i : ℕ)
-    → blocks ≡ first_chunks 64 (length bytes / 64) bytes → length blocks ≡ length bytes / 64
-    → i < length blocks → line ≡ old ++ hexadecimal (take (i * 64) bytes)
-    → digits ≡ hexadecimal (get_or blocks i none) → new ≡ line ++ digits
-    → new ≡ old ++ hexadecimal (take ((i + 1) * 64) bytes)
-block_more bytes old line digits new none blocks i are many below so_far of grown =
-    let here : get_or blocks i none ≡ take 64 (drop (i * 64) bytes) =
-    ap (λ all. get_or all i none) are
-    ∙ block_at (length bytes / 64) i bytes none (omega (arith, below, many)) in
-    grown ∙ (λ k. so_far k ++ (of ∙ ap hexadecimal here) k)
-    ∙ append_assoc old (hexadecimal (take (i * 64) bytes)) _
-    ∙ ap (λ l. old ++ l) (both (take (i * 64) bytes) (take 64 (drop (i * 64) bytes))
-    ∙ ap hexadecimal (sym (take-add (i * 64) 64 bytes)
-    ∙ ap (λ n. take n bytes) {x = i * 64 + 64} {y = (i + 1) * 64} (omega arith)))
+-- what is printed of one more block
+pub block_more : (n : Notation) (size count : ℕ) (bytes old line printed new none : List ℕ)
+    (blocks : List (List ℕ)) (i : ℕ) → blocks ≡ first_chunks size count bytes
+    → length blocks ≡ count → i < length blocks → line ≡ old ++ noted n (take (i * size) bytes)
+    → printed ≡ noted n (get_or blocks i none) → new ≡ line ++ printed
+    → new ≡ old ++ noted n (take ((i + 1) * size) bytes)
+block_more n size count bytes old line printed new none blocks i are many below so_far of grown =
+    let here : get_or blocks i none ≡ take size (drop (i * size) bytes) =
+    ap (λ all. get_or all i none) are ∙ block_at size count i bytes none (omega (arith, below, many))
+    in
+    grown ∙ (λ k. so_far k ++ (of ∙ ap (noted n) here) k)
+    ∙ append_assoc old (noted n (take (i * size) bytes)) _
+    ∙ ap (λ l. old ++ l) (both_noted n (take (i * size) bytes) (take size (drop (i * size) bytes))
+    ∙ ap (noted n) (sym (take-add (i * size) size bytes)
+    ∙ ap (λ k. take k bytes) {x = i * size + size} {y = (i + 1) * size} (omega arith)))
 
--- and those of the bytes behind all blocks
-pub blocks_end : (bytes old line new rest : List ℕ) (count i : ℕ) → i ≡ count
-    → line ≡ old ++ hexadecimal (take (i * 64) bytes) → rest ≡ drop (count * 64) bytes
-    → new ≡ line ++ hexadecimal rest → new ≡ old ++ hexadecimal bytes
-blocks_end bytes old line new rest count i at so_far is grown =
-    grown ∙ (λ k. so_far k ++ ap hexadecimal is k)
-    ∙ append_assoc old (hexadecimal (take (i * 64) bytes)) _
-    ∙ ap (λ l. old ++ l) (ap (λ n. hexadecimal (take (n * 64) bytes)
-    ++ hexadecimal (drop (count * 64) bytes)) at
-    ∙ both (take (count * 64) bytes) (drop (count * 64) bytes)
-    ∙ ap hexadecimal (take-append-drop (count * 64) bytes))
+-- and of the bytes behind all blocks
+pub blocks_end : (n : Notation) (size count : ℕ) (bytes old line new rest : List ℕ) (i : ℕ)
+    → i ≡ count → line ≡ old ++ noted n (take (i * size) bytes) → rest ≡ drop (count * size) bytes
+    → new ≡ line ++ noted n rest → new ≡ old ++ noted n bytes
+blocks_end n size count bytes old line new rest i at so_far is grown =
+    grown ∙ (λ k. so_far k ++ ap (noted n) is k)
+    ∙ append_assoc old (noted n (take (i * size) bytes)) _
+    ∙ ap (λ l. old ++ l) (ap (λ k. noted n (take (k * size) bytes)
+    ++ noted n (drop (count * size) bytes)) at
+    ∙ both_noted n (take (count * size) bytes) (drop (count * size) bytes)
+    ∙ ap (noted n) (take-append-drop (count * size) bytes))

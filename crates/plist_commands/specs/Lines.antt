@@ -8,6 +8,8 @@ use Rattle.plist_base.specs.Faults.{Fault}
 use Rattle.plist_base.specs.Date.{real_bits, second_of_bytes, has_fraction}
 use Rattle.plist_base.specs.Events.{PlainEvent, StartArray, StartDictionary, EndCollection, Single, Item}
 use Rattle.plist_base.specs.Trees.{Scalar, Boolean, Data, Date, Integer, Real, String, Uid}
+use Rattle.plist_commands.specs.declared.lines.Notation.{Notation}
+use Rattle.plist_commands.specs.declared.lines.Notation.TheVariants as notation
 
 -- the digit of a value below 16: 0 to 9, or a to f
 abbrev pub hexadecimal_digit : ℕ → ℕ
@@ -37,6 +39,11 @@ text_of_start word (Some length) = word ++ codes " " ++ decimal length
 abbrev pub hexadecimal : List ℕ → List ℕ
 hexadecimal bytes =
     flat_map (λ byte. hexadecimal_digit (byte / 16) ∷ hexadecimal_digit (byte % 16) ∷ []) bytes
+
+-- bytes as those of a text, or as those of data
+abbrev pub noted : Notation → List ℕ → List ℕ
+noted notation.Text bytes = text_of_bytes bytes
+noted notation.Hexadecimal bytes = hexadecimal bytes
 
 -- bytes behind a space, unless there are none
 abbrev pub text_of_data : List ℕ → List ℕ

@@ -32,16 +32,27 @@ EndsBehind contents bytes fault old new answer =
     ((answer ≡ fault) × Appends (contents old) (contents new) bytes)
     ⊎ (fault_of answer ≡ fault_nowhere Io)
 
--- ---- one line
+-- ---- bytes behind those that are held back
 
 module _ {W : Type 0} (contents : W → Option (List ℕ)) where
+  -- the bytes stand behind what was held back, and a beginning of all that went out
+  abbrev pub PassesBytes : Result (Unit {0}) Error → W → (held : Vec ℕ Global) → (bytes : List ℕ) → W
+      → (left : Vec ℕ Global) → Type 0
+  PassesBytes answer old held bytes new left =
+      OnOk answer (PassesOn (contents old) (contents new) (held.items ++ bytes) left.items)
+
+  -- a beginning of what was held back and of the bytes went out
+  abbrev pub SendsBytesInPart : W → (held : Vec ℕ Global) → (bytes : List ℕ) → W → Type 0
+  SendsBytesInPart old held bytes new = SendsPrefix contents old (held.items ++ bytes) new
+
+  -- ---- one line
+
   -- its line stands behind what was held back, and a beginning of all that went out
   abbrev pub PassesLine : Result (Unit {0}) Error → W → (held : Vec ℕ Global) → Event → W
       → (left : Vec ℕ Global) → Type 0
-  PassesLine answer old held event new left = OnOk answer
-      (PassesOn (contents old) (contents new) (held.items ++ line_of (event_of event)) left.items)
+  PassesLine answer old held event new left =
+      PassesBytes answer old held (line_of (event_of event)) new left
 
   -- a beginning of what was held back and of the line went out
   abbrev pub SendsLineInPart : W → (held : Vec ℕ Global) → Event → W → Type 0
-  SendsLineInPart old held event new =
-      SendsPrefix contents old (held.items ++ line_of (event_of event)) new
+  SendsLineInPart old held event new = SendsBytesInPart old held (line_of (event_of event)) new

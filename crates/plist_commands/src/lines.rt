@@ -4,11 +4,20 @@ ghost use Rattle.std.specs.Prelude.{◌≡◌, ◌++◌, ◌<◌, codes, length,
 ghost use Rattle.std.specs.Fmt.{decimal, signed_decimal};
 ghost use Rattle.plist_base.specs.Events.{event_of};
 ghost use Rattle.plist_base.specs.Trees.{String};
-ghost use Rattle.plist_commands.specs.Lines.{hexadecimal, hexadecimal_digit, stands_for_itself, text_of_byte, text_of_bytes, text_of_data, text_of_date, text_of_real, text_of_start, words_of, words_of_scalar, line_of};
+ghost use Rattle.plist_commands.specs.Lines.{hexadecimal, hexadecimal_digit, noted, stands_for_itself, text_of_byte, text_of_bytes, text_of_data, text_of_date, text_of_real, text_of_start, words_of, words_of_scalar, line_of};
 
 use itoa::{Buffer, write_digits};
 use plist_base::{Date, Event, Integer, RealBits};
 use std::alloc::AllocError;
+
+/// How bytes are printed.
+#[derive(Clone, Copy)]
+pub enum Notation {
+    /// As those of a text, between its quotes.
+    Text,
+    /// As those of data, behind its word.
+    Hexadecimal,
+}
 
 // No number has more digits.
 const MOST_DIGITS: usize = 20;
@@ -103,6 +112,19 @@ fn push_hexadecimal(line: &mut Vec<u8>, bytes: &[u8]) -> Result<(), AllocError>
         line.extend_from_slice(&digits_of_block(block))?;
     }
     push_digits(line, rest)
+}
+
+/// Appends bytes as they are printed: of a text at most four for each byte, and of data two.
+///
+/// # Errors
+/// Where a growth is refused.
+pub fn push_bytes(line: &mut Vec<u8>, bytes: &[u8], notation: Notation) -> Result<(), AllocError>
+    ensures { OnOk result (line.new.items ≡ line.old.items ++ noted notation bytes.now) }
+{
+    match notation {
+        Notation::Text => push_text(line, bytes),
+        Notation::Hexadecimal => push_hexadecimal(line, bytes),
+    }
 }
 
 // Data behind its word.

@@ -1,15 +1,18 @@
 //! Prints the events of a source, or of whatever else gives items.
 
-ghost use Rattle.std.specs.Prelude.{◌≡◌, ◌⊎◌, [], IfErr, OnErr, OnOk};
+ghost use Rattle.std.specs.Prelude.{◌≡◌, ◌⊎◌, ◌++◌, [], IfErr, OnErr, OnOk};
+ghost use Rattle.plist_base.specs.Events.{Single};
 ghost use Rattle.plist_base.specs.Faults.{fault_of};
+ghost use Rattle.plist_base.specs.Trees.{Data, String};
 ghost use Rattle.plist_binread.specs.BinaryReader.{binary_source};
 ghost use Rattle.plist_commands.specs.Converting.{items_left};
-ghost use Rattle.plist_commands.specs.Prefixes.{EndsBehind, MakesRoom, PassesLine, SendsPrefix, SendsLineInPart};
+ghost use Rattle.plist_commands.specs.Prefixes.{EndsBehind, MakesRoom, PassesBytes, PassesLine, SendsBytesInPart, SendsPrefix, SendsLineInPart};
+ghost use Rattle.plist_commands.specs.Lines.{line_of, noted};
 ghost use Rattle.plist_commands.specs.Printing.{CountsReads, CountsReadsOf, EndsFile, EndsItems, IsWriterError, PrintsFile, PrintsItems, SendsPrefixOfFile, SendsPrefixOfItems};
 ghost use Rattle.plist_commands.specs.Runs.{PrintsReader, PrintsRun, PrintsSource};
 
 use crate::items::Items;
-use crate::lines::{line_bound, push_line};
+use crate::lines::{Notation, line_bound, push_bytes, push_line};
 use plist_base::send::{flush, send};
 use plist_base::{Error, Event, Source};
 use plist_binread::BinaryReader;
@@ -18,6 +21,12 @@ use std::io::Write;
 
 // Lines are held back until the next one may not fit behind them in so many bytes.
 const FULL: usize = 65536;
+
+// A text or data that may not fit goes by blocks of so many bytes.
+const BLOCK: usize = 4096;
+
+// A block is printed as at most so many, with what ends its line.
+const MOST_OF_BLOCK: usize = 4 * BLOCK + 64;
 
 // Sends what is held back. It stands apart, since most lines fit.
 #[cold]
@@ -32,7 +41,7 @@ fn send_waiting<W: Write>(writer: &mut W, lines: &mut Vec<u8>) -> Result<(), Err
     Ok(())
 }
 
-// Sends what is held back where a line of so many bytes may not fit behind it.
+// Sends what is held back where so many bytes may not fit behind it.
 #[inline(always)]
 fn make_room<W: Write>(writer: &mut W, lines: &mut Vec<u8>, size: usize) -> Result<(), Error>
     ensures passed { OnOk result (MakesRoom W.contents writer.old lines.old writer.new lines.new) }
@@ -45,16 +54,137 @@ fn make_room<W: Write>(writer: &mut W, lines: &mut Vec<u8>, size: usize) -> Resu
     send_waiting(writer, lines)
 }
 
+// Puts a block behind what is held back, which is sent before that where it may not fit.
+fn pass_block<W: Write>(
+    out: &mut W,
+    lines: &mut Vec<u8>,
+    block: &[u8],
+    notation: Notation,
+) -> Result<(), Error>
+    ensures passed { PassesBytes W.contents result out.old lines.old (noted notation block.now)
+        out.new lines.new }
+    ensures fault { IfErr result IsWriterError }
+    ensures prefix { OnErr result (SendsBytesInPart W.contents out.old lines.old
+        (noted notation block.now) out.new) }
+{
+    make_room(out, lines, MOST_OF_BLOCK)?;
+    push_bytes(lines, block, notation)?;
+    Ok(())
+}
+
+// The same of however many bytes, block by block.
+fn pass_bytes<W: Write>(
+    out: &mut W,
+    lines: &mut Vec<u8>,
+    bytes: &[u8],
+    notation: Notation,
+) -> Result<(), Error>
+    ensures passed { PassesBytes W.contents result out.old lines.old (noted notation bytes.now)
+        out.new lines.new }
+    ensures fault { IfErr result IsWriterError }
+    ensures prefix { OnErr result (SendsBytesInPart W.contents out.old lines.old
+        (noted notation bytes.now) out.new) }
+{
+    let (blocks, rest) = bytes.as_chunks::<BLOCK>();
+    for block in blocks {
+        pass_block(out, lines, block, notation)?;
+    }
+    pass_block(out, lines, rest, notation)
+}
+
+// The same of a line: its word, those bytes, and its end.
+fn pass_parts<W: Write>(
+    out: &mut W,
+    lines: &mut Vec<u8>,
+    word: &[u8],
+    bytes: &[u8],
+    notation: Notation,
+    end: &[u8],
+) -> Result<(), Error>
+    ensures passed { PassesBytes W.contents result out.old lines.old
+        (word.now ++ noted notation bytes.now ++ end.now) out.new lines.new }
+    ensures fault { IfErr result IsWriterError }
+    ensures prefix { OnErr result (SendsBytesInPart W.contents out.old lines.old
+        (word.now ++ noted notation bytes.now ++ end.now) out.new) }
+{
+    lines.extend_from_slice(word)?;
+    pass_bytes(out, lines, bytes, notation)?;
+    lines.extend_from_slice(end)?;
+    Ok(())
+}
+
+// The line of a text.
+fn pass_text<W: Write>(out: &mut W, lines: &mut Vec<u8>, text: &str) -> Result<(), Error>
+    ensures passed { PassesBytes W.contents result out.old lines.old
+        (line_of (Single (String text.now))) out.new lines.new }
+    ensures fault { IfErr result IsWriterError }
+    ensures prefix { OnErr result (SendsBytesInPart W.contents out.old lines.old
+        (line_of (Single (String text.now))) out.new) }
+{
+    let bytes = text.as_bytes();
+    pass_parts(out, lines, b"String \"", bytes, Notation::Text, b"\"\n")
+}
+
+// The line of data, whose word stands alone where there are no bytes.
+fn pass_data<W: Write>(out: &mut W, lines: &mut Vec<u8>, bytes: &[u8]) -> Result<(), Error>
+    ensures passed { PassesBytes W.contents result out.old lines.old
+        (line_of (Single (Data bytes.now))) out.new lines.new }
+    ensures fault { IfErr result IsWriterError }
+    ensures prefix { OnErr result (SendsBytesInPart W.contents out.old lines.old
+        (line_of (Single (Data bytes.now))) out.new) }
+{
+    if bytes.is_empty() {
+        return pass_parts(out, lines, b"Data", bytes, Notation::Hexadecimal, b"\n");
+    }
+    pass_parts(out, lines, b"Data ", bytes, Notation::Hexadecimal, b"\n")
+}
+
+// Puts a line behind what is held back, that of a text or data by blocks.
+fn pass_long<W: Write>(out: &mut W, lines: &mut Vec<u8>, event: &Event<'_>) -> Result<(), Error>
+    ensures passed { PassesLine W.contents result out.old lines.old event.now out.new lines.new }
+    ensures fault { IfErr result IsWriterError }
+    ensures prefix { OnErr result (SendsLineInPart W.contents out.old lines.old event.now out.new) }
+{
+    match event {
+        Event::String(text) => pass_text(out, lines, text.as_str()),
+        Event::Data(bytes) => pass_data(out, lines, bytes.as_slice()),
+        Event::StartArray(_)
+        | Event::StartDictionary(_)
+        | Event::EndCollection
+        | Event::Boolean(_)
+        | Event::Date(_)
+        | Event::Integer(_)
+        | Event::Real(_)
+        | Event::Uid(_) => {
+            push_line(lines, event)?;
+            Ok(())
+        }
+    }
+}
+
+// Sends what is held back, and puts a line in its place.
+#[cold]
+#[inline(never)]
+fn pass_anew<W: Write>(out: &mut W, lines: &mut Vec<u8>, event: &Event<'_>) -> Result<(), Error>
+    ensures passed { PassesLine W.contents result out.old lines.old event.now out.new lines.new }
+    ensures fault { IfErr result IsWriterError }
+    ensures prefix { OnErr result (SendsLineInPart W.contents out.old lines.old event.now out.new) }
+{
+    send_waiting(out, lines)?;
+    pass_long(out, lines, event)
+}
+
 // Puts the line of an event behind the lines that are held back, which are sent before that where
-// it may not fit. So only a line that is longer than the buffer wants memory, and none is held back
-// then.
+// it may not fit. So they never want more memory.
 #[inline(always)]
 fn pass_line<W: Write>(out: &mut W, lines: &mut Vec<u8>, event: &Event<'_>) -> Result<(), Error>
     ensures passed { PassesLine W.contents result out.old lines.old event.now out.new lines.new }
     ensures fault { IfErr result IsWriterError }
     ensures prefix { OnErr result (SendsLineInPart W.contents out.old lines.old event.now out.new) }
 {
-    make_room(out, lines, line_bound(event))?;
+    if line_bound(event) > FULL.saturating_sub(lines.len()) {
+        return pass_anew(out, lines, event);
+    }
     push_line(lines, event)?;
     Ok(())
 }
