@@ -1,6 +1,6 @@
 //! The lines of the events of values.
 
-use crate::support::must;
+use crate::support::{must, sound};
 use plist::{Date, Integer, RealBits, Uid, Value};
 use plist_commands::print_value;
 use std::process::Abort;
@@ -103,4 +103,35 @@ fn lines_of_texts(rt: HostRuntime) {
         "\0\u{1f} !#[]~\u{7f}",
         b"String \"\\x00\\x1f !#[]~\\x7f\"\n",
     );
+}
+
+// The same bytes 30,000 times, behind a front and before an end.
+fn repeated(rt: &(impl Abort + AllocGlobal), front: &[u8], bytes: &[u8], end: &[u8]) -> Vec<u8> {
+    let mut all = must(rt, Vec::from_slice(rt.alloc(), front));
+    for _ in 0..30_000 {
+        must(rt, all.extend_from_slice(bytes));
+    }
+    must(rt, all.extend_from_slice(end));
+    all
+}
+
+// A value's line is this, and goes out by parts of at most 64 KiB.
+fn expect_parts(rt: &(impl Abort + AllocGlobal), value: Value, line: &[u8]) {
+    let mut out = sound(rt);
+    must(rt, print_value(rt.alloc(), &value, &mut out));
+    assert_eq!(rt; out.bytes.as_slice(), line);
+    assert!(rt; out.longest <= 65_536);
+}
+
+#[test]
+fn long_lines_go_out_by_parts(rt: HostRuntime) {
+    let data = Value::Data(repeated(&rt, b"", b"\x0a\xf5\x99", b""));
+    let line = repeated(&rt, b"Data ", b"0af599", b"\n");
+    expect_parts(&rt, data, line.as_slice());
+    let mut text = String::new(rt.alloc());
+    for _ in 0..30_000 {
+        must(&rt, text.push_str("x\u{e9}"));
+    }
+    let line = repeated(&rt, b"String \"", b"x\\xc3\\xa9", b"\"\n");
+    expect_parts(&rt, Value::String(text), line.as_slice());
 }
