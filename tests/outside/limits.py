@@ -46,6 +46,7 @@ def runs():
     yield "99,998 references to a text of 1 MiB", shared(text(1 << 20), 99_998), most, REACHED
     yield "99,998 references to data of 1 MiB", shared(data(1 << 20), 99_998), most, REACHED
     yield "99,998 references to a wide text of 1 MiB", shared(wide(1 << 19), 99_998), most, REACHED
+    yield "99,998 references to a text of 1,015 bytes, 101,073 in all", shared(text(1_015), 99_998), most, REACHED
     yield "2,000 references to a text of 100,000 bytes", shared(text(100_000), 2_000), 10_000_000, REACHED
     yield "100 references to a text of 100,000 bytes", shared(text(100_000), 100), 10_000_000, VALUE
     yield "a text of 64 MiB", shared(text(64 << 20), 1), 1 << 20, REACHED
