@@ -33,8 +33,7 @@ pub trees-once : (ps : List (List ℕ × Value)) → EachOnce ps
     → last_values (tree_pairs ps) ≡ tree_pairs ps
 trees-once ps d = last-values-once _ (once_trees ps d)
 
--- a pair that is put among them is so among their last values
-pub last_insert : (k : List ℕ) (v : Value) (ps after : List (List ℕ × Value))
+last_insert : (k : List ℕ) (v : Value) (ps after : List (List ℕ × Value))
     → after ≡ insert_entry bytes_eq ps k v → EachOnce after
     → last_values (tree_pairs after) ≡ with_pair (last_values (tree_pairs ps)) k (tree_of v)
 last_insert k v ps after s once =
@@ -47,13 +46,13 @@ pub pair_made : (collections outer new : List Unended) (popped : Option Unended)
     (pairs after : List (List ℕ × Value)) (key : String Global) (value : Value)
     → collections ≡ outer ++ option_to_list popped → popped ≡ Some (run.AfterKey pairs key)
     → new ≡ outer ++ run.Dictionary after ∷ []
-    → last_values (tree_pairs after)
-    ≡ with_pair (last_values (tree_pairs pairs)) (string_bytes key) (tree_of value)
-    → held_in None (reverse new)
+    → after ≡ insert_entry bytes_eq pairs (string_bytes key) value
+    → EachOnce after → held_in None (reverse new)
     ≡ and_tree with_pair (tree_of value) (map open_of (reverse collections))
-pair_made collections outer new popped pairs after key value p q r s =
+pair_made collections outer new popped pairs after key value p q r s once =
     ap (λ l. held_in None (reverse l)) r
     ∙ ap (held_in None) (innermost outer (run.Dictionary after))
-    ∙ ap (λ d. Within (InDictionary d) (map open_of (reverse outer))) s
+    ∙ ap (λ d. Within (InDictionary d) (map open_of (reverse outer)))
+    (last_insert (string_bytes key) value pairs after s once)
     ∙ sym (ap (λ l. and_tree with_pair (tree_of value) (map open_of l))
     (innermost_of collections outer popped (run.AfterKey pairs key) p q))

@@ -8,7 +8,6 @@ ghost use Rattle.plist.specs.Building.{NotBegun, complete_tree, refusal_at, refu
 ghost use Rattle.plist.specs.UnfinishedValues.{AddsValue, CarriesOn, IsLeft, IsRefusalOf, Opens, TakesText, unfinished_of};
 ghost use Rattle.plist.specs.Views.{tree_of};
 
-use crate::last_wins::put_pair;
 use crate::{Dictionary, Value};
 use plist_base::{ErrorKind, Event, EventKind};
 use std::alloc::{AllocError, Global};
@@ -131,10 +130,12 @@ impl UnfinishedValue {
                 .collections
                 .push_reserved(Unended::Dictionary(pairs)),
             Some(Unended::AfterKey(mut pairs, key)) => {
-                match put_pair(&mut pairs, key, value) {
-                    Ok(()) => {}
-                    Err(error) => return Err(error),
+                match pairs.insert(key, value) {
+                    Ok(_) => {}
+                    Err(_) => return Err(AllocError),
                 }
+                // it tells that no key stands twice
+                let _ = pairs.pair_count();
                 self.collections.push_reserved(Unended::Dictionary(pairs));
             }
         }

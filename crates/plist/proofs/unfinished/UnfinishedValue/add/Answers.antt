@@ -8,4 +8,5 @@ returns-in-Ok c =
     let found = c.in-Some-AfterKey in
     ap (λ root. held_in root (reverse c.push_reserved-in-Some-AfterKey.new.self.items)) c.requires
     ∙ pair_made _ _ _ _ _ _ _ _ c.pop.ensures.items (found.is ∙ ap Some found.field-0-is)
-    c.push_reserved-in-Some-AfterKey.ensures.items c.in-Ok.ensures
+    c.push_reserved-in-Some-AfterKey.ensures.items c.in-Ok.ensures.pairs
+    c.pair_count.ensures.distinct
