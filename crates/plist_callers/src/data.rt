@@ -1,8 +1,11 @@
-//! Proved callers of data: its bytes are those that were put in, it is what its bytes are, and its
-//! text reads back as itself.
+//! Proved callers of data: its bytes are those that were put in, it is what its bytes are, its text
+//! reads back as itself, and what is no such text is told by its first wrong symbol.
 
-ghost use Rattle.std.specs.Prelude.{◌≡◌, ◌<◌, ◌↔◌, IfErr, IfOk, IsTrue, codes, length, slice_get, slice_set, string_bytes};
-ghost use Rattle.plist_data.specs.DataText.{data_text};
+ghost use Rattle.std.specs.Prelude.{◌≡◌, ◌<◌, ◌↔◌, Err, IfErr, IfOk, IfSome, IsTrue, codes, length, slice_get, slice_set, string_bytes};
+ghost use Rattle.base64.specs.Engines.{standard};
+ghost use Rattle.base64.specs.GeneralPurpose.{decode_of};
+ghost use Rattle.base64.specs.declared.decode.DecodeError.TheVariants as fault;
+ghost use Rattle.plist_data.specs.DataText.{data_text, without_white};
 ghost use Rattle.plist_data.specs.declared.data.InvalidXmlData.TheVariants as refusal;
 
 use base64::DecodeError;
@@ -61,6 +64,20 @@ pub fn text_of_no_data(alloc: Global) -> Result<String, AllocError>
     ensures { IfOk result (λ text. string_bytes text ≡ codes "Invalid XML data") }
 {
     InvalidXmlData::Decode(DecodeError::InvalidPadding).to_string(alloc)
+}
+
+/// The first byte of a text that base64 hasn't, if it is no data for that reason, with its place in
+/// what is left of the text without white space.
+pub fn wrong_symbol(alloc: Global, text: &str) -> Option<(usize, u8)>
+    ensures { IfSome result (λ found.
+        decode_of standard (without_white text.now) ≡ Err (fault.InvalidByte found.0 found.1)) }
+{
+    match Data::from_xml_format(alloc, text) {
+        Err(InvalidXmlData::Decode(DecodeError::InvalidByte(place, symbol))) => {
+            Some((place, symbol))
+        }
+        _ => None,
+    }
 }
 
 /// The text of bytes, as data: base64 in lines of 68 characters.
