@@ -1,6 +1,6 @@
 //! Proved callers of a reader: how many objects it tells of a file, and what comes behind a fault.
 
-ghost use Rattle.std.specs.Prelude.{◌≡◌, ◌≤◌, None, IfSome, false, length};
+ghost use Rattle.std.specs.Prelude.{◌≡◌, ◌≤◌, None, IfSome, false};
 ghost use Rattle.plist_binread.specs.BinaryReader.{objects_in_head};
 
 use plist_base::{Error, ErrorKind, OwnedEvent, Source};
@@ -31,15 +31,6 @@ pub fn count_without_root(alloc: Global, bytes: &[u8]) -> Option<usize>
         },
         _ => None,
     }
-}
-
-/// How many objects a reader tells of a file behind its first step: no more than the file has bytes.
-#[tactic(auto, using(crate::proofs::Objects::places_within))]
-pub fn objects_told(alloc: Global, bytes: &[u8]) -> usize
-    ensures { result ≤ length bytes.now }
-{
-    let (_before, behind) = count_objects(alloc, bytes);
-    behind
 }
 
 /// What a reader gives behind a fault, be it a limit's or a device's: nothing.
