@@ -76,8 +76,10 @@ fn expect_failure(rt: &(impl Abort + AllocGlobal), call: u64, kind: ErrorKind) -
 // `read_exact_at`.
 fn expect_handed_on(rt: &(impl Abort + AllocGlobal), kind: ErrorKind) {
     let mut calls = 0;
-    while calls < 1000 && expect_failure(rt, calls, kind) {
-        calls += 1;
+    for call in 0..1000 {
+        if call == calls && expect_failure(rt, call, kind) {
+            calls = call.saturating_add(1);
+        }
     }
     assert!(rt; calls > 46 && calls < 1000, "{calls} calls");
     let mut device = device_of(rt, 2, DeviceFault::Fails(kind));
@@ -116,8 +118,10 @@ fn expect_short(rt: &(impl Abort + AllocGlobal), call: u64) -> bool {
 #[test]
 fn ends_where_a_read_gives_nothing(rt: HostRuntime) {
     let mut calls = 1;
-    while calls < 1000 && expect_short(&rt, calls) {
-        calls += 1;
+    for call in 1..1000 {
+        if call == calls && expect_short(&rt, call) {
+            calls = call.saturating_add(1);
+        }
     }
     assert!(rt; calls > 46 && calls < 1000, "{calls} calls");
 }
