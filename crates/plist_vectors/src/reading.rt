@@ -72,16 +72,20 @@ fn expect_failure(rt: &(impl Abort + AllocGlobal), call: u64, kind: ErrorKind) -
     true
 }
 
-// So it is at each call of a reader, of which 46 are made for the head alone, and so it is with
-// `read_exact_at`.
-fn expect_handed_on(rt: &(impl Abort + AllocGlobal), kind: ErrorKind) {
-    let mut calls = 0;
+// So it is at each call of a reader, of which 46 are made for the head alone.
+fn expect_failures(rt: &(impl Abort + AllocGlobal), kind: ErrorKind) {
     for call in 0..1000 {
-        if call == calls && expect_failure(rt, call, kind) {
-            calls = call.saturating_add(1);
+        if !expect_failure(rt, call, kind) {
+            assert!(rt; call > 46, "a failure at call {call} was lost");
+            return;
         }
     }
-    assert!(rt; calls > 46 && calls < 1000, "{calls} calls");
+    panic!(rt; "the device never stopped failing")
+}
+
+// And so it is with `read_exact_at`.
+fn expect_handed_on(rt: &(impl Abort + AllocGlobal), kind: ErrorKind) {
+    expect_failures(rt, kind);
     let mut device = device_of(rt, 2, DeviceFault::Fails(kind));
     let answer = read_exact_at(&mut device, 8, &mut [0; 4]);
     must(rt, expect_io(answer, kind, Some(10)));
@@ -115,13 +119,17 @@ fn expect_short(rt: &(impl Abort + AllocGlobal), call: u64) -> bool {
 }
 
 // So it is at each read, the first of which is the second call.
-#[test]
-fn ends_where_a_read_gives_nothing(rt: HostRuntime) {
-    let mut calls = 1;
+fn expect_shorts(rt: &(impl Abort + AllocGlobal)) {
     for call in 1..1000 {
-        if call == calls && expect_short(&rt, call) {
-            calls = call.saturating_add(1);
+        if !expect_short(rt, call) {
+            assert!(rt; call > 46, "a short read at call {call} was lost");
+            return;
         }
     }
-    assert!(rt; calls > 46 && calls < 1000, "{calls} calls");
+    panic!(rt; "the device never stopped giving nothing")
+}
+
+#[test]
+fn ends_where_a_read_gives_nothing(rt: HostRuntime) {
+    expect_shorts(&rt);
 }
