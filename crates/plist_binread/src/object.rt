@@ -13,7 +13,7 @@ use crate::measure::measure;
 use crate::object_faults::{Outcome, no_text, refuse_object};
 use crate::slot::{EventSlot, Refused};
 use crate::text::read_long;
-use plist_base::{Source, read_exact_at};
+use plist_base::{Event, Source, read_exact_at};
 use std::alloc::Global;
 
 // As many bytes as tell any object but a long text or data: a marker, a length of nine bytes, and
@@ -139,8 +139,11 @@ fn decode_long<S: Source>(
     ensures unchanged { S.known source.new ≡ S.known source.old }
     ensures failures { AnswersIn S.failures result slot.new source.old source.new }
 {
+    let content = slot.content;
     weigh(source, place, left, slot)?;
-    match read_long(alloc, source, place, slot.content) {
+    // The one before it goes first, so that there is memory for one alone.
+    slot.hold(Event::EndCollection);
+    match read_long(alloc, source, place, content) {
         Ok(event) => {
             slot.hold(event);
             Ok(Outcome::Scalar)
