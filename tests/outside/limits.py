@@ -20,7 +20,7 @@ import peak_memory
 import speed
 
 BEYOND = 2 << 20
-CRATES = ("plist_dates", "plist_base", "plist_format", "plist_binread", "plist_binwrite", "plist_ascii",
+CRATES = ("plist_base", "plist_format", "plist_binread", "plist_binwrite", "plist_ascii",
           "plist_data", "plist_pairs", "plist_reader", "plist")
 REACHED = b"LimitReached(Bytes)\n"
 VALUE = b"a value\n"

@@ -277,7 +277,7 @@ def built(folder, name, crates, uses, words):
 
 def items_program(folder):
     """The program over `BinaryReader`."""
-    return built(folder, "items", ("plist_dates", "plist_base", "plist_format", "plist_binread"),
+    return built(folder, "items", ("plist_base", "plist_format", "plist_binread"),
                  "plist_base plist_binread", ["no_such_file"])
 
 

@@ -9,7 +9,7 @@ use Rattle.std.proofs.lemmas.Bool.Decides.{nat_tests}
 use Rattle.std.proofs.lemmas.Int.{ints}
 use Rattle.plist_base.specs.Date.{IsSecondOf, real_parts, parts_in_second, parts_of, whole_seconds, parts_left, real_second, rounded_down, is_second_of_date, if_second_of_date, IsSecondOfDate, second_of_bits, date_if, is_no_number, IsDate, IsWhole, plist_epoch, real_bits, second_of_bytes}
 use Rattle.plist_base.specs.DateTexts.{HasTextYear, IsDateText, IsInUtc}
-use Rattle.plist_dates.specs.DateText.{HasFourDigitYear, IsTextOfSecond, unix_second_of_text}
+use Rattle.plist_base.specs.UnixSeconds.{HasFourDigitYear, IsTextOfSecond, unix_second_of_text}
 
 -- d parts make a second
 abbrev Bounds : ℤ → ℤ → ℕ → Type 0

@@ -4,7 +4,7 @@ use Rattle.std.specs.declared.alloc.Global.{Global}
 use Rattle.plist_base.specs.declared.error.Error.{Error}
 use Rattle.plist_base.specs.Date.{IsDate, IsWhole, if_second_of_date, plist_epoch, second_of_bytes}
 use Rattle.plist_base.specs.Faults.{FaultKind, OutOfMemory, fault_nowhere, fault_of}
-use Rattle.plist_dates.specs.DateText.{HasFourDigitYear, IsTextOfSecond, unix_second_of_text}
+use Rattle.plist_base.specs.UnixSeconds.{HasFourDigitYear, IsTextOfSecond, unix_second_of_text}
 
 -- the second of the date at a Unix second, or none outside the range of dates
 abbrev pub second_at : Option ℤ → Option ℤ

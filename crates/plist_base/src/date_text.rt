@@ -6,8 +6,9 @@ ghost use Rattle.plist_base.specs.Date.{IsWhole, has_fraction, second_of_bytes, 
 ghost use Rattle.plist_base.specs.DateTexts.{HasOtherYear, HasTextYear, IsDateText, IsInUtc, IsRefused, ReadsAs, second_of_text, PrintsOnly};
 ghost use Rattle.plist_base.specs.Faults.{FractionalDate, InvalidDateString, YearOutOfRange, fault_nowhere, fault_of};
 
+use crate::date_reading::unix_second_of_text;
+use crate::moment::Moment;
 use crate::{Date, Error, ErrorKind};
-use plist_dates::Moment;
 use std::alloc::Global;
 use std::fmt;
 
@@ -35,7 +36,7 @@ impl Date {
         ensures back { (date : List ℕ) → IsDateText date text.now → ReadsAs date result }
         ensures prints { IfOk result (λ date. IsInUtc text.now → IsDateText date text.now) }
     {
-        match plist_dates::second_of_text(text) {
+        match unix_second_of_text(text) {
             None => Err(InvalidXmlDate),
             Some(second) => match Date::from_unix_secs(second) {
                 None => Err(InvalidXmlDate),

@@ -1,6 +1,6 @@
 use Rattle.std.proofs.Common.{◌∙◌, refl, rules, string_bytes, subst, sym, FitsSigned, w64}
 use Rattle.std.proofs.lemmas.Int.{to_z-of_z}
-use Rattle.plist_dates.specs.DateText.{HasFourDigitYear, IsTextOfSecond}
+use Rattle.plist_base.specs.UnixSeconds.{HasFourDigitYear, IsTextOfSecond}
 use Rattle.plist_base.proofs.DateRounding.{text_at, text_in_utc, text_year, unix_year}
 use Rattle.plist_base.proofs.date.Date.to_xml_format.Goals as goal
 

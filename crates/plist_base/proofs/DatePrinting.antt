@@ -6,13 +6,13 @@ use Rattle.jiff_core.specs.Date.{epoch_day}
 use Rattle.jiff_core.specs.declared.civil.date.Date.{Date}
 use Rattle.jiff_core.proofs.SignedLemmas.{signed_arith, int_div_euclid-parts}
 use Rattle.jiff_core.proofs.DateLemmas.{cases_date, epoch_day-lt, epoch_day_range, epoch_day_same, days_from_civil-max}
-use Rattle.plist_dates.specs.DateText.{HasFourDigitYear, day_in, day_number, has_marks, second_of_day, time_in, two_digits, unix_second_of_text, zone_in, IsTextOfSecond}
+use Rattle.plist_base.specs.UnixSeconds.{HasFourDigitYear, day_in, day_number, has_marks, second_of_day, time_in, two_digits, unix_second_of_text, zone_in, IsTextOfSecond}
 use Rattle.std.proofs.DigitsParse.{digits_onto_last, digits_onto_step, digits_onto-nil}
 use Rattle.std.proofs.lemmas.Bool.{cases_lt}
 use Rattle.std.proofs.lemmas.Fmt.{decimal_digit}
 use Rattle.std.specs.Fmt.{decimal, digit_glyph, padded_integral, char_count}
 use Rattle.jiff_core.proofs.CalendarLemmas.{days_in_month_bounds}
-use Rattle.plist_dates.specs.Moments.{moment_text, two_places}
+use Rattle.plist_base.specs.Moments.{moment_text, two_places}
 
 -- 0000-01-01
 first : Date

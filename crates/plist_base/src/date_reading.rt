@@ -2,12 +2,12 @@
 
 ghost use Rattle.std.specs.Prelude.{◌≡◌, ◌==◌, ◌+◌, ◌+ℤ◌, ◌-ℤ◌, ◌*ℤ◌, ◌<◌, ◌≤◌, cond, length, neg_ℤ, ℤ, pos, IsTrue, Some, None, IfSome};
 ghost use Rattle.jiff_core.specs.Calendar.{IsEpochDay, IsWithin};
-ghost use Rattle.plist_dates.specs.DateText as spec;
+ghost use Rattle.plist_base.specs.UnixSeconds as spec;
 
 use jiff_core::civil::Date;
 
 // The number of two digits at a place.
-#[tactic(auto, unfolding(crate::specs::DateText::two_digits))]
+#[tactic(auto, unfolding(crate::specs::UnixSeconds::two_digits))]
 fn two_at(text: &[u8], place: usize) -> Option<u8>
     requires { place + 1 < length text.now }
     ensures is { result ≡ spec.two_at text.now place }
@@ -33,7 +33,7 @@ fn four_at(text: &[u8], place: usize) -> Option<u16>
 }
 
 // The days from 1970-01-01 to a date, where the calendar has it.
-#[tactic(auto, unfolding(crate::specs::DateText::day_number))]
+#[tactic(auto, unfolding(crate::specs::UnixSeconds::day_number))]
 fn day_number(year: u16, month: u8, day: u8) -> Option<i32>
     requires { year < 10000 }
     ensures is { result ≡ spec.day_number year month day }
@@ -62,7 +62,7 @@ fn day_in(text: &[u8]) -> Option<i32>
 }
 
 // The second of a day.
-#[tactic(auto, unfolding(crate::specs::DateText::second_of_day))]
+#[tactic(auto, unfolding(crate::specs::UnixSeconds::second_of_day))]
 fn second_of_day(hour: u8, minute: u8, second: u8) -> Option<u32>
     ensures is { result ≡ spec.second_of_day hour minute second }
     ensures bound { IfSome result (λ n. n < 86400) }
@@ -159,8 +159,8 @@ fn unix_second(day: i32, time: u32, zone: i32) -> i64
 ///
 /// It is `YYYY-MM-DD`, one of `T`, `t` and the space, `HH:MM:SS`, and `Z`, `z` or a sign with
 /// `HH:MM`, of the years 0 to 9999. The day is one of the calendar, and there is no second 60.
-#[tactic(auto, unfolding(crate::specs::DateText::unix_second_of_text))]
-pub fn second_of_text(text: &str) -> Option<i64>
+#[tactic(auto, unfolding(crate::specs::UnixSeconds::unix_second_of_text))]
+pub fn unix_second_of_text(text: &str) -> Option<i64>
     ensures is { result ≡ spec.unix_second_of_text text.now }
 {
     let text = text.as_bytes();

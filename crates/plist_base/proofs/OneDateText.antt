@@ -8,8 +8,8 @@ use Rattle.jiff_core.specs.Date.{epoch_day}
 use Rattle.jiff_core.specs.declared.civil.date.Date.{Date}
 use Rattle.jiff_core.proofs.DateLemmas.{epoch_day_injective}
 use Rattle.jiff_core.proofs.SignedLemmas.{signed_arith}
-use Rattle.plist_dates.specs.DateText.{day_number, has_marks, moment, of_both, of_three, second_of_day, two_at, two_digits, unix_second_of_text, zone_in, HasFourDigitYear, IsTextOfSecond}
-use Rattle.plist_dates.proofs.Printing.{second_in_years, two_text, text_from}
+use Rattle.plist_base.specs.UnixSeconds.{day_number, has_marks, moment, of_both, of_three, second_of_day, two_at, two_digits, unix_second_of_text, zone_in, HasFourDigitYear, IsTextOfSecond}
+use Rattle.plist_base.proofs.DatePrinting.{second_in_years, two_text, text_from}
 
 -- ---- what an answer was made of
 

@@ -2,8 +2,8 @@
 
 ghost use Rattle.std.specs.Prelude.{◌↔◌, List, ℕ, ◌<◌, ◌≤ℤ◌, ◌+ℤ◌, ◌*ℤ◌, pos, Some, IsSome, IfSome};
 ghost use Rattle.jiff_core.specs.Date.{epoch_day};
-ghost use Rattle.plist_dates.specs.DateText.{HasFourDigitYear, IsTextOfSecond};
-ghost use Rattle.plist_dates.specs.Moments.{moment_text, Prints};
+ghost use Rattle.plist_base.specs.UnixSeconds.{HasFourDigitYear, IsTextOfSecond};
+ghost use Rattle.plist_base.specs.Moments.{moment_text, Prints};
 
 use jiff_core::civil::Date;
 use std::fmt;

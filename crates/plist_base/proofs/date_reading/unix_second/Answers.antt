@@ -1,6 +1,6 @@
 use Rattle.std.proofs.Common.{arith}
 use Rattle.std.proofs.lemmas.Int.{ints}
-use Rattle.plist_dates.proofs.reading.unix_second.Goals as goal
+use Rattle.plist_base.proofs.date_reading.unix_second.Goals as goal
 
 pub returns : goal.returns
 returns c = omega (

@@ -1,9 +1,9 @@
 use Rattle.std.proofs.Common.{◌≡◌, ◌∙◌, true, Some, sym, ap, arith, rules, FitsSigned, w32, w64}
 use Rattle.std.proofs.lemmas.Int.{to_z-of_z}
 use Rattle.jiff_core.proofs.SignedLemmas.{signed_arith}
-use Rattle.plist_dates.specs.DateText.{day_in, has_marks, time_in, zone_in}
-use Rattle.plist_dates.proofs.Printing.{spelled}
-use Rattle.plist_dates.proofs.reading.second_of_text.Goals as goal
+use Rattle.plist_base.specs.UnixSeconds.{day_in, has_marks, time_in, zone_in}
+use Rattle.plist_base.proofs.DatePrinting.{spelled}
+use Rattle.plist_base.proofs.date_reading.unix_second_of_text.Goals as goal
 
 pub returns : goal.returns
 returns c =

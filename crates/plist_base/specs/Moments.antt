@@ -1,7 +1,7 @@
 -- The text of a moment.
 use Rattle.std.specs.Prelude.{◌≡◌, ℕ, ◌-◌, ◌^◌, List, [], ◌∷◌, ◌++◌, Option, MatchOption}
 use Rattle.std.specs.Fmt.{format_spec, styled_decimal}
-use Rattle.plist_dates.specs.declared.moment.Moment.{Moment}
+use Rattle.plist_base.specs.declared.moment.Moment.{Moment}
 
 -- a number with a zero before a lone digit
 abbrev pub two_places : ℕ → List ℕ

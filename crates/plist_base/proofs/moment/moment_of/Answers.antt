@@ -1,8 +1,8 @@
 use Rattle.std.proofs.Common.{◌≡◌, pos, arith, FitsSigned, w16}
 use Rattle.std.proofs.lemmas.Int.{ints, to_z-of_z}
 use Rattle.jiff_core.proofs.SignedLemmas.{signed_arith}
-use Rattle.plist_dates.proofs.Printing.{printed}
-use Rattle.plist_dates.proofs.moment.moment_of.Goals as goal
+use Rattle.plist_base.proofs.DatePrinting.{printed}
+use Rattle.plist_base.proofs.moment.moment_of.Goals as goal
 
 pub returns : goal.returns
 returns c =

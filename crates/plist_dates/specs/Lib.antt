@@ -1,2 +1,0 @@
-pub mod DateText
-pub mod Moments
