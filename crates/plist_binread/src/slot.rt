@@ -98,6 +98,7 @@ pub struct EventSlot {
 }
 
 // The same event, whose text or data is lent.
+#[inline(always)]
 fn lend<'a>(event: &'a Event<'_>) -> Event<'a>
     ensures { event_of result ≡ event_of event.now }
 {
@@ -190,6 +191,7 @@ impl EventSlot {
     }
 
     /// The event, whose text or data is lent.
+    #[inline(always)]
     pub fn lend(&self) -> Event<'_>
         ensures { event_of result ≡ event_in self.now }
     {
@@ -309,6 +311,7 @@ impl EventSlot {
     }
 
     /// The tag and the content of a scalar, if it is small enough.
+    #[inline(always)]
     pub fn pack(&self) -> Option<(u8, u64)>
         ensures scalar { PacksEvent (event_in self.now) result }
         ensures small { IfSome result (λ packed. is_small_event (event_in self.now) ≡ true) }
