@@ -256,23 +256,25 @@ module _ {R C : Type 0} {g : Ghosts R} {h : CounterGhosts C} (known : R → Opti
       let answer = answer_in noted new.slot in
       let after = after_in (Some noted) new.slot new.state is in
       record {
-        unchanged = same;
-        items = first_decodes old.state new.state old.walk.frames new.walk.frames answer after
-            (known old.source) old.bounds new.bounds (event_in new.slot) fresh yields;
-        failures = failures;
-        ended = λ e. absurd (fresh-not_ended old.state fresh e);
-        ends = ends_after (Some answer) new.state after;
-        begun = never_fresh (Some answer) new.state after;
-        faults = given_within (Some answer) (2 ^ 64) (omega arith) within;
-        head = holds_walking (known old.source) new.bounds new.walk.tags.items new.walk.contents.items
-            (reverse new.walk.frames) (is_walking new.state ≡ true)
-            (walks_on_ok answer new.state _ after (ok_in noted new.slot _ held));
-        cached = first_kept old.state new.walk.tags.items (event_in new.slot) (known old.source)
-            old.bounds old.walk.frames answer fresh kept;
-        leaves = left_behind known counts count old new new.walk.path new.walk.same counted bounded;
-        objects = IfSome_then (known old.source) objects
-            (λ bytes objects. tells_root bytes noted new.slot new.walk objects);
-        kept = (ap is_some limiter, λ begun. absurd (cc (ap is_fresh fresh)));
+        gives = record {
+          unchanged = same;
+          items = first_decodes old.state new.state old.walk.frames new.walk.frames answer after
+              (known old.source) old.bounds new.bounds (event_in new.slot) fresh yields;
+          failures = failures;
+          ended = λ e. absurd (fresh-not_ended old.state fresh e);
+          ends = ends_after (Some answer) new.state after;
+          begun = never_fresh (Some answer) new.state after;
+          faults = given_within (Some answer) (2 ^ 64) (omega arith) within;
+          head = holds_walking (known old.source) new.bounds new.walk.tags.items new.walk.contents.items
+              (reverse new.walk.frames) (is_walking new.state ≡ true)
+              (walks_on_ok answer new.state _ after (ok_in noted new.slot _ held));
+          cached = first_kept old.state new.walk.tags.items (event_in new.slot) (known old.source)
+              old.bounds old.walk.frames answer fresh kept;
+          leaves = left_behind known counts count old new new.walk.path new.walk.same counted bounded;
+          objects = IfSome_then (known old.source) objects
+              (λ bytes objects. tells_root bytes noted new.slot new.walk objects);
+          kept = (ap is_some limiter, λ begun. absurd (cc (ap is_fresh fresh)));
+        };
         falls = first_falls old.state new.state old.walk.frames new.walk.frames answer after
             (walk_objects new.walk) (walk_objects old.walk) fresh
             (omega (arith, new.walk.tags.ok, new.walk.tags.small)) (ok_in noted new.slot _ falls);
@@ -293,23 +295,25 @@ module _ {R C : Type 0} {g : Ghosts R} {h : CounterGhosts C} (known : R → Opti
       let item = item_in noted new.slot in
       let after = after_in noted new.slot new.state is in
       record {
-        unchanged = same;
-        items = item_decodes old.state new.state old.walk.frames new.walk.frames item after
-            (known old.source) old.bounds new.bounds (event_in new.slot) walking yields;
-        failures = failures;
-        ended = λ e. absurd (walking-not_ended old.state walking e);
-        ends = ends_after item new.state after;
-        begun = never_fresh item new.state after;
-        faults = given_within item old.bounds.trailer (omega (arith, old.bounds.small)) within;
-        head = holds_head (known old.source) new.bounds new.walk.tags.items new.walk.contents.items
-            (reverse new.walk.frames) (is_walking new.state ≡ true) held;
-        cached = item_kept old.state new.walk.tags.items (event_in new.slot) (known old.source)
-            old.bounds old.walk.frames item walking kept;
-        leaves = left_behind known counts count old new new.walk.path new.walk.same counted
-            (rw size bounded);
-        objects = IfSome_then (known old.source) held
-            (λ bytes held. tells_item bytes item (walk_objects new.walk) (sym held.size));
-        kept = (ap is_some limiter, λ _. size);
+        gives = record {
+          unchanged = same;
+          items = item_decodes old.state new.state old.walk.frames new.walk.frames item after
+              (known old.source) old.bounds new.bounds (event_in new.slot) walking yields;
+          failures = failures;
+          ended = λ e. absurd (walking-not_ended old.state walking e);
+          ends = ends_after item new.state after;
+          begun = never_fresh item new.state after;
+          faults = given_within item old.bounds.trailer (omega (arith, old.bounds.small)) within;
+          head = holds_head (known old.source) new.bounds new.walk.tags.items new.walk.contents.items
+              (reverse new.walk.frames) (is_walking new.state ≡ true) held;
+          cached = item_kept old.state new.walk.tags.items (event_in new.slot) (known old.source)
+              old.bounds old.walk.frames item walking kept;
+          leaves = left_behind known counts count old new new.walk.path new.walk.same counted
+              (rw size bounded);
+          objects = IfSome_then (known old.source) held
+              (λ bytes held. tells_item bytes item (walk_objects new.walk) (sym held.size));
+          kept = (ap is_some limiter, λ _. size);
+        };
         falls = item_falls old.state new.state old.walk.frames new.walk.frames item after
             (walk_objects old.walk) (walk_objects new.walk) walking size
             (falls_in noted new.slot _ _ falls);

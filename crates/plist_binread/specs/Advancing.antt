@@ -1,10 +1,8 @@
 -- What one call of a reader's `advance` does, and the current event.
-use Rattle.std.specs.Prelude.{◌≡◌, ℕ, ◌^◌, ◌<◌, Bool, false, List, Option, None, Result, IfSome}
+use Rattle.std.specs.Prelude.{ℕ, ◌<◌, Bool, false, List, Option, Result, IfSome}
 use Rattle.plist_base.specs.declared.error.Error.{Error}
 use Rattle.plist_base.specs.declared.source.Source.{Ghosts}
 use Rattle.plist_base.specs.Events.{PlainEvent, Item}
-use Rattle.plist_base.specs.Sources.{ItemCountsIo}
-use Rattle.plist_binread.specs.Failures.{ItemGivenWithin}
 use Rattle.plist_binread.specs.declared.reader.BinaryReader.{BinaryReader}
 use Rattle.plist_binread.specs.declared.counter.DecodeCounter.{Ghosts as CounterGhosts}
 use Rattle.plist_binread.specs.Lengths.{BeginsTooLong, RefusesLong, left_under}
@@ -12,8 +10,7 @@ use Rattle.plist_binread.specs.Slot.{event_in, compact_event_of, item_in}
 use Rattle.plist_binread.specs.declared.slot.Refused.{Refused}
 use Rattle.plist_binread.specs.declared.slot.CompactEvent.{CompactEvent}
 use Rattle.std.specs.String.{string_bytes}
-use Rattle.plist_binread.specs.Turns.{IsCurrentCached}
-use Rattle.plist_binread.specs.BinaryReader.{EndsAfterFault, GivesAs, HasEndedBinary, HoldsHead, KeepsCounts, Leaves, TellsObjects, has_limits, is_new, number_to_come, binary_source, binary_steps, items_to_come, walk_to_come}
+use Rattle.plist_binread.specs.BinaryReader.{GivesAs, GivesBinaryBy, has_limits, binary_source, binary_steps, items_to_come, walk_to_come}
 
 module _ {R C : Type 0} {g : Ghosts R} {h : CounterGhosts C} where
   -- the current event
@@ -36,36 +33,6 @@ abbrev pub GivesCurrent : {A : Type 0} → (new : Bool) (before : List Item) →
     → (current : PlainEvent) → (after : List Item) → Type 0
 GivesCurrent new before item current after = GivesAs (λ _. current) new before item after
 
--- as `CachesItem`, where the event is the current one
-abbrev pub CachesCurrent : {A R C : Type 0} {g : Ghosts R} {h : CounterGhosts C} → Option ℕ
-    → Option (Result A Error) → BinaryReader R C g h → Type 0
-CachesCurrent number item reader = IsCurrentCached number item
-    (current_event reader) reader.walk.tags.items
-
--- one call of `advance`: as one of `next`, of the current event. What is to come, and
--- whether there are limits, are words of the reader's.
-pub record AdvancesBy {A R C : Type 0} {g : Ghosts R} {h : CounterGhosts C}
-    (coming : List ℕ → BinaryReader R C g h → List Item)
-    (limited : BinaryReader R C g h → Bool) (known : R → Option (List ℕ)) (failed : R → ℕ)
-    (counts : Type 0) (count : C → ℕ) (old : BinaryReader R C g h) (item : Option (Result A Error))
-    (new : BinaryReader R C g h) : Type 0 where
-  pub unchanged : known (binary_source new) ≡ known (binary_source old)
-  pub items : IfSome (known (binary_source old))
-      (λ bytes. GivesCurrent (is_new old) (coming bytes old) item (current_event new)
-      (coming bytes new))
-  pub failures : ItemCountsIo item (failed (binary_source old)) (failed (binary_source new))
-  pub ended : HasEndedBinary old → item ≡ None
-  pub ends : EndsAfterFault item new
-  pub begun : is_new new ≡ false
-  pub faults : ItemGivenWithin 0 (2 ^ 64) (limited old) item
-  pub head : IfSome (known (binary_source old)) (λ bytes. HoldsHead bytes new)
-  pub cached : IfSome (known (binary_source old))
-      (λ bytes. CachesCurrent (number_to_come bytes old) item new)
-  pub leaves : Leaves known counts count old new
-  pub objects : TellsObjects (known (binary_source old)) item new
-  pub kept : KeepsCounts old new
-  pub falls : IfSome item (λ _. binary_steps new < binary_steps old)
-
 -- a step that is refused for a length comes to a text or data of more bytes than may come, and ends
 abbrev pub LimitsStep : {A R C : Type 0} {g : Ghosts R} {h : CounterGhosts C}
     → (R → Option (List ℕ)) → (old : BinaryReader R C g h) → Option (Result A Refused)
@@ -76,15 +43,22 @@ LimitsStep known old item new = IfSome item (λ answer.
 
 module _ {R C : Type 0} {g : Ghosts R} {h : CounterGhosts C} (known : R → Option (List ℕ))
     (failed : R → ℕ) (counts : Type 0) (count : C → ℕ) (old : BinaryReader R C g h) where
+  -- one call that goes on: as one of `next`, of the current event, and fewer items are to come then
+  pub record AdvancesBy {A : Type 0} (coming : List ℕ → BinaryReader R C g h → List Item)
+      (limited : BinaryReader R C g h → Bool) (item : Option (Result A Error))
+      (new : BinaryReader R C g h) : Type 0 where
+    pub gives : GivesBinaryBy known failed counts count old (λ _. current_event new) coming limited
+        item new
+    pub falls : IfSome item (λ _. binary_steps new < binary_steps old)
+
+  -- one call of `advance`
   abbrev pub Advances : {A : Type 0} → Option (Result A Error) → (new : BinaryReader R C g h)
       → Type 0
-  Advances item new = AdvancesBy items_to_come has_limits known failed counts count old
-      item new
+  Advances item new = AdvancesBy items_to_come has_limits item new
 
   -- the same of the walk that knows no limits
   abbrev pub Walks : {A : Type 0} → Option (Result A Error) → (new : BinaryReader R C g h) → Type 0
-  Walks item new =
-      AdvancesBy walk_to_come (λ _. false) known failed counts count old item new
+  Walks item new = AdvancesBy walk_to_come (λ _. false) item new
 
   -- the same where the error is held
   abbrev pub AdvancesIn : {A : Type 0} → Option (Result A Refused) → (new : BinaryReader R C g h)

@@ -113,8 +113,10 @@ module _ {R C : Type 0} {g : Ghosts R} {h : CounterGhosts C} where
   MarksItsPath reader = IsOpen reader.walk.tags.items (reverse reader.walk.frames)
 
   -- the object of this number is cached in a reader that gave this item, if that is small
-  abbrev pub CachesItem : Option ℕ → Option (Result Event Error) → BinaryReader R C g h → Type 0
-  CachesItem number item reader = IsCachedIfSmall number item reader.walk.tags.items
+  abbrev pub CachesItem : {A : Type 0} → (shown : A → PlainEvent) → Option ℕ
+      → Option (Result A Error) → BinaryReader R C g h → Type 0
+  CachesItem shown number item reader =
+      IsCachedIfSmall shown number item reader.walk.tags.items
 
   -- the same of a reader
   abbrev pub KeepsWithin : (count : ℕ) → BinaryReader R C g h → Type 0
@@ -131,45 +133,51 @@ module _ {R C : Type 0} {g : Ghosts R} {h : CounterGhosts C} where
       → BinaryReader R C g h → Type 0
   HasToCome known items reader = IfSome known (λ bytes. items_to_come bytes reader ≡ items bytes)
 
--- a reader that gave this item tells as many objects as the head of known bytes counts
-abbrev pub TellsObjects : {A R C : Type 0} {g : Ghosts R} {h : CounterGhosts C}
-    → (known : Option (List ℕ)) → Option (Result A Error) → BinaryReader R C g h → Type 0
-TellsObjects known item reader = IfSome known (λ bytes. MatchOption item ⊤ (λ answer.
-    CountsObjects bytes answer (objects_in_file reader)))
+  -- a reader that gave this item tells as many objects as the head of known bytes counts
+  abbrev pub TellsObjects : {A : Type 0} → (known : Option (List ℕ)) → Option (Result A Error)
+      → BinaryReader R C g h → Type 0
+  TellsObjects known item reader = IfSome known (λ bytes. MatchOption item ⊤ (λ answer.
+      CountsObjects bytes answer (objects_in_file reader)))
 
--- limits stay, and so does the number of objects once the first item came
-abbrev pub KeepsCounts : {R C : Type 0} {g : Ghosts R} {h : CounterGhosts C}
-    → (old new : BinaryReader R C g h) → Type 0
-KeepsCounts old new =
-    (has_limits new ≡ has_limits old) × (is_new old ≡ false → objects_in_file new
-    ≡ objects_in_file old)
+  -- limits stay, and so does the number of objects once the first item came
+  abbrev pub KeepsCounts : (old new : BinaryReader R C g h) → Type 0
+  KeepsCounts old new =
+      (has_limits new ≡ has_limits old) × (is_new old ≡ false → objects_in_file new
+      ≡ objects_in_file old)
 
--- what a call leaves behind, whatever came of it
-pub record Leaves {R C : Type 0} {g : Ghosts R} {h : CounterGhosts C} (known : R → Option (List ℕ))
-    (counts : Type 0) (count : C → ℕ) (old new : BinaryReader R C g h) : Type 0 where
-  pub nested : MatchOption (known (binary_source old)) (open_collections new ≤ objects_in_file new)
-      (λ bytes. open_collections new ≤ objects_in_head bytes)
-  pub marked : MarksItsPath new
-  pub counted : counts → count (counter_of new) ≡ cached_objects new
-  pub lists : IfSome (known (binary_source old)) (λ bytes. KeepsWithin (objects_in_head bytes) new)
+  -- what a call leaves behind, whatever came of it
+  pub record Leaves (known : R → Option (List ℕ)) (counts : Type 0) (count : C → ℕ)
+      (old new : BinaryReader R C g h) : Type 0 where
+    pub nested : MatchOption (known (binary_source old)) (open_collections new
+        ≤ objects_in_file new)
+        (λ bytes. open_collections new ≤ objects_in_head bytes)
+    pub marked : MarksItsPath new
+    pub counted : counts → count (counter_of new) ≡ cached_objects new
+    pub lists : IfSome (known (binary_source old)) (λ bytes. KeepsWithin (objects_in_head bytes)
+        new)
 
--- one call of `next`: known bytes stay as they are, and the item is the first of those to come
-pub record GivesBinary {R C : Type 0} {g : Ghosts R} {h : CounterGhosts C} (known : R
-    → Option (List ℕ))
-    (failed : R → ℕ) (counts : Type 0) (count : C → ℕ) (old : BinaryReader R C g h)
-    (item : Option (Result Event Error)) (new : BinaryReader R C g h) : Type 0 where
-  pub unchanged : known (binary_source new) ≡ known (binary_source old)
-  pub items : IfSome (known (binary_source old))
-      (λ bytes. GivesBinaryItem (is_new old) (items_to_come bytes old) item
-      (items_to_come bytes new))
-  pub failures : ItemCountsIo item (failed (binary_source old)) (failed (binary_source new))
-  pub ended : HasEndedBinary old → item ≡ None
-  pub ends : EndsAfterFault item new
-  pub begun : is_new new ≡ false
-  pub faults : ItemGivenWithin 0 (2 ^ 64) (has_limits old) item
-  pub head : IfSome (known (binary_source old)) (λ bytes. HoldsHead bytes new)
-  pub cached : IfSome (known (binary_source old))
-      (λ bytes. CachesItem (number_to_come bytes old) item new)
-  pub leaves : Leaves known counts count old new
-  pub objects : TellsObjects (known (binary_source old)) item new
-  pub kept : KeepsCounts old new
+module _ {R C : Type 0} {g : Ghosts R} {h : CounterGhosts C} (known : R → Option (List ℕ))
+    (failed : R → ℕ) (counts : Type 0) (count : C → ℕ) (old : BinaryReader R C g h) where
+  -- One call for an item: known bytes stay as they are, and the item is the first of those to come.
+  -- `shown` is the event of an answer, `coming` what is to come, `limited` whether there are limits.
+  pub record GivesBinaryBy {A : Type 0} (shown : A → PlainEvent)
+      (coming : List ℕ → BinaryReader R C g h → List Item) (limited : BinaryReader R C g h → Bool)
+      (item : Option (Result A Error)) (new : BinaryReader R C g h) : Type 0 where
+    pub unchanged : known (binary_source new) ≡ known (binary_source old)
+    pub items : IfSome (known (binary_source old))
+        (λ bytes. GivesAs shown (is_new old) (coming bytes old) item (coming bytes new))
+    pub failures : ItemCountsIo item (failed (binary_source old)) (failed (binary_source new))
+    pub ended : HasEndedBinary old → item ≡ None
+    pub ends : EndsAfterFault item new
+    pub begun : is_new new ≡ false
+    pub faults : ItemGivenWithin 0 (2 ^ 64) (limited old) item
+    pub head : IfSome (known (binary_source old)) (λ bytes. HoldsHead bytes new)
+    pub cached : IfSome (known (binary_source old))
+        (λ bytes. CachesItem shown (number_to_come bytes old) item new)
+    pub leaves : Leaves known counts count old new
+    pub objects : TellsObjects (known (binary_source old)) item new
+    pub kept : KeepsCounts old new
+
+  -- one call of `next`
+  abbrev pub GivesBinary : Option (Result Event Error) → (new : BinaryReader R C g h) → Type 0
+  GivesBinary item new = GivesBinaryBy event_of items_to_come has_limits item new

@@ -2,9 +2,8 @@
 use Rattle.std.specs.Prelude.{◌≡◌, ℕ, ◌+◌, ◌-◌, ◌<◌, Bool, true, false, not, List, [], ◌∷◌, ◌++◌, length, reverse, nat_lt, get_or, Result, Ok, Err, Option, None, Some, MatchResult, MatchOption, IfOk, ⊤}
 use Rattle.std.specs.List.{slice_get}
 use Rattle.plist_base.specs.declared.error.Error.{Error}
-use Rattle.plist_base.specs.declared.event.Event.{Event}
 use Rattle.plist_base.specs.Faults.{Fault, IsIo, kind_of, error_kind_of}
-use Rattle.plist_base.specs.Events.{PlainEvent, EndCollection, event_of}
+use Rattle.plist_base.specs.Events.{PlainEvent, EndCollection}
 use Rattle.plist_binread.specs.declared.frames.Frame.{Frame}
 use Rattle.plist_binread.specs.declared.walk.NextChild.{NextChild}
 use Rattle.plist_binread.specs.declared.walk.NextChild.TheVariants as turn
@@ -96,18 +95,16 @@ upcoming_number bytes Fresh bounds frames = root_with (head_of bytes)
 upcoming_number bytes Walking bounds frames = next_number (entries_of bytes bounds) (reverse frames)
 upcoming_number bytes Ended bounds frames = None
 
--- the object is cached if the event that it gave is small
-abbrev pub IsCachedIfSmall : Option ℕ → Option (Result Event Error) → (tags : List ℕ) → Type 0
-IsCachedIfSmall None item tags = ⊤
-IsCachedIfSmall (Some number) item tags =
+-- the object is cached if the event that its answer shows is small
+abbrev pub IsCachedIfSmall : {A : Type 0} → (shown : A → PlainEvent) → Option ℕ
+    → Option (Result A Error) → (tags : List ℕ) → Type 0
+IsCachedIfSmall shown None item tags = ⊤
+IsCachedIfSmall shown (Some number) item tags =
     MatchOption item ⊤ (λ answer. IfOk answer
-    (λ event. is_small_event (event_of event) ≡ true → 0 < unmarked (get_or tags number 0)))
+    (λ value. is_small_event (shown value) ≡ true → 0 < unmarked (get_or tags number 0)))
 
 -- the same of the current event
 abbrev pub IsCurrentCached : {A : Type 0} → Option ℕ → Option (Result A Error)
     → (current : PlainEvent)
     → (tags : List ℕ) → Type 0
-IsCurrentCached None item current tags = ⊤
-IsCurrentCached (Some number) item current tags =
-    MatchOption item ⊤ (λ answer. IfOk answer
-    (λ _. is_small_event current ≡ true → 0 < unmarked (get_or tags number 0)))
+IsCurrentCached number item current tags = IsCachedIfSmall (λ _. current) number item tags

@@ -8,22 +8,24 @@ use Rattle.plist_binread.proofs.reader.BinaryReader.step.Goals as goal
 
 pub returns-in-Ended-clause-walks : goal.returns-in-Ended-clause-walks
 returns-in-Ended-clause-walks g c = record {
-  unchanged = refl;
-  items = rw c.in-Ended.is (nothing_ended _ c.args.self.now.bounds
-      c.args.self.now.walk.frames);
-  failures = refl;
-  ended = λ _. refl;
-  ends = c.in-Ended.is;
-  begun = rw c.in-Ended.is refl;
-  faults = tt;
-  head = holds_none _ c.args.self.now.bounds c.args.self.now.walk.tags.items _
-      (λ w. walking-ended _ c.in-Ended.is w);
-  cached = rw c.in-Ended.is (kept_end _ (λ bytes. None) c.args.self.now.walk.tags.items
-      (event_in c.args.self.now.slot));
-  leaves = left_behind _ _ _ _ _ c.args.self.now.walk.path c.args.self.now.walk.same
-      c.args.self.now.counted c.args.self.now.bounded;
-  objects = IfSome-all _ (λ bytes. tt);
-  kept = (refl, λ _. refl);
+  gives = record {
+    unchanged = refl;
+    items = rw c.in-Ended.is (nothing_ended _ c.args.self.now.bounds
+        c.args.self.now.walk.frames);
+    failures = refl;
+    ended = λ _. refl;
+    ends = c.in-Ended.is;
+    begun = rw c.in-Ended.is refl;
+    faults = tt;
+    head = holds_none _ c.args.self.now.bounds c.args.self.now.walk.tags.items _
+        (λ w. walking-ended _ c.in-Ended.is w);
+    cached = rw c.in-Ended.is (kept_end _ (λ bytes. None) c.args.self.now.walk.tags.items
+        (event_in c.args.self.now.slot));
+    leaves = left_behind _ _ _ _ _ c.args.self.now.walk.path c.args.self.now.walk.same
+        c.args.self.now.counted c.args.self.now.bounded;
+    objects = IfSome-all _ (λ bytes. tt);
+    kept = (refl, λ _. refl);
+  };
   falls = tt;
 }
 

@@ -16,7 +16,8 @@ returns-in-Ok g c =
     let mid = c.step.new.self in
     let current = event_in c.admit.new.slot in
     let same = c.admit.ensures.unchanged in
-    let w = rw c.in-Some-Ok.field-0-is at c.in-Some-Ok.ensures.walks in
+    let walks = rw c.in-Some-Ok.field-0-is at c.in-Some-Ok.ensures.walks in
+    let w = walks.gives in
     let admitted = subst (λ l. AdmitsAny l current c.admit.new.limiter)
     c.step.ensures.limiter (rw (← same) at c.in-Ok.ensures.admitted) in
     let items = event-current (is_new old) current (g.R.Source.known (binary_source old))
@@ -24,56 +25,60 @@ returns-in-Ok g c =
     (λ bytes. walk_to_come bytes mid) tt admitted (rw (← same) at w.items) in
     let cached = rw (← same) at w.cached in
     let limited = c.admit.ensures.limited ∙ w.kept.0 in
-    search (w, items, cached, limited)
+    search (walks, items, cached, limited)
 
 pub returns-in-Err : goal.returns-in-Err
 returns-in-Err g c =
     let old = c.args.self.now in
     let mid = c.step.new.self in
-    let w = rw c.in-Some-Ok.field-0-is at c.in-Some-Ok.ensures.walks in
+    let walks = rw c.in-Some-Ok.field-0-is at c.in-Some-Ok.ensures.walks in
+    let w = walks.gives in
     let fault = fault_of c.admit.new.slot.fault in
     let r = subst (λ l. RefusesAny l (event_in mid.slot) fault) c.step.ensures.limiter
     c.in-Err.ensures.refused in
     record {
-      unchanged = w.unchanged;
-      items = limit-current (is_new old) (event_in mid.slot) (g.R.Source.known (binary_source old))
-          old.limiter c.admit.new.limiter (λ bytes. walk_to_come bytes old)
-          (λ bytes. walk_to_come bytes mid) tt c.admit.new.slot.fault r w.items;
-      failures = refused-other old.limiter (event_in mid.slot) fault
-          (Rises (g.R.Source.failures (binary_source old)) (g.R.Source.failures
-          (binary_source mid)))
-          (g.R.Source.failures (binary_source mid) ≡ g.R.Source.failures (binary_source old))
-          (g.R.Source.failures (binary_source mid) ≡ g.R.Source.failures
-          (binary_source old)) r w.failures;
-      ended = λ e. (let no = w.ended e in absurd (cc));
-      ends = refl;
-      begun = refl;
-      faults = refused-given 0 (2 ^ 64) old.limiter (event_in mid.slot) fault r;
-      head = holds_none _ mid.bounds mid.walk.tags.items _ (λ v. absurd (cc));
-      cached = kept_fault _ (λ bytes. number_to_come bytes old) mid.walk.tags.items
-          c.admit.new.slot.fault (event_in c.admit.new.slot);
-      leaves = record {
-        nested = w.leaves.nested;
-        marked = w.leaves.marked;
-        counted = w.leaves.counted;
-        lists = w.leaves.lists;
+      gives = record {
+        unchanged = w.unchanged;
+        items = limit-current (is_new old) (event_in mid.slot) (g.R.Source.known (binary_source old))
+            old.limiter c.admit.new.limiter (λ bytes. walk_to_come bytes old)
+            (λ bytes. walk_to_come bytes mid) tt c.admit.new.slot.fault r w.items;
+        failures = refused-other old.limiter (event_in mid.slot) fault
+            (Rises (g.R.Source.failures (binary_source old)) (g.R.Source.failures
+            (binary_source mid)))
+            (g.R.Source.failures (binary_source mid) ≡ g.R.Source.failures (binary_source old))
+            (g.R.Source.failures (binary_source mid) ≡ g.R.Source.failures
+            (binary_source old)) r w.failures;
+        ended = λ e. (let no = w.ended e in absurd (cc));
+        ends = refl;
+        begun = refl;
+        faults = refused-given 0 (2 ^ 64) old.limiter (event_in mid.slot) fault r;
+        head = holds_none _ mid.bounds mid.walk.tags.items _ (λ v. absurd (cc));
+        cached = kept_fault _ (λ bytes. number_to_come bytes old) mid.walk.tags.items
+            c.admit.new.slot.fault (event_in c.admit.new.slot);
+        leaves = record {
+          nested = w.leaves.nested;
+          marked = w.leaves.marked;
+          counted = w.leaves.counted;
+          lists = w.leaves.lists;
+        };
+        objects = tells_fault _ c.admit.new.slot.fault _ w.objects;
+        kept = (c.admit.ensures.limited ∙ w.kept.0, w.kept.1);
       };
-      objects = tells_fault _ c.admit.new.slot.fault _ w.objects;
-      kept = (c.admit.ensures.limited ∙ w.kept.0, w.kept.1);
-      falls = let falls = w.falls in omega (arith, falls);
+      falls = let falls = walks.falls in omega (arith, falls);
     }
 
 pub returns-in-Some-Err-Fault : goal.returns-in-Some-Err-Fault
 returns-in-Some-Err-Fault g c =
     let old = c.args.self.now in
     let new = c.step.new.self in
-    let w = rw c.in-Some-Err-Fault.field-0-is at c.in-Some-Err-Fault.ensures.walks in
+    let walks = rw c.in-Some-Err-Fault.field-0-is at c.in-Some-Err-Fault.ensures.walks in
+    let w = walks.gives in
     let items = fault-current (is_new old) (event_in new.slot) (g.R.Source.known
     (binary_source old))
     old.limiter new.limiter (λ bytes. walk_to_come bytes old) (λ bytes. walk_to_come bytes new)
     new.slot.fault w.items in
     search (
-      w,
+      walks,
       items,
       still-given 0 (2 ^ 64) (has_limits old) (fault_of new.slot.fault) w.faults,
     )
@@ -83,44 +88,48 @@ returns-in-Some-Err-TooLong g c =
     let old = c.args.self.now in
     let mid = c.step.new.self in
     let error = c.refuse_limit.new.self.fault in
-    let w = rw c.in-Some-Err-TooLong.field-0-is at c.in-Some-Err-TooLong.ensures.walks in
+    let walks = rw c.in-Some-Err-TooLong.field-0-is at c.in-Some-Err-TooLong.ensures.walks in
+    let w = walks.gives in
     let long = rw (c.in-Some-Err-TooLong.field-0-is, c.in-Some-Err-TooLong.field-0-0-is) at
     c.in-Some-Err-TooLong.ensures.limit in
     record {
-      unchanged = w.unchanged;
-      items = long-current (is_new old) (event_in c.refuse_limit.new.self) (event_in mid.slot)
-          (g.R.Source.known (binary_source old)) old.limiter mid.limiter
-          (λ bytes. walk_to_come bytes old) (λ bytes. walk_to_come bytes mid) error mid.slot.fault
-          c.refuse_limit.ensures.fault long.1 w.items long.2;
-      failures = limit-counts error mid.slot.fault _ _ c.refuse_limit.ensures.fault long.0 w.failures;
-      ended = λ e. (let no = w.ended e in absurd (cc));
-      ends = w.ends;
-      begun = w.begun;
-      faults = limit-given 0 (2 ^ 64) (has_limits old) (fault_of error) limit.Bytes
-          (limited-below old.limiter long.1) c.refuse_limit.ensures.fault;
-      head = w.head;
-      cached = kept_fault _ (λ bytes. number_to_come bytes old) mid.walk.tags.items error
-          (event_in c.refuse_limit.new.self);
-      leaves = record {
-        nested = w.leaves.nested;
-        marked = w.leaves.marked;
-        counted = w.leaves.counted;
-        lists = w.leaves.lists;
+      gives = record {
+        unchanged = w.unchanged;
+        items = long-current (is_new old) (event_in c.refuse_limit.new.self) (event_in mid.slot)
+            (g.R.Source.known (binary_source old)) old.limiter mid.limiter
+            (λ bytes. walk_to_come bytes old) (λ bytes. walk_to_come bytes mid) error mid.slot.fault
+            c.refuse_limit.ensures.fault long.1 w.items long.2;
+        failures = limit-counts error mid.slot.fault _ _ c.refuse_limit.ensures.fault long.0 w.failures;
+        ended = λ e. (let no = w.ended e in absurd (cc));
+        ends = w.ends;
+        begun = w.begun;
+        faults = limit-given 0 (2 ^ 64) (has_limits old) (fault_of error) limit.Bytes
+            (limited-below old.limiter long.1) c.refuse_limit.ensures.fault;
+        head = w.head;
+        cached = kept_fault _ (λ bytes. number_to_come bytes old) mid.walk.tags.items error
+            (event_in c.refuse_limit.new.self);
+        leaves = record {
+          nested = w.leaves.nested;
+          marked = w.leaves.marked;
+          counted = w.leaves.counted;
+          lists = w.leaves.lists;
+        };
+        objects = tells_fault _ error _ (rw (
+          c.in-Some-Err-TooLong.field-0-is,
+          c.in-Some-Err-TooLong.field-0-0-is,
+        ) at c.in-Some-Err-TooLong.ensures.objects);
+        kept = w.kept;
       };
-      objects = tells_fault _ error _ (rw (
-        c.in-Some-Err-TooLong.field-0-is,
-        c.in-Some-Err-TooLong.field-0-0-is,
-      ) at c.in-Some-Err-TooLong.ensures.objects);
-      kept = w.kept;
-      falls = w.falls;
+      falls = walks.falls;
     }
 
 pub returns-in-None : goal.returns-in-None
 returns-in-None g c =
     let old = c.args.self.now in
     let new = c.step.new.self in
-    let w = c.in-None.ensures.walks in
+    let walks = c.in-None.ensures.walks in
+    let w = walks.gives in
     let items = none-current (is_new old) (event_in new.slot) (g.R.Source.known (binary_source old))
     old.limiter new.limiter (λ bytes. walk_to_come bytes old) (λ bytes. walk_to_come bytes new)
     w.items in
-    search (w, items)
+    search (walks, items)
