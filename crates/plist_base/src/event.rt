@@ -64,6 +64,24 @@ impl<'a> Event<'a> {
         })
     }
 
+    /// The same event, whose text or data is borrowed from this one.
+    pub fn as_borrowed(&self) -> Event<'_>
+        ensures { event_of result ≡ event_of self.now }
+    {
+        match self {
+            Event::StartArray(length) => Event::StartArray(*length),
+            Event::StartDictionary(length) => Event::StartDictionary(*length),
+            Event::EndCollection => Event::EndCollection,
+            Event::Boolean(value) => Event::Boolean(*value),
+            Event::Data(bytes) => Event::Data(CowSlice::Borrowed(bytes.as_slice())),
+            Event::Date(date) => Event::Date(*date),
+            Event::Integer(value) => Event::Integer(*value),
+            Event::Real(bits) => Event::Real(*bits),
+            Event::String(text) => Event::String(CowStr::Borrowed(text.as_str())),
+            Event::Uid(uid) => Event::Uid(*uid),
+        }
+    }
+
     /// A copy of the event, which owns its content.
     ///
     /// # Errors
@@ -73,24 +91,7 @@ impl<'a> Event<'a> {
         ensures event { IfOk result (λ copy. event_of copy ≡ event_of self.now) }
         ensures memory { OnlyMemory result }
     {
-        Ok(match self {
-            Event::StartArray(length) => Event::StartArray(*length),
-            Event::StartDictionary(length) => Event::StartDictionary(*length),
-            Event::EndCollection => Event::EndCollection,
-            Event::Boolean(value) => Event::Boolean(*value),
-            Event::Data(bytes) => Event::Data(CowSlice::Owned(Vec::from_slice(
-                alloc,
-                bytes.as_slice(),
-            )?)),
-            Event::Date(date) => Event::Date(*date),
-            Event::Integer(value) => Event::Integer(*value),
-            Event::Real(bits) => Event::Real(*bits),
-            Event::String(text) => Event::String(CowStr::Owned(String::from_str(
-                alloc,
-                text.as_str(),
-            )?)),
-            Event::Uid(uid) => Event::Uid(*uid),
-        })
+        self.as_borrowed().into_owned(alloc)
     }
 }
 

@@ -97,25 +97,6 @@ pub struct EventSlot {
     pub alloc: Global,
 }
 
-// The same event, whose text or data is lent.
-#[inline(always)]
-fn lend<'a>(event: &'a Event<'_>) -> Event<'a>
-    ensures { event_of result ≡ event_of event.now }
-{
-    match event {
-        Event::StartArray(length) => Event::StartArray(*length),
-        Event::StartDictionary(length) => Event::StartDictionary(*length),
-        Event::EndCollection => Event::EndCollection,
-        Event::Boolean(value) => Event::Boolean(*value),
-        Event::Data(bytes) => Event::Data(CowSlice::Borrowed(bytes.as_slice())),
-        Event::Date(date) => Event::Date(*date),
-        Event::Integer(value) => Event::Integer(*value),
-        Event::Real(bits) => Event::Real(*bits),
-        Event::String(text) => Event::String(CowStr::Borrowed(text.as_str())),
-        Event::Uid(uid) => Event::Uid(*uid),
-    }
-}
-
 impl EventSlot {
     /// Some event, and no memory.
     pub fn new(alloc: Global) -> Self {
@@ -196,7 +177,7 @@ impl EventSlot {
         ensures { event_of result ≡ event_in self.now }
     {
         match self.current {
-            CompactEvent::Other => lend(&self.held),
+            CompactEvent::Other => self.held.as_borrowed(),
             CompactEvent::Text => Event::String(CowStr::Borrowed(self.text.as_str())),
             CompactEvent::Data => Event::Data(CowSlice::Borrowed(self.data.as_slice())),
             current => current.event(),

@@ -10,7 +10,6 @@ ghost use Rattle.plist_commands.specs.Runs.{StepAnswer};
 
 use plist_base::{Error, Event, Source};
 use plist_binread::BinaryReader;
-use std::borrow::{CowSlice, CowStr};
 
 /// Gives the items of a property list, one after the other.
 pub(crate) trait Items {
@@ -46,24 +45,8 @@ pub(crate) trait Items {
         ensures { event_of result ≡ last self.now };
 
     /// How many different scalars can come, where the source has told that, else 0.
-    fn scalars_expected(&self) -> usize;
-}
-
-/// The same event, whose text or data is lent.
-pub(crate) fn lend<'a>(event: &'a Event<'_>) -> Event<'a>
-    ensures { event_of result ≡ event_of event.now }
-{
-    match event {
-        Event::StartArray(length) => Event::StartArray(*length),
-        Event::StartDictionary(length) => Event::StartDictionary(*length),
-        Event::EndCollection => Event::EndCollection,
-        Event::Boolean(value) => Event::Boolean(*value),
-        Event::Data(bytes) => Event::Data(CowSlice::Borrowed(bytes.as_slice())),
-        Event::Date(date) => Event::Date(*date),
-        Event::Integer(value) => Event::Integer(*value),
-        Event::Real(bits) => Event::Real(*bits),
-        Event::String(text) => Event::String(CowStr::Borrowed(text.as_str())),
-        Event::Uid(uid) => Event::Uid(*uid),
+    fn scalars_expected(&self) -> usize {
+        0
     }
 }
 

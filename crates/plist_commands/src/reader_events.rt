@@ -5,7 +5,7 @@ ghost use Rattle.std.proofs.Props.{props};
 ghost use Rattle.std.specs.Option.{is_some};
 ghost use Rattle.plist_reader.specs.Reader.{reader_source};
 
-use crate::items::{Items, lend};
+use crate::items::Items;
 use plist_base::{Error, Event, OwnedEvent, Source};
 use plist_reader::Reader;
 use std::alloc::Global;
@@ -72,10 +72,6 @@ impl<S: Source> Items for ReaderEvents<S> {
     }
 
     fn event(&self) -> Event<'_> {
-        lend(&self.last)
-    }
-
-    fn scalars_expected(&self) -> usize {
-        0
+        self.last.as_borrowed()
     }
 }

@@ -6,7 +6,7 @@ ghost use Rattle.plist.specs.Events.{remaining_events};
 ghost use Rattle.plist_commands.specs.Items.{items_of_events};
 ghost use Rattle.plist_commands.specs.Printing.{IsWriterFault, IsWriterError, PrintsValue, SendsPrefixOfValue};
 
-use crate::items::{Items, lend};
+use crate::items::Items;
 use crate::print::print_items;
 use plist::Value;
 use plist::stream::{Event, Events};
@@ -49,11 +49,7 @@ impl<'a> Items for ValueEvents<'a> {
     }
 
     fn event(&self) -> Event<'_> {
-        lend(&self.last)
-    }
-
-    fn scalars_expected(&self) -> usize {
-        0
+        self.last.as_borrowed()
     }
 }
 
