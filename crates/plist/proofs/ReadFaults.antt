@@ -6,38 +6,33 @@ use Rattle.plist_base.specs.declared.error.Error.{Error}
 use Rattle.plist_base.specs.declared.event.Event.{Event}
 use Rattle.plist_base.specs.declared.limited.Limited.{Limited}
 use Rattle.plist_base.specs.declared.source.Source.{Ghosts}
-use Rattle.plist_base.specs.Events.{PlainEvent, EndCollection, Single, event_of}
+use Rattle.plist_base.specs.declared.expects.Change.{Change}
+use Rattle.plist_base.specs.declared.expects.Change.TheVariants.{Refused}
+use Rattle.plist_base.specs.declared.expects.Expect.TheVariants.{OneValue}
+use Rattle.plist_base.specs.Events.{PlainEvent, event_of}
+use Rattle.plist_base.specs.Expects.{change_of}
 use Rattle.plist_base.specs.Faults.{FaultKind, Fault, LimitReached, fault_of}
 use Rattle.plist_base.specs.Limits.{GivesLimited, PassesNext}
-use Rattle.plist_base.specs.Trees.{String, Tree}
+use Rattle.plist_base.specs.Trees.{Tree}
 use Rattle.plist_reader.specs.declared.reader.Reader.{Reader}
 use Rattle.plist_reader.specs.Reader.{Gives, IsReaderFault, reader_is_limited}
 use Rattle.plist.specs.declared.value.Value.{Value}
-use Rattle.plist.specs.Building.{Unfinished, NotBegun, Within, Complete, InArray, InDictionary, AfterKey, OpenCollection, refusal_at, refusal_of_key, refusal_of_value, refusal_within}
+use Rattle.plist.specs.Building.{Unfinished, NotBegun, Within, Complete, expected_within, if_refused, refusal_at}
 use Rattle.plist.specs.Collecting.{Collects, IsRefusal, built_tree, item_by}
 use Rattle.plist.specs.ReadBy.{IsFaultOfEvents, IsReadingFault}
 
 -- ---- an event that can't come
 
-value-refused : (event : PlainEvent) → IfSome (refusal_of_value event) IsFaultOfEvents
-value-refused EndCollection = tt
-value-refused event = tt
-
-key-refused : (event : PlainEvent) → IfSome (refusal_of_key event) IsFaultOfEvents
-key-refused EndCollection = tt
-key-refused (Single (String key)) = tt
-key-refused event = tt
-
-within-refused : (collection : OpenCollection) (event : PlainEvent)
-    → IfSome (refusal_within collection event) IsFaultOfEvents
-within-refused (InArray items) event = tt
-within-refused (InDictionary pairs) event = key-refused event
-within-refused (AfterKey pairs key) event = value-refused event
+if-refused : (change : Change) (kind : FaultKind) → IsFaultOfEvents kind
+    → IfSome (if_refused change kind) IsFaultOfEvents
+if-refused Refused kind h = h
+if-refused change kind h = tt
 
 refused-events : (held : Unfinished) (event : PlainEvent)
     → IfSome (refusal_at held event) IsFaultOfEvents
-refused-events NotBegun event = value-refused event
-refused-events (Within collection outer) event = within-refused collection event
+refused-events NotBegun event = if-refused (change_of OneValue event) _ tt
+refused-events (Within collection outer) event =
+    if-refused (change_of (expected_within collection) event) _ tt
 refused-events (Complete tree) event = tt
 
 of-refusal : (limited : Bool) (refusal : Option FaultKind) (fault : Fault)

@@ -1,8 +1,14 @@
 -- What a builder holds: a tree that isn't complete yet, and how an event carries it on.
 use Rattle.std.specs.Prelude.{◌≡◌, ℕ, Bool, true, false, List, [], ◌∷◌, ◌++◌, Option, Some, None, Ok, Err, map, ⊤}
 use mathlib.Core.HLevel.{×_prop, Unit-prop, ⊥_prop}
+use Rattle.plist_base.specs.declared.error.EventKind.{EventKind}
 use Rattle.plist_base.specs.declared.error.EventKind.TheVariants as event_kind
-use Rattle.plist_base.specs.Events.{PlainEvent, StartArray, StartDictionary, EndCollection, Single, kind_of_event}
+use Rattle.plist_base.specs.declared.expects.Expect.{Expect}
+use Rattle.plist_base.specs.declared.expects.Expect.TheVariants.{OneValue, Items, Pairs}
+use Rattle.plist_base.specs.declared.expects.Change.{Change}
+use Rattle.plist_base.specs.declared.expects.Change.TheVariants.{Refused}
+use Rattle.plist_base.specs.Expects.{change_of}
+use Rattle.plist_base.specs.Events.{PlainEvent, StartArray, StartDictionary, Single, kind_of_event}
 use Rattle.plist_base.specs.Faults.{FaultKind, Fault, UnexpectedEventType, ExpectedEndOfEventStream, UnexpectedEndOfEventStream, OutOfMemory, WriterFailed}
 use Rattle.plist_base.specs.Trees.{Tree, String, trees_of, members_of}
 use Rattle.plist_base.specs.Bracketing.{bracketing, bracketing_of_items, bracketing_of_pairs, AreAlike}
@@ -100,26 +106,31 @@ complete_tree NotBegun = None
 complete_tree (Within collection outer) = None
 complete_tree (Complete tree) = Some tree
 
--- why the event can't come next, if it can't
-abbrev pub refusal_of_value : PlainEvent → Option FaultKind
-refusal_of_value EndCollection =
-    Some (UnexpectedEventType event_kind.ValueOrStartCollection event_kind.EndCollection)
-refusal_of_value event = None
+-- what may come next directly inside the collection
+abbrev pub expected_within : OpenCollection → Expect
+expected_within (InArray items) = Items
+expected_within (InDictionary pairs) = Pairs
+expected_within (AfterKey pairs key) = OneValue
 
-abbrev pub refusal_of_key : PlainEvent → Option FaultKind
-refusal_of_key EndCollection = None
-refusal_of_key (Single (String key)) = None
-refusal_of_key event =
-    Some (UnexpectedEventType event_kind.DictionaryKeyOrEndCollection (kind_of_event event))
+-- what a refusal says was expected; no event is refused among the items of an array
+abbrev pub kind_expected : Expect → EventKind
+kind_expected Pairs = event_kind.DictionaryKeyOrEndCollection
+kind_expected expect = event_kind.ValueOrStartCollection
 
-abbrev pub refusal_within : OpenCollection → PlainEvent → Option FaultKind
-refusal_within (InArray items) event = None
-refusal_within (InDictionary pairs) event = refusal_of_key event
-refusal_within (AfterKey pairs key) event = refusal_of_value event
+-- a fault of this kind, where the event is refused
+abbrev pub if_refused : Change → FaultKind → Option FaultKind
+if_refused Refused kind = Some kind
+if_refused change kind = None
 
+-- why the event can't come where this is expected, if it can't
+abbrev pub refusal_of : Expect → PlainEvent → Option FaultKind
+refusal_of expect event = if_refused (change_of expect event)
+    (UnexpectedEventType (kind_expected expect) (kind_of_event event))
+
+-- why it can't come next, if it can't
 abbrev pub refusal_at : Unfinished → PlainEvent → Option FaultKind
-refusal_at NotBegun event = refusal_of_value event
-refusal_at (Within collection outer) event = refusal_within collection event
+refusal_at NotBegun event = refusal_of OneValue event
+refusal_at (Within collection outer) event = refusal_of (expected_within collection) event
 refusal_at (Complete tree) event = Some (ExpectedEndOfEventStream (kind_of_event event))
 
 -- what a builder holds, and whether it has failed

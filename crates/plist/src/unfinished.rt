@@ -4,12 +4,12 @@ ghost use Rattle.std.specs.Prelude.{◌≡◌, None, OnOk, option_map};
 ghost use Rattle.plist_base.specs.Events as events;
 ghost use Rattle.plist_base.specs.Events.{event_of};
 ghost use Rattle.plist_base.specs.Faults.{kind_of};
-ghost use Rattle.plist.specs.Building.{NotBegun, complete_tree, refusal_at, refusal_of_key, refusal_of_value};
+ghost use Rattle.plist.specs.Building.{NotBegun, complete_tree, kind_expected, refusal_at, refusal_of};
 ghost use Rattle.plist.specs.UnfinishedValues.{AddsValue, CarriesOn, IsLeft, IsRefusalOf, Opens, TakesText, unfinished_of};
 ghost use Rattle.plist.specs.Views.{tree_of};
 
 use crate::{Dictionary, Value};
-use plist_base::{ErrorKind, Event, EventKind};
+use plist_base::{Change, ErrorKind, Event, EventKind, Expect};
 use std::alloc::{AllocError, Global};
 
 /// A collection that hasn't ended.
@@ -30,44 +30,26 @@ pub(crate) struct UnfinishedValue {
     root: Option<Value>,
 }
 
-// Why the event can't come where a value is to come.
-fn value_refusal(event: &Event<'_>) -> Option<ErrorKind>
-    ensures { option_map kind_of result ≡ refusal_of_value (event_of event.now) }
+// What a refusal says was expected.
+fn kind_expected(expect: Expect) -> EventKind
+    ensures { result ≡ kind_expected expect }
 {
-    match event {
-        Event::EndCollection => Some(ErrorKind::UnexpectedEventType {
-            expected: EventKind::ValueOrStartCollection,
-            found: EventKind::EndCollection,
-        }),
-        Event::StartArray(_)
-        | Event::StartDictionary(_)
-        | Event::Boolean(_)
-        | Event::Data(_)
-        | Event::Date(_)
-        | Event::Integer(_)
-        | Event::Real(_)
-        | Event::String(_)
-        | Event::Uid(_) => None,
+    match expect {
+        Expect::Pairs => EventKind::DictionaryKeyOrEndCollection,
+        Expect::OneValue | Expect::Items => EventKind::ValueOrStartCollection,
     }
 }
 
-// Why the event can't come where a key or a dictionary's end is to come.
-fn key_refusal(event: &Event<'_>) -> Option<ErrorKind>
-    ensures { option_map kind_of result ≡ refusal_of_key (event_of event.now) }
+// Why the event can't come where this is expected, if it can't.
+fn refusal_of(expect: Expect, event: &Event<'_>) -> Option<ErrorKind>
+    ensures { option_map kind_of result ≡ refusal_of expect (event_of event.now) }
 {
-    match event {
-        Event::String(_) | Event::EndCollection => None,
-        Event::StartArray(_)
-        | Event::StartDictionary(_)
-        | Event::Boolean(_)
-        | Event::Data(_)
-        | Event::Date(_)
-        | Event::Integer(_)
-        | Event::Real(_)
-        | Event::Uid(_) => Some(ErrorKind::UnexpectedEventType {
-            expected: EventKind::DictionaryKeyOrEndCollection,
+    match expect.change_by(event) {
+        Change::Refused => Some(ErrorKind::UnexpectedEventType {
+            expected: kind_expected(expect),
             found: EventKind::of_event(event),
         }),
+        _ => None,
     }
 }
 
@@ -100,9 +82,9 @@ impl UnfinishedValue {
             });
         }
         match self.collections.last() {
-            Some(Unended::Array(_)) => None,
-            Some(Unended::Dictionary(_)) => key_refusal(event),
-            Some(Unended::AfterKey(..)) | None => value_refusal(event),
+            Some(Unended::Array(_)) => refusal_of(Expect::Items, event),
+            Some(Unended::Dictionary(_)) => refusal_of(Expect::Pairs, event),
+            Some(Unended::AfterKey(..)) | None => refusal_of(Expect::OneValue, event),
         }
     }
 

@@ -5,7 +5,8 @@ use Rattle.std.proofs.lemmas.Option.{option_and_then_some}
 use Rattle.plist_base.specs.Events.{PlainEvent}
 use Rattle.plist_base.specs.Trees.{Tree}
 use Rattle.plist_base.specs.Bracketing.{bracketing, without_length, AreAlike, AreWhole, AreComplete, CanContinue, ContinueAlike}
-use Rattle.plist_base.specs.inner.Expects.{OneValue, step, steps, expected_after}
+use Rattle.plist_base.specs.declared.expects.Expect.TheVariants.{OneValue}
+use Rattle.plist_base.specs.Expects.{step, steps, expected_after}
 use Rattle.plist_base.proofs.Stacks.{Fills, Stack, all-without_length-twice, filling, run_back, lengthless-is, steps_tree}
 
 -- lengths change nothing for the stack

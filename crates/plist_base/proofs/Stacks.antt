@@ -5,7 +5,9 @@ use Rattle.plist_base.specs.Events.{PlainEvent, StartArray, StartDictionary, End
 use Rattle.plist_base.specs.Trees as trees
 use Rattle.plist_base.specs.Trees.{Tree, Leaf, Array, Dictionary, Trees, NoTrees, TreeAnd, Members, NoMembers, MemberAnd}
 use Rattle.plist_base.specs.Bracketing.{lengthless, lengthless_items, lengthless_pairs, bracketing, bracketing_of_items, bracketing_of_pairs, without_length}
-use Rattle.plist_base.specs.inner.Expects.{Expect, OneValue, Items, Pairs, step, steps}
+use Rattle.plist_base.specs.declared.expects.Expect.{Expect}
+use Rattle.plist_base.specs.declared.expects.Expect.TheVariants.{OneValue, Items, Pairs}
+use Rattle.plist_base.specs.Expects.{step, steps}
 
 abbrev pub Stack : Type 0
 Stack = List Expect

@@ -1,5 +1,4 @@
 -- What bodies and proofs speak of, and no public clause.
-pub mod Expects
 pub mod DateBits
 pub mod Paths
 pub mod Hashing

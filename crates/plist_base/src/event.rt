@@ -65,6 +65,7 @@ impl<'a> Event<'a> {
     }
 
     /// The same event, whose text or data is borrowed from this one.
+    #[inline(always)]
     pub fn as_borrowed(&self) -> Event<'_>
         ensures { event_of result ≡ event_of self.now }
     {

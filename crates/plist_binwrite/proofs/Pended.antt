@@ -1,17 +1,18 @@
 -- What the code's stack says of the held events, and how one more event changes it.
 use Rattle.std.proofs.Common.{◌≡◌, ℕ, suc, Bool, List, [], ◌∷◌, ◌++◌, ◌==◌, length, reverse, option_and_then, None, Some, true, false, refl, sym, ap, ◌∙◌, subst, arith}
 use Rattle.std.proofs.lemmas.Bool.{ne_eqb}
-use Rattle.std.proofs.lemmas.List.{length-map, length-reverse}
+use Rattle.std.proofs.lemmas.List.{length-reverse}
 use Rattle.plist_base.specs.Bracketing.{without_length, CanContinue}
 use Rattle.plist_base.specs.Events.{PlainEvent, EndCollection}
-use Rattle.plist_base.specs.inner.Expects.{Expect, OneValue, Change, Refused, changed, step, expected_after}
+use Rattle.plist_base.specs.Expects.{changed, step, expected_after}
+use Rattle.plist_base.specs.declared.expects.Expect.{Expect}
+use Rattle.plist_base.specs.declared.expects.Expect.TheVariants.{OneValue}
+use Rattle.plist_base.specs.declared.expects.Change.{Change}
+use Rattle.plist_base.specs.declared.expects.Change.TheVariants.{Refused}
 use Rattle.plist_base.proofs.Grammar.{none_is, wanted_alike, can_continue, continues, bracketed, all_taken, complete_of_whole, alike_last, steps_snoc}
 use Rattle.plist_binwrite.specs.declared.event_buffer.EventBuffer.{EventBuffer}
-use Rattle.plist_binwrite.specs.declared.expects.Expect as code_expect
-use Rattle.plist_binwrite.specs.declared.expects.Change as code_change
-use Rattle.plist_binwrite.specs.declared.expects.Change.TheVariants as change
 use Rattle.plist_binwrite.specs.EventBuffers.{buffered_events, TestsWhole}
-use Rattle.plist_binwrite.specs.inner.Stacks.{is_nothing, expect_seen, change_seen, stack_of, with_root, change_on_top, ChangesTo, expected_now}
+use Rattle.plist_binwrite.specs.inner.Stacks.{is_nothing, with_root, change_on_top, ChangesTo, expected_now}
 
 -- ---- the stack
 
@@ -42,10 +43,6 @@ step_some : (s : List Expect) (e : PlainEvent) → (change_on_top s e ≡ Refuse
 step_some [] e n = changed_some _ _ [] n
 step_some (top ∷ rest) e n = changed_some _ top _ n
 
-seen_refused : (c : code_change.Change) → change_seen c ≡ Refused → c ≡ change.Refused
-seen_refused change.Refused h = refl
-seen_refused c h = cc
-
 -- it is empty just where the code's test says so
 root_shown : (s : List Expect) (n : ℕ) (b : Bool) → n ≡ length s → b ≡ (n == 0)
     → (s ≡ expected_now b s) × (b ≡ is_nothing s)
@@ -55,11 +52,9 @@ root_shown (w ∷ s) n b h e =
     let t = e ∙ ap (λ k. k == 0) h ∙ ne_eqb (suc (length s)) 0 (λ p. absurd (omega arith)) in
     (ap (λ v. expected_now v (w ∷ s)) (sym t), t)
 
-pub stack_shown : (ws : List code_expect.Expect) (n : ℕ) (b : Bool) → n ≡ length ws → b ≡ (n == 0)
-    → (stack_of ws ≡ expected_now b (stack_of ws)) × (b ≡ is_nothing (stack_of ws))
-stack_shown ws n b h e =
-    root_shown (stack_of ws) n b
-    (omega (arith, h, length-map (reverse ws) expect_seen, length-reverse ws)) e
+pub stack_shown : (ws : List Expect) (n : ℕ) (b : Bool) → n ≡ length ws → b ≡ (n == 0)
+    → (reverse ws ≡ expected_now b (reverse ws)) × (b ≡ is_nothing (reverse ws))
+stack_shown ws n b h e = root_shown (reverse ws) n b (omega (arith, h, length-reverse ws)) e
 
 -- nothing more is wanted exactly behind a tree's events
 pub tests_whole : (es : List PlainEvent) (s : List Expect) (b : Bool) → expected_after es ≡ Some s
@@ -78,33 +73,32 @@ pub same_wants : (es : List PlainEvent) (e : PlainEvent)
 same_wants es e = wanted_alike _ _ (alike_last es e)
 
 -- a change, told of the stack that the code has, is refused just where the event can't follow
-module _ (s : EventBuffer) (e : PlainEvent) (c : code_change.Change) (still : s.whole ≡ false)
-    {expects : List code_expect.Expect} (same : expects ≡ s.expects.items)
-    (is : change_seen c ≡ change_on_top (stack_of expects) e) where
+module _ (s : EventBuffer) (e : PlainEvent) (c : Change) (still : s.whole ≡ false)
+    {expects : List Expect} (same : expects ≡ s.expects.items)
+    (is : c ≡ change_on_top (reverse expects) e) where
   abbrev stack : List Expect
-  stack = stack_of s.expects.items
+  stack = reverse s.expects.items
 
-  pub seen : change_seen c ≡ change_on_top stack e
+  pub seen : c ≡ change_on_top stack e
   seen = cc
 
   after : expected_after (buffered_events s ++ e ∷ []) ≡ step (with_root stack) e
   after = steps_snoc (buffered_events s) (OneValue ∷ []) e ∙ ap (option_and_then (λ t. step t e))
       (subst (λ b. expected_after (buffered_events s) ≡ Some (expected_now b stack)) still s.wanted)
 
-  pub cannot_take : change_seen c ≡ Refused → CanContinue (buffered_events s) e → ⊥
+  pub cannot_take : c ≡ Refused → CanContinue (buffered_events s) e → ⊥
   cannot_take r can =
       let g = continues _ e can in
       none_is _ g.0 (after ∙ step_refused _ e (cc)) g.1
 
-  pub can_take : (c ≡ change.Refused → ⊥) → CanContinue (buffered_events s) e
+  pub can_take : (c ≡ Refused → ⊥) → CanContinue (buffered_events s) e
   can_take other =
-      let f = step_some _ e (λ r. other (seen_refused c (seen ∙ r))) in
-      can_continue _ e f.0 (after ∙ f.1)
+      let f = step_some _ e (λ r. other (seen ∙ r)) in can_continue _ e f.0 (after ∙ f.1)
 
   -- what is wanted then
-  pub took : (room new : List code_expect.Expect) → CanContinue (buffered_events s) e
-      → room ≡ s.expects.items → ChangesTo (stack_of room) (change_seen c) (stack_of new)
-      → expected_after (buffered_events s ++ e ∷ []) ≡ Some (stack_of new)
+  pub took : (room new : List Expect) → CanContinue (buffered_events s) e
+      → room ≡ s.expects.items → ChangesTo (reverse room) c (reverse new)
+      → expected_after (buffered_events s ++ e ∷ []) ≡ Some (reverse new)
   took room new can has puts =
       after ∙ step_taken _ _ e (λ r. cannot_take (seen ∙ r) can)
-      (rw (← seen) (subst (λ l. ChangesTo (stack_of l) (change_seen c) (stack_of new)) has puts))
+      (rw (← seen) (subst (λ l. ChangesTo (reverse l) c (reverse new)) has puts))

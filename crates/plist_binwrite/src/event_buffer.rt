@@ -5,8 +5,8 @@ ghost use Rattle.plist_binwrite.specs.EventTable.{plain_events};
 ghost use Rattle.plist_binwrite.specs.inner.Stacks.{AreExpected};
 
 use crate::event_table::EventTable;
-use crate::expects::{Change, Expect, change_on, put};
-use plist_base::{Error, ErrorKind, Event, EventKind};
+use crate::expects::{change_on, put};
+use plist_base::{Change, Error, ErrorKind, Event, EventKind, Expect};
 use std::alloc::Global;
 
 /// The events taken of the open property list. Where they are those of a whole one, they wait to be
@@ -21,12 +21,12 @@ pub struct EventBuffer {
 }
 
 impl EventBuffer {
-    ghost use Rattle.std.specs.Prelude.{◌≡◌, [], false, OnOk, IfOk, IfErr};
+    ghost use Rattle.std.specs.Prelude.{◌≡◌, [], false, reverse, OnOk, IfOk, IfErr};
     ghost use Rattle.plist_base.specs.Events.{event_of};
     ghost use Rattle.plist_base.specs.Faults.{fault_of};
     ghost use Rattle.plist_base.specs.Outcomes.{OnlyMemory};
     ghost use Rattle.plist_binwrite.specs.EventBuffers.{buffered_events, is_whole, BuffersNext, misplaced_fault, Accepts, CanTake, RefusesMisplaced};
-    ghost use Rattle.plist_binwrite.specs.inner.Stacks.{IsChangeBy};
+    ghost use Rattle.plist_binwrite.specs.inner.Stacks.{change_on_top};
 
     /// No events. It takes no memory.
     pub fn new(alloc: Global) -> EventBuffer
@@ -69,7 +69,7 @@ impl EventBuffer {
     fn hold(&mut self, alloc: Global, event: Event<'_>, change: Change) -> Result<(), Error>
         requires still { is_whole self.old ≡ false }
         requires accepted { CanTake self.old (event_of event) }
-        requires change { IsChangeBy self.old.expects.items (event_of event) change }
+        requires change { change ≡ change_on_top (reverse self.old.expects.items) (event_of event) }
         ensures taken { OnOk result (BuffersNext self.old (event_of event.entry) self.new) }
         ensures memory { OnlyMemory result }
     {

@@ -7,9 +7,13 @@ use Rattle.plist_base.specs.Trees.{Tree, Leaf, Array, Dictionary, trees_of, memb
 use Rattle.plist_base.specs.Bracketing.{bracketing, bracketing_of_items, bracketing_of_pairs, without_length, AreAlike, CanContinue, ContinueAlike}
 use Rattle.plist_base.proofs.Grammar.{alike_behind, all_taken, can_continue, continue_alike, continues, none_is, steps_snoc, wanted_alike}
 use Rattle.plist.specs.LastWins.{TreePairs}
-use Rattle.plist.specs.Building.{OpenCollection, InArray, InDictionary, AfterKey, Unfinished, NotBegun, Within, Complete, events_within, events_round, events_so_far, refusal_of_value, refusal_of_key, refusal_at, AllTakeValue, IsNested, TakesValue, last_wins_within, last_wins_so_far, complete_tree}
+use Rattle.plist.specs.Building.{OpenCollection, InArray, InDictionary, AfterKey, Unfinished, NotBegun, Within, Complete, events_within, events_round, events_so_far, expected_within, if_refused, refusal_of, refusal_at, AllTakeValue, IsNested, TakesValue, last_wins_within, last_wins_so_far, complete_tree}
 use Rattle.plist.specs.inner.Steps.{and_pair, and_tree, begun, in_array, in_dictionary, carried_on}
-use Rattle.plist_base.specs.inner.Expects.{Expect, OneValue, Items, Pairs, step, steps, expected_after}
+use Rattle.plist_base.specs.declared.expects.Expect.{Expect}
+use Rattle.plist_base.specs.declared.expects.Expect.TheVariants.{OneValue, Items, Pairs}
+use Rattle.plist_base.specs.declared.expects.Change.{Change}
+use Rattle.plist_base.specs.declared.expects.Change.TheVariants.{Refused}
+use Rattle.plist_base.specs.Expects.{change_of, changed, step, steps, expected_after}
 use Rattle.plist_base.proofs.OneTree.{one_tree}
 use Rattle.plist_base.proofs.Stacks.{Stack, steps_items, steps_pairs}
 
@@ -59,7 +63,7 @@ Goes refusal before e held = MatchOption held (refusal ≡ None → ⊥)
     (λ w. IsNested w × AreAlike (events_so_far w) (before ++ e ∷ []))
 
 begun-goes : (outer : List OpenCollection) (e : PlainEvent) → AllTakeValue outer
-    → Goes (refusal_of_value e) (events_round outer) e (begun and_pair outer e)
+    → Goes (refusal_of OneValue e) (events_round outer) e (begun and_pair outer e)
 begun-goes outer (StartArray n) ok =
     (ok, alike_behind (events_round outer) (StartArray None ∷ []) (StartArray n ∷ []) refl)
 begun-goes outer (StartDictionary n) ok = (
@@ -86,14 +90,15 @@ closed-goes t start inside outer ok alike =
     )
 
 array-goes : (ts : List Tree) (outer : List OpenCollection) (e : PlainEvent) → AllTakeValue outer
-    → Goes None (events_round outer ++ events_within (InArray ts)) e (in_array and_pair ts outer e)
+    → Goes (refusal_of Items e) (events_round outer ++ events_within (InArray ts)) e
+    (in_array and_pair ts outer e)
 array-goes ts outer EndCollection ok =
     closed-goes (Array (trees_of ts)) (StartArray None) _ outer ok refl
 array-goes ts outer e ok = begun-goes (InArray ts ∷ outer) e (tt, ok)
 
 dictionary-goes : (ps : TreePairs) (outer : List OpenCollection) (e : PlainEvent)
     → AllTakeValue outer
-    → Goes (refusal_of_key e) (events_round outer ++ events_within (InDictionary ps)) e
+    → Goes (refusal_of Pairs e) (events_round outer ++ events_within (InDictionary ps)) e
     (in_dictionary and_pair ps outer e)
 dictionary-goes ps outer EndCollection ok =
     closed-goes (Dictionary (members_of ps)) (StartDictionary None) _ outer ok refl
@@ -139,14 +144,15 @@ expect_round (InArray items) = Items
 expect_round (InDictionary pairs) = Pairs
 expect_round (AfterKey pairs key) = Pairs
 
-abbrev want_within : OpenCollection → (round : Stack) → Stack
-want_within (InArray items) round = Items ∷ round
-want_within (InDictionary pairs) round = Pairs ∷ round
-want_within (AfterKey pairs key) round = OneValue ∷ Pairs ∷ round
+-- what is wanted behind what is expected within it
+abbrev want_behind : OpenCollection → (round : Stack) → Stack
+want_behind (AfterKey pairs key) round = Pairs ∷ round
+want_behind collection round = round
 
 abbrev want_in : List OpenCollection → Stack
 want_in [] = OneValue ∷ []
-want_in (collection ∷ outer) = want_within collection (map expect_round outer)
+want_in (collection ∷ outer) =
+    expected_within collection ∷ want_behind collection (map expect_round outer)
 
 abbrev want_of : Unfinished → Stack
 want_of NotBegun = want_in []
@@ -199,22 +205,18 @@ wanted (Complete t) ok = all_taken (bracketing t) t refl
 
 -- ---- an event that is refused can't come next
 
-value-stops : (s : Stack) (e : PlainEvent) → (refusal_of_value e ≡ None → ⊥)
-    → step (OneValue ∷ s) e ≡ None
-value-stops s EndCollection no_ = refl
-value-stops s e no_ = absurd (no_ refl)
+change-stops : (c : Change) (kind : FaultKind) (top : Expect) (rest : Stack)
+    → (if_refused c kind ≡ None → ⊥) → changed c top rest ≡ None
+change-stops Refused kind top rest no_ = refl
+change-stops c kind top rest no_ = absurd (no_ refl)
 
-key-stops : (s : Stack) (e : PlainEvent) → (refusal_of_key e ≡ None → ⊥)
-    → step (Pairs ∷ s) e ≡ None
-key-stops s EndCollection no_ = absurd (no_ refl)
-key-stops s (Single (String k)) no_ = absurd (no_ refl)
-key-stops s e no_ = refl
+top-stops : (top : Expect) (rest : Stack) (e : PlainEvent) → (refusal_of top e ≡ None → ⊥)
+    → step (top ∷ rest) e ≡ None
+top-stops top rest e no_ = change-stops (change_of top e) _ top rest no_
 
 stops : (u : Unfinished) (e : PlainEvent) → (refusal_at u e ≡ None → ⊥) → step (want_of u) e ≡ None
-stops NotBegun e no_ = value-stops [] e no_
-stops (Within (InArray ts) outer) e no_ = absurd (no_ refl)
-stops (Within (InDictionary ps) outer) e no_ = key-stops (map expect_round outer) e no_
-stops (Within (AfterKey ps k) outer) e no_ = value-stops (Pairs ∷ map expect_round outer) e no_
+stops NotBegun e no_ = top-stops OneValue [] e no_
+stops (Within c outer) e no_ = top-stops (expected_within c) _ e no_
 stops (Complete t) e no_ = refl
 
 pub refused-ends : (u : Unfinished) (e : PlainEvent) → IsNested u → (refusal_at u e ≡ None → ⊥)

@@ -3,14 +3,17 @@ use Rattle.std.specs.Prelude.{◌≡◌, ◌++◌, ◌∷◌, [], true, false, S
 use Rattle.std.proofs.Common.{inr}
 use Rattle.std.proofs.Common.{refl, sym, ◌∙◌, subst, true≢false}
 use Rattle.std.proofs.lemmas.Option.{none-some, same_Some}
-use Rattle.plist_base.specs.Events.{PlainEvent, EndCollection, Single}
+use Rattle.plist_base.specs.declared.expects.Change.{Change}
+use Rattle.plist_base.specs.declared.expects.Change.TheVariants as change
+use Rattle.plist_base.specs.declared.expects.Expect.TheVariants.{OneValue}
+use Rattle.plist_base.specs.Events.{PlainEvent}
+use Rattle.plist_base.specs.Expects.{change_of}
 use Rattle.plist_base.specs.Faults as faults
 use Rattle.plist_base.specs.Faults.{FaultKind, fault_nowhere, WriterFailed}
-use Rattle.plist_base.specs.Trees as trees
 use Rattle.plist_base.specs.Bracketing.{CanContinue, ContinueAlike}
 use Rattle.plist_base.specs.Writing.{Answer, MatchKind, AnswersByOrder}
 use Rattle.plist.specs.declared.stream.builder.Builder.{Builder}
-use Rattle.plist.specs.Building.{Unfinished, NotBegun, Within, InArray, InDictionary, AfterKey, Complete, Built, IsNested, events_so_far, refusal_of_value, refusal_of_key, refusal_at, IsRefusedStep}
+use Rattle.plist.specs.Building.{Unfinished, NotBegun, Within, Complete, Built, IsNested, events_so_far, expected_within, if_refused, refusal_at, IsRefusedStep}
 use Rattle.plist.specs.Builder.{built_of, IsBuildingStep}
 use Rattle.plist.specs.inner.Following.{refused-ends, taken-continues, accepted-continues, last-continues}
 
@@ -21,22 +24,16 @@ IsForOrder kind = MatchKind kind (Unit {0}) ⊥ ⊥
 for_order : (kind other : FaultKind) → Some other ≡ Some kind → IsForOrder other → IsForOrder kind
 for_order kind other p x = subst IsForOrder (same_Some other kind p) x
 
-value-order : (e : PlainEvent) (kind : FaultKind) → refusal_of_value e ≡ Some kind → IsForOrder kind
-value-order EndCollection kind p = for_order _ _ p tt
-value-order e kind p = absurd (none-some _ p)
-
-key-order : (e : PlainEvent) (kind : FaultKind) → refusal_of_key e ≡ Some kind → IsForOrder kind
-key-order EndCollection kind p = absurd (none-some _ p)
-key-order (Single (trees.String s)) kind p = absurd (none-some _ p)
-key-order e kind p = for_order _ _ p tt
+change-order : (c : Change) (kind other : FaultKind) → if_refused c other ≡ Some kind
+    → IsForOrder other → IsForOrder kind
+change-order change.Refused kind other p x = for_order _ _ p x
+change-order c kind other p x = absurd (none-some _ p)
 
 -- what is refused can't come next
 pub refusal-order : (u : Unfinished) (e : PlainEvent) (kind : FaultKind)
     → refusal_at u e ≡ Some kind → IsForOrder kind
-refusal-order NotBegun e kind p = value-order e _ p
-refusal-order (Within (InArray items) outer) e kind p = absurd (none-some _ p)
-refusal-order (Within (InDictionary pairs) outer) e kind p = key-order e _ p
-refusal-order (Within (AfterKey pairs key) outer) e kind p = value-order e _ p
+refusal-order NotBegun e kind p = change-order (change_of OneValue e) _ _ p tt
+refusal-order (Within c outer) e kind p = change-order (change_of (expected_within c) e) _ _ p tt
 refusal-order (Complete tree) e kind p =
     for_order _ _ p tt
 

@@ -1,8 +1,7 @@
-use Rattle.std.proofs.Common.{Some, ap, refl, ◌∙◌}
+use Rattle.std.proofs.Common.{Some, ap, refl, reverse, ◌∙◌}
 use Rattle.plist_base.specs.Events.{event_of}
-use Rattle.plist_base.specs.inner.Expects.{expected_after}
+use Rattle.plist_base.specs.Expects.{expected_after}
 use Rattle.plist_binwrite.specs.EventBuffers.{buffered_events}
-use Rattle.plist_binwrite.specs.inner.Stacks.{stack_of}
 use Rattle.plist_binwrite.proofs.Pended.{same_wants, stack_shown, tests_whole, took}
 use Rattle.plist_binwrite.proofs.event_buffer.EventBuffer.hold.Goals as goal
 
@@ -28,7 +27,7 @@ returns c =
     record {
       taken = (
         rw c.expect_scalars.ensures.events at c.in_ok-push_copy.ensures.events,
-        tests_whole _ (stack_of now.items) c.is_empty-self.result
+        tests_whole _ (reverse now.items) c.is_empty-self.result
             (took s (event_of c.args.event) c.args.change c.requires.still refl c.requires.change
             c.reserve.new.self.items now.items c.requires.accepted c.in_ok-reserve.ensures.items
             c.put.ensures)

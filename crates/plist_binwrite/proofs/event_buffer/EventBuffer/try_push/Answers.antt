@@ -1,7 +1,6 @@
-use Rattle.std.proofs.Common.{ap, refl}
+use Rattle.std.proofs.Common.{refl}
 use Rattle.std.proofs.lemmas.Result.{err_from_is_err_and}
 use Rattle.plist_base.specs.Events.{event_of}
-use Rattle.plist_binwrite.specs.inner.Stacks.{change_seen}
 use Rattle.plist_binwrite.proofs.Pended.{seen, can_take, cannot_take}
 use Rattle.plist_binwrite.proofs.event_buffer.EventBuffer.try_push.Goals as goal
 
@@ -9,7 +8,7 @@ pub returns-in-Refused-clause-refused : goal.returns-in-Refused-clause-refused
 returns-in-Refused-clause-refused c = (
   (
     cannot_take c.args.self.now _ _ c.requires.still
-        c.as_slice.ensures.value c.change_on-change.ensures (ap change_seen c.in-Refused.is),
+        c.as_slice.ensures.value c.change_on-change.ensures c.in-Refused.is,
     c.fault_of_event.ensures,
   ),
   refl,

@@ -2,39 +2,32 @@
 use Rattle.std.specs.Prelude.{List, [], ◌∷◌, Option, Some, None, option_and_then}
 use Rattle.plist_base.specs.Events.{PlainEvent, StartArray, StartDictionary, EndCollection, Single}
 use Rattle.plist_base.specs.Trees.{String}
+use Rattle.plist_base.specs.declared.expects.Expect.{Expect}
+use Rattle.plist_base.specs.declared.expects.Expect.TheVariants.{OneValue, Items, Pairs}
+use Rattle.plist_base.specs.declared.expects.Change.{Change}
+use Rattle.plist_base.specs.declared.expects.Change.TheVariants.{Refused, Popped, Kept, Pushed, Replaced}
 
--- a value; the items of an array and its end; the pairs of a dictionary and its end
-pub data Expect : Type 0 where
-  OneValue : Expect
-  Items : Expect
-  Pairs : Expect
-
--- what an event does to the topmost expectation
-pub data Change : Type 0 where
-  Refused : Change
-  Popped : Change
-  Kept : Change
-  Pushed : Expect → Change
-  Replaced : Expect → Change
-
--- where a value is wanted, or an item of an array
+-- what an event does where a value is to come
 abbrev pub change_of_value : PlainEvent → Change
 change_of_value (StartArray length) = Replaced Items
 change_of_value (StartDictionary length) = Replaced Pairs
 change_of_value EndCollection = Refused
 change_of_value (Single scalar) = Popped
 
+-- where the items of an array or its end are to come
 abbrev pub change_of_items : PlainEvent → Change
 change_of_items (StartArray length) = Pushed Items
 change_of_items (StartDictionary length) = Pushed Pairs
 change_of_items EndCollection = Popped
 change_of_items (Single scalar) = Kept
 
+-- where the pairs of a dictionary or its end are to come
 abbrev pub change_of_pairs : PlainEvent → Change
 change_of_pairs EndCollection = Popped
 change_of_pairs (Single (String text)) = Pushed OneValue
 change_of_pairs event = Refused
 
+-- what an event does to the topmost expectation
 abbrev pub change_of : Expect → PlainEvent → Change
 change_of OneValue event = change_of_value event
 change_of Items event = change_of_items event
