@@ -75,7 +75,13 @@ fn level_behind(depth: u64, level: u64, event: &Event<'_>) -> Result<u64, Limit>
             Ok(level + 1)
         }
         Event::EndCollection => Ok(level.saturating_sub(1)),
-        _ => Ok(level),
+        Event::Boolean(_)
+        | Event::Data(_)
+        | Event::Date(_)
+        | Event::Integer(_)
+        | Event::Real(_)
+        | Event::String(_)
+        | Event::Uid(_) => Ok(level),
     }
 }
 
@@ -86,7 +92,14 @@ fn bytes_in(event: &Event<'_>) -> u64
     match event {
         Event::String(text) => text.as_str().len() as u64,
         Event::Data(bytes) => bytes.as_slice().len() as u64,
-        _ => 0,
+        Event::StartArray(_)
+        | Event::StartDictionary(_)
+        | Event::EndCollection
+        | Event::Boolean(_)
+        | Event::Date(_)
+        | Event::Integer(_)
+        | Event::Real(_)
+        | Event::Uid(_) => 0,
     }
 }
 
