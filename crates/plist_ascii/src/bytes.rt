@@ -48,15 +48,11 @@ impl<R: Read> Bytes for R {
 
     fn next_byte(&mut self) -> Result<Option<u8>, io::Error> {
         let mut buffer = [0u8; 1];
-        match self.read(&mut buffer) {
-            Ok(count) => {
-                if count == 0 {
-                    return Ok(None);
-                }
-                Ok(Some(buffer[0]))
-            }
-            Err(failure) => Err(failure),
+        let count = self.read(&mut buffer)?;
+        if count == 0 {
+            return Ok(None);
         }
+        Ok(Some(buffer[0]))
     }
 
     fn buffered(&self) -> &[u8] {

@@ -279,10 +279,7 @@ fn number_in(text: &str) -> Option<Integer>
 {
     match text.strip_prefix("0x") {
         Some(rest) => unsigned(strip_prefixes(rest), 16),
-        None => match signed(text) {
-            Some(number) => Some(number),
-            None => unsigned(text, 10),
-        },
+        None => signed(text).or_else(|| unsigned(text, 10)),
     }
 }
 
