@@ -15,15 +15,11 @@ pub fn read_byte<S: Source>(source: &mut S, place: u64) -> Result<Option<u8>, io
     ensures failures { CountsFailure result (S.failures source.old) (S.failures source.new) }
 {
     let mut buffer = [0u8; 1];
-    match source.read_at(place, &mut buffer) {
-        Ok(count) => {
-            if count == 0 {
-                return Ok(None);
-            }
-            Ok(Some(buffer[0]))
-        }
-        Err(failure) => Err(failure),
+    let count = source.read_at(place, &mut buffer)?;
+    if count == 0 {
+        return Ok(None);
     }
+    Ok(Some(buffer[0]))
 }
 
 // As much as one read of the source asks for.
@@ -79,16 +75,12 @@ impl<R: Source> SourceBytes<R> {
         if room == 0 {
             return Ok(());
         }
-        match self.source.read_at(self.place, &mut self.window) {
-            Ok(count) => {
-                let count = room.min(count as u64);
-                self.from = 0;
-                self.end = count as usize;
-                self.place += count;
-                Ok(())
-            }
-            Err(fault) => Err(fault),
-        }
+        let got = self.source.read_at(self.place, &mut self.window)?;
+        let count = room.min(got as u64);
+        self.from = 0;
+        self.end = count as usize;
+        self.place += count;
+        Ok(())
     }
 }
 
@@ -103,17 +95,13 @@ impl<R: Source> Bytes for SourceBytes<R> {
     ghost held = { held };
 
     fn next_byte(&mut self) -> Result<Option<u8>, io::Error> {
-        match self.fill() {
-            Ok(()) => {
-                if self.from == self.end {
-                    return Ok(None);
-                }
-                let byte = self.window[self.from];
-                self.from += 1;
-                Ok(Some(byte))
-            }
-            Err(failure) => Err(failure),
+        self.fill()?;
+        if self.from == self.end {
+            return Ok(None);
         }
+        let byte = self.window[self.from];
+        self.from += 1;
+        Ok(Some(byte))
     }
 
     fn buffered(&self) -> &[u8] {

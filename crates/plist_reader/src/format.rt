@@ -98,16 +98,13 @@ fn xml_place<S: Source>(source: &mut S, start: u64) -> Result<Option<u64>, Error
 {
     let mut place = start;
     'white: while place < u64::MAX {
-        match byte_at(source, place) {
-            Ok(Some(byte)) => {
-                if !is_white(byte) {
-                    return Ok((byte == b'<').then_some(place));
-                }
-                place += 1;
-            }
-            Ok(None) => return Ok(None),
-            Err(error) => return Err(error),
+        let Some(byte) = byte_at(source, place)? else {
+            return Ok(None);
+        };
+        if !is_white(byte) {
+            return Ok((byte == b'<').then_some(place));
         }
+        place += 1;
     }
     Ok(None)
 }
@@ -126,17 +123,12 @@ pub fn format_of<S: Source>(source: &mut S) -> Result<Format, Error>
     ensures unchanged { S.known source.new ≡ S.known source.old }
     ensures failures { AnswersIo result (S.failures source.old) (S.failures source.new) }
 {
-    match begins_with(source, MAGIC) {
-        Ok(true) => return Ok(Format::Binary),
-        Ok(false) => {}
-        Err(error) => return Err(error),
+    if begins_with(source, MAGIC)? {
+        return Ok(Format::Binary);
     }
-    match mark_length(source) {
-        Ok(start) => match xml_place(source, start) {
-            Ok(Some(place)) => Ok(Format::Xml(place)),
-            Ok(None) => Ok(Format::Ascii),
-            Err(error) => Err(error),
-        },
-        Err(error) => Err(error),
+    let start = mark_length(source)?;
+    match xml_place(source, start)? {
+        Some(place) => Ok(Format::Xml(place)),
+        None => Ok(Format::Ascii),
     }
 }

@@ -6,30 +6,30 @@ use Rattle.plist_reader.proofs.format.xml_place.Goals as goal
 
 pub returns-then-not-is_white-clause-value : goal.returns-then-not-is_white-clause-value
 returns-then-not-is_white-clause-value g c =
-    let byte = rw c.in-Ok-Some.field-0-is at c.in-Ok-Some.ensures.byte in
+    let byte = rw c.in-Some.is at c.in_ok-byte.ensures.byte in
     both_known (g.S.Source.known c.args.source.now) c.white.invariant.passed
     (rw c.white.invariant.same at byte)
     (λ bytes i at. c.then_some.ensures ∙ then_some-cond _ c.white.place ∙ sym
     (moved c.args.start c.white.place (input_front bytes) i
-    ∙ xml-here (2 ^ 64 - 1) bytes c.white.place c.in-Ok-Some.byte c.white-test.true (sym at)
+    ∙ xml-here (2 ^ 64 - 1) bytes c.white.place c.in-Some.byte c.white-test.true (sym at)
     (sym c.is_white.ensures ∙ c.if-not-is_white.true)))
 
 pub white-preserved : goal.white-preserved
 white-preserved g c =
-    let byte = rw c.in-Ok-Some.field-0-is at c.in-Ok-Some.ensures.byte in
+    let byte = rw c.in-Some.is at c.in_ok-byte.ensures.byte in
     record {
       same = c.byte_at.ensures.unchanged ∙ c.white.invariant.same;
-      counts = c.in-Ok-Some.ensures.failures ∙ c.white.invariant.counts;
+      counts = c.in_ok-byte.ensures.failures ∙ c.white.invariant.counts;
       passed = both_known (g.S.Source.known c.args.source.now) c.white.invariant.passed
           (rw c.white.invariant.same at byte)
-          (λ bytes i at. i ∙ white-on (2 ^ 64 - 1) bytes c.white.place c.in-Ok-Some.byte
+          (λ bytes i at. i ∙ white-on (2 ^ 64 - 1) bytes c.white.place c.in-Some.byte
           c.white-test.true (sym at)
           (sym c.is_white.ensures ∙ c.if-not-is_white.false));
     }
 
-pub returns-in-Ok-None-clause-value : goal.returns-in-Ok-None-clause-value
-returns-in-Ok-None-clause-value g c =
-    let none = rw c.in-Ok-None.field-0-is at c.in-Ok-None.ensures.byte in
+pub returns-in_default-clause-value : goal.returns-in_default-clause-value
+returns-in_default-clause-value g c =
+    let none = rw c.in_default.is at c.in_ok-byte.ensures.byte in
     both_known (g.S.Source.known c.args.source.now) c.white.invariant.passed
     (rw c.white.invariant.same at none)
     (λ bytes i at. sym (moved c.args.start c.white.place (input_front bytes) i

@@ -10,16 +10,16 @@ returns-then-self-clause-end g c =
 pub returns-then-room-eq0-clause-end : goal.returns-then-room-eq0-clause-end
 returns-then-room-eq0-clause-end g c = λ e. full_none _ _ _ (omega (arith, c.if-room-eq0.true)) e
 
-pub returns-in-Ok-clause-bytes : goal.returns-in-Ok-clause-bytes
-returns-in-Ok-clause-bytes g c =
-    read_on _ _ c.args.self.now.place c.min-count.result c.in-Ok.count c.args.self.now.from
+pub returns-clause-bytes : goal.returns-clause-bytes
+returns-clause-bytes g c =
+    read_on _ _ c.args.self.now.place c.min-count.result c.in_ok-got.got c.args.self.now.from
     c.args.self.now.end c.args.self.now.window c.read_at.new.buf c.read_at.ensures.unchanged
     c.if-self.false
-    (omega (arith, c.min-count.ensures)) (omega (arith, c.min-count.ensures)) c.in-Ok.ensures.bytes
+    (omega (arith, c.min-count.ensures)) (omega (arith, c.min-count.ensures)) c.in_ok-got.ensures.bytes
 
-pub returns-in-Ok-clause-end : goal.returns-in-Ok-clause-end
-returns-in-Ok-clause-end g c = λ e.
+pub returns-clause-end : goal.returns-clause-end
+returns-clause-end g c = λ e.
     read_none (g.R.Source.known c.args.self.now.source) _ c.args.self.now.place c.min-count.result
-    c.in-Ok.count c.read_at.new.buf c.read_at.ensures.unchanged
+    c.in_ok-got.got c.read_at.new.buf c.read_at.ensures.unchanged
     (λ z. omega (arith, z, c.min-count.ensures, c.if-room-eq0.false)) (omega arith) e
-    (omega (arith, c.min-count.ensures, c.in-Ok.ensures.bound)) c.in-Ok.ensures.bytes
+    (omega (arith, c.min-count.ensures, c.in_ok-got.ensures.bound)) c.in_ok-got.ensures.bytes
