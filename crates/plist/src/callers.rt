@@ -39,10 +39,8 @@ pub fn file_by_events<S: Sharing>(alloc: Global, value: &Value) -> Result<Vec<u8
     ensures file { IfOk result (λ file. S.IsFile (tree_of value.now) file.items) }
 {
     let mut writer = FileWriter::<Vec<u8>, S>::new(alloc, Vec::new(alloc));
-    match write_value(alloc, value, &mut writer) {
-        Ok(()) => Ok(writer.into_inner()),
-        Err(error) => Err(error),
-    }
+    write_value(alloc, value, &mut writer)?;
+    Ok(writer.into_inner())
 }
 
 /// Whether two values are equal: whether their trees are the same, whatever the order of a

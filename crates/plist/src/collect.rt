@@ -21,10 +21,7 @@ fn collect_from<E: AnyEvent, I: Iterator<Item = Result<E, Error>>>(
 {
     let mut builder = Builder::new(alloc);
     while let Some(item) = rest.next() {
-        match builder.take_item(item) {
-            Ok(()) => {}
-            Err(error) => return Err(error),
-        }
+        builder.take_item(item)?;
     }
     builder.finish()
 }

@@ -117,42 +117,60 @@ impl<'a> Later<'a> {
         ensures { ComparesContent value.now other.now self.old result self.new }
     {
         match value {
-            Value::Array(items) => match other {
-                Value::Array(others) => self.compare_items(items, others, levels),
-                _ => false,
-            },
-            Value::Dictionary(pairs) => match other {
-                Value::Dictionary(others) => self.compare_pairs(pairs, others, levels),
-                _ => false,
-            },
-            Value::Boolean(content) => match other {
-                Value::Boolean(another) => *content == *another,
-                _ => false,
-            },
-            Value::Data(content) => match other {
-                Value::Data(another) => content.as_slice() == another.as_slice(),
-                _ => false,
-            },
-            Value::Date(content) => match other {
-                Value::Date(another) => *content == *another,
-                _ => false,
-            },
-            Value::Real(content) => match other {
-                Value::Real(another) => *content == *another,
-                _ => false,
-            },
-            Value::Integer(content) => match other {
-                Value::Integer(another) => *content == *another,
-                _ => false,
-            },
-            Value::String(content) => match other {
-                Value::String(another) => content.as_str() == another.as_str(),
-                _ => false,
-            },
-            Value::Uid(content) => match other {
-                Value::Uid(another) => *content == *another,
-                _ => false,
-            },
+            Value::Array(items) => {
+                let Value::Array(others) = other else {
+                    return false;
+                };
+                self.compare_items(items, others, levels)
+            }
+            Value::Dictionary(pairs) => {
+                let Value::Dictionary(others) = other else {
+                    return false;
+                };
+                self.compare_pairs(pairs, others, levels)
+            }
+            Value::Boolean(content) => {
+                let Value::Boolean(another) = other else {
+                    return false;
+                };
+                *content == *another
+            }
+            Value::Data(content) => {
+                let Value::Data(another) = other else {
+                    return false;
+                };
+                content.as_slice() == another.as_slice()
+            }
+            Value::Date(content) => {
+                let Value::Date(another) = other else {
+                    return false;
+                };
+                *content == *another
+            }
+            Value::Real(content) => {
+                let Value::Real(another) = other else {
+                    return false;
+                };
+                *content == *another
+            }
+            Value::Integer(content) => {
+                let Value::Integer(another) = other else {
+                    return false;
+                };
+                *content == *another
+            }
+            Value::String(content) => {
+                let Value::String(another) = other else {
+                    return false;
+                };
+                content.as_str() == another.as_str()
+            }
+            Value::Uid(content) => {
+                let Value::Uid(another) = other else {
+                    return false;
+                };
+                *content == *another
+            }
         }
     }
 

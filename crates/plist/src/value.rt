@@ -124,10 +124,10 @@ impl Value {
         ensures value { option_map (λ a. item_trees a.items) result ≡ array_in (tree_of self) }
         ensures made { IfSome result (λ items. self ≡ made.Array items) }
     {
-        match self {
-            Value::Array(array) => Some(array),
-            _ => None,
-        }
+        let Value::Array(array) = self else {
+            return None;
+        };
+        Some(array)
     }
 
     /// The dictionary, if the value is one.
@@ -135,10 +135,10 @@ impl Value {
         ensures value { option_map pair_trees result ≡ dictionary_in (tree_of self) }
         ensures made { IfSome result (λ pairs. self ≡ made.Dictionary pairs) }
     {
-        match self {
-            Value::Dictionary(pairs) => Some(pairs),
-            _ => None,
-        }
+        let Value::Dictionary(pairs) = self else {
+            return None;
+        };
+        Some(pairs)
     }
 
     /// The bytes of data, if the value is data.
@@ -146,10 +146,10 @@ impl Value {
         ensures value { option_map (λ bytes. bytes.items) result ≡ data_in (tree_of self) }
         ensures made { IfSome result (λ bytes. self ≡ made.Data bytes) }
     {
-        match self {
-            Value::Data(bytes) => Some(bytes),
-            _ => None,
-        }
+        let Value::Data(bytes) = self else {
+            return None;
+        };
+        Some(bytes)
     }
 
     /// The text, if the value is one.
@@ -157,10 +157,10 @@ impl Value {
         ensures value { option_map string_bytes result ≡ text_in (tree_of self) }
         ensures made { IfSome result (λ text. self ≡ made.String text) }
     {
-        match self {
-            Value::String(text) => Some(text),
-            _ => None,
-        }
+        let Value::String(text) = self else {
+            return None;
+        };
+        Some(text)
     }
 
     /// The events of the value, depth first.
@@ -321,10 +321,8 @@ impl Value {
     pub fn to_writer_binary<W: Write>(&self, alloc: Global, writer: &mut W) -> Result<(), Error>
         ensures sent { SendsValue W.contents self.now result writer.old writer.new }
     {
-        match collect_events(alloc, self) {
-            Ok(events) => complete(alloc, &events, writer),
-            Err(error) => Err(error),
-        }
+        let events = collect_events(alloc, self)?;
+        complete(alloc, &events, writer)
     }
 }
 

@@ -33,10 +33,7 @@ pub fn write_value<W: Writer>(alloc: Global, value: &Value, writer: &mut W) -> R
 {
     let mut events = value.events(alloc);
     while let Some(item) = events.next() {
-        match hand(writer, item) {
-            Ok(()) => {}
-            Err(error) => return Err(error),
-        }
+        hand(writer, item)?;
     }
     Ok(())
 }
@@ -53,10 +50,7 @@ pub fn collect_events<'a>(alloc: Global, value: &'a Value) -> Result<EventTable<
     let mut held = EventTable::new(alloc);
     let mut left = value.events(alloc);
     while let Some(item) = left.next() {
-        match item {
-            Ok(event) => held.push(event)?,
-            Err(error) => return Err(error),
-        }
+        held.push(item?)?;
     }
     Ok(held)
 }

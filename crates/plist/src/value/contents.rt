@@ -20,10 +20,10 @@ impl Value {
             ≡ array_in (tree_of self.now) }
         ensures made { IfSome result (λ items. self.now ≡ made.Array items.now) }
     {
-        match self {
-            Value::Array(array) => Some(array),
-            _ => None,
-        }
+        let Value::Array(array) = self else {
+            return None;
+        };
+        Some(array)
     }
 
     /// The array, to be changed, if the value is one.
@@ -32,10 +32,10 @@ impl Value {
         ensures made { IfSome result (λ items. self.old ≡ made.Array items.now) }
         ensures* writes_back { sem 𝓛 (LendsArray self.entry result self.old) }
     {
-        match self {
-            Value::Array(lent) => Some(lent),
-            _ => None,
-        }
+        let Value::Array(lent) = self else {
+            return None;
+        };
+        Some(lent)
     }
 
     /// The dictionary, if the value is one.
@@ -44,10 +44,10 @@ impl Value {
             ≡ dictionary_in (tree_of self.now) }
         ensures made { IfSome result (λ pairs. self.now ≡ made.Dictionary pairs.now) }
     {
-        match self {
-            Value::Dictionary(dictionary) => Some(dictionary),
-            _ => None,
-        }
+        let Value::Dictionary(dictionary) = self else {
+            return None;
+        };
+        Some(dictionary)
     }
 
     /// The dictionary, to be changed, if the value is one.
@@ -56,50 +56,50 @@ impl Value {
         ensures made { IfSome result (λ pairs. self.old ≡ made.Dictionary pairs.now) }
         ensures* writes_back { sem 𝓛 (LendsDictionary self.entry result self.old) }
     {
-        match self {
-            Value::Dictionary(lent) => Some(lent),
-            _ => None,
-        }
+        let Value::Dictionary(lent) = self else {
+            return None;
+        };
+        Some(lent)
     }
 
     /// The truth value, if the value is one.
     pub fn as_boolean(&self) -> Option<bool>
         ensures { result ≡ boolean_in (tree_of self.now) }
     {
-        match self {
-            Value::Boolean(value) => Some(*value),
-            _ => None,
-        }
+        let Value::Boolean(value) = self else {
+            return None;
+        };
+        Some(*value)
     }
 
     /// The bytes of data, if the value is data.
     pub fn as_data(&self) -> Option<&[u8]>
         ensures { option_copied result ≡ data_in (tree_of self.now) }
     {
-        match self {
-            Value::Data(bytes) => Some(bytes.as_slice()),
-            _ => None,
-        }
+        let Value::Data(bytes) = self else {
+            return None;
+        };
+        Some(bytes.as_slice())
     }
 
     /// The date, if the value is one.
     pub fn as_date(&self) -> Option<Date>
         ensures { result ≡ date_in (tree_of self.now) }
     {
-        match self {
-            Value::Date(date) => Some(*date),
-            _ => None,
-        }
+        let Value::Date(date) = self else {
+            return None;
+        };
+        Some(*date)
     }
 
     /// The bytes of a real, if the value is one.
     pub fn as_real(&self) -> Option<RealBits>
         ensures { result ≡ real_in (tree_of self.now) }
     {
-        match self {
-            Value::Real(bits) => Some(*bits),
-            _ => None,
-        }
+        let Value::Real(bits) = self else {
+            return None;
+        };
+        Some(*bits)
     }
 
     /// The number, if the value is an integer that fits an `i64`.
@@ -107,10 +107,10 @@ impl Value {
         ensures fits { IsSome result ↔ IsSomeAnd (integer_in (tree_of self.now)) IsBelowSigned }
         ensures value { IfSome result (λ n. integer_in (tree_of self.now) ≡ Some n) }
     {
-        match self {
-            Value::Integer(number) => number.as_signed(),
-            _ => None,
-        }
+        let Value::Integer(number) = self else {
+            return None;
+        };
+        number.as_signed()
     }
 
     /// The number, if the value is an integer that isn't negative.
@@ -118,40 +118,40 @@ impl Value {
         ensures fits { IsSome result ↔ IsSomeAnd (integer_in (tree_of self.now)) IsNatural }
         ensures value { IfSome result (λ n. integer_in (tree_of self.now) ≡ Some (pos n)) }
     {
-        match self {
-            Value::Integer(number) => number.as_unsigned(),
-            _ => None,
-        }
+        let Value::Integer(number) = self else {
+            return None;
+        };
+        number.as_unsigned()
     }
 
     /// The text, if the value is one.
     pub fn as_string(&self) -> Option<&str>
         ensures { option_copied result ≡ text_in (tree_of self.now) }
     {
-        match self {
-            Value::String(text) => Some(text.as_str()),
-            _ => None,
-        }
+        let Value::String(text) = self else {
+            return None;
+        };
+        Some(text.as_str())
     }
 
     /// The identifier, if the value is one.
     pub fn into_uid(self) -> Option<Uid>
         ensures { result ≡ uid_in (tree_of self) }
     {
-        match &self {
-            Value::Uid(uid) => Some(*uid),
-            _ => None,
-        }
+        let Value::Uid(uid) = &self else {
+            return None;
+        };
+        Some(*uid)
     }
 
     /// The identifier, if the value is one.
     pub fn as_uid(&self) -> Option<&Uid>
         ensures { option_copied result ≡ uid_in (tree_of self.now) }
     {
-        match self {
-            Value::Uid(lent) => Some(lent),
-            _ => None,
-        }
+        let Value::Uid(lent) = self else {
+            return None;
+        };
+        Some(lent)
     }
 
     // Where a collection is stored.

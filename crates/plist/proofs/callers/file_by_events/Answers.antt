@@ -4,13 +4,13 @@ use Rattle.plist.specs.Views.{tree_of}
 use Rattle.plist.proofs.HandedFiles.{all-sent}
 use Rattle.plist.proofs.callers.file_by_events.Goals as goal
 
-pub returns-in-Ok : goal.returns-in-Ok
-returns-in-Ok g c =
+pub returns : goal.returns
+returns g c =
     let tree = tree_of c.args.value.now in
     let made = c.new-writer.ensures in
     let s = all-sent g.S.Sharing.IsFile g.S.Sharing.size (λ (v : Vec ℕ Global). Some v.items) tree
     c.new.result c.new-writer.result c.write_value.new.writer made.held made.failed made.inner
-    c.in-Ok.ensures.handed in
+    c.in_ok-write_value.ensures.handed in
     record {
       file = subst (g.S.Sharing.IsFile tree)
           (sym (ap (λ (v : Vec ℕ Global). v.items) c.into_inner.ensures.inner ∙ s.2

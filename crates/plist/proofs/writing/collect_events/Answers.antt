@@ -15,8 +15,8 @@ loop-item-init c =
 pub loop-item-preserved : goal.loop-item-preserved
 loop-item-preserved c =
     gathered_more (bracketing (tree_of c.args.value.now)) (plain_events c.loop-item.held)
-    (plain_events c.push.new.self) c.loop-item.left c.next.new.self c.in-Some.item c.in-Ok.event
-    c.loop-item.invariant c.in-Some.ensures.steps (search rules) c.in_ok-push-in-Ok.ensures.events
+    (plain_events c.push.new.self) c.loop-item.left c.next.new.self c.in-Some.item c.in_ok-item.field-0
+    c.loop-item.invariant c.in-Some.ensures.steps (search rules) c.in_ok-push.ensures.events
 
 pub returns-clause-events : goal.returns-clause-events
 returns-clause-events c =

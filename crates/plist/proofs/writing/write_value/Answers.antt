@@ -1,4 +1,5 @@
 use Rattle.std.proofs.Common.{[], sym, refl}
+use Rattle.std.proofs.lemmas.Result.{err_from_is_err_and}
 use Rattle.plist_base.specs.Bracketing.{bracketing}
 use Rattle.plist_base.specs.Faults.{fault_of}
 use Rattle.plist.specs.Views.{tree_of}
@@ -12,16 +13,18 @@ pub loop-item-preserved : goal.loop-item-preserved
 loop-item-preserved g c =
     one-more g.W.Writer.Step c.args.writer.now c.loop-item.writer c.hand.new.writer
     (bracketing (tree_of c.args.value.now)) c.loop-item.events c.next.new.self c.in-Some.item
-    c.loop-item.invariant c.in-Some.ensures.steps c.in-Ok.ensures
+    c.loop-item.invariant c.in-Some.ensures.steps c.in_ok-hand.ensures
 
-pub returns-in-Err : goal.returns-in-Err
-returns-in-Err g c = record {
-  handed =
-      refused g.W.Writer.Step c.args.writer.now c.loop-item.writer c.hand.new.writer
-      (bracketing (tree_of c.args.value.now)) c.loop-item.events c.next.new.self c.in-Some.item
-      (fault_of c.in-Err.error)
-      c.loop-item.invariant c.in-Some.ensures.steps c.in-Err.ensures;
-}
+pub returns-in_err-hand : goal.returns-in_err-hand
+returns-in_err-hand g c =
+    let f = err_from_is_err_and c.from_residual.result c.from_residual.ensures.1 in
+    record {
+      handed = rw (f.1, f.2)
+          (refused g.W.Writer.Step c.args.writer.now c.loop-item.writer c.hand.new.writer
+          (bracketing (tree_of c.args.value.now)) c.loop-item.events c.next.new.self c.in-Some.item
+          (fault_of c.in_err-hand.field-0.0)
+          c.loop-item.invariant c.in-Some.ensures.steps c.in_err-hand.ensures);
+    }
 
 pub returns : goal.returns
 returns g c = record {

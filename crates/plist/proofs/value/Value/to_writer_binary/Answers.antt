@@ -1,3 +1,4 @@
+use Rattle.std.proofs.lemmas.Result.{err_from_is_err_and}
 use Rattle.plist_base.specs.Faults.{fault_of}
 use Rattle.plist_base.specs.Writing.{answer_of}
 use Rattle.plist_binwrite.specs.EventTable.{plain_events}
@@ -9,22 +10,25 @@ pub complete-requires : goal.complete-requires
 complete-requires g c =
     let tree = tree_of _ in
     record {
-      whole = whole_tree tree (plain_events c.in-Ok.events)
-          (gathered_alike tree (plain_events c.in-Ok.events) c.in-Ok.ensures.events);
+      whole = whole_tree tree (plain_events c.in_ok-events.events)
+          (gathered_alike tree (plain_events c.in_ok-events.events) c.in_ok-events.ensures.events);
     }
 
-pub returns-in-Ok : goal.returns-in-Ok
-returns-in-Ok g c =
+pub returns : goal.returns
+returns g c =
     let tree = tree_of _ in
     record {
-      sent = sends_tree tree (plain_events c.in-Ok.events)
-          (gathered_alike tree (plain_events c.in-Ok.events) c.in-Ok.ensures.events)
+      sent = sends_tree tree (plain_events c.in_ok-events.events)
+          (gathered_alike tree (plain_events c.in_ok-events.events) c.in_ok-events.ensures.events)
           g.W.Write.contents c.args.writer.now c.complete.new.writer (answer_of c.complete.result)
           c.complete.ensures;
     }
 
-pub returns-in-Err : goal.returns-in-Err
-returns-in-Err g c = record {
-  sent = wants_memory g.W.Write.contents (tree_of c.args.self.now) (fault_of c.in-Err.error)
-      c.args.writer.now c.in-Err.ensures.memory;
-}
+pub returns-in_err-events : goal.returns-in_err-events
+returns-in_err-events g c =
+    let f = err_from_is_err_and c.from_residual.result c.from_residual.ensures.1 in
+    record {
+      sent = rw (f.1, f.2)
+          (wants_memory g.W.Write.contents (tree_of c.args.self.now)
+          (fault_of c.in_err-events.field-0.0) c.args.writer.now c.in_err-events.ensures.memory);
+    }
