@@ -29,10 +29,10 @@ fn array_at<'a>(pairs: &'a Dictionary, key: &str) -> Option<&'a Vec<Value>>
     ensures found { IfSome result (λ array. IsArrayAt key.now pairs.now array.now) }
     ensures missing { IsNone result → HasNoArrayAt key.now pairs.now }
 {
-    match pairs.get(key) {
-        Some(Value::Array(array)) => Some(array),
-        _ => None,
-    }
+    let Some(Value::Array(array)) = pairs.get(key) else {
+        return None;
+    };
+    Some(array)
 }
 
 // The dictionary at a key.
@@ -40,10 +40,10 @@ fn dictionary_at<'a>(pairs: &'a Dictionary, key: &str) -> Option<&'a Dictionary>
     ensures found { IfSome result (λ others. IsDictionaryAt key.now pairs.now others.now) }
     ensures missing { IsNone result → HasNoDictionaryAt key.now pairs.now }
 {
-    match pairs.get(key) {
-        Some(Value::Dictionary(others)) => Some(others),
-        _ => None,
-    }
+    let Some(Value::Dictionary(others)) = pairs.get(key) else {
+        return None;
+    };
+    Some(others)
 }
 
 impl<'a> Archive<'a> {
@@ -75,10 +75,10 @@ impl<'a> Archive<'a> {
         ensures found { IfSome result (IsUidAt key.now (names_of self.now)) }
         ensures missing { IsNone result → (uid : ℕ) → ¬ (IsUidAt key.now (names_of self.now) uid) }
     {
-        match self.names.get(key) {
-            Some(Value::Uid(uid)) => Some(*uid),
-            _ => None,
-        }
+        let Some(Value::Uid(uid)) = self.names.get(key) else {
+            return None;
+        };
+        Some(*uid)
     }
 
     /// The object of a Uid, in which no Uid is followed; `None` where there is none. It takes no

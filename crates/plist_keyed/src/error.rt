@@ -26,11 +26,16 @@ impl KeyedError {
     pub(crate) fn of_error(error: &Error) -> KeyedError
         ensures { result ≡ error_of_fault (fault_of error.now) }
     {
-        match (error.kind(), error.offset()) {
-            (ErrorKind::ObjectReferenceTooLarge, Some(uid)) => KeyedError::UidOutOfRange(uid),
-            (ErrorKind::RecursiveObject, Some(uid)) => KeyedError::RecursiveUid(uid),
-            _ => KeyedError::OutOfMemory,
+        let Some(uid) = error.offset() else {
+            return KeyedError::OutOfMemory;
+        };
+        if let ErrorKind::ObjectReferenceTooLarge = error.kind() {
+            return KeyedError::UidOutOfRange(uid);
         }
+        if let ErrorKind::RecursiveObject = error.kind() {
+            return KeyedError::RecursiveUid(uid);
+        }
+        KeyedError::OutOfMemory
     }
 }
 

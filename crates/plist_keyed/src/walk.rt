@@ -124,10 +124,10 @@ impl<'a> Walk<'a> {
     {
         match uid_of(&event) {
             None => Ok(Move::Gave(event)),
-            Some(uid) => match self.enter(uid) {
-                Ok(()) => Ok(Move::Passed),
-                Err(error) => Err(error),
-            },
+            Some(uid) => {
+                self.enter(uid)?;
+                Ok(Move::Passed)
+            }
         }
     }
 
@@ -148,10 +148,7 @@ impl<'a> Walk<'a> {
             }
             Some(item) => {
                 self.levels.push_reserved(left);
-                match item {
-                    Ok(event) => self.pass(event),
-                    Err(error) => Err(error),
-                }
+                self.pass(item?)
             }
         }
     }
@@ -205,8 +202,6 @@ pub(crate) fn value_at(alloc: Global, objects: &[Value], uid: Uid) -> Result<Val
     ensures itself { OnOk result ((value : Value) → last_wins (tree_of value) ≡ tree_of value) }
 {
     let mut walk = Walk::new(alloc, objects);
-    match walk.enter(uid.get()) {
-        Ok(()) => Value::from_events(alloc, walk),
-        Err(error) => Err(error),
-    }
+    walk.enter(uid.get())?;
+    Value::from_events(alloc, walk)
 }
