@@ -1,12 +1,15 @@
 -- Steps of sending through a room.
-use Rattle.std.proofs.Common.{◌≡◌, ◌+◌, ◌<◌, ◌≤◌, ℕ, List, [], ◌++◌, length, get_or, map, take, drop, Option, Ok, Err, refl, sym, ap, ◌∙◌, append_assoc, append-nil, arith}
+use Rattle.std.proofs.Common.{◌≡◌, ◌+◌, ◌<◌, ◌≤◌, ℕ, List, [], ◌++◌, length, get_or, map, take, drop, Option, Result, Ok, Err, refl, sym, ap, ◌∙◌, append_assoc, append-nil, arith}
+use Rattle.std.specs.Result.{IsErrAnd, OnOk}
 use Rattle.std.specs.List.{flat_map}
 use Rattle.std.proofs.lemmas.Grind.{flat_map-append}
 use Rattle.std.proofs.lemmas.List.{take-append-drop, take_more}
 use Rattle.std.specs.Io.KnownBytes.{Appends}
 use Rattle.std.proofs.KnownBytes.{Appends-trans, Appends-nil}
-use Rattle.plist_base.specs.Faults.{Fault, Io, fault_nowhere}
-use Rattle.plist_base.specs.Writing.{Answer}
+use Rattle.plist_base.specs.declared.error.Error.{Error}
+use Rattle.plist_base.specs.Faults.{Fault, Io, fault_nowhere, fault_of}
+use Rattle.plist_base.specs.Outcomes.{OnlyDevice}
+use Rattle.plist_base.specs.Writing.{Answer, answer_of}
 use Rattle.plist_base.specs.Prefixes.{AppendsPrefix}
 use Rattle.plist_binwrite.specs.Forms.{table_form}
 use Rattle.plist_binwrite.specs.OutputBuffer.{IsSplit, PutsBytes, buffer_size}
@@ -65,6 +68,14 @@ puts_front {b} {xs} ys p =
       waits = p.waits;
     }
 
+-- it is what the exit of a `?` hands on
+pub puts_refused : {a b : Option (List ℕ)} {held h xs : List ℕ} (ys : List ℕ)
+    (answer : Result (Unit {0}) Error) (error : Error) → IsErrAnd answer (λ e. e ≡ error)
+    → PutsBytes a held xs (Err (fault_of error)) b h
+    → PutsBytes a held (xs ++ ys) (answer_of answer) b h
+puts_refused ys (Ok done) error is p = absurd is
+puts_refused ys (Err e) error is p = rw is (puts_front ys p)
+
 pub puts_as : {a b : Option (List ℕ)} {held k xs ys : List ℕ} {answer : Answer} → xs ≡ ys
     → PutsBytes a held xs answer b k → PutsBytes a held ys answer b k
 puts_as e p = rw (← e) p
@@ -113,6 +124,17 @@ puts_broken a b held xs h fault io f waits = record {
   );
   waits = waits;
 }
+
+-- what waited went out before, and then bytes do, or a beginning of them
+pub puts_sent : (a b c : Option (List ℕ)) (held xs : List ℕ) (answer : Result (Unit {0}) Error)
+    → Appends a b held → OnOk answer (Appends b c xs) → OnlyDevice answer → AppendsPrefix b c xs
+    → PutsBytes a held xs (answer_of answer) c []
+puts_sent a b c held xs (Ok done) went sent fault front =
+    puts_out a c held xs (Appends-trans a b c held xs went sent)
+puts_sent a b c held xs (Err error) went sent fault front =
+    puts_broken a c held xs [] (fault_of error) fault
+    (out_front a b c xs (held ++ xs) front (record { sent = held; went = went; is = refl }))
+    (λ _. omega arith)
 
 -- ---- bytes of each of some numbers
 

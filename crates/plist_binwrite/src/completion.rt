@@ -107,19 +107,14 @@ fn put_file<W: Write>(
         buffer.new }
 {
     let width = reference_width(ready.places.len() as u64);
-    match put(out, buffer, b"bplist00") {
-        Ok(()) => {}
-        Err(error) => return Err(error),
-    }
+    put(out, buffer, b"bplist00")?;
     let file = Planned {
         events,
         plan: &ready.plan,
         width,
     };
-    match put_objects(out, buffer, &file, &ready.order) {
-        Ok(()) => put_table_and_trailer(out, buffer, &ready.places, ready.table),
-        Err(error) => Err(error),
-    }
+    put_objects(out, buffer, &file, &ready.order)?;
+    put_table_and_trailer(out, buffer, &ready.places, ready.table)
 }
 
 // Sends a planned file through an empty buffer, and flushes. It takes no memory.
@@ -133,10 +128,8 @@ fn send_file<W: Write>(
     requires empty { buffer.old.items ≡ [] }
     ensures { SendsPlanned W.contents events.now ready.now result out.old out.new }
 {
-    match put_file(out, buffer, events, ready) {
-        Ok(()) => finish(out, buffer.as_slice()),
-        Err(error) => Err(error),
-    }
+    put_file(out, buffer, events, ready)?;
+    finish(out, buffer.as_slice())
 }
 
 // Sends a planned file, or refuses it for its size alone.

@@ -124,10 +124,8 @@ pub fn put_data<W: Write>(out: &mut W, buffer: &mut Vec<u8>, content: &[u8]) -> 
     ensures { Puts W.contents out.old buffer.old (data_form content.now) result out.new buffer.new }
 {
     let count = content.len();
-    match put_length(out, buffer, 0x4, count as u64) {
-        Ok(()) => put(out, buffer, content),
-        Err(error) => Err(error),
-    }
+    put_length(out, buffer, 0x4, count as u64)?;
+    put(out, buffer, content)
 }
 
 /// Puts a date by its eight bytes.
@@ -159,10 +157,8 @@ pub fn put_uid<W: Write>(out: &mut W, buffer: &mut Vec<u8>, uid: Uid) -> Result<
 fn put_wide_integer<W: Write>(out: &mut W, buffer: &mut Vec<u8>, number: u64) -> Result<(), Error>
     ensures { Puts W.contents out.old buffer.old (marked 0x14 16 number) result out.new buffer.new }
 {
-    match put_marked_number(out, buffer, 0x14, 8, 0) {
-        Ok(()) => put_number(out, buffer, 8, number),
-        Err(error) => Err(error),
-    }
+    put_marked_number(out, buffer, 0x14, 8, 0)?;
+    put_number(out, buffer, 8, number)
 }
 
 /// Puts an integer: one from 0 to `i64::MAX` in the least of 1, 2, 4 and 8 bytes, a negative one
@@ -190,10 +186,7 @@ pub fn put_numbers<W: Write>(
         buffer.new }
 {
     for index in 0..list.len() {
-        match put_number(out, buffer, width, list.get(index) as u64) {
-            Ok(()) => {}
-            Err(error) => return Err(error),
-        }
+        put_number(out, buffer, width, list.get(index) as u64)?;
     }
     Ok(())
 }
@@ -211,18 +204,10 @@ pub fn put_trailer<W: Write>(
 {
     let wide = offset_width(table as u64) as u8;
     let narrow = reference_width(count as u64) as u8;
-    match put(out, buffer, &[0, 0, 0, 0, 0, 0, wide, narrow]) {
-        Ok(()) => {}
-        Err(error) => return Err(error),
-    }
-    match put_number(out, buffer, 8, count as u64) {
-        Ok(()) => {}
-        Err(error) => return Err(error),
-    }
-    match put_number(out, buffer, 8, 0) {
-        Ok(()) => put_number(out, buffer, 8, table as u64),
-        Err(error) => Err(error),
-    }
+    put(out, buffer, &[0, 0, 0, 0, 0, 0, wide, narrow])?;
+    put_number(out, buffer, 8, count as u64)?;
+    put_number(out, buffer, 8, 0)?;
+    put_number(out, buffer, 8, table as u64)
 }
 
 /// Puts the offset table, which lies at `table`, and the trailer.
@@ -236,8 +221,6 @@ pub fn put_table_and_trailer<W: Write>(
         buffer.new }
 {
     let width = offset_width(table as u64);
-    match put_numbers(out, buffer, width, places) {
-        Ok(()) => put_trailer(out, buffer, places.len(), table),
-        Err(error) => Err(error),
-    }
+    put_numbers(out, buffer, width, places)?;
+    put_trailer(out, buffer, places.len(), table)
 }

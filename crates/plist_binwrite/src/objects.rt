@@ -26,10 +26,7 @@ fn put_items<W: Write>(
     let mut index = from;
     'walk: while file.events.has_item(index) {
         let number = file.plan.number(index);
-        match put_number(out, buffer, file.width, number as u64) {
-            Ok(()) => {}
-            Err(error) => return Err(error),
-        }
+        put_number(out, buffer, file.width, number as u64)?;
         index = file.events.index_behind(index);
     }
     Ok(())
@@ -54,10 +51,7 @@ fn put_keys_or_values<W: Write>(
             return Ok(());
         }
         let number = file.plan.number(key_or_value(key, value, values));
-        match put_number(out, buffer, file.width, number as u64) {
-            Ok(()) => {}
-            Err(error) => return Err(error),
-        }
+        put_number(out, buffer, file.width, number as u64)?;
         key = file.events.index_behind(value);
     }
     Ok(())
@@ -74,10 +68,8 @@ fn put_array<W: Write>(
     ensures { PutsArray W.contents out.old buffer.old file.now index result out.new buffer.new }
 {
     let count = count_items(file.events, index + 1) as u64;
-    match put_length(out, buffer, 0xa, count) {
-        Ok(()) => put_items(out, buffer, file, index + 1),
-        Err(error) => Err(error),
-    }
+    put_length(out, buffer, 0xa, count)?;
+    put_items(out, buffer, file, index + 1)
 }
 
 fn put_dictionary<W: Write>(
@@ -92,14 +84,9 @@ fn put_dictionary<W: Write>(
         buffer.new }
 {
     let count = count_items(file.events, index + 1) as u64;
-    match put_length(out, buffer, 0xd, count / 2) {
-        Ok(()) => {}
-        Err(error) => return Err(error),
-    }
-    match put_keys_or_values(out, buffer, file, index + 1, false) {
-        Ok(()) => put_keys_or_values(out, buffer, file, index + 1, true),
-        Err(error) => Err(error),
-    }
+    put_length(out, buffer, 0xd, count / 2)?;
+    put_keys_or_values(out, buffer, file, index + 1, false)?;
+    put_keys_or_values(out, buffer, file, index + 1, true)
 }
 
 // Puts the object of the tree that begins here.
@@ -136,10 +123,7 @@ pub fn put_objects<W: Write>(
 {
     for index in 0..order.len() {
         let first = file.plan.first(order.get(index));
-        match put_object(out, buffer, file, first) {
-            Ok(()) => {}
-            Err(error) => return Err(error),
-        }
+        put_object(out, buffer, file, first)?;
     }
     Ok(())
 }

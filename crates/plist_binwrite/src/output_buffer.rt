@@ -30,15 +30,9 @@ fn hold(buffer: &mut Vec<u8>, bytes: &[u8]) -> bool
 fn pass_on<W: Write>(out: &mut W, buffer: &mut Vec<u8>, bytes: &[u8]) -> Result<(), Error>
     ensures { Puts W.contents out.old buffer.old bytes.now result out.new buffer.new }
 {
-    match send(out, buffer.as_slice()) {
-        Ok(()) => {}
-        Err(error) => return Err(error),
-    }
+    send(out, buffer.as_slice())?;
     buffer.clear();
-    match send(out, bytes) {
-        Ok(()) => Ok(()),
-        Err(error) => Err(error),
-    }
+    send(out, bytes)
 }
 
 /// Bytes that fit wait in the buffer; where they don't, those that wait go out, and then these. No
@@ -85,10 +79,8 @@ fn pass_both<W: Write>(
     ensures { Puts W.contents out.old buffer.old (first.now ++ second.now) result out.new
         buffer.new }
 {
-    match put(out, buffer, first) {
-        Ok(()) => put(out, buffer, second),
-        Err(error) => Err(error),
-    }
+    put(out, buffer, first)?;
+    put(out, buffer, second)
 }
 
 /// Puts bytes and others behind them, as `put` does.

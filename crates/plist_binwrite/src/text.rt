@@ -19,20 +19,15 @@ fn put_char<W: Write>(out: &mut W, buffer: &mut Vec<u8>, c: char) -> Result<(), 
         return put_number(out, buffer, 2, code);
     }
     let above = code - 0x1_0000;
-    match put_number(out, buffer, 2, 0xd800 + above / 0x400) {
-        Ok(()) => put_number(out, buffer, 2, 0xdc00 + above % 0x400),
-        Err(error) => Err(error),
-    }
+    put_number(out, buffer, 2, 0xd800 + above / 0x400)?;
+    put_number(out, buffer, 2, 0xdc00 + above % 0x400)
 }
 
 fn put_units<W: Write>(out: &mut W, buffer: &mut Vec<u8>, text: &str) -> Result<(), Error>
     ensures { Puts W.contents out.old buffer.old (text_units text.now) result out.new buffer.new }
 {
     for c in text.chars() {
-        match put_char(out, buffer, c) {
-            Ok(()) => {}
-            Err(error) => return Err(error),
-        }
+        put_char(out, buffer, c)?;
     }
     Ok(())
 }
@@ -71,20 +66,16 @@ fn put_ascii<W: Write>(out: &mut W, buffer: &mut Vec<u8>, text: &str) -> Result<
     ensures { Puts W.contents out.old buffer.old (ascii_form text.now) result out.new buffer.new }
 {
     let count = text.len();
-    match put_length(out, buffer, 0x5, count as u64) {
-        Ok(()) => put(out, buffer, text.as_bytes()),
-        Err(error) => Err(error),
-    }
+    put_length(out, buffer, 0x5, count as u64)?;
+    put(out, buffer, text.as_bytes())
 }
 
 fn put_wide<W: Write>(out: &mut W, buffer: &mut Vec<u8>, text: &str) -> Result<(), Error>
     ensures { Puts W.contents out.old buffer.old (wide_form text.now) result out.new buffer.new }
 {
     let count = count_units(text);
-    match put_length(out, buffer, 0x6, count as u64) {
-        Ok(()) => put_units(out, buffer, text),
-        Err(error) => Err(error),
-    }
+    put_length(out, buffer, 0x6, count as u64)?;
+    put_units(out, buffer, text)
 }
 
 /// Puts a text: its bytes where all are ASCII, else its UTF-16 units.

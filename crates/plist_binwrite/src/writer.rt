@@ -92,9 +92,7 @@ impl<W: Write, S: Sharing> Writer for FileWriter<W, S> {
         }
         if self.pending.is_whole() {
             self.has_failed = true;
-            if let Err(error) = S::complete(self.alloc, self.pending.events(), &mut self.writer) {
-                return Err(error);
-            }
+            S::complete(self.alloc, self.pending.events(), &mut self.writer)?;
             self.pending.clear();
             self.has_failed = false;
         }

@@ -1,8 +1,9 @@
-use Rattle.plist_binwrite.proofs.Outgoing.{puts_then, puts_front}
+use Rattle.plist_binwrite.proofs.Outgoing.{puts_then, puts_refused}
 use Rattle.plist_binwrite.proofs.forms.put_data.Goals as goal
 
-pub returns-in-Ok : goal.returns-in-Ok
-returns-in-Ok g c = puts_then c.in-Ok.ensures c.put.ensures
+pub returns-in_err-put_length : goal.returns-in_err-put_length
+returns-in_err-put_length g c =
+    puts_refused _ _ _ c.from_residual.ensures.1 c.in_err-put_length.ensures
 
-pub returns-in-Err : goal.returns-in-Err
-returns-in-Err g c = puts_front _ c.in-Err.ensures
+pub returns : goal.returns
+returns g c = puts_then c.in_ok-put_length.ensures c.put.ensures

@@ -1,7 +1,7 @@
 use Rattle.std.proofs.Common.{arith}
 use Rattle.std.proofs.lemmas.List.{take_all}
 use Rattle.plist_binwrite.specs.Forms.{big_endian}
-use Rattle.plist_binwrite.proofs.Outgoing.{puts_none, puts_then, puts_front, puts_as, one_part, all_parts}
+use Rattle.plist_binwrite.proofs.Outgoing.{puts_none, puts_then, puts_refused, puts_as, one_part, all_parts}
 use Rattle.plist_binwrite.proofs.forms.put_numbers.Goals as goal
 
 pub loop-index-init : goal.loop-index-init
@@ -11,13 +11,14 @@ pub loop-index-preserved : goal.loop-index-preserved
 loop-index-preserved g c =
     puts_as (one_part (big_endian c.args.width) c.args.list.now c.loop-index.index
     (omega (arith, c.loop-index-test.true, c.len-index-end.ensures)))
-    (puts_then c.loop-index.invariant (rw c.get.ensures at c.in-Ok.ensures))
+    (puts_then c.loop-index.invariant (rw c.get.ensures at c.in_ok-put_number.ensures))
 
-pub returns-in-Err : goal.returns-in-Err
-returns-in-Err g c =
+pub returns-in_err-put_number : goal.returns-in_err-put_number
+returns-in_err-put_number g c =
     puts_as (all_parts (big_endian c.args.width) c.args.list.now c.loop-index.index
     (omega (arith, c.loop-index-test.true, c.len-index-end.ensures)))
-    (puts_front _ (puts_then c.loop-index.invariant (rw c.get.ensures at c.in-Err.ensures)))
+    (puts_refused _ _ _ c.from_residual.ensures.1
+    (puts_then c.loop-index.invariant (rw c.get.ensures at c.in_err-put_number.ensures)))
 
 pub returns : goal.returns
 returns g c =

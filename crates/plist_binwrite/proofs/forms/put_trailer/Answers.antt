@@ -1,24 +1,25 @@
-use Rattle.plist_binwrite.proofs.Outgoing.{puts_then, puts_front}
+use Rattle.plist_binwrite.proofs.Outgoing.{puts_then, puts_refused}
 use Rattle.plist_binwrite.proofs.forms.put_trailer.Goals as goal
 
-pub returns-in-Err : goal.returns-in-Err
-returns-in-Err g c =
+pub returns-in_err-put : goal.returns-in_err-put
+returns-in_err-put g c =
     rw (← c.offset_width-wide.ensures.value, ← c.reference_width-narrow.ensures.value)
-    (puts_front _ c.in-Err.ensures)
+    (puts_refused _ _ _ c.from_residual.ensures.1 c.in_err-put.ensures)
 
-pub returns-in-Err-put_number : goal.returns-in-Err-put_number
-returns-in-Err-put_number g c =
+pub returns-in_err-put_number : goal.returns-in_err-put_number
+returns-in_err-put_number g c =
     rw (← c.offset_width-wide.ensures.value, ← c.reference_width-narrow.ensures.value)
-    (puts_then c.in-Ok.ensures (puts_front _ c.in-Err-put_number.ensures))
+    (puts_then c.in_ok-put.ensures
+    (puts_refused _ _ _ c.from_residual-in_err-put_number.ensures.1 c.in_err-put_number.ensures))
 
-pub returns-in-Err-put_number-2 : goal.returns-in-Err-put_number-2
-returns-in-Err-put_number-2 g c =
+pub returns-in_err-put_number-2 : goal.returns-in_err-put_number-2
+returns-in_err-put_number-2 g c =
     rw (← c.offset_width-wide.ensures.value, ← c.reference_width-narrow.ensures.value)
-    (puts_then c.in-Ok.ensures (puts_then c.in-Ok-put_number.ensures
-    (puts_front _ c.in-Err-put_number-2.ensures)))
+    (puts_then c.in_ok-put.ensures (puts_then c.in_ok-put_number.ensures (puts_refused _ _ _
+    c.from_residual-in_err-put_number-2.ensures.1 c.in_err-put_number-2.ensures)))
 
-pub returns-in-Ok-put_number-2 : goal.returns-in-Ok-put_number-2
-returns-in-Ok-put_number-2 g c =
+pub returns : goal.returns
+returns g c =
     rw (← c.offset_width-wide.ensures.value, ← c.reference_width-narrow.ensures.value)
-    (puts_then c.in-Ok.ensures (puts_then c.in-Ok-put_number.ensures
-    (puts_then c.in-Ok-put_number-2.ensures c.put_number-in-Ok-put_number-2.ensures)))
+    (puts_then c.in_ok-put.ensures (puts_then c.in_ok-put_number.ensures
+    (puts_then c.in_ok-put_number-2.ensures c.put_number-3.ensures)))

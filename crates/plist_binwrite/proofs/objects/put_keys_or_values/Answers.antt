@@ -1,5 +1,5 @@
 use Rattle.std.proofs.Common.{arith, refl}
-use Rattle.plist_binwrite.proofs.Outgoing.{puts_none, puts_then, puts_front}
+use Rattle.plist_binwrite.proofs.Outgoing.{puts_none, puts_then, puts_refused}
 use Rattle.plist_binwrite.proofs.Passing.{pairs_first, pairs_within, onward, pairs_stop}
 use Rattle.plist_binwrite.proofs.objects.put_keys_or_values.Goals as goal
 
@@ -7,12 +7,14 @@ pub walk-preserved : goal.walk-preserved
 walk-preserved g c = λ ms s.
     onward (pairs_first (c.walk.invariant ms s) (c.walk-test.ensures.yes refl).1).value
     c.index_behind-key.ensures.ends (λ goes answer d k p. goes _ d k
-    (puts_then (rw (c.number-number.ensures, c.key_or_value.ensures.half) at c.in-Ok.ensures) p))
+    (puts_then (rw (c.number-number.ensures, c.key_or_value.ensures.half)
+    at c.in_ok-put_number.ensures) p))
 
-pub returns-in-Err : goal.returns-in-Err
-returns-in-Err g c = λ ms s.
+pub returns-in_err-put_number : goal.returns-in_err-put_number
+returns-in_err-put_number g c = λ ms s.
     (pairs_first (c.walk.invariant ms s) (c.walk-test.ensures.yes refl).1).goes _ _ _
-    (puts_front _ (rw (c.number-number.ensures, c.key_or_value.ensures.half) at c.in-Err.ensures))
+    (puts_refused _ _ _ c.from_residual.ensures.1
+    (rw (c.number-number.ensures, c.key_or_value.ensures.half) at c.in_err-put_number.ensures))
 
 pub returns : goal.returns
 returns g c = λ ms s. pairs_stop (c.walk.invariant ms s)

@@ -6,7 +6,7 @@ use Rattle.plist_binwrite.specs.EventTable.{Describes}
 use Rattle.plist_binwrite.specs.OutputBuffer.{Puts}
 use Rattle.plist_binwrite.specs.Written.{bodies}
 use Rattle.plist_binwrite.specs.inner.Planning.{events_in, numbers_of}
-use Rattle.plist_binwrite.proofs.Outgoing.{puts_none, puts_then, puts_front, puts_as, one_part, all_parts}
+use Rattle.plist_binwrite.proofs.Outgoing.{puts_none, puts_then, puts_refused, puts_as, one_part, all_parts}
 use Rattle.plist_binwrite.proofs.Placing.{described}
 use Rattle.plist_binwrite.proofs.objects.put_objects.Goals as goal
 use Rattle.plist_binwrite.proofs.objects.put_objects.Goals.{After-put_object}
@@ -41,13 +41,13 @@ pub loop-index-preserved : goal.loop-index-preserved
 loop-index-preserved g c = λ objects d.
     let n = next g (goal.at.loop-index-preserved g c).After-put_object objects d in
     puts_as (one_part (λ k. form c.args.file.now.width (objects k)) c.args.order.now _ n.0)
-    (rw c.in-Ok.is at n.1)
+    (rw c.in_ok-put_object.was at n.1)
 
-pub returns-in-Err : goal.returns-in-Err
-returns-in-Err g c = λ objects d.
-    let n = next g (goal.at.returns-in-Err g c).After-put_object objects d in
+pub returns-in_err-put_object : goal.returns-in_err-put_object
+returns-in_err-put_object g c = λ objects d.
+    let n = next g (goal.at.returns-in_err-put_object g c).After-put_object objects d in
     puts_as (all_parts (λ k. form c.args.file.now.width (objects k)) c.args.order.now _ n.0)
-    (puts_front _ (rw c.in-Err.is at n.1))
+    (puts_refused _ _ _ c.from_residual.ensures.1 (rw c.in_err-put_object.was at n.1))
 
 pub returns : goal.returns
 returns g c = λ objects d.

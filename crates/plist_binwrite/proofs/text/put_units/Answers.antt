@@ -1,9 +1,9 @@
-use Rattle.std.proofs.Common.{[], ◌++◌, rules, flat_map, ap, sym, ◌∙◌, append_assoc, append-nil}
+use Rattle.std.proofs.Common.{Ok, [], ◌++◌, rules, flat_map, ap, sym, ◌∙◌, append_assoc, append-nil}
 use Rattle.std.specs.Char.Escape.{encode_utf16}
 use Rattle.std.proofs.lemmas.Grind.{flat_map-append}
 use Rattle.std.proofs.lemmas.Str.{IsUtf8-past_char}
 use Rattle.plist_binwrite.specs.Forms.{big_endian}
-use Rattle.plist_binwrite.proofs.Outgoing.{puts_none, puts_then, puts_front, puts_as}
+use Rattle.plist_binwrite.proofs.Outgoing.{puts_none, puts_then, puts_refused, puts_as}
 use Rattle.plist_binwrite.proofs.Reading.{units_empty, units_step}
 use Rattle.plist_binwrite.proofs.text.put_units.Goals as goal
 
@@ -17,7 +17,7 @@ loop-c-preserved g c =
       IsUtf8-past_char _ _ c.in-Some.c held.0 parts,
       (
         held.1.0 ++ flat_map (big_endian 2) (encode_utf16 c.in-Some.c),
-        puts_then held.1.1 c.in-Ok.ensures,
+        puts_then {answer = Ok tt} held.1.1 c.in_ok-put_char.ensures,
         rw (
           append_assoc held.1.0 (flat_map (big_endian 2) (encode_utf16 c.in-Some.c)) _,
           ← flat_map-append (big_endian 2) (encode_utf16 c.in-Some.c) _,
@@ -26,14 +26,15 @@ loop-c-preserved g c =
       ),
     )
 
-pub returns-in-Err : goal.returns-in-Err
-returns-in-Err g c =
+pub returns-in_err-put_char : goal.returns-in_err-put_char
+returns-in_err-put_char g c =
     let held = c.loop-c.invariant in
     rw (
       ← held.1.2,
       units_step _ _ c.in-Some.c held.0 c.in-Some.ensures.steps.0,
       flat_map-append (big_endian 2) (encode_utf16 c.in-Some.c) _,
-    ) (puts_then held.1.1 (puts_front _ c.in-Err.ensures))
+    ) (puts_then held.1.1 (puts_refused _ _ _ c.from_residual.ensures.1
+    c.in_err-put_char.ensures))
 
 pub returns : goal.returns
 returns g c =

@@ -1,4 +1,5 @@
 use Rattle.std.proofs.Common.{rules, refl, ◌∙◌}
+use Rattle.std.proofs.lemmas.Result.{err_from_is_err_and}
 use Rattle.plist_base.specs.Events.{event_of}
 use Rattle.plist_base.specs.Faults.{fault_of}
 use Rattle.plist_binwrite.specs.EventTable.{plain_events}
@@ -12,17 +13,17 @@ returns-in-Ok-Some g c =
     c.args.self.now _ (event_of c.args.event) (search rules) (fault_of c.in-Ok-Some.refusal)
     r.0.0 r.0.1 (same_state c.args.self.now c.try_push.new.self r.1 _)
 
-pub returns-in-Err-complete : goal.returns-in-Err-complete
-returns-in-Err-complete g c =
+pub returns-in_err-complete : goal.returns-in_err-complete
+returns-in_err-complete g c =
     let t = c.in-Ok-None.ensures.taken c.in-Ok-None.field-0-is in
-    takes_unsent g.S.Sharing.IsFile g.S.Sharing.size g.W.Write.contents
+    let p = err_from_is_err_and c.from_residual.result c.from_residual.ensures.1 in
+    rw (p.1, p.2) (takes_unsent g.S.Sharing.IsFile g.S.Sharing.size g.W.Write.contents
     c.args.self.now _ (event_of c.args.event) (search rules) (plain_events c.events.result.now)
-    t.0 (c.events.ensures ∙ t.1.0) (fault_of c.in-Err-complete.error) refl
-    c.in-Err-complete.ensures
+    t.0 (c.events.ensures ∙ t.1.0) _ refl c.in_err-complete.ensures)
 
-pub returns-in_default : goal.returns-in_default
-returns-in_default g c =
+pub returns-in_ok-complete : goal.returns-in_ok-complete
+returns-in_ok-complete g c =
     let t = c.in-Ok-None.ensures.taken c.in-Ok-None.field-0-is in
     takes_whole _ g.S.Sharing.size g.W.Write.contents
     _ _ _ (search rules) _
-    t.0 (c.events.ensures ∙ t.1.0) refl c.clear.ensures.events c.in_default.ensures
+    t.0 (c.events.ensures ∙ t.1.0) refl c.clear.ensures.events c.in_ok-complete.ensures
