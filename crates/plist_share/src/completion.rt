@@ -26,9 +26,6 @@ impl Sharing for EqualTrees {
         writer: &mut W,
     ) -> Result<(), Error> {
         let classes = tree_classes(alloc, events)?;
-        match complete_by_class(alloc, events, classes, writer) {
-            Ok(()) => Ok(()),
-            Err(error) => Err(error),
-        }
+        complete_by_class(alloc, events, classes, writer)
     }
 }

@@ -1,22 +1,16 @@
-use Rattle.std.proofs.Common.{Ok, Err, rules}
+use Rattle.std.proofs.Common.{rules}
 use Rattle.std.proofs.lemmas.Result.{err_from_is_err_and}
-use Rattle.plist_base.specs.Faults.{fault_of}
+use Rattle.plist_base.specs.Writing.{answer_of}
 use Rattle.plist_binwrite.specs.EventTable.{nth_number}
 use Rattle.plist_share.proofs.SharedFile.{sends_shared, sends_nothing}
 use Rattle.plist_share.proofs.completion.EqualTreesSharing.complete.Goals as goal
 
-pub returns-in-Ok : goal.returns-in-Ok
-returns-in-Ok g c =
-    sends_shared g.W.Write.contents c.args.events.now
-    (nth_number c.in_ok-classes.classes.of) c.in_ok-classes.ensures.trees (Ok tt)
-    c.args.writer.now c.complete_by_class.new.writer c.in-Ok.ensures
-
-pub returns-in-Err : goal.returns-in-Err
-returns-in-Err g c =
+pub returns : goal.returns
+returns g c =
     sends_shared g.W.Write.contents c.args.events.now
     (nth_number c.in_ok-classes.classes.of) c.in_ok-classes.ensures.trees
-    (Err (fault_of c.in-Err.error)) c.args.writer.now c.complete_by_class.new.writer
-    c.in-Err.ensures
+    (answer_of c.complete_by_class.result) c.args.writer.now c.complete_by_class.new.writer
+    c.complete_by_class.ensures
 
 pub returns-in_err-classes : goal.returns-in_err-classes
 returns-in_err-classes g c =
