@@ -2,7 +2,7 @@
 
 ghost use Rattle.std.specs.Prelude.{◌≡◌};
 ghost use Rattle.plist_base.specs.Events.{event_of};
-ghost use Rattle.plist_base.specs.Expects.{change_of};
+ghost use Rattle.plist_base.specs.Expects.{change_of, change_of_value, change_of_items, change_of_pairs};
 
 use crate::Event;
 
@@ -32,23 +32,69 @@ pub enum Change {
     Replaced(Expect),
 }
 
+// What an event does where a value is to come.
+fn change_of_value(event: &Event<'_>) -> Change
+    ensures { result ≡ change_of_value (event_of event.now) }
+{
+    match event {
+        Event::StartArray(_) => Change::Replaced(Expect::Items),
+        Event::StartDictionary(_) => Change::Replaced(Expect::Pairs),
+        Event::EndCollection => Change::Refused,
+        Event::Boolean(_)
+        | Event::Data(_)
+        | Event::Date(_)
+        | Event::Integer(_)
+        | Event::Real(_)
+        | Event::String(_)
+        | Event::Uid(_) => Change::Popped,
+    }
+}
+
+// What it does among the items of an array.
+fn change_of_items(event: &Event<'_>) -> Change
+    ensures { result ≡ change_of_items (event_of event.now) }
+{
+    match event {
+        Event::StartArray(_) => Change::Pushed(Expect::Items),
+        Event::StartDictionary(_) => Change::Pushed(Expect::Pairs),
+        Event::EndCollection => Change::Popped,
+        Event::Boolean(_)
+        | Event::Data(_)
+        | Event::Date(_)
+        | Event::Integer(_)
+        | Event::Real(_)
+        | Event::String(_)
+        | Event::Uid(_) => Change::Kept,
+    }
+}
+
+// What it does among the pairs of a dictionary.
+fn change_of_pairs(event: &Event<'_>) -> Change
+    ensures { result ≡ change_of_pairs (event_of event.now) }
+{
+    match event {
+        Event::String(_) => Change::Pushed(Expect::OneValue),
+        Event::EndCollection => Change::Popped,
+        Event::StartArray(_)
+        | Event::StartDictionary(_)
+        | Event::Boolean(_)
+        | Event::Data(_)
+        | Event::Date(_)
+        | Event::Integer(_)
+        | Event::Real(_)
+        | Event::Uid(_) => Change::Refused,
+    }
+}
+
 impl Expect {
     /// What an event does to it.
     pub fn change_by(self, event: &Event<'_>) -> Change
         ensures { result ≡ change_of self (event_of event.now) }
     {
-        match (self, event) {
-            (Expect::OneValue, Event::StartArray(_)) => Change::Replaced(Expect::Items),
-            (Expect::OneValue, Event::StartDictionary(_)) => Change::Replaced(Expect::Pairs),
-            (Expect::OneValue, Event::EndCollection) => Change::Refused,
-            (Expect::OneValue, _) => Change::Popped,
-            (Expect::Items, Event::StartArray(_)) => Change::Pushed(Expect::Items),
-            (Expect::Items, Event::StartDictionary(_)) => Change::Pushed(Expect::Pairs),
-            (Expect::Items, Event::EndCollection) => Change::Popped,
-            (Expect::Items, _) => Change::Kept,
-            (Expect::Pairs, Event::String(_)) => Change::Pushed(Expect::OneValue),
-            (Expect::Pairs, Event::EndCollection) => Change::Popped,
-            (Expect::Pairs, _) => Change::Refused,
+        match self {
+            Expect::OneValue => change_of_value(event),
+            Expect::Items => change_of_items(event),
+            Expect::Pairs => change_of_pairs(event),
         }
     }
 }

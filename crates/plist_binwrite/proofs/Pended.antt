@@ -1,5 +1,5 @@
 -- What the code's stack says of the held events, and how one more event changes it.
-use Rattle.std.proofs.Common.{◌≡◌, ℕ, suc, Bool, List, [], ◌∷◌, ◌++◌, ◌==◌, length, reverse, option_and_then, None, Some, true, false, refl, sym, ap, ◌∙◌, subst, arith}
+use Rattle.std.proofs.Common.{◌≡◌, ◌⊎◌, inl, inr, ℕ, suc, Bool, List, [], ◌∷◌, ◌++◌, ◌==◌, length, reverse, option_and_then, None, Some, true, false, refl, sym, ap, ◌∙◌, subst, arith}
 use Rattle.std.proofs.lemmas.Bool.{ne_eqb}
 use Rattle.std.proofs.lemmas.List.{length-reverse}
 use Rattle.plist_base.specs.Bracketing.{without_length, CanContinue}
@@ -9,6 +9,7 @@ use Rattle.plist_base.specs.declared.expects.Expect.{Expect}
 use Rattle.plist_base.specs.declared.expects.Expect.TheVariants.{OneValue}
 use Rattle.plist_base.specs.declared.expects.Change.{Change}
 use Rattle.plist_base.specs.declared.expects.Change.TheVariants.{Refused}
+use Rattle.plist_base.specs.declared.expects.Change.TheVariants as change
 use Rattle.plist_base.proofs.Grammar.{none_is, wanted_alike, can_continue, continues, bracketed, all_taken, complete_of_whole, alike_last, steps_snoc}
 use Rattle.plist_binwrite.specs.declared.event_buffer.EventBuffer.{EventBuffer}
 use Rattle.plist_binwrite.specs.EventBuffers.{buffered_events, TestsWhole}
@@ -42,6 +43,17 @@ step_some : (s : List Expect) (e : PlainEvent) → (change_on_top s e ≡ Refuse
     → (new : List Expect) × (step (with_root s) e ≡ Some new)
 step_some [] e n = changed_some _ _ [] n
 step_some (top ∷ rest) e n = changed_some _ top _ n
+
+-- the changes that are no refusal
+abbrev IsAccepted : Change → Type 0
+IsAccepted c = (c ≡ change.Popped) ⊎ ((c ≡ change.Kept)
+    ⊎ (((w : Expect) × (c ≡ change.Pushed w)) ⊎ ((w : Expect) × (c ≡ change.Replaced w))))
+
+not_refused : (c : Change) → IsAccepted c → c ≡ Refused → ⊥
+not_refused c (inl is) r = cc
+not_refused c (inr (inl is)) r = cc
+not_refused c (inr (inr (inl is))) r = cc (is.1)
+not_refused c (inr (inr (inr is))) r = cc (is.1)
 
 -- it is empty just where the code's test says so
 root_shown : (s : List Expect) (n : ℕ) (b : Bool) → n ≡ length s → b ≡ (n == 0)
@@ -91,9 +103,9 @@ module _ (s : EventBuffer) (e : PlainEvent) (c : Change) (still : s.whole ≡ fa
       let g = continues _ e can in
       none_is _ g.0 (after ∙ step_refused _ e (cc)) g.1
 
-  pub can_take : (c ≡ Refused → ⊥) → CanContinue (buffered_events s) e
-  can_take other =
-      let f = step_some _ e (λ r. other (seen ∙ r)) in can_continue _ e f.0 (after ∙ f.1)
+  pub can_take : IsAccepted c → CanContinue (buffered_events s) e
+  can_take accepted =
+      let f = step_some _ e (λ r. not_refused c accepted (seen ∙ r)) in can_continue _ e f.0 (after ∙ f.1)
 
   -- what is wanted then
   pub took : (room new : List Expect) → CanContinue (buffered_events s) e

@@ -1,5 +1,5 @@
 -- The objects of trees by their indices: their forms, their sizes, and that they can be written.
-use Rattle.std.proofs.Common.{◌≡◌, inl, inr, ℕ, ◌+◌, ◌*◌, ◌/◌, ◌^◌, ◌<◌, ◌≤◌, false, List, ◌∷◌, ◌++◌, length, flat_map, map, Option, None, Some, SomeIff, refl, ap, sym, ◌∙◌, subst, arith, length-append}
+use Rattle.std.proofs.Common.{◌≡◌, ◌⊎◌, inl, inr, ℕ, ◌+◌, ◌*◌, ◌/◌, ◌^◌, ◌<◌, ◌≤◌, false, List, ◌∷◌, ◌++◌, length, flat_map, map, Option, None, Some, SomeIff, refl, ap, sym, ◌∙◌, subst, arith, length-append}
 use Rattle.std.proofs.lemmas.Bool.{cases_lt}
 use Rattle.plist_base.specs.Events.{PlainEvent, Single}
 use Rattle.plist_base.specs.Trees.{number_of_trees, number_of_members, Scalar, Tree, Leaf, Array, Dictionary, Trees, NoTrees, TreeAnd, Members, NoMembers, MemberAnd}
@@ -13,7 +13,7 @@ use Rattle.plist_binwrite.specs.EventTable.{IfScalar, is_end, entry_kind_of, eve
 use Rattle.plist_binwrite.specs.Sizes.{IsSizeOrNone, dictionary_size}
 use Rattle.plist_binwrite.specs.inner.Entries.{is_leaf}
 use Rattle.plist_binwrite.proofs.Sitting.{occurs_whole, occurs_items, occurs_pairs, occurs_item, occurs_next, occurs_key, occurs_value, occurs_next_pair}
-use Rattle.plist_binwrite.proofs.Skipping.{stands_single, starts_array, starts_dictionary, begins, occurs_in, as_items, pairs_as_items}
+use Rattle.plist_binwrite.proofs.Skipping.{stands_single, starts_array, starts_dictionary, no_start, begins, occurs_in, as_items, pairs_as_items}
 use Rattle.plist_binwrite.proofs.Inside.{Stands, positions_stand, positions_all}
 use Rattle.plist_binwrite.proofs.ReadingNumbers.{length-table}
 use Rattle.plist_binwrite.proofs.Uniques.{all_from}
@@ -88,12 +88,12 @@ module _ {es : List PlainEvent} {k : EntryKind} {p : ℕ} (at : k ≡ entry_kind
   of_dictionary is h (Dictionary ms) s = h ms (occurs_pairs s)
 
   -- no collection begins
-  module _ (a : k ≡ kind.Array → ⊥) (b : k ≡ kind.Dictionary → ⊥) where
+  module _ (other : (k ≡ kind.Scalar) ⊎ (k ≡ kind.End)) where
     neither : ((x : Scalar) → event_at es p ≡ Single x → P (Leaf x)) → (t : Tree) → OccursAt es t p
         → P t
     neither h (Leaf x) s = h x (stands_single s)
-    neither h (Array ts) s = absurd (a (cc (starts_array s)))
-    neither h (Dictionary ms) s = absurd (b (cc (starts_dictionary s)))
+    neither h (Array ts) s = absurd ((no_start other).0 (cc (starts_array s)))
+    neither h (Dictionary ms) s = absurd ((no_start other).1 (cc (starts_dictionary s)))
 
     pub of_scalar : (e : PlainEvent) → event_at es p ≡ without_length e
         → IfScalar e (λ x. P (Leaf x))

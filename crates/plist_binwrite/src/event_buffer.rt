@@ -97,7 +97,7 @@ impl EventBuffer {
         let change = change_on(self.expects.as_slice(), &event);
         match change {
             Change::Refused => Ok(Some(self.fault_of_event(&event))),
-            _ => {
+            Change::Popped | Change::Kept | Change::Pushed(_) | Change::Replaced(_) => {
                 self.hold(alloc, event, change)?;
                 Ok(None)
             }

@@ -34,10 +34,9 @@ fn repeats_at(events: &EventTable<'_>, start: usize, stamps: &mut Vec<usize>) ->
     ensures begins { result ≡ true → entry_kind_of (table_event events.now start) ≡ KindDictionary }
     ensures repeats { TestsRepeats events.now start result }
 {
-    match events.kind_at(start) {
-        EntryKind::Dictionary => {}
-        _ => return false,
-    }
+    let EntryKind::Dictionary = events.kind_at(start) else {
+        return false;
+    };
     let mark = start + 1;
     let mut key = mark;
     'walk: while events.has_item(key) {

@@ -103,7 +103,7 @@ fn put_object<W: Write>(
     match file.events.kind_at(index) {
         EntryKind::Array => put_array(out, buffer, file, index),
         EntryKind::Dictionary => put_dictionary(out, buffer, file, index),
-        _ => match file.events.scalar_at(index) {
+        EntryKind::Scalar | EntryKind::End => match file.events.scalar_at(index) {
             Some(scalar) => put_scalar(out, buffer, scalar),
             None => Ok(()),
         },

@@ -47,7 +47,7 @@ fn size_of_object(file: &Planned<'_, '_>, index: usize) -> Option<u64>
             let count = count_items(file.events, index + 1) as u64;
             length_of_collection(count / 2, count, file.width as u64)
         }
-        _ => match file.events.scalar_at(index) {
+        EntryKind::Scalar | EntryKind::End => match file.events.scalar_at(index) {
             Some(scalar) => length_of_scalar(scalar),
             None => Some(0),
         },

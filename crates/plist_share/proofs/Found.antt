@@ -1,5 +1,5 @@
 -- The classes that are found from the inside outwards: one class, one tree.
-use Rattle.std.proofs.Common.{◌≡◌, ◌≢◌, inl, inr, ℕ, ◌+◌, ◌<◌, ◌≤◌, true, false, List, ◌∷◌, ◌++◌, length, map, set, Some, refl, sym, ap, ◌∙◌, subst, arith, length-append}
+use Rattle.std.proofs.Common.{◌≡◌, ◌≢◌, ◌⊎◌, inl, inr, ℕ, ◌+◌, ◌<◌, ◌≤◌, true, false, List, ◌∷◌, ◌++◌, length, map, set, Some, refl, sym, ap, ◌∙◌, subst, arith, length-append}
 use Rattle.std.specs.Prelude.{slice_get}
 use Rattle.std.proofs.lemmas.Bool.Decides.{eqb_tells}
 use Rattle.std.proofs.lemmas.List.{get_or-set_other}
@@ -13,6 +13,7 @@ use Rattle.plist_binwrite.specs.Forms.{keys_of, values_of}
 use Rattle.plist_binwrite.specs.EventTable.{item_indices, key_indices, value_indices, keys_in, values_in, entry_kind_of, event_at, nth_number}
 use Rattle.plist_binwrite.specs.Numberings.{pairs, object_of}
 use Rattle.plist_binwrite.specs.Occurrences.{OccursAt}
+use Rattle.plist_binwrite.specs.declared.kinds.EntryKind.{EntryKind}
 use Rattle.plist_binwrite.specs.declared.kinds.EntryKind.TheVariants as kind
 use Rattle.plist_binwrite.specs.inner.Scalars.{AreOwners, AreApart}
 use Rattle.plist_binwrite.proofs.Changes.{at_set}
@@ -234,6 +235,11 @@ module _ (classes : List ℕ) (p c : ℕ) where
           class_stays (nth_number classes) after (p + 1)
           (λ q h. other q (λ e. absurd (omega arith)))
           scalar count keys new kept
+
+-- the start of a collection is no scalar
+pub no_scalar : {k : EntryKind} → (k ≡ kind.Array) ⊎ (k ≡ kind.Dictionary) → k ≢ kind.Scalar
+no_scalar (inl is) = λ e. cc
+no_scalar (inr is) = λ e. cc
 
 -- where no collection begins, the classes are there
 pub none_written : {es : List PlainEvent} {scalar class : ℕ → ℕ} {count : ℕ} {keys : List Key}

@@ -148,9 +148,8 @@ fn give_class(
     ensures memory { OnlyMemory result }
 {
     match events.kind_at(index) {
-        EntryKind::Scalar => Ok(()),
-        EntryKind::End => Ok(()),
-        _ => {
+        EntryKind::Scalar | EntryKind::End => Ok(()),
+        EntryKind::Array | EntryKind::Dictionary => {
             let class = class_of_collection(alloc, events, classes, base, index, indices, seen)?;
             classes.set(index, class)?;
             Ok(())

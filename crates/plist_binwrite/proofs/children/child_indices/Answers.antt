@@ -1,6 +1,7 @@
 use Rattle.std.proofs.Common.{sym, ◌∙◌}
 use Rattle.indexmap.proofs.MapLemmas.{OnOk-map}
 use Rattle.plist_binwrite.proofs.ChildIndices.{always, no_keys, no_values, items_found, keys_found, values_found}
+use Rattle.plist_binwrite.proofs.Skipping.{no_start}
 use Rattle.plist_binwrite.proofs.children.child_indices.Goals as goal
 
 pub returns-in-Array-clause-keys : goal.returns-in-Array-clause-keys
@@ -24,12 +25,12 @@ returns-in-Dictionary-clause-values c =
     (sym c.kind_at.ensures ∙ c.in-Dictionary.is) c.clear-2.ensures.items)
     c.pairs_from.ensures.values
 
-pub returns-in_default-clause-keys : goal.returns-in_default-clause-keys
-returns-in_default-clause-keys c =
-    no_keys c.args.index (λ e. c.in_default.not-Dictionary (c.kind_at.ensures ∙ e))
+pub returns-in-Scalar-clause-keys : goal.returns-in-Scalar-clause-keys
+returns-in-Scalar-clause-keys c =
+    no_keys c.args.index (λ e. (no_start c.in-Scalar.is).1 (c.kind_at.ensures ∙ e))
     c.clear.ensures.items
 
-pub returns-in_default-clause-values : goal.returns-in_default-clause-values
-returns-in_default-clause-values c =
-    no_values c.args.index (λ e. c.in_default.not-Array (c.kind_at.ensures ∙ e))
-    (λ e. c.in_default.not-Dictionary (c.kind_at.ensures ∙ e)) c.clear-2.ensures.items
+pub returns-in-Scalar-clause-values : goal.returns-in-Scalar-clause-values
+returns-in-Scalar-clause-values c =
+    no_values c.args.index (λ e. (no_start c.in-Scalar.is).0 (c.kind_at.ensures ∙ e))
+    (λ e. (no_start c.in-Scalar.is).1 (c.kind_at.ensures ∙ e)) c.clear-2.ensures.items

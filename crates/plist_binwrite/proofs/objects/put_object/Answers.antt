@@ -12,10 +12,8 @@ returns-in-Dictionary g c =
 
 pub returns-in-Some : goal.returns-in-Some
 returns-in-Some g c =
-    of_scalar c.kind_at.ensures _ c.in_default.not-Array c.in_default.not-Dictionary
-    _ c.in-Some.ensures.some c.put_scalar.ensures
+    of_scalar c.kind_at.ensures _ c.in-Scalar.is _ c.in-Some.ensures.some c.put_scalar.ensures
 
 pub returns-in-None : goal.returns-in-None
 returns-in-None g c =
-    of_nothing c.kind_at.ensures _ c.in_default.not-Array c.in_default.not-Dictionary
-    (c.in-None.ensures.none refl)
+    of_nothing c.kind_at.ensures _ c.in-Scalar.is (c.in-None.ensures.none refl)

@@ -30,20 +30,20 @@ returns-in-Dictionary-clause-writable c = λ t s.
 
 pub returns-in-Some-clause-size : goal.returns-in-Some-clause-size
 returns-in-Some-clause-size c =
-    of_scalar c.kind_at.ensures _ c.in_default.not-Array c.in_default.not-Dictionary
+    of_scalar c.kind_at.ensures _ c.in-Scalar.is
     _ c.in-Some.ensures.some c.length_of_scalar.ensures.value
 
 pub returns-in-Some-clause-writable : goal.returns-in-Some-clause-writable
 returns-in-Some-clause-writable c =
-    of_scalar c.kind_at.ensures _ c.in_default.not-Array c.in_default.not-Dictionary
+    of_scalar c.kind_at.ensures _ c.in-Scalar.is
     _ c.in-Some.ensures.some c.length_of_scalar.ensures.writable
 
 pub returns-in-None-clause-size : goal.returns-in-None-clause-size
 returns-in-None-clause-size c =
-    of_nothing c.kind_at.ensures _ c.in_default.not-Array c.in_default.not-Dictionary
+    of_nothing c.kind_at.ensures _ c.in-Scalar.is
     (c.in-None.ensures.none refl)
 
 pub returns-in-None-clause-writable : goal.returns-in-None-clause-writable
 returns-in-None-clause-writable c =
-    of_nothing c.kind_at.ensures _ c.in_default.not-Array c.in_default.not-Dictionary
+    of_nothing c.kind_at.ensures _ c.in-Scalar.is
     (c.in-None.ensures.none refl)

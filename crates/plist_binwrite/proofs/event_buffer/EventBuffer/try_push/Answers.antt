@@ -19,30 +19,30 @@ hold-requires c = record {
   still = c.requires.still;
   accepted = can_take c.args.self.now (event_of c.args.event) c.change_on-change.result
       c.requires.still c.as_slice.ensures.value c.change_on-change.ensures
-      c.in_default.not-Refused;
+      c.in-Popped.is;
   change = seen c.args.self.now (event_of c.args.event) c.change_on-change.result
       c.requires.still c.as_slice.ensures.value c.change_on-change.ensures;
 }
 
-pub returns-in_err-hold-in_default : goal.returns-in_err-hold-in_default
-returns-in_err-hold-in_default c =
+pub returns-in_err-hold-in-Popped : goal.returns-in_err-hold-in-Popped
+returns-in_err-hold-in-Popped c =
     let p = err_from_is_err_and c.from_residual.result c.from_residual.ensures.1 in
     rw (p.1, p.2) (record {
       refused = tt;
       taken = tt;
       accepted = can_take c.args.self.now (event_of c.args.event) c.change_on-change.result
           c.requires.still c.as_slice.ensures.value c.change_on-change.ensures
-          c.in_default.not-Refused;
-      memory = c.in_err-hold-in_default.ensures.memory;
+          c.in-Popped.is;
+      memory = c.in_err-hold-in-Popped.ensures.memory;
     })
 
-pub returns-in_ok-hold-in_default : goal.returns-in_ok-hold-in_default
-returns-in_ok-hold-in_default c = record {
+pub returns-in_ok-hold-in-Popped : goal.returns-in_ok-hold-in-Popped
+returns-in_ok-hold-in-Popped c = record {
   refused = tt;
   taken = λ none. (
     can_take c.args.self.now (event_of c.args.event) c.change_on-change.result c.requires.still
-        c.as_slice.ensures.value c.change_on-change.ensures c.in_default.not-Refused,
-    c.in_ok-hold-in_default.ensures.taken,
+        c.as_slice.ensures.value c.change_on-change.ensures c.in-Popped.is,
+    c.in_ok-hold-in-Popped.ensures.taken,
   );
   accepted = tt;
   memory = tt;
