@@ -16,10 +16,7 @@ pub fn add(length: Option<u64>, more: Option<u64>) -> Option<u64>
         → IsSizeOrNone result (a + b) }
     ensures none { length ≡ None → result ≡ None }
 {
-    match (length, more) {
-        (Some(length), Some(more)) => length.checked_add(more),
-        _ => None,
-    }
+    length?.checked_add(more?)
 }
 
 /// The length of a number without sign.

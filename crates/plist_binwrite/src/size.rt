@@ -58,10 +58,7 @@ fn size_of_object(file: &Planned<'_, '_>, index: usize) -> Option<u64>
 fn place_or_none(told: Option<u64>) -> usize
     ensures { IfSome told (λ place. result ≡ place) }
 {
-    match told {
-        Some(place) => place as usize,
-        None => 0,
-    }
+    told.unwrap_or(0) as usize
 }
 
 /// Gives each object its place, in this order from behind the magic on. The place behind them all,
@@ -106,10 +103,7 @@ fn has_size(table: u64, count: u64) -> bool
     ensures yes { result ≡ true → FitsWith table count }
     ensures no { result ≡ false → ExceedsWith table count }
 {
-    match size_of_file(table, count) {
-        Some(_) => true,
-        None => false,
-    }
+    size_of_file(table, count).is_some()
 }
 
 /// The place of the offset table of a file of so many objects, or none where the file would have

@@ -8,13 +8,13 @@ ghost use Rattle.plist_binwrite.specs.inner.Scalars.{AreApart};
 ghost use Rattle.plist_share.specs.inner.Keys.{SeparatesTrees, Extends, keys_seen, AddsClasses, AreClassesWithin, HaveFrom, IsClassAt, IsKeyAt, is_dictionary};
 
 use indexmap::IndexSet;
-use plist_base::{Error, ErrorKind};
+use plist_base::Error;
 use plist_binwrite::EventTable;
 use plist_binwrite::children::child_indices;
 use plist_binwrite::classes::{Classes, classes_of};
 use plist_binwrite::kinds::{EntryKind, push_index};
 use plist_binwrite::numbers::Numbers;
-use std::alloc::Global;
+use std::alloc::{AllocError, Global};
 
 /// A collection by its kind and the classes of its children.
 #[derive(PartialEq, Eq, Hash, Drop)]
@@ -45,10 +45,8 @@ fn index_of(seen: &mut IndexSet<Collection>, collection: Collection) -> Result<u
     ensures extends { OnOk result (Extends (keys_seen seen.old.keys) (keys_seen seen.new.keys)) }
     ensures apart { OnOk result (AreApart (keys_seen seen.new.keys)) }
 {
-    match seen.insert_full(collection) {
-        Ok((index, _)) => return Ok(index),
-        Err(_) => return Err(ErrorKind::OutOfMemory.without_position()),
-    }
+    let (index, _) = seen.insert_full(collection)?;
+    Ok(index)
 }
 
 // Appends the classes of the events at these indices.
@@ -122,10 +120,8 @@ fn class_of_collection(
         children,
     };
     let found = index_of(seen, collection)?;
-    match base.checked_add(found) {
-        Some(class) => Ok(class),
-        None => Err(ErrorKind::OutOfMemory.without_position()),
-    }
+    let class = base.checked_add(found).ok_or(AllocError)?;
+    Ok(class)
 }
 
 // Gives the tree that begins here its class, if a collection does; a scalar has one.
@@ -191,8 +187,6 @@ pub fn tree_classes(alloc: Global, events: &EventTable<'_>) -> Result<Classes, E
             &mut collections,
         )?;
     }
-    match base.checked_add(collections.len()) {
-        Some(count) => Ok(Classes { of, count }),
-        None => Err(ErrorKind::OutOfMemory.without_position()),
-    }
+    let count = base.checked_add(collections.len()).ok_or(AllocError)?;
+    Ok(Classes { of, count })
 }

@@ -27,12 +27,12 @@ back-init c =
           (λ i j k p q. cc);
     }
 
-pub returns-in-Some-clause-trees : goal.returns-in-Some-clause-trees
-returns-in-Some-clause-trees c =
+pub returns-clause-trees : goal.returns-clause-trees
+returns-clause-trees c =
     let have = c.back.invariant.have in
     told_trees have.1 have.2 (omega (arith, c.back-test.false)) c.back.invariant.apart
 
-pub returns-in-Some-clause-objects : goal.returns-in-Some-clause-objects
-returns-in-Some-clause-objects c =
+pub returns-clause-objects : goal.returns-clause-objects
+returns-clause-objects c =
     let have = c.back.invariant.have in
     found_classes have.1 have.2 (omega (arith, c.back-test.false))
