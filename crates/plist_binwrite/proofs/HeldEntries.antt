@@ -59,6 +59,12 @@ leaf_is : (e : PlainEvent) → is_leaf e ≡ true → (x : Scalar) × (e ≡ Sin
 leaf_is (Single x) h = (x, refl)
 leaf_is e h = cc
 
+-- a scalar that stands at an index is one of the list
+pub leaf_stored : (scalars : List PlainEvent) (i : ℕ) → is_leaf (event_at scalars i) ≡ true
+    → slice_get scalars i ≡ Some (event_at scalars i)
+leaf_stored scalars i leaf =
+    slice_get-get_or scalars i EndCollection (below is_leaf scalars i refl leaf)
+
 leaf_without_length : (e : PlainEvent) → is_leaf e ≡ true → without_length e ≡ e
 leaf_without_length e h = let f = leaf_is e h in rw f.1 refl
 

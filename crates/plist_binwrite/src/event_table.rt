@@ -9,8 +9,8 @@ ghost use Rattle.plist_binwrite.specs.inner.Entries.{is_leaf, KeepsScalars};
 use crate::entries::{Entries, EventEntry};
 use crate::kinds::EntryKind;
 use indexmap::IndexSet;
-use plist_base::{Error, ErrorKind, Event};
-use std::alloc::Global;
+use plist_base::{Error, Event};
+use std::alloc::{AllocError, Global};
 
 /// The events of a property list, each different scalar once. Lengths of starts are left out.
 ///
@@ -24,9 +24,17 @@ pub struct EventTable<'e> {
     ghost few: { length entries < 2 ^ 63 },
 }
 
+// Is the event a text or data?
+fn is_content(event: &Event<'_>) -> bool {
+    match event {
+        Event::Data(_) | Event::String(_) => true,
+        _ => false,
+    }
+}
+
 impl<'e> EventTable<'e> {
-    ghost use Rattle.std.specs.Prelude.{◌≤◌, [], None, false, IfSome, ◌+◌};
-    ghost use Rattle.plist_binwrite.specs.EventTable.{plain_event, plain_events, scalars_of, entry_kind_of, EndsTree, GrowsBy, HasItem, IsScalarAt, LacksItem, table_event, shown_in};
+    ghost use Rattle.std.specs.Prelude.{◌≤◌, [], None, Some, false, slice_get, IfSome, ◌+◌};
+    ghost use Rattle.plist_binwrite.specs.EventTable.{plain_event, plain_events, scalars_of, entry_kind_of, event_at, EndsTree, GrowsBy, HasItem, IsScalarAt, LacksItem, table_event, shown_in};
     ghost use Rattle.plist_binwrite.specs.inner.Entries.{is_start, IsUnclosed};
 
     /// No events. It takes no memory.
@@ -137,11 +145,10 @@ impl<'e> EventTable<'e> {
     }
 
     // Takes a start, with the index behind itself.
-    fn start(&mut self, entry: EventEntry) -> Result<(), Error>
+    fn start(&mut self, entry: EventEntry) -> Result<(), AllocError>
         requires starts { is_start entry ≡ true }
         requires behind { IsUnclosed (length (plain_events self.old)) entry }
         ensures events { OnOk result (GrowsBy self.old (shown_in self.old entry) self.new) }
-        ensures memory { OnlyMemory result }
         ensures unchanged { OnErr result (plain_events self.new ≡ plain_events self.old) }
     {
         self.begun.reserve(1)?;
@@ -152,9 +159,8 @@ impl<'e> EventTable<'e> {
     }
 
     // Takes an end: the innermost start that has none is closed.
-    fn end(&mut self) -> Result<(), Error>
+    fn end(&mut self) -> Result<(), AllocError>
         ensures events { OnOk result (GrowsBy self.old EndCollection self.new) }
-        ensures memory { OnlyMemory result }
         ensures unchanged { OnErr result (plain_events self.new ≡ plain_events self.old) }
     {
         match self.begun.pop() {
@@ -162,7 +168,7 @@ impl<'e> EventTable<'e> {
                 Ok(()) => Ok(()),
                 Err(error) => {
                     self.begun.push_reserved(start);
-                    Err(error.into())
+                    Err(error)
                 }
             },
             None => {
@@ -172,12 +178,31 @@ impl<'e> EventTable<'e> {
         }
     }
 
+    // The index of the equal of a scalar among the different ones, if it is held.
+    fn find(&self, event: &Event<'_>) -> Option<usize>
+        ensures { IfSome result (λ index. slice_get (scalars_of self.now) index
+            ≡ Some (event_of event.now)) }
+    {
+        self.scalars.get_index_of(event)
+    }
+
+    // Takes a scalar that equals the one with this index among the different ones.
+    #[inline(always)]
+    fn repeat(&mut self, index: usize) -> Result<(), AllocError>
+        requires { is_leaf (event_at (scalars_of self.old) index) ≡ true }
+        ensures events { OnOk result (GrowsBy self.old (event_at (scalars_of self.old) index)
+            self.new) }
+        ensures unchanged { OnErr result (plain_events self.new ≡ plain_events self.old) }
+    {
+        self.entries.push(EventEntry::Scalar(index))?;
+        Ok(())
+    }
+
     // Takes a scalar: the index of its equal among the different ones, or a new one. A new one is
     // dropped again where there is no memory for its entry.
-    fn scalar(&mut self, event: Event<'e>) -> Result<(), Error>
+    fn scalar(&mut self, event: Event<'e>) -> Result<(), AllocError>
         requires { is_leaf (event_of event) ≡ true }
         ensures events { OnOk result (GrowsBy self.old (event_of event.entry) self.new) }
-        ensures memory { OnlyMemory result }
         ensures unchanged { OnErr result (plain_events self.new ≡ plain_events self.old) }
     {
         let before = self.scalars.len();
@@ -187,22 +212,17 @@ impl<'e> EventTable<'e> {
                     Ok(()) => return Ok(()),
                     Err(error) => {
                         self.scalars.truncate(before);
-                        return Err(error.into());
+                        return Err(error);
                     }
                 }
             }
-            Err(_) => return Err(ErrorKind::OutOfMemory.without_position()),
+            Err(_) => return Err(AllocError),
         }
     }
 
-    /// Takes an event. A scalar that equals one of those held is dropped, and takes no memory but
-    /// that of its index.
-    ///
-    /// # Errors
-    /// `OutOfMemory`, without an offset; the events held are the same then.
-    pub fn push(&mut self, event: Event<'e>) -> Result<(), Error>
+    // Takes an event.
+    fn take(&mut self, event: Event<'e>) -> Result<(), AllocError>
         ensures events { OnOk result (GrowsBy self.old (plain_event event.entry) self.new) }
-        ensures memory { OnlyMemory result }
         ensures unchanged { OnErr result (plain_events self.new ≡ plain_events self.old) }
     {
         let behind = self.entries.len() + 1;
@@ -212,6 +232,21 @@ impl<'e> EventTable<'e> {
             Event::EndCollection => self.end(),
             scalar => self.scalar(scalar),
         }
+    }
+
+    /// Takes an event. A scalar that equals one of those held is dropped, and takes no memory but
+    /// that of its index.
+    ///
+    /// # Errors
+    /// `OutOfMemory`, without an offset; the events held are the same then.
+    #[inline(always)]
+    pub fn push(&mut self, event: Event<'e>) -> Result<(), Error>
+        ensures events { OnOk result (GrowsBy self.old (plain_event event.entry) self.new) }
+        ensures memory { OnlyMemory result }
+        ensures unchanged { OnErr result (plain_events self.new ≡ plain_events self.old) }
+    {
+        self.take(event)?;
+        Ok(())
     }
 
     /// Drops the events. What room they had is kept.
@@ -227,19 +262,30 @@ impl<'e> EventTable<'e> {
 impl EventTable<'static> {
     ghost use Rattle.plist_binwrite.specs.EventTable.{plain_event, plain_events, GrowsBy};
 
-    /// Takes a copy of an event. A text or data that equals one of those held isn't copied.
-    ///
-    /// # Errors
-    /// `OutOfMemory`, without an offset; the events held are the same then.
-    pub fn push_copy(&mut self, alloc: Global, event: Event<'_>) -> Result<(), Error>
-        ensures events { OnOk result (GrowsBy self.old (plain_event event.entry) self.new) }
-        ensures memory { OnlyMemory result }
+    // Takes a copy of a text or data, unless its equal is held.
+    #[inline(never)]
+    fn copy_content(&mut self, alloc: Global, event: Event<'_>) -> Result<(), AllocError>
+        requires { is_leaf (event_of event) ≡ true }
+        ensures events { OnOk result (GrowsBy self.old (event_of event.entry) self.new) }
+        ensures unchanged { OnErr result (plain_events self.new ≡ plain_events self.old) }
+    {
+        if let Some(index) = self.find(&event) {
+            return self.repeat(index);
+        }
+        match event.into_owned(alloc) {
+            Ok(owned) => self.scalar(owned),
+            Err(_) => Err(AllocError),
+        }
+    }
+
+    // Takes a copy of a scalar that is neither text nor data, or as `copy_content` does.
+    #[inline(never)]
+    fn copy_plain(&mut self, alloc: Global, event: Event<'_>) -> Result<(), AllocError>
+        requires { is_leaf (event_of event) ≡ true }
+        ensures events { OnOk result (GrowsBy self.old (event_of event.entry) self.new) }
         ensures unchanged { OnErr result (plain_events self.new ≡ plain_events self.old) }
     {
         match event {
-            Event::StartArray(length) => self.push(Event::StartArray(length)),
-            Event::StartDictionary(length) => self.push(Event::StartDictionary(length)),
-            Event::EndCollection => self.push(Event::EndCollection),
             Event::Boolean(value) => self.scalar(Event::Boolean(value)),
             Event::Date(date) => self.scalar(Event::Date(date)),
             Event::Integer(value) => self.scalar(Event::Integer(value)),
@@ -249,22 +295,45 @@ impl EventTable<'static> {
         }
     }
 
-    // Takes a copy of a text or data, unless its equal is held.
-    fn copy_content(&mut self, alloc: Global, event: Event<'_>) -> Result<(), Error>
+    // Takes a copy of a scalar.
+    #[inline(always)]
+    fn copy_scalar(&mut self, alloc: Global, event: Event<'_>) -> Result<(), AllocError>
         requires { is_leaf (event_of event) ≡ true }
         ensures events { OnOk result (GrowsBy self.old (event_of event.entry) self.new) }
+        ensures unchanged { OnErr result (plain_events self.new ≡ plain_events self.old) }
+    {
+        if is_content(&event) {
+            self.copy_content(alloc, event)
+        } else {
+            self.copy_plain(alloc, event)
+        }
+    }
+
+    // Takes a copy of an event.
+    fn take_copy(&mut self, alloc: Global, event: Event<'_>) -> Result<(), AllocError>
+        ensures events { OnOk result (GrowsBy self.old (plain_event event.entry) self.new) }
+        ensures unchanged { OnErr result (plain_events self.new ≡ plain_events self.old) }
+    {
+        let behind = self.entries.len() + 1;
+        match event {
+            Event::StartArray(_) => self.start(EventEntry::Array(behind)),
+            Event::StartDictionary(_) => self.start(EventEntry::Dictionary(behind)),
+            Event::EndCollection => self.end(),
+            scalar => self.copy_scalar(alloc, scalar),
+        }
+    }
+
+    /// Takes a copy of an event. A text or data that equals one of those held isn't copied.
+    ///
+    /// # Errors
+    /// `OutOfMemory`, without an offset; the events held are the same then.
+    #[inline(always)]
+    pub fn push_copy(&mut self, alloc: Global, event: Event<'_>) -> Result<(), Error>
+        ensures events { OnOk result (GrowsBy self.old (plain_event event.entry) self.new) }
         ensures memory { OnlyMemory result }
         ensures unchanged { OnErr result (plain_events self.new ≡ plain_events self.old) }
     {
-        match self.scalars.get_index_of(&event) {
-            Some(index) => {
-                self.entries.push(EventEntry::Scalar(index))?;
-                return Ok(());
-            }
-            None => {
-                let owned = event.into_owned(alloc)?;
-                self.scalar(owned)
-            }
-        }
+        self.take_copy(alloc, event)?;
+        Ok(())
     }
 }
