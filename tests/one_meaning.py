@@ -19,7 +19,6 @@ ALLOWED = {
     "Values": ({"plist", "plist_pairs"}, NAMED), "OccupiedEntry": ({"plist", "plist_pairs"}, NAMED),
     "VacantEntry": ({"plist", "plist_pairs"}, NAMED),
     "Head": ({"plist_format", "plist_binread"}, SEEN), "Trailer": ({"plist_format", "plist_binread"}, SEEN),
-    "Expect": ({"plist_base", "plist_binwrite"}, SEEN), "Change": ({"plist_base", "plist_binwrite"}, SEEN),
 }
 WORD = re.compile(r"\s*((?:(?:abbrev|unfoldable|opaque|pub|data|record)\s+)*)([^\W\d][\w'-]*)\s*(?=[:({])(.*)")
 TYPE = re.compile(r"\s*pub(?:\(crate\))?\s+(?:struct|enum|trait|type)\s+(\w+)")
