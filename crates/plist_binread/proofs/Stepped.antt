@@ -265,12 +265,13 @@ module _ {R C : Type 0} {g : Ghosts R} {h : CounterGhosts C} (known : R → Opti
           ends = ends_after (Some answer) new.state after;
           begun = never_fresh (Some answer) new.state after;
           faults = given_within (Some answer) (2 ^ 64) (omega arith) within;
-          head = holds_walking (known old.source) new.bounds new.walk.tags.items new.walk.contents.items
-              (reverse new.walk.frames) (is_walking new.state ≡ true)
+          head = holds_walking (known old.source) new.bounds new.walk.tags.items
+              new.walk.contents.items (reverse new.walk.frames) (is_walking new.state ≡ true)
               (walks_on_ok answer new.state _ after (ok_in noted new.slot _ held));
           cached = first_kept old.state new.walk.tags.items (event_in new.slot) (known old.source)
               old.bounds old.walk.frames answer fresh kept;
-          leaves = left_behind known counts count old new new.walk.path new.walk.same counted bounded;
+          leaves = left_behind known counts count old new new.walk.path new.walk.same counted
+              bounded;
           objects = IfSome_then (known old.source) objects
               (λ bytes objects. tells_root bytes noted new.slot new.walk objects);
           kept = (ap is_some limiter, λ begun. absurd (cc (ap is_fresh fresh)));
@@ -304,8 +305,8 @@ module _ {R C : Type 0} {g : Ghosts R} {h : CounterGhosts C} (known : R → Opti
           ends = ends_after item new.state after;
           begun = never_fresh item new.state after;
           faults = given_within item old.bounds.trailer (omega (arith, old.bounds.small)) within;
-          head = holds_head (known old.source) new.bounds new.walk.tags.items new.walk.contents.items
-              (reverse new.walk.frames) (is_walking new.state ≡ true) held;
+          head = holds_head (known old.source) new.bounds new.walk.tags.items
+              new.walk.contents.items (reverse new.walk.frames) (is_walking new.state ≡ true) held;
           cached = item_kept old.state new.walk.tags.items (event_in new.slot) (known old.source)
               old.bounds old.walk.frames item walking kept;
           leaves = left_behind known counts count old new new.walk.path new.walk.same counted

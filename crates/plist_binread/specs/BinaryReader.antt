@@ -159,7 +159,7 @@ module _ {R C : Type 0} {g : Ghosts R} {h : CounterGhosts C} where
 module _ {R C : Type 0} {g : Ghosts R} {h : CounterGhosts C} (known : R → Option (List ℕ))
     (failed : R → ℕ) (counts : Type 0) (count : C → ℕ) (old : BinaryReader R C g h) where
   -- One call for an item: known bytes stay as they are, and the item is the first of those to come.
-  -- `shown` is the event of an answer, `coming` what is to come, `limited` whether there are limits.
+  -- `shown` is an answer's event, `coming` what is to come, `limited` whether there are limits.
   pub record GivesBinaryBy {A : Type 0} (shown : A → PlainEvent)
       (coming : List ℕ → BinaryReader R C g h → List Item) (limited : BinaryReader R C g h → Bool)
       (item : Option (Result A Error)) (new : BinaryReader R C g h) : Type 0 where

@@ -39,9 +39,9 @@ returns-in-Err g c =
     record {
       gives = record {
         unchanged = w.unchanged;
-        items = limit-current (is_new old) (event_in mid.slot) (g.R.Source.known (binary_source old))
-            old.limiter c.admit.new.limiter (λ bytes. walk_to_come bytes old)
-            (λ bytes. walk_to_come bytes mid) tt c.admit.new.slot.fault r w.items;
+        items = limit-current (is_new old) (event_in mid.slot)
+            (g.R.Source.known (binary_source old)) old.limiter c.admit.new.limiter
+            (λ bytes. walk_to_come bytes old) (λ bytes. walk_to_come bytes mid) tt c.admit.new.slot.fault r w.items;
         failures = refused-other old.limiter (event_in mid.slot) fault
             (Rises (g.R.Source.failures (binary_source old)) (g.R.Source.failures
             (binary_source mid)))
@@ -55,12 +55,7 @@ returns-in-Err g c =
         head = holds_none _ mid.bounds mid.walk.tags.items _ (λ v. absurd (cc));
         cached = kept_fault _ (λ bytes. number_to_come bytes old) mid.walk.tags.items
             c.admit.new.slot.fault (event_in c.admit.new.slot);
-        leaves = record {
-          nested = w.leaves.nested;
-          marked = w.leaves.marked;
-          counted = w.leaves.counted;
-          lists = w.leaves.lists;
-        };
+        leaves = search w.leaves;
         objects = tells_fault _ c.admit.new.slot.fault _ w.objects;
         kept = (c.admit.ensures.limited ∙ w.kept.0, w.kept.1);
       };
@@ -99,7 +94,8 @@ returns-in-Some-Err-TooLong g c =
             (g.R.Source.known (binary_source old)) old.limiter mid.limiter
             (λ bytes. walk_to_come bytes old) (λ bytes. walk_to_come bytes mid) error mid.slot.fault
             c.refuse_limit.ensures.fault long.1 w.items long.2;
-        failures = limit-counts error mid.slot.fault _ _ c.refuse_limit.ensures.fault long.0 w.failures;
+        failures = limit-counts error mid.slot.fault _ _ c.refuse_limit.ensures.fault long.0
+            w.failures;
         ended = λ e. (let no = w.ended e in absurd (cc));
         ends = w.ends;
         begun = w.begun;
@@ -108,12 +104,7 @@ returns-in-Some-Err-TooLong g c =
         head = w.head;
         cached = kept_fault _ (λ bytes. number_to_come bytes old) mid.walk.tags.items error
             (event_in c.refuse_limit.new.self);
-        leaves = record {
-          nested = w.leaves.nested;
-          marked = w.leaves.marked;
-          counted = w.leaves.counted;
-          lists = w.leaves.lists;
-        };
+        leaves = search w.leaves;
         objects = tells_fault _ error _ (rw (
           c.in-Some-Err-TooLong.field-0-is,
           c.in-Some-Err-TooLong.field-0-0-is,

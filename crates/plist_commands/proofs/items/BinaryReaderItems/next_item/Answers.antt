@@ -9,7 +9,8 @@ returns-clause-items g c =
     (g.S.Source.known (binary_source c.advance.new.self)) (λ bytes. items_to_come bytes
     c.args.self.now)
     (λ bytes. items_to_come bytes c.advance.new.self) (is_new c.args.self.now) c.advance.result
-    (current_event c.advance.new.self) c.advance.ensures.gives.unchanged c.advance.ensures.gives.items
+    (current_event c.advance.new.self) c.advance.ensures.gives.unchanged
+    c.advance.ensures.gives.items
 
 pub returns-clause-fault : goal.returns-clause-fault
 returns-clause-fault g c = any_fault c.advance.result
