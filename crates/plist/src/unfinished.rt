@@ -49,7 +49,7 @@ fn refusal_of(expect: Expect, event: &Event<'_>) -> Option<ErrorKind>
             expected: kind_expected(expect),
             found: EventKind::of_event(event),
         }),
-        _ => None,
+        Change::Popped | Change::Kept | Change::Pushed(_) | Change::Replaced(_) => None,
     }
 }
 

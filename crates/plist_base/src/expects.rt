@@ -88,6 +88,7 @@ fn change_of_pairs(event: &Event<'_>) -> Change
 
 impl Expect {
     /// What an event does to it.
+    #[inline(always)]
     pub fn change_by(self, event: &Event<'_>) -> Change
         ensures { result ≡ change_of self (event_of event.now) }
     {

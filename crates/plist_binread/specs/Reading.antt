@@ -1,6 +1,7 @@
 -- Words for what a call makes of known bytes: those of the whole source, those that reach the
 -- trailer, and those of one object.
-use Rattle.std.specs.Prelude.{◌≡◌, ℕ, ◌+◌, ◌*◌, ◌<◌, ◌≤◌, List, [], ◌++◌, length, take, drop, Option, Some, Result, Err, IfSome, MatchResult}
+use Rattle.std.specs.Prelude.{◌≡◌, ℕ, ◌+◌, ◌*◌, ◌<◌, ◌≤◌, List, [], ◌++◌, length, map, take, drop, Option, Some, Result, Err, IfSome, MatchResult}
+use Rattle.std.specs.List.{range_with_len}
 use Rattle.plist_base.specs.declared.error.Error.{Error}
 use Rattle.plist_base.specs.Outcomes.{DecodesBy, IfRefused}
 use Rattle.plist_base.specs.Sources.{IsIoWithin}
@@ -36,6 +37,12 @@ IsNumberAt place width bytes number = number ≡ number_at bytes place width
 -- these are the bytes from a place on
 abbrev pub AreBytesAt : (place size : ℕ) → List ℕ → Vec ℕ Global → Type 0
 AreBytesAt place size bytes found = found.items ≡ take size (drop place bytes)
+
+-- these are numbers of one width, one behind the other from a place on
+abbrev pub AreFirstNumbers : (known : Option (List ℕ)) → (place width : ℕ) → List ℕ → Type 0
+AreFirstNumbers known place width numbers =
+    IfSome known (λ bytes. numbers ≡ map (λ k. number_at bytes (place + k * width) width)
+    (range_with_len 0 (length numbers)))
 
 -- where all of them are there, these are the numbers of one width from a place on
 abbrev pub AreNumbersAt : (place width count : ℕ) → List ℕ → Vec ℕ Global → Type 0

@@ -56,7 +56,7 @@ puts_then {xs} {ys} {answer = Err fault} p q =
     }
 
 -- what failed fails the whole
-pub puts_front : {a b : Option (List ℕ)} {held h xs : List ℕ} {fault : Fault} (ys : List ℕ)
+puts_front : {a b : Option (List ℕ)} {held h xs : List ℕ} {fault : Fault} (ys : List ℕ)
     → PutsBytes a held xs (Err fault) b h → PutsBytes a held (xs ++ ys) (Err fault) b h
 puts_front {b} {xs} ys p =
     record {

@@ -159,7 +159,13 @@ impl Value {
         match self {
             Value::Array(items) => Some(*items.allocator()),
             Value::Dictionary(pairs) => Some(pairs.allocator()),
-            _ => None,
+            Value::Boolean(_)
+            | Value::Data(_)
+            | Value::Date(_)
+            | Value::Integer(_)
+            | Value::Real(_)
+            | Value::String(_)
+            | Value::Uid(_) => None,
         }
     }
 }
