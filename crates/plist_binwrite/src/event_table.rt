@@ -220,7 +220,7 @@ impl<'e> EventTable<'e> {
         }
     }
 
-    // Takes an event.
+    // Takes an event. It answers no `Error`, since 120 bytes would be cleared at each call.
     fn take(&mut self, event: Event<'e>) -> Result<(), AllocError>
         ensures events { OnOk result (GrowsBy self.old (plain_event event.entry) self.new) }
         ensures unchanged { OnErr result (plain_events self.new ≡ plain_events self.old) }
@@ -262,7 +262,8 @@ impl<'e> EventTable<'e> {
 impl EventTable<'static> {
     ghost use Rattle.plist_binwrite.specs.EventTable.{plain_event, plain_events, GrowsBy};
 
-    // Takes a copy of a text or data, unless its equal is held.
+    // Takes a copy of a text or data, unless its equal is held. This and the next one stand apart,
+    // since what they declare is cleared at each call.
     #[inline(never)]
     fn copy_content(&mut self, alloc: Global, event: Event<'_>) -> Result<(), AllocError>
         requires { is_leaf (event_of event) ≡ true }
@@ -278,7 +279,7 @@ impl EventTable<'static> {
         }
     }
 
-    // Takes a copy of a scalar that is neither text nor data, or as `copy_content` does.
+    // Takes a copy of a scalar that is neither text nor data; one that is, as `copy_content` does.
     #[inline(never)]
     fn copy_plain(&mut self, alloc: Global, event: Event<'_>) -> Result<(), AllocError>
         requires { is_leaf (event_of event) ≡ true }
@@ -309,7 +310,7 @@ impl EventTable<'static> {
         }
     }
 
-    // Takes a copy of an event.
+    // Takes a copy of an event, and answers as `take` does.
     fn take_copy(&mut self, alloc: Global, event: Event<'_>) -> Result<(), AllocError>
         ensures events { OnOk result (GrowsBy self.old (plain_event event.entry) self.new) }
         ensures unchanged { OnErr result (plain_events self.new ≡ plain_events self.old) }
