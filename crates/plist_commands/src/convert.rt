@@ -52,14 +52,9 @@ fn hold_events<I: Items, H: EventSink>(
     ensures failures { CountsReads result (I.failures items.old) (I.failures items.new) }
 {
     while let Some(item) = items.next_item() {
-        match item {
-            Ok(()) => {}
-            Err(error) => return Err(error),
-        }
-        match sink.take(alloc, items.event(), items.scalars_expected()) {
-            Ok(true) => {}
-            Ok(false) => return Ok(false),
-            Err(error) => return Err(error),
+        item?;
+        if !sink.take(alloc, items.event(), items.scalars_expected())? {
+            return Ok(false);
         }
     }
     Ok(sink.is_whole())
@@ -114,10 +109,9 @@ fn hold_source<S: Source>(
     ensures answers { ReadsSource S.known S.failures source result (buffered_events pending.new) }
 {
     let mut source = source;
-    match format_of(&mut source) {
-        Ok(Format::Binary) => hold_binary(alloc, source, pending),
-        Ok(_) => hold_any(alloc, source, pending),
-        Err(error) => Err(error),
+    match format_of(&mut source)? {
+        Format::Binary => hold_binary(alloc, source, pending),
+        Format::Xml(_) | Format::Ascii => hold_any(alloc, source, pending),
     }
 }
 
@@ -137,15 +131,11 @@ fn send_events<W: Write>(
     ensures nowhere { IfErr result (λ error. offset_of error ≡ None) }
 {
     let events = pending.events();
-    match repeats_key(alloc, events) {
-        Ok(false) => {}
-        Ok(true) => return Ok(Streamed::NeedsValue),
-        Err(error) => return Err(error),
+    if repeats_key(alloc, events)? {
+        return Ok(Streamed::NeedsValue);
     }
-    match complete(alloc, events, writer) {
-        Ok(()) => Ok(Streamed::Sent),
-        Err(error) => Err(error),
-    }
+    complete(alloc, events, writer)?;
+    Ok(Streamed::Sent)
 }
 
 /// Sends the property list of a source as a binary file, without a value, where no key stands twice
@@ -166,11 +156,10 @@ pub fn convert_binary<S: Source, W: Write>(
     ensures refused { IsStoppedFor W.contents (S.known source) result writer.old writer.new }
 {
     let mut pending = EventBuffer::new(alloc);
-    match hold_source(alloc, source, &mut pending) {
-        Ok(true) => send_events(alloc, &pending, writer),
-        Ok(false) => Ok(Streamed::NeedsValue),
-        Err(error) => Err(error),
+    if !hold_source(alloc, source, &mut pending)? {
+        return Ok(Streamed::NeedsValue);
     }
+    send_events(alloc, &pending, writer)
 }
 
 // Sends a source to the file of this name as `convert_binary` does, and has the system store what
@@ -182,13 +171,11 @@ fn stream_to<R: Files, S: Source>(
     to: &str,
 ) -> Result<Streamed, Error> {
     let mut output = Output::new(rt, to);
-    match convert_binary(alloc, source, &mut output) {
-        Ok(Streamed::Sent) => {
-            output.sync()?;
-            Ok(Streamed::Sent)
-        }
-        other => other,
+    let sent = convert_binary(alloc, source, &mut output)?;
+    if let Streamed::Sent = sent {
+        output.sync()?;
     }
+    Ok(sent)
 }
 
 // Writes the property list of a file to another one by way of its value.

@@ -63,11 +63,7 @@ impl EventSink for EventBuffer {
             return Ok(false);
         }
         expect(self, scalars);
-        match self.try_push(alloc, event) {
-            Ok(None) => Ok(true),
-            Ok(Some(_)) => Ok(false),
-            Err(error) => Err(error),
-        }
+        Ok(self.try_push(alloc, event)?.is_none())
     }
 
     fn is_whole(&self) -> bool {

@@ -48,10 +48,7 @@ pub fn print_at<O: Write>(
     ensures refused { IfErr result
         (λ error. IsUnprintedAt root.now key.now (plain_failure_of error)) }
 {
-    let tree = match tree_at(alloc, root, key) {
-        Ok(tree) => tree,
-        Err(failure) => return Err(failure),
-    };
+    let tree = tree_at(alloc, root, key)?;
     match print_value(alloc, &tree, out) {
         Ok(()) => Ok(()),
         Err(error) => Err(Failure::Plist(error)),

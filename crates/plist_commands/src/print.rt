@@ -226,10 +226,7 @@ fn pass_lines<I: Items, W: Write>(
             Ok(()) => {}
             Err(error) => return Err(fault_behind(writer, lines.as_slice(), error)),
         }
-        match pass_line(writer, lines, &items.event()) {
-            Ok(()) => {}
-            Err(error) => return Err(error),
-        }
+        pass_line(writer, lines, &items.event())?;
     }
     send(writer, lines.as_slice())
 }

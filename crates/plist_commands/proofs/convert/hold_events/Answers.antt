@@ -1,5 +1,6 @@
 use Rattle.std.proofs.Common.{◌≡◌, Ok, Err, None, rules, Some, refl, sym, ◌∙◌}
 use Rattle.std.proofs.lemmas.Option.{IfSome_then}
+use Rattle.std.proofs.lemmas.Result.{err_from_is_err_and}
 use Rattle.plist_base.specs.Faults.{error_kind_of, fault_of, kind_of}
 use Rattle.plist_base.proofs.Refusals.{MatchFault-weaker}
 use Rattle.plist_commands.proofs.Runs.{held_faulted, held_more, held_none, held_refused, held_stopped, held_whole}
@@ -21,47 +22,55 @@ loop-item-init g c = record {
   ran = held_none g.I.Items.goes g.I.Items.last _ _ c.requires.empty.0;
 }
 
-pub returns-in-Err-clause-refused : goal.returns-in-Err-clause-refused
-returns-in-Err-clause-refused g c =
-    let is : c.next_item.result ≡ Some (Err c.in-Err.error) = search rules in
-    IfSome_then (g.I.Items.coming c.args.items.now)
-    (came g (goal.at.returns-in-Err-clause-refused g c).After-next_item)
-    (λ all (left, next, took, to, t). took_fault all left _ took next (fault_of c.in-Err.error)
-    (MatchFault-weaker (kind_of (error_kind_of c.in-Err.error)) (λ _. tt) (λ _. tt) (λ b. b)
-    (rw is at t)))
+pub returns-in_err-item-clause-refused : goal.returns-in_err-item-clause-refused
+returns-in_err-item-clause-refused g c =
+    let f = err_from_is_err_and c.from_residual.result c.from_residual.ensures.1 in
+    let error = c.in_err-item.field-0.0 in
+    let is : c.next_item.result ≡ Some (Err error) = search rules in
+    rw (f.1, f.2)
+    (IfSome_then (g.I.Items.coming c.args.items.now)
+    (came g (goal.at.returns-in_err-item-clause-refused g c).After-next_item)
+    (λ all (left, next, took, to, t). took_fault all left _ took next (fault_of error)
+    (MatchFault-weaker (kind_of (error_kind_of error)) (λ _. tt) (λ _. tt) (λ b. b) (rw is at t))))
 
-pub returns-in-Err-clause-answers : goal.returns-in-Err-clause-answers
-returns-in-Err-clause-answers g c =
-    let is : c.next_item.result ≡ Some (Err c.in-Err.error) = search rules in
-    held_faulted g.I.Items.goes g.I.Items.last _ _ _ _ (g.H.EventSink.held c.loop-item.sink)
-    c.in-Err.error c.loop-item.invariant.ran (rw is at c.next_item.ensures.answers)
+pub returns-in_err-item-clause-answers : goal.returns-in_err-item-clause-answers
+returns-in_err-item-clause-answers g c =
+    let f = err_from_is_err_and c.from_residual.result c.from_residual.ensures.1 in
+    let error = c.in_err-item.field-0.0 in
+    let is : c.next_item.result ≡ Some (Err error) = search rules in
+    rw (f.1, f.2)
+    (held_faulted g.I.Items.goes g.I.Items.last _ _ _ _ (g.H.EventSink.held c.loop-item.sink)
+    error c.loop-item.invariant.ran (rw is at c.next_item.ensures.answers))
 
-pub returns-in-Err-take-clause-answers : goal.returns-in-Err-take-clause-answers
-returns-in-Err-take-clause-answers g c =
-    let is : c.next_item.result ≡ Some (Ok c.in-Ok.field-0) = search rules in
-    held_stopped g.I.Items.goes g.I.Items.last _ _ _ _ (g.H.EventSink.held c.loop-item.sink)
-    c.in-Err-take.error c.loop-item.invariant.ran (rw is at c.next_item.ensures.answers)
-    c.in-Err-take.ensures.memory
+pub returns-in_err-take-clause-answers : goal.returns-in_err-take-clause-answers
+returns-in_err-take-clause-answers g c =
+    let f = err_from_is_err_and c.from_residual-in_err-take.result
+    c.from_residual-in_err-take.ensures.1 in
+    let is : c.next_item.result ≡ Some (Ok c.in_ok-item.field-0) = search rules in
+    rw (f.1, f.2)
+    (held_stopped g.I.Items.goes g.I.Items.last _ _ _ _ (g.H.EventSink.held c.loop-item.sink)
+    c.in_err-take.field-0.0 c.loop-item.invariant.ran (rw is at c.next_item.ensures.answers)
+    c.in_err-take.ensures.memory)
 
-pub returns-in-Ok-false-clause-answers : goal.returns-in-Ok-false-clause-answers
-returns-in-Ok-false-clause-answers g c =
-    let is : c.next_item.result ≡ Some (Ok c.in-Ok.field-0) = search rules in
+pub returns-then-not-branch-clause-answers : goal.returns-then-not-branch-clause-answers
+returns-then-not-branch-clause-answers g c =
+    let is : c.next_item.result ≡ Some (Ok c.in_ok-item.field-0) = search rules in
     held_refused g.I.Items.goes g.I.Items.last _ _ _ _ _ c.loop-item.invariant.ran
     (rw is at c.next_item.ensures.answers)
 
-pub returns-in-Ok-false-clause-none : goal.returns-in-Ok-false-clause-none
-returns-in-Ok-false-clause-none g c = λ e.
-    let is : c.next_item.result ≡ Some (Ok c.in-Ok.field-0) = search rules in
+pub returns-then-not-branch-clause-none : goal.returns-then-not-branch-clause-none
+returns-then-not-branch-clause-none g c = λ e.
+    let is : c.next_item.result ≡ Some (Ok c.in_ok-item.field-0) = search rules in
     IfSome_then (g.I.Items.coming c.args.items.now)
-    (came g (goal.at.returns-in-Ok-false-clause-none g c).After-next_item)
+    (came g (goal.at.returns-then-not-branch-clause-none g c).After-next_item)
     (λ all (left, next, took, to, t) tree of.
-    (rw c.event.ensures at c.in-Ok-false.ensures.refused c.in-Ok-false.field-0-test)
+    (rw c.event.ensures at c.in_ok-take.ensures.refused c.if-not-branch.true)
     (goes_on all left _ took next _ (rw is at t) tree of))
 
 pub loop-item-preserved : goal.loop-item-preserved
 loop-item-preserved g c =
-    let taken = rw c.event.ensures at c.in-Ok-true.ensures.taken c.in-Ok-true.field-0-test in
-    let is : c.next_item.result ≡ Some (Ok c.in-Ok.field-0) = search rules in
+    let taken = rw c.event.ensures at c.in_ok-take.ensures.taken c.if-not-branch.false in
+    let is : c.next_item.result ≡ Some (Ok c.in_ok-item.field-0) = search rules in
     record {
       failures = search rules;
       told = tells_next (g.H.EventSink.whole c.take.new.self) (g.H.EventSink.held c.loop-item.sink)

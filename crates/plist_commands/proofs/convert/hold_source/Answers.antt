@@ -1,28 +1,24 @@
 use Rattle.std.proofs.Common.{inl, inr}
+use Rattle.std.proofs.lemmas.Result.{err_from_is_err_and}
 use Rattle.plist_commands.proofs.Runs.{io_rises}
 use Rattle.plist_commands.proofs.convert.hold_source.Goals as goal
 
-pub returns-in-Ok-Binary-clause-answers : goal.returns-in-Ok-Binary-clause-answers
-returns-in-Ok-Binary-clause-answers g c = (
+pub returns-in-Binary-clause-answers : goal.returns-in-Binary-clause-answers
+returns-in-Binary-clause-answers g c = (
   c.format_of.new.source,
   c.format_of.ensures.unchanged,
-  inr (c.in-Ok-Binary.ensures.failures, inl c.hold_binary.ensures.answers),
+  inr (c.in_ok-format_of.ensures.failures, inl c.hold_binary.ensures.answers),
 )
 
-pub returns-in-Ok-clause-answers : goal.returns-in-Ok-clause-answers
-returns-in-Ok-clause-answers g c = (
-  c.format_of.new.source,
-  c.format_of.ensures.unchanged,
-  inr (c.in-Ok.ensures.failures, inr c.hold_any.ensures.answers),
-)
-
-pub returns-in-Err-clause-answers : goal.returns-in-Err-clause-answers
-returns-in-Err-clause-answers g c = (
-  c.format_of.new.source,
-  c.format_of.ensures.unchanged,
-  inl (
-    c.in-Err.ensures.refused,
-    c.in-Err.ensures.offset,
-    io_rises c.in-Err.error _ _ c.in-Err.ensures.refused c.in-Err.ensures.failures,
-  ),
-)
+pub returns-in_err-format_of-clause-answers : goal.returns-in_err-format_of-clause-answers
+returns-in_err-format_of-clause-answers g c =
+    let f = err_from_is_err_and c.from_residual.result c.from_residual.ensures.1 in (
+      c.format_of.new.source,
+      c.format_of.ensures.unchanged,
+      inl (rw (f.1, f.2) (
+        c.in_err-format_of.ensures.refused,
+        c.in_err-format_of.ensures.offset,
+        io_rises c.in_err-format_of.field-0.0 _ _ c.in_err-format_of.ensures.refused
+            c.in_err-format_of.ensures.failures,
+      )),
+    )

@@ -1,32 +1,38 @@
 use Rattle.std.proofs.Common.{ap, inr, Ok, Err, refl, sym, ◌∙◌, true≢false}
+use Rattle.std.proofs.lemmas.Result.{err_from_is_err_and}
 use Rattle.plist_base.specs.Faults.{Fault, fault_of}
 use Rattle.plist_binwrite.specs.EventTable.{plain_events}
 use Rattle.plist_commands.proofs.Streaming.{not_direct, sends_read}
 use Rattle.plist_commands.proofs.convert.send_events.Goals as goal
 
-pub returns-in-Ok-true-clause-left : goal.returns-in-Ok-true-clause-left
-returns-in-Ok-true-clause-left g c = λ known held e. (
+pub returns-then-branch-clause-left : goal.returns-then-branch-clause-left
+returns-then-branch-clause-left g c = λ known held e. (
   refl,
   not_direct known (plain_events c.events-events.result.now) (rw c.events-events.ensures held)
-      c.in-Ok-true.field-0 c.in-Ok-true.ensures.once
-      (λ is. true≢false (sym c.in-Ok-true.field-0-test ∙ is)),
+      c.in_ok-repeats_key.field-0 c.in_ok-repeats_key.ensures.once
+      (λ is. true≢false (sym c.if-branch.true ∙ is)),
 )
 
-pub returns-in-Ok-clause-sent : goal.returns-in-Ok-clause-sent
-returns-in-Ok-clause-sent g c = λ known held e.
+pub returns-clause-sent : goal.returns-clause-sent
+returns-clause-sent g c = λ known held e.
     sends_read known (plain_events c.events-events.result.now) (rw c.events-events.ensures held)
     g.W.Write.contents (Ok tt) c.args.writer.now c.complete.new.writer
-    (λ tree alike. (c.in-Ok-false.ensures.once tree alike).0 c.in-Ok-false.field-0-test)
-    c.in-Ok.ensures
+    (λ tree alike. (c.in_ok-repeats_key.ensures.once tree alike).0 c.if-branch.false)
+    c.in_ok-complete.ensures
 
-pub returns-in-Err-complete-clause-refused : goal.returns-in-Err-complete-clause-refused
-returns-in-Err-complete-clause-refused g c = λ known held.
-    inr (sends_read known (plain_events c.events-events.result.now)
+pub returns-in_err-complete-clause-refused : goal.returns-in_err-complete-clause-refused
+returns-in_err-complete-clause-refused g c =
+    let f = err_from_is_err_and c.from_residual-in_err-complete.result
+    c.from_residual-in_err-complete.ensures.1 in
+    λ known held. rw (f.1, f.2)
+    (inr (sends_read known (plain_events c.events-events.result.now)
     (rw c.events-events.ensures held)
-    g.W.Write.contents (Err (fault_of c.in-Err-complete.error)) c.args.writer.now
+    g.W.Write.contents (Err (fault_of c.in_err-complete.field-0.0)) c.args.writer.now
     c.complete.new.writer
-    (λ tree alike. (c.in-Ok-false.ensures.once tree alike).0 c.in-Ok-false.field-0-test)
-    c.in-Err-complete.ensures)
+    (λ tree alike. (c.in_ok-repeats_key.ensures.once tree alike).0 c.if-branch.false)
+    c.in_err-complete.ensures))
 
-pub returns-in-Err-clause-nowhere : goal.returns-in-Err-clause-nowhere
-returns-in-Err-clause-nowhere g c = ap (λ (f : Fault). f.offset) c.in-Err.ensures.memory
+pub returns-in_err-repeats_key-clause-nowhere : goal.returns-in_err-repeats_key-clause-nowhere
+returns-in_err-repeats_key-clause-nowhere g c =
+    let f = err_from_is_err_and c.from_residual.result c.from_residual.ensures.1 in
+    rw (f.1, f.2) (ap (λ (fault : Fault). fault.offset) c.in_err-repeats_key.ensures.memory)

@@ -1,4 +1,5 @@
 use Rattle.std.proofs.Common.{◌≡◌, List, rules, sym, ◌∙◌, subst}
+use Rattle.std.proofs.lemmas.Result.{err_from_is_err_and}
 use Rattle.plist_base.specs.Bracketing.{CanContinue}
 use Rattle.plist_base.specs.Events.{PlainEvent, event_of}
 use Rattle.plist_binwrite.specs.declared.event_buffer.EventBuffer.{EventBuffer}
@@ -19,7 +20,12 @@ returns-then-is_whole-clause-refused c = λ e.
     (rw (sym c.is_whole.ensures ∙ c.if-is_whole.true) at c.requires.told).1
     (event_of c.args.event)
 
-pub returns-in-Ok-None-clause-taken : goal.returns-in-Ok-None-clause-taken
-returns-in-Ok-None-clause-taken c = λ e.
+pub returns-clause-taken : goal.returns-clause-taken
+returns-clause-taken c = λ e.
     holds_more c.expect.new.pending c.try_push.new.self (buffered_events c.args.self.now)
-    (event_of c.args.event) c.expect.ensures.held (c.in-Ok-None.ensures.taken (search rules))
+    (event_of c.args.event) c.expect.ensures.held (c.in_ok-try_push.ensures.taken (search rules))
+
+pub returns-in_err-try_push-clause-accepted : goal.returns-in_err-try_push-clause-accepted
+returns-in_err-try_push-clause-accepted c =
+    let f = err_from_is_err_and c.from_residual.result c.from_residual.ensures.1 in
+    rw f.1 (rw c.expect.ensures.held at c.in_err-try_push.ensures.accepted)
