@@ -20,10 +20,7 @@ pub fn text_again(alloc: Global, text: &str) -> Result<String, Error>
     ensures refused { second_of_text text.now ≡ None → IsRefused InvalidDateString result }
 {
     let date = Date::from_xml_format(text)?;
-    match date.to_xml_format(alloc) {
-        Ok(again) => Ok(again),
-        Err(error) => Err(error),
-    }
+    date.to_xml_format(alloc)
 }
 
 /// The date of a date's own text, which is that date.
@@ -34,12 +31,10 @@ pub fn text_again(alloc: Global, text: &str) -> Result<String, Error>
 pub fn date_again(alloc: Global, date: &Date) -> Result<Date, Error>
     ensures same { IfOk result (λ again. again ≡ date.now) }
 {
-    match date.to_xml_format(alloc) {
-        Err(error) => Err(error),
-        Ok(text) => match Date::from_xml_format(text.as_str()) {
-            Err(_) => unreachable!(),
-            Ok(again) => Ok(again),
-        },
+    let text = date.to_xml_format(alloc)?;
+    match Date::from_xml_format(text.as_str()) {
+        Err(_) => unreachable!(),
+        Ok(again) => Ok(again),
     }
 }
 
@@ -66,8 +61,5 @@ pub fn other_year(alloc: Global, date: &Date) -> Result<String, Error>
 pub fn infinite_date() -> Option<ErrorKind>
     ensures { result ≡ Some ErrorKind.OverflowOrNanDate }
 {
-    match Date::from_plist_real([0x7f, 0xf0, 0, 0, 0, 0, 0, 0]) {
-        Ok(_date) => None,
-        Err(kind) => Some(kind),
-    }
+    Date::from_plist_real([0x7f, 0xf0, 0, 0, 0, 0, 0, 0]).err()
 }

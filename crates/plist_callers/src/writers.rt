@@ -28,10 +28,8 @@ pub fn write_back(alloc: Global, value: &Value) -> Result<Value, Error>
         (λ e. KeepsFromBack (kind_of (error_kind_of e)) (tree_of value.now)) }
 {
     let mut bytes = Vec::new(alloc);
-    match value.to_writer_binary(alloc, &mut bytes) {
-        Ok(()) => Value::from_reader(alloc, bytes),
-        Err(error) => Err(error),
-    }
+    value.to_writer_binary(alloc, &mut bytes)?;
+    Value::from_reader(alloc, bytes)
 }
 
 /// The file that a plain writer sends of a value's events.
