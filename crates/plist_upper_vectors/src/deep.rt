@@ -112,10 +112,7 @@ fn deep_texts(rt: HostRuntime) {
 
 // The tree of the object of this number.
 fn tree(rt: &(impl Abort + AllocGlobal), root: &Value, number: u64) -> Result<Value, KeyedError> {
-    match Archive::open(root) {
-        Ok(archive) => archive.tree(rt.alloc(), Uid::new(number)),
-        Err(error) => Err(error),
-    }
+    Archive::open(root)?.tree(rt.alloc(), Uid::new(number))
 }
 
 // An archive in which each object but the last is an array that refers to the next.
