@@ -110,11 +110,8 @@ impl Stack {
         ensures { IsLast self.old result self.new }
     {
         match self.wide.pop() {
-            Some(frame) => Some(frame),
-            None => match self.narrow.pop() {
-                Some(narrow) => Some(widen(narrow)),
-                None => None,
-            },
+            None => self.narrow.pop().map(widen),
+            wide => wide,
         }
     }
 }

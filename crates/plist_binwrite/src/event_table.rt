@@ -26,10 +26,7 @@ pub struct EventTable<'e> {
 
 // Is the event a text or data?
 fn is_content(event: &Event<'_>) -> bool {
-    match event {
-        Event::Data(_) | Event::String(_) => true,
-        _ => false,
-    }
+    matches!(event, Event::Data(_) | Event::String(_))
 }
 
 impl<'e> EventTable<'e> {
@@ -128,10 +125,7 @@ impl<'e> EventTable<'e> {
         ensures leaf { IfSome result (λ _. is_leaf (table_event self.now index) ≡ true) }
         ensures none { result ≡ None → is_leaf (table_event self.now index) ≡ false }
     {
-        match self.entries.scalar(index) {
-            Some(scalar) => Some(scalar),
-            None => None,
-        }
+        self.entries.scalar(index)
     }
 
     /// The scalar here.
