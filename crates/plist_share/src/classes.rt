@@ -4,8 +4,8 @@ ghost use Rattle.std.specs.Prelude.{◌≡◌, ◌+◌, ◌<◌, length, IfOk, O
 ghost use Rattle.plist_base.specs.Outcomes.{OnlyMemory};
 ghost use Rattle.plist_binwrite.specs.Classes.{AreClasses};
 ghost use Rattle.plist_binwrite.specs.EventTable.{plain_events, AllBelow, nth_number, table_event, entry_kind_of};
-ghost use Rattle.plist_binwrite.specs.inner.Scalars.{AreApart};
-ghost use Rattle.plist_share.specs.inner.Keys.{SeparatesTrees, Extends, keys_seen, AddsClasses, AreClassesWithin, HaveFrom, IsClassAt, IsKeyAt, is_dictionary};
+ghost use Rattle.plist_binwrite.specs.inner.Scalars.{AreApart, OwnBy};
+ghost use Rattle.plist_share.specs.inner.Keys.{SeparatesAll, SeparatesTrees, Extends, keys_seen, AddsClasses, AreClassesWithin, HaveFrom, IsClassAt, IsKeyAt, is_dictionary};
 
 use indexmap::IndexSet;
 use plist_base::Error;
@@ -153,6 +153,46 @@ fn give_class(
     }
 }
 
+// Gives each tree that begins among these events its class, from the inside outwards.
+fn give_classes(
+    alloc: Global,
+    events: &EventTable<'_>,
+    indices: &mut Indices,
+    found: &mut Classes,
+    seen: &mut IndexSet<Collection>,
+) -> Result<(), Error>
+    requires long { length found.old.of ≡ length (plain_events events.now) }
+    requires classes { HaveFrom events.now found.old.count found.old.of seen.old.keys
+        (length found.old.of) }
+    requires apart { AreApart (keys_seen seen.old.keys) }
+    ensures classes { OnOk result (SeparatesAll events.now found.new) }
+    ensures memory { OnlyMemory result }
+{
+    let base = found.count;
+    let mut index = found.of.len();
+    'back: while index > 0 {
+        index -= 1;
+        give_class(alloc, events, base, index, indices, &mut found.of, seen)?;
+    }
+    found.count = base.checked_add(seen.len()).ok_or(AllocError)?;
+    Ok(())
+}
+
+// Gives the trees their classes, where each event has that of its scalar or one of its own.
+fn give_trees(alloc: Global, events: &EventTable<'_>, found: &mut Classes) -> Result<(), Error>
+    requires long { length found.old.of ≡ length (plain_events events.now) }
+    requires classes { OwnBy events.now found.old }
+    ensures classes { OnOk result (SeparatesAll events.now found.new) }
+    ensures memory { OnlyMemory result }
+{
+    let mut seen = IndexSet::new(alloc);
+    let mut indices = Indices {
+        keys: Vec::new(alloc),
+        values: Vec::new(alloc),
+    };
+    give_classes(alloc, events, &mut indices, found, &mut seen)
+}
+
 /// The classes of the trees that begin among the events of a tree, found from the inside outwards.
 ///
 /// # Errors
@@ -166,27 +206,7 @@ pub fn tree_classes(alloc: Global, events: &EventTable<'_>) -> Result<Classes, E
     // A refusal.
     ensures memory { OnlyMemory result }
 {
-    let scalars = classes_of(alloc, events)?;
-    let mut of = scalars.of;
-    let base = scalars.count;
-    let mut collections = IndexSet::new(alloc);
-    let mut indices = Indices {
-        keys: Vec::new(alloc),
-        values: Vec::new(alloc),
-    };
-    let mut index = events.len();
-    'back: while index > 0 {
-        index -= 1;
-        give_class(
-            alloc,
-            events,
-            base,
-            index,
-            &mut indices,
-            &mut of,
-            &mut collections,
-        )?;
-    }
-    let count = base.checked_add(collections.len()).ok_or(AllocError)?;
-    Ok(Classes { of, count })
+    let mut found = classes_of(alloc, events)?;
+    give_trees(alloc, events, &mut found)?;
+    Ok(found)
 }

@@ -4,7 +4,9 @@ use Rattle.plist_base.specs.Events.{PlainEvent}
 use Rattle.plist_base.specs.Trees.{Tree, Leaf, Array, Dictionary}
 use Rattle.std.specs.declared.alloc.Global.{Global}
 use Rattle.std.specs.declared.vec.Vec.{Vec}
-use Rattle.plist_binwrite.specs.EventTable.{table_event, keys_in, entry_kind_of, nth_number, plain_events, values_in}
+use Rattle.plist_binwrite.specs.Classes.{AreClasses}
+use Rattle.plist_binwrite.specs.EventTable.{AllBelow, table_event, keys_in, entry_kind_of, nth_number, plain_events, values_in}
+use Rattle.plist_binwrite.specs.declared.classes.Classes.{Classes}
 use Rattle.plist_binwrite.specs.declared.event_table.EventTable.{EventTable}
 use Rattle.plist_binwrite.specs.declared.kinds.EntryKind.{EntryKind}
 use Rattle.plist_binwrite.specs.declared.kinds.EntryKind.TheVariants as kind
@@ -95,3 +97,10 @@ abbrev pub HaveFrom : EventTable → (base : ℕ) → (classes : List ℕ) → (
 HaveFrom held base classes seen from =
     (scalar : ℕ → ℕ) × AreOwners (plain_events held) scalar base
     × HaveTreeClasses (nth_number classes) base scalar (plain_events held) (keys_seen seen) from
+
+-- each event has a class below the count, and they tell the trees that begin there apart
+pub record SeparatesAll (held : EventTable) (found : Classes) : Type 0 where
+  pub objects : AreClasses (plain_events held) (nth_number found.of)
+  pub trees : SeparatesTrees (plain_events held) (nth_number found.of)
+  pub long : length found.of ≡ length (plain_events held)
+  pub below : AllBelow found.count found.of

@@ -1,38 +1,36 @@
-use Rattle.std.proofs.Common.{arith, refl, sym, subst}
-use Rattle.plist_binwrite.specs.EventTable.{plain_events, nth_number}
-use Rattle.plist_binwrite.specs.inner.Scalars.{AreApart}
-use Rattle.plist_binwrite.proofs.Skipping.{occurs_in}
-use Rattle.plist_share.specs.inner.Keys.{keys_seen}
-use Rattle.plist_share.proofs.Found.{found_classes, told_trees}
+use Rattle.std.proofs.lemmas.Result.{err_from_is_err_and}
 use Rattle.plist_share.proofs.classes.tree_classes.Goals as goal
 
-pub back-init : goal.back-init
-back-init c =
-    let es = plain_events c.args.events.now in
-    let owners = c.in_ok-scalars.ensures.classes in
-    let index = c.len-index.ensures in
+pub returns-in_err-found : goal.returns-in_err-found
+returns-in_err-found c =
+    let p = err_from_is_err_and c.from_residual.result c.from_residual.ensures.1 in
+    rw (p.1, p.2) (record {
+      objects = tt;
+      trees = tt;
+      long = tt;
+      below = tt;
+      memory = c.in_err-found.ensures.memory;
+    })
+
+pub returns-in_err-give_trees : goal.returns-in_err-give_trees
+returns-in_err-give_trees c =
+    let p = err_from_is_err_and c.from_residual-in_err-give_trees.result
+    c.from_residual-in_err-give_trees.ensures.1 in
+    rw (p.1, p.2) (record {
+      objects = tt;
+      trees = tt;
+      long = tt;
+      below = tt;
+      memory = c.in_err-give_trees.ensures.memory;
+    })
+
+pub returns : goal.returns
+returns c =
+    let found = c.in_ok-give_trees.ensures.classes in
     record {
-      have = (
-        nth_number c.in_ok-scalars.scalars.of,
-        owners,
-        record {
-          behind = λ t p le s. absurd (omega (arith, le, index, occurs_in s));
-          before = λ p lt. refl;
-          below = λ p lt. omega (arith, owners.below p lt);
-        },
-      );
-      long = c.in_ok-scalars.ensures.long;
-      within = omega (arith, index);
-      apart = subst (λ l. AreApart (keys_seen l)) (sym c.new-collections.ensures.empty)
-          (λ i j k p q. cc);
+      objects = found.objects;
+      trees = found.trees;
+      long = found.long;
+      below = found.below;
+      memory = tt;
     }
-
-pub returns-clause-trees : goal.returns-clause-trees
-returns-clause-trees c =
-    let have = c.back.invariant.have in
-    told_trees have.1 have.2 (omega (arith, c.back-test.false)) c.back.invariant.apart
-
-pub returns-clause-objects : goal.returns-clause-objects
-returns-clause-objects c =
-    let have = c.back.invariant.have in
-    found_classes have.1 have.2 (omega (arith, c.back-test.false))

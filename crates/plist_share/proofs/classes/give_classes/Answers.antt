@@ -1,0 +1,32 @@
+use Rattle.std.proofs.Common.{arith, sym, subst}
+use Rattle.std.proofs.lemmas.List.{length-map}
+use Rattle.plist_share.specs.inner.Keys.{HaveFrom, Key, key_of}
+use Rattle.plist_share.proofs.Found.{found_classes, told_trees}
+use Rattle.plist_share.proofs.classes.give_classes.Goals as goal
+
+pub back-init : goal.back-init
+back-init c = record {
+  have = subst (HaveFrom c.args.events.now c.args.found.now.count c.args.found.now.of
+      c.args.seen.now.keys) (sym c.len-index.ensures) c.requires.classes;
+  long = c.requires.long;
+  within = omega (arith, c.len-index.ensures, c.requires.long);
+  apart = c.requires.apart;
+}
+
+pub returns-in-Some-clause-classes : goal.returns-in-Some-clause-classes
+returns-in-Some-clause-classes c =
+    let have = c.back.invariant.have in
+    let long = c.back.invariant.long in
+    record {
+      objects = found_classes have.1 have.2 (omega (arith, c.back-test.false));
+      trees = told_trees have.1 have.2 (omega (arith, c.back-test.false))
+          c.back.invariant.apart;
+      long = long;
+      below = λ i h. omega (
+        arith,
+        have.2.below i (omega (arith, long, h)),
+        length-map {B = Key} c.back.seen.keys key_of,
+        c.in-Some.ensures,
+        c.len.ensures,
+      );
+    }
