@@ -59,9 +59,12 @@ IsCounted marker size extent rest found = (more : List ℕ) → length (rest ++ 
     (meaning : List ℕ → Object) →
     meaning_counted size (λ _. meaning) (length_in marker (rest ++ more)) ≡ meaning found.now
 
--- which is of whole elements
+-- bytes that are whole elements
+abbrev pub AreUnits : (size : ℕ) (bytes : List ℕ) → Type 0
+AreUnits size bytes = (count : ℕ) × (length bytes ≡ count * size)
+
 abbrev pub HasUnits : (size : ℕ) → Bor (List ℕ) → Type 0
-HasUnits size found = (count : ℕ) × (length found.now ≡ count * size)
+HasUnits size found = AreUnits size found.now
 
 -- a length, where so many elements lie before the trailer, and what is seen behind it
 abbrev pub IsCount : (marker size extent : ℕ) (rest : List ℕ) → ℕ × Bor (List ℕ) → Type 0

@@ -29,8 +29,8 @@ pub enum ContentKind {
 }
 
 impl ContentKind {
-    // How many bytes an element of the content has.
-    fn unit_size(self) -> u64
+    /// How many bytes an element of the content has.
+    pub fn unit_size(self) -> u64
         ensures value { result ≡ unit_size self }
         ensures small { (0 < result) × (result ≤ 2) }
     {
