@@ -8,7 +8,7 @@ ghost use Rattle.plist_binwrite.specs.inner.Scalars.{AreApart, OwnBy};
 ghost use Rattle.plist_share.specs.inner.Keys.{SeparatesAll, SeparatesTrees, Extends, keys_seen, AddsClasses, AreClassesWithin, HaveFrom, IsClassAt, IsKeyAt, is_dictionary};
 
 use indexmap::IndexSet;
-use plist_base::Error;
+use plist_base::{Error, ErrorKind};
 use plist_binwrite::EventTable;
 use plist_binwrite::children::child_indices;
 use plist_binwrite::classes::{Classes, classes_of};
@@ -174,8 +174,13 @@ fn give_classes(
         index -= 1;
         give_class(alloc, events, base, index, indices, &mut found.of, seen)?;
     }
-    found.count = base.checked_add(seen.len()).ok_or(AllocError)?;
-    Ok(())
+    match base.checked_add(seen.len()) {
+        Some(count) => {
+            found.count = count;
+            Ok(())
+        }
+        None => Err(ErrorKind::OutOfMemory.without_position()),
+    }
 }
 
 // Gives the trees their classes, where each event has that of its scalar or one of its own.
